@@ -1,0 +1,5 @@
+pub mod ClassListings
+pub mod CodeListings
+pub mod Faults
+pub mod Limits
+pub mod Switches

@@ -1,0 +1,15 @@
+//! The vocabulary and the definitions of the machine: what every contract of the crates above speaks of.
+//!
+//! `src/` has the types that code and definitions share: names, access flags, values, instructions, listings, actors,
+//! turns, journals. `specs/` has the definitions: the instruction table, the ideal run, the heap's account, the text
+//! relation and the worked rows that compute.
+#![tactic(auto)]
+
+pub mod colours;
+pub mod flags;
+pub mod instructions;
+pub mod journals;
+pub mod listings;
+pub mod names;
+pub mod turns;
+pub mod values;

@@ -1,0 +1,26 @@
+//! Values, their kinds, and the entries of a frame's locals.
+
+/// What an instruction wants of a value (JVMS 2.11.1).
+#[derive(Clone, Copy, Debug, PartialEq, Eq)]
+pub enum Kind {
+    Int,
+    Long,
+    Ref,
+}
+
+/// A value on an operand stack, in a local, a field, a static or an array (JVMS 2.3, 2.4). A reference is null or a
+/// number: the number of a cell in the machine, the number of a birth in the ideal world.
+#[derive(Clone, Copy, Debug, PartialEq, Eq)]
+pub enum Value {
+    Int(i32),
+    Long(i64),
+    Ref(Option<u32>),
+}
+
+/// What stands in one local (JVMS 2.6.1). A long takes two: its value, and the upper half behind it.
+#[derive(Clone, Copy, Debug, PartialEq, Eq)]
+pub enum Entry {
+    Unset,
+    Holds(Value),
+    UpperHalf,
+}
