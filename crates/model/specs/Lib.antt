@@ -1,5 +1,7 @@
 pub mod ClassListings
 pub mod CodeListings
 pub mod Faults
+pub mod Frames
 pub mod Limits
 pub mod Switches
+pub mod Values
