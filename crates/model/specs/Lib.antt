@@ -1,3 +1,4 @@
+pub mod Arithmetic
 pub mod ClassListings
 pub mod CodeListings
 pub mod Faults

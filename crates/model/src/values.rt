@@ -24,3 +24,12 @@ pub enum Entry {
     Holds(Value),
     UpperHalf,
 }
+
+/// What of an int a field, a static or an array element keeps, by its descriptor: B, C, S or I (JVMS 2.11.1, 4.3.2).
+#[derive(Clone, Copy, Debug, PartialEq, Eq)]
+pub enum IntType {
+    Byte,
+    Char,
+    Short,
+    Int,
+}
