@@ -1,8 +1,15 @@
 pub mod Arithmetic
 pub mod ClassListings
 pub mod CodeListings
+pub mod Effects
 pub mod Faults
 pub mod Frames
 pub mod Limits
+pub mod Printing
+pub mod Programs
+pub mod Ready
 pub mod Switches
+pub mod Table
+pub mod Turns
 pub mod Values
+pub mod Worlds
