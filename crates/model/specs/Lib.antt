@@ -1,3 +1,4 @@
+pub mod Accounts
 pub mod Arithmetic
 pub mod ClassListings
 pub mod CodeListings
@@ -5,6 +6,8 @@ pub mod Effects
 pub mod Faults
 pub mod Frames
 pub mod Limits
+pub mod Machines
+pub mod Observers
 pub mod Printing
 pub mod Programs
 pub mod Ready
