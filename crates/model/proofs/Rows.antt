@@ -50,8 +50,8 @@ class_of name stack code = record {
     flags = record { 0 = 9 };
     name = codes "main";
     descriptor = codes "()V";
-    code = Some (record { max_stack = stack; max_locals = 0; rows = []; instructions = placed_from 0 code })
-  } ∷ []
+    code = Some (record { max_stack = stack; max_locals = 0; rows = []; instructions = placed_from 0 code });
+  } ∷ [];
 }
 
 abbrev ldc : ℤ → Sized

@@ -110,7 +110,7 @@ empty_account shape = record {
   medium = numbers_up shape.small shape.medium;
   large = numbers_up (shape.small + shape.medium) shape.large;
   grey = [];
-  phase = Idle
+  phase = Idle;
 }
 
 -- births 1 and 2 have cells, white

@@ -5,6 +5,7 @@ pub mod CodeListings
 pub mod Effects
 pub mod Faults
 pub mod Frames
+pub mod Journals
 pub mod Limits
 pub mod Machines
 pub mod Observers

@@ -10,19 +10,13 @@ use Rattle.model.specs.declared.turns.Fault.{Fault as FaultKind}
 use Rattle.model.specs.declared.turns.Turn.{Turn}
 use Rattle.model.specs.declared.turns.Turn.TheVariants.{Done as TurnDone, Fault as TurnFault}
 use Rattle.model.specs.ClassListings.{ClassListing}
+use Rattle.model.specs.Journals.{JournalValue, blank, with_row as journal_with_row}
 use Rattle.model.specs.Worlds.{World, opening_world, next_birth}
 use Rattle.model.specs.Effects.{Effect}
 use Rattle.model.specs.Effects.Choice.{NotAsked, NewObject}
 use Rattle.model.specs.Table.Next.{next, asked}
 use Rattle.model.specs.Turns.{refusal, choice_of, ideal_step}
 use Rattle.model.specs.Accounts.{Account, opening_account, has_room, after_turn}
-
--- the heap's shape, the limits, how many workers there are, and the turns that were made
-pub record JournalValue : Type 0 where
-  pub shape : HeapShape
-  pub limits : Limits
-  pub workers : ℕ
-  pub rows : List Row
 
 -- a world as contracts see it: a program and a journal, from which all else follows
 pub record Recorded : Type 0 where
@@ -49,7 +43,7 @@ account_unless_refused program m actor outcome None = account_step program m act
 abbrev pub advance : List ClassListing → Limits → Machine → Row → Machine
 advance program limits m row = record {
   world = ideal_step program limits m.world row.actor (choice_of row.outcome);
-  account = account_unless_refused program m row.actor row.outcome (refusal program limits m.world row.actor)
+  account = account_unless_refused program m row.actor row.outcome (refusal program limits m.world row.actor);
 }
 
 abbrev pub opening_machine : List ClassListing → HeapShape → Machine
@@ -94,7 +88,7 @@ abbrev pub row_for : Recorded → Actor → ℕ → Option Row
 row_for v actor worker = row_unless_refused v (machine_of v) actor worker (refusal v.program v.journal.limits (machine_of v).world actor)
 
 abbrev pub noted : Recorded → Row → Recorded
-noted v row = record v { journal = record v.journal { rows = v.journal.rows ++ row ∷ [] } }
+noted v row = record v { journal = journal_with_row v.journal row }
 
 abbrev pub with_row : Recorded → Option Row → Recorded
 with_row v None = v
@@ -127,7 +121,7 @@ after_turns v (actor ∷ actors) = after_turns (after_turn_by v actor 0) actors
 
 -- a world that has made no turn, for one worker
 abbrev pub opened : List ClassListing → HeapShape → Limits → Recorded
-opened program shape limits = record { program = program; journal = record { shape = shape; limits = limits; workers = 1; rows = [] } }
+opened program shape limits = record { program = program; journal = blank shape limits 1 }
 
 -- ---- laws
 

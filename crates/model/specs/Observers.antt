@@ -10,7 +10,7 @@ use Rattle.model.specs.ClassListings.{ClassListing}
 use Rattle.model.specs.Worlds.{World, Thread, next_birth}
 use Rattle.model.specs.Ready.{is_ready, thread_numbers, some_lives, some_is_ready}
 use Rattle.model.specs.Turns.{overflows}
-use Rattle.model.specs.Machines.{Recorded, JournalValue, Machine, machine_of}
+use Rattle.model.specs.Machines.{Recorded, Machine, machine_of}
 
 -- What each observer of a world answers: a function of its program and its journal.
 

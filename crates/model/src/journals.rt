@@ -1,8 +1,10 @@
 //! The journal: the heap, the limits and the turns that a world has made, from which all else follows.
-ghost use Rattle.std.specs.Prelude.{◌≡◌, ◌↔◌, IsTrue};
+ghost use Rattle.std.specs.Prelude.{◌≡◌, ◌↔◌, ◌<◌, IsTrue, IfOk, length};
 ghost use Rattle.model.specs.Limits.{ShapeFits, LimitsFit};
 
 use crate::turns::Actor;
+use std::alloc::{AllocError, Global};
+use std::marker::Model;
 
 /// How many cells of 4, of 32 and of 256 words a heap has. Cells are numbered from 0 in this order.
 #[derive(Clone, Copy, Debug, PartialEq, Eq)]
@@ -60,4 +62,93 @@ pub struct Row {
     pub actor: Actor,
     pub outcome: Outcome,
     pub worker: u8,
+}
+
+/// A journal: the heap's shape, the limits, the number of workers (1 to 9) and the rows, one for each turn that was done
+/// or at fault, in order. Its shape and limits are in range, each row's worker is below the number of workers, and there
+/// is room for as many rows as the limit allows.
+#[derive(Drop)]
+pub struct Journal {
+    shape: HeapShape,
+    limits: Limits,
+    workers: u8,
+    rows: Vec<Row>,
+}
+
+impl Model for Journal {
+    ghost use Rattle.std.specs.Prelude.{◌≤◌, vec_capacity};
+    ghost use Rattle.model.specs.Journals.{JournalValue, HeadFits, AreOfWorkers};
+
+    ghost Value = { JournalValue };
+
+    ghost view = { λ a. record { shape = a.shape; limits = a.limits; workers = a.workers; rows = a.rows.items } };
+
+    ghost invariant = { λ a. HeadFits a.shape a.limits a.workers × (a.limits.steps ≤ vec_capacity a.rows) × AreOfWorkers a.workers a.rows.items };
+}
+
+impl Journal {
+    ghost use Rattle.std.specs.Prelude.{◌≡◌, ◌<◌, IfOk, length};
+    ghost use Rattle.model.specs.Journals.{HeadFits, AreOfWorkers, blank, with_row};
+
+    /// A journal with no row, and room for all that the limit allows. `AllocError` where there is no memory for them.
+    pub fn new(
+        alloc: Global,
+        shape: HeapShape,
+        limits: Limits,
+        workers: u8,
+    ) -> Result<Journal, AllocError>
+        requires { HeadFits shape limits workers }
+        ensures { IfOk result (λ journal. journal ≡ blank shape limits workers) }
+    {
+        Ok(Journal {
+            shape,
+            limits,
+            workers,
+            rows: Vec::with_capacity(alloc, limits.steps as usize)?,
+        })
+    }
+
+    /// The heap's shape.
+    pub fn shape(&self) -> HeapShape
+        ensures value { result ≡ self.now.shape }
+        ensures head { HeadFits self.now.shape self.now.limits self.now.workers }
+    {
+        self.shape
+    }
+
+    /// The limits.
+    pub fn limits(&self) -> Limits
+        ensures value { result ≡ self.now.limits }
+        ensures head { HeadFits self.now.shape self.now.limits self.now.workers }
+    {
+        self.limits
+    }
+
+    /// How many workers there are, from 1 to 9.
+    pub fn workers(&self) -> u8
+        ensures value { result ≡ self.now.workers }
+        ensures head { HeadFits self.now.shape self.now.limits self.now.workers }
+    {
+        self.workers
+    }
+
+    /// The rows in order.
+    pub fn rows(&self) -> &[Row]
+        ensures value { result.now ≡ self.now.rows }
+        ensures workers { AreOfWorkers self.now.workers self.now.rows }
+    {
+        self.rows.as_slice()
+    }
+
+    /// Adds a row. It takes no memory.
+    pub fn note(&mut self, row: Row)
+        requires room { length self.old.rows < self.old.limits.steps }
+        requires worker { row.worker < self.old.workers }
+        ensures { self.new ≡ with_row self.old row }
+    {
+        match self.rows.push(row) {
+            Ok(()) => {}
+            Err(_) => unreachable!(),
+        }
+    }
 }

@@ -1,0 +1,29 @@
+use Rattle.std.specs.Prelude.{ℕ, ◌<◌, ◌≤◌, List, [], ◌∷◌, ◌++◌, All}
+use Rattle.model.specs.declared.journals.HeapShape.{HeapShape}
+use Rattle.model.specs.declared.journals.Limits.{Limits}
+use Rattle.model.specs.declared.journals.Row.{Row}
+use Rattle.model.specs.Limits.{ShapeFits, LimitsFit}
+
+-- the heap's shape, the limits, how many workers there are, and the turns that were made
+pub record JournalValue : Type 0 where
+  pub shape : HeapShape
+  pub limits : Limits
+  pub workers : ℕ
+  pub rows : List Row
+
+-- a journal that has no row
+abbrev pub blank : HeapShape → Limits → ℕ → JournalValue
+blank shape limits workers = record { shape = shape; limits = limits; workers = workers; rows = [] }
+
+abbrev pub with_row : JournalValue → Row → JournalValue
+with_row journal row = record journal { rows = journal.rows ++ row ∷ [] }
+
+-- what holds of the head of every journal
+pub record HeadFits (shape : HeapShape) (limits : Limits) (workers : ℕ) : Type 0 where
+  pub cells : ShapeFits shape.small shape.medium shape.large
+  pub bounds : LimitsFit limits.steps limits.output
+  pub one : 1 ≤ workers
+  pub nine : workers ≤ 9
+
+abbrev pub AreOfWorkers : ℕ → List Row → Type 0
+AreOfWorkers workers rows = All (λ (row : Row). row.worker < workers) rows
