@@ -5,11 +5,13 @@
 
 mod comparisons;
 mod conversions;
-mod operators;
+mod ints;
+mod longs;
 #[cfg(test)]
 mod tests;
 
 pub use comparisons::{compare_ints, compare_longs};
 pub use conversions::{int_to_long, long_to_int, truncate};
+pub use ints::{iop, negate_int};
+pub use longs::{lop, negate_long};
 pub use model::values::{IntType, Kind, Value};
-pub use operators::{iop, lop, negate_int, negate_long};

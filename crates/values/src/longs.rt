@@ -1,47 +1,11 @@
-//! The operators on two numbers, and the change of sign.
+//! The operators on two longs, and the change of a long's sign.
 #![tactic(auto, using(crate::proofs::WrapLemmas::wraps))]
 
 ghost use Rattle.std.specs.Prelude.{◌≡◌};
-ghost use Rattle.std.specs.Int.{w32, w64};
+ghost use Rattle.std.specs.Int.{w64};
 ghost use Rattle.model.specs.Arithmetic.{operator_result, negation, shift_distance};
 
 use model::instructions::Operator;
-
-/// What the operator makes of two ints, and `None` exactly for a division or a remainder by zero. A shift goes by the
-/// low 5 bits of `b`. (JVMS 6.5: iadd, isub, imul, idiv, irem, ishl, ishr, iushr, iand, ior, ixor)
-pub fn iop(op: Operator, a: i32, b: i32) -> Option<i32>
-    ensures { result ≡ operator_result w32 op a b }
-{
-    match op {
-        Operator::Add => Some(a.wrapping_add(b)),
-        Operator::Sub => Some(a.wrapping_sub(b)),
-        Operator::Mul => Some(a.wrapping_mul(b)),
-        Operator::Div => {
-            if b == 0 {
-                None
-            } else {
-                Some(a.wrapping_div(b))
-            }
-        }
-        Operator::Rem => {
-            if b == 0 {
-                None
-            } else {
-                Some(a.wrapping_rem(b))
-            }
-        }
-        Operator::Shl => Some(a.wrapping_shl(b.cast_unsigned())),
-        Operator::Shr => Some(a.wrapping_shr(b.cast_unsigned())),
-        Operator::Ushr => Some(
-            a.cast_unsigned()
-                .wrapping_shr(b.cast_unsigned())
-                .cast_signed(),
-        ),
-        Operator::And => Some(a & b),
-        Operator::Or => Some(a | b),
-        Operator::Xor => Some(a ^ b),
-    }
-}
 
 /// What the operator makes of two longs, and `None` exactly for a division or a remainder by zero. A shift goes by the
 /// low 6 bits of `b`, an int count made a long. (JVMS 6.5: ladd, lsub, lmul, ldiv, lrem, lshl, lshr, lushr, land, lor,
@@ -74,13 +38,6 @@ pub fn lop(op: Operator, a: i64, b: i64) -> Option<i64>
         Operator::Or => Some(a | b),
         Operator::Xor => Some(a ^ b),
     }
-}
-
-/// The int with the other sign; the least int is its own. (JVMS 6.5: ineg)
-pub fn negate_int(a: i32) -> i32
-    ensures { result ≡ negation w32 a }
-{
-    a.wrapping_neg()
 }
 
 /// The long with the other sign; the least long is its own. (JVMS 6.5: lneg)
