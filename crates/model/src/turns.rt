@@ -100,3 +100,35 @@ pub enum Mark {
     Waiting,
     Failing,
 }
+
+/// The exceptions that the machine makes by itself (JVMS 2.10, 6.5), by their classes in `java/lang`.
+#[derive(Clone, Copy, Debug, PartialEq, Eq)]
+pub enum Exception {
+    Arithmetic,
+    NullPointer,
+    ClassCast,
+    NegativeArraySize,
+    ArrayStore,
+    IllegalMonitorState,
+    ArrayIndexOutOfBounds,
+    IllegalThreadState,
+    StackOverflow,
+}
+
+/// Why an instruction completes abruptly (JVMS 2.6.5): a fault, or an exception that the machine makes.
+#[derive(Clone, Copy, Debug, PartialEq, Eq)]
+pub enum Abrupt {
+    Fault(Fault),
+    Throw(Exception),
+}
+
+impl From<Fault> for Abrupt {
+    ghost use Rattle.std.specs.Prelude.{◌≡◌};
+    ghost use Rattle.model.specs.declared.turns.Abrupt.TheVariants.{Fault as Faulted};
+
+    ghost from_gives = { λ fault abrupt. abrupt ≡ Faulted fault };
+
+    fn from(fault: Fault) -> Abrupt {
+        Abrupt::Fault(fault)
+    }
+}

@@ -1,0 +1,101 @@
+use Rattle.std.specs.Prelude.{ℕ, ◌-◌, ℤ, List, [], ◌∷◌, length, drop, take, slice_get, slice_set, nat_le, Option, Some, None, Result, Ok, Err, Bool, true, false, if◌then◌else◌}
+use Rattle.model.specs.declared.values.Value.{Value}
+use Rattle.model.specs.declared.values.Value.TheVariants.{Int, Long, Ref}
+use Rattle.model.specs.declared.values.Entry.{Entry}
+use Rattle.model.specs.declared.turns.Mark.{Mark}
+use Rattle.model.specs.declared.turns.Fault.{Fault}
+use Rattle.model.specs.declared.turns.Fault.TheVariants.{StackEmpty, StackFull, WrongKind}
+use Rattle.model.specs.declared.turns.Abrupt.{Abrupt}
+use Rattle.model.specs.declared.turns.Abrupt.TheVariants.{Fault as Faulted}
+use Rattle.model.specs.Values.{births_of, units_of_all}
+
+-- a method, by the place of its class in the program and its own place in the class
+pub record MethodPlace : Type 0 where
+  pub class : ℕ
+  pub method : ℕ
+
+-- a frame (JVMS 2.6): the stack has its top first and room for so many units; the monitor is the one to be given back
+-- when the frame is left; the mark says what class initialisation wants of the frame
+pub record Frame : Type 0 where
+  pub method : MethodPlace
+  pub pc : ℕ
+  pub locals : List Entry
+  pub stack : List Value
+  pub room : ℕ
+  pub monitor : Option ℕ
+  pub mark : Mark
+
+-- ---- the frames of a thread, outermost first: the last one runs
+
+abbrev pub running : List Frame → Option Frame
+running frames = slice_get frames (length frames - 1)
+
+abbrev pub with_running : List Frame → Frame → List Frame
+with_running frames f = slice_set frames (length frames - 1) f
+
+-- the callers of the running frame
+abbrev pub callers : List Frame → List Frame
+callers frames = take (length frames - 1) frames
+
+-- ---- what an instruction finds on a stack: the operands from the top, each tested when it is popped
+
+abbrev pub top_of : List Value → Result Value Fault
+top_of [] = Err StackEmpty
+top_of (v ∷ vs) = Ok v
+
+abbrev pub as_int : Result Value Fault → Result ℤ Fault
+as_int (Err e) = Err e
+as_int (Ok (Int z)) = Ok z
+as_int (Ok (Long z)) = Err WrongKind
+as_int (Ok (Ref r)) = Err WrongKind
+
+abbrev pub as_long : Result Value Fault → Result ℤ Fault
+as_long (Err e) = Err e
+as_long (Ok (Int z)) = Err WrongKind
+as_long (Ok (Long z)) = Ok z
+as_long (Ok (Ref r)) = Err WrongKind
+
+abbrev pub both : {A B : Type 0} → Result A Fault → Result B Fault → Result (A × B) Fault
+both (Err e) second = Err e
+both (Ok x) (Err e) = Err e
+both (Ok x) (Ok y) = Ok (x, y)
+
+abbrev pub int_on : List Value → Result ℤ Fault
+int_on stack = as_int (top_of stack)
+
+abbrev pub long_on : List Value → Result ℤ Fault
+long_on stack = as_long (top_of stack)
+
+-- two operands, the upper one first
+abbrev pub two_ints_on : List Value → Result (ℤ × ℤ) Fault
+two_ints_on stack = both (int_on stack) (int_on (drop 1 stack))
+
+abbrev pub two_longs_on : List Value → Result (ℤ × ℤ) Fault
+two_longs_on stack = both (long_on stack) (long_on (drop 1 stack))
+
+-- an int above a long, as a shift of a long wants them
+abbrev pub count_and_long_on : List Value → Result (ℤ × ℤ) Fault
+count_and_long_on stack = both (int_on stack) (long_on (drop 1 stack))
+
+-- ---- what an instruction leaves
+
+-- values, bottom first, on top of a stack
+abbrev pub push_all : List Value → List Value → List Value
+push_all [] stack = stack
+push_all (v ∷ vs) stack = push_all vs (v ∷ stack)
+
+abbrev pub at_pc : ℕ → Frame → Frame
+at_pc next f = record f { pc = next }
+
+-- a frame, and the births that were written on the way to it, in order
+pub record Moved : Type 0 where
+  pub frame : Frame
+  pub writes : List ℕ
+
+-- these values, bottom first, in place of the n at the top, and on to the next instruction
+abbrev pub replaced : ℕ → Frame → ℕ → List Value → Moved
+replaced next f n vs = record { frame = record f { pc = next; stack = push_all vs (drop n f.stack) }; writes = births_of vs }
+
+-- the same where they have room, else F2
+abbrev pub replaced_if_room : ℕ → Frame → ℕ → List Value → Result Moved Abrupt
+replaced_if_room next f n vs = if nat_le (units_of_all (push_all vs (drop n f.stack))) f.room then Ok (replaced next f n vs) else Err (Faulted StackFull)

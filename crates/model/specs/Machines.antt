@@ -1,0 +1,141 @@
+use Rattle.std.specs.Prelude.{◌≡◌, ℕ, List, [], ◌∷◌, ◌++◌, Bool, true, false, Option, Some, None, is_some, refl}
+use Rattle.model.specs.declared.journals.HeapShape.{HeapShape}
+use Rattle.model.specs.declared.journals.Limits.{Limits}
+use Rattle.model.specs.declared.journals.Row.{Row}
+use Rattle.model.specs.declared.journals.Outcome.{Outcome}
+use Rattle.model.specs.declared.journals.Outcome.TheVariants.{Done, Object, NoRoom, Fault}
+use Rattle.model.specs.declared.turns.Actor.{Actor}
+use Rattle.model.specs.declared.turns.Actor.TheVariants.{Thread, Collector}
+use Rattle.model.specs.declared.turns.Fault.{Fault as FaultKind}
+use Rattle.model.specs.declared.turns.Turn.{Turn}
+use Rattle.model.specs.declared.turns.Turn.TheVariants.{Done as TurnDone, Fault as TurnFault}
+use Rattle.model.specs.ClassListings.{ClassListing}
+use Rattle.model.specs.Worlds.{World, opening_world, next_birth}
+use Rattle.model.specs.Effects.{Effect}
+use Rattle.model.specs.Effects.Choice.{NotAsked, NewObject}
+use Rattle.model.specs.Table.Next.{next, asked}
+use Rattle.model.specs.Turns.{refusal, choice_of, ideal_step}
+use Rattle.model.specs.Accounts.{Account, opening_account, has_room, after_turn}
+
+-- the heap's shape, the limits, how many workers there are, and the turns that were made
+pub record JournalValue : Type 0 where
+  pub shape : HeapShape
+  pub limits : Limits
+  pub workers : ℕ
+  pub rows : List Row
+
+-- a world as contracts see it: a program and a journal, from which all else follows
+pub record Recorded : Type 0 where
+  pub program : List ClassListing
+  pub journal : JournalValue
+
+-- what a program and a journal stand for: the ideal world, and the account of the heap
+pub record Machine : Type 0 where
+  pub world : World
+  pub account : Account
+
+-- ---- from the journal to the machine
+
+abbrev pub account_step : List ClassListing → Machine → Actor → Outcome → Account
+account_step program m (Thread t) outcome =
+    after_turn m.account outcome (next_birth m.world) (asked program m.world t) (next program m.world t (choice_of outcome)).writes
+account_step program m Collector outcome = m.account
+
+abbrev pub account_unless_refused : List ClassListing → Machine → Actor → Outcome → Option Turn → Account
+account_unless_refused program m actor outcome (Some refused) = m.account
+account_unless_refused program m actor outcome None = account_step program m actor outcome
+
+-- the ideal run's step and the account's, side by side
+abbrev pub advance : List ClassListing → Limits → Machine → Row → Machine
+advance program limits m row = record {
+  world = ideal_step program limits m.world row.actor (choice_of row.outcome);
+  account = account_unless_refused program m row.actor row.outcome (refusal program limits m.world row.actor)
+}
+
+abbrev pub opening_machine : List ClassListing → HeapShape → Machine
+opening_machine program shape = record { world = opening_world program; account = opening_account shape }
+
+abbrev pub advance_all : List ClassListing → Limits → Machine → List Row → Machine
+advance_all program limits m [] = m
+advance_all program limits m (row ∷ rows) = advance_all program limits (advance program limits m row) rows
+
+unfoldable pub machine_of : Recorded → Machine
+machine_of v = advance_all v.program v.journal.limits (opening_machine v.program v.journal.shape) v.journal.rows
+
+-- ---- from the machine to the next row
+
+abbrev pub is_fault : World → Bool
+is_fault w = is_some w.fault
+
+abbrev pub outcome_by : Bool → Outcome → Outcome
+outcome_by true outcome = Fault
+outcome_by false outcome = outcome
+
+abbrev pub outcome_asked : List ClassListing → World → ℕ → Bool → Outcome
+outcome_asked program w t true = outcome_by (is_fault (next program w t NewObject).after) Object
+outcome_asked program w t false = NoRoom
+
+abbrev pub outcome_if : List ClassListing → Machine → ℕ → Option ℕ → Outcome
+outcome_if program m t None = outcome_by (is_fault (next program m.world t NotAsked).after) Done
+outcome_if program m t (Some words) = outcome_asked program m.world t (has_room m.account words)
+
+-- what comes of a turn that nothing refuses: NoRoom where it asks for a cell and none has room, Fault where it faults
+-- (after an ask that has room too), Object where it asked, else Done
+abbrev pub outcome_of : List ClassListing → Machine → Actor → Outcome
+outcome_of program m (Thread t) = outcome_if program m t (asked program m.world t)
+outcome_of program m Collector = Done
+
+abbrev pub row_unless_refused : Recorded → Machine → Actor → ℕ → Option Turn → Option Row
+row_unless_refused v m actor worker (Some refused) = None
+row_unless_refused v m actor worker None = Some (record { actor = actor; outcome = outcome_of v.program m actor; worker = worker })
+
+-- the row that an actor's turn makes, if it makes one
+abbrev pub row_for : Recorded → Actor → ℕ → Option Row
+row_for v actor worker = row_unless_refused v (machine_of v) actor worker (refusal v.program v.journal.limits (machine_of v).world actor)
+
+abbrev pub noted : Recorded → Row → Recorded
+noted v row = record v { journal = record v.journal { rows = v.journal.rows ++ row ∷ [] } }
+
+abbrev pub with_row : Recorded → Option Row → Recorded
+with_row v None = v
+with_row v (Some row) = noted v row
+
+-- ---- a turn
+
+-- the world after an actor's turn
+unfoldable pub after_turn_by : Recorded → Actor → ℕ → Recorded
+after_turn_by v actor worker = with_row v (row_for v actor worker)
+
+abbrev pub told_of : Option (FaultKind × ℕ) → Turn
+told_of None = TurnDone
+told_of (Some fault) = TurnFault fault.0
+
+abbrev pub answer_unless_refused : Recorded → Option Turn → Turn
+answer_unless_refused after (Some refused) = refused
+answer_unless_refused after None = told_of (machine_of after).world.fault
+
+-- what an actor's turn answers
+unfoldable pub answer_to : Recorded → Actor → ℕ → Turn
+answer_to v actor worker = answer_unless_refused (after_turn_by v actor worker) (refusal v.program v.journal.limits (machine_of v).world actor)
+
+-- one turn for each actor in order, whatever each answers
+abbrev pub after_turns : Recorded → List Actor → Recorded
+after_turns v [] = v
+after_turns v (actor ∷ actors) = after_turns (after_turn_by v actor 0) actors
+
+-- ---- the opening
+
+-- a world that has made no turn, for one worker
+abbrev pub opened : List ClassListing → HeapShape → Limits → Recorded
+opened program shape limits = record { program = program; journal = record { shape = shape; limits = limits; workers = 1; rows = [] } }
+
+-- ---- laws
+
+pub advance_all-push : (program : List ClassListing) (limits : Limits) (m : Machine) (rows : List Row) (row : Row) → advance_all program limits m (rows ++ row ∷ []) ≡ advance program limits (advance_all program limits m rows) row
+advance_all-push program limits m [] row = refl
+advance_all-push program limits m (r ∷ rows) row = advance_all-push program limits (advance program limits m r) rows row
+
+-- one row more is one step more
+pub machine_of-noted : (v : Recorded) (row : Row) → machine_of (noted v row) ≡ advance v.program v.journal.limits (machine_of v) row
+unfolding machine_of
+machine_of-noted v row = advance_all-push v.program v.journal.limits (opening_machine v.program v.journal.shape) v.journal.rows row

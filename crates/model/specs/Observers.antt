@@ -1,0 +1,77 @@
+use Rattle.std.specs.Prelude.{ℕ, zero, suc, ◌+◌, List, [], ◌∷◌, ◌++◌, drop, take, length, slice_get, nat_lt, Bool, true, false, ◌&&◌, Option, Some, None, if◌then◌else◌, is_some}
+use Rattle.std.specs.List.{find, list_any}
+use Rattle.model.specs.declared.journals.Row.{Row}
+use Rattle.model.specs.declared.turns.Actor.{Actor}
+use Rattle.model.specs.declared.turns.Actor.TheVariants.{Thread as ByThread, Collector}
+use Rattle.model.specs.declared.turns.Fault.{Fault}
+use Rattle.model.specs.declared.turns.Status.{Status}
+use Rattle.model.specs.declared.turns.Status.TheVariants.{Running, Finished, Stuck, Faulted}
+use Rattle.model.specs.ClassListings.{ClassListing}
+use Rattle.model.specs.Worlds.{World, Thread, next_birth}
+use Rattle.model.specs.Ready.{is_ready, thread_numbers, some_lives, some_is_ready}
+use Rattle.model.specs.Turns.{overflows}
+use Rattle.model.specs.Machines.{Recorded, JournalValue, Machine, machine_of}
+
+-- What each observer of a world answers: a function of its program and its journal.
+
+abbrev pub ideal : Recorded → World
+ideal v = (machine_of v).world
+
+abbrev pub output_of : Recorded → List ℕ
+output_of v = (ideal v).output
+
+abbrev pub fault_of : Recorded → Option (Fault × ℕ)
+fault_of v = (ideal v).fault
+
+abbrev pub thread_of : Recorded → ℕ → Option Thread
+thread_of v t = slice_get (ideal v).threads t
+
+-- ---- status
+
+abbrev pub status_by : Bool → Bool → Bool → Status
+status_by true lives ready = Faulted
+status_by false false ready = Finished
+status_by false true false = Stuck
+status_by false true true = Running
+
+-- a fault; else no thread lives; else none is ready; else it runs
+abbrev pub status_in : List ClassListing → World → Status
+status_in program w = status_by (is_some w.fault) (some_lives w) (some_is_ready program w)
+
+abbrev pub status_of : Recorded → Status
+status_of v = status_in v.program (ideal v)
+
+-- ---- pick
+
+abbrev pub after_actor : ℕ → Actor → ℕ
+after_actor n (ByThread t) = t + 1
+after_actor n Collector = n
+
+-- the number after the thread of the last thread row, n where there is none
+abbrev pub after_last : ℕ → List Row → ℕ
+after_last n [] = n
+after_last n (row ∷ rows) = after_last (after_actor n row.actor) rows
+
+-- the threads in cyclic order from one on
+abbrev pub cyclic_from : ℕ → List ℕ → List ℕ
+cyclic_from start threads = drop start threads ++ take start threads
+
+-- the first ready thread after the one that had the last thread row
+abbrev pub pick_of : Recorded → Option ℕ
+pick_of v = find (is_ready v.program (ideal v)) (cyclic_from (after_last 0 v.journal.rows) (thread_numbers (ideal v)))
+
+-- ---- the output limit
+
+abbrev pub is_full_for : Recorded → ℕ → Bool
+is_full_for v t = is_ready v.program (ideal v) t && overflows v.program v.journal.limits (ideal v) t
+
+abbrev pub is_running : Status → Bool
+is_running Running = true
+is_running Finished = false
+is_running Stuck = false
+is_running Faulted = false
+
+-- it runs, has steps left, and some thread's turn would be refused for its output
+abbrev pub output_full_of : Recorded → Bool
+output_full_of v =
+    is_running (status_of v) && nat_lt (ideal v).rows v.journal.limits.steps && list_any (is_full_for v) (thread_numbers (ideal v))

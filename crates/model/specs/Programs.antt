@@ -1,0 +1,54 @@
+use Rattle.std.specs.Prelude.{ℕ, List, [], ◌∷◌, slice_get, Option, Some, None, Bool, true, false, ◌&&◌, ◌==◌, codes, cond, position, bit_and}
+use Rattle.std.specs.Option.{option_map, option_and_then}
+use Rattle.std.specs.Str.{bytes_eq}
+use Rattle.std.specs.List.{find}
+use Rattle.model.specs.declared.listings.Method.{Method}
+use Rattle.model.specs.declared.listings.Code.{Code}
+use Rattle.model.specs.declared.listings.Placed.{Placed}
+use Rattle.model.specs.declared.flags.MethodFlags.{MethodFlags}
+use Rattle.model.specs.declared.names.Member.{Member}
+use Rattle.model.specs.declared.builtins.Builtin.{Builtin}
+use Rattle.model.specs.declared.builtins.Builtin.TheVariants.{PrintInt}
+use Rattle.model.specs.CodeListings.{CodeListing}
+use Rattle.model.specs.ClassListings.{ClassListing}
+use Rattle.model.specs.Frames.{MethodPlace, Frame}
+
+-- A program is a list of class listings.
+
+-- ---- methods by their places
+
+abbrev pub method_at : List ClassListing → MethodPlace → Option Method
+method_at program place = option_and_then (λ (c : ClassListing). slice_get c.methods place.method) (slice_get program place.class)
+
+abbrev pub code_at : List ClassListing → MethodPlace → Option CodeListing
+code_at program place = option_and_then (λ (m : Method). m.code) (method_at program place)
+
+-- the instruction at a pc, with its pc and the next
+abbrev pub placed_at : CodeListing → ℕ → Option Placed
+placed_at code pc = find (λ (i : Placed). i.pc == pc) code.instructions
+
+-- the instruction at which a frame stands
+abbrev pub instruction_of : List ClassListing → Frame → Option Placed
+instruction_of program f = option_and_then (λ code. placed_at code f.pc) (code_at program f.method)
+
+-- ---- main
+
+abbrev pub is_static : Method → Bool
+is_static m = bit_and m.flags.0 8 == 8
+
+-- a static `main()V` (JVMS 5.2)
+abbrev pub is_main : Method → Bool
+is_main m = is_static m && bytes_eq m.name (codes "main") && bytes_eq m.descriptor (codes "()V")
+
+-- the place of the main method: in the first class
+abbrev pub main_in : List ClassListing → Option MethodPlace
+main_in [] = None
+main_in (c ∷ cs) = option_map (λ (n : ℕ). record { class = 0; method = n }) (position is_main c.methods)
+
+-- ---- the machine's own methods
+
+abbrev pub is_member : Member → List ℕ → List ℕ → List ℕ → Bool
+is_member m class name descriptor = bytes_eq m.class class && bytes_eq m.name name && bytes_eq m.descriptor descriptor
+
+abbrev pub builtin_of : Member → Option Builtin
+builtin_of m = cond (is_member m (codes "vm/Sys") (codes "print") (codes "(I)V")) (Some PrintInt) None
