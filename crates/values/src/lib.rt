@@ -1,0 +1,17 @@
+//! Arithmetic on the values of the machine: ints of 32 bits and longs of 64 (JVMS 2.3, 2.11.3, 2.11.4).
+//!
+//! Each function ends, takes no memory, and answers what the definition of arithmetic says.
+#![tactic(auto)]
+
+mod comparisons;
+mod conversions;
+mod ints;
+mod longs;
+#[cfg(test)]
+mod tests;
+
+pub use comparisons::{compare_ints, compare_longs};
+pub use conversions::{int_to_long, long_to_int, truncate};
+pub use ints::{iop, negate_int};
+pub use longs::{lop, negate_long};
+pub use model::values::{IntType, Kind, Value};
