@@ -12,5 +12,6 @@ pub mod instructions;
 pub mod journals;
 pub mod listings;
 pub mod names;
+pub mod places;
 pub mod turns;
 pub mod values;
