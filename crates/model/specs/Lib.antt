@@ -3,3 +3,5 @@ pub mod CodeListings
 pub mod Faults
 pub mod Limits
 pub mod Switches
+pub mod Sizes
+pub mod Texts
