@@ -17,3 +17,5 @@ pub mod Table
 pub mod Turns
 pub mod Values
 pub mod Worlds
+pub mod Sizes
+pub mod Texts
