@@ -2,6 +2,7 @@ pub mod Accounts
 pub mod Arithmetic
 pub mod ClassListings
 pub mod CodeListings
+pub mod Collector
 pub mod Effects
 pub mod Faults
 pub mod Frames

@@ -6,6 +6,7 @@
 #![tactic(auto)]
 
 pub mod builtins;
+pub mod collector;
 pub mod colours;
 pub mod flags;
 pub mod instructions;
