@@ -1,0 +1,7 @@
+//! The frames of one thread (JVMS 2.6), in one fixed array of 4,096 units that is made once.
+#![tactic(auto)]
+
+mod activations;
+mod thread_frames;
+
+pub use thread_frames::Frames;
