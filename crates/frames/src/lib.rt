@@ -2,6 +2,7 @@
 #![tactic(auto)]
 
 mod activations;
+mod operands;
 mod thread_frames;
 
 pub use thread_frames::Frames;
