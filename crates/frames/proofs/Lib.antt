@@ -1,0 +1,4 @@
+pub mod StackLemmas
+pub mod LayoutLemmas
+pub mod OperandLemmas
+pub mod RunningLemmas
