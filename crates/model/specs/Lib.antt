@@ -1,3 +1,4 @@
+pub mod Bytecode
 pub mod ClassListings
 pub mod CodeListings
 pub mod Faults

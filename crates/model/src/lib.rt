@@ -5,6 +5,7 @@
 //! relation and the worked rows that compute.
 #![tactic(auto)]
 
+pub mod bytecode;
 pub mod colours;
 pub mod flags;
 pub mod instructions;
