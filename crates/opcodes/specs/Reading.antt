@@ -1,0 +1,3 @@
+-- Reading code from left to right, with the first fault that is met.
+pub mod Steps
+pub mod Tables
