@@ -4,6 +4,8 @@
 mod error;
 mod fields;
 mod layout;
+mod reading;
+mod switches;
 mod tables;
 
 pub use error::OpError;
