@@ -1,5 +1,6 @@
 pub mod Accounts
 pub mod Arithmetic
+pub mod Bytecode
 pub mod ClassListings
 pub mod CodeListings
 pub mod Collector

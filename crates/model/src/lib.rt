@@ -7,6 +7,7 @@
 
 pub mod builtins;
 pub mod collector;
+pub mod bytecode;
 pub mod colours;
 pub mod flags;
 pub mod instructions;
