@@ -6,8 +6,8 @@
 #![tactic(auto)]
 
 pub mod builtins;
-pub mod collector;
 pub mod bytecode;
+pub mod collector;
 pub mod colours;
 pub mod flags;
 pub mod instructions;
