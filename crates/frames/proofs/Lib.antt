@@ -1,0 +1,3 @@
+pub mod StackLemmas
+pub mod LayoutLemmas
+pub mod OperandLemmas
