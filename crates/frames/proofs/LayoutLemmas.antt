@@ -1,16 +1,15 @@
 -- how the frames read after a write in the region of the last one
-use Rattle.std.proofs.Common.{◌≡◌, ℕ, zero, suc, ◌+◌, ◌-◌, ◌<◌, ◌≤◌, List, [], ◌∷◌, ◌++◌, length, map, slice_set, slice_index_or, take, drop, nat_lt, nat_le, ◌&&◌, zero-add, replicate, Bool, true, false, refl, ap, sym, ◌∙◌, subst, arith, rules, get_or}
-use Rattle.std.proofs.lemmas.Grind.{common_steps}
-use Rattle.std.proofs.lemmas.List.{take-take, take_more, take_all, set_split, drop_all, map_push, map-set, length-map, length-set, get_or-map, length-append, length-take, take-map, get_or_default, length-take-le, length-drop, length-replicate, append_assoc, take_at, drop_at, take-set-le}
+use Rattle.std.proofs.Common.{◌≡◌, ℕ, suc, ◌+◌, ◌-◌, ◌<◌, ◌≤◌, List, [], ◌∷◌, ◌++◌, length, map, slice_set, take, drop, nat_lt, nat_le, ◌&&◌, zero-add, replicate, Ok, Bool, true, refl, ap, sym, ◌∙◌, subst, arith, get_or}
+use Rattle.std.proofs.lemmas.List.{take_more, take_all, set_split, drop_all, map_push, length-map, length-set, get_or-map, length-append, take-map, length-take-le, length-drop, length-replicate, append_assoc, take_at, drop_at, take-set-le}
 use Rattle.std.proofs.lemmas.Bool.{lt-ltb, and_parts, ltb-true, leb-true}
 use Rattle.model.specs.declared.values.Entry.{Entry}
 use Rattle.model.specs.declared.values.Entry.TheVariants.{Unset, Holds}
 use Rattle.model.specs.declared.values.Value.{Value}
 use Rattle.model.specs.Values.{units_of, units_of_all}
-use Rattle.model.specs.Frames.{Frame, running_frame, with_running, no_frame, units_of_frames, has_room_for}
+use Rattle.model.specs.Frames.{Frame, running_frame, top_of, with_running, no_frame, units_of_frames, has_room_for}
 use Rattle.frames.specs.declared.activations.Activation.{Activation}
-use Rattle.frames.specs.Layout.{stack_of, frame_of, Stands, AreLaidOut, IsSound}
-use Rattle.frames.proofs.StackLemmas.{stack_of-agree, locals-agree, length-stack_of, length_le_units, units_of_all-take-drop, units_of-pos, drop-stack_of, stack_of-push}
+use Rattle.frames.specs.Layout.{value_in, stack_of, frame_of, Stands, AreLaidOut, IsSound}
+use Rattle.frames.proofs.StackLemmas.{stack_of-agree, locals-agree, length-stack_of, length_le_units, units_of_all-take-drop, units_of-pos, drop-stack_of, stack_of-push, top_of-drop-stack_of}
 
 -- a list of activations and its last one
 pub split_last : (acts : List Activation) (a : Activation) → 0 < length acts → a ≡ get_or acts (length acts - 1) a → acts ≡ take (length acts - 1) acts ++ a ∷ []
@@ -149,7 +148,6 @@ opened units acts used capacity frames n a sound view some count last =
     }
 
 module _ {units : List Entry} {acts : List Activation} {used capacity : ℕ} {frames : List Frame} {n : ℕ} {a : Activation} (o : Opened units acts used capacity frames n a) where
-
   pub running_is : running_frame frames ≡ frame_of units a
   running_is = ap running_frame (sym o.view) ∙ rw length-map (get_or-map (frame_of units) acts (length acts - 1) a no_frame (let some = o.some in omega arith) ∙ ap (frame_of units) (sym o.last))
 
@@ -194,8 +192,19 @@ module _ {units : List Entry} {acts : List Activation} {used capacity : ℕ} {fr
   pub stack_is : (running_frame frames).stack ≡ stack_of units (a.base + a.locals) a.values
   stack_is = ap (λ (f : Frame). f.stack) running_is
 
+  -- the value below so many others
+  pub holds : (above : ℕ) → above < length (running_frame frames).stack → above < a.values
+  holds above there = omega (arith, ap length stack_is, length-stack_of units (a.base + a.locals) a.values)
+
+  pub top_of-held : (above : ℕ) (e : Entry) (v : Value) → above < length (running_frame frames).stack → e ≡ get_or units (a.base + a.locals + (a.values - above - 1)) e → v ≡ value_in e → top_of (drop above (running_frame frames).stack) ≡ Ok v
+  top_of-held above e v there read is =
+      let fits = region_fits in
+      let deep = holds above there in
+      let found = top_of-drop-stack_of units (a.base + a.locals) a.values above e deep (omega arith) read in
+      rw (stack_is, is) (sym found)
+
   -- so many values, which take so many units, leave the stack
-  pub drops : (count taken : ℕ) → count ≤ length (running_frame frames).stack → taken ≡ units_of_all (take count (running_frame frames).stack) → (count ≤ a.values) × (taken ≤ a.taken) × Stands units a.base (record a { values = a.values - count; taken = a.taken - taken })
+  pub drops : (count taken : ℕ) → count ≤ length (running_frame frames).stack → taken ≡ units_of_all (take count (running_frame frames).stack) → (count ≤ a.values) × (taken ≤ a.taken) × (taken + units_of_all (drop count (running_frame frames).stack) ≤ (running_frame frames).room) × Stands units a.base (record a { values = a.values - count; taken = a.taken - taken })
   drops count taken there sized =
       let stack = stack_of units (a.base + a.locals) a.values in
       let last = stands_last in
@@ -205,7 +214,9 @@ module _ {units : List Entry} {acts : List Activation} {used capacity : ℕ} {fr
       let parts = units_of_all-take-drop stack count in
       let gone : taken ≡ units_of_all (take count stack) = sized ∙ ap (λ (vs : List Value). units_of_all (take count vs)) stack_is in
       let left : units_of_all (drop count stack) ≡ units_of_all (stack_of units (a.base + a.locals) (a.values - count)) = ap units_of_all (drop-stack_of units (a.base + a.locals) a.values count deep) in
-      (deep, omega arith, record { begins = refl; taken_is = omega arith; fits = omega arith })
+      let stack_units = ap (λ (vs : List Value). units_of_all (drop count vs)) stack_is in
+      let room_is : (running_frame frames).room ≡ a.room = ap (λ (f : Frame). f.room) running_is in
+      (deep, omega arith, omega arith, record { begins = refl; taken_is = omega arith; fits = omega arith })
 
   pub view_drop : (count taken : ℕ) → count ≤ a.values → map (frame_of units) (slice_set acts (n - 1) (record a { values = a.values - count; taken = a.taken - taken })) ≡ with_running frames (record (running_frame frames) { stack = drop count (running_frame frames).stack })
   view_drop count taken deep =

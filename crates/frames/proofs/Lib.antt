@@ -1,3 +1,4 @@
-pub mod StackLemmas
 pub mod LayoutLemmas
 pub mod OperandLemmas
+pub mod RunningLemmas
+pub mod StackLemmas

@@ -1,9 +1,9 @@
 -- what the stack above a unit is after a write
-use Rattle.std.proofs.Common.{◌≡◌, ℕ, zero, suc, ◌+◌, ◌-◌, ◌<◌, ◌≤◌, List, [], ◌∷◌, length, slice_set, slice_index_or, take, drop, Result, Ok, Err, refl, ap, sym, ◌∙◌, arith, rules, get_or}
+use Rattle.std.proofs.Common.{◌≡◌, ℕ, zero, suc, ◌+◌, ◌-◌, ◌<◌, ◌≤◌, List, [], ◌∷◌, length, slice_set, slice_index_or, take, drop, Result, Ok, Err, refl, ap, sym, ◌∙◌, arith, get_or, add-one}
 use Rattle.std.proofs.lemmas.Grind.{common_steps}
 use Rattle.std.proofs.lemmas.List.{get_or-take, get_or_read, drop-take, take-take}
 use Rattle.model.specs.declared.values.Entry.{Entry}
-use Rattle.model.specs.declared.values.Entry.TheVariants.{Unset, Holds, UpperHalf}
+use Rattle.model.specs.declared.values.Entry.TheVariants.{Unset, Holds}
 use Rattle.model.specs.declared.values.Value.{Value}
 use Rattle.model.specs.declared.values.Value.TheVariants.{Int, Long, Ref}
 use Rattle.model.specs.declared.turns.Fault.{Fault}
@@ -80,6 +80,18 @@ pub units_of_all-take-drop : (vs : List Value) (n : ℕ) → units_of_all (take 
 units_of_all-take-drop vs zero = omega arith
 units_of_all-take-drop [] (suc n) = refl
 units_of_all-take-drop (v ∷ vs) (suc n) = let h = units_of_all-take-drop vs n in omega arith
+
+-- one value more
+pub units_of_all-take_more : (vs : List Value) (n : ℕ) (v : Value) → top_of (drop n vs) ≡ Ok v → units_of_all (take (n + 1) vs) ≡ units_of_all (take n vs) + units_of v
+units_of_all-take_more [] zero v h = cc
+units_of_all-take_more [] (suc n) v h = cc
+units_of_all-take_more (x ∷ vs) zero v h = let e : x ≡ v = cc in rw e (omega arith)
+units_of_all-take_more (x ∷ vs) (suc n) v h = let rest = units_of_all-take_more vs n v h in let e : units_of_all (take (suc n) vs) ≡ units_of_all (take n vs) + units_of v = rw (← add-one) rest in rw add-one (omega arith)
+
+pub units_of-le : (v : Value) → units_of v ≤ 2
+units_of-le (Int z) = omega arith
+units_of-le (Long z) = omega arith
+units_of-le (Ref r) = omega arith
 
 pub units_of-pos : (v : Value) → 1 ≤ units_of v
 units_of-pos (Int z) = omega arith

@@ -1,7 +1,9 @@
 pub mod Accounts
 pub mod Arithmetic
+pub mod Bytecode
 pub mod ClassListings
 pub mod CodeListings
+pub mod Collector
 pub mod Effects
 pub mod Faults
 pub mod Frames
@@ -12,8 +14,10 @@ pub mod Observers
 pub mod Printing
 pub mod Programs
 pub mod Ready
+pub mod Sizes
 pub mod Switches
 pub mod Table
+pub mod Texts
 pub mod Turns
 pub mod Values
 pub mod Worlds

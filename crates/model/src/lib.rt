@@ -6,12 +6,16 @@
 #![tactic(auto)]
 
 pub mod builtins;
+pub mod bytecode;
+pub mod collector;
 pub mod colours;
 pub mod flags;
 pub mod instructions;
 pub mod journals;
 pub mod listings;
+pub mod mnemonics;
 pub mod names;
 pub mod places;
+pub mod trees;
 pub mod turns;
 pub mod values;

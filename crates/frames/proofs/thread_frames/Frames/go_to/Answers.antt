@@ -1,5 +1,4 @@
-use Rattle.std.proofs.Common.{refl, ap, sym, ◌∙◌, arith}
-use Rattle.model.specs.Frames.{Frame, with_running}
+use Rattle.std.proofs.Common.{refl, arith}
 use Rattle.frames.proofs.LayoutLemmas.{opened, sound_put, view_put, running_is, stands_last}
 use Rattle.frames.proofs.thread_frames.Frames.go_to.Goals as goal
 
