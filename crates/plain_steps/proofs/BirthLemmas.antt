@@ -33,4 +33,5 @@ births_of-constant (Byte z) = refl
 births_of-constant (Short z) = refl
 births_of-constant (IntOf width z) = refl
 births_of-constant (LongOf z) = refl
+
 pub ruleset births = (births_of-next, births_of-skip)

@@ -7,6 +7,8 @@
 mod constants;
 mod numbers;
 mod steps;
+#[cfg(test)]
+mod tests;
 mod written;
 
 pub use constants::constant;
