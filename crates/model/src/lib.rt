@@ -16,8 +16,9 @@ pub mod listings;
 pub mod mnemonics;
 pub mod names;
 pub mod places;
-#[cfg(test)]
-mod tests;
 pub mod trees;
 pub mod turns;
 pub mod values;
+
+#[cfg(test)]
+mod tests;
