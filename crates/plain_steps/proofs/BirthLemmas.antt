@@ -1,12 +1,9 @@
 -- the births among values
-use Rattle.std.proofs.Common.{◌≡◌, ℕ, ◌+◌, ◌<◌, List, [], ◌∷◌, ◌++◌, length, take, get_or, slice_set, append-nil, Some, None, ℤ, refl, ap, sym, ◌∙◌}
+use Rattle.std.proofs.Common.{◌≡◌, ℕ, ◌+◌, ◌<◌, List, [], ◌∷◌, ◌++◌, length, take, get_or, slice_set, append-nil, Some, None, refl, ap, sym, ◌∙◌}
 use Rattle.std.proofs.lemmas.List.{take_more, take_more_set}
 use Rattle.model.specs.declared.values.Value.{Value}
 use Rattle.model.specs.declared.values.Value.TheVariants.{Int, Long, Ref}
-use Rattle.model.specs.declared.instructions.Constant.{Constant}
-use Rattle.model.specs.declared.instructions.Constant.TheVariants.{Null, SmallInt, SmallLong, Byte, Short, Int as IntOf, Long as LongOf}
 use Rattle.model.specs.Values.{births_of}
-use Rattle.model.specs.Table.Constants.{constant_value}
 
 pub births_of-append : (vs ws : List Value) → births_of (vs ++ ws) ≡ births_of vs ++ births_of ws
 births_of-append [] ws = refl
@@ -24,13 +21,4 @@ pub births_of-skip : (vs : List Value) (i : ℕ) (d : Value) (bs : List ℕ) →
 births_of-skip vs i d bs within so_far is =
     so_far ∙ (sym (append-nil (births_of (take i vs))) ∙ (ap (λ (l : List ℕ). births_of (take i vs) ++ l) (sym is) ∙ (sym (births_of-append (take i vs) (get_or vs i d ∷ [])) ∙ sym (ap births_of (take_more vs i d within)))))
 
--- a constant is no birth
-pub births_of-constant : (c : Constant ℤ ℤ) → births_of (constant_value c ∷ []) ≡ []
-births_of-constant Null = refl
-births_of-constant (SmallInt n) = refl
-births_of-constant (SmallLong n) = refl
-births_of-constant (Byte z) = refl
-births_of-constant (Short z) = refl
-births_of-constant (IntOf width z) = refl
-births_of-constant (LongOf z) = refl
 pub ruleset births = (births_of-next, births_of-skip)

@@ -12,7 +12,11 @@ use values::Value;
 
 /// `aconst_null`, `iconst`, `lconst`, `bipush`, `sipush`, `ldc`, `ldc_w`, `ldc2_w` (JVMS 6.5): the value is pushed; F2
 /// where it has no room.
-pub fn constant(frames: &mut Frames, next: u16, constant: Constant<i32, i64>) -> Result<Written, Abrupt>
+pub fn constant(
+    frames: &mut Frames,
+    next: u16,
+    constant: Constant<i32, i64>,
+) -> Result<Written, Abrupt>
     requires { 0 < length frames.old }
     ensures step { told_with result frames.new ≡ moved_with frames.old (constant_move next constant (running_frame frames.old)) }
     ensures kept { OnErr result (frames.new ≡ frames.old) }

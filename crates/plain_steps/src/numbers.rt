@@ -74,7 +74,14 @@ fn long_operands(frames: &Frames, op: Operator) -> Result<(i64, i64), Fault>
             let (count, long) = frames.count_and_long()?;
             Ok((i64::from(count), long))
         }
-        Operator::Add | Operator::Sub | Operator::Mul | Operator::Div | Operator::Rem | Operator::And | Operator::Or | Operator::Xor => frames.two_longs(),
+        Operator::Add
+        | Operator::Sub
+        | Operator::Mul
+        | Operator::Div
+        | Operator::Rem
+        | Operator::And
+        | Operator::Or
+        | Operator::Xor => frames.two_longs(),
     }
 }
 
