@@ -21,6 +21,7 @@
 #![tactic(auto)]
 
 mod activations;
+mod locals;
 mod operands;
 mod results;
 mod thread_frames;
