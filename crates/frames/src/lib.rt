@@ -27,3 +27,6 @@ mod results;
 mod thread_frames;
 
 pub use thread_frames::Frames;
+
+#[cfg(test)]
+mod tests;

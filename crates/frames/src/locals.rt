@@ -1,7 +1,8 @@
 //! The running frame's locals (JVMS 2.6.1): a long takes two entries, and a store that covers one half of a long makes
 //! its other half unset.
 ghost use Rattle.std.specs.Prelude.{◌≡◌, ℕ, ◌<◌, ◌≤◌, ◌^◌, length, IsOk, OnErr};
-ghost use Rattle.model.specs.Frames.{running_frame, with_running, told, moved_on};
+ghost use Rattle.model.specs.Frames.{running_frame, with_running, told, moved_on, as_int};
+ghost use Rattle.model.specs.declared.values.Kind.TheVariants.{Int as IntKind};
 ghost use Rattle.model.specs.Locals.{entries_of as width_of, has_local, of_kind as found, value_on, local_at, freed, with_local, stored, stored_at};
 
 use crate::thread_frames::Frames;
@@ -31,6 +32,17 @@ impl Frames {
             Some(Entry::Holds(value)) => of_kind(kind, value),
             Some(Entry::Unset) => Err(Fault::WrongKind),
             Some(Entry::UpperHalf) | None => Err(Fault::WrongLocal),
+        }
+    }
+
+    /// The int in a local; F4 and F3 as of `load`.
+    pub fn local_int(&self, index: u16) -> Result<i32, Fault>
+        requires { 0 < length self.now }
+        ensures { result ≡ as_int (local_at IntKind (running_frame self.now).locals index) }
+    {
+        match self.load(Kind::Int, index)? {
+            Value::Int(z) => Ok(z),
+            Value::Long(_) | Value::Ref(_) => Err(Fault::WrongKind),
         }
     }
 
