@@ -1,6 +1,8 @@
 -- how the frames read after a write in the region of the last one
-use Rattle.std.proofs.Common.{◌≡◌, ℕ, suc, ◌+◌, ◌-◌, ◌<◌, ◌≤◌, List, [], ◌∷◌, ◌++◌, length, map, slice_set, take, drop, nat_lt, nat_le, ◌&&◌, zero-add, replicate, Ok, Bool, true, refl, ap, sym, ◌∙◌, subst, arith, get_or}
-use Rattle.std.proofs.lemmas.List.{take_more, take_all, set_split, drop_all, map_push, length-map, length-set, get_or-map, length-append, take-map, length-take-le, length-drop, length-replicate, append_assoc, take_at, drop_at, take-set-le}
+use Rattle.std.proofs.Common.{◌≡◌, ℕ, suc, ◌+◌, ◌-◌, ◌<◌, ◌≤◌, List, [], ◌∷◌, ◌++◌, length, map, slice_set, take, drop, nat_lt, nat_le, ◌&&◌, zero-add, replicate, Ok, Some, None, slice_get, Bool, true, refl, ap, sym, ◌∙◌, subst, arith, get_or}
+use Rattle.std.proofs.lemmas.List.{take_more, take_all, set_split, drop_all, map_push, length-map, length-set, get_or-map, length-append, take-map, length-take-le, length-drop, length-replicate, append_assoc, take_at, drop_at, take-set-le, get_or-take, get_or-drop, set-get_or, drop-set-add}
+use Rattle.std.proofs.lemmas.Option.{slice_get_read, slice_get_past}
+use Rattle.std.proofs.Math.Seq.{take-set-lt}
 use Rattle.std.proofs.lemmas.Bool.{lt-ltb, and_parts, ltb-true, leb-true}
 use Rattle.model.specs.declared.values.Entry.{Entry}
 use Rattle.model.specs.declared.values.Entry.TheVariants.{Unset, Holds}
@@ -9,7 +11,7 @@ use Rattle.model.specs.Values.{units_of, units_of_all}
 use Rattle.model.specs.Frames.{Frame, running_frame, top_of, with_running, no_frame, units_of_frames, has_room_for}
 use Rattle.frames.specs.declared.activations.Activation.{Activation}
 use Rattle.frames.specs.Layout.{value_in, stack_of, frame_of, Stands, AreLaidOut, IsSound}
-use Rattle.frames.proofs.StackLemmas.{stack_of-agree, locals-agree, length-stack_of, length_le_units, units_of_all-take-drop, units_of-pos, drop-stack_of, stack_of-push, top_of-drop-stack_of}
+use Rattle.frames.proofs.StackLemmas.{stack_of-agree, locals-agree, length-stack_of, length_le_units, units_of_all-take-drop, units_of-pos, drop-stack_of, stack_of-push, stack_of-set_below, top_of-drop-stack_of}
 
 -- a list of activations and its last one
 pub split_last : (acts : List Activation) (a : Activation) → 0 < length acts → a ≡ get_or acts (length acts - 1) a → acts ≡ take (length acts - 1) acts ++ a ∷ []
@@ -246,6 +248,47 @@ module _ {units : List Entry} {acts : List Activation} {used capacity : ℕ} {fr
       let locals : take a.locals (drop a.base units') ≡ take a.locals (drop a.base units) = locals-agree units' units (a.base + a.locals) a.base a.locals below (omega arith) in
       let stack : stack_of units' (a.base + a.locals) (a.values + 1) ≡ v ∷ stack_of units (a.base + a.locals) a.values = stack_of-push units (a.base + a.locals) a.values v inside in
       rw (running_is, ← stack, ← locals) (view_put units' (record a { values = a.values + 1; taken = a.taken + units_of v }) same)
+
+  -- the running frame's locals
+  pub locals_is : (running_frame frames).locals ≡ take a.locals (drop a.base units)
+  locals_is = ap (λ (f : Frame). f.locals) running_is
+
+  pub length-locals : length (running_frame frames).locals ≡ a.locals
+  length-locals =
+      let fits = region_fits in
+      ap length locals_is ∙ length-take-le a.locals (drop a.base units) (omega (arith, length-drop a.base units))
+
+  pub entry_within : (i : ℕ) (e : Entry) → i < a.locals → e ≡ get_or units (a.base + i) e → Some e ≡ slice_get (running_frame frames).locals i
+  entry_within i e within read =
+      let place : get_or (running_frame frames).locals i e ≡ get_or units (a.base + i) e = ap (λ (es : List Entry). get_or es i e) locals_is ∙ (get_or-take a.locals (drop a.base units) i e within ∙ get_or-drop a.base units i e) in
+      sym (slice_get_read (running_frame frames).locals a.locals i e (sym length-locals) within (read ∙ sym place))
+
+  pub entry_past : (i : ℕ) → a.locals ≤ i → None ≡ slice_get (running_frame frames).locals i
+  entry_past i past = sym (slice_get_past (running_frame frames).locals i (omega (arith, length-locals)))
+
+  -- an entry of them is written
+  acts_stay : slice_set acts (n - 1) a ≡ acts
+  acts_stay = ap (λ (k : ℕ). slice_set acts (k - 1) a) o.count ∙ (ap (λ (x : Activation). slice_set acts (length acts - 1) x) o.last ∙ set-get_or acts (length acts - 1) a)
+
+  stands_entry : (i : ℕ) (e : Entry) → i < a.locals → stack_of (slice_set units (a.base + i) e) (a.base + a.locals) a.values ≡ stack_of units (a.base + a.locals) a.values
+  stands_entry i e within = stack_of-set_below units (a.base + a.locals) a.values (a.base + i) e (omega arith)
+
+  pub sound_entry : (i : ℕ) (e : Entry) → i < a.locals → IsSound (slice_set units (a.base + i) e) acts used capacity
+  sound_entry i e within =
+      let stands = stands_last.stands in
+      let same : take a.base units ≡ take a.base (slice_set units (a.base + i) e) = sym (take-set-le a.base units (a.base + i) e (omega arith)) in
+      let put = sound_put (slice_set units (a.base + i) e) a (length-set units (a.base + i) e) same (record { begins = refl; taken_is = stands.taken_is ∙ ap units_of_all (sym (stands_entry i e within)); fits = stands.fits }) refl in
+      let P : List Activation → Type 0 = λ l. IsSound (slice_set units (a.base + i) e) l used capacity in
+      subst P acts_stay put
+
+  pub view_entry : (i : ℕ) (e : Entry) → i < a.locals → map (frame_of (slice_set units (a.base + i) e)) acts ≡ with_running frames (record (running_frame frames) { locals = slice_set (running_frame frames).locals i e })
+  view_entry i e within =
+      let units' = slice_set units (a.base + i) e in
+      let same : take a.base units ≡ take a.base units' = sym (take-set-le a.base units (a.base + i) e (omega arith)) in
+      let stack = stands_entry i e within in
+      let locals : take a.locals (drop a.base units') ≡ slice_set (take a.locals (drop a.base units)) i e = ap (λ (es : List Entry). take a.locals es) (drop-set-add a.base units i e) ∙ take-set-lt a.locals (drop a.base units) i e within in
+      let put : map (frame_of units') acts ≡ with_running frames (frame_of units' a) = ap (map (frame_of units')) (sym acts_stay) ∙ view_put units' a same in
+      rw (running_is, ← locals, ← stack) put
 
 -- whether another frame fits, from the units in use
 pub has_room-laid : (units : List Entry) (acts : List Activation) (used capacity : ℕ) (frames : List Frame) (max_locals max_stack : ℕ) → IsSound units acts used capacity → map (frame_of units) acts ≡ frames → has_room_for frames max_locals max_stack ≡ nat_lt (length acts) 256 && nat_le (used + max_locals + max_stack) 4096

@@ -2,3 +2,4 @@ pub mod LayoutLemmas
 pub mod OperandLemmas
 pub mod RunningLemmas
 pub mod StackLemmas
+pub mod PushLemmas

@@ -1,12 +1,17 @@
 -- the running frame after a change
-use Rattle.std.proofs.Common.{◌≡◌, ℕ, ◌+◌, ◌-◌, ◌<◌, ◌≤◌, List, [], ◌∷◌, length, drop, take, Ok, Err, take, ap, ◌∙◌, arith}
-use Rattle.std.proofs.lemmas.List.{length-set, set-set, get_or-set_same}
+use Rattle.std.proofs.Common.{◌≡◌, ℕ, slice_set, Option, ◌+◌, ◌-◌, ◌<◌, ◌≤◌, List, [], ◌∷◌, length, drop, take, Ok, Err, ap, sym, ◌∙◌, arith}
+use Rattle.std.specs.Prelude.{ℤ}
+use Rattle.std.proofs.lemmas.List.{length-set, set-set, set-get_or, get_or-set_same}
 use Rattle.model.specs.Frames.{Frame, running_frame, with_running, no_frame, at_pc, replaced, replaced_if_room, push_all, moved_on}
 use Rattle.model.specs.declared.turns.Abrupt.TheVariants.{Fault as Faulted}
 use Rattle.model.specs.declared.turns.Fault.TheVariants.{StackFull}
 use Rattle.frames.proofs.StackLemmas.{units_of_all-take-drop}
 use Rattle.std.proofs.lemmas.Bool.{lt-leb, le-leb}
 use Rattle.model.specs.declared.values.Value.{Value}
+use Rattle.model.specs.declared.values.Value.TheVariants.{Int, Long, Ref}
+use Rattle.model.specs.declared.values.Entry.{Entry}
+use Rattle.model.specs.declared.values.Entry.TheVariants.{Holds, UpperHalf}
+use Rattle.model.specs.Locals.{freed, with_local, stored}
 use Rattle.model.specs.Values.{units_of, units_of_all}
 
 pub length-with_running : (frames : List Frame) (f : Frame) → length (with_running frames f) ≡ length frames
@@ -97,3 +102,46 @@ room_for_value old dropped count above taken room v some first s fits =
     let taken_is = s.taken_is in
     let room_is = s.room_is in
     room_after old dropped count v some first (omega arith)
+
+-- ---- changes in general
+
+-- one change after another
+pub then_changed : (change then : Frame → Frame) (old between after : List Frame) → 0 < length old → between ≡ with_running old (change (running_frame old)) → after ≡ with_running between (then (running_frame between)) → after ≡ with_running old (then (change (running_frame old)))
+then_changed change then old between after some first second =
+    let runs = running_frame-with_running old between (change (running_frame old)) some first in
+    with_running-with_running old between after (change (running_frame old)) (then (change (running_frame old))) first (second ∙ ap (λ (f : Frame). with_running between (then f)) runs)
+
+-- no change
+pub unchanged : (frames : List Frame) → 0 < length frames → frames ≡ with_running frames (running_frame frames)
+unchanged frames some = sym (set-get_or frames (length frames - 1) no_frame)
+
+pub ruleset changes = (unchanged, length-with_running)
+
+-- ---- changes of the locals
+
+abbrev pub at_locals : (List Entry → List Entry) → Frame → Frame
+at_locals change f = record f { locals = change f.locals }
+
+pub with_local-int : (locals : List Entry) (index : ℕ) (v : Value) (z : ℤ) → v ≡ Int z → with_local locals index v ≡ slice_set (freed locals index) index (Holds v)
+with_local-int locals index v z is = rw is
+
+pub with_local-ref : (locals : List Entry) (index : ℕ) (v : Value) (r : Option ℕ) → v ≡ Ref r → with_local locals index v ≡ slice_set (freed locals index) index (Holds v)
+with_local-ref locals index v r is = rw is
+
+pub with_local-long : (locals : List Entry) (index : ℕ) (v : Value) (z : ℤ) → v ≡ Long z → with_local locals index v ≡ slice_set (slice_set (freed (freed locals index) (index + 1)) index (Holds v)) (index + 1) UpperHalf
+with_local-long locals index v z is = rw is
+
+-- a value of one entry is stored
+pub puts_one : (old freed_one after : List Frame) (index : ℕ) (e : Entry) → 0 < length old → freed_one ≡ with_running old (at_locals (λ ls. freed ls index) (running_frame old)) → after ≡ with_running freed_one (at_locals (λ ls. slice_set ls index e) (running_frame freed_one)) → after ≡ with_running old (at_locals (λ ls. slice_set (freed ls index) index e) (running_frame old))
+puts_one old freed_one after index e some first second = then_changed (at_locals (λ ls. freed ls index)) (at_locals (λ ls. slice_set ls index e)) old freed_one after some first second
+
+-- a long is stored
+pub puts_two : (old freed_one freed_two set_one after : List Frame) (index : ℕ) (e : Entry) → 0 < length old → freed_one ≡ with_running old (at_locals (λ ls. freed ls index) (running_frame old)) → freed_two ≡ with_running freed_one (at_locals (λ ls. freed ls (index + 1)) (running_frame freed_one)) → set_one ≡ with_running freed_two (at_locals (λ ls. slice_set ls index e) (running_frame freed_two)) → after ≡ with_running set_one (at_locals (λ ls. slice_set ls (index + 1) UpperHalf) (running_frame set_one)) → after ≡ with_running old (at_locals (λ ls. slice_set (slice_set (freed (freed ls index) (index + 1)) index e) (index + 1) UpperHalf) (running_frame old))
+puts_two old freed_one freed_two set_one after index e some first second third fourth =
+    let two = then_changed (at_locals (λ ls. freed ls index)) (at_locals (λ ls. freed ls (index + 1))) old freed_one freed_two some first second in
+    let three = then_changed (at_locals (λ ls. freed (freed ls index) (index + 1))) (at_locals (λ ls. slice_set ls index e)) old freed_two set_one some two third in
+    then_changed (at_locals (λ ls. slice_set (freed (freed ls index) (index + 1)) index e)) (at_locals (λ ls. slice_set ls (index + 1) UpperHalf)) old set_one after some three fourth
+
+-- a value is stored, and values are dropped
+pub stores : (old put after : List Frame) (next count index : ℕ) (v : Value) → 0 < length old → put ≡ with_running old (at_locals (λ ls. with_local ls index v) (running_frame old)) → after ≡ with_running put (replaced next (running_frame put) count []).frame → after ≡ with_running old (stored next (running_frame old) count index v).frame
+stores old put after next count index v some first second = then_changed (at_locals (λ ls. with_local ls index v)) (λ f. (replaced next f count []).frame) old put after some first second

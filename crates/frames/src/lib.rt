@@ -21,8 +21,12 @@
 #![tactic(auto)]
 
 mod activations;
+mod locals;
 mod operands;
 mod results;
 mod thread_frames;
 
 pub use thread_frames::Frames;
+
+#[cfg(test)]
+mod tests;

@@ -9,6 +9,7 @@ pub mod Faults
 pub mod Frames
 pub mod Journals
 pub mod Limits
+pub mod Locals
 pub mod Machines
 pub mod Observers
 pub mod Printing
