@@ -1,5 +1,5 @@
 pub mod LayoutLemmas
 pub mod OperandLemmas
+pub mod PushLemmas
 pub mod RunningLemmas
 pub mod StackLemmas
-pub mod PushLemmas
