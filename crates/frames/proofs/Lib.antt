@@ -1,7 +1,7 @@
-pub mod LayoutLemmas
-pub mod OperandLemmas
-pub mod RunningLemmas
-pub mod StackLemmas
-pub mod PushLemmas
 pub mod ArgumentLemmas
 pub mod CallLemmas
+pub mod LayoutLemmas
+pub mod OperandLemmas
+pub mod PushLemmas
+pub mod RunningLemmas
+pub mod StackLemmas

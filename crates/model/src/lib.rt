@@ -19,3 +19,6 @@ pub mod places;
 pub mod trees;
 pub mod turns;
 pub mod values;
+
+#[cfg(test)]
+mod tests;
