@@ -1,6 +1,6 @@
 -- how the frames read after a write in the region of the last one
 use Rattle.std.proofs.Common.{◌≡◌, ℕ, suc, ◌+◌, ◌-◌, ◌<◌, ◌≤◌, List, [], ◌∷◌, ◌++◌, length, map, slice_set, take, drop, nat_lt, nat_le, ◌&&◌, zero-add, replicate, Ok, Some, None, slice_get, Bool, true, refl, ap, sym, ◌∙◌, subst, arith, get_or}
-use Rattle.std.proofs.lemmas.List.{take_more, take_all, set_split, drop_all, map_push, length-map, length-set, get_or-map, length-append, take-map, length-take-le, length-drop, length-replicate, append_assoc, take_at, drop_at, take-set-le, get_or-take, get_or-drop, set-get_or, drop-set-add}
+use Rattle.std.proofs.lemmas.List.{take-take, take_more, take_all, set_split, drop_all, map_push, length-map, length-set, get_or-map, length-append, take-map, length-take-le, length-drop, length-replicate, append_assoc, take_at, drop_at, take-set-le, get_or-take, get_or-drop, set-get_or, drop-set-add}
 use Rattle.std.proofs.lemmas.Option.{slice_get_read, slice_get_past}
 use Rattle.std.proofs.Math.Seq.{take-set-lt}
 use Rattle.std.proofs.lemmas.Bool.{lt-ltb, and_parts, ltb-true, leb-true}
@@ -55,6 +55,10 @@ values_fit units base a stands =
     let taken = stands.taken_is in
     let fits = stands.fits in
     omega arith
+
+-- units that agree below one place agree below each lower one
+pub take-agree : (units units' : List Entry) (m k : ℕ) → take m units ≡ take m units' → k ≤ m → take k units ≡ take k units'
+take-agree units units' m k same h = sym (take-take k m units h) ∙ (ap (λ (us : List Entry). take k us) same ∙ take-take k m units' h)
 
 -- frames below a unit depend on the units below it alone
 pub frame_of-agree : (units units' : List Entry) (m base : ℕ) (a : Activation) → take m units ≡ take m units' → Stands units base a → base + a.locals + a.room ≤ m → frame_of units a ≡ frame_of units' a
@@ -289,6 +293,30 @@ module _ {units : List Entry} {acts : List Activation} {used capacity : ℕ} {fr
       let locals : take a.locals (drop a.base units') ≡ slice_set (take a.locals (drop a.base units)) i e = ap (λ (es : List Entry). take a.locals es) (drop-set-add a.base units i e) ∙ take-set-lt a.locals (drop a.base units) i e within in
       let put : map (frame_of units') acts ≡ with_running frames (frame_of units' a) = ap (map (frame_of units')) (sym acts_stay) ∙ view_put units' a same in
       rw (running_is, ← locals, ← stack) put
+
+  -- the running frame calls a method: values leave its stack, and a frame is made behind it
+  pub sound_call : (units' : List Entry) (a' b : Activation) (count taken capacity' end : ℕ) → count ≤ length (running_frame frames).stack → taken ≡ units_of_all (take count (running_frame frames).stack) → a' ≡ record a { values = a.values - count; taken = a.taken - taken } → length units' ≡ length units → take used units ≡ take used units' → Stands units' used b → used + b.locals + b.room ≡ end → end ≤ 4096 → length acts < 256 → capacity ≤ capacity' → IsSound units' (slice_set acts (n - 1) a' ++ b ∷ []) end capacity'
+  sound_call units' a' b count taken capacity' end there sized is long same stands ends fits few more =
+      let last = stands_last in
+      let below = last.ends in
+      let d = drops count taken there sized in
+      let narrow : take a.base units ≡ take a.base units' = take-agree units units' used a.base same (omega arith) in
+      let caller : Stands units' a.base (record a { values = a.values - count; taken = a.taken - taken }) = stands-agree units units' used a.base (record a { values = a.values - count; taken = a.taken - taken }) same d.3 (omega arith) in
+      let put = sound_put units' (record a { values = a.values - count; taken = a.taken - taken }) long narrow caller refl in
+      let count_is : length (slice_set acts (n - 1) (record a { values = a.values - count; taken = a.taken - taken })) ≡ length acts = length-set acts (n - 1) (record a { values = a.values - count; taken = a.taken - taken }) in
+      rw is (sound_push units' units' (slice_set acts (n - 1) (record a { values = a.values - count; taken = a.taken - taken })) used capacity capacity' end b put refl refl stands ends fits (omega arith) more)
+
+  pub view_call : (units' : List Entry) (a' b : Activation) (count taken : ℕ) → count ≤ length (running_frame frames).stack → taken ≡ units_of_all (take count (running_frame frames).stack) → a' ≡ record a { values = a.values - count; taken = a.taken - taken } → take used units ≡ take used units' → map (frame_of units') (slice_set acts (n - 1) a' ++ b ∷ []) ≡ with_running frames (record (running_frame frames) { stack = drop count (running_frame frames).stack }) ++ frame_of units' b ∷ []
+  view_call units' a' b count taken there sized is same =
+      let last = stands_last in
+      let below = last.ends in
+      let d = drops count taken there sized in
+      let narrow : take a.base units ≡ take a.base units' = take-agree units units' used a.base same (omega arith) in
+      let put = view_put units' (record a { values = a.values - count; taken = a.taken - taken }) narrow in
+      let kept : frame_of units (record a { values = a.values - count; taken = a.taken - taken }) ≡ frame_of units' (record a { values = a.values - count; taken = a.taken - taken }) = frame_of-agree units units' used a.base (record a { values = a.values - count; taken = a.taken - taken }) same d.3 (omega arith) in
+      let left : stack_of units (a.base + a.locals) (a.values - count) ≡ drop count (stack_of units (a.base + a.locals) a.values) = sym (drop-stack_of units (a.base + a.locals) a.values count d.0) in
+      let frame : frame_of units' (record a { values = a.values - count; taken = a.taken - taken }) ≡ record (running_frame frames) { stack = drop count (running_frame frames).stack } = sym kept ∙ rw (running_is, ← left) in
+      rw is (map_push (frame_of units') (slice_set acts (n - 1) (record a { values = a.values - count; taken = a.taken - taken })) b ∙ ap (λ (fs : List Frame). fs ++ frame_of units' b ∷ []) (put ∙ ap (with_running frames) frame))
 
 -- whether another frame fits, from the units in use
 pub has_room-laid : (units : List Entry) (acts : List Activation) (used capacity : ℕ) (frames : List Frame) (max_locals max_stack : ℕ) → IsSound units acts used capacity → map (frame_of units) acts ≡ frames → has_room_for frames max_locals max_stack ≡ nat_lt (length acts) 256 && nat_le (used + max_locals + max_stack) 4096

@@ -1,3 +1,5 @@
+pub mod ArgumentLemmas
+pub mod CallLemmas
 pub mod LayoutLemmas
 pub mod OperandLemmas
 pub mod PushLemmas

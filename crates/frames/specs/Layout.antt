@@ -1,4 +1,4 @@
-use Rattle.std.specs.Prelude.{◌≡◌, ℕ, zero, suc, ◌+◌, ◌≤◌, List, [], ◌∷◌, length, take, drop, slice_index_or, pos}
+use Rattle.std.specs.Prelude.{◌≡◌, ℕ, zero, suc, ◌+◌, ◌≤◌, List, [], ◌∷◌, length, take, drop, map, slice_index_or, pos}
 use Rattle.model.specs.declared.values.Value.{Value}
 use Rattle.model.specs.declared.values.Value.TheVariants.{Int}
 use Rattle.model.specs.declared.values.Entry.{Entry}
@@ -17,6 +17,10 @@ value_in UpperHalf = Int (pos 0)
 abbrev pub stack_of : List Entry → ℕ → ℕ → List Value
 stack_of units base zero = []
 stack_of units base (suc n) = value_in (slice_index_or units (base + n) Unset) ∷ stack_of units base n
+
+-- the values in so many units, in the order of the units
+abbrev pub values_between : List Entry → ℕ → ℕ → List Value
+values_between units from count = map value_in (take count (drop from units))
 
 -- the frame that an activation stands for
 abbrev pub frame_of : List Entry → Activation → Frame

@@ -127,7 +127,8 @@ fn of_kind(kind: Kind, value: Value) -> Result<Value, Fault>
     ensures { result ≡ found kind value }
 {
     match (kind, value) {
-        (Kind::Int, Value::Int(_)) | (Kind::Long, Value::Long(_)) | (Kind::Ref, Value::Ref(_)) => Ok(value),
+        (Kind::Int, Value::Int(_)) | (Kind::Long, Value::Long(_)) | (Kind::Ref, Value::Ref(_)) =>
+            Ok(value),
         _ => Err(Fault::WrongKind),
     }
 }

@@ -75,7 +75,12 @@ impl Frames {
 
     /// Goes to this pc, with values, bottom first, in place of so many at the top; F2 where they have no room, and then
     /// nothing changes.
-    pub fn replace_all_if_room(&mut self, next: u16, count: u8, values: &[Value]) -> Result<(), Abrupt>
+    pub fn replace_all_if_room(
+        &mut self,
+        next: u16,
+        count: u8,
+        values: &[Value],
+    ) -> Result<(), Abrupt>
         requires some { 0 < length self.old }
         requires there { count ≤ length (running_frame self.old).stack }
         ensures step { told result self.new ≡ moved_on self.old (replaced_if_room next (running_frame self.old) count values.now) }

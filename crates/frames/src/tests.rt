@@ -6,8 +6,15 @@ use model::turns::{Abrupt, Fault};
 use model::values::{Entry, Kind, Value};
 use std::test::Fail;
 
-const MAIN: MethodPlace = MethodPlace { class: 0, method: 1 };
-const CALLEE: MethodPlace = MethodPlace { class: 2, method: 3 };
+const MAIN: MethodPlace = MethodPlace {
+    class: 0,
+    method: 1,
+};
+
+const CALLEE: MethodPlace = MethodPlace {
+    class: 2,
+    method: 3,
+};
 
 /// `bipush 7`, `bipush 5`, `isub`, and then what `return` finds.
 #[test]
@@ -55,6 +62,33 @@ fn calls_and_returns(rt: HostRuntime) -> Result<(), Fail> {
     Ok(())
 }
 
+/// `f(IJ)V` is called with 5 and 9: its locals 0 and 1 hold them, local 2 the long's upper half, and local 3 is unset.
+#[test]
+fn hands_over_arguments(rt: HostRuntime) -> Result<(), Fail> {
+    let mut frames = Frames::new(rt.alloc())?;
+    assert!(rt; frames.has_room_for(1, 4));
+    frames.enter(MAIN, 1, 4);
+    let arguments = [Value::Ref(None), Value::Int(5), Value::Long(9)];
+    assert!(rt;
+        frames
+            .replace_all_if_room(3, 0, arguments.as_slice())
+            .is_ok()
+    );
+    assert!(rt; frames.has_room_for(4, 1));
+    frames.call(CALLEE, 4, 1, 2);
+    assert_eq!(rt; frames.depth(), 2);
+    assert!(rt; frames.local_int(0) == Ok(5));
+    assert!(rt; frames.load(Kind::Long, 1) == Ok(Value::Long(9)));
+    assert!(rt; frames.entry(2) == Some(Entry::UpperHalf));
+    assert!(rt; frames.entry(3) == Some(Entry::Unset));
+    assert_eq!(rt; frames.values(), 0);
+    frames.leave();
+    assert_eq!(rt; frames.values(), 1);
+    assert!(rt; frames.reference() == Ok(None));
+    assert_eq!(rt; frames.pc(), 3);
+    Ok(())
+}
+
 /// A long takes both units of a stack of two: a push beside it is F2, and changes nothing.
 #[test]
 fn is_full(rt: HostRuntime) -> Result<(), Fail> {
@@ -64,7 +98,9 @@ fn is_full(rt: HostRuntime) -> Result<(), Fail> {
     assert_eq!(rt; frames.room(), 2);
     assert!(rt; frames.replace_if_room(1, 0, Value::Long(-1)).is_ok());
     assert_eq!(rt; frames.taken(), 2);
-    assert!(rt; frames.replace_if_room(2, 0, Value::Int(1)) == Err(Abrupt::Fault(Fault::StackFull)));
+    assert!(rt;
+        frames.replace_if_room(2, 0, Value::Int(1)) == Err(Abrupt::Fault(Fault::StackFull))
+    );
     assert_eq!(rt; frames.pc(), 1);
     assert!(rt; frames.value(0) == Ok(Value::Long(-1)));
     assert!(rt; frames.int() == Err(Fault::WrongKind));
@@ -104,11 +140,19 @@ fn rearranges(rt: HostRuntime) -> Result<(), Fail> {
     frames.enter(MAIN, 0, 4);
     let null = Value::Ref(None);
     let cell = Value::Ref(Some(3));
-    assert!(rt; frames.replace_all_if_room(1, 0, [null, cell].as_slice()).is_ok());
+    assert!(rt;
+        frames
+            .replace_all_if_room(1, 0, [null, cell].as_slice())
+            .is_ok()
+    );
     assert!(rt; frames.reference() == Ok(Some(3)));
     assert!(rt; frames.two_references() == Ok((Some(3), None)));
     assert_eq!(rt; frames.values(), 2);
-    assert!(rt; frames.replace_all_if_room(2, 2, [cell, null, cell].as_slice()).is_ok());
+    assert!(rt;
+        frames
+            .replace_all_if_room(2, 2, [cell, null, cell].as_slice())
+            .is_ok()
+    );
     assert!(rt; frames.value(2) == Ok(cell));
     assert_eq!(rt; frames.values(), 3);
     frames.discard(3, 1);

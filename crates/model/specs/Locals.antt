@@ -1,16 +1,17 @@
-use Rattle.std.specs.Prelude.{ℕ, ◌+◌, ◌-◌, List, [], ◌∷◌, length, drop, slice_get, slice_set, nat_le, Option, Some, None, Result, Ok, Err, Bool, true, false}
+use Rattle.std.specs.Prelude.{ℕ, ◌+◌, ◌-◌, List, [], ◌∷◌, ◌++◌, length, drop, take, reverse, replicate, slice_get, slice_set, nat_le, Option, Some, None, Result, Ok, Err, Bool, true, false}
 use Rattle.model.specs.declared.values.Kind.{Kind}
 use Rattle.model.specs.declared.values.Kind.TheVariants.{Int as IntKind, Long as LongKind, Ref as RefKind}
 use Rattle.model.specs.declared.values.Value.{Value}
 use Rattle.model.specs.declared.values.Value.TheVariants.{Int, Long, Ref}
 use Rattle.model.specs.declared.values.Entry.{Entry}
 use Rattle.model.specs.declared.values.Entry.TheVariants.{Unset, Holds, UpperHalf}
+use Rattle.model.specs.declared.places.MethodPlace.{MethodPlace}
 use Rattle.model.specs.declared.turns.Fault.{Fault}
 use Rattle.model.specs.declared.turns.Fault.TheVariants.{WrongKind, WrongLocal}
 use Rattle.model.specs.declared.turns.Abrupt.{Abrupt}
 use Rattle.model.specs.declared.turns.Abrupt.TheVariants.{Fault as Faulted}
-use Rattle.model.specs.Values.{births_of}
-use Rattle.model.specs.Frames.{Frame, Moved, top_of}
+use Rattle.model.specs.Values.{births_of, units_of_all}
+use Rattle.model.specs.Frames.{Frame, Moved, top_of, opening_frame, running_frame, with_running}
 
 -- The locals of a frame (JVMS 2.6.1).
 
@@ -95,3 +96,22 @@ stored_if_local next f index false (Ok v) = Err (Faulted WrongLocal)
 -- the operand at the top goes into a local of its kind
 abbrev pub stored_at : ℕ → Kind → ℕ → Frame → Result Moved Abrupt
 stored_at next kind index f = stored_if_local next f index (has_local kind f.locals index) (value_on kind f.stack)
+
+-- ---- calls: the arguments stand in the first locals, a long in two, and the others are unset
+
+abbrev pub argument_entries : List Value → List Entry
+argument_entries [] = []
+argument_entries (Int z ∷ vs) = Holds (Int z) ∷ argument_entries vs
+argument_entries (Long z ∷ vs) = Holds (Long z) ∷ UpperHalf ∷ argument_entries vs
+argument_entries (Ref r ∷ vs) = Holds (Ref r) ∷ argument_entries vs
+
+abbrev pub called_frame : MethodPlace → ℕ → ℕ → List Value → Frame
+called_frame method max_locals max_stack arguments = record (opening_frame method max_locals max_stack) { locals = argument_entries arguments ++ replicate (max_locals - units_of_all arguments) Unset }
+
+-- the n values at the top of a stack, the lowest first
+abbrev pub arguments_on : ℕ → List Value → List Value
+arguments_on n stack = reverse (take n stack)
+
+-- the running frame gives so many values from the top of its stack to the frame of a method
+abbrev pub frames_of_call : List Frame → MethodPlace → ℕ → ℕ → ℕ → List Frame
+frames_of_call frames method max_locals max_stack n = with_running frames (record (running_frame frames) { stack = drop n (running_frame frames).stack }) ++ called_frame method max_locals max_stack (arguments_on n (running_frame frames).stack) ∷ []
