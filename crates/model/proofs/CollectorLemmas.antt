@@ -1,2 +1,12 @@
 pub mod Lists
+pub mod Cells
+pub mod Spares
+pub mod Shading
+pub mod Bounds
+pub mod Looking
+pub mod Scanning
+pub mod Marking
+pub mod Sweeping
+pub mod Collecting
+pub mod Taking
 pub mod WorkedRows
