@@ -9,4 +9,5 @@ pub mod Marking
 pub mod Sweeping
 pub mod Collecting
 pub mod Taking
+pub mod Opening
 pub mod WorkedRows
