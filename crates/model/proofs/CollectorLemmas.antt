@@ -10,4 +10,5 @@ pub mod Sweeping
 pub mod Collecting
 pub mod Taking
 pub mod Opening
+pub mod Turning
 pub mod WorkedRows
