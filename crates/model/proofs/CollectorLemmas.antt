@@ -11,4 +11,5 @@ pub mod Collecting
 pub mod Taking
 pub mod Opening
 pub mod Turning
+pub mod Moving
 pub mod WorkedRows

@@ -1,5 +1,8 @@
-use Rattle.std.specs.Prelude.{◌≡◌, ◌⊎◌, ℕ, List, [], ◌∷◌, map, Option, Some, None}
-use Rattle.model.specs.Frames.{Frame}
+use Rattle.std.specs.Prelude.{◌≡◌, ◌⊎◌, ℕ, List, [], ◌∷◌, map, Option, Some, None, Result, Ok, Err}
+use Rattle.model.specs.declared.turns.Fault.{Fault}
+use Rattle.model.specs.declared.turns.Abrupt.{Abrupt}
+use Rattle.model.specs.Frames.{Frame, Moved}
+use Rattle.model.specs.Effects.{Effect, faulted}
 use Rattle.model.specs.Worlds.{World, Thread, Object, frames_of, next_birth}
 use Rattle.model.specs.Collector.Places.{frame_refs, contents_refs, slots_of, Reach}
 use Rattle.model.specs.Collector.Invariant.{In}
@@ -42,3 +45,19 @@ pub record Moves (w : World) (c : Change) : Type 0 where
   pub threads : ThreadsMove (Fresh w c) w.threads c.after.threads
   pub objects : ObjectsMove (Fresh w c) w.objects c.after.objects
   pub writes : (b : ℕ) → In b c.writes → IsNew c.object (next_birth w) b ⊎ Reach w b
+
+-- ---- what each case of the instruction table is shown to be
+
+-- an effect as a change, where the turn takes a cell of so many words or none
+abbrev pub change_of : Option ℕ → Effect → Change
+change_of object e = record { after = e.after; object = object; writes = e.writes }
+
+-- a fault, which changes nothing but the recorded fault, or a move of the world, which records none
+pub data Lawful (w : World) (object : Option ℕ) (e : Effect) : Type 0 where
+  faults : (t : ℕ) (fault : Fault) → e ≡ faulted w t fault → Lawful w object e
+  moves : e.after.fault ≡ w.fault → Moves w (change_of object e) → Lawful w object e
+
+-- what an instruction that changes the running frame alone makes of it
+abbrev pub ResultMoves : World → Frame → Result Moved Abrupt → Type 0
+ResultMoves w f (Ok m) = FrameMoves (λ b. ⊥ ⊎ In b m.writes) f m.frame × ((b : ℕ) → In b m.writes → Reach w b)
+ResultMoves w f (Err abrupt) = Unit {0}
