@@ -12,4 +12,7 @@ pub mod Taking
 pub mod Opening
 pub mod Turning
 pub mod Moving
+pub mod Stepping
+pub mod Table
+pub mod Outcomes
 pub mod WorkedRows

@@ -3,8 +3,8 @@
 pub mod Changes
 pub mod Invariant
 pub mod Moves
--- pub mod Paths
+pub mod Paths
 pub mod Places
 -- pub mod Reclaim
--- pub mod Runs
+pub mod Runs
 pub mod Table

@@ -87,12 +87,12 @@ pub refs_behind : (P : ℕ → Type 0) (kept rs ss : List (Option ℕ)) → Refs
 refs_behind P [] rs ss h = h
 refs_behind P (k ∷ kept) rs ss h = (λ b e. inl e, refs_behind P kept rs ss h)
 
--- what stands first changes, the rest stays
-pub refs_before : (P : ℕ → Type 0) (rs ss kept : List (Option ℕ)) → length rs ≡ length ss → RefsMove P rs ss → RefsMove P (rs ++ kept) (ss ++ kept)
-refs_before P [] [] kept e h = refs_same P kept
-refs_before P [] (s ∷ ss) kept e h = absurd (omega arith)
-refs_before P (r ∷ rs) [] kept e h = absurd (omega arith)
-refs_before P (r ∷ rs) (s ∷ ss) kept e h = (h.0, refs_before P rs ss kept (omega arith) h.1)
+-- two parts of a list change, the first keeping its length
+pub refs_both : (P : ℕ → Type 0) (rs ss rs' ss' : List (Option ℕ)) → length rs ≡ length ss → RefsMove P rs ss → RefsMove P rs' ss' → RefsMove P (rs ++ rs') (ss ++ ss')
+refs_both P [] [] rs' ss' e h k = k
+refs_both P [] (s ∷ ss) rs' ss' e h k = absurd (omega arith)
+refs_both P (r ∷ rs) [] rs' ss' e h k = absurd (omega arith)
+refs_both P (r ∷ rs) (s ∷ ss) rs' ss' e h k = (h.0, refs_both P rs ss rs' ss' (omega arith) h.1 k)
 
 -- what stands first stays, the operands behind it go, and the results come
 pub refs_pushed : (P : ℕ → Type 0) (kept gone pushed : List (Option ℕ)) → AllMay P pushed → RefsMove P (kept ++ gone) (kept ++ pushed)

@@ -43,3 +43,17 @@ RoomFor None a = Unit {0}
 -- the account after a change
 unfoldable pub changed : World → Account → Change → Account
 changed w a c = shade_all (new_object a (next_birth w) c.object) c.writes
+
+-- ---- a thread's turn by its outcome
+
+abbrev pub taken_by : Outcome → Option ℕ → Option ℕ
+taken_by WasDone words = None
+taken_by GotObject words = words
+taken_by FoundNoRoom words = None
+taken_by WasFault words = None
+
+abbrev pub written_by : Outcome → List ℕ → List ℕ
+written_by WasDone writes = writes
+written_by GotObject writes = writes
+written_by FoundNoRoom writes = writes
+written_by WasFault writes = []

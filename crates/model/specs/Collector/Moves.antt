@@ -2,7 +2,8 @@ use Rattle.std.specs.Prelude.{◌≡◌, ◌⊎◌, ℕ, List, [], ◌∷◌, ma
 use Rattle.model.specs.declared.turns.Fault.{Fault}
 use Rattle.model.specs.declared.turns.Abrupt.{Abrupt}
 use Rattle.model.specs.Frames.{Frame, Moved}
-use Rattle.model.specs.Effects.{Effect, faulted}
+use Rattle.model.specs.Effects.{Choice, Effect, faulted}
+use Rattle.model.specs.Effects.Choice.{NotAsked, NewObject, NoRoom}
 use Rattle.model.specs.Worlds.{World, Thread, Object, frames_of, next_birth}
 use Rattle.model.specs.Collector.Places.{frame_refs, contents_refs, slots_of, Reach}
 use Rattle.model.specs.Collector.Invariant.{In}
@@ -51,6 +52,12 @@ pub record Moves (w : World) (c : Change) : Type 0 where
 -- an effect as a change, where the turn takes a cell of so many words or none
 abbrev pub change_of : Option ℕ → Effect → Change
 change_of object e = record { after = e.after; object = object; writes = e.writes }
+
+-- how many words the new object has, by what was asked for and chosen
+abbrev pub object_of : Choice → Option ℕ → Option ℕ
+object_of NotAsked words = None
+object_of NewObject words = words
+object_of NoRoom words = None
 
 -- a fault, which changes nothing but the recorded fault, or a move of the world, which records none
 pub data Lawful (w : World) (object : Option ℕ) (e : Effect) : Type 0 where
