@@ -15,4 +15,8 @@ pub mod Moving
 pub mod Stepping
 pub mod Table
 pub mod Outcomes
+pub mod Running
+pub mod Tracing
+pub mod Holding
+pub mod Promising
 pub mod WorkedRows

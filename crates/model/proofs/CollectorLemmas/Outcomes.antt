@@ -18,7 +18,7 @@ use Rattle.model.specs.Collector.Changes.{Change, Allowed, RoomFor, changed, tak
 use Rattle.model.specs.Collector.Moves.{Moves, Lawful, change_of, object_of}
 use Rattle.model.specs.Collector.Moves.Lawful.{faults, moves}
 use Rattle.model.proofs.CollectorLemmas.Moving.{allowed_from_moves, refs_same, threads_same, objects_same}
-use Rattle.model.proofs.CollectorLemmas.Turning.{Safe, Follows, world_keeps, changed_keeps}
+use Rattle.model.proofs.CollectorLemmas.Turning.{world_keeps, changed_keeps}
 use Rattle.model.proofs.CollectorLemmas.Table.Next.{next_lawful, asked_not}
 
 -- a thread's turn keeps the invariant, whatever its outcome
@@ -26,7 +26,7 @@ use Rattle.model.proofs.CollectorLemmas.Table.Next.{next_lawful, asked_not}
 -- ---- by outcome
 
 -- what `after_turn` does is the change of the outcome
-after_is : (w : World) (a : Account) (outcome : Outcome) (words : Option ℕ) (v : World) (writes : List ℕ) → after_turn a outcome (next_birth w) words writes ≡ changed w a (record { after = v; object = taken_by outcome words; writes = written_by outcome writes })
+pub after_is : (w : World) (a : Account) (outcome : Outcome) (words : Option ℕ) (v : World) (writes : List ℕ) → after_turn a outcome (next_birth w) words writes ≡ changed w a (record { after = v; object = taken_by outcome words; writes = written_by outcome writes })
 unfolding after_turn changed
 after_is w a Done words v writes = refl
 after_is w a Object words v writes = refl
@@ -34,16 +34,20 @@ after_is w a NoRoom words v writes = refl
 after_is w a Fault words v writes = refl
 
 -- the count of rows is no place
-counted_keeps : (shape : HeapShape) (w : World) (n : ℕ) (a : Account) → Invariant shape w n a → Invariant shape (counted w) n a
-unfolding root_at word_at
-counted_keeps shape w n a i = world_keeps shape w (counted w) n a (record { roots = same; words = λ x k b e. inl e }) i
-  where
-    same : (p : Place) (b : ℕ) → root_at (counted w) p ≡ Some b → (root_at w p ≡ Some b) ⊎ Safe a b
-    same MemoryError b e = inl e
-    same StackError b e = inl e
-    same (Slot s) b e = inl e
-    same (FrameEntry t d j) b e = inl e
-    same (MethodMonitor t d) b e = inl e
+pub counted_root : (w : World) (p : Place) (b : ℕ) → root_at (counted w) p ≡ Some b → root_at w p ≡ Some b
+unfolding root_at
+counted_root w MemoryError b e = e
+counted_root w StackError b e = e
+counted_root w (Slot s) b e = e
+counted_root w (FrameEntry t d j) b e = e
+counted_root w (MethodMonitor t d) b e = e
+
+pub counted_word : (w : World) (x k b : ℕ) → word_at (counted w) x k ≡ Some b → word_at w x k ≡ Some b
+unfolding word_at
+counted_word w x k b e = e
+
+pub counted_keeps : (shape : HeapShape) (w : World) (n : ℕ) (a : Account) → Invariant shape w n a → Invariant shape (counted w) n a
+counted_keeps shape w n a i = world_keeps shape w (counted w) n a (record { roots = λ p b e. inl (counted_root w p b e); words = λ x k b e. inl (counted_word w x k b e) }) i
 
 -- ---- what a lawful effect may do
 
@@ -110,16 +114,16 @@ roomed_by : (program : List ClassListing) (m : Machine) (t words : ℕ) → m.wo
 roomed_by program m t words n e true r = asked_by program m t words n e r (is_fault (next program m.world t NewObject).after) refl
 roomed_by program m t words n e false r = record { allowed = lawful_either m.world _ (next_lawful program m.world t NoneHasRoom); room = tt }
 
-turns_by : (program : List ClassListing) (m : Machine) (t : ℕ) (words : Option ℕ) → m.world.fault ≡ None → asked program m.world t ≡ words → Turns program m t words (outcome_if program m t words)
+pub turns_by : (program : List ClassListing) (m : Machine) (t : ℕ) (words : Option ℕ) → m.world.fault ≡ None → asked program m.world t ≡ words → Turns program m t words (outcome_if program m t words)
 turns_by program m t None n e = unasked_by program m t n e (is_fault (next program m.world t NotAsked).after) refl
 turns_by program m t (Some words) n e = roomed_by program m t words n e (has_room m.account words) refl
 
 -- a turn that isn't refused keeps the invariant
 pub turn_keeps : (program : List ClassListing) (shape : HeapShape) (m : Machine) (t : ℕ) (outcome : Outcome) → outcome ≡ outcome_if program m t (asked program m.world t) → m.world.fault ≡ None → Invariant shape m.world (next_birth m.world) m.account
-  → Invariant shape (counted (next program m.world t (choice_of outcome)).after) (next_birth (next program m.world t (choice_of outcome)).after) (after_turn m.account outcome (next_birth m.world) (asked program m.world t) (next program m.world t (choice_of outcome)).writes)
+    → Invariant shape (counted (next program m.world t (choice_of outcome)).after) (next_birth (next program m.world t (choice_of outcome)).after) (after_turn m.account outcome (next_birth m.world) (asked program m.world t) (next program m.world t (choice_of outcome)).writes)
 turn_keeps program shape m t outcome is n i =
     let words = asked program m.world t in
     let c = turn_change program m.world t words outcome in
     let h : Turns program m t words outcome = rw is (turns_by program m t words n refl) in
     rw (after_is m.world m.account outcome words c.after (next program m.world t (choice_of outcome)).writes)
-      (counted_keeps shape c.after (next_birth c.after) (changed m.world m.account c) (changed_keeps shape m.world m.account c h.room h.allowed i))
+    (counted_keeps shape c.after (next_birth c.after) (changed m.world m.account c) (changed_keeps shape m.world m.account c h.room h.allowed i))

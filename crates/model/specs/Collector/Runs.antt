@@ -14,6 +14,7 @@ use Rattle.model.specs.Worlds.{World, next_birth}
 use Rattle.model.specs.Turns.{refusal, choice_of, unless_refused}
 use Rattle.model.specs.Machines.{Machine, opening_machine, account_step, outcome_of}
 use Rattle.model.specs.Collector.Table.{collected}
+use Rattle.model.specs.Limits.{ShapeFits}
 use Rattle.model.specs.Collector.Invariant.{Invariant}
 
 -- The machine after a list of turns, the collector's among them.
@@ -71,3 +72,8 @@ machine_after program shape limits actors = moved_by_all program shape limits (o
 -- the machine meets the invariant
 unfoldable pub Holds : HeapShape → Machine → Type 0
 Holds shape m = Invariant shape m.world (next_birth m.world) m.account
+
+-- what holds of the machine after every list of turns, for every program, accepted or not, every heap shape that fits and
+-- all limits
+abbrev pub Always : (HeapShape → Machine → Type 0) → Type 0
+Always P = (program : List ClassListing) (shape : HeapShape) (limits : Limits) (actors : List Actor) → ShapeFits shape.small shape.medium shape.large → P shape (machine_after program shape limits actors)
