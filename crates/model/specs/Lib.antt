@@ -12,8 +12,10 @@ pub mod Observers
 pub mod Printing
 pub mod Programs
 pub mod Ready
+pub mod Sizes
 pub mod Switches
 pub mod Table
+pub mod Texts
 pub mod Turns
 pub mod Values
 pub mod Worlds

@@ -11,6 +11,8 @@ pub mod flags;
 pub mod instructions;
 pub mod journals;
 pub mod listings;
+pub mod mnemonics;
 pub mod names;
+pub mod trees;
 pub mod turns;
 pub mod values;
