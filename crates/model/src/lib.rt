@@ -6,6 +6,8 @@
 #![tactic(auto)]
 
 pub mod builtins;
+pub mod bytecode;
+pub mod class_files;
 pub mod colours;
 pub mod flags;
 pub mod instructions;
