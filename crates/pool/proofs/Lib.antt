@@ -1,0 +1,5 @@
+pub mod Steps
+pub mod SlotLoops
+pub mod FieldLemmas
+pub mod EntryLemmas
+pub mod PoolLemmas

@@ -1,0 +1,10 @@
+//! The constant pool of a class file (JVMS 4.4): its entries as bytes, and what they may name.
+#![tactic(auto)]
+
+mod entries;
+mod error;
+pub mod fields;
+mod pools;
+
+pub use error::ReadError;
+pub use pools::Pool;
