@@ -3,3 +3,4 @@ pub mod SlotLoops
 pub mod FieldLemmas
 pub mod EntryLemmas
 pub mod PoolLemmas
+pub mod DescriptorLemmas

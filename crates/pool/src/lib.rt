@@ -1,9 +1,11 @@
 //! The constant pool of a class file (JVMS 4.4): its entries as bytes, and what they may name.
 #![tactic(auto)]
 
+pub mod descriptors;
 mod entries;
 mod error;
 pub mod fields;
+pub mod names;
 mod pools;
 
 pub use error::ReadError;
