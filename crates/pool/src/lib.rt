@@ -7,6 +7,7 @@ mod error;
 pub mod fields;
 pub mod names;
 mod pools;
+pub mod references;
 
 pub use error::ReadError;
 pub use pools::Pool;
