@@ -1,6 +1,6 @@
 -- The pool that is read is the pool that was written, and what was written is read again.
-use Rattle.std.proofs.Common.{◌≡◌, ℕ, zero, suc, ◌+◌, ◌-◌, ◌^◌, ◌<◌, ◌≤◌, Bool, true, false, cond, eqb, List, [], ◌∷◌, ◌++◌, Option, Some, None, Result, Ok, Err, refl, sym, ap, subst, ◌∙◌, append_assoc, arith, w16}
-use Rattle.std.specs.Prelude.{sum_by}
+use Rattle.std.proofs.Common.{◌≡◌, ℕ, zero, suc, ◌+◌, ◌-◌, ◌^◌, ◌<◌, ◌≤◌, Bool, true, false, cond, eqb, List, [], ◌∷◌, ◌++◌, Option, Some, None, Result, Ok, Err, refl, sym, ap, subst, ◌∙◌, append_assoc, arith, w16, Bor, length}
+use Rattle.std.specs.Prelude.{sum_by, IfOk}
 use Rattle.std.specs.List.{flat_map, AllByRecursion}
 use Rattle.std.proofs.lemmas.Bool.{eqb-false, ne_eqb}
 use Rattle.std.proofs.lemmas.List.Sums.{sum_by-cons}
@@ -13,7 +13,8 @@ use Rattle.model.specs.declared.class_files.Entry.TheVariants.{Utf8, Integer, Lo
 use Rattle.model.specs.declared.class_files.FormatFault.{FormatFault}
 use Rattle.model.specs.declared.class_files.FormatFault.TheVariants.{Index}
 use Rattle.pool.specs.Slots.{entries_in, AreSlots}
-use Rattle.pool.specs.Reading.Steps.{◌>>=◌, number_at}
+use Rattle.pool.specs.Reading.Steps.{◌>>=◌, Gives, number_at}
+use Rattle.pool.specs.declared.error.ReadError.{ReadError}
 use Rattle.pool.specs.Reading.Entries.{entry_from}
 use Rattle.pool.specs.Reading.Pools.{is_long, slots_from, slots_after, entries_from, unless, pool_from}
 use Rattle.pool.proofs.Steps.{bind_ok, guard_ok, ok_is}
@@ -200,3 +201,35 @@ slots_of_read count bytes slots rest fits e =
     let r = slots_read (count - 1) bytes b.0 fits b.1 in
     let made : Slots × List ℕ = (None ∷ b.0.0, b.0.1) in
     subst (λ (y : Slots × List ℕ). AreSlots y.0) (ok_is made (slots, rest) b.2) (ap (λ (s : Slots). None ∷ s) r.slots_are)
+
+pub slots_fit : (count : ℕ) (bytes : List ℕ) (slots : Slots) (rest : List ℕ) → count < 2 ^ 16 → 0 < count → IsBytes bytes → slots_after None (slots_from false (count - 1) bytes) ≡ Ok (slots, rest) → PoolFits (entries_in slots)
+slots_fit count bytes slots rest small some fits e =
+    let b = bind_ok (slots_from false (count - 1) bytes) (λ x. Ok (None ∷ x.0, x.1)) (slots, rest) e in
+    let r = slots_read (count - 1) bytes b.0 fits b.1 in
+    let made : Slots × List ℕ = (None ∷ b.0.0, b.0.1) in
+    subst (λ (y : Slots × List ℕ). PoolFits (entries_in y.0)) (ok_is made (slots, rest) b.2) (omega (arith, r.numbers), r.fits)
+
+-- ---- what a reader found
+
+pub is_found : (bytes : List ℕ) (r : Result (List Entry × Bor (List ℕ)) ReadError) → IsBytes bytes → Gives (λ x. (x.0, x.1.now)) r (pool_from bytes) → IfOk r (λ x. PoolFits x.0 × AreSound x.0 × (bytes ≡ pool_bytes x.0 ++ x.1.now))
+is_found bytes (Ok x) fits given = let t = pool_takes bytes (x.0, x.1.now) fits given in (t.1, t.2, t.0.parts)
+is_found bytes (Err e) fits given = tt
+
+-- ---- how many numbers
+
+under_more : (e : Entry) (slots : Slots) → length (under e slots) ≡ numbers_of e + length slots
+under_more (Utf8 text) slots = omega arith
+under_more (Integer z) slots = omega arith
+under_more (Long z) slots = omega arith
+under_more (Class name) slots = omega arith
+under_more (Fieldref class member) slots = omega arith
+under_more (Methodref class member) slots = omega arith
+under_more (InterfaceMethodref class member) slots = omega arith
+under_more (NameAndType name descriptor) slots = omega arith
+
+length-slots_of : (es : List Entry) → length (slots_of es) ≡ sum_by numbers_of es
+length-slots_of [] = refl
+length-slots_of (e ∷ es) = omega (arith, under_more e (slots_of es), length-slots_of es, sum_by-cons numbers_of e es)
+
+pub count_is : (slots : Slots) → AreSlots slots → length slots ≡ pool_count (entries_in slots)
+count_is slots are = ap length are ∙ omega (arith, length-slots_of (entries_in slots))

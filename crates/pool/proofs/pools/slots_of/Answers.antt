@@ -2,7 +2,7 @@ use Rattle.std.proofs.lemmas.Result.{err_from_is_err_and}
 use Rattle.std.proofs.Common.{◌-◌, None, false, arith}
 use Rattle.pool.specs.Reading.Pools.{slots_from, slots_after}
 use Rattle.pool.proofs.SlotLoops.{goes_on, skips, ends, is_done}
-use Rattle.pool.proofs.PoolLemmas.{slots_of_read}
+use Rattle.pool.proofs.PoolLemmas.{slots_of_read, slots_fit}
 use Rattle.pool.proofs.pools.slots_of.Goals as goal
 
 pub loop-number-preserved-then-second : goal.loop-number-preserved-then-second
@@ -23,4 +23,8 @@ returns-clause-gives c = is_done c.loop-number.slots.items c.loop-number.second 
 
 pub returns-clause-slots : goal.returns-clause-slots
 returns-clause-slots c = slots_of_read c.args.count c.args.bytes.now c.loop-number.slots.items c.loop-number.rest.now (λ i. omega (arith, c.type_inv.bytes i))
+    (is_done c.loop-number.slots.items c.loop-number.second c.args.count c.loop-number.number c.loop-number.rest.now (slots_after None (slots_from false (c.args.count - 1) c.args.bytes.now)) c.loop-number-test.false c.loop-number.invariant)
+
+pub returns-clause-fits : goal.returns-clause-fits
+returns-clause-fits c = slots_fit c.args.count c.args.bytes.now c.loop-number.slots.items c.loop-number.rest.now (omega arith) c.requires (λ i. omega (arith, c.type_inv.bytes i))
     (is_done c.loop-number.slots.items c.loop-number.second c.args.count c.loop-number.number c.loop-number.rest.now (slots_after None (slots_from false (c.args.count - 1) c.args.bytes.now)) c.loop-number-test.false c.loop-number.invariant)
