@@ -56,7 +56,7 @@ cut_at p xs i e =
 pub no_cut : (p : ℕ → Bool) (xs : List ℕ) → None ≡ position p xs → after_first p xs ≡ []
 no_cut p xs e =
     elim (cases_lt (position_or_len p xs) (length xs)) [
-    | inl lt ↦ let t : ltb (position_or_len p xs) (length xs) ≡ true = lt-ltb _ _ lt in
-        let wrong : None ≡ Some (position_or_len p xs) = e ∙ rw t refl in absurd cc
-    | inr le ↦ drop_all (position_or_len p xs + 1) xs (omega arith)
+      | inl lt ↦ let t : ltb (position_or_len p xs) (length xs) ≡ true = lt-ltb _ _ lt in
+          let wrong : None ≡ Some (position_or_len p xs) = e ∙ rw t refl in absurd cc
+      | inr le ↦ drop_all (position_or_len p xs + 1) xs (omega arith)
     ]

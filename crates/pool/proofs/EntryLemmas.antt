@@ -37,7 +37,7 @@ utf8_spelled left bytes x some fits e =
     let both = Takes-then bytes (u2 a.0.0) a.0.1 b.0.0 b.0.1 t0.0 t1.0 in
     let whole : Takes bytes (u2 (length b.0.0) ++ b.0.0) b.0.1 = subst (λ (k : ℕ). Takes bytes (u2 k ++ b.0.0) b.0.1) (sym t1.1) both in
     subst (Spelled 1 left bytes) (ok_is (Utf8 b.0.0, b.0.1) x g.1)
-        (record { takes = behind 1 bytes (u2 (length b.0.0) ++ b.0.0) b.0.1 whole; fits = (omega (arith, t1.1, t0.1), g.0); numbers = omega arith })
+    (record { takes = behind 1 bytes (u2 (length b.0.0) ++ b.0.0) b.0.1 whole; fits = (omega (arith, t1.1, t0.1), g.0); numbers = omega arith })
 
 integer_spelled : (left : ℕ) (bytes : List ℕ) (x : Entry × List ℕ) → 0 < left → IsBytes bytes → integer_from bytes ≡ Ok x → Spelled 3 left bytes x
 integer_spelled left bytes x some fits e =
@@ -69,7 +69,7 @@ pair_takes bytes x fits e =
     let t1 = number_takes w16 wide16 a.0.1 b.0.0 b.0.1 t0.0.rest_fits b.1 in
     let made : (ℕ × ℕ) × List ℕ = ((a.0.0, b.0.0), b.0.1) in
     subst (λ (y : (ℕ × ℕ) × List ℕ). Takes bytes (u2 y.0.0 ++ u2 y.0.1) y.1 × (y.0.0 < 2 ^ 16) × (y.0.1 < 2 ^ 16)) (ok_is made x b.2)
-        (Takes-then bytes (u2 a.0.0) a.0.1 (u2 b.0.0) b.0.1 t0.0 t1.0, t0.1, t1.1)
+    (Takes-then bytes (u2 a.0.0) a.0.1 (u2 b.0.0) b.0.1 t0.0 t1.0, t0.1, t1.1)
 
 pub pair_again : (m n : ℕ) (rest : List ℕ) → m < 2 ^ 16 → n < 2 ^ 16 → pair_from ((u2 m ++ u2 n) ++ rest) ≡ Ok ((m, n), rest)
 unfolding pair_from
@@ -91,23 +91,30 @@ tag_is tag n left bytes x same s = rw (eqb-true tag n same) s
 tagged_spelled : (tag left : ℕ) (bytes : List ℕ) (x : Entry × List ℕ) → 0 < left → IsBytes bytes → tagged tag left bytes ≡ Ok x → Spelled tag left bytes x
 tagged_spelled tag left bytes x some fits e =
     elim (chosen (eqb tag 1) _ _ _ e) [
-    | inl p ↦ tag_is tag 1 left bytes x p.0 (utf8_spelled left bytes x some fits p.1)
-    | inr e3 ↦ elim (chosen (eqb tag 3) _ _ _ e3.1) [
-    | inl p ↦ tag_is tag 3 left bytes x p.0 (integer_spelled left bytes x some fits p.1)
-    | inr e5 ↦ elim (chosen (eqb tag 5) _ _ _ e5.1) [
-    | inl p ↦ tag_is tag 5 left bytes x p.0 (long_spelled left bytes x fits p.1)
-    | inr e7 ↦ elim (chosen (eqb tag 7) _ _ _ e7.1) [
-    | inl p ↦ tag_is tag 7 left bytes x p.0 (class_spelled left bytes x some fits p.1)
-    | inr e9 ↦ elim (chosen (eqb tag 9) _ _ _ e9.1) [
-    | inl p ↦ tag_is tag 9 left bytes x p.0 (paired_spelled 9 Fieldref left bytes x fits (λ m n rest t h k. record { takes = behind 9 bytes (u2 m ++ u2 n) rest t; fits = (h, k); numbers = omega arith }) p.1)
-    | inr e10 ↦ elim (chosen (eqb tag 10) _ _ _ e10.1) [
-    | inl p ↦ tag_is tag 10 left bytes x p.0 (paired_spelled 10 Methodref left bytes x fits (λ m n rest t h k. record { takes = behind 10 bytes (u2 m ++ u2 n) rest t; fits = (h, k); numbers = omega arith }) p.1)
-    | inr e11 ↦ elim (chosen (eqb tag 11) _ _ _ e11.1) [
-    | inl p ↦ tag_is tag 11 left bytes x p.0 (paired_spelled 11 InterfaceMethodref left bytes x fits (λ m n rest t h k. record { takes = behind 11 bytes (u2 m ++ u2 n) rest t; fits = (h, k); numbers = omega arith }) p.1)
-    | inr e12 ↦ elim (chosen (eqb tag 12) _ _ _ e12.1) [
-    | inl p ↦ tag_is tag 12 left bytes x p.0 (paired_spelled 12 NameAndType left bytes x fits (λ m n rest t h k. record { takes = behind 12 bytes (u2 m ++ u2 n) rest t; fits = (h, k); numbers = omega arith }) p.1)
-    | inr none ↦ let wrong = none.1 in absurd cc
-    ] ] ] ] ] ] ] ]
+      | inl p ↦ tag_is tag 1 left bytes x p.0 (utf8_spelled left bytes x some fits p.1)
+      | inr e3 ↦ elim (chosen (eqb tag 3) _ _ _ e3.1) [
+        | inl p ↦ tag_is tag 3 left bytes x p.0 (integer_spelled left bytes x some fits p.1)
+        | inr e5 ↦ elim (chosen (eqb tag 5) _ _ _ e5.1) [
+          | inl p ↦ tag_is tag 5 left bytes x p.0 (long_spelled left bytes x fits p.1)
+          | inr e7 ↦ elim (chosen (eqb tag 7) _ _ _ e7.1) [
+            | inl p ↦ tag_is tag 7 left bytes x p.0 (class_spelled left bytes x some fits p.1)
+            | inr e9 ↦ elim (chosen (eqb tag 9) _ _ _ e9.1) [
+              | inl p ↦ tag_is tag 9 left bytes x p.0 (paired_spelled 9 Fieldref left bytes x fits (λ m n rest t h k. record { takes = behind 9 bytes (u2 m ++ u2 n) rest t; fits = (h, k); numbers = omega arith }) p.1)
+              | inr e10 ↦ elim (chosen (eqb tag 10) _ _ _ e10.1) [
+                | inl p ↦ tag_is tag 10 left bytes x p.0 (paired_spelled 10 Methodref left bytes x fits (λ m n rest t h k. record { takes = behind 10 bytes (u2 m ++ u2 n) rest t; fits = (h, k); numbers = omega arith }) p.1)
+                | inr e11 ↦ elim (chosen (eqb tag 11) _ _ _ e11.1) [
+                  | inl p ↦ tag_is tag 11 left bytes x p.0 (paired_spelled 11 InterfaceMethodref left bytes x fits (λ m n rest t h k. record { takes = behind 11 bytes (u2 m ++ u2 n) rest t; fits = (h, k); numbers = omega arith }) p.1)
+                  | inr e12 ↦ elim (chosen (eqb tag 12) _ _ _ e12.1) [
+                    | inl p ↦ tag_is tag 12 left bytes x p.0 (paired_spelled 12 NameAndType left bytes x fits (λ m n rest t h k. record { takes = behind 12 bytes (u2 m ++ u2 n) rest t; fits = (h, k); numbers = omega arith }) p.1)
+                    | inr none ↦ let wrong = none.1 in absurd cc
+                  ]
+                ]
+              ]
+            ]
+          ]
+        ]
+      ]
+    ]
 
 pub entry_takes : (left : ℕ) (bytes : List ℕ) (x : Entry × List ℕ) → 0 < left → IsBytes bytes → entry_from left bytes ≡ Ok x → Takes bytes (entry_bytes x.0) x.1 × EntryFits x.0 × (numbers_of x.0 ≤ left)
 unfolding entry_from

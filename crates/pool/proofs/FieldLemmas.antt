@@ -101,7 +101,7 @@ signed_takes w wide bytes z rest fits e =
     let t = number_takes w wide bytes b.0.0 b.0.1 fits b.1 in
     let back : cast_unsigned w (cast_signed w b.0.0) ≡ b.0.0 = of_z-to_z w b.0.0 t.1 in
     subst (λ (p : ℤ × List ℕ). Takes bytes (to_be_bytes w (cast_unsigned w p.0)) p.1 × FitsSigned w p.0) (ok_is (cast_signed w b.0.0, b.0.1) (z, rest) b.2)
-        (subst (λ k. Takes bytes (to_be_bytes w k) b.0.1) (sym back) t.0, to_z-Fits w b.0.0 (record { fits = t.1 }))
+    (subst (λ k. Takes bytes (to_be_bytes w k) b.0.1) (sym back) t.0, to_z-Fits w b.0.0 (record { fits = t.1 }))
 
 pub signed_again : (w : Width) (wide : IsWide w) (z : ℤ) (rest : List ℕ) → FitsSigned w z → signed_at w (to_be_bytes w (cast_unsigned w z) ++ rest) ≡ Ok (z, rest)
 signed_again w wide z rest fits =
@@ -115,7 +115,7 @@ taken_takes len bytes text rest fits e =
     let g = guard_ok (ltb (length bytes) len) Short (Ok (take len bytes, drop len bytes)) (text, rest) e in
     let long : len ≤ length bytes = ltb-false _ _ g.0 in
     subst (λ (p : List ℕ × List ℕ). Takes bytes p.0 p.1 × (length p.0 ≡ len)) (ok_is (take len bytes, drop len bytes) (text, rest) g.1)
-        (record { parts = sym (take-append-drop len bytes); rest_fits = IsBytes-drop len bytes fits }, omega (arith, length-take len bytes))
+    (record { parts = sym (take-append-drop len bytes); rest_fits = IsBytes-drop len bytes fits }, omega (arith, length-take len bytes))
 
 pub taken_again : (text rest : List ℕ) → taken (length text) (text ++ rest) ≡ Ok (text, rest)
 taken_again text rest =

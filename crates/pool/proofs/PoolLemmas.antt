@@ -50,11 +50,11 @@ Follows true n bytes x = 1 ≤ n → (slots : Slots) × (x.0 ≡ None ∷ slots)
 read_one : (e : Entry) (n : ℕ) (bytes after : List ℕ) (slots : Slots) (rest : List ℕ) → numbers_of e ≡ 1 → ((s : Slots) → under e s ≡ Some e ∷ s)
     → Takes bytes (entry_bytes e) after → EntryFits e → Read n after slots rest → Read (suc n) bytes (Some e ∷ slots) rest
 read_one e n bytes after slots rest one alone t fits r = record {
-    slots_are = ap (λ (s : Slots). Some e ∷ s) r.slots_are ∙ sym (alone (slots_of (entries_in slots)));
-    takes = Takes-then bytes (entry_bytes e) after (flat_map entry_bytes (entries_in slots)) rest t r.takes;
-    fits = (fits, r.fits);
-    numbers = omega (arith, sum_by-cons numbers_of e (entries_in slots), r.numbers);
-  }
+  slots_are = ap (λ (s : Slots). Some e ∷ s) r.slots_are ∙ sym (alone (slots_of (entries_in slots)));
+  takes = Takes-then bytes (entry_bytes e) after (flat_map entry_bytes (entries_in slots)) rest t r.takes;
+  fits = (fits, r.fits);
+  numbers = omega (arith, sum_by-cons numbers_of e (entries_in slots), r.numbers);
+}
 
 read_long : (z : _) (n : ℕ) (bytes after : List ℕ) (x : Slots × List ℕ) → 2 ≤ suc n → Takes bytes (entry_bytes (Long z)) after → EntryFits (Long z) → Follows true n after x → Read (suc n) bytes (Some (Long z) ∷ x.0) x.1
 read_long z n bytes after x enough t fits f =
@@ -62,11 +62,11 @@ read_long z n bytes after x enough t fits f =
     let r = g.2 in
     let e = sum_by-cons numbers_of (Long z) (entries_in g.0) in
     let made : Read (suc n) bytes (Some (Long z) ∷ None ∷ g.0) x.1 = record {
-        slots_are = ap (λ (s : Slots). Some (Long z) ∷ None ∷ s) r.slots_are;
-        takes = Takes-then bytes (entry_bytes (Long z)) after (flat_map entry_bytes (entries_in g.0)) x.1 t r.takes;
-        fits = (fits, r.fits);
-        numbers = omega (arith, e, r.numbers);
-      } in
+      slots_are = ap (λ (s : Slots). Some (Long z) ∷ None ∷ s) r.slots_are;
+      takes = Takes-then bytes (entry_bytes (Long z)) after (flat_map entry_bytes (entries_in g.0)) x.1 t r.takes;
+      fits = (fits, r.fits);
+      numbers = omega (arith, e, r.numbers);
+    } in
     subst (λ (s : Slots). Read (suc n) bytes (Some (Long z) ∷ s) x.1) (sym g.1) made
 
 joined : (e : Entry) (n : ℕ) (bytes after : List ℕ) (x : Slots × List ℕ) → Takes bytes (entry_bytes e) after → EntryFits e → numbers_of e ≤ suc n → Follows (is_long e) n after x → Read (suc n) bytes (Some e ∷ x.0) x.1
@@ -130,7 +130,7 @@ unfolding slots_from
 slots_again [] rest fits = refl
 slots_again (e ∷ es) rest fits =
     rw (sum_by-cons numbers_of e es, append_assoc (entry_bytes e) (flat_map entry_bytes es) rest)
-        (again_cons e (sum_by numbers_of es) (flat_map entry_bytes es ++ rest) (slots_of es) rest fits.0 (slots_again es rest fits.1))
+    (again_cons e (sum_by numbers_of es) (flat_map entry_bytes es ++ rest) (slots_of es) rest fits.0 (slots_again es rest fits.1))
 
 -- ---- entries behind their count
 

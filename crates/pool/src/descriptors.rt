@@ -29,7 +29,11 @@ fn after(spot: Spot, b: u8) -> Option<Spot>
     match spot {
         Spot::Begin(dims) => {
             if b == b'[' {
-                if dims < 255 { Some(Spot::Begin(dims + 1)) } else { None }
+                if dims < 255 {
+                    Some(Spot::Begin(dims + 1))
+                } else {
+                    None
+                }
             } else if b == b'L' {
                 Some(Spot::Name(false))
             } else if is_primitive(b) {
@@ -66,13 +70,7 @@ fn ended(spot: Spot, b: u8) -> (u32, u32)
                 (1, 1)
             }
         }
-        Spot::Name(_) => {
-            if b == b';' {
-                (1, 1)
-            } else {
-                (0, 0)
-            }
-        }
+        Spot::Name(_) => { if b == b';' { (1, 1) } else { (0, 0) } }
     }
 }
 

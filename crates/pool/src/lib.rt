@@ -7,7 +7,11 @@ mod error;
 pub mod fields;
 pub mod names;
 mod pools;
-pub mod references;
+mod references;
 
 pub use error::ReadError;
 pub use pools::Pool;
+pub use references::MemberKind;
+
+#[cfg(test)]
+mod tests;

@@ -4,7 +4,6 @@ ghost use Rattle.std.specs.Prelude.{◌≡◌, false};
 ghost use Rattle.std.specs.List.{list_all};
 ghost use Rattle.model.specs.Texts.Names as names;
 
-
 /// Whether a byte may begin a part of a name: a letter, an underscore or a dollar sign.
 fn begins_part(b: u8) -> bool
     ensures { result ≡ names.begins_part b }

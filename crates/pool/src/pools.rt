@@ -104,7 +104,11 @@ fn is_wide(entry: &Entry) -> bool
 }
 
 /// What stands under the numbers below a count, and the bytes behind the entries.
-fn slots_of(alloc: Global, count: u16, bytes: &[u8]) -> Result<(Vec<Option<Entry>>, &[u8]), ReadError>
+fn slots_of(
+    alloc: Global,
+    count: u16,
+    bytes: &[u8],
+) -> Result<(Vec<Option<Entry>>, &[u8]), ReadError>
     requires { 0 < count }
     ensures gives { Gives (λ x. (x.0.items, x.1.now)) result (slots_after None (slots_from false (count - 1) bytes.now)) }
     ensures slots { IfOk result (λ x. AreSlots x.0.items) }
