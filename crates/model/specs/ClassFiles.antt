@@ -3,3 +3,5 @@ pub mod Numbers
 pub mod Entries
 pub mod Pools
 pub mod References
+pub mod Attributes
+pub mod Fields

@@ -1,5 +1,6 @@
 //! Class files (JVMS 4): what their bytes spell, with pool numbers in place of names.
 
+use crate::flags::FieldFlags;
 use crate::names::Name;
 use std::fmt;
 
@@ -54,4 +55,21 @@ pub enum Entry {
     Methodref(u16, u16),
     InterfaceMethodref(u16, u16),
     NameAndType(u16, u16),
+}
+
+/// A ConstantValue attribute (JVMS 4.7.2): the numbers of its name and of the value.
+#[derive(Clone, Copy, Debug, PartialEq, Eq)]
+pub struct ConstantValue {
+    pub name: u16,
+    pub value: u16,
+}
+
+/// A field of a class file (JVMS 4.5): its flags, the numbers of its name and its descriptor, and the value that it
+/// begins with. Other attributes aren't kept.
+#[derive(Clone, Copy, Debug, PartialEq, Eq)]
+pub struct FieldEntry {
+    pub flags: FieldFlags,
+    pub name: u16,
+    pub descriptor: u16,
+    pub constant: Option<ConstantValue>,
 }
