@@ -1,6 +1,7 @@
 pub mod Accounts
 pub mod Arithmetic
 pub mod Bytecode
+pub mod ClassFiles
 pub mod ClassListings
 pub mod CodeListings
 pub mod Collector

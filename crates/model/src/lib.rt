@@ -8,6 +8,7 @@
 pub mod builtins;
 pub mod bytecode;
 pub mod collector;
+pub mod class_files;
 pub mod colours;
 pub mod flags;
 pub mod instructions;
