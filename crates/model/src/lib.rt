@@ -7,8 +7,8 @@
 
 pub mod builtins;
 pub mod bytecode;
-pub mod collector;
 pub mod class_files;
+pub mod collector;
 pub mod colours;
 pub mod flags;
 pub mod instructions;
@@ -17,9 +17,8 @@ pub mod listings;
 pub mod mnemonics;
 pub mod names;
 pub mod places;
+#[cfg(test)]
+mod tests;
 pub mod trees;
 pub mod turns;
 pub mod values;
-
-#[cfg(test)]
-mod tests;

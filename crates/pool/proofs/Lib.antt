@@ -1,6 +1,6 @@
-pub mod Steps
-pub mod SlotLoops
-pub mod FieldLemmas
-pub mod EntryLemmas
-pub mod PoolLemmas
 pub mod DescriptorLemmas
+pub mod EntryLemmas
+pub mod FieldLemmas
+pub mod PoolLemmas
+pub mod SlotLoops
+pub mod Steps

@@ -1,4 +1,4 @@
-pub mod Reading
 pub mod Checks
+pub mod Reading
 pub mod Slots
 pub mod Spots
