@@ -24,6 +24,7 @@ pub struct Statement<'a> {
 pub struct Statements<'a> {
     lines: Lines<'a>,
     line: usize,
+    ended: bool,
 }
 
 impl<'a> Model for Statements<'a> {
@@ -43,13 +44,14 @@ impl<'a> Statements<'a> {
         Statements {
             lines: Lines::new(text),
             line: 0,
+            ended: false,
         }
     }
 
-    /// How many lines were read: the number of the line of the last statement, counted from 1, and at the end the
-    /// number of the text's lines.
+    /// The number of the line that was read last, counted from 1, and once the end was met the number of the text's
+    /// lines plus 1.
     pub fn line(&self) -> usize {
-        self.line
+        self.line.saturating_add(usize::from(self.ended))
     }
 
     /// The next statement, if one is left. `NotText` where its line is no text; that line is then behind.
@@ -66,6 +68,7 @@ impl<'a> Statements<'a> {
                 return Ok(Some(Statement { first, operands }));
             }
         }
+        self.ended = true;
         Ok(None)
     }
 }

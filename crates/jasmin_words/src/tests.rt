@@ -41,5 +41,5 @@ fn statements_skip_empty_lines(rt: HostRuntime) {
     assert!(rt; matches!(&x, Ok(Some(s)) if s.first == b"x".as_slice()));
     let end = statements.next_statement();
     assert!(rt; matches!(&end, Ok(None)));
-    assert_eq!(rt; statements.line(), 7);
+    assert_eq!(rt; statements.line(), 8);
 }
