@@ -1,6 +1,8 @@
+pub mod Accepted
 pub mod Accounts
 pub mod Arithmetic
 pub mod ClassListings
+pub mod Classes
 pub mod CodeListings
 pub mod Effects
 pub mod Faults
@@ -12,6 +14,7 @@ pub mod Observers
 pub mod Printing
 pub mod Programs
 pub mod Ready
+pub mod Served
 pub mod Switches
 pub mod Table
 pub mod Turns

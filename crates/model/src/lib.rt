@@ -7,11 +7,13 @@
 
 pub mod builtins;
 pub mod colours;
+pub mod descriptors;
 pub mod flags;
 pub mod instructions;
 pub mod journals;
 pub mod listings;
 pub mod names;
 pub mod places;
+pub mod refusals;
 pub mod turns;
 pub mod values;

@@ -2,6 +2,7 @@
 ghost use Rattle.std.specs.Prelude.{◌≡◌, IfOk, ℕ, List};
 
 use std::alloc::{AllocError, Global};
+use std::fmt;
 use std::marker::Model;
 
 /// The name of a class, field or method, or a descriptor, as its ASCII bytes (JVMS 4.2, 4.3): `java/lang/Object`,
@@ -39,6 +40,15 @@ impl Name {
         ensures { result.now ≡ self.now }
     {
         self.bytes.as_slice()
+    }
+}
+
+impl fmt::Display for Name {
+    fn fmt<W: fmt::Write>(&self, f: &mut fmt::Formatter<W>) -> fmt::Result {
+        for byte in self.bytes.as_slice() {
+            f.write_char(char::from(*byte))?;
+        }
+        Ok(())
     }
 }
 

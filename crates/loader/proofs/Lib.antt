@@ -1,0 +1,4 @@
+pub mod BuiltinLemmas
+pub mod SubclassLemmas
+pub mod LimitLemmas
+pub mod ReferenceLemmas

@@ -1,0 +1,3 @@
+pub mod Builtins
+pub mod Told
+pub mod Errors
