@@ -2,3 +2,24 @@
 #![tactic(auto)]
 
 pub mod programs;
+//! From listings to a program: which lists of listings the machine takes, and why it refuses the others.
+//!
+//! Each rule is a function of its own, under the name that the definitions of the crate `model` give it.
+#![tactic(auto)]
+
+pub mod acceptance;
+mod builtins;
+mod classes;
+pub mod errors;
+mod exception_rows;
+mod limits;
+mod members;
+mod rules;
+mod served;
+mod subclasses;
+mod superclasses;
+#[cfg(test)]
+mod tests;
+
+pub use acceptance::accept;
+pub use errors::LoadError;

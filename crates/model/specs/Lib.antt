@@ -1,8 +1,10 @@
+pub mod Accepted
 pub mod Accounts
 pub mod Arithmetic
 pub mod Bytecode
 pub mod ClassFiles
 pub mod ClassListings
+pub mod Classes
 pub mod CodeListings
 pub mod Collector
 pub mod Effects
@@ -17,6 +19,7 @@ pub mod Printing
 pub mod Programs
 pub mod Ready
 pub mod Sizes
+pub mod Served
 pub mod Switches
 pub mod Table
 pub mod Texts

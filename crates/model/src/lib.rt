@@ -10,6 +10,7 @@ pub mod bytecode;
 pub mod class_files;
 pub mod collector;
 pub mod colours;
+pub mod descriptors;
 pub mod flags;
 pub mod instructions;
 pub mod journals;
@@ -20,5 +21,6 @@ pub mod places;
 #[cfg(test)]
 mod tests;
 pub mod trees;
+pub mod refusals;
 pub mod turns;
 pub mod values;
