@@ -1,1 +1,5 @@
+pub mod FieldLaws
+pub mod InstructionLaws
 pub mod Loops
+pub mod SwitchLaws
+pub mod TableLaws
