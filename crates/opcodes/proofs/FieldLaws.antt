@@ -58,6 +58,9 @@ pub record Takes (bytes text rest : List ℕ) : Type 0 where
 pub Takes-then : (a x b y c : List ℕ) → Takes a x b → Takes b y c → Takes a (x ++ y) c
 Takes-then a x b y c p q = record { parts = p.parts ∙ ap (λ (t : List ℕ). x ++ t) q.parts ∙ sym (append_assoc x y c); rest_fits = q.rest_fits }
 
+pub Takes-shorter : (a x b : List ℕ) → Takes a x b → length b ≤ length a
+Takes-shorter a x b t = let e = ap length t.parts in omega (arith, e, length-append x b)
+
 -- ---- numbers
 
 pub record IsWide (w : Width) : Type 0 where

@@ -35,11 +35,14 @@ use Rattle.opcodes.specs.Reading.Tables.{bare_of, layout_of, primitives}
 use Rattle.opcodes.specs.Reading.Switches.{branch_at, table_at, lookup_at}
 use Rattle.opcodes.specs.Reading.{by_name, increment_at, ends_with_zero, interface_at, new_array, new_array_at, wide_form_at, wide_at, layout_at, by_layout, by_opcode, instruction_at}
 use Rattle.opcodes.proofs.Loops.{ok_is}
-use Rattle.opcodes.proofs.FieldLaws.{IsBytes, IsBytes-rest, bind_ok, Takes, Takes-then, wide8, wide16, byte_takes, u2_takes, u2_again, signed_takes, signed_again}
+use Rattle.opcodes.proofs.FieldLaws.{IsBytes, IsBytes-rest, bind_ok, Takes, Takes-then, Takes-shorter, wide8, wide16, byte_takes, u2_takes, u2_again, signed_takes, signed_again}
 use Rattle.opcodes.proofs.TableLaws.{IsBare, bare_of-takes, opcode_of, layout_of-takes, primitives-take, primitives-again, small_int-again, small_long-again, first_load-again, first_store-again, stack-again, number-again, return-again, element_load-again, element_store-again, monitor-again, layout-is_not_bare, layout-again}
 use Rattle.opcodes.proofs.SwitchLaws.{Real, IsRead, Reads, branch-takes, branch-again, table-takes, table-again, lookup-takes, lookup-again}
 
 -- ---- what is read is spelled so
+
+always : {pc code : ℕ} {bytes : List ℕ} {i : Instr} {rest : List ℕ} → IsRead pc code i bytes rest → Reads pc code bytes (i, rest)
+always {pc} {code} {bytes} {i} {rest} r = record { shorter = Takes-shorter bytes (operands pc i) rest r.takes; read = λ real. r }
 
 named-takes : (pc : ℕ) (what : Named) (n : ℕ) (bytes rest : List ℕ) → Takes bytes (u2 n) rest → n < 2 ^ 16 → IsRead pc (opcode (by_name what 0)) (by_name what n) bytes rest
 named-takes pc named.Int n bytes rest t lt = record { takes = t; fits = lt; opcode_is = refl }
@@ -60,7 +63,7 @@ increment-takes pc bytes x fits e =
     let s = byte_takes bytes a.0.0 a.0.1 fits a.1 in
     let t = signed_takes w8 wide8 a.0.1 b.0.0 b.0.1 s.0.rest_fits b.1 in
     subst (Reads pc 132 bytes) (ok_is (instruction.Local (access.Increment (increment.Byte a.0.0 b.0.0)), b.0.1) x b.2)
-      (λ real. record { takes = Takes-then bytes (a.0.0 ∷ []) a.0.1 (signed w8 b.0.0) b.0.1 s.0 t.0; fits = (s.1, t.1); opcode_is = refl })
+      (always (record { takes = Takes-then bytes (a.0.0 ∷ []) a.0.1 (signed w8 b.0.0) b.0.1 s.0 t.0; fits = (s.1, t.1); opcode_is = refl }))
 
 zero-takes : (n count last : ℕ) (rest : List ℕ) (x : Instr × List ℕ) → ends_with_zero n count last rest ≡ Ok x → (last ≡ 0) × (x ≡ (instruction.Invoke (invoke.Interface count) n, rest))
 zero-takes n count zero rest x e = (refl, sym (ok_is (instruction.Invoke (invoke.Interface count) n, rest) x e))
@@ -78,11 +81,11 @@ interface-takes pc bytes x fits e =
     let t = byte_takes b.0.1 c.0.0 c.0.1 s.0.rest_fits c.1 in
     let last : Takes b.0.1 (0 ∷ []) c.0.1 = rw z.0 at t.0 in
     subst (Reads pc 185 bytes) (sym z.1)
-      (λ real. record {
+      (always (record {
         takes = Takes-then bytes (u2 a.0.0) a.0.1 (b.0.0 ∷ 0 ∷ []) c.0.1 r.0 (Takes-then a.0.1 (b.0.0 ∷ []) b.0.1 (0 ∷ []) c.0.1 s.0 last);
         fits = (r.1, s.1);
         opcode_is = refl;
-      })
+      }))
 
 type-takes : (n : ℕ) (p : Option Primitive) (rest : List ℕ) (x : Instr × List ℕ) → entry_at primitives n ≡ p → new_array p rest ≡ Ok x → (type : Primitive) × (primitive_number type ≡ n) × (x ≡ (instruction.Array (array.New type), rest))
 type-takes n None rest x h e = absurd cc
@@ -95,7 +98,7 @@ new_array-takes pc bytes x fits e =
     let t = type-takes a.0.0 (entry_at primitives a.0.0) a.0.1 x refl a.2 in
     let s = byte_takes bytes a.0.0 a.0.1 fits a.1 in
     let made : Takes bytes (primitive_number t.0 ∷ []) a.0.1 = rw t.1 s.0 in
-    subst (Reads pc 188 bytes) (sym t.2) (λ real. record { takes = made; fits = tt; opcode_is = refl })
+    subst (Reads pc 188 bytes) (sym t.2) (always (record { takes = made; fits = tt; opcode_is = refl }))
 
 -- behind wide stand the opcode of a short form and these bytes
 record IsWideForm (pc b : ℕ) (i : Instr) (bytes rest : List ℕ) : Type 0 where
@@ -143,40 +146,40 @@ form-takes pc b (Some layout.Wide) bytes x h fits e = absurd cc
 
 wide-takes : (pc : ℕ) (bytes : List ℕ) (x : Instr × List ℕ) → IsBytes bytes → wide_at bytes ≡ Ok x → Reads pc 196 bytes x
 unfolding wide_at
-wide-takes pc bytes x fits e real =
+wide-takes pc bytes x fits e =
     let a = bind_ok (byte_at bytes) (λ b. wide_form_at (layout_of b.0) b.1) x e in
     let s = byte_takes bytes a.0.0 a.0.1 fits a.1 in
     let f = form-takes pc a.0.0 (layout_of a.0.0) a.0.1 x refl s.0.rest_fits a.2 in
-    record { takes = rw f.operands_are (Takes-then bytes (a.0.0 ∷ []) a.0.1 f.tail x.1 s.0 f.takes); fits = f.fits; opcode_is = f.opcode_is }
+    always (record { takes = rw f.operands_are (Takes-then bytes (a.0.0 ∷ []) a.0.1 f.tail x.1 s.0 f.takes); fits = f.fits; opcode_is = f.opcode_is })
 
 layout-takes : (pc : ℕ) (l : Layout) (bytes : List ℕ) (x : Instr × List ℕ) → IsBytes bytes → layout_at pc l bytes ≡ Ok x → Reads pc (opcode_of l) bytes x
 unfolding layout_at
 layout-takes pc layout.Byte bytes x fits e =
     let a = bind_ok (signed_at w8 bytes) (λ z. Ok (instruction.Constant (constant.Byte z.0), z.1)) x e in
     let s = signed_takes w8 wide8 bytes a.0.0 a.0.1 fits a.1 in
-    subst (Reads pc 16 bytes) (ok_is (instruction.Constant (constant.Byte a.0.0), a.0.1) x a.2) (λ real. record { takes = s.0; fits = s.1; opcode_is = refl })
+    subst (Reads pc 16 bytes) (ok_is (instruction.Constant (constant.Byte a.0.0), a.0.1) x a.2) (always (record { takes = s.0; fits = s.1; opcode_is = refl }))
 layout-takes pc layout.Short bytes x fits e =
     let a = bind_ok (signed_at w16 bytes) (λ z. Ok (instruction.Constant (constant.Short z.0), z.1)) x e in
     let s = signed_takes w16 wide16 bytes a.0.0 a.0.1 fits a.1 in
-    subst (Reads pc 17 bytes) (ok_is (instruction.Constant (constant.Short a.0.0), a.0.1) x a.2) (λ real. record { takes = s.0; fits = s.1; opcode_is = refl })
+    subst (Reads pc 17 bytes) (ok_is (instruction.Constant (constant.Short a.0.0), a.0.1) x a.2) (always (record { takes = s.0; fits = s.1; opcode_is = refl }))
 layout-takes pc layout.NarrowInt bytes x fits e =
     let a = bind_ok (byte_at bytes) (λ n. Ok (instruction.Constant (constant.Int width.Narrow n.0), n.1)) x e in
     let s = byte_takes bytes a.0.0 a.0.1 fits a.1 in
-    subst (Reads pc 18 bytes) (ok_is (instruction.Constant (constant.Int width.Narrow a.0.0), a.0.1) x a.2) (λ real. record { takes = s.0; fits = s.1; opcode_is = refl })
+    subst (Reads pc 18 bytes) (ok_is (instruction.Constant (constant.Int width.Narrow a.0.0), a.0.1) x a.2) (always (record { takes = s.0; fits = s.1; opcode_is = refl }))
 layout-takes pc (layout.Load k) bytes x fits e =
     let a = bind_ok (byte_at bytes) (λ n. Ok (instruction.Local (access.Load k (local.Byte n.0)), n.1)) x e in
     let s = byte_takes bytes a.0.0 a.0.1 fits a.1 in
-    subst (Reads pc (load_opcode k) bytes) (ok_is (instruction.Local (access.Load k (local.Byte a.0.0)), a.0.1) x a.2) (λ real. record { takes = s.0; fits = s.1; opcode_is = refl })
+    subst (Reads pc (load_opcode k) bytes) (ok_is (instruction.Local (access.Load k (local.Byte a.0.0)), a.0.1) x a.2) (always (record { takes = s.0; fits = s.1; opcode_is = refl }))
 layout-takes pc (layout.Store k) bytes x fits e =
     let a = bind_ok (byte_at bytes) (λ n. Ok (instruction.Local (access.Store k (local.Byte n.0)), n.1)) x e in
     let s = byte_takes bytes a.0.0 a.0.1 fits a.1 in
-    subst (Reads pc (store_opcode k) bytes) (ok_is (instruction.Local (access.Store k (local.Byte a.0.0)), a.0.1) x a.2) (λ real. record { takes = s.0; fits = s.1; opcode_is = refl })
+    subst (Reads pc (store_opcode k) bytes) (ok_is (instruction.Local (access.Store k (local.Byte a.0.0)), a.0.1) x a.2) (always (record { takes = s.0; fits = s.1; opcode_is = refl }))
 layout-takes pc layout.Increment bytes x fits e = increment-takes pc bytes x fits e
 layout-takes pc (layout.Branch t) bytes x fits e = branch-takes pc t bytes x fits e
 layout-takes pc (layout.Named what) bytes x fits e =
     let a = bind_ok (number_at w16 bytes) (λ n. Ok (by_name what n.0, n.1)) x e in
     let s = u2_takes bytes a.0.0 a.0.1 fits a.1 in
-    subst (Reads pc (opcode (by_name what 0)) bytes) (ok_is (by_name what a.0.0, a.0.1) x a.2) (λ real. named-takes pc what a.0.0 bytes a.0.1 s.0 s.1)
+    subst (Reads pc (opcode (by_name what 0)) bytes) (ok_is (by_name what a.0.0, a.0.1) x a.2) (always (named-takes pc what a.0.0 bytes a.0.1 s.0 s.1))
 layout-takes pc layout.InvokeInterface bytes x fits e = interface-takes pc bytes x fits e
 layout-takes pc layout.NewArray bytes x fits e = new_array-takes pc bytes x fits e
 layout-takes pc layout.TableSwitch bytes x fits e = table-takes pc bytes x fits e
@@ -192,22 +195,31 @@ by_opcode-takes pc b None bytes x h fits e = by_layout-takes pc b (layout_of b) 
 by_opcode-takes pc b (Some i) bytes x h fits e =
     let t = bare_of-takes b i h in
     subst (Reads pc b bytes) (ok_is (i, bytes) x e)
-      (λ real. record { takes = record { parts = rw t.nothing refl; rest_fits = fits }; fits = t.fits pc; opcode_is = t.opcode_is })
+      (always (record { takes = record { parts = rw t.nothing refl; rest_fits = fits }; fits = t.fits pc; opcode_is = t.opcode_is }))
 
 -- an instruction and what is behind it are the bytes
 pub record IsFront (pc : ℕ) (i : Instr) (bytes rest : List ℕ) : Type 0 where
   pub parts : bytes ≡ spelling pc i ++ rest
-  pub rest_fits : IsBytes rest
   pub fits : Fits pc i
 
-pub instruction-takes : (pc : ℕ) (bytes : List ℕ) (i : Instr) (rest : List ℕ) → IsBytes bytes → instruction_at pc bytes ≡ Ok (i, rest) → Real i → IsFront pc i bytes rest
+pub record Shortens (pc : ℕ) (i : Instr) (bytes rest : List ℕ) : Type 0 where
+  pub shorter : length rest < length bytes
+  pub front : Real i → IsFront pc i bytes rest
+
+pub instruction-takes : (pc : ℕ) (bytes : List ℕ) (i : Instr) (rest : List ℕ) → IsBytes bytes → instruction_at pc bytes ≡ Ok (i, rest) → Shortens pc i bytes rest
 unfolding instruction_at
-instruction-takes pc bytes i rest fits e real =
+instruction-takes pc bytes i rest fits e =
     let a = bind_ok (byte_at bytes) (λ b. by_opcode pc (bare_of b.0) (layout_of b.0) b.1) (i, rest) e in
     let s = byte_takes bytes a.0.0 a.0.1 fits a.1 in
-    let r = by_opcode-takes pc a.0.0 (bare_of a.0.0) a.0.1 (i, rest) refl s.0.rest_fits a.2 real in
-    let both = Takes-then bytes (a.0.0 ∷ []) a.0.1 (operands pc i) rest s.0 r.takes in
-    record { parts = rw r.opcode_is both.parts; rest_fits = r.takes.rest_fits; fits = r.fits }
+    let r = by_opcode-takes pc a.0.0 (bare_of a.0.0) a.0.1 (i, rest) refl s.0.rest_fits a.2 in
+    let one : length bytes ≡ suc (length a.0.1) = ap length s.0.parts in
+    record {
+      shorter = let less = r.shorter in omega arith;
+      front = λ real.
+        let read = r.read real in
+        let both = Takes-then bytes (a.0.0 ∷ []) a.0.1 (operands pc i) rest s.0 read.takes in
+        record { parts = rw read.opcode_is both.parts; fits = read.fits };
+    }
 
 -- ---- what is spelled so is read again
 

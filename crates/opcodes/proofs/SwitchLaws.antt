@@ -20,7 +20,7 @@ use Rattle.opcodes.specs.declared.error.OpError.TheVariants as error
 use Rattle.opcodes.specs.Reading.Steps.{◌>>=◌, signed_at}
 use Rattle.opcodes.specs.Reading.Switches.{pc_of, landing, branch_at, pad_at, targets_at, table_len, table_at, rises, pairs_at, lookup_at}
 use Rattle.opcodes.proofs.Loops.{ok_is}
-use Rattle.opcodes.proofs.FieldLaws.{IsBytes, IsBytes-rest, bind_ok, guard_then, chosen, Takes, Takes-then, IsWide, wide16, wide32, signed_takes, signed_again}
+use Rattle.opcodes.proofs.FieldLaws.{IsBytes, IsBytes-rest, bind_ok, guard_then, chosen, Takes, Takes-then, Takes-shorter, IsWide, wide16, wide32, signed_takes, signed_again}
 
 -- all targets are below 65535
 abbrev pub Real : Instr → Type 0
@@ -32,8 +32,9 @@ pub record IsRead (pc code : ℕ) (i : Instr) (bytes rest : List ℕ) : Type 0 w
   pub fits : Fits pc i
   pub opcode_is : opcode i ≡ code
 
-abbrev pub Reads : ℕ → ℕ → List ℕ → Instr × List ℕ → Type 0
-Reads pc code bytes x = Real x.0 → IsRead pc code x.0 bytes x.1
+pub record Reads (pc code : ℕ) (bytes : List ℕ) (x : Instr × List ℕ) : Type 0 where
+  pub shorter : length x.1 ≤ length bytes
+  pub read : Real x.0 → IsRead pc code x.0 bytes x.1
 
 pub landing-again : (pc t : ℕ) → t < 65535 → landing pc (offset pc t) ≡ t
 landing-again pc t lt =
@@ -64,8 +65,10 @@ branch-takes pc t bytes x fits e =
     let a = bind_ok (signed_at (branch_width t) bytes) (λ z. Ok (instruction.Branch t (landing pc z.0), z.1)) x e in
     let s = signed_takes (branch_width t) (branch_wide t) bytes a.0.0 a.0.1 fits a.1 in
     subst (Reads pc (branch_opcode t) bytes) (ok_is (instruction.Branch t (landing pc a.0.0), a.0.1) x a.2)
-      (λ real. let same = landing-takes pc a.0.0 real.0 in
-        record { takes = rw (← same) s.0; fits = rw (← same) s.1; opcode_is = refl })
+      (record {
+        shorter = Takes-shorter bytes (signed (branch_width t) a.0.0) a.0.1 s.0;
+        read = λ real. let same = landing-takes pc a.0.0 real.0 in record { takes = rw (← same) s.0; fits = rw (← same) s.1; opcode_is = refl };
+      })
 
 pub branch-again : (pc : ℕ) (t : Test) (target : ℕ) (rest : List ℕ) → FitsSigned (branch_width t) (offset pc target) → target < 65535 → branch_at pc t (signed (branch_width t) (offset pc target) ++ rest) ≡ Ok (instruction.Branch t target, rest)
 unfolding branch_at
@@ -96,20 +99,23 @@ abbrev spelled : ℕ → ℕ → List ℕ
 spelled pc t = signed w32 (offset pc t)
 
 abbrev TargetsTaken : ℕ → ℕ → List ℕ → List ℕ × List ℕ → Type 0
-TargetsTaken pc n bytes x = AllByRecursion (λ t. t < 65535) x.0 → Takes bytes (flat_map (spelled pc) x.0) x.1 × (length x.0 ≡ n) × AllByRecursion (OffsetFits pc) x.0
+TargetsTaken pc n bytes x = (length x.1 ≤ length bytes) × (length x.0 ≡ n) × (AllByRecursion (λ t. t < 65535) x.0 → Takes bytes (flat_map (spelled pc) x.0) x.1 × AllByRecursion (OffsetFits pc) x.0)
 
 pub targets-take : (pc n : ℕ) (bytes : List ℕ) (x : List ℕ × List ℕ) → IsBytes bytes → targets_at pc n bytes ≡ Ok x → TargetsTaken pc n bytes x
 unfolding targets_at
-targets-take pc zero bytes x fits e = subst (TargetsTaken pc 0 bytes) (ok_is ([], bytes) x e) (λ real. (record { parts = refl; rest_fits = fits }, refl, tt))
+targets-take pc zero bytes x fits e = subst (TargetsTaken pc 0 bytes) (ok_is ([], bytes) x e) (omega arith, refl, λ real. (record { parts = refl; rest_fits = fits }, tt))
 targets-take pc (suc n) bytes x fits e =
     let a = bind_ok (signed_at w32 bytes) (λ z. targets_at pc n z.1 >>= λ others. Ok (landing pc z.0 ∷ others.0, others.1)) x e in
     let b = bind_ok (targets_at pc n a.0.1) (λ others. Ok (landing pc a.0.0 ∷ others.0, others.1)) x a.2 in
     let s = signed_takes w32 wide32 bytes a.0.0 a.0.1 fits a.1 in
+    let others = targets-take pc n a.0.1 b.0 s.0.rest_fits b.1 in
+    let less = Takes-shorter bytes (signed w32 a.0.0) a.0.1 s.0 in
     subst (TargetsTaken pc (suc n) bytes) (ok_is (landing pc a.0.0 ∷ b.0.0, b.0.1) x b.2)
-      (λ real. let same = landing-takes pc a.0.0 real.0 in
-        let others = targets-take pc n a.0.1 b.0 s.0.rest_fits b.1 real.1 in
-        let both = Takes-then bytes (signed w32 a.0.0) a.0.1 (flat_map (spelled pc) b.0.0) b.0.1 s.0 others.0 in
-        (rw (flat_map-cons, ← same) both, ap suc others.1, (rw (← same) s.1, others.2)))
+      (omega (arith, others.0, less), ap suc others.1, λ real.
+        let same = landing-takes pc a.0.0 real.0 in
+        let more = others.2 real.1 in
+        let both = Takes-then bytes (signed w32 a.0.0) a.0.1 (flat_map (spelled pc) b.0.0) b.0.1 s.0 more.0 in
+        (rw (flat_map-cons, ← same) both, (rw (← same) s.1, more.1)))
 
 pub targets-again : (pc : ℕ) (ts : List ℕ) (rest : List ℕ) → AllByRecursion (OffsetFits pc) ts → AllByRecursion (λ t. t < 65535) ts → targets_at pc (length ts) (flat_map (spelled pc) ts ++ rest) ≡ Ok (ts, rest)
 unfolding targets_at
@@ -160,10 +166,15 @@ table-takes pc bytes x fits e =
     let t1 = signed_takes w32 wide32 a.0 b.0.0 b.0.1 t0.rest_fits b.1 in
     let t2 = signed_takes w32 wide32 b.0.1 c.0.0 c.0.1 t1.0.rest_fits c.1 in
     let t3 = signed_takes w32 wide32 c.0.1 d.0.0 d.0.1 t2.0.rest_fits d.1 in
+    let ts = targets-take pc (table_len c.0.0 d.0.0) d.0.1 f.0 t3.0.rest_fits f.1 in
+    let l0 = Takes-shorter bytes (pad pc) a.0 t0 in
+    let l1 = Takes-shorter a.0 (signed w32 b.0.0) b.0.1 t1.0 in
+    let l2 = Takes-shorter b.0.1 (signed w32 c.0.0) c.0.1 t2.0 in
+    let l3 = Takes-shorter c.0.1 (signed w32 d.0.0) d.0.1 t3.0 in
     subst (Reads pc 170 bytes) (ok_is (instruction.TableSwitch (record { low = c.0.0; targets = f.0.0; default = landing pc b.0.0 }), f.0.1) x f.2)
-      (λ real.
-        let t4 = targets-take pc (table_len c.0.0 d.0.0) d.0.1 f.0 t3.0.rest_fits f.1 real.1 in
-        let high : c.0.0 +ℤ pos (length f.0.0) -ℤ pos 1 ≡ d.0.0 = high-is c.0.0 d.0.0 (length f.0.0) (not_under d.0.0 c.0.0 g.0) t4.1 in
+      (record { shorter = omega (arith, l0, l1, l2, l3, ts.0); read = λ real.
+        let t4 = ts.2 real.1 in
+        let high : c.0.0 +ℤ pos (length f.0.0) -ℤ pos 1 ≡ d.0.0 = high-is c.0.0 d.0.0 (length f.0.0) (not_under d.0.0 c.0.0 g.0) ts.1 in
         let same = landing-takes pc b.0.0 real.0 in
         let e3 = Takes-then c.0.1 (signed w32 d.0.0) d.0.1 (flat_map (spelled pc) f.0.0) f.0.1 t3.0 t4.0 in
         let e2 = Takes-then b.0.1 (signed w32 c.0.0) c.0.1 (signed w32 d.0.0 ++ flat_map (spelled pc) f.0.0) f.0.1 t2.0 e3 in
@@ -171,9 +182,9 @@ table-takes pc bytes x fits e =
         let e0 = Takes-then bytes (pad pc) a.0 (signed w32 b.0.0 ++ (signed w32 c.0.0 ++ (signed w32 d.0.0 ++ flat_map (spelled pc) f.0.0))) f.0.1 t0 e1 in
         record {
           takes = rw (high, ← same) e0;
-          fits = record { some = omega (arith, t4.1); low = t2.1; high = rw high t3.1; default = rw (← same) t1.1; targets = t4.2 };
+          fits = record { some = omega (arith, ts.1); low = t2.1; high = rw high t3.1; default = rw (← same) t1.1; targets = t4.1 };
           opcode_is = refl;
-        })
+        } })
 
 append4 : (p q r s t rest : List ℕ) → (p ++ (q ++ (r ++ (s ++ t)))) ++ rest ≡ p ++ (q ++ (r ++ (s ++ (t ++ rest))))
 append4 p q r s t rest = simp append_assoc
@@ -207,7 +218,7 @@ abbrev PairFits : ℕ → ℤ × ℕ → Type 0
 PairFits pc p = FitsSigned w32 p.0 × FitsSigned w32 (offset pc p.1)
 
 abbrev PairsTaken : ℕ → Option ℤ → ℕ → List ℕ → List (ℤ × ℕ) × List ℕ → Type 0
-PairsTaken pc before n bytes x = AllByRecursion (λ t. t < 65535) (map (λ p. p.1) x.0) → Takes bytes (flat_map (pair pc) x.0) x.1 × (length x.0 ≡ n) × AllByRecursion (PairFits pc) x.0 × RisesFrom before x.0
+PairsTaken pc before n bytes x = (length x.1 ≤ length bytes) × (length x.0 ≡ n) × RisesFrom before x.0 × (AllByRecursion (λ t. t < 65535) (map (λ p. p.1) x.0) → Takes bytes (flat_map (pair pc) x.0) x.1 × AllByRecursion (PairFits pc) x.0)
 
 rises_from-cons : (before : Option ℤ) (key : ℤ) (t : ℕ) (ps : List (ℤ × ℕ)) → rises before key ≡ true → AreRisingFrom key ps → RisesFrom before ((key, t) ∷ ps)
 rises_from-cons None key t ps up others = others
@@ -227,7 +238,7 @@ then_else false r d y e = absurd cc
 
 pub pairs-take : (pc : ℕ) (before : Option ℤ) (n : ℕ) (bytes : List ℕ) (x : List (ℤ × ℕ) × List ℕ) → IsBytes bytes → pairs_at pc before n bytes ≡ Ok x → PairsTaken pc before n bytes x
 unfolding pairs_at
-pairs-take pc before zero bytes x fits e = subst (PairsTaken pc before 0 bytes) (ok_is ([], bytes) x e) (λ real. (record { parts = refl; rest_fits = fits }, refl, tt, rises_from-nil before))
+pairs-take pc before zero bytes x fits e = subst (PairsTaken pc before 0 bytes) (ok_is ([], bytes) x e) (omega arith, refl, rises_from-nil before, λ real. (record { parts = refl; rest_fits = fits }, tt))
 pairs-take pc before (suc n) bytes x fits e =
     let a = bind_ok (signed_at w32 bytes) (λ key. cond (rises before key.0) (signed_at w32 key.1 >>= λ z. pairs_at pc (Some key.0) n z.1 >>= λ others. Ok ((key.0, landing pc z.0) ∷ others.0, others.1)) (Err error.Switch)) x e in
     let g = then_else (rises before a.0.0) (signed_at w32 a.0.1 >>= λ z. pairs_at pc (Some a.0.0) n z.1 >>= λ others. Ok ((a.0.0, landing pc z.0) ∷ others.0, others.1)) error.Switch x a.2 in
@@ -235,12 +246,16 @@ pairs-take pc before (suc n) bytes x fits e =
     let c = bind_ok (pairs_at pc (Some a.0.0) n b.0.1) (λ others. Ok ((a.0.0, landing pc b.0.0) ∷ others.0, others.1)) x b.2 in
     let s = signed_takes w32 wide32 bytes a.0.0 a.0.1 fits a.1 in
     let t = signed_takes w32 wide32 a.0.1 b.0.0 b.0.1 s.0.rest_fits b.1 in
+    let others = pairs-take pc (Some a.0.0) n b.0.1 c.0 t.0.rest_fits c.1 in
+    let l0 = Takes-shorter bytes (signed w32 a.0.0) a.0.1 s.0 in
+    let l1 = Takes-shorter a.0.1 (signed w32 b.0.0) b.0.1 t.0 in
     subst (PairsTaken pc before (suc n) bytes) (ok_is ((a.0.0, landing pc b.0.0) ∷ c.0.0, c.0.1) x c.2)
-      (λ real. let same = landing-takes pc b.0.0 real.0 in
-        let others = pairs-take pc (Some a.0.0) n b.0.1 c.0 t.0.rest_fits c.1 real.1 in
+      (omega (arith, l0, l1, others.0), ap suc others.1, rises_from-cons before a.0.0 (landing pc b.0.0) c.0.0 g.0 others.2, λ real.
+        let same = landing-takes pc b.0.0 real.0 in
+        let more = others.3 real.1 in
         let first = Takes-then bytes (signed w32 a.0.0) a.0.1 (signed w32 b.0.0) b.0.1 s.0 t.0 in
-        let both = Takes-then bytes (signed w32 a.0.0 ++ signed w32 b.0.0) b.0.1 (flat_map (pair pc) c.0.0) c.0.1 first others.0 in
-        (rw (flat_map-cons, ← same) both, ap suc others.1, ((s.1, rw (← same) t.1), others.2), rises_from-cons before a.0.0 (landing pc b.0.0) c.0.0 g.0 others.3))
+        let both = Takes-then bytes (signed w32 a.0.0 ++ signed w32 b.0.0) b.0.1 (flat_map (pair pc) c.0.0) c.0.1 first more.0 in
+        (rw (flat_map-cons, ← same) both, ((s.1, rw (← same) t.1), more.1)))
 
 pub pairs-again : (pc : ℕ) (before : Option ℤ) (ps : List (ℤ × ℕ)) (rest : List ℕ) → AllByRecursion (PairFits pc) ps → AllByRecursion (λ t. t < 65535) (map (λ p. p.1) ps) → RisesFrom before ps → pairs_at pc before (length ps) (flat_map (pair pc) ps ++ rest) ≡ Ok (ps, rest)
 unfolding pairs_at
@@ -268,10 +283,14 @@ lookup-takes pc bytes x fits e =
     let t0 = pad-takes (3 - pc % 4) bytes a.0 fits a.1 in
     let t1 = signed_takes w32 wide32 a.0 b.0.0 b.0.1 t0.rest_fits b.1 in
     let t2 = signed_takes w32 wide32 b.0.1 c.0.0 c.0.1 t1.0.rest_fits c.1 in
+    let ps = pairs-take pc None (unsigned_abs c.0.0) c.0.1 f.0 t2.0.rest_fits f.1 in
+    let l0 = Takes-shorter bytes (pad pc) a.0 t0 in
+    let l1 = Takes-shorter a.0 (signed w32 b.0.0) b.0.1 t1.0 in
+    let l2 = Takes-shorter b.0.1 (signed w32 c.0.0) c.0.1 t2.0 in
     subst (Reads pc 171 bytes) (ok_is (instruction.LookupSwitch (record { pairs = f.0.0; default = landing pc b.0.0 }), f.0.1) x f.2)
-      (λ real.
-        let t3 = pairs-take pc None (unsigned_abs c.0.0) c.0.1 f.0 t2.0.rest_fits f.1 real.1 in
-        let count : pos (length f.0.0) ≡ c.0.0 = ap pos t3.1 ∙ abs-of c.0.0 (not_under c.0.0 (pos 0) g.0) in
+      (record { shorter = omega (arith, l0, l1, l2, ps.0); read = λ real.
+        let t3 = ps.3 real.1 in
+        let count : pos (length f.0.0) ≡ c.0.0 = ap pos ps.1 ∙ abs-of c.0.0 (not_under c.0.0 (pos 0) g.0) in
         let same = landing-takes pc b.0.0 real.0 in
         let few : FitsSigned w32 (pos (length f.0.0)) = rw count t2.1 in
         let e2 = Takes-then b.0.1 (signed w32 c.0.0) c.0.1 (flat_map (pair pc) f.0.0) f.0.1 t2.0 t3.0 in
@@ -279,9 +298,9 @@ lookup-takes pc bytes x fits e =
         let e0 = Takes-then bytes (pad pc) a.0 (signed w32 b.0.0 ++ (signed w32 c.0.0 ++ flat_map (pair pc) f.0.0)) f.0.1 t0 e1 in
         record {
           takes = rw (count, ← same) e0;
-          fits = record { few = few.sfits; default = rw (← same) t1.1; pairs = t3.2; rising = t3.3 };
+          fits = record { few = few.sfits; default = rw (← same) t1.1; pairs = t3.1; rising = ps.2 };
           opcode_is = refl;
-        })
+        } })
 
 pub lookup-again : (pc : ℕ) (s : Lookup ℕ) (rest : List ℕ) → LookupFits pc s → Real (instruction.LookupSwitch s) → lookup_at pc (lookup_operands pc s ++ rest) ≡ Ok (instruction.LookupSwitch s, rest)
 unfolding lookup_at
