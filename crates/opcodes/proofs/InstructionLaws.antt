@@ -63,7 +63,7 @@ increment-takes pc bytes x fits e =
     let s = byte_takes bytes a.0.0 a.0.1 fits a.1 in
     let t = signed_takes w8 wide8 a.0.1 b.0.0 b.0.1 s.0.rest_fits b.1 in
     subst (Reads pc 132 bytes) (ok_is (instruction.Local (access.Increment (increment.Byte a.0.0 b.0.0)), b.0.1) x b.2)
-      (always (record { takes = Takes-then bytes (a.0.0 ∷ []) a.0.1 (signed w8 b.0.0) b.0.1 s.0 t.0; fits = (s.1, t.1); opcode_is = refl }))
+    (always (record { takes = Takes-then bytes (a.0.0 ∷ []) a.0.1 (signed w8 b.0.0) b.0.1 s.0 t.0; fits = (s.1, t.1); opcode_is = refl }))
 
 zero-takes : (n count last : ℕ) (rest : List ℕ) (x : Instr × List ℕ) → ends_with_zero n count last rest ≡ Ok x → (last ≡ 0) × (x ≡ (instruction.Invoke (invoke.Interface count) n, rest))
 zero-takes n count zero rest x e = (refl, sym (ok_is (instruction.Invoke (invoke.Interface count) n, rest) x e))
@@ -81,11 +81,11 @@ interface-takes pc bytes x fits e =
     let t = byte_takes b.0.1 c.0.0 c.0.1 s.0.rest_fits c.1 in
     let last : Takes b.0.1 (0 ∷ []) c.0.1 = rw z.0 at t.0 in
     subst (Reads pc 185 bytes) (sym z.1)
-      (always (record {
-        takes = Takes-then bytes (u2 a.0.0) a.0.1 (b.0.0 ∷ 0 ∷ []) c.0.1 r.0 (Takes-then a.0.1 (b.0.0 ∷ []) b.0.1 (0 ∷ []) c.0.1 s.0 last);
-        fits = (r.1, s.1);
-        opcode_is = refl;
-      }))
+    (always (record {
+      takes = Takes-then bytes (u2 a.0.0) a.0.1 (b.0.0 ∷ 0 ∷ []) c.0.1 r.0 (Takes-then a.0.1 (b.0.0 ∷ []) b.0.1 (0 ∷ []) c.0.1 s.0 last);
+      fits = (r.1, s.1);
+      opcode_is = refl;
+    }))
 
 type-takes : (n : ℕ) (p : Option Primitive) (rest : List ℕ) (x : Instr × List ℕ) → entry_at primitives n ≡ p → new_array p rest ≡ Ok x → (type : Primitive) × (primitive_number type ≡ n) × (x ≡ (instruction.Array (array.New type), rest))
 type-takes n None rest x h e = absurd cc
@@ -121,13 +121,13 @@ form-takes pc b (Some (layout.Load k)) bytes x h fits e =
     let s = u2_takes bytes a.0.0 a.0.1 fits a.1 in
     let code = layout_of-takes b (layout.Load k) h in
     subst (WideForm pc b bytes) (ok_is (instruction.Local (access.Load k (local.Wide a.0.0)), a.0.1) x a.2)
-      (record { tail = u2 a.0.0; operands_are = ap (λ c. c ∷ u2 a.0.0) code; takes = s.0; fits = s.1; opcode_is = refl })
+    (record { tail = u2 a.0.0; operands_are = ap (λ c. c ∷ u2 a.0.0) code; takes = s.0; fits = s.1; opcode_is = refl })
 form-takes pc b (Some (layout.Store k)) bytes x h fits e =
     let a = bind_ok (number_at w16 bytes) (λ n. Ok (instruction.Local (access.Store k (local.Wide n.0)), n.1)) x e in
     let s = u2_takes bytes a.0.0 a.0.1 fits a.1 in
     let code = layout_of-takes b (layout.Store k) h in
     subst (WideForm pc b bytes) (ok_is (instruction.Local (access.Store k (local.Wide a.0.0)), a.0.1) x a.2)
-      (record { tail = u2 a.0.0; operands_are = ap (λ c. c ∷ u2 a.0.0) code; takes = s.0; fits = s.1; opcode_is = refl })
+    (record { tail = u2 a.0.0; operands_are = ap (λ c. c ∷ u2 a.0.0) code; takes = s.0; fits = s.1; opcode_is = refl })
 form-takes pc b (Some layout.Increment) bytes x h fits e =
     let a = bind_ok (number_at w16 bytes) (λ n. signed_at w16 n.1 >>= λ z. Ok (instruction.Local (access.Increment (increment.Wide n.0 z.0)), z.1)) x e in
     let c = bind_ok (signed_at w16 a.0.1) (λ z. Ok (instruction.Local (access.Increment (increment.Wide a.0.0 z.0)), z.1)) x a.2 in
@@ -135,7 +135,7 @@ form-takes pc b (Some layout.Increment) bytes x h fits e =
     let t = signed_takes w16 wide16 a.0.1 c.0.0 c.0.1 s.0.rest_fits c.1 in
     let code = layout_of-takes b layout.Increment h in
     subst (WideForm pc b bytes) (ok_is (instruction.Local (access.Increment (increment.Wide a.0.0 c.0.0)), c.0.1) x c.2)
-      (record { tail = u2 a.0.0 ++ signed w16 c.0.0; operands_are = ap (λ d. d ∷ u2 a.0.0 ++ signed w16 c.0.0) code; takes = Takes-then bytes (u2 a.0.0) a.0.1 (signed w16 c.0.0) c.0.1 s.0 t.0; fits = (s.1, t.1); opcode_is = refl })
+    (record { tail = u2 a.0.0 ++ signed w16 c.0.0; operands_are = ap (λ d. d ∷ u2 a.0.0 ++ signed w16 c.0.0) code; takes = Takes-then bytes (u2 a.0.0) a.0.1 (signed w16 c.0.0) c.0.1 s.0 t.0; fits = (s.1, t.1); opcode_is = refl })
 form-takes pc b (Some (layout.Branch t)) bytes x h fits e = absurd cc
 form-takes pc b (Some (layout.Named what)) bytes x h fits e = absurd cc
 form-takes pc b (Some layout.InvokeInterface) bytes x h fits e = absurd cc
@@ -195,7 +195,7 @@ by_opcode-takes pc b None bytes x h fits e = by_layout-takes pc b (layout_of b) 
 by_opcode-takes pc b (Some i) bytes x h fits e =
     let t = bare_of-takes b i h in
     subst (Reads pc b bytes) (ok_is (i, bytes) x e)
-      (always (record { takes = record { parts = rw t.nothing refl; rest_fits = fits }; fits = t.fits pc; opcode_is = t.opcode_is }))
+    (always (record { takes = record { parts = rw t.nothing refl; rest_fits = fits }; fits = t.fits pc; opcode_is = t.opcode_is }))
 
 -- an instruction and what is behind it are the bytes
 pub record IsFront (pc : ℕ) (i : Instr) (bytes rest : List ℕ) : Type 0 where
@@ -216,9 +216,9 @@ instruction-takes pc bytes i rest fits e =
     record {
       shorter = let less = r.shorter in omega arith;
       front = λ real.
-        let read = r.read real in
-        let both = Takes-then bytes (a.0.0 ∷ []) a.0.1 (operands pc i) rest s.0 read.takes in
-        record { parts = rw read.opcode_is both.parts; fits = read.fits };
+          let read = r.read real in
+          let both = Takes-then bytes (a.0.0 ∷ []) a.0.1 (operands pc i) rest s.0 read.takes in
+          record { parts = rw read.opcode_is both.parts; fits = read.fits };
     }
 
 -- ---- what is spelled so is read again

@@ -65,10 +65,10 @@ branch-takes pc t bytes x fits e =
     let a = bind_ok (signed_at (branch_width t) bytes) (λ z. Ok (instruction.Branch t (landing pc z.0), z.1)) x e in
     let s = signed_takes (branch_width t) (branch_wide t) bytes a.0.0 a.0.1 fits a.1 in
     subst (Reads pc (branch_opcode t) bytes) (ok_is (instruction.Branch t (landing pc a.0.0), a.0.1) x a.2)
-      (record {
-        shorter = Takes-shorter bytes (signed (branch_width t) a.0.0) a.0.1 s.0;
-        read = λ real. let same = landing-takes pc a.0.0 real.0 in record { takes = rw (← same) s.0; fits = rw (← same) s.1; opcode_is = refl };
-      })
+    (record {
+      shorter = Takes-shorter bytes (signed (branch_width t) a.0.0) a.0.1 s.0;
+      read = λ real. let same = landing-takes pc a.0.0 real.0 in record { takes = rw (← same) s.0; fits = rw (← same) s.1; opcode_is = refl };
+    })
 
 pub branch-again : (pc : ℕ) (t : Test) (target : ℕ) (rest : List ℕ) → FitsSigned (branch_width t) (offset pc target) → target < 65535 → branch_at pc t (signed (branch_width t) (offset pc target) ++ rest) ≡ Ok (instruction.Branch t target, rest)
 unfolding branch_at
@@ -110,12 +110,15 @@ targets-take pc (suc n) bytes x fits e =
     let s = signed_takes w32 wide32 bytes a.0.0 a.0.1 fits a.1 in
     let others = targets-take pc n a.0.1 b.0 s.0.rest_fits b.1 in
     let less = Takes-shorter bytes (signed w32 a.0.0) a.0.1 s.0 in
-    subst (TargetsTaken pc (suc n) bytes) (ok_is (landing pc a.0.0 ∷ b.0.0, b.0.1) x b.2)
-      (omega (arith, others.0, less), ap suc others.1, λ real.
-        let same = landing-takes pc a.0.0 real.0 in
-        let more = others.2 real.1 in
-        let both = Takes-then bytes (signed w32 a.0.0) a.0.1 (flat_map (spelled pc) b.0.0) b.0.1 s.0 more.0 in
-        (rw (flat_map-cons, ← same) both, (rw (← same) s.1, more.1)))
+    subst (TargetsTaken pc (suc n) bytes) (ok_is (landing pc a.0.0 ∷ b.0.0, b.0.1) x b.2) (
+      omega (arith, others.0, less),
+      ap suc others.1,
+      λ real.
+          let same = landing-takes pc a.0.0 real.0 in
+          let more = others.2 real.1 in
+          let both = Takes-then bytes (signed w32 a.0.0) a.0.1 (flat_map (spelled pc) b.0.0) b.0.1 s.0 more.0 in
+          (rw (flat_map-cons, ← same) both, (rw (← same) s.1, more.1)),
+    )
 
 pub targets-again : (pc : ℕ) (ts : List ℕ) (rest : List ℕ) → AllByRecursion (OffsetFits pc) ts → AllByRecursion (λ t. t < 65535) ts → targets_at pc (length ts) (flat_map (spelled pc) ts ++ rest) ≡ Ok (ts, rest)
 unfolding targets_at
@@ -172,19 +175,22 @@ table-takes pc bytes x fits e =
     let l2 = Takes-shorter b.0.1 (signed w32 c.0.0) c.0.1 t2.0 in
     let l3 = Takes-shorter c.0.1 (signed w32 d.0.0) d.0.1 t3.0 in
     subst (Reads pc 170 bytes) (ok_is (instruction.TableSwitch (record { low = c.0.0; targets = f.0.0; default = landing pc b.0.0 }), f.0.1) x f.2)
-      (record { shorter = omega (arith, l0, l1, l2, l3, ts.0); read = λ real.
-        let t4 = ts.2 real.1 in
-        let high : c.0.0 +ℤ pos (length f.0.0) -ℤ pos 1 ≡ d.0.0 = high-is c.0.0 d.0.0 (length f.0.0) (not_under d.0.0 c.0.0 g.0) ts.1 in
-        let same = landing-takes pc b.0.0 real.0 in
-        let e3 = Takes-then c.0.1 (signed w32 d.0.0) d.0.1 (flat_map (spelled pc) f.0.0) f.0.1 t3.0 t4.0 in
-        let e2 = Takes-then b.0.1 (signed w32 c.0.0) c.0.1 (signed w32 d.0.0 ++ flat_map (spelled pc) f.0.0) f.0.1 t2.0 e3 in
-        let e1 = Takes-then a.0 (signed w32 b.0.0) b.0.1 (signed w32 c.0.0 ++ (signed w32 d.0.0 ++ flat_map (spelled pc) f.0.0)) f.0.1 t1.0 e2 in
-        let e0 = Takes-then bytes (pad pc) a.0 (signed w32 b.0.0 ++ (signed w32 c.0.0 ++ (signed w32 d.0.0 ++ flat_map (spelled pc) f.0.0))) f.0.1 t0 e1 in
-        record {
-          takes = rw (high, ← same) e0;
-          fits = record { some = omega (arith, ts.1); low = t2.1; high = rw high t3.1; default = rw (← same) t1.1; targets = t4.1 };
-          opcode_is = refl;
-        } })
+    (record {
+      shorter = omega (arith, l0, l1, l2, l3, ts.0);
+      read = λ real.
+          let t4 = ts.2 real.1 in
+          let high : c.0.0 +ℤ pos (length f.0.0) -ℤ pos 1 ≡ d.0.0 = high-is c.0.0 d.0.0 (length f.0.0) (not_under d.0.0 c.0.0 g.0) ts.1 in
+          let same = landing-takes pc b.0.0 real.0 in
+          let e3 = Takes-then c.0.1 (signed w32 d.0.0) d.0.1 (flat_map (spelled pc) f.0.0) f.0.1 t3.0 t4.0 in
+          let e2 = Takes-then b.0.1 (signed w32 c.0.0) c.0.1 (signed w32 d.0.0 ++ flat_map (spelled pc) f.0.0) f.0.1 t2.0 e3 in
+          let e1 = Takes-then a.0 (signed w32 b.0.0) b.0.1 (signed w32 c.0.0 ++ (signed w32 d.0.0 ++ flat_map (spelled pc) f.0.0)) f.0.1 t1.0 e2 in
+          let e0 = Takes-then bytes (pad pc) a.0 (signed w32 b.0.0 ++ (signed w32 c.0.0 ++ (signed w32 d.0.0 ++ flat_map (spelled pc) f.0.0))) f.0.1 t0 e1 in
+          record {
+            takes = rw (high, ← same) e0;
+            fits = record { some = omega (arith, ts.1); low = t2.1; high = rw high t3.1; default = rw (← same) t1.1; targets = t4.1 };
+            opcode_is = refl;
+          };
+    })
 
 append4 : (p q r s t rest : List ℕ) → (p ++ (q ++ (r ++ (s ++ t)))) ++ rest ≡ p ++ (q ++ (r ++ (s ++ (t ++ rest))))
 append4 p q r s t rest = simp append_assoc
@@ -202,8 +208,11 @@ table-again pc s rest fits real =
       signed_again w32 wide32 (offset pc s.default) (signed w32 s.low ++ (signed w32 (table_high s) ++ (flat_map (spelled pc) s.targets ++ rest))) fits.default,
       signed_again w32 wide32 s.low (signed w32 (table_high s) ++ (flat_map (spelled pc) s.targets ++ rest)) fits.low,
       signed_again w32 wide32 (table_high s) (flat_map (spelled pc) s.targets ++ rest) fits.high,
-      le, len-is s.low (length s.targets) fits.some,
-      targets-again pc s.targets rest fits.targets real.1, landing-again pc s.default real.0) refl
+      le,
+      len-is s.low (length s.targets) fits.some,
+      targets-again pc s.targets rest fits.targets real.1,
+      landing-again pc s.default real.0,
+    ) refl
 
 -- ---- lookupswitch
 
@@ -249,13 +258,17 @@ pairs-take pc before (suc n) bytes x fits e =
     let others = pairs-take pc (Some a.0.0) n b.0.1 c.0 t.0.rest_fits c.1 in
     let l0 = Takes-shorter bytes (signed w32 a.0.0) a.0.1 s.0 in
     let l1 = Takes-shorter a.0.1 (signed w32 b.0.0) b.0.1 t.0 in
-    subst (PairsTaken pc before (suc n) bytes) (ok_is ((a.0.0, landing pc b.0.0) ∷ c.0.0, c.0.1) x c.2)
-      (omega (arith, l0, l1, others.0), ap suc others.1, rises_from-cons before a.0.0 (landing pc b.0.0) c.0.0 g.0 others.2, λ real.
-        let same = landing-takes pc b.0.0 real.0 in
-        let more = others.3 real.1 in
-        let first = Takes-then bytes (signed w32 a.0.0) a.0.1 (signed w32 b.0.0) b.0.1 s.0 t.0 in
-        let both = Takes-then bytes (signed w32 a.0.0 ++ signed w32 b.0.0) b.0.1 (flat_map (pair pc) c.0.0) c.0.1 first more.0 in
-        (rw (flat_map-cons, ← same) both, ((s.1, rw (← same) t.1), more.1)))
+    subst (PairsTaken pc before (suc n) bytes) (ok_is ((a.0.0, landing pc b.0.0) ∷ c.0.0, c.0.1) x c.2) (
+      omega (arith, l0, l1, others.0),
+      ap suc others.1,
+      rises_from-cons before a.0.0 (landing pc b.0.0) c.0.0 g.0 others.2,
+      λ real.
+          let same = landing-takes pc b.0.0 real.0 in
+          let more = others.3 real.1 in
+          let first = Takes-then bytes (signed w32 a.0.0) a.0.1 (signed w32 b.0.0) b.0.1 s.0 t.0 in
+          let both = Takes-then bytes (signed w32 a.0.0 ++ signed w32 b.0.0) b.0.1 (flat_map (pair pc) c.0.0) c.0.1 first more.0 in
+          (rw (flat_map-cons, ← same) both, ((s.1, rw (← same) t.1), more.1)),
+    )
 
 pub pairs-again : (pc : ℕ) (before : Option ℤ) (ps : List (ℤ × ℕ)) (rest : List ℕ) → AllByRecursion (PairFits pc) ps → AllByRecursion (λ t. t < 65535) (map (λ p. p.1) ps) → RisesFrom before ps → pairs_at pc before (length ps) (flat_map (pair pc) ps ++ rest) ≡ Ok (ps, rest)
 unfolding pairs_at
@@ -264,9 +277,12 @@ pairs-again pc before (p ∷ ps) rest fits real up =
     let h = rises_from-head before p ps up in
     let regrouped : flat_map (pair pc) (p ∷ ps) ++ rest ≡ signed w32 p.0 ++ (signed w32 (offset pc p.1) ++ (flat_map (pair pc) ps ++ rest)) = ap (λ (x : List ℕ). x ++ rest) (flat_map-cons (pair pc) p ps) ∙ append_assoc (pair pc p) (flat_map (pair pc) ps) rest ∙ append_assoc (signed w32 p.0) (signed w32 (offset pc p.1)) (flat_map (pair pc) ps ++ rest) in
     ap (pairs_at pc before (suc (length ps))) regrouped ∙ rw (
-      signed_again w32 wide32 p.0 (signed w32 (offset pc p.1) ++ (flat_map (pair pc) ps ++ rest)) fits.0.0, h.0,
+      signed_again w32 wide32 p.0 (signed w32 (offset pc p.1) ++ (flat_map (pair pc) ps ++ rest)) fits.0.0,
+      h.0,
       signed_again w32 wide32 (offset pc p.1) (flat_map (pair pc) ps ++ rest) fits.0.1,
-      pairs-again pc (Some p.0) ps rest fits.1 real.1 h.1, landing-again pc p.1 real.0) refl
+      pairs-again pc (Some p.0) ps rest fits.1 real.1 h.1,
+      landing-again pc p.1 real.0,
+    ) refl
 
 count_fits : (n : ℕ) → n < 2 ^ 31 → FitsSigned w32 (pos n)
 count_fits n lt = record { sfits = lt }
@@ -288,19 +304,22 @@ lookup-takes pc bytes x fits e =
     let l1 = Takes-shorter a.0 (signed w32 b.0.0) b.0.1 t1.0 in
     let l2 = Takes-shorter b.0.1 (signed w32 c.0.0) c.0.1 t2.0 in
     subst (Reads pc 171 bytes) (ok_is (instruction.LookupSwitch (record { pairs = f.0.0; default = landing pc b.0.0 }), f.0.1) x f.2)
-      (record { shorter = omega (arith, l0, l1, l2, ps.0); read = λ real.
-        let t3 = ps.3 real.1 in
-        let count : pos (length f.0.0) ≡ c.0.0 = ap pos ps.1 ∙ abs-of c.0.0 (not_under c.0.0 (pos 0) g.0) in
-        let same = landing-takes pc b.0.0 real.0 in
-        let few : FitsSigned w32 (pos (length f.0.0)) = rw count t2.1 in
-        let e2 = Takes-then b.0.1 (signed w32 c.0.0) c.0.1 (flat_map (pair pc) f.0.0) f.0.1 t2.0 t3.0 in
-        let e1 = Takes-then a.0 (signed w32 b.0.0) b.0.1 (signed w32 c.0.0 ++ flat_map (pair pc) f.0.0) f.0.1 t1.0 e2 in
-        let e0 = Takes-then bytes (pad pc) a.0 (signed w32 b.0.0 ++ (signed w32 c.0.0 ++ flat_map (pair pc) f.0.0)) f.0.1 t0 e1 in
-        record {
-          takes = rw (count, ← same) e0;
-          fits = record { few = few.sfits; default = rw (← same) t1.1; pairs = t3.1; rising = ps.2 };
-          opcode_is = refl;
-        } })
+    (record {
+      shorter = omega (arith, l0, l1, l2, ps.0);
+      read = λ real.
+          let t3 = ps.3 real.1 in
+          let count : pos (length f.0.0) ≡ c.0.0 = ap pos ps.1 ∙ abs-of c.0.0 (not_under c.0.0 (pos 0) g.0) in
+          let same = landing-takes pc b.0.0 real.0 in
+          let few : FitsSigned w32 (pos (length f.0.0)) = rw count t2.1 in
+          let e2 = Takes-then b.0.1 (signed w32 c.0.0) c.0.1 (flat_map (pair pc) f.0.0) f.0.1 t2.0 t3.0 in
+          let e1 = Takes-then a.0 (signed w32 b.0.0) b.0.1 (signed w32 c.0.0 ++ flat_map (pair pc) f.0.0) f.0.1 t1.0 e2 in
+          let e0 = Takes-then bytes (pad pc) a.0 (signed w32 b.0.0 ++ (signed w32 c.0.0 ++ flat_map (pair pc) f.0.0)) f.0.1 t0 e1 in
+          record {
+            takes = rw (count, ← same) e0;
+            fits = record { few = few.sfits; default = rw (← same) t1.1; pairs = t3.1; rising = ps.2 };
+            opcode_is = refl;
+          };
+    })
 
 pub lookup-again : (pc : ℕ) (s : Lookup ℕ) (rest : List ℕ) → LookupFits pc s → Real (instruction.LookupSwitch s) → lookup_at pc (lookup_operands pc s ++ rest) ≡ Ok (instruction.LookupSwitch s, rest)
 unfolding lookup_at
@@ -311,5 +330,8 @@ lookup-again pc s rest fits real =
     ap (lookup_at pc) regrouped ∙ rw (
       pad-again (3 - pc % 4) (spelled pc s.default ++ (signed w32 n ++ (flat_map (pair pc) s.pairs ++ rest))),
       signed_again w32 wide32 (offset pc s.default) (signed w32 n ++ (flat_map (pair pc) s.pairs ++ rest)) fits.default,
-      signed_again w32 wide32 n (flat_map (pair pc) s.pairs ++ rest) (count_fits (length s.pairs) fits.few), le,
-      pairs-again pc None s.pairs rest fits.pairs real.1 fits.rising, landing-again pc s.default real.0) refl
+      signed_again w32 wide32 n (flat_map (pair pc) s.pairs ++ rest) (count_fits (length s.pairs) fits.few),
+      le,
+      pairs-again pc None s.pairs rest fits.pairs real.1 fits.rising,
+      landing-again pc s.default real.0,
+    ) refl

@@ -79,107 +79,286 @@ abbrev bare : {b : ℕ} {i : Instr} → opcode i ≡ b → ((pc : ℕ) → opera
 bare e n f = record { opcode_is = e; nothing = n; fits = f }
 
 constants_and_loads-bare : Each IsBare constants_and_loads
-constants_and_loads-bare =
-  (record { opcode_is = refl; nothing = λ pc. refl; fits = λ pc. tt },
-  (record { opcode_is = refl; nothing = λ pc. refl; fits = λ pc. tt },
-  (record { opcode_is = refl; nothing = λ pc. refl; fits = λ pc. tt },
-  (record { opcode_is = refl; nothing = λ pc. refl; fits = λ pc. tt },
-  (record { opcode_is = refl; nothing = λ pc. refl; fits = λ pc. tt },
-  (record { opcode_is = refl; nothing = λ pc. refl; fits = λ pc. tt },
-  (record { opcode_is = refl; nothing = λ pc. refl; fits = λ pc. tt },
-  (record { opcode_is = refl; nothing = λ pc. refl; fits = λ pc. tt },
-  (record { opcode_is = refl; nothing = λ pc. refl; fits = λ pc. tt },
-  (record { opcode_is = refl; nothing = λ pc. refl; fits = λ pc. tt },
-  (record { opcode_is = refl; nothing = λ pc. refl; fits = λ pc. tt },
-  (record { opcode_is = refl; nothing = λ pc. refl; fits = λ pc. tt },
-  (record { opcode_is = refl; nothing = λ pc. refl; fits = λ pc. tt },
-  (record { opcode_is = refl; nothing = λ pc. refl; fits = λ pc. tt },
-  (record { opcode_is = refl; nothing = λ pc. refl; fits = λ pc. tt },
-  (record { opcode_is = refl; nothing = λ pc. refl; fits = λ pc. tt },
-  (record { opcode_is = refl; nothing = λ pc. refl; fits = λ pc. tt },
-  (record { opcode_is = refl; nothing = λ pc. refl; fits = λ pc. tt },
-  (record { opcode_is = refl; nothing = λ pc. refl; fits = λ pc. tt },
-  (record { opcode_is = refl; nothing = λ pc. refl; fits = λ pc. tt },
-  (record { opcode_is = refl; nothing = λ pc. refl; fits = λ pc. tt },
-  (record { opcode_is = refl; nothing = λ pc. refl; fits = λ pc. tt },
-  (record { opcode_is = refl; nothing = λ pc. refl; fits = λ pc. tt },
-  (record { opcode_is = refl; nothing = λ pc. refl; fits = λ pc. tt },
-  (record { opcode_is = refl; nothing = λ pc. refl; fits = λ pc. tt },
-  (record { opcode_is = refl; nothing = λ pc. refl; fits = λ pc. tt },
-  (record { opcode_is = refl; nothing = λ pc. refl; fits = λ pc. tt },
-  (record { opcode_is = refl; nothing = λ pc. refl; fits = λ pc. tt },
-  (record { opcode_is = refl; nothing = λ pc. refl; fits = λ pc. tt }, tt)))))))))))))))))))))))))))))
+constants_and_loads-bare = (
+  record { opcode_is = refl; nothing = λ pc. refl; fits = λ pc. tt },
+  (
+    record { opcode_is = refl; nothing = λ pc. refl; fits = λ pc. tt },
+    (
+      record { opcode_is = refl; nothing = λ pc. refl; fits = λ pc. tt },
+      (
+        record { opcode_is = refl; nothing = λ pc. refl; fits = λ pc. tt },
+        (
+          record { opcode_is = refl; nothing = λ pc. refl; fits = λ pc. tt },
+          (
+            record { opcode_is = refl; nothing = λ pc. refl; fits = λ pc. tt },
+            (
+              record { opcode_is = refl; nothing = λ pc. refl; fits = λ pc. tt },
+              (
+                record { opcode_is = refl; nothing = λ pc. refl; fits = λ pc. tt },
+                (
+                  record { opcode_is = refl; nothing = λ pc. refl; fits = λ pc. tt },
+                  (
+                    record { opcode_is = refl; nothing = λ pc. refl; fits = λ pc. tt },
+                    (
+                      record { opcode_is = refl; nothing = λ pc. refl; fits = λ pc. tt },
+                      (
+                        record { opcode_is = refl; nothing = λ pc. refl; fits = λ pc. tt },
+                        (
+                          record { opcode_is = refl; nothing = λ pc. refl; fits = λ pc. tt },
+                          (
+                            record { opcode_is = refl; nothing = λ pc. refl; fits = λ pc. tt },
+                            (
+                              record { opcode_is = refl; nothing = λ pc. refl; fits = λ pc. tt },
+                              (
+                                record { opcode_is = refl; nothing = λ pc. refl; fits = λ pc. tt },
+                                (
+                                  record { opcode_is = refl; nothing = λ pc. refl; fits = λ pc. tt },
+                                  (
+                                    record { opcode_is = refl; nothing = λ pc. refl; fits = λ pc. tt },
+                                    (
+                                      record { opcode_is = refl; nothing = λ pc. refl; fits = λ pc. tt },
+                                      (
+                                        record { opcode_is = refl; nothing = λ pc. refl; fits = λ pc. tt },
+                                        (
+                                          record { opcode_is = refl; nothing = λ pc. refl; fits = λ pc. tt },
+                                          (
+                                            record { opcode_is = refl; nothing = λ pc. refl; fits = λ pc. tt },
+                                            (
+                                              record { opcode_is = refl; nothing = λ pc. refl; fits = λ pc. tt },
+                                              (
+                                                record { opcode_is = refl; nothing = λ pc. refl; fits = λ pc. tt },
+                                                (
+                                                  record { opcode_is = refl; nothing = λ pc. refl; fits = λ pc. tt },
+                                                  (
+                                                    record { opcode_is = refl; nothing = λ pc. refl; fits = λ pc. tt },
+                                                    (
+                                                      record { opcode_is = refl; nothing = λ pc. refl; fits = λ pc. tt },
+                                                      (
+                                                        record { opcode_is = refl; nothing = λ pc. refl; fits = λ pc. tt },
+                                                        (record { opcode_is = refl; nothing = λ pc. refl; fits = λ pc. tt }, tt),
+                                                      ),
+                                                    ),
+                                                  ),
+                                                ),
+                                              ),
+                                            ),
+                                          ),
+                                        ),
+                                      ),
+                                    ),
+                                  ),
+                                ),
+                              ),
+                            ),
+                          ),
+                        ),
+                      ),
+                    ),
+                  ),
+                ),
+              ),
+            ),
+          ),
+        ),
+      ),
+    ),
+  ),
+)
 
 stores_and_stack-bare : Each IsBare stores_and_stack
-stores_and_stack-bare =
-  (record { opcode_is = refl; nothing = λ pc. refl; fits = λ pc. tt },
-  (record { opcode_is = refl; nothing = λ pc. refl; fits = λ pc. tt },
-  (record { opcode_is = refl; nothing = λ pc. refl; fits = λ pc. tt },
-  (record { opcode_is = refl; nothing = λ pc. refl; fits = λ pc. tt },
-  (record { opcode_is = refl; nothing = λ pc. refl; fits = λ pc. tt },
-  (record { opcode_is = refl; nothing = λ pc. refl; fits = λ pc. tt },
-  (record { opcode_is = refl; nothing = λ pc. refl; fits = λ pc. tt },
-  (record { opcode_is = refl; nothing = λ pc. refl; fits = λ pc. tt },
-  (record { opcode_is = refl; nothing = λ pc. refl; fits = λ pc. tt },
-  (record { opcode_is = refl; nothing = λ pc. refl; fits = λ pc. tt },
-  (record { opcode_is = refl; nothing = λ pc. refl; fits = λ pc. tt },
-  (record { opcode_is = refl; nothing = λ pc. refl; fits = λ pc. tt },
-  (record { opcode_is = refl; nothing = λ pc. refl; fits = λ pc. tt },
-  (record { opcode_is = refl; nothing = λ pc. refl; fits = λ pc. tt },
-  (record { opcode_is = refl; nothing = λ pc. refl; fits = λ pc. tt },
-  (record { opcode_is = refl; nothing = λ pc. refl; fits = λ pc. tt },
-  (record { opcode_is = refl; nothing = λ pc. refl; fits = λ pc. tt },
-  (record { opcode_is = refl; nothing = λ pc. refl; fits = λ pc. tt },
-  (record { opcode_is = refl; nothing = λ pc. refl; fits = λ pc. tt },
-  (record { opcode_is = refl; nothing = λ pc. refl; fits = λ pc. tt },
-  (record { opcode_is = refl; nothing = λ pc. refl; fits = λ pc. tt },
-  (record { opcode_is = refl; nothing = λ pc. refl; fits = λ pc. tt },
-  (record { opcode_is = refl; nothing = λ pc. refl; fits = λ pc. tt },
-  (record { opcode_is = refl; nothing = λ pc. refl; fits = λ pc. tt },
-  (record { opcode_is = refl; nothing = λ pc. refl; fits = λ pc. tt },
-  (record { opcode_is = refl; nothing = λ pc. refl; fits = λ pc. tt },
-  (record { opcode_is = refl; nothing = λ pc. refl; fits = λ pc. tt }, tt)))))))))))))))))))))))))))
+stores_and_stack-bare = (
+  record { opcode_is = refl; nothing = λ pc. refl; fits = λ pc. tt },
+  (
+    record { opcode_is = refl; nothing = λ pc. refl; fits = λ pc. tt },
+    (
+      record { opcode_is = refl; nothing = λ pc. refl; fits = λ pc. tt },
+      (
+        record { opcode_is = refl; nothing = λ pc. refl; fits = λ pc. tt },
+        (
+          record { opcode_is = refl; nothing = λ pc. refl; fits = λ pc. tt },
+          (
+            record { opcode_is = refl; nothing = λ pc. refl; fits = λ pc. tt },
+            (
+              record { opcode_is = refl; nothing = λ pc. refl; fits = λ pc. tt },
+              (
+                record { opcode_is = refl; nothing = λ pc. refl; fits = λ pc. tt },
+                (
+                  record { opcode_is = refl; nothing = λ pc. refl; fits = λ pc. tt },
+                  (
+                    record { opcode_is = refl; nothing = λ pc. refl; fits = λ pc. tt },
+                    (
+                      record { opcode_is = refl; nothing = λ pc. refl; fits = λ pc. tt },
+                      (
+                        record { opcode_is = refl; nothing = λ pc. refl; fits = λ pc. tt },
+                        (
+                          record { opcode_is = refl; nothing = λ pc. refl; fits = λ pc. tt },
+                          (
+                            record { opcode_is = refl; nothing = λ pc. refl; fits = λ pc. tt },
+                            (
+                              record { opcode_is = refl; nothing = λ pc. refl; fits = λ pc. tt },
+                              (
+                                record { opcode_is = refl; nothing = λ pc. refl; fits = λ pc. tt },
+                                (
+                                  record { opcode_is = refl; nothing = λ pc. refl; fits = λ pc. tt },
+                                  (
+                                    record { opcode_is = refl; nothing = λ pc. refl; fits = λ pc. tt },
+                                    (
+                                      record { opcode_is = refl; nothing = λ pc. refl; fits = λ pc. tt },
+                                      (
+                                        record { opcode_is = refl; nothing = λ pc. refl; fits = λ pc. tt },
+                                        (
+                                          record { opcode_is = refl; nothing = λ pc. refl; fits = λ pc. tt },
+                                          (
+                                            record { opcode_is = refl; nothing = λ pc. refl; fits = λ pc. tt },
+                                            (
+                                              record { opcode_is = refl; nothing = λ pc. refl; fits = λ pc. tt },
+                                              (
+                                                record { opcode_is = refl; nothing = λ pc. refl; fits = λ pc. tt },
+                                                (
+                                                  record { opcode_is = refl; nothing = λ pc. refl; fits = λ pc. tt },
+                                                  (
+                                                    record { opcode_is = refl; nothing = λ pc. refl; fits = λ pc. tt },
+                                                    (record { opcode_is = refl; nothing = λ pc. refl; fits = λ pc. tt }, tt),
+                                                  ),
+                                                ),
+                                              ),
+                                            ),
+                                          ),
+                                        ),
+                                      ),
+                                    ),
+                                  ),
+                                ),
+                              ),
+                            ),
+                          ),
+                        ),
+                      ),
+                    ),
+                  ),
+                ),
+              ),
+            ),
+          ),
+        ),
+      ),
+    ),
+  ),
+)
 
 numbers_and_returns-bare : Each IsBare numbers_and_returns
-numbers_and_returns-bare =
-  (record { opcode_is = refl; nothing = λ pc. refl; fits = λ pc. tt },
-  (record { opcode_is = refl; nothing = λ pc. refl; fits = λ pc. tt },
-  (record { opcode_is = refl; nothing = λ pc. refl; fits = λ pc. tt },
-  (record { opcode_is = refl; nothing = λ pc. refl; fits = λ pc. tt },
-  (record { opcode_is = refl; nothing = λ pc. refl; fits = λ pc. tt },
-  (record { opcode_is = refl; nothing = λ pc. refl; fits = λ pc. tt },
-  (record { opcode_is = refl; nothing = λ pc. refl; fits = λ pc. tt },
-  (record { opcode_is = refl; nothing = λ pc. refl; fits = λ pc. tt },
-  (record { opcode_is = refl; nothing = λ pc. refl; fits = λ pc. tt },
-  (record { opcode_is = refl; nothing = λ pc. refl; fits = λ pc. tt },
-  (record { opcode_is = refl; nothing = λ pc. refl; fits = λ pc. tt },
-  (record { opcode_is = refl; nothing = λ pc. refl; fits = λ pc. tt },
-  (record { opcode_is = refl; nothing = λ pc. refl; fits = λ pc. tt },
-  (record { opcode_is = refl; nothing = λ pc. refl; fits = λ pc. tt },
-  (record { opcode_is = refl; nothing = λ pc. refl; fits = λ pc. tt },
-  (record { opcode_is = refl; nothing = λ pc. refl; fits = λ pc. tt },
-  (record { opcode_is = refl; nothing = λ pc. refl; fits = λ pc. tt },
-  (record { opcode_is = refl; nothing = λ pc. refl; fits = λ pc. tt },
-  (record { opcode_is = refl; nothing = λ pc. refl; fits = λ pc. tt },
-  (record { opcode_is = refl; nothing = λ pc. refl; fits = λ pc. tt },
-  (record { opcode_is = refl; nothing = λ pc. refl; fits = λ pc. tt },
-  (record { opcode_is = refl; nothing = λ pc. refl; fits = λ pc. tt },
-  (record { opcode_is = refl; nothing = λ pc. refl; fits = λ pc. tt },
-  (record { opcode_is = refl; nothing = λ pc. refl; fits = λ pc. tt },
-  (record { opcode_is = refl; nothing = λ pc. refl; fits = λ pc. tt },
-  (record { opcode_is = refl; nothing = λ pc. refl; fits = λ pc. tt },
-  (record { opcode_is = refl; nothing = λ pc. refl; fits = λ pc. tt },
-  (record { opcode_is = refl; nothing = λ pc. refl; fits = λ pc. tt },
-  (record { opcode_is = refl; nothing = λ pc. refl; fits = λ pc. tt },
-  (record { opcode_is = refl; nothing = λ pc. refl; fits = λ pc. tt },
-  (record { opcode_is = refl; nothing = λ pc. refl; fits = λ pc. tt },
-  (record { opcode_is = refl; nothing = λ pc. refl; fits = λ pc. tt },
-  (record { opcode_is = refl; nothing = λ pc. refl; fits = λ pc. tt },
-  (record { opcode_is = refl; nothing = λ pc. refl; fits = λ pc. tt },
-  (record { opcode_is = refl; nothing = λ pc. refl; fits = λ pc. tt },
-  (record { opcode_is = refl; nothing = λ pc. refl; fits = λ pc. tt },
-  (record { opcode_is = refl; nothing = λ pc. refl; fits = λ pc. tt },
-  (record { opcode_is = refl; nothing = λ pc. refl; fits = λ pc. tt }, tt))))))))))))))))))))))))))))))))))))))
+numbers_and_returns-bare = (
+  record { opcode_is = refl; nothing = λ pc. refl; fits = λ pc. tt },
+  (
+    record { opcode_is = refl; nothing = λ pc. refl; fits = λ pc. tt },
+    (
+      record { opcode_is = refl; nothing = λ pc. refl; fits = λ pc. tt },
+      (
+        record { opcode_is = refl; nothing = λ pc. refl; fits = λ pc. tt },
+        (
+          record { opcode_is = refl; nothing = λ pc. refl; fits = λ pc. tt },
+          (
+            record { opcode_is = refl; nothing = λ pc. refl; fits = λ pc. tt },
+            (
+              record { opcode_is = refl; nothing = λ pc. refl; fits = λ pc. tt },
+              (
+                record { opcode_is = refl; nothing = λ pc. refl; fits = λ pc. tt },
+                (
+                  record { opcode_is = refl; nothing = λ pc. refl; fits = λ pc. tt },
+                  (
+                    record { opcode_is = refl; nothing = λ pc. refl; fits = λ pc. tt },
+                    (
+                      record { opcode_is = refl; nothing = λ pc. refl; fits = λ pc. tt },
+                      (
+                        record { opcode_is = refl; nothing = λ pc. refl; fits = λ pc. tt },
+                        (
+                          record { opcode_is = refl; nothing = λ pc. refl; fits = λ pc. tt },
+                          (
+                            record { opcode_is = refl; nothing = λ pc. refl; fits = λ pc. tt },
+                            (
+                              record { opcode_is = refl; nothing = λ pc. refl; fits = λ pc. tt },
+                              (
+                                record { opcode_is = refl; nothing = λ pc. refl; fits = λ pc. tt },
+                                (
+                                  record { opcode_is = refl; nothing = λ pc. refl; fits = λ pc. tt },
+                                  (
+                                    record { opcode_is = refl; nothing = λ pc. refl; fits = λ pc. tt },
+                                    (
+                                      record { opcode_is = refl; nothing = λ pc. refl; fits = λ pc. tt },
+                                      (
+                                        record { opcode_is = refl; nothing = λ pc. refl; fits = λ pc. tt },
+                                        (
+                                          record { opcode_is = refl; nothing = λ pc. refl; fits = λ pc. tt },
+                                          (
+                                            record { opcode_is = refl; nothing = λ pc. refl; fits = λ pc. tt },
+                                            (
+                                              record { opcode_is = refl; nothing = λ pc. refl; fits = λ pc. tt },
+                                              (
+                                                record { opcode_is = refl; nothing = λ pc. refl; fits = λ pc. tt },
+                                                (
+                                                  record { opcode_is = refl; nothing = λ pc. refl; fits = λ pc. tt },
+                                                  (
+                                                    record { opcode_is = refl; nothing = λ pc. refl; fits = λ pc. tt },
+                                                    (
+                                                      record { opcode_is = refl; nothing = λ pc. refl; fits = λ pc. tt },
+                                                      (
+                                                        record { opcode_is = refl; nothing = λ pc. refl; fits = λ pc. tt },
+                                                        (
+                                                          record { opcode_is = refl; nothing = λ pc. refl; fits = λ pc. tt },
+                                                          (
+                                                            record { opcode_is = refl; nothing = λ pc. refl; fits = λ pc. tt },
+                                                            (
+                                                              record { opcode_is = refl; nothing = λ pc. refl; fits = λ pc. tt },
+                                                              (
+                                                                record { opcode_is = refl; nothing = λ pc. refl; fits = λ pc. tt },
+                                                                (
+                                                                  record { opcode_is = refl; nothing = λ pc. refl; fits = λ pc. tt },
+                                                                  (
+                                                                    record { opcode_is = refl; nothing = λ pc. refl; fits = λ pc. tt },
+                                                                    (
+                                                                      record { opcode_is = refl; nothing = λ pc. refl; fits = λ pc. tt },
+                                                                      (
+                                                                        record { opcode_is = refl; nothing = λ pc. refl; fits = λ pc. tt },
+                                                                        (
+                                                                          record { opcode_is = refl; nothing = λ pc. refl; fits = λ pc. tt },
+                                                                          (record { opcode_is = refl; nothing = λ pc. refl; fits = λ pc. tt }, tt),
+                                                                        ),
+                                                                      ),
+                                                                    ),
+                                                                  ),
+                                                                ),
+                                                              ),
+                                                            ),
+                                                          ),
+                                                        ),
+                                                      ),
+                                                    ),
+                                                  ),
+                                                ),
+                                              ),
+                                            ),
+                                          ),
+                                        ),
+                                      ),
+                                    ),
+                                  ),
+                                ),
+                              ),
+                            ),
+                          ),
+                        ),
+                      ),
+                    ),
+                  ),
+                ),
+              ),
+            ),
+          ),
+        ),
+      ),
+    ),
+  ),
+)
 
 pub bare_of-takes : (b : ℕ) (i : Instr) → bare_of b ≡ Some i → IsBare b i
 unfolding bare_of
@@ -187,9 +366,9 @@ bare_of-takes b i e =
     elim (chosen (ltb b 54) (entry_at constants_and_loads b) (cond (ltb b 96) (entry_at stores_and_stack b) (entry_at numbers_and_returns b)) (Some i) e) [
       | inl h ↦ entry IsBare constants_and_loads constants_and_loads-bare b i h.1
       | inr h ↦ elim (chosen (ltb b 96) (entry_at stores_and_stack b) (entry_at numbers_and_returns b) (Some i) h.1) [
-          | inl k ↦ entry IsBare stores_and_stack stores_and_stack-bare b i k.1
-          | inr k ↦ entry IsBare numbers_and_returns numbers_and_returns-bare b i k.1
-        ]
+        | inl k ↦ entry IsBare stores_and_stack stores_and_stack-bare b i k.1
+        | inr k ↦ entry IsBare numbers_and_returns numbers_and_returns-bare b i k.1
+      ]
     ]
 
 -- the opcode in front of a layout

@@ -1,12 +1,15 @@
 //! The code of a method as bytes and as instructions, both ways (JVMS 4.7.3, 6.5).
 #![tactic(auto)]
 
+mod code;
 mod error;
 mod fields;
 mod layout;
 mod reading;
+mod starts;
 mod switches;
 mod tables;
 
+pub use code::Code;
 pub use error::OpError;
 pub use model::bytecode::{Instr, Located};
