@@ -34,15 +34,16 @@ use Rattle.opcodes.specs.Reading.Steps.{◌>>=◌, byte_at, number_at, signed_at
 use Rattle.opcodes.specs.Reading.Tables.{bare_of, layout_of, primitives}
 use Rattle.opcodes.specs.Reading.Switches.{branch_at, table_at, lookup_at}
 use Rattle.opcodes.specs.Reading.{by_name, increment_at, ends_with_zero, interface_at, new_array, new_array_at, wide_form_at, wide_at, layout_at, by_layout, by_opcode, instruction_at}
+use Rattle.opcodes.specs.Starts.{Real}
 use Rattle.opcodes.proofs.Loops.{ok_is}
 use Rattle.opcodes.proofs.FieldLaws.{IsBytes, IsBytes-rest, bind_ok, Takes, Takes-then, Takes-shorter, wide8, wide16, byte_takes, u2_takes, u2_again, signed_takes, signed_again}
 use Rattle.opcodes.proofs.TableLaws.{IsBare, bare_of-takes, opcode_of, layout_of-takes, primitives-take, primitives-again, small_int-again, small_long-again, first_load-again, first_store-again, stack-again, number-again, return-again, element_load-again, element_store-again, monitor-again, layout-is_not_bare, layout-again}
-use Rattle.opcodes.proofs.SwitchLaws.{Real, IsRead, Reads, branch-takes, branch-again, table-takes, table-again, lookup-takes, lookup-again}
+use Rattle.opcodes.proofs.SwitchLaws.{IsRead, Reads, branch-takes, branch-again, table-takes, table-again, lookup-takes, lookup-again}
 
 -- ---- what is read is spelled so
 
 always : {pc code : ℕ} {bytes : List ℕ} {i : Instr} {rest : List ℕ} → IsRead pc code i bytes rest → Reads pc code bytes (i, rest)
-always {pc} {code} {bytes} {i} {rest} r = record { shorter = Takes-shorter bytes (operands pc i) rest r.takes; read = λ real. r }
+always {pc} {code} {bytes} {i} {rest} r = record { shorter = Takes-shorter bytes (operands pc i) rest r.takes; rest_fits = r.takes.rest_fits; read = λ real. r }
 
 named-takes : (pc : ℕ) (what : Named) (n : ℕ) (bytes rest : List ℕ) → Takes bytes (u2 n) rest → n < 2 ^ 16 → IsRead pc (opcode (by_name what 0)) (by_name what n) bytes rest
 named-takes pc named.Int n bytes rest t lt = record { takes = t; fits = lt; opcode_is = refl }
@@ -204,6 +205,7 @@ pub record IsFront (pc : ℕ) (i : Instr) (bytes rest : List ℕ) : Type 0 where
 
 pub record Shortens (pc : ℕ) (i : Instr) (bytes rest : List ℕ) : Type 0 where
   pub shorter : length rest < length bytes
+  pub rest_fits : IsBytes rest
   pub front : Real i → IsFront pc i bytes rest
 
 pub instruction-takes : (pc : ℕ) (bytes : List ℕ) (i : Instr) (rest : List ℕ) → IsBytes bytes → instruction_at pc bytes ≡ Ok (i, rest) → Shortens pc i bytes rest
@@ -215,6 +217,7 @@ instruction-takes pc bytes i rest fits e =
     let one : length bytes ≡ suc (length a.0.1) = ap length s.0.parts in
     record {
       shorter = let less = r.shorter in omega arith;
+      rest_fits = r.rest_fits;
       front = λ real.
           let read = r.read real in
           let both = Takes-then bytes (a.0.0 ∷ []) a.0.1 (operands pc i) rest s.0 read.takes in

@@ -1,3 +1,5 @@
+pub mod CodeLaws
+pub mod DecodingLaws
 pub mod FieldLaws
 pub mod InstructionLaws
 pub mod Loops

@@ -19,12 +19,9 @@ use Rattle.opcodes.specs.declared.error.OpError.{OpError}
 use Rattle.opcodes.specs.declared.error.OpError.TheVariants as error
 use Rattle.opcodes.specs.Reading.Steps.{◌>>=◌, signed_at}
 use Rattle.opcodes.specs.Reading.Switches.{pc_of, landing, branch_at, pad_at, targets_at, table_len, table_at, rises, pairs_at, lookup_at}
+use Rattle.opcodes.specs.Starts.{Real}
 use Rattle.opcodes.proofs.Loops.{ok_is}
 use Rattle.opcodes.proofs.FieldLaws.{IsBytes, IsBytes-rest, bind_ok, guard_then, chosen, Takes, Takes-then, Takes-shorter, IsWide, wide16, wide32, signed_takes, signed_again}
-
--- all targets are below 65535
-abbrev pub Real : Instr → Type 0
-Real i = AllByRecursion (λ t. t < 65535) (targets i)
 
 -- the bytes behind an opcode are the operands of an instruction, and a rest
 pub record IsRead (pc code : ℕ) (i : Instr) (bytes rest : List ℕ) : Type 0 where
@@ -34,6 +31,7 @@ pub record IsRead (pc code : ℕ) (i : Instr) (bytes rest : List ℕ) : Type 0 w
 
 pub record Reads (pc code : ℕ) (bytes : List ℕ) (x : Instr × List ℕ) : Type 0 where
   pub shorter : length x.1 ≤ length bytes
+  pub rest_fits : IsBytes x.1
   pub read : Real x.0 → IsRead pc code x.0 bytes x.1
 
 pub landing-again : (pc t : ℕ) → t < 65535 → landing pc (offset pc t) ≡ t
@@ -66,7 +64,7 @@ branch-takes pc t bytes x fits e =
     let s = signed_takes (branch_width t) (branch_wide t) bytes a.0.0 a.0.1 fits a.1 in
     subst (Reads pc (branch_opcode t) bytes) (ok_is (instruction.Branch t (landing pc a.0.0), a.0.1) x a.2)
     (record {
-      shorter = Takes-shorter bytes (signed (branch_width t) a.0.0) a.0.1 s.0;
+      shorter = Takes-shorter bytes (signed (branch_width t) a.0.0) a.0.1 s.0; rest_fits = s.0.rest_fits;
       read = λ real. let same = landing-takes pc a.0.0 real.0 in record { takes = rw (← same) s.0; fits = rw (← same) s.1; opcode_is = refl };
     })
 
@@ -99,11 +97,11 @@ abbrev spelled : ℕ → ℕ → List ℕ
 spelled pc t = signed w32 (offset pc t)
 
 abbrev TargetsTaken : ℕ → ℕ → List ℕ → List ℕ × List ℕ → Type 0
-TargetsTaken pc n bytes x = (length x.1 ≤ length bytes) × (length x.0 ≡ n) × (AllByRecursion (λ t. t < 65535) x.0 → Takes bytes (flat_map (spelled pc) x.0) x.1 × AllByRecursion (OffsetFits pc) x.0)
+TargetsTaken pc n bytes x = (length x.1 ≤ length bytes) × (length x.0 ≡ n) × IsBytes x.1 × (AllByRecursion (λ t. t < 65535) x.0 → Takes bytes (flat_map (spelled pc) x.0) x.1 × AllByRecursion (OffsetFits pc) x.0)
 
 pub targets-take : (pc n : ℕ) (bytes : List ℕ) (x : List ℕ × List ℕ) → IsBytes bytes → targets_at pc n bytes ≡ Ok x → TargetsTaken pc n bytes x
 unfolding targets_at
-targets-take pc zero bytes x fits e = subst (TargetsTaken pc 0 bytes) (ok_is ([], bytes) x e) (omega arith, refl, λ real. (record { parts = refl; rest_fits = fits }, tt))
+targets-take pc zero bytes x fits e = subst (TargetsTaken pc 0 bytes) (ok_is ([], bytes) x e) (omega arith, refl, fits, λ real. (record { parts = refl; rest_fits = fits }, tt))
 targets-take pc (suc n) bytes x fits e =
     let a = bind_ok (signed_at w32 bytes) (λ z. targets_at pc n z.1 >>= λ others. Ok (landing pc z.0 ∷ others.0, others.1)) x e in
     let b = bind_ok (targets_at pc n a.0.1) (λ others. Ok (landing pc a.0.0 ∷ others.0, others.1)) x a.2 in
@@ -113,9 +111,10 @@ targets-take pc (suc n) bytes x fits e =
     subst (TargetsTaken pc (suc n) bytes) (ok_is (landing pc a.0.0 ∷ b.0.0, b.0.1) x b.2) (
       omega (arith, others.0, less),
       ap suc others.1,
+      others.2,
       λ real.
           let same = landing-takes pc a.0.0 real.0 in
-          let more = others.2 real.1 in
+          let more = others.3 real.1 in
           let both = Takes-then bytes (signed w32 a.0.0) a.0.1 (flat_map (spelled pc) b.0.0) b.0.1 s.0 more.0 in
           (rw (flat_map-cons, ← same) both, (rw (← same) s.1, more.1)),
     )
@@ -176,9 +175,9 @@ table-takes pc bytes x fits e =
     let l3 = Takes-shorter c.0.1 (signed w32 d.0.0) d.0.1 t3.0 in
     subst (Reads pc 170 bytes) (ok_is (instruction.TableSwitch (record { low = c.0.0; targets = f.0.0; default = landing pc b.0.0 }), f.0.1) x f.2)
     (record {
-      shorter = omega (arith, l0, l1, l2, l3, ts.0);
+      shorter = omega (arith, l0, l1, l2, l3, ts.0); rest_fits = ts.2;
       read = λ real.
-          let t4 = ts.2 real.1 in
+          let t4 = ts.3 real.1 in
           let high : c.0.0 +ℤ pos (length f.0.0) -ℤ pos 1 ≡ d.0.0 = high-is c.0.0 d.0.0 (length f.0.0) (not_under d.0.0 c.0.0 g.0) ts.1 in
           let same = landing-takes pc b.0.0 real.0 in
           let e3 = Takes-then c.0.1 (signed w32 d.0.0) d.0.1 (flat_map (spelled pc) f.0.0) f.0.1 t3.0 t4.0 in
@@ -227,7 +226,7 @@ abbrev PairFits : ℕ → ℤ × ℕ → Type 0
 PairFits pc p = FitsSigned w32 p.0 × FitsSigned w32 (offset pc p.1)
 
 abbrev PairsTaken : ℕ → Option ℤ → ℕ → List ℕ → List (ℤ × ℕ) × List ℕ → Type 0
-PairsTaken pc before n bytes x = (length x.1 ≤ length bytes) × (length x.0 ≡ n) × RisesFrom before x.0 × (AllByRecursion (λ t. t < 65535) (map (λ p. p.1) x.0) → Takes bytes (flat_map (pair pc) x.0) x.1 × AllByRecursion (PairFits pc) x.0)
+PairsTaken pc before n bytes x = (length x.1 ≤ length bytes) × (length x.0 ≡ n) × RisesFrom before x.0 × IsBytes x.1 × (AllByRecursion (λ t. t < 65535) (map (λ p. p.1) x.0) → Takes bytes (flat_map (pair pc) x.0) x.1 × AllByRecursion (PairFits pc) x.0)
 
 rises_from-cons : (before : Option ℤ) (key : ℤ) (t : ℕ) (ps : List (ℤ × ℕ)) → rises before key ≡ true → AreRisingFrom key ps → RisesFrom before ((key, t) ∷ ps)
 rises_from-cons None key t ps up others = others
@@ -247,7 +246,7 @@ then_else false r d y e = absurd cc
 
 pub pairs-take : (pc : ℕ) (before : Option ℤ) (n : ℕ) (bytes : List ℕ) (x : List (ℤ × ℕ) × List ℕ) → IsBytes bytes → pairs_at pc before n bytes ≡ Ok x → PairsTaken pc before n bytes x
 unfolding pairs_at
-pairs-take pc before zero bytes x fits e = subst (PairsTaken pc before 0 bytes) (ok_is ([], bytes) x e) (omega arith, refl, rises_from-nil before, λ real. (record { parts = refl; rest_fits = fits }, tt))
+pairs-take pc before zero bytes x fits e = subst (PairsTaken pc before 0 bytes) (ok_is ([], bytes) x e) (omega arith, refl, rises_from-nil before, fits, λ real. (record { parts = refl; rest_fits = fits }, tt))
 pairs-take pc before (suc n) bytes x fits e =
     let a = bind_ok (signed_at w32 bytes) (λ key. cond (rises before key.0) (signed_at w32 key.1 >>= λ z. pairs_at pc (Some key.0) n z.1 >>= λ others. Ok ((key.0, landing pc z.0) ∷ others.0, others.1)) (Err error.Switch)) x e in
     let g = then_else (rises before a.0.0) (signed_at w32 a.0.1 >>= λ z. pairs_at pc (Some a.0.0) n z.1 >>= λ others. Ok ((a.0.0, landing pc z.0) ∷ others.0, others.1)) error.Switch x a.2 in
@@ -262,9 +261,10 @@ pairs-take pc before (suc n) bytes x fits e =
       omega (arith, l0, l1, others.0),
       ap suc others.1,
       rises_from-cons before a.0.0 (landing pc b.0.0) c.0.0 g.0 others.2,
+      others.3,
       λ real.
           let same = landing-takes pc b.0.0 real.0 in
-          let more = others.3 real.1 in
+          let more = others.4 real.1 in
           let first = Takes-then bytes (signed w32 a.0.0) a.0.1 (signed w32 b.0.0) b.0.1 s.0 t.0 in
           let both = Takes-then bytes (signed w32 a.0.0 ++ signed w32 b.0.0) b.0.1 (flat_map (pair pc) c.0.0) c.0.1 first more.0 in
           (rw (flat_map-cons, ← same) both, ((s.1, rw (← same) t.1), more.1)),
@@ -305,9 +305,9 @@ lookup-takes pc bytes x fits e =
     let l2 = Takes-shorter b.0.1 (signed w32 c.0.0) c.0.1 t2.0 in
     subst (Reads pc 171 bytes) (ok_is (instruction.LookupSwitch (record { pairs = f.0.0; default = landing pc b.0.0 }), f.0.1) x f.2)
     (record {
-      shorter = omega (arith, l0, l1, l2, ps.0);
+      shorter = omega (arith, l0, l1, l2, ps.0); rest_fits = ps.3;
       read = λ real.
-          let t3 = ps.3 real.1 in
+          let t3 = ps.4 real.1 in
           let count : pos (length f.0.0) ≡ c.0.0 = ap pos ps.1 ∙ abs-of c.0.0 (not_under c.0.0 (pos 0) g.0) in
           let same = landing-takes pc b.0.0 real.0 in
           let few : FitsSigned w32 (pos (length f.0.0)) = rw count t2.1 in

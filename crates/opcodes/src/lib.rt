@@ -2,6 +2,7 @@
 #![tactic(auto)]
 
 mod code;
+mod decoding;
 mod error;
 mod fields;
 mod layout;
@@ -11,5 +12,6 @@ mod switches;
 mod tables;
 
 pub use code::Code;
+pub use decoding::decode;
 pub use error::OpError;
 pub use model::bytecode::{Instr, Located};
