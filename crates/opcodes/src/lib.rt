@@ -6,10 +6,12 @@ mod decoding;
 mod error;
 mod fields;
 mod layout;
+mod opcode_of;
 mod reading;
 mod starts;
 mod switches;
 mod tables;
+mod writing;
 
 pub use code::Code;
 pub use decoding::decode;
