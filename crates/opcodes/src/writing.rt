@@ -74,3 +74,103 @@ pub fn put_constant(out: &mut Vec<u8>, constant: Constant<u16, u16>) -> Result<(
     }
     Ok(())
 }
+
+/// Writes what stands behind the opcode of an access to a local.
+pub fn put_access(out: &mut Vec<u8>, access: LocalAccess) -> Result<(), AllocError>
+    ensures { OnOk result (AccessFits access × (out.new.items ≡ out.old.items ++ access_operands access)) }
+{
+    match access {
+        LocalAccess::Load(_, Local::First(_)) | LocalAccess::Store(_, Local::First(_)) => {}
+        LocalAccess::Load(_, Local::Byte(n)) | LocalAccess::Store(_, Local::Byte(n)) => {
+            out.push(n)?;
+        }
+        LocalAccess::Load(kind, Local::Wide(n)) => {
+            out.push(load(kind))?;
+            put_u2(out, n)?;
+        }
+        LocalAccess::Store(kind, Local::Wide(n)) => {
+            out.push(store(kind))?;
+            put_u2(out, n)?;
+        }
+        LocalAccess::Increment(Increment::Byte(n, by)) => {
+            out.push(n)?;
+            put_i8(out, by)?;
+        }
+        LocalAccess::Increment(Increment::Wide(n, by)) => {
+            out.push(132)?;
+            put_u2(out, n)?;
+            put_i16(out, by)?;
+        }
+    }
+    Ok(())
+}
+
+/// Writes the offset of a branch at a pc. `Operand` where it has no room.
+pub fn put_branch(out: &mut Vec<u8>, pc: u16, test: Test, target: u16) -> Result<(), OpError>
+    ensures ok { OnOk result (FitsSigned (branch_width test) (offset pc target) × (out.new.items ≡ out.old.items ++ signed (branch_width test) (offset pc target))) }
+    ensures err { IfErr result (λ e. FitsSigned (branch_width test) (offset pc target) → e ≡ error.Memory) }
+{
+    let offset = way(pc, target);
+    match test {
+        Test::Always(Width::Wide) => put_i32(out, offset)?,
+        Test::Always(Width::Narrow)
+        | Test::Zero(_)
+        | Test::Ints(_)
+        | Test::Refs(_)
+        | Test::Null(_) => match i16::try_from(offset) {
+            Ok(offset) => put_i16(out, offset)?,
+            Err(_) => return Err(OpError::Operand),
+        },
+    }
+    Ok(())
+}
+
+fn number_of(primitive: Primitive) -> u8
+    ensures { result ≡ primitive_number primitive }
+{
+    match primitive {
+        Primitive::Char => 5,
+        Primitive::Byte => 8,
+        Primitive::Short => 9,
+        Primitive::Int => 10,
+        Primitive::Long => 11,
+    }
+}
+
+/// Writes what stands behind the opcode of an instruction on arrays.
+pub fn put_array(out: &mut Vec<u8>, operation: &ArrayOperation<u16>) -> Result<(), AllocError>
+    ensures { OnOk result (ArrayFits operation.now × (out.new.items ≡ out.old.items ++ array_operands operation.now)) }
+{
+    match operation {
+        ArrayOperation::New(primitive) => out.push(number_of(*primitive))?,
+        ArrayOperation::NewOf(n) => put_u2(out, *n)?,
+        ArrayOperation::Length | ArrayOperation::Load(_) | ArrayOperation::Store(_) => {}
+    }
+    Ok(())
+}
+
+/// Writes what stands behind the opcode of a call.
+pub fn put_invoke(out: &mut Vec<u8>, how: Invocation, n: u16) -> Result<(), AllocError>
+    ensures { OnOk result (InvokeFits how n × (out.new.items ≡ out.old.items ++ invoke_operands how n)) }
+{
+    put_u2(out, n)?;
+    match how {
+        Invocation::Virtual | Invocation::Special | Invocation::Static => {}
+        Invocation::Interface(count) => {
+            out.push(count)?;
+            out.push(0)?;
+        }
+    }
+    Ok(())
+}
+
+/// Writes the zero bytes behind the opcode of a switch at a pc.
+pub fn put_pad(out: &mut Vec<u8>, pc: u16) -> Result<(), AllocError>
+    ensures { OnOk result (out.new.items ≡ out.old.items ++ pad pc) }
+{
+    let count = 3 - pc % 4;
+    for _ in 0..count {
+        out.push(0)?;
+    }
+    Ok(())
+}
