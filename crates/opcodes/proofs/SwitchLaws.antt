@@ -1,5 +1,6 @@
 -- A branch or a switch that is read is spelled so, and what is spelled so is read again.
-use Rattle.std.proofs.Common.{◌≡◌, ℕ, zero, suc, ◌+◌, ◌-◌, ◌%◌, ◌^◌, ◌<◌, ◌≤◌, Bool, true, false, cond, List, [], ◌∷◌, ◌++◌, length, replicate, map, Option, Some, None, Result, Ok, Err, refl, sym, ap, subst, ◌∙◌, append_assoc, arith, ℤ, pos, negsuc, ◌+ℤ◌, ◌-ℤ◌, ◌<ℤ◌, ◌≤ℤ◌, int_lt, min}
+use Rattle.std.specs.Prelude.{◌↔◌}
+use Rattle.std.proofs.Common.{◌≡◌, ℕ, zero, suc, ◌+◌, ◌-◌, ◌%◌, ◌^◌, ◌<◌, ◌≤◌, Bool, true, false, cond, List, [], ◌∷◌, ◌++◌, length, get_or, drop, add-one, drop-cons, replicate, map, Option, Some, None, Result, Ok, Err, refl, sym, ap, subst, ◌∙◌, append_assoc, arith, ℤ, pos, negsuc, ◌+ℤ◌, ◌-ℤ◌, ◌<ℤ◌, ◌≤ℤ◌, int_lt, min}
 use Rattle.std.specs.Int.{Width, w16, w32}
 use Rattle.std.specs.Int.RustNames.{FitsSigned, unsigned_abs}
 use Rattle.std.specs.List.{flat_map, AllByRecursion}
@@ -215,7 +216,7 @@ table-again pc s rest fits real =
 
 -- ---- lookupswitch
 
-abbrev RisesFrom : Option ℤ → List (ℤ × ℕ) → Type 0
+abbrev pub RisesFrom : Option ℤ → List (ℤ × ℕ) → Type 0
 RisesFrom None ps = AreRising ps
 RisesFrom (Some key) ps = AreRisingFrom key ps
 
@@ -335,3 +336,14 @@ lookup-again pc s rest fits real =
       pairs-again pc None s.pairs rest fits.pairs real.1 fits.rising,
       landing-again pc s.default real.0,
     ) refl
+
+-- a key that may follow the one before is all that its place asks
+pub keys-more : (before : Option ℤ) (ps : List (ℤ × ℕ)) (i : ℕ) (P : Type 0) → i < length ps → rises before (get_or ps i (pos 0, 0)).0 ≡ true → RisesFrom before (drop i ps) ↔ P → RisesFrom (Some (get_or ps i (pos 0, 0)).0) (drop (i + 1) ps) ↔ P
+keys-more before ps i P lt up so_far =
+    let p = get_or ps i (pos 0, 0) in
+    let split : drop i ps ≡ p ∷ drop (i + 1) ps = rw (add-one, drop-cons ps i (pos 0, 0)) refl in
+    (λ more. so_far.0 (rw split (rises_from-cons before p.0 p.1 (drop (i + 1) ps) up more)), λ h. (rises_from-head before p (drop (i + 1) ps) (rw split at (so_far.1 h))).1)
+
+-- five pieces written one after another
+pub pieces : (o0 o1 o2 o3 o4 o5 p q r s t : List ℕ) → o1 ≡ o0 ++ p → o2 ≡ o1 ++ q → o3 ≡ o2 ++ r → o4 ≡ o3 ++ s → o5 ≡ o4 ++ t → o5 ≡ o0 ++ (p ++ (q ++ (r ++ (s ++ t))))
+pieces o0 o1 o2 o3 o4 o5 p q r s t e1 e2 e3 e4 e5 = rw (e5, e4, e3, e2, e1) (simp append_assoc)

@@ -7,6 +7,7 @@ mod error;
 mod fields;
 mod layout;
 mod opcode_of;
+mod put_switches;
 mod reading;
 mod starts;
 mod switches;
