@@ -28,25 +28,25 @@ all-both : {A : Type 0} (P : A → Type 0) (xs ys : List A) → AllByRecursion P
 all-both P [] ys first second = second
 all-both P (x ∷ xs) ys first second = (first.0, all-both P xs ys first.1 second)
 
-pc-push : (xs : List Located) (x : Located) (k : ℕ) → IsPc (xs ++ x ∷ []) k → IsPc xs k ⊎ (x.pc ≡ k)
+pub pc-push : (xs : List Located) (x : Located) (k : ℕ) → IsPc (xs ++ x ∷ []) k → IsPc xs k ⊎ (x.pc ≡ k)
 pc-push [] x k (inl e) = inr e
 pc-push [] x k (inr none) = absurd none
 pc-push (y ∷ ys) x k (inl e) = inl (inl e)
 pc-push (y ∷ ys) x k (inr p) = elim (pc-push ys x k p) [ inl q ↦ inl (inr q) | inr e ↦ inr e ]
 
-pc-left : (xs : List Located) (x : Located) (k : ℕ) → IsPc xs k → IsPc (xs ++ x ∷ []) k
+pub pc-left : (xs : List Located) (x : Located) (k : ℕ) → IsPc xs k → IsPc (xs ++ x ∷ []) k
 pc-left [] x k p = absurd p
 pc-left (y ∷ ys) x k (inl e) = inl e
 pc-left (y ∷ ys) x k (inr p) = inr (pc-left ys x k p)
 
-pc-last : (xs : List Located) (x : Located) → IsPc (xs ++ x ∷ []) x.pc
+pub pc-last : (xs : List Located) (x : Located) → IsPc (xs ++ x ∷ []) x.pc
 pc-last [] x = inl refl
 pc-last (y ∷ ys) x = inr (pc-last ys x)
 
-abbrev placed : ℕ → ℕ → Instr → Located
+abbrev pub placed : ℕ → ℕ → Instr → Located
 placed pc next i = record { pc = pc; next = next; instruction = i }
 
-located-is : (y : Located) (pc next : ℕ) (i : Instr) → y.pc ≡ pc → y.next ≡ next → y.instruction ≡ i → y ≡ placed pc next i
+pub located-is : (y : Located) (pc next : ℕ) (i : Instr) → y.pc ≡ pc → y.next ≡ next → y.instruction ≡ i → y ≡ placed pc next i
 located-is y pc next i e n s = rw (← e, ← n, ← s) refl
 
 fails-ok : {A : Type 0} (e : OpError) (x : A) → Fails e (Ok x) → e ≡ error.Memory
@@ -75,7 +75,13 @@ first-of pc [] rest some real stand = let none : length rest ≡ 0 = ap length s
 first-of pc (x ∷ xs) rest some real stand =
     let begins = stand.1 in
     record {
-      head = x; tail = xs; after = stand.0; more_is = refl; begins = begins; stands = stand.2; real = real.1;
+      head = x;
+      tail = xs;
+      after = stand.0;
+      more_is = refl;
+      begins = begins;
+      stands = stand.2;
+      real = real.1;
       read = ap (instruction_at pc) begins.bytes_are ∙ instruction-again pc x.instruction stand.0 begins.fits real.0;
     }
 
@@ -105,12 +111,11 @@ begin bytes starts fits e =
 pub begun : (bytes : List ℕ) (items : List Located) (starts : List Bool) → IsBytes bytes → items ≡ [] → starts ≡ [] → IsRead bytes bytes items starts
 begun bytes items starts fits none e = subst (λ (xs : List Located). IsRead bytes bytes xs starts) (sym none) (begin bytes starts fits e)
 
-
-or_true : (b s : Bool) → s ≡ true → cond b true s ≡ true
+pub or_true : (b s : Bool) → s ≡ true → cond b true s ≡ true
 or_true true s e = refl
 or_true false s e = e
 
-eqb-same : (m n : ℕ) → n ≡ m → eqb m n ≡ true
+pub eqb-same : (m n : ℕ) → n ≡ m → eqb m n ≡ true
 eqb-same m n e = eq-eqb m n (sym e)
 
 pub goes_on : (bytes rest after : List ℕ) (items : List Located) (starts marked : List Bool) (i : Instr) → 0 < length rest
@@ -128,32 +133,33 @@ goes_on bytes rest after items starts marked i some read marks len was =
       within = omega arith;
       marked = omega arith;
       found = λ real more stand.
-        let parts = all-append (λ y. Real y.instruction) items (x ∷ []) real in
-        let front = taken.front parts.1.0 in
-        let size : length rest ≡ length (spelling pc i) + length after = ap length front.parts ∙ length-append (spelling pc i) after in
-        let next : length bytes - length after ≡ pc + length (spelling pc i) = omega arith in
-        rw append_assoc (was.found parts.0 (x ∷ more) (after, record { at = refl; fits = front.fits; bytes_are = front.parts; next = next }, stand));
+          let parts = all-append (λ y. Real y.instruction) items (x ∷ []) real in
+          let front = taken.front parts.1.0 in
+          let size : length rest ≡ length (spelling pc i) + length after = ap length front.parts ∙ length-append (spelling pc i) after in
+          let next : length bytes - length after ≡ pc + length (spelling pc i) = omega arith in
+          rw append_assoc (was.found parts.0 (x ∷ more) (after, record { at = refl; fits = front.fits; bytes_are = front.parts; next = next }, stand));
       only = λ all real stand.
-        let m = was.only all real stand in
-        let f = first-of pc m.0 rest some m.2 m.3 in
-        let same = ok_is (f.head.instruction, f.after) (i, after) (sym f.read ∙ read) in
-        let i-is : f.head.instruction ≡ i = ap (λ (p : Instr × List ℕ). p.0) same in
-        let after-is : f.after ≡ after = ap (λ (p : Instr × List ℕ). p.1) same in
-        let size : length rest ≡ length (spelling pc f.head.instruction) + length f.after = ap length f.begins.bytes_are ∙ length-append (spelling pc f.head.instruction) f.after in
-        let behind : length f.after ≡ length after = ap length after-is in
-        let next-is : f.head.next ≡ length bytes - length after = let n = f.begins.next in omega arith in
-        let head-is : f.head ≡ x = located-is f.head pc (length bytes - length after) i f.begins.at next-is i-is in
-        let all-is : all ≡ (items ++ x ∷ []) ++ f.tail = m.1 ∙ ap (λ (xs : List Located). items ++ xs) (f.more_is ∙ ap (λ (y : Located). y ∷ f.tail) head-is) ∙ sym (append_assoc items (x ∷ []) f.tail) in
-        (f.tail, all-is, f.real, subst (λ (p : ℕ). StandFrom p f.tail after) next-is (subst (λ (r : List ℕ). StandFrom f.head.next f.tail r) after-is f.stands));
-      starts_are = λ k.
-        (λ h. elim (chosen (eqb k pc) true (is_start starts k) true (sym (marks k) ∙ h)) [
-            | inl t ↦ let e : k ≡ pc = eqb-true k pc t.0 in rw e (pc-last items x)
-            | inr t ↦ pc-left items x k ((was.starts_are k).0 t.1)
-          ],
+          let m = was.only all real stand in
+          let f = first-of pc m.0 rest some m.2 m.3 in
+          let same = ok_is (f.head.instruction, f.after) (i, after) (sym f.read ∙ read) in
+          let i-is : f.head.instruction ≡ i = ap (λ (p : Instr × List ℕ). p.0) same in
+          let after-is : f.after ≡ after = ap (λ (p : Instr × List ℕ). p.1) same in
+          let size : length rest ≡ length (spelling pc f.head.instruction) + length f.after = ap length f.begins.bytes_are ∙ length-append (spelling pc f.head.instruction) f.after in
+          let behind : length f.after ≡ length after = ap length after-is in
+          let next-is : f.head.next ≡ length bytes - length after = let n = f.begins.next in omega arith in
+          let head-is : f.head ≡ x = located-is f.head pc (length bytes - length after) i f.begins.at next-is i-is in
+          let all-is : all ≡ (items ++ x ∷ []) ++ f.tail = m.1 ∙ ap (λ (xs : List Located). items ++ xs) (f.more_is ∙ ap (λ (y : Located). y ∷ f.tail) head-is) ∙ sym (append_assoc items (x ∷ []) f.tail) in
+          (f.tail, all-is, f.real, subst (λ (p : ℕ). StandFrom p f.tail after) next-is (subst (λ (r : List ℕ). StandFrom f.head.next f.tail r) after-is f.stands));
+      starts_are = λ k. (
+        λ h. elim (chosen (eqb k pc) true (is_start starts k) true (sym (marks k) ∙ h)) [
+          | inl t ↦ let e : k ≡ pc = eqb-true k pc t.0 in rw e (pc-last items x)
+          | inr t ↦ pc-left items x k ((was.starts_are k).0 t.1)
+        ],
         λ p. elim (pc-push items x k p) [
-            | inl q ↦ marks k ∙ or_true (eqb k pc) (is_start starts k) ((was.starts_are k).1 q)
-            | inr e ↦ marks k ∙ ap (λ b. cond b true (is_start starts k)) (eqb-same k pc e)
-          ]);
+          | inl q ↦ marks k ∙ or_true (eqb k pc) (is_start starts k) ((was.starts_are k).1 q)
+          | inr e ↦ marks k ∙ ap (λ b. cond b true (is_start starts k)) (eqb-same k pc e)
+        ],
+      );
     }
 
 pub read-fails : (e : OpError) (bytes rest : List ℕ) (items : List Located) (starts : List Bool) → 0 < length rest → Fails e (instruction_at (length bytes - length rest) rest) → IsRead bytes rest items starts

@@ -1,5 +1,6 @@
 pub mod CodeLaws
 pub mod DecodingLaws
+pub mod EncodingLaws
 pub mod FieldLaws
 pub mod InstructionLaws
 pub mod Loops

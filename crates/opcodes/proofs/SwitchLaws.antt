@@ -65,7 +65,8 @@ branch-takes pc t bytes x fits e =
     let s = signed_takes (branch_width t) (branch_wide t) bytes a.0.0 a.0.1 fits a.1 in
     subst (Reads pc (branch_opcode t) bytes) (ok_is (instruction.Branch t (landing pc a.0.0), a.0.1) x a.2)
     (record {
-      shorter = Takes-shorter bytes (signed (branch_width t) a.0.0) a.0.1 s.0; rest_fits = s.0.rest_fits;
+      shorter = Takes-shorter bytes (signed (branch_width t) a.0.0) a.0.1 s.0;
+      rest_fits = s.0.rest_fits;
       read = λ real. let same = landing-takes pc a.0.0 real.0 in record { takes = rw (← same) s.0; fits = rw (← same) s.1; opcode_is = refl };
     })
 
@@ -176,7 +177,8 @@ table-takes pc bytes x fits e =
     let l3 = Takes-shorter c.0.1 (signed w32 d.0.0) d.0.1 t3.0 in
     subst (Reads pc 170 bytes) (ok_is (instruction.TableSwitch (record { low = c.0.0; targets = f.0.0; default = landing pc b.0.0 }), f.0.1) x f.2)
     (record {
-      shorter = omega (arith, l0, l1, l2, l3, ts.0); rest_fits = ts.2;
+      shorter = omega (arith, l0, l1, l2, l3, ts.0);
+      rest_fits = ts.2;
       read = λ real.
           let t4 = ts.3 real.1 in
           let high : c.0.0 +ℤ pos (length f.0.0) -ℤ pos 1 ≡ d.0.0 = high-is c.0.0 d.0.0 (length f.0.0) (not_under d.0.0 c.0.0 g.0) ts.1 in
@@ -306,7 +308,8 @@ lookup-takes pc bytes x fits e =
     let l2 = Takes-shorter b.0.1 (signed w32 c.0.0) c.0.1 t2.0 in
     subst (Reads pc 171 bytes) (ok_is (instruction.LookupSwitch (record { pairs = f.0.0; default = landing pc b.0.0 }), f.0.1) x f.2)
     (record {
-      shorter = omega (arith, l0, l1, l2, ps.0); rest_fits = ps.3;
+      shorter = omega (arith, l0, l1, l2, ps.0);
+      rest_fits = ps.3;
       read = λ real.
           let t3 = ps.4 real.1 in
           let count : pos (length f.0.0) ≡ c.0.0 = ap pos ps.1 ∙ abs-of c.0.0 (not_under c.0.0 (pos 0) g.0) in

@@ -3,6 +3,7 @@
 
 mod code;
 mod decoding;
+mod encoding;
 mod error;
 mod fields;
 mod layout;
@@ -16,5 +17,6 @@ mod writing;
 
 pub use code::Code;
 pub use decoding::decode;
+pub use encoding::encode;
 pub use error::OpError;
 pub use model::bytecode::{Instr, Located};

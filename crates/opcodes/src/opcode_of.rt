@@ -6,9 +6,8 @@ ghost use Rattle.model.specs.Bytecode.Opcodes as spec;
 use model::bytecode::Instr;
 use model::instructions::{
     Access, ArrayOperation, ClassOperation, Comparison, Constant, Conversion, ElementKind,
-    FirstLocal, Identity, Increment, Instruction, Invocation, Local, LocalAccess,
-    MonitorOperation, NumberKind, NumberOperation, Operator, SmallInt, SmallLong, StackOperation,
-    Test, Width,
+    FirstLocal, Identity, Increment, Instruction, Invocation, Local, LocalAccess, MonitorOperation,
+    NumberKind, NumberOperation, Operator, SmallInt, SmallLong, StackOperation, Test, Width,
 };
 use model::values::Kind;
 
