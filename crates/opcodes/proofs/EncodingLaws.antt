@@ -14,7 +14,10 @@ use Rattle.opcodes.specs.Starts.{is_start, lands, all_land, Real, AreReal}
 use Rattle.opcodes.specs.Writing.{IsSpelled}
 use Rattle.opcodes.proofs.FieldLaws.{chosen}
 use Rattle.opcodes.proofs.DecodingLaws.{pc-push, pc-left, pc-last, placed, located-is, or_true, eqb-same}
-use Rattle.opcodes.proofs.CodeLaws.{Marks, code-lands, is-code}
+use Rattle.opcodes.proofs.CodeLaws.{Marks, code-real, code-lands, is-code}
+use Rattle.opcodes.specs.Reading.{instruction_at}
+use Rattle.opcodes.proofs.Loops.{ok_is}
+use Rattle.opcodes.proofs.InstructionLaws.{instruction-again}
 
 heads : (x y : Instr) (xs ys : List Instr) → ◌≡◌ {A = List Instr} (x ∷ xs) (y ∷ ys) → (x ≡ y) × (xs ≡ ys)
 heads x y xs ys e = (cc, cc)
@@ -194,3 +197,27 @@ drop-item xs k x lt e = rw (add-one) (drop-cons xs k x lt ∙ ap (λ y. y ∷ dr
 pub non_empty : (n : ℕ) → eqb n 0 ≡ false → 1 ≤ n
 non_empty zero e = absurd cc
 non_empty (suc n) e = omega arith
+
+-- ---- one spelling
+
+stand-same : (pc : ℕ) (a b : List Located) (bytes : List ℕ) → AreReal a → AreReal b → StandFrom pc a bytes → StandFrom pc b bytes → a ≡ b
+stand-same pc [] [] bytes r s p q = refl
+stand-same pc [] (y ∷ ys) bytes r s p q = let none : [] ≡ spelling pc y.instruction ++ q.0 = sym p ∙ q.1.bytes_are in absurd cc
+stand-same pc (x ∷ xs) [] bytes r s p q = let none : [] ≡ spelling pc x.instruction ++ p.0 = sym q ∙ p.1.bytes_are in absurd cc
+stand-same pc (x ∷ xs) (y ∷ ys) bytes r s p q =
+    let one = ap (instruction_at pc) p.1.bytes_are ∙ instruction-again pc x.instruction p.0 p.1.fits r.0 in
+    let two = ap (instruction_at pc) q.1.bytes_are ∙ instruction-again pc y.instruction q.0 q.1.fits s.0 in
+    let same = ok_is (x.instruction, p.0) (y.instruction, q.0) (sym one ∙ two) in
+    let head : x ≡ y = begins-same pc x y bytes bytes p.0 q.0 p.1 q.1 (ap (λ (z : Instr × List ℕ). z.0) same) in
+    let rest : p.0 ≡ q.0 = ap (λ (z : Instr × List ℕ). z.1) same in
+    let tail : StandFrom y.next xs q.0 = subst (λ (z : Located). StandFrom z.next xs q.0) head (subst (λ (t : List ℕ). StandFrom x.next xs t) rest p.2) in
+    ap (λ (z : Located). z ∷ xs) head ∙ ap (λ (zs : List Located). y ∷ zs) (stand-same y.next xs ys q.0 r.1 s.1 tail q.2)
+
+pub one-list : (bytes : List ℕ) (a b : List Located) → IsCode bytes a → IsCode bytes b → a ≡ b
+one-list bytes a b p q = stand-same 0 a b bytes (code-real bytes a p) (code-real bytes b q) p.stand q.stand
+
+pub one-text : (x y : List ℕ) (a b : List Located) → IsCode x a → IsCode y b → instructions_of a ≡ instructions_of b → x ≡ y
+one-text x y a b p q e =
+    let f = follows 0 a b x y [] p.stand q.stand (sym e ∙ sym (append-nil (instructions_of a))) in
+    let n = none-more (0 + length x) f.more f.rest f.stands f.instructions_are in
+    sym (f.bytes_are ∙ ap (λ (r : List ℕ). x ++ r) n.1 ∙ append-nil x)
