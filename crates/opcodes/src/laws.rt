@@ -8,5 +8,4 @@ ghost use Rattle.model.specs.declared.bytecode.Located.{Located};
 pub fn one_spelling()
     ensures instructions { (bytes : List ℕ) (a b : List Located) → IsCode bytes a → IsCode bytes b → a ≡ b }
     ensures bytes { (x y : List ℕ) (a b : List Located) → IsCode x a → IsCode y b → instructions_of a ≡ instructions_of b → x ≡ y }
-{
-}
+{}
