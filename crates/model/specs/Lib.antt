@@ -18,8 +18,8 @@ pub mod Observers
 pub mod Printing
 pub mod Programs
 pub mod Ready
-pub mod Sizes
 pub mod Served
+pub mod Sizes
 pub mod Switches
 pub mod Table
 pub mod Texts

@@ -18,9 +18,10 @@ pub mod listings;
 pub mod mnemonics;
 pub mod names;
 pub mod places;
-#[cfg(test)]
-mod tests;
-pub mod trees;
 pub mod refusals;
+pub mod trees;
 pub mod turns;
 pub mod values;
+
+#[cfg(test)]
+mod tests;
