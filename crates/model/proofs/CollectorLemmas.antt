@@ -19,4 +19,5 @@ pub mod Running
 pub mod Tracing
 pub mod Holding
 pub mod Promising
+pub mod Fading
 pub mod WorkedRows
