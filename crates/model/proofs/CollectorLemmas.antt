@@ -20,4 +20,6 @@ pub mod Tracing
 pub mod Holding
 pub mod Promising
 pub mod Fading
+pub mod FadingTurns
+pub mod Reclaiming
 pub mod WorkedRows
