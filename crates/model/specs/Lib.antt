@@ -1,5 +1,7 @@
 pub mod Accounts
 pub mod Arithmetic
+pub mod Bytecode
+pub mod ClassFiles
 pub mod ClassListings
 pub mod CodeListings
 pub mod Collector
@@ -8,13 +10,16 @@ pub mod Faults
 pub mod Frames
 pub mod Journals
 pub mod Limits
+pub mod Locals
 pub mod Machines
 pub mod Observers
 pub mod Printing
 pub mod Programs
 pub mod Ready
+pub mod Sizes
 pub mod Switches
 pub mod Table
+pub mod Texts
 pub mod Turns
 pub mod Values
 pub mod Worlds

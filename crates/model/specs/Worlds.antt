@@ -1,13 +1,12 @@
-use Rattle.std.specs.Prelude.{ℕ, ◌+◌, List, [], ◌∷◌, length, slice_get, slice_set, Option, Some, None, Bool, true, false, replicate, cond, codes}
+use Rattle.std.specs.Prelude.{ℕ, ◌+◌, List, [], ◌∷◌, length, slice_get, slice_set, Option, Some, None, Bool, true, false, cond, codes}
 use Rattle.model.specs.declared.values.Value.{Value}
-use Rattle.model.specs.declared.values.Entry.TheVariants.{Unset}
 use Rattle.model.specs.declared.turns.Fault.{Fault}
 use Rattle.model.specs.declared.turns.ClassState.{ClassState}
 use Rattle.model.specs.declared.turns.ClassState.TheVariants.{Done as Initialised}
-use Rattle.model.specs.declared.turns.Mark.TheVariants.{Unmarked}
 use Rattle.model.specs.CodeListings.{CodeListing}
 use Rattle.model.specs.ClassListings.{ClassListing}
-use Rattle.model.specs.Frames.{MethodPlace, Frame}
+use Rattle.model.specs.declared.places.MethodPlace.{MethodPlace}
+use Rattle.model.specs.Frames.{Frame, opening_frame}
 use Rattle.model.specs.Programs.{main_in, code_at}
 
 -- The ideal world (JVMS 2.5, 2.6): what threads, statics, output and objects are on a heap where nothing is ever freed.
@@ -101,24 +100,13 @@ plain_object class = record { contents = Instance class []; monitor = free_monit
 abbrev pub opening_objects : List Object
 opening_objects = plain_object [] ∷ plain_object (codes "java/lang/OutOfMemoryError") ∷ plain_object (codes "java/lang/StackOverflowError") ∷ []
 
--- a frame at the start of a method, with all locals unset
-abbrev pub opening_frame : MethodPlace → CodeListing → Frame
-opening_frame place code = record {
-  method = place;
-  pc = 0;
-  locals = replicate code.max_locals Unset;
-  stack = [];
-  room = code.max_stack;
-  monitor = None;
-  mark = Unmarked;
-}
-
+-- main runs, in a frame at its start
 abbrev pub opening_frames : List ClassListing → Option MethodPlace → List Frame
 opening_frames program None = []
 opening_frames program (Some place) = framed place (code_at program place) where
   framed : MethodPlace → Option CodeListing → List Frame
   framed place None = []
-  framed place (Some code) = opening_frame place code ∷ []
+  framed place (Some code) = opening_frame place code.max_locals code.max_stack ∷ []
 
 abbrev pub states_of : List ClassListing → List ClassState
 states_of [] = []

@@ -6,12 +6,19 @@
 #![tactic(auto)]
 
 pub mod builtins;
+pub mod bytecode;
+pub mod class_files;
 pub mod collector;
 pub mod colours;
 pub mod flags;
 pub mod instructions;
 pub mod journals;
 pub mod listings;
+pub mod mnemonics;
 pub mod names;
+pub mod places;
+#[cfg(test)]
+mod tests;
+pub mod trees;
 pub mod turns;
 pub mod values;

@@ -1,0 +1,4 @@
+//! From listings to a program that the machine runs.
+#![tactic(auto)]
+
+pub mod programs;
