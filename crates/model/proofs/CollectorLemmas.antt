@@ -19,4 +19,7 @@ pub mod Running
 pub mod Tracing
 pub mod Holding
 pub mod Promising
+pub mod Fading
+pub mod FadingTurns
+pub mod Reclaiming
 pub mod WorkedRows

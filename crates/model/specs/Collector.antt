@@ -5,6 +5,6 @@ pub mod Invariant
 pub mod Moves
 pub mod Paths
 pub mod Places
--- pub mod Reclaim
+pub mod Reclaim
 pub mod Runs
 pub mod Table

@@ -50,7 +50,7 @@ unfolding Held
 mark_held w a q [] c b y e = (y, e)
 mark_held w a q (x ∷ rest) c b y e = word_held w a q x rest (nat_lt q (length (words_of w.objects x))) c b y e
 
-listed_cells : (a : Account) (p : ℕ) (x y : Bool) → (listed_in a p x y).cells ≡ a.cells
+pub listed_cells : (a : Account) (p : ℕ) (x y : Bool) → (listed_in a p x y).cells ≡ a.cells
 listed_cells a p true y = refl
 listed_cells a p false true = refl
 listed_cells a p false false = refl

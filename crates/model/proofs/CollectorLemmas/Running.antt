@@ -19,7 +19,7 @@ use Rattle.model.proofs.CollectorLemmas.Outcomes.{counted_keeps, turn_keeps}
 -- every list of turns keeps the invariant
 
 -- a turn that isn't refused follows no fault
-unfaulted : (program : List ClassListing) (limits : Limits) (w : World) (t : ℕ) → refusal program limits w (Thread t) ≡ None → w.fault ≡ None
+pub unfaulted : (program : List ClassListing) (limits : Limits) (w : World) (t : ℕ) → refusal program limits w (Thread t) ≡ None → w.fault ≡ None
 unfolding refusal
 unfaulted program limits w t e = go w.fault refl e
   where
