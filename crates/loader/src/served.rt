@@ -5,6 +5,7 @@ ghost use Rattle.model.specs.Programs.{builtin_of};
 ghost use Rattle.model.specs.Served.{serves_constant, serves_number, serves_invocation, is_served, serves_rows, serves_code, serves_fields, serves_methods, serves};
 ghost use Rattle.model.specs.declared.listings.Placed.{Placed as PlacedAt};
 
+use crate::programs::builtin_of;
 use bitflags::Flags;
 use model::flags::FieldFlags;
 use model::instructions::{
@@ -39,9 +40,7 @@ fn serves_number(operation: NumberOperation) -> bool
 fn is_builtin_method(member: &Member) -> bool
     ensures { result ≡ is_some (builtin_of member.now) }
 {
-    member.class.as_bytes() == b"vm/Sys".as_slice()
-        && member.name.as_bytes() == b"print".as_slice()
-        && member.descriptor.as_bytes() == b"(I)V".as_slice()
+    builtin_of(member).is_some()
 }
 
 fn serves_invocation(invocation: Invocation, member: &Member) -> bool
