@@ -8,9 +8,10 @@ use Rattle.model.specs.Accounts.{Cell, Account, numbers_up, empty_account, openi
 use Rattle.model.specs.Accounts.Cell.{Free, Taken}
 use Rattle.model.specs.ClassListings.{ClassListing}
 use Rattle.model.specs.CodeListings.{CodeListing}
-use Rattle.model.specs.Frames.{MethodPlace, Frame}
+use Rattle.model.specs.declared.places.MethodPlace.{MethodPlace}
+use Rattle.model.specs.Frames.{Frame, opening_frame}
 use Rattle.model.specs.Programs.{main_in, code_at}
-use Rattle.model.specs.Worlds.{World, Object, opening_world, opening_objects, opening_frame, opening_frames}
+use Rattle.model.specs.Worlds.{World, Object, opening_world, opening_objects, opening_frames}
 use Rattle.model.specs.Collector.Places.{Place, ref_at, entry_ref, entries_at, monitor_at, words_of, root_at, word_at}
 use Rattle.model.specs.Collector.Places.Place.{MemoryError, StackError, Slot, FrameEntry, MethodMonitor}
 use Rattle.model.specs.Collector.Table.{cell_at}
@@ -154,11 +155,11 @@ framed_rootless : (program : List ClassListing) (place : MethodPlace) (o : Optio
 framed_rootless program place None e = rw e no_frame
 framed_rootless program place (Some code) e = rw e (record { entries = entries; monitors = monitors })
   where
-    entries : (d j b : ℕ) → ref_at (entries_at (opening_frame place code ∷ []) d) j ≡ Some b → ⊥
+    entries : (d j b : ℕ) → ref_at (entries_at (opening_frame place code.max_locals code.max_stack ∷ []) d) j ≡ Some b → ⊥
     entries zero j b e = no_entry code.max_locals j b e
     entries (suc d) j b e = cc
 
-    monitors : (d b : ℕ) → monitor_at (opening_frame place code ∷ []) d ≡ Some b → ⊥
+    monitors : (d b : ℕ) → monitor_at (opening_frame place code.max_locals code.max_stack ∷ []) d ≡ Some b → ⊥
     monitors zero b e = cc
     monitors (suc d) b e = cc
 
