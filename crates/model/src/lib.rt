@@ -22,3 +22,4 @@ mod tests;
 pub mod trees;
 pub mod turns;
 pub mod values;
+pub mod views;
