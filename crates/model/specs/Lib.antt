@@ -25,4 +25,5 @@ pub mod Table
 pub mod Texts
 pub mod Turns
 pub mod Values
+pub mod Views
 pub mod Worlds

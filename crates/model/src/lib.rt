@@ -25,3 +25,4 @@ pub mod values;
 
 #[cfg(test)]
 mod tests;
+pub mod views;
