@@ -53,59 +53,53 @@ fn the_smallest_program_is_read(rt: HostRuntime) -> Result<(), Fail> {
 
 #[test]
 fn a_class_needs_its_statements_in_order(rt: HostRuntime) {
-    assert_eq!(rt; refusal(&rt, b""), (1, Fault::Statement));
-    assert_eq!(rt; refusal(&rt, b"; no class\n"), (2, Fault::Statement));
-    assert_eq!(rt; refusal(&rt, b".class E"), (2, Fault::Statement));
-    assert_eq!(rt; refusal(&rt, b".class E\n.super A\n"), (0, Fault::Memory));
-    assert_eq!(rt;
-        refusal(&rt, b".super A\n.class E\n"),
-        (1, Fault::Statement)
-    );
-    assert_eq!(rt;
-        refusal(&rt, b".interface E\n.super A\n"),
-        (1, Fault::Statement)
-    );
-    assert_eq!(rt; refusal(&rt, b".class E\nfoo\n"), (2, Fault::Statement));
-    assert_eq!(rt;
-        refusal(&rt, b".class E\n.super A\n.super A\n"),
-        (3, Fault::Statement)
-    );
-    assert_eq!(rt;
-        refusal(&rt, b".class E\n.super A\n.field x I\n"),
-        (3, Fault::Statement)
-    );
-    assert_eq!(rt;
-        refusal(&rt, b".class E\n.super A\nreturn\n"),
-        (3, Fault::Statement)
-    );
-    assert_eq!(rt;
-        refusal(&rt, b".class E\n.super A\n.limit foo 1\n"),
-        (3, Fault::Statement)
-    );
+    for (text, line, fault) in [
+        (b"".as_slice(), 1, Fault::Statement),
+        (b"; no class\n".as_slice(), 2, Fault::Statement),
+        (b".class E".as_slice(), 2, Fault::Statement),
+        (b".class E\n.super A\n".as_slice(), 0, Fault::Memory),
+        (b".super A\n.class E\n".as_slice(), 1, Fault::Statement),
+        (b".interface E\n.super A\n".as_slice(), 1, Fault::Statement),
+        (b".class E\nfoo\n".as_slice(), 2, Fault::Statement),
+        (
+            b".class E\n.super A\n.super A\n".as_slice(),
+            3,
+            Fault::Statement,
+        ),
+        (
+            b".class E\n.super A\n.field x I\n".as_slice(),
+            3,
+            Fault::Statement,
+        ),
+        (
+            b".class E\n.super A\nreturn\n".as_slice(),
+            3,
+            Fault::Statement,
+        ),
+        (
+            b".class E\n.super A\n.limit foo 1\n".as_slice(),
+            3,
+            Fault::Statement,
+        ),
+    ] {
+        assert_eq!(rt; refusal(&rt, text), (line, fault));
+    }
 }
 
 #[test]
 fn heads_have_flags_and_names(rt: HostRuntime) {
-    assert_eq!(rt; refusal(&rt, b".class\n"), (1, Fault::Operand));
-    assert_eq!(rt;
-        refusal(&rt, b".class public\n.super A\n"),
-        (0, Fault::Memory)
-    );
-    assert_eq!(rt;
-        refusal(&rt, b".class public public E\n"),
-        (1, Fault::Operand)
-    );
-    assert_eq!(rt; refusal(&rt, b".class private E\n"), (1, Fault::Operand));
-    assert_eq!(rt;
-        refusal(&rt, b".class final abstract E\n"),
-        (1, Fault::Operand)
-    );
-    assert_eq!(rt; refusal(&rt, b".class a//b\n"), (1, Fault::Operand));
-    assert_eq!(rt; refusal(&rt, b".class 9\n"), (1, Fault::Operand));
-    assert_eq!(rt;
-        refusal(&rt, b".class E\n.super A B\n"),
-        (2, Fault::Operand)
-    );
+    for (text, line, fault) in [
+        (b".class\n".as_slice(), 1, Fault::Operand),
+        (b".class public\n.super A\n".as_slice(), 0, Fault::Memory),
+        (b".class public public E\n".as_slice(), 1, Fault::Operand),
+        (b".class private E\n".as_slice(), 1, Fault::Operand),
+        (b".class final abstract E\n".as_slice(), 1, Fault::Operand),
+        (b".class a//b\n".as_slice(), 1, Fault::Operand),
+        (b".class 9\n".as_slice(), 1, Fault::Operand),
+        (b".class E\n.super A B\n".as_slice(), 2, Fault::Operand),
+    ] {
+        assert_eq!(rt; refusal(&rt, text), (line, fault));
+    }
     assert_eq!(rt;
         refusal(
             &rt,
@@ -113,34 +107,45 @@ fn heads_have_flags_and_names(rt: HostRuntime) {
         ),
         (0, Fault::Memory)
     );
-    assert_eq!(rt;
-        refusal(&rt, b".class E\n.super A\n.method abstract static f()V\n"),
-        (3, Fault::Operand)
-    );
-    assert_eq!(rt;
-        refusal(&rt, b".class E\n.super A\n.method f\n"),
-        (3, Fault::Operand)
-    );
-    assert_eq!(rt;
-        refusal(&rt, b".class E\n.super A\n.method f(F)V\n"),
-        (3, Fault::Operand)
-    );
-    assert_eq!(rt;
-        refusal(&rt, b".class E\n.super A\n.method f([J[[La/B;)[I\n"),
-        (4, Fault::End)
-    );
-    assert_eq!(rt;
-        refusal(&rt, b".class E\n.super A\n.method f([V)V\n"),
-        (3, Fault::Operand)
-    );
-    assert_eq!(rt;
-        refusal(&rt, b".class E\n.super A\n.method a/f()V\n"),
-        (3, Fault::Operand)
-    );
-    assert_eq!(rt;
-        refusal(&rt, b".class E\n.super A\n.method <init>()V\n"),
-        (4, Fault::End)
-    );
+    for (text, line, fault) in [
+        (
+            b".class E\n.super A\n.method abstract static f()V\n".as_slice(),
+            3,
+            Fault::Operand,
+        ),
+        (
+            b".class E\n.super A\n.method f\n".as_slice(),
+            3,
+            Fault::Operand,
+        ),
+        (
+            b".class E\n.super A\n.method f(F)V\n".as_slice(),
+            3,
+            Fault::Operand,
+        ),
+        (
+            b".class E\n.super A\n.method f([J[[La/B;)[I\n".as_slice(),
+            4,
+            Fault::End,
+        ),
+        (
+            b".class E\n.super A\n.method f([V)V\n".as_slice(),
+            3,
+            Fault::Operand,
+        ),
+        (
+            b".class E\n.super A\n.method a/f()V\n".as_slice(),
+            3,
+            Fault::Operand,
+        ),
+        (
+            b".class E\n.super A\n.method <init>()V\n".as_slice(),
+            4,
+            Fault::End,
+        ),
+    ] {
+        assert_eq!(rt; refusal(&rt, text), (line, fault));
+    }
 }
 
 #[test]
@@ -158,51 +163,32 @@ fn arguments_have_255_units_with_the_object(rt: HostRuntime) -> Result<(), Fail>
 
 #[test]
 fn a_method_has_its_limits_and_its_end(rt: HostRuntime) -> Result<(), Fail> {
-    assert_eq!(rt; refusal_of_body(&rt, "")?, (4, Fault::End));
-    assert_eq!(rt; refusal_of_body(&rt, "return\n")?, (5, Fault::End));
-    assert_eq!(rt; refusal_of_body(&rt, ".method f()V\n")?, (4, Fault::End));
-    assert_eq!(rt; refusal_of_body(&rt, ".method f\n")?, (4, Fault::Operand));
-    assert_eq!(rt; refusal_of_body(&rt, ".end method\n")?, (4, Fault::Limit));
-    assert_eq!(rt;
-        refusal_of_body(&rt, ".limit stack 1\nreturn\n.end method\n")?,
-        (6, Fault::Limit)
-    );
-    assert_eq!(rt;
-        refusal_of_body(&rt, ".limit stack 1\n.limit stack 1\n")?,
-        (5, Fault::Statement)
-    );
-    assert_eq!(rt;
-        refusal_of_body(&rt, ".limit locals 1\n.limit locals 2\n")?,
-        (5, Fault::Statement)
-    );
-    assert_eq!(rt;
-        refusal_of_body(&rt, ".limit stack 65535\n.limit locals 0\n.end method\n")?,
-        (0, Fault::Memory)
-    );
-    assert_eq!(rt;
-        refusal_of_body(&rt, ".limit stack 65536\n")?,
-        (4, Fault::Range)
-    );
-    assert_eq!(rt;
-        refusal_of_body(&rt, ".limit stack 99999999999999999999999\n")?,
-        (4, Fault::Range)
-    );
-    assert_eq!(rt;
-        refusal_of_body(&rt, ".limit stack -1\n")?,
-        (4, Fault::Range)
-    );
-    assert_eq!(rt;
-        refusal_of_body(&rt, ".limit stack 01\n")?,
-        (4, Fault::Operand)
-    );
-    assert_eq!(rt;
-        refusal_of_body(&rt, ".limit foo 1\n")?,
-        (4, Fault::Operand)
-    );
-    assert_eq!(rt; refusal_of_body(&rt, ".end foo\n")?, (4, Fault::Operand));
-    assert_eq!(rt; refusal_of_body(&rt, ".end\n")?, (4, Fault::Operand));
-    assert_eq!(rt; refusal_of_body(&rt, ".class E\n")?, (4, Fault::Statement));
-    assert_eq!(rt; refusal_of_body(&rt, ".foo\n")?, (4, Fault::Statement));
+    for (text, line, fault) in [
+        ("", 4, Fault::End),
+        ("return\n", 5, Fault::End),
+        (".method f()V\n", 4, Fault::End),
+        (".method f\n", 4, Fault::Operand),
+        (".end method\n", 4, Fault::Limit),
+        (".limit stack 1\nreturn\n.end method\n", 6, Fault::Limit),
+        (".limit stack 1\n.limit stack 1\n", 5, Fault::Statement),
+        (".limit locals 1\n.limit locals 2\n", 5, Fault::Statement),
+        (
+            ".limit stack 65535\n.limit locals 0\n.end method\n",
+            0,
+            Fault::Memory,
+        ),
+        (".limit stack 65536\n", 4, Fault::Range),
+        (".limit stack 99999999999999999999999\n", 4, Fault::Range),
+        (".limit stack -1\n", 4, Fault::Range),
+        (".limit stack 01\n", 4, Fault::Operand),
+        (".limit foo 1\n", 4, Fault::Operand),
+        (".end foo\n", 4, Fault::Operand),
+        (".end\n", 4, Fault::Operand),
+        (".class E\n", 4, Fault::Statement),
+        (".foo\n", 4, Fault::Statement),
+    ] {
+        assert_eq!(rt; refusal_of_body(&rt, text)?, (line, fault));
+    }
     let text = b".class E\n.super A\n.method native f()V\nreturn\n.end method\n";
     assert_eq!(rt; refusal(&rt, text), (4, Fault::Statement));
     let text = b".class E\n.super A\n.method native f()V\n.end foo\n";
@@ -216,75 +202,65 @@ fn a_method_has_its_limits_and_its_end(rt: HostRuntime) -> Result<(), Fail> {
 
 #[test]
 fn instructions_have_their_operands(rt: HostRuntime) -> Result<(), Fail> {
-    assert_eq!(rt; refusal_of_line(&rt, "nop")?, (0, Fault::Memory));
-    assert_eq!(rt; refusal_of_line(&rt, "goto X")?, (6, Fault::Mnemonic));
-    assert_eq!(rt; refusal_of_line(&rt, "wide nop")?, (6, Fault::Mnemonic));
-    assert_eq!(rt; refusal_of_line(&rt, "nop nop")?, (6, Fault::Operand));
-    assert_eq!(rt; refusal_of_line(&rt, "bipush -128")?, (0, Fault::Memory));
-    assert_eq!(rt; refusal_of_line(&rt, "bipush -129")?, (6, Fault::Range));
-    assert_eq!(rt; refusal_of_line(&rt, "bipush 128")?, (6, Fault::Range));
-    assert_eq!(rt; refusal_of_line(&rt, "bipush 05")?, (6, Fault::Operand));
-    assert_eq!(rt; refusal_of_line(&rt, "bipush -0")?, (6, Fault::Operand));
-    assert_eq!(rt; refusal_of_line(&rt, "bipush +5")?, (6, Fault::Operand));
-    assert_eq!(rt; refusal_of_line(&rt, "bipush")?, (6, Fault::Operand));
-    assert_eq!(rt;
-        refusal_of_line(&rt, "sipush 32767 ; all right")?,
-        (0, Fault::Memory)
-    );
-    assert_eq!(rt; refusal_of_line(&rt, "sipush 32768")?, (6, Fault::Range));
-    assert_eq!(rt;
-        refusal_of_line(&rt, "ldc -2147483648")?,
-        (0, Fault::Memory)
-    );
-    assert_eq!(rt; refusal_of_line(&rt, "ldc 2147483648")?, (6, Fault::Range));
-    assert_eq!(rt;
-        refusal_of_line(&rt, "ldc -9223372036854775808")?,
-        (6, Fault::Range)
-    );
-    assert_eq!(rt;
-        refusal_of_line(&rt, "ldc -9999999999999999999")?,
-        (6, Fault::Range)
-    );
-    assert_eq!(rt;
-        refusal_of_line(&rt, "invokestatic vm/Sys/print(I)V")?,
-        (0, Fault::Memory)
-    );
-    assert_eq!(rt;
-        refusal_of_line(&rt, "invokestatic print(I)V")?,
-        (6, Fault::Operand)
-    );
-    assert_eq!(rt;
-        refusal_of_line(&rt, "invokestatic vm/Sys/print")?,
-        (6, Fault::Operand)
-    );
+    for (text, line, fault) in [
+        ("nop", 0, Fault::Memory),
+        ("goto X", 6, Fault::Mnemonic),
+        ("wide nop", 6, Fault::Mnemonic),
+        ("nop nop", 6, Fault::Operand),
+        ("bipush -128", 0, Fault::Memory),
+        ("bipush -129", 6, Fault::Range),
+        ("bipush 128", 6, Fault::Range),
+        ("bipush 05", 6, Fault::Operand),
+        ("bipush -0", 6, Fault::Operand),
+        ("bipush +5", 6, Fault::Operand),
+        ("bipush", 6, Fault::Operand),
+        ("sipush 32767 ; all right", 0, Fault::Memory),
+        ("sipush 32768", 6, Fault::Range),
+        ("ldc -2147483648", 0, Fault::Memory),
+        ("ldc 2147483648", 6, Fault::Range),
+        ("ldc -9223372036854775808", 6, Fault::Range),
+        ("ldc -9999999999999999999", 6, Fault::Range),
+        ("invokestatic vm/Sys/print(I)V", 0, Fault::Memory),
+        ("invokestatic print(I)V", 6, Fault::Operand),
+        ("invokestatic vm/Sys/print", 6, Fault::Operand),
+    ] {
+        assert_eq!(rt; refusal_of_line(&rt, text)?, (line, fault));
+    }
     Ok(())
 }
 
 #[test]
 fn labels_are_not_served_yet(rt: HostRuntime) -> Result<(), Fail> {
-    assert_eq!(rt; refusal_of_line(&rt, "X:")?, (6, Fault::Statement));
-    assert_eq!(rt; refusal_of_line(&rt, "X: return")?, (6, Fault::Operand));
-    assert_eq!(rt; refusal_of_line(&rt, "9X:")?, (6, Fault::Mnemonic));
-    assert_eq!(rt;
-        refusal_of_line(&rt, ".catch all from A to B using C")?,
-        (6, Fault::Statement)
-    );
+    for (text, line, fault) in [
+        ("X:", 6, Fault::Statement),
+        ("X: return", 6, Fault::Operand),
+        ("9X:", 6, Fault::Mnemonic),
+        (".catch all from A to B using C", 6, Fault::Statement),
+    ] {
+        assert_eq!(rt; refusal_of_line(&rt, text)?, (line, fault));
+    }
     Ok(())
 }
 
 #[test]
 fn the_least_faulty_line_is_told(rt: HostRuntime) -> Result<(), Fail> {
-    assert_eq!(rt; refusal_of_line(&rt, "foo ;\x7f")?, (6, Fault::Byte));
-    assert_eq!(rt; refusal_of_line(&rt, "foo\nbar\x01")?, (6, Fault::Mnemonic));
-    assert_eq!(rt; refusal(&rt, b".class E\r\n.super A\r"), (2, Fault::Byte));
-    assert_eq!(rt;
-        refusal(&rt, b".class E\n.super A\n\xff\n.foo"),
-        (3, Fault::Byte)
-    );
-    assert_eq!(rt;
-        refusal(&rt, b"\xca\xfe\xba\xbe\x00\x00\x00\x31"),
-        (1, Fault::Byte)
-    );
+    for (text, line, fault) in [
+        ("foo ;\x7f", 6, Fault::Byte),
+        ("foo\nbar\x01", 6, Fault::Mnemonic),
+    ] {
+        assert_eq!(rt; refusal_of_line(&rt, text)?, (line, fault));
+    }
+    for (text, line, fault) in [
+        (b".class E\r\n.super A\r".as_slice(), 2, Fault::Byte),
+        (b".class E\n.super A\n\xff\n.foo".as_slice(), 3, Fault::Byte),
+        (
+            b"\xca\xfe\xba\xbe\x00\x00\x00\x31".as_slice(),
+            1,
+            Fault::Byte,
+        ),
+    ] {
+        assert_eq!(rt; refusal(&rt, text), (line, fault));
+    }
     Ok(())
 }
 
