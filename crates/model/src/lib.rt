@@ -22,7 +22,7 @@ pub mod refusals;
 pub mod trees;
 pub mod turns;
 pub mod values;
+pub mod views;
 
 #[cfg(test)]
 mod tests;
-pub mod views;
