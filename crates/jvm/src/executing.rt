@@ -1,0 +1,177 @@
+//! What the program does at a command.
+
+use crate::files::{Files, ReadError};
+use crate::launching::{LaunchError, SourceError, launch};
+use crate::listing::ListingError;
+use crate::options::{Command, RunOptions};
+use jasmin::Fault as TextFault;
+use loader::LoadError;
+use model::journals::{HeapShape, Limits};
+use model::turns::{Status, Turn};
+use scheduler::worlds::{World, WorldError};
+use std::alloc::{AllocError, Global};
+use std::io::Write;
+
+/// A status, and the line that goes to standard error behind `jvm: `.
+#[derive(Drop)]
+pub struct Ending {
+    pub status: u8,
+    pub line: Option<String>,
+}
+
+impl Ending {
+    /// A good end.
+    fn good() -> Ending {
+        Ending { status: 0, line: None }
+    }
+
+    /// This status and this line; `jvm: memory` where there is no memory for the line.
+    fn told(status: u8, line: Result<String, AllocError>) -> Ending {
+        match line {
+            Ok(line) => Ending { status, line: Some(line) },
+            Err(_) => Ending::memory(),
+        }
+    }
+
+    /// Memory ran out: status 6.
+    fn memory() -> Ending {
+        Ending { status: 6, line: None }
+    }
+}
+
+/// The heap of some options. So far no object is made: any cell of another size makes a shape that no world has (P1).
+fn shape_of(options: &RunOptions) -> HeapShape {
+    if options.medium == 0 && options.large == 0 {
+        HeapShape { small: options.small, medium: 0, large: 0 }
+    } else {
+        HeapShape { small: 0, medium: 0, large: 0 }
+    }
+}
+
+/// The files' bytes, in order.
+fn read_all<F: Files>(alloc: Global, files: &mut F, names: &[String]) -> Result<Vec<Vec<u8>>, Ending> {
+    let mut sources = Vec::new(alloc);
+    for name in names {
+        match files.read(alloc, name.as_str()) {
+            Ok(bytes) => match sources.push(bytes) {
+                Ok(()) => {}
+                Err(_) => return Err(Ending::memory()),
+            },
+            Err(ReadError::Memory) => return Err(Ending::memory()),
+            Err(ReadError::Failed) => {
+                return Err(Ending::told(6, format!(in alloc; "cannot read {name}")));
+            }
+        }
+    }
+    Ok(sources)
+}
+
+/// The end of a command whose source at a place was refused.
+fn source_refused(alloc: Global, names: &[String], place: usize, error: &SourceError) -> Ending {
+    let lacks_memory = match error {
+        SourceError::Text(error) => error.fault == TextFault::Memory,
+        SourceError::Assembly(ListingError::Memory) => true,
+        SourceError::Assembly(_) => false,
+    };
+    match names.get(place) {
+        Some(name) if !lacks_memory => Ending::told(2, format!(in alloc; "{name}: {error}")),
+        _ => Ending::memory(),
+    }
+}
+
+/// The end of a command that has no world.
+fn refused(alloc: Global, names: &[String], error: &LaunchError) -> Ending {
+    match error {
+        LaunchError::Source { place, error } => source_refused(alloc, names, *place, error),
+        LaunchError::Load(LoadError::Memory(_)) => Ending::memory(),
+        LaunchError::Load(error) => Ending::told(2, format!(in alloc; "load: {error}")),
+        LaunchError::World(WorldError::Memory) => Ending::memory(),
+        LaunchError::World(error) => Ending::told(2, format!(in alloc; "world: {error}")),
+    }
+}
+
+/// Makes turns of the thread that is picked until the world runs no more or a turn isn't done.
+fn carry_on(world: &mut World) {
+    let steps = world.journal().limits().steps;
+    for _ in 0..=steps {
+        if world.status() != Status::Running {
+            return;
+        }
+        match world.pick() {
+            Some(thread) => {
+                if world.turn(model::turns::Actor::Thread(thread)) != Turn::Done {
+                    return;
+                }
+            }
+            None => return,
+        }
+    }
+}
+
+/// How a world that was run ends the command.
+fn ended(alloc: Global, world: &World) -> Ending {
+    match (world.fault(), world.status()) {
+        (Some((fault, thread)), _) => {
+            Ending::told(3, format!(in alloc; "fault {fault} in thread {thread}"))
+        }
+        (None, Status::Finished) => Ending::good(),
+        (None, Status::Stuck) => Ending::told(5, format!(in alloc; "stuck")),
+        (None, _) => {
+            if world.output_full() {
+                Ending::told(4, format!(in alloc; "output limit"))
+            } else {
+                Ending::told(4, format!(in alloc; "step limit"))
+            }
+        }
+    }
+}
+
+/// Launches the program of the options' files.
+fn launched<F: Files>(alloc: Global, options: &RunOptions, files: &mut F) -> Result<World, Ending> {
+    let names = options.files.as_slice();
+    let sources = match read_all(alloc, files, names) {
+        Ok(sources) => sources,
+        Err(ending) => return Err(ending),
+    };
+    let limits = Limits { steps: options.steps, output: options.output };
+    match launch(alloc, sources, shape_of(options), limits, &[]) {
+        Ok(world) => Ok(world),
+        Err(error) => Err(refused(alloc, names, &error)),
+    }
+}
+
+/// Runs a program and writes its output.
+fn run<F: Files, W: Write>(alloc: Global, options: &RunOptions, files: &mut F, output: &mut W) -> Ending {
+    match launched(alloc, options, files) {
+        Ok(mut world) => {
+            carry_on(&mut world);
+            match output.write_all(world.output()) {
+                Ok(()) => ended(alloc, &world),
+                Err(_) => Ending::told(6, format!(in alloc; "cannot write -")),
+            }
+        }
+        Err(ending) => ending,
+    }
+}
+
+/// Writes the line of an ending, if it has one. What can't be written is let go.
+fn tell<E: Write>(errors: &mut E, ending: &Ending) {
+    let line = match (&ending.line, ending.status) {
+        (Some(line), _) => line.as_bytes(),
+        (None, 0) => return,
+        (None, _) => b"memory",
+    };
+    let _ = errors.write_all(b"jvm: ");
+    let _ = errors.write_all(line);
+    let _ = errors.write_all(b"\n");
+}
+
+/// Does what a command says with files, standard output and standard error, and answers the exit status: 0 where all threads
+/// ended, 2 refused input, 3 a fault, 4 a limit, 5 stuck, 6 memory or a file that can't be read or written.
+pub fn execute<F: Files, W: Write, E: Write>(alloc: Global, command: &Command, files: &mut F, output: &mut W, errors: &mut E) -> u8 {
+    let ending = match command {
+        Command::Run(options) => run(alloc, options, files, output),
+    };
+    tell(errors, &ending);
+    ending.status
+}

@@ -1,0 +1,6 @@
+#![tactic(auto)]
+pub mod executing;
+pub mod files;
+pub mod launching;
+pub mod listing;
+pub mod options;
