@@ -1,5 +1,5 @@
 -- What the statements of a body say, one by one.
-use Rattle.std.proofs.Common.{◌≡◌, ℕ, ◌+◌, ◌≤◌, Bool, true, false, List, [], ◌∷◌, ◌++◌, length, refl, sym, ◌∙◌, ap, Some, None, Option, append_assoc, append-nil}
+use Rattle.std.proofs.Common.{◌≡◌, ℕ, true, false, List, [], ◌∷◌, ◌++◌, refl, ◌∙◌, Some, None, Option, append_assoc, append-nil}
 use Rattle.std.specs.Option.{option_and_then, option_to_list, is_some}
 use Rattle.std.specs.Str.{bytes_eq}
 use Rattle.std.proofs.lemmas.Slice.Eq.{bytes_eq-Decides}
@@ -7,7 +7,7 @@ use Rattle.model.specs.declared.trees.CatchRow.{CatchRow}
 use Rattle.model.specs.declared.trees.TextLine.{TextLine}
 use Rattle.model.specs.Texts.Bodies.{Body}
 use Rattle.model.specs.Texts.Classes.{is_end}
-use Rattle.model.specs.Texts.Methods.{Part, stack_limit, locals_limit, catch_row, code_line, part_of, parts_of, part_before, stack_limits, locals_limits, catch_rows, code_lines, body_with, body_of, body_of_parts}
+use Rattle.model.specs.Texts.Methods.{Part, stack_limit, locals_limit, code_line, part_of, parts_of, part_before, stack_limits, locals_limits, catch_rows, code_lines, body_with}
 use Rattle.model.specs.Texts.Statements.{Statement}
 use Rattle.jasmin.specs.declared.bodies.Part.TheVariants as held
 use Rattle.jasmin.specs.Bodies.{Says, SaysNothing, block_of, in_block, behind_block, first_body}

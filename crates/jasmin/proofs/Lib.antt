@@ -1,4 +1,6 @@
 pub mod BodyLemmas
 pub mod MethodLemmas
+pub mod NarrowLemmas
 pub mod NumberLemmas
 pub mod SignatureLemmas
+pub mod SizeLemmas

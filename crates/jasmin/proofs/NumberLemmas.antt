@@ -1,6 +1,6 @@
 -- The value of digits is no less than that of the first of them.
-use Rattle.std.proofs.Common.{◌≡◌, ℕ, zero, suc, ◌+◌, ◌-◌, ◌*◌, ◌<◌, ◌≤◌, List, [], ◌∷◌, length, drop, get_or, refl, arith, drop-cons, add-one}
-use Rattle.model.specs.Texts.Numbers.{decimal, decimal_from}
+use Rattle.std.proofs.Common.{ℕ, suc, ◌+◌, ◌-◌, ◌*◌, ◌<◌, ◌≤◌, List, [], ◌∷◌, length, drop, get_or, arith, drop-cons}
+use Rattle.model.specs.Texts.Numbers.{decimal_from}
 
 grows : (n : ℕ) (ds : List ℕ) → n ≤ decimal_from n ds
 grows n [] = omega arith

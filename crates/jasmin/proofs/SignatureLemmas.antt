@@ -1,5 +1,5 @@
 -- Words that name a method, by what they are cut into.
-use Rattle.std.proofs.Common.{◌≡◌, ℕ, ◌==◌, Bool, true, false, ◌&&◌, List, [], ◌∷◌, length, refl, sym, Some, None}
+use Rattle.std.proofs.Common.{◌≡◌, ℕ, ◌==◌, true, false, ◌&&◌, List, [], refl, Some, None}
 use Rattle.std.specs.Prelude.{nat_le}
 use Rattle.std.specs.List.{before_last, after_last}
 use Rattle.model.specs.Texts.Descriptors.{arguments_of}

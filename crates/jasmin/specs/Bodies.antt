@@ -1,4 +1,4 @@
-use Rattle.std.specs.Prelude.{◌≡◌, ℕ, true, false, List, [], ◌∷◌, Option, Some, None, if◌then◌else◌}
+use Rattle.std.specs.Prelude.{◌≡◌, true, false, List, [], ◌∷◌, Option, Some, None, if◌then◌else◌}
 use Rattle.std.specs.Option.{option_map, option_and_then}
 use Rattle.jasmin.specs.declared.bodies.Part.{Part as Held}
 use Rattle.jasmin.specs.declared.bodies.Part.TheVariants.{End, StackLimit, LocalsLimit, Line}
@@ -6,7 +6,7 @@ use Rattle.model.specs.declared.trees.MethodTree.{MethodTree}
 use Rattle.model.specs.Texts.Bodies.{Body}
 use Rattle.model.specs.Texts.Classes.{is_end}
 use Rattle.model.specs.Texts.Heads.{MethodHead}
-use Rattle.model.specs.Texts.Methods.{Part, stack_limit, locals_limit, code_line, part_of, body_of, method_under}
+use Rattle.model.specs.Texts.Methods.{stack_limit, locals_limit, code_line, part_of, body_of, method_under}
 use Rattle.model.specs.Texts.Statements.{Statement}
 
 -- what a statement of a body says: that it ends, or a part of it

@@ -1,2 +1,4 @@
 pub mod Bodies
+pub mod Numbers
+pub mod Refusals
 pub mod Rows

@@ -4,20 +4,25 @@
 #![tactic(auto)]
 
 mod bodies;
+mod copies;
 mod descriptors;
 mod errors;
 mod flags;
 mod heads;
 mod instructions;
+mod listings;
 mod mnemonics;
 mod names;
 mod numbers;
 mod operands;
 mod reader;
 mod signatures;
+mod sizes;
 mod tables;
+mod widths;
 
 pub use errors::{Fault, TextError};
+pub use listings::{ListingError, listing};
 pub use reader::read;
 
 #[cfg(test)]

@@ -1,0 +1,180 @@
+//! A text's instructions with pcs for labels and settled widths.
+ghost use Rattle.std.specs.Prelude.{◌≡◌, ◌≤◌, map, IfOk};
+ghost use Rattle.model.specs.Texts.Labels.{pc_behind, pc_of, with_targets};
+ghost use Rattle.model.specs.Texts.Widths.{widened, widened_constant, widened_line};
+
+use crate::sizes::label_pc;
+use crate::widths::among;
+use model::instructions::{
+    ArrayOperation, Constant, Instruction, LookupSwitch, TableSwitch, Width,
+};
+use model::listings::Listed;
+use model::names::{Member, Name};
+use model::trees::{TextLine, Written};
+use std::alloc::{AllocError, Global};
+
+/// A name of one's own.
+pub fn copied(alloc: Global, name: &Name) -> Result<Name, AllocError>
+    ensures { IfOk result (λ copy. copy ≡ name.now) }
+{
+    Name::copy_of(alloc, name.as_bytes())
+}
+
+fn copied_member(alloc: Global, member: &Member) -> Result<Member, AllocError>
+    ensures { IfOk result (λ copy. copy ≡ member.now) }
+{
+    Ok(Member {
+        class: copied(alloc, &member.class)?,
+        name: copied(alloc, &member.name)?,
+        descriptor: copied(alloc, &member.descriptor)?,
+    })
+}
+
+/// An instruction of the lines that hold a method's code, with pcs for labels. `narrow` are the numbers that go with
+/// `ldc`.
+pub fn listed(
+    alloc: Global,
+    narrow: &[i32],
+    lines: &[TextLine],
+    instruction: &Written,
+) -> Result<Listed, AllocError>
+    requires { pc_behind 0 (map (widened_line narrow.now) lines.now) ≤ 65535 }
+    ensures { IfOk result (λ listed. listed ≡ with_targets (pc_of 0 (map (widened_line narrow.now) lines.now)) (widened narrow.now instruction.now)) }
+{
+    Ok(match instruction {
+        Instruction::Nop => Instruction::Nop,
+        Instruction::Constant(constant) => Instruction::Constant(widened_constant(
+            narrow, *constant,
+        )),
+        Instruction::Local(access) => Instruction::Local(*access),
+        Instruction::Stack(operation) => Instruction::Stack(*operation),
+        Instruction::Number(operation) => Instruction::Number(*operation),
+        Instruction::Branch(test, target) => Instruction::Branch(
+            *test,
+            label_pc(narrow, lines, target),
+        ),
+        Instruction::TableSwitch(table) => Instruction::TableSwitch(listed_table(
+            alloc, narrow, lines, table,
+        )?),
+        Instruction::LookupSwitch(lookup) => Instruction::LookupSwitch(listed_lookup(
+            alloc, narrow, lines, lookup,
+        )?),
+        Instruction::Return(kind) => Instruction::Return(*kind),
+        Instruction::Static(access, field) => Instruction::Static(
+            *access,
+            copied_member(alloc, field)?,
+        ),
+        Instruction::Field(access, field) => Instruction::Field(
+            *access,
+            copied_member(alloc, field)?,
+        ),
+        Instruction::Array(operation) => Instruction::Array(copied_array(alloc, operation)?),
+        Instruction::Class(operation, class) => Instruction::Class(
+            *operation,
+            copied(alloc, class)?,
+        ),
+        Instruction::Invoke(invocation, method) => Instruction::Invoke(
+            *invocation,
+            copied_member(alloc, method)?,
+        ),
+        Instruction::Throw => Instruction::Throw,
+        Instruction::Monitor(operation) => Instruction::Monitor(*operation),
+    })
+}
+
+fn widened_constant(narrow: &[i32], constant: Constant<i32, i64>) -> Constant<i32, i64>
+    ensures { result ≡ widened_constant narrow.now constant }
+{
+    match constant {
+        Constant::Int(Width::Narrow, n) => {
+            if among(narrow, n) {
+                Constant::Int(Width::Narrow, n)
+            } else {
+                Constant::Int(Width::Wide, n)
+            }
+        }
+        other => other,
+    }
+}
+
+fn copied_array(
+    alloc: Global,
+    operation: &ArrayOperation<Name>,
+) -> Result<ArrayOperation<Name>, AllocError>
+    ensures { IfOk result (λ copy. copy ≡ operation.now) }
+{
+    Ok(match operation {
+        ArrayOperation::New(primitive) => ArrayOperation::New(*primitive),
+        ArrayOperation::NewOf(class) => ArrayOperation::NewOf(copied(alloc, class)?),
+        ArrayOperation::Length => ArrayOperation::Length,
+        ArrayOperation::Load(kind) => ArrayOperation::Load(*kind),
+        ArrayOperation::Store(kind) => ArrayOperation::Store(*kind),
+    })
+}
+
+fn listed_table(
+    alloc: Global,
+    narrow: &[i32],
+    lines: &[TextLine],
+    table: &TableSwitch<Name>,
+) -> Result<TableSwitch<u16>, AllocError>
+    requires { pc_behind 0 (map (widened_line narrow.now) lines.now) ≤ 65535 }
+    ensures { IfOk result (λ listed. listed ≡ record { low = table.now.low; targets = map (pc_of 0 (map (widened_line narrow.now) lines.now)) table.now.targets; default = pc_of 0 (map (widened_line narrow.now) lines.now) table.now.default }) }
+{
+    let targets = listed_targets(alloc, narrow, lines, table.targets.as_slice())?;
+    Ok(TableSwitch {
+        low: table.low,
+        targets,
+        default: label_pc(narrow, lines, &table.default),
+    })
+}
+
+fn listed_lookup(
+    alloc: Global,
+    narrow: &[i32],
+    lines: &[TextLine],
+    lookup: &LookupSwitch<Name>,
+) -> Result<LookupSwitch<u16>, AllocError>
+    requires { pc_behind 0 (map (widened_line narrow.now) lines.now) ≤ 65535 }
+    ensures { IfOk result (λ listed. listed ≡ record { pairs = map (λ p. (p.0, pc_of 0 (map (widened_line narrow.now) lines.now) p.1)) lookup.now.pairs; default = pc_of 0 (map (widened_line narrow.now) lines.now) lookup.now.default }) }
+{
+    let pairs = listed_pairs(alloc, narrow, lines, lookup.pairs.as_slice())?;
+    Ok(LookupSwitch {
+        pairs,
+        default: label_pc(narrow, lines, &lookup.default),
+    })
+}
+
+fn listed_targets(
+    alloc: Global,
+    narrow: &[i32],
+    lines: &[TextLine],
+    labels: &[Name],
+) -> Result<Vec<u16>, AllocError>
+    requires { pc_behind 0 (map (widened_line narrow.now) lines.now) ≤ 65535 }
+    ensures { IfOk result (λ pcs. pcs.items ≡ map (pc_of 0 (map (widened_line narrow.now) lines.now)) labels.now) }
+{
+    let mut pcs = Vec::new(alloc);
+    for label in labels {
+        let pc = label_pc(narrow, lines, label);
+        pcs.push(pc)?;
+    }
+    Ok(pcs)
+}
+
+fn listed_pairs(
+    alloc: Global,
+    narrow: &[i32],
+    lines: &[TextLine],
+    pairs: &[(i32, Name)],
+) -> Result<Vec<(i32, u16)>, AllocError>
+    requires { pc_behind 0 (map (widened_line narrow.now) lines.now) ≤ 65535 }
+    ensures { IfOk result (λ listed. listed.items ≡ map (λ p. (p.0, pc_of 0 (map (widened_line narrow.now) lines.now) p.1)) pairs.now) }
+{
+    let mut listed = Vec::new(alloc);
+    for (key, label) in pairs {
+        let pc = label_pc(narrow, lines, label);
+        listed.push((*key, pc))?;
+    }
+    Ok(listed)
+}
