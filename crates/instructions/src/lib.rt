@@ -4,3 +4,5 @@
 mod acting;
 mod printing;
 pub mod state;
+#[cfg(test)]
+mod tests;
