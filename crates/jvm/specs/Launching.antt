@@ -3,8 +3,7 @@ use Rattle.std.specs.Option.{option_and_then}
 use Rattle.std.specs.Prelude.{Vec}
 use Rattle.std.specs.Global.{Global}
 use Rattle.jasmin.specs.declared.errors.Fault.TheVariants.{Memory as TextMemory}
-use Rattle.jvm.specs.declared.listing.ListingError.{ListingError}
-use Rattle.jvm.specs.declared.listing.ListingError.TheVariants.{Code, Memory as ListingMemory}
+use Rattle.jasmin.specs.Refusals.{IsSize}
 use Rattle.loader.specs.Errors.{IsRefusedBy}
 use Rattle.model.specs.Limits.{ShapeFits, LimitsFit}
 use Rattle.scheduler.specs.declared.worlds.WorldError.{WorldError}
@@ -57,14 +56,10 @@ pub record IsLaunched (texts : List (List ℕ)) (shape : HeapShape) (limits : Li
 abbrev pub texts_of : List (Vec ℕ Global) → List (List ℕ)
 texts_of sources = map (λ (s : Vec ℕ Global). s.items) sources
 
-abbrev pub IsMemory : ListingError → Type 0
-IsMemory (Code method) = ⊥
-IsMemory ListingMemory = Unit {0}
-
 -- memory ran out
 abbrev pub LacksMemory : SourceError → Type 0
 LacksMemory (Text e) = e.fault ≡ TextMemory
-LacksMemory (Assembly e) = IsMemory e
+LacksMemory (Assembly e) = IsSize e → ⊥
 
 -- a shape or limits out of range, or want of memory
 abbrev pub ExcusesWorld : HeapShape → Limits → WorldError → Type 0

@@ -2,9 +2,8 @@
 
 use crate::files::{Files, ReadError};
 use crate::launching::{LaunchError, SourceError, launch};
-use crate::listing::ListingError;
 use crate::options::{Command, RunOptions};
-use jasmin::Fault as TextFault;
+use jasmin::{Fault as TextFault, ListingError};
 use loader::LoadError;
 use model::journals::{HeapShape, Limits};
 use model::turns::{Status, Turn};

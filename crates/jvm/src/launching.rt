@@ -4,8 +4,7 @@ ghost use Rattle.model.specs.declared.journals.HeapShape.{HeapShape};
 ghost use Rattle.model.specs.declared.journals.Limits.{Limits};
 ghost use Rattle.jvm.specs.Launching.{Excuses, IsLaunched, LacksMemory, listings_of, text_listing, texts_of};
 
-use crate::listing::{ListingError, listing};
-use jasmin::TextError;
+use jasmin::{ListingError, TextError, listing};
 use loader::programs::Program;
 use loader::{LoadError, accept};
 use model::journals::{HeapShape, Limits};
