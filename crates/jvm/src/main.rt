@@ -1,0 +1,63 @@
+//! `jvm`: runs Jasmin texts on a small Java virtual machine.
+#![tactic(auto)]
+
+mod executing;
+mod files;
+mod launching;
+mod options;
+#[cfg(test)]
+mod tests;
+
+use crate::executing::execute;
+use crate::files::SystemFiles;
+use crate::options::{LineError, options};
+use std::env;
+use std::io;
+use std::io::Write;
+use std::process::ExitCode;
+
+/// The status of a command line that stands for no command; what there is to say is said.
+fn refused(rt: &HostRuntime, error: &LineError) -> io::Result<u8> {
+    match error {
+        LineError::Memory => {
+            eprintln!(rt; "jvm: memory")?;
+            Ok(6)
+        }
+        LineError::Options => {
+            eprintln!(rt; "jvm: options")?;
+            Ok(7)
+        }
+        LineError::Words { text, mistake } => {
+            if *mistake {
+                eprint!(rt; "{text}")?;
+                Ok(7)
+            } else {
+                print!(rt; "{text}")?;
+                Ok(0)
+            }
+        }
+    }
+}
+
+/// Does what the words say, and answers the exit status.
+fn perform(rt: &HostRuntime) -> io::Result<u8> {
+    let alloc = rt.alloc();
+    let owned: Vec<String> = env::args(rt)?.collect(alloc)?;
+    let mut words = Vec::new(alloc);
+    for word in &owned {
+        words.push(word.as_str())?;
+    }
+    match options(alloc, words.as_slice()) {
+        Ok(command) => {
+            let mut files = SystemFiles { runtime: rt };
+            let mut output = rt.stdout();
+            let mut errors = rt.stderr();
+            Ok(execute(alloc, &command, &mut files, &mut output, &mut errors))
+        }
+        Err(error) => refused(rt, &error),
+    }
+}
+
+fn main(rt: HostRuntime) -> io::Result<ExitCode> {
+    Ok(ExitCode::from(perform(&rt)?))
+}
