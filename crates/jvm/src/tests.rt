@@ -7,6 +7,7 @@ use std::process::Abort;
 use std::test::Fail;
 
 /// One file.
+#[derive(Drop)]
 struct OneFile<'a> {
     name: &'a str,
     text: &'a [u8],
