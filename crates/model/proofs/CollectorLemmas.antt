@@ -13,6 +13,7 @@ pub mod Opening
 pub mod Turning
 pub mod Moving
 pub mod Stepping
+pub mod Known
 pub mod Table
 pub mod Outcomes
 pub mod Running

@@ -4,13 +4,14 @@ use Rattle.model.specs.declared.colours.Colour.TheVariants.{White, Grey, Black}
 use Rattle.model.specs.declared.colours.Phase.TheVariants.{Idle}
 use Rattle.model.specs.declared.journals.HeapShape.{HeapShape}
 use Rattle.model.specs.declared.values.Entry.TheVariants.{Unset}
-use Rattle.model.specs.Accounts.{Cell, Account, numbers_up, empty_account, opening_account, placed}
+use Rattle.model.specs.Accounts.{Cell, Account, numbers_up, empty_account, opening_account, placed, take_cell}
 use Rattle.model.specs.Accounts.Cell.{Free, Taken}
 use Rattle.model.specs.ClassListings.{ClassListing}
 use Rattle.model.specs.CodeListings.{CodeListing}
-use Rattle.model.specs.Frames.{MethodPlace, Frame}
+use Rattle.model.specs.declared.places.MethodPlace.{MethodPlace}
+use Rattle.model.specs.Frames.{Frame, opening_frame}
 use Rattle.model.specs.Programs.{main_in, code_at}
-use Rattle.model.specs.Worlds.{World, Object, opening_world, opening_objects, opening_frame, opening_frames}
+use Rattle.model.specs.Worlds.{World, Object, opening_world, opening_objects, opening_frames}
 use Rattle.model.specs.Collector.Places.{Place, ref_at, entry_ref, entries_at, monitor_at, words_of, root_at, word_at}
 use Rattle.model.specs.Collector.Places.Place.{MemoryError, StackError, Slot, FrameEntry, MethodMonitor}
 use Rattle.model.specs.Collector.Table.{cell_at}
@@ -115,6 +116,10 @@ begins shape two =
       left = (let l = t.left in omega arith);
     }
 
+-- birth 2 comes into an account that is known
+second_is : (shape : HeapShape) (a b : Account) (r : ℕ × Account) (t : Takes shape 2 b r.0 r.1) → a ≡ b → take_cell b 0 ≡ Some r → placed a 2 0 White ≡ record (relisted b t.small t.medium t.large) { cells = set b.cells r.0 (Taken 2 White) }
+second_is shape a b r t e f = rw e (placed_is shape 2 b 0 White r t f)
+
 opens : (shape : HeapShape) → 2 ≤ shape.small + shape.medium + shape.large → Opens shape (opening_account shape)
 opens shape two =
     let f = begins shape two in
@@ -128,7 +133,7 @@ opens shape two =
       small = t.small;
       medium = t.medium;
       large = t.large;
-      is = ap (λ (a : Account). placed a 2 0 White) f.is ∙ placed_is shape 2 o 0 White room.0 t room.1;
+      is = second_is shape (placed (empty_account shape) 1 0 White) o room.0 t f.is room.1;
       tidy = tidy-came shape 2 (relisted o t.small t.medium t.large) c White (omega arith) t.was_free t.within t.not_small t.not_medium t.not_large t.tidy;
       memory = (f.memory.0, came_after 2 c White _ _ came f.memory.0 1 White f.memory.1);
       stack = (c, came.here);
@@ -154,11 +159,11 @@ framed_rootless : (program : List ClassListing) (place : MethodPlace) (o : Optio
 framed_rootless program place None e = rw e no_frame
 framed_rootless program place (Some code) e = rw e (record { entries = entries; monitors = monitors })
   where
-    entries : (d j b : ℕ) → ref_at (entries_at (opening_frame place code ∷ []) d) j ≡ Some b → ⊥
+    entries : (d j b : ℕ) → ref_at (entries_at (opening_frame place code.max_locals code.max_stack ∷ []) d) j ≡ Some b → ⊥
     entries zero j b e = no_entry code.max_locals j b e
     entries (suc d) j b e = cc
 
-    monitors : (d b : ℕ) → monitor_at (opening_frame place code ∷ []) d ≡ Some b → ⊥
+    monitors : (d b : ℕ) → monitor_at (opening_frame place code.max_locals code.max_stack ∷ []) d ≡ Some b → ⊥
     monitors zero b e = cc
     monitors (suc d) b e = cc
 
