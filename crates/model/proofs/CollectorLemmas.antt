@@ -24,3 +24,4 @@ pub mod Fading
 pub mod FadingTurns
 pub mod Reclaiming
 pub mod WorkedRows
+pub mod WorkedRuns
