@@ -14,11 +14,13 @@ pub mod Turning
 pub mod Moving
 pub mod Stepping
 pub mod Known
+pub mod Locals
 pub mod Table
 pub mod Outcomes
 pub mod Running
 pub mod Tracing
 pub mod Holding
+pub mod Keeping
 pub mod Promising
 pub mod Fading
 pub mod FadingTurns

@@ -67,7 +67,7 @@ unfolding Held
 append_held shape a p true c b y e = swept_held shape a p (cell_at a.cells p) refl c b y e
 append_held shape a p false c b y e = (y, e)
 
-step_held : (shape : HeapShape) (w : World) (a : Account) (phase : Phase) (c b : ℕ) (y : Colour) → cell_at (step_in shape w a phase).cells c ≡ Taken b y → Held a.cells c b
+pub step_held : (shape : HeapShape) (w : World) (a : Account) (phase : Phase) (c b : ℕ) (y : Colour) → cell_at (step_in shape w a phase).cells c ≡ Taken b y → Held a.cells c b
 unfolding Held
 step_held shape w a Idle c b y e = let k = held_before (shade_darker (shade a 1) 2) c b y e in held_before (shade_darker a 1) c b k.0 k.1
 step_held shape w a (Statics s) c b y e = statics_held w a s (nat_lt s (length (slots_of w))) c b y e

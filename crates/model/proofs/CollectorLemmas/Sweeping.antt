@@ -20,7 +20,7 @@ kept_on p c Grey h = tt
 kept_on p c Black h = tt
 
 -- of another cell than p
-kept_back : (p c : ℕ) (x : Colour) → (c ≡ p → ⊥) → Kept (Append (p + 1)) c x → Kept (Append p) c x
+pub kept_back : (p c : ℕ) (x : Colour) → (c ≡ p → ⊥) → Kept (Append (p + 1)) c x → Kept (Append p) c x
 kept_back p c White ne h = grind arith
 kept_back p c Grey ne h = tt
 kept_back p c Black ne h = tt
