@@ -15,6 +15,7 @@ pub mod Moving
 pub mod Stepping
 pub mod Known
 pub mod Locals
+pub mod Calls
 pub mod Table
 pub mod Outcomes
 pub mod Running
