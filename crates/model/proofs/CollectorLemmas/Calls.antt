@@ -1,8 +1,8 @@
-use Rattle.std.proofs.Common.{◌≡◌, ◌⊎◌, inl, inr, ℕ, zero, suc, ◌+◌, ◌-◌, ◌≤◌, List, [], ◌∷◌, ◌++◌, length, drop, take, map, reverse, replicate, set, get_or, slice_get, Option, Some, None, refl, sym, ap, arith, length-set}
-use Rattle.std.proofs.lemmas.List.{map-append, reverse-append, take-append-drop, append-nil}
+use Rattle.std.proofs.Common.{◌≡◌, inl, ℕ, zero, suc, ◌-◌, ◌≤◌, List, [], ◌∷◌, ◌++◌, length, drop, take, map, reverse, replicate, set, get_or, Option, Some, None, refl, arith, length-set}
+use Rattle.std.proofs.lemmas.List.{map-append, reverse-append, take-append-drop}
 use Rattle.model.specs.declared.values.Value.{Value}
 use Rattle.model.specs.declared.values.Value.TheVariants.{Int, Long, Ref}
-use Rattle.model.specs.declared.values.Entry.TheVariants.{Unset, Holds, UpperHalf}
+use Rattle.model.specs.declared.values.Entry.TheVariants.{Unset}
 use Rattle.model.specs.declared.places.MethodPlace.{MethodPlace}
 use Rattle.model.specs.Values.{units_of_all}
 use Rattle.model.specs.Frames.{Frame, running, running_frame}

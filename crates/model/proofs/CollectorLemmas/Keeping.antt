@@ -1,4 +1,4 @@
-use Rattle.std.proofs.Common.{◌≡◌, ◌⊎◌, inl, inr, ℕ, ◌+◌, ◌<◌, ◌≤◌, Bool, true, false, length, nat_lt, refl, ap, arith, ltb-false}
+use Rattle.std.proofs.Common.{◌≡◌, inl, inr, ℕ, ◌+◌, ◌<◌, Bool, true, false, length, nat_lt, refl, ap, arith, ltb-false}
 use Rattle.model.specs.declared.colours.Colour.{Colour}
 use Rattle.model.specs.declared.colours.Colour.TheVariants.{White, Grey, Black}
 use Rattle.model.specs.declared.colours.Phase.{Phase}

@@ -1,12 +1,12 @@
-use Rattle.std.proofs.Common.{◌≡◌, ℕ, zero, suc, List, [], ◌∷◌, ◌++◌, map, reverse, slice_get, Option, Some, None, refl, ap}
+use Rattle.std.proofs.Common.{◌≡◌, ℕ, zero, suc, List, [], ◌∷◌, ◌++◌, map, reverse, slice_get, Option, Some, refl, ap}
 use Rattle.std.proofs.lemmas.List.{reverse-append}
 use Rattle.model.specs.declared.values.Value.{Value}
-use Rattle.model.specs.declared.values.Value.TheVariants.{Int, Long, Ref}
+use Rattle.model.specs.declared.values.Value.TheVariants.{Ref}
 use Rattle.model.specs.declared.values.Entry.{Entry}
 use Rattle.model.specs.declared.values.Entry.TheVariants.{Holds}
 use Rattle.model.specs.Frames.{Frame, running}
 use Rattle.model.specs.Worlds.{World, FieldValue, Object, frames_at}
-use Rattle.model.specs.Collector.Places.{ref_of, entry_ref, field_ref, ref_at, frame_refs, contents_refs, slots_of, root_at, word_at, Reach}
+use Rattle.model.specs.Collector.Places.{ref_of, entry_ref, field_ref, ref_at, frame_refs, contents_refs, root_at, word_at, Reach}
 use Rattle.model.specs.Collector.Places.Place.{MemoryError, StackError, Slot, FrameEntry, MethodMonitor}
 use Rattle.model.specs.Collector.Places.Reach.{at_root, by_word}
 use Rattle.model.proofs.CollectorLemmas.Moving.{AllMay}

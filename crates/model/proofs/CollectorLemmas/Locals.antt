@@ -1,4 +1,4 @@
-use Rattle.std.proofs.Common.{◌≡◌, ◌⊎◌, inl, inr, ℕ, zero, suc, ◌+◌, ◌-◌, ◌≤◌, Bool, true, false, List, [], ◌∷◌, ◌++◌, length, drop, take, map, reverse, replicate, set, slice_get, Option, Some, None, Result, Ok, Err, refl, sym, ◌∙◌, ap, arith, length-set}
+use Rattle.std.proofs.Common.{◌≡◌, ◌⊎◌, inl, inr, ℕ, zero, suc, ◌+◌, ◌-◌, Bool, true, false, List, [], ◌∷◌, length, map, set, slice_get, Option, Some, None, Result, Ok, Err, refl, sym, ◌∙◌, ap, length-set}
 use Rattle.std.proofs.lemmas.List.{map-set, length-map}
 use Rattle.model.specs.declared.values.Kind.{Kind}
 use Rattle.model.specs.declared.values.Kind.TheVariants.{Int as IntKind, Long as LongKind, Ref as RefKind}
@@ -7,9 +7,9 @@ use Rattle.model.specs.declared.values.Value.TheVariants.{Int, Long, Ref}
 use Rattle.model.specs.declared.values.Entry.{Entry}
 use Rattle.model.specs.declared.values.Entry.TheVariants.{Unset, Holds, UpperHalf}
 use Rattle.model.specs.declared.turns.Fault.{Fault}
-use Rattle.model.specs.Frames.{Frame, Moved, top_of, running}
+use Rattle.model.specs.Frames.{Frame, running}
 use Rattle.model.specs.Worlds.{World, frames_at}
-use Rattle.model.specs.Locals.{has_local, of_kind, as_kind, value_on, value_in_entry, value_if_local, local_at, without_half, freed, with_local, stored, stored_if_local, stored_at}
+use Rattle.model.specs.Locals.{has_local, of_kind, value_on, value_in_entry, value_if_local, local_at, without_half, freed, with_local, stored, stored_if_local, stored_at}
 use Rattle.model.specs.Collector.Places.{ref_of, entry_ref, Reach}
 use Rattle.model.specs.Collector.Invariant.{In}
 use Rattle.model.specs.Collector.Moves.{RefsMove, FrameMoves, ResultMoves}
@@ -80,9 +80,10 @@ stored_moves P next f n index v h =
     (refs_both P (map entry_ref f.locals) (map entry_ref (with_local f.locals index v)) _ _ e (with_local_moves P f.locals index v h) (stack_pushed P n f.stack [] tt), λ b k. inl k)
 
 pub stored_lawful : (w : World) (next : ℕ) (f : Frame) (n index : ℕ) (v : Value) → ((b : ℕ) → ref_of v ≡ Some b → Reach w b) → ResultMoves w f (Ok (stored next f n index v))
-stored_lawful w next f n index v h =
-    (stored_moves (λ b. ⊥ ⊎ In b (stored next f n index v).writes) next f n index v (may_births (v ∷ []) (λ b. ⊥ ⊎ In b (stored next f n index v).writes) (λ b k. inr k)).0,
-    in_births (v ∷ []) (Reach w) (h, tt))
+stored_lawful w next f n index v h = (
+  stored_moves (λ b. ⊥ ⊎ In b (stored next f n index v).writes) next f n index v (may_births (v ∷ []) (λ b. ⊥ ⊎ In b (stored next f n index v).writes) (λ b k. inr k)).0,
+  in_births (v ∷ []) (Reach w) (h, tt),
+)
 
 -- ---- what is found
 

@@ -1,19 +1,18 @@
-use Rattle.std.proofs.Common.{◌≡◌, ◌⊎◌, inl, inr, ℕ, zero, suc, ◌+◌, ◌-◌, ◌<◌, Bool, true, false, List, [], ◌∷◌, ◌++◌, length, take, drop, map, reverse, set, slice_get, Option, Some, None, Result, Ok, Err, nat_le, refl, sym, ◌∙◌, ap, arith, append_assoc}
+use Rattle.std.proofs.Common.{◌≡◌, ◌⊎◌, inl, inr, ℕ, Bool, true, false, List, [], ◌∷◌, ◌++◌, length, take, drop, map, reverse, set, Option, Some, None, Result, Ok, Err, nat_le, refl, sym, ◌∙◌, ap, append_assoc}
 use Rattle.std.proofs.lemmas.List.{reverse-append, map-append, take-append-drop, append-nil}
 use Rattle.model.specs.declared.values.Value.{Value}
 use Rattle.model.specs.declared.values.Value.TheVariants.{Int, Long, Ref}
 use Rattle.model.specs.declared.turns.Abrupt.{Abrupt}
 use Rattle.model.specs.declared.turns.Abrupt.TheVariants.{Fault as Faulted, Throw}
-use Rattle.model.specs.declared.turns.Fault.TheVariants.{StackFull, NoInstruction}
+use Rattle.model.specs.declared.turns.Fault.TheVariants.{NoInstruction}
 use Rattle.model.specs.Values.{births_of, units_of_all}
 use Rattle.model.specs.Frames.{Frame, Moved, running, with_running, push_all, replaced, replaced_if_room}
-use Rattle.model.specs.Worlds.{World, Thread, frames_of, frames_at, next_birth}
+use Rattle.model.specs.Worlds.{World, Thread, frames_of, frames_at}
 use Rattle.model.specs.Worlds.Thread.{Live}
-use Rattle.model.specs.Effects.{Effect, stepped, completed_abruptly}
-use Rattle.model.specs.Collector.Places.{ref_of, entry_ref, frame_refs, slots_of, Reach}
+use Rattle.model.specs.Effects.{stepped, completed_abruptly}
+use Rattle.model.specs.Collector.Places.{ref_of, entry_ref, slots_of, Reach}
 use Rattle.model.specs.Collector.Invariant.{In}
-use Rattle.model.specs.Collector.Changes.{Change, IsNew, Fresh}
-use Rattle.model.specs.Collector.Moves.{RefsMove, FrameMoves, FramesMove, Moves, Lawful, ResultMoves, change_of}
+use Rattle.model.specs.Collector.Moves.{RefsMove, FrameMoves, FramesMove, Moves, Lawful, ResultMoves}
 use Rattle.model.specs.Collector.Moves.Lawful.{faults, moves}
 use Rattle.model.proofs.CollectorLemmas.Moving.{AllMay, refs_same, refs_behind, refs_pushed, frames_set, threads_set, objects_same}
 

@@ -1,15 +1,13 @@
-use Rattle.std.proofs.Common.{◌≡◌, ◌⊎◌, inl, inr, ℕ, zero, suc, ◌+◌, ◌<◌, ◌≤◌, Bool, true, false, List, [], ◌∷◌, ◌++◌, length, set, Option, Some, None, IsTrue, is_some, refl, sym, ◌∙◌, ap, arith}
-use Rattle.model.specs.declared.colours.Colour.{Colour}
+use Rattle.std.proofs.Common.{◌≡◌, ◌⊎◌, inl, inr, ℕ, ◌+◌, ◌≤◌, true, List, [], ◌∷◌, ◌++◌, set, Option, Some, None, IsTrue, is_some, refl, arith}
 use Rattle.model.specs.declared.colours.Colour.TheVariants.{White, Grey, Black}
 use Rattle.model.specs.declared.colours.Phase.{Phase}
 use Rattle.model.specs.declared.journals.HeapShape.{HeapShape}
-use Rattle.model.specs.Accounts.{Cell, Account, take_cell, in_cell, placed, with_new, new_object, shade_all}
-use Rattle.model.specs.Accounts.Cell.{Free, Taken}
+use Rattle.model.specs.Accounts.{Cell, Account, take_cell, in_cell, new_object, shade_all}
+use Rattle.model.specs.Accounts.Cell.{Taken}
 use Rattle.model.specs.Worlds.{World, next_birth}
-use Rattle.model.specs.Collector.Places.{Place, root_at, word_at, Reach}
+use Rattle.model.specs.Collector.Places.{Place, root_at, word_at}
 use Rattle.model.specs.Collector.Places.Place.{MemoryError}
-use Rattle.model.specs.Collector.Table.{cell_at}
-use Rattle.model.specs.Collector.Invariant.{In, Kept, Fronted, Begun, HasKept, NotWhite, Tidy, Invariant}
+use Rattle.model.specs.Collector.Invariant.{In, HasKept, NotWhite, Tidy, Invariant}
 use Rattle.model.specs.Collector.Changes.{Change, IsNew, births_after, Fresh, Allowed, RoomFor, changed}
 use Rattle.model.proofs.CollectorLemmas.Cells.{kept-grey}
 use Rattle.model.proofs.CollectorLemmas.Shading.{reach_kept, one_colour, fronted_before, begun_after, kept_in_all, not_white_in_all, shaded_not_white, shade_all_keeps}

@@ -1,18 +1,17 @@
 -- Worked runs of a thread and the collector, computed: the collector has turns until a fault or the step limit, beside a
 -- thread that ends, and cycles are counted.
-use Rattle.std.specs.Prelude.{◌≡◌, ℕ, List, [], ◌∷◌, ◌++◌, replicate, Option, Some, None, codes, refl}
-use Rattle.model.specs.declared.colours.Colour.TheVariants.{White, Grey, Black}
+use Rattle.std.specs.Prelude.{◌≡◌, ℕ, List, [], ◌∷◌, replicate, Some, None, codes, refl}
+use Rattle.model.specs.declared.colours.Colour.TheVariants.{White}
 use Rattle.model.specs.declared.colours.Phase.TheVariants.{Idle, Mark, Append}
 use Rattle.model.specs.declared.instructions.Constant.TheVariants.{Null}
 use Rattle.model.specs.declared.instructions.Instruction.TheVariants.{Constant as Push, Return}
 use Rattle.model.specs.declared.journals.HeapShape.{HeapShape}
 use Rattle.model.specs.declared.journals.Limits.{Limits}
-use Rattle.model.specs.declared.listings.Placed.{Placed}
 use Rattle.model.specs.declared.turns.Actor.{Actor}
 use Rattle.model.specs.declared.turns.Actor.TheVariants.{Thread, Collector}
 use Rattle.model.specs.ClassListings.{ClassListing}
 use Rattle.model.specs.Accounts.{shade, after_turn}
-use Rattle.model.specs.Accounts.Cell.{Free, Taken}
+use Rattle.model.specs.Accounts.Cell.{Taken}
 use Rattle.model.specs.Turns.{refusal}
 use Rattle.model.specs.Table.Next.{next}
 use Rattle.model.specs.Machines.{opening_machine}

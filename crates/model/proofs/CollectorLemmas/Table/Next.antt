@@ -1,4 +1,4 @@
-use Rattle.std.proofs.Common.{◌≡◌, ℕ, [], ◌∷◌, List, Option, Some, None, Ok, refl}
+use Rattle.std.proofs.Common.{◌≡◌, ℕ, [], List, Option, Some, None, Ok, refl}
 use Rattle.model.specs.declared.names.Member.{Member}
 use Rattle.model.specs.declared.values.Kind.{Kind}
 use Rattle.model.specs.declared.builtins.Builtin.{Builtin}
@@ -11,13 +11,13 @@ use Rattle.model.specs.ClassListings.{ClassListing}
 use Rattle.model.specs.Frames.{Frame, running, replaced}
 use Rattle.model.specs.Programs.{instruction_of, builtin_of}
 use Rattle.model.specs.Worlds.{World, frames_at}
-use Rattle.model.specs.Effects.{Choice, Effect, faulted}
+use Rattle.model.specs.Effects.{Choice}
 use Rattle.model.specs.Effects.Choice.{NotAsked, NewObject, NoRoom}
 use Rattle.model.specs.Table.Constants.{constant}
 use Rattle.model.specs.Table.Numbers.{number}
 use Rattle.model.specs.Table.Next.{Listed, called, invoked, returned_as, by_family, at_instruction, at_frame, next, asked}
 use Rattle.model.specs.Collector.Moves.{Lawful, object_of}
-use Rattle.model.specs.Collector.Moves.Lawful.{faults, moves}
+use Rattle.model.specs.Collector.Moves.Lawful.{faults}
 use Rattle.model.proofs.NextKeeps.{next-choice}
 use Rattle.model.proofs.CollectorLemmas.Stepping.{replaced_lawful, stepped_lawful}
 use Rattle.model.proofs.CollectorLemmas.Table.Constants.{constant_lawful}
