@@ -19,6 +19,7 @@ pub mod Calls
 pub mod Table
 pub mod Outcomes
 pub mod Running
+pub mod Recording
 pub mod Tracing
 pub mod Holding
 pub mod Keeping
