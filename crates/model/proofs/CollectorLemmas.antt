@@ -23,6 +23,7 @@ pub mod Recording
 pub mod Tracing
 pub mod Holding
 pub mod Keeping
+pub mod KeepingTurns
 pub mod Promising
 pub mod Fading
 pub mod FadingTurns

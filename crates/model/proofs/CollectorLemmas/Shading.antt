@@ -72,7 +72,7 @@ tidy-shade shape n a b t e h =
     }
 
 -- a cell that is kept after the shading was kept before
-kept_before : (shape : HeapShape) (n : ℕ) (a : Account) (b : ℕ) → Tidy shape n a → HasKept a.phase a.cells b → (c y : ℕ) (x : Colour) → cell_at (map (tint b) a.cells) c ≡ Taken y x → Kept a.phase c x → (z : Colour) × (cell_at a.cells c ≡ Taken y z) × Kept a.phase c z
+pub kept_before : (shape : HeapShape) (n : ℕ) (a : Account) (b : ℕ) → Tidy shape n a → HasKept a.phase a.cells b → (c y : ℕ) (x : Colour) → cell_at (map (tint b) a.cells) c ≡ Taken y x → Kept a.phase c x → (z : Colour) × (cell_at a.cells c ≡ Taken y z) × Kept a.phase c z
 kept_before shape n a b h k c y x e kept =
     elim (before (tinted_darker b a.cells) c y x e) [
       | inl s ↦ (x, s, kept)
@@ -137,7 +137,7 @@ shade_phase a b = refl
 
 -- ---- shading a list
 
-kept_in_shade : (a : Account) (b c : ℕ) → HasKept a.phase a.cells c → HasKept (shade a b).phase (shade a b).cells c
+pub kept_in_shade : (a : Account) (b c : ℕ) → HasKept a.phase a.cells c → HasKept (shade a b).phase (shade a b).cells c
 kept_in_shade a b c k = rw (shade_phase a b) (darker_kept (shade_darker a b) a.phase c k)
 
 pub kept_in_all : (bs : List ℕ) (a : Account) (c : ℕ) → HasKept a.phase a.cells c → HasKept (shade_all a bs).phase (shade_all a bs).cells c

@@ -47,10 +47,10 @@ came_not_white : (n c : ℕ) (old new : List Cell) → Came n c Grey old new →
 came_not_white n c old new h b k = record { never = λ d e. elim (came_before n c Grey old new h d b White e) [ inl s ↦ (let z = s.2 in cc) | inr s ↦ k.never d s ] }
 
 -- after the new birth came
-record Opened (shape : HeapShape) (w : World) (object : Option ℕ) (a b : Account) : Type 0 where
-  inv : Invariant shape w (births_after object (next_birth w)) b
-  new : (x : ℕ) → IsNew object (next_birth w) x → Safe b x
-  old : (x : ℕ) → HasKept a.phase a.cells x → HasKept b.phase b.cells x
+pub record Opened (shape : HeapShape) (w : World) (object : Option ℕ) (a b : Account) : Type 0 where
+  pub inv : Invariant shape w (births_after object (next_birth w)) b
+  pub new : (x : ℕ) → IsNew object (next_birth w) x → Safe b x
+  pub old : (x : ℕ) → HasKept a.phase a.cells x → HasKept b.phase b.cells x
 
 -- birth 1 was made before
 some_birth : (shape : HeapShape) (w : World) (n : ℕ) (a : Account) → Invariant shape w n a → 1 ≤ n
@@ -106,7 +106,7 @@ opened_by : (shape : HeapShape) (w : World) (words : ℕ) (a : Account) (o : Opt
 opened_by shape w words a (Some r) e room i = opened_here shape w words r.0 a r.1 (takes shape (next_birth w) a words r e i.tidy) i
 opened_by shape w words a None e room i = absurd (cc)
 
-opened : (shape : HeapShape) (w : World) (object : Option ℕ) (a : Account) → RoomFor object a → Invariant shape w (next_birth w) a → Opened shape w object a (new_object a (next_birth w) object)
+pub opened : (shape : HeapShape) (w : World) (object : Option ℕ) (a : Account) → RoomFor object a → Invariant shape w (next_birth w) a → Opened shape w object a (new_object a (next_birth w) object)
 opened shape w (Some words) a room i = opened_by shape w words a (take_cell a words) refl room i
 opened shape w None a room i = record { inv = i; new = λ x s. absurd s; old = λ x k. k }
 
