@@ -1,16 +1,16 @@
-use Rattle.std.proofs.Common.{◌≡◌, ◌⊎◌, inl, inr, ℕ, ◌+◌, List, [], ◌∷◌, ◌++◌, set, Option, Some, None, IsTrue, is_some, refl, sym, ◌∙◌, ap}
+use Rattle.std.proofs.Common.{◌≡◌, ◌⊎◌, inl, inr, ℕ, List, [], ◌∷◌, ◌++◌, set, Option, Some, None, IsTrue, is_some, refl}
 use Rattle.model.specs.declared.colours.Colour.{Colour}
 use Rattle.model.specs.declared.colours.Colour.TheVariants.{Grey}
 use Rattle.model.specs.declared.journals.HeapShape.{HeapShape}
-use Rattle.model.specs.Accounts.{Cell, Account, shade, shade_all, take_cell, in_cell, new_object}
-use Rattle.model.specs.Accounts.Cell.{Free, Taken}
+use Rattle.model.specs.Accounts.{Account, shade, shade_all, take_cell, in_cell, new_object}
+use Rattle.model.specs.Accounts.Cell.{Taken}
 use Rattle.model.specs.Worlds.{World, next_birth}
 use Rattle.model.specs.Collector.Table.{cell_at}
 use Rattle.model.specs.Collector.Invariant.{In, Kept, HasKept, Tidy, Invariant}
 use Rattle.model.specs.Collector.Changes.{Change, IsNew, births_after, Allowed, RoomFor, changed}
 use Rattle.model.proofs.CollectorLemmas.Shading.{kept_before, kept_in_shade, shade_keeps, reach_kept}
 use Rattle.model.proofs.CollectorLemmas.Taking.{relisted, Takes, takes, came_before, came_here}
-use Rattle.model.proofs.CollectorLemmas.Turning.{Opened, opened}
+use Rattle.model.proofs.CollectorLemmas.Turning.{opened}
 
 -- a cell that is kept after a thread's turn was kept before it, or holds the new birth
 

@@ -1,4 +1,4 @@
-use Rattle.std.proofs.Common.{◌≡◌, ℕ, ◌+◌, ◌≤◌, Bool, true, false, List, [], ◌∷◌, Option, Some, None, nat_le, refl, sym}
+use Rattle.std.proofs.Common.{◌≡◌, ℕ, ◌+◌, ◌≤◌, Bool, true, false, List, Option, Some, None, nat_le, refl}
 use Rattle.model.specs.declared.journals.HeapShape.{HeapShape}
 use Rattle.model.specs.declared.journals.Limits.{Limits}
 use Rattle.model.specs.declared.turns.Actor.{Actor}
@@ -8,7 +8,7 @@ use Rattle.model.specs.declared.turns.Turn.{Turn}
 use Rattle.model.specs.ClassListings.{ClassListing}
 use Rattle.model.specs.Worlds.{World}
 use Rattle.model.specs.Turns.{refusal, refusal_after}
-use Rattle.model.specs.Machines.{Recorded, Machine, machine_of, machine_of-noted, noted, outcome_of, row_unless_refused, with_row, after_turn_by, after_turns, opened}
+use Rattle.model.specs.Machines.{Recorded, machine_of, machine_of-noted, outcome_of, row_unless_refused, with_row, after_turn_by, opened}
 use Rattle.model.specs.Collector.Runs.{Holds}
 use Rattle.model.proofs.CollectorLemmas.Outcomes.{turn_keeps}
 use Rattle.model.proofs.CollectorLemmas.Running.{unfaulted, opening_holds}
@@ -32,7 +32,7 @@ unfolding Holds
 noted_keeps v actor worker (Some refused) e i = i
 noted_keeps v (Thread t) worker None e i =
     rw (machine_of-noted v (record { actor = Thread t; outcome = outcome_of v.program (machine_of v) (Thread t); worker = worker }), e)
-      (turn_keeps v.program v.journal.shape (machine_of v) t (outcome_of v.program (machine_of v) (Thread t)) refl (unfaulted v.program v.journal.limits (machine_of v).world t e) i)
+    (turn_keeps v.program v.journal.shape (machine_of v) t (outcome_of v.program (machine_of v) (Thread t)) refl (unfaulted v.program v.journal.limits (machine_of v).world t e) i)
 noted_keeps v Collector worker None e i = absurd (no_collector v.program v.journal.limits (machine_of v).world e)
 
 -- a turn of a world
