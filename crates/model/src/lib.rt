@@ -10,6 +10,7 @@ pub mod bytecode;
 pub mod class_files;
 pub mod collector;
 pub mod colours;
+pub mod descriptors;
 pub mod flags;
 pub mod instructions;
 pub mod journals;
@@ -17,8 +18,11 @@ pub mod listings;
 pub mod mnemonics;
 pub mod names;
 pub mod places;
-#[cfg(test)]
-mod tests;
+pub mod refusals;
 pub mod trees;
 pub mod turns;
 pub mod values;
+pub mod views;
+
+#[cfg(test)]
+mod tests;
