@@ -1,8 +1,7 @@
-use Rattle.std.proofs.Common.{◌≡◌, ◌⊎◌, inl, inr, ℕ, zero, suc, ◌+◌, ◌<◌, ◌≤◌, List, [], ◌∷◌, length, slice_get, Option, Some, None, refl, sym, ◌∙◌, ap, arith}
+use Rattle.std.proofs.Common.{◌≡◌, ℕ, zero, suc, ◌<◌, List, [], ◌∷◌, length, slice_get, Option, Some, refl, arith}
 use Rattle.model.specs.Frames.{Frame}
 use Rattle.model.specs.Worlds.{World, Object, Thread, frames_of, frames_at}
-use Rattle.model.specs.Worlds.Thread.{Live, Ended}
-use Rattle.model.specs.Collector.Places.{Place, ref_at, entries_at, monitor_at, words_of, slots_of, root_at, word_at}
+use Rattle.model.specs.Collector.Places.{ref_at, entries_at, monitor_at, words_of, slots_of, root_at, word_at}
 use Rattle.model.specs.Collector.Places.Place.{Slot, FrameEntry, MethodMonitor}
 
 -- what leads to a birth stands within the lengths of a world

@@ -1,4 +1,4 @@
-use Rattle.std.proofs.Common.{◌≡◌, ◌⊎◌, inl, inr, ℕ, zero, suc, ◌+◌, ◌<◌, ◌≤◌, Bool, true, false, List, [], ◌∷◌, length, map, Option, Some, None, nat_lt, refl, sym, ◌∙◌, ap, arith, ltb-false}
+use Rattle.std.proofs.Common.{◌≡◌, inl, inr, ℕ, zero, suc, ◌+◌, ◌<◌, ◌≤◌, Bool, true, false, List, [], ◌∷◌, length, map, Option, Some, None, nat_lt, refl, ap, arith, ltb-false}
 use Rattle.model.specs.declared.colours.Colour.{Colour}
 use Rattle.model.specs.declared.colours.Colour.TheVariants.{White, Grey, Black}
 use Rattle.model.specs.declared.colours.Phase.{Phase}
@@ -6,15 +6,15 @@ use Rattle.model.specs.declared.colours.Phase.TheVariants.{Idle, Statics, Frames
 use Rattle.model.specs.declared.journals.HeapShape.{HeapShape}
 use Rattle.model.specs.Accounts.{Cell, Account, shade}
 use Rattle.model.specs.Accounts.Cell.{Free, Taken}
-use Rattle.model.specs.Worlds.{World, frames_at}
-use Rattle.model.specs.Collector.Places.{Place, root_at, word_at, words_of, slots_of, entries_at, Reach}
+use Rattle.model.specs.Worlds.{World}
+use Rattle.model.specs.Collector.Places.{Place, root_at, word_at, words_of, slots_of, Reach}
 use Rattle.model.specs.Collector.Places.Place.{MemoryError, StackError, Slot, FrameEntry, MethodMonitor}
 use Rattle.model.specs.Collector.Places.Reach.{at_root, by_word}
-use Rattle.model.specs.Collector.Table.{cell_at, shade_ref, at_phase, blackened, listed_in, with_free, with_cell, collected, step_in, statics_step, frames_step, word_step, mark_step, swept, append_step}
+use Rattle.model.specs.Collector.Table.{cell_at, shade_ref, blackened, with_cell, collected, step_in, statics_step, frames_step, word_step, mark_step, swept, append_step}
 use Rattle.model.specs.Collector.Invariant.{In, Tidy}
 use Rattle.model.specs.Collector.Reclaim.{counted_end, ended_in}
 use Rattle.model.proofs.CollectorLemmas.Cells.{Darker, before, taken_within}
-use Rattle.model.proofs.CollectorLemmas.Shading.{shade_darker, shade_phase}
+use Rattle.model.proofs.CollectorLemmas.Shading.{shade_darker}
 use Rattle.model.proofs.CollectorLemmas.Marking.{blackened_before}
 use Rattle.model.proofs.CollectorLemmas.Sweeping.{freed_before, white_before}
 use Rattle.model.proofs.CollectorLemmas.Holding.{listed_cells}
@@ -148,8 +148,8 @@ module _ (L : ℕ → Type 0) where
   swept_fades shape s a p Free e f = record { at = λ c b y k l. unswept_on s p c y (λ h. let z = ap (cell_at a.cells) h in cc) (f.at c b y k l) }
   swept_fades shape s a p (Taken b White) e f = record {
     at = λ c d y k l. (
-    let o = freed_before a.cells p (taken_within a.cells p b White e) c d y (rw (listed_cells (with_cell a p Free) p _ _) at k) in
-    unswept_on s p c y o.0 (f.at c d y o.1 l));
+        let o = freed_before a.cells p (taken_within a.cells p b White e) c d y (rw (listed_cells (with_cell a p Free) p _ _) at k) in
+        unswept_on s p c y o.0 (f.at c d y o.1 l));
   }
   swept_fades shape s a p (Taken b Grey) e f = record { at = λ c d y k l. unswept_on s p c y (λ h. (let z = ap (cell_at a.cells) h in let same : y ≡ Grey = cc in grey_gone s p c (rw same at (f.at c d y k l)))) (f.at c d y k l) }
   swept_fades shape s a p (Taken b Black) e f = record {

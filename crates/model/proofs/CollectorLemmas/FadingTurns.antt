@@ -1,16 +1,13 @@
-use Rattle.std.proofs.Common.{◌≡◌, ◌⊎◌, inl, inr, ℕ, zero, suc, ◌+◌, ◌<◌, ◌≤◌, List, [], ◌∷◌, length, set, Option, Some, None, IsTrue, is_some, refl, sym, ◌∙◌, ap, arith}
-use Rattle.model.specs.declared.colours.Colour.{Colour}
-use Rattle.model.specs.declared.colours.Colour.TheVariants.{White, Grey, Black}
+use Rattle.std.proofs.Common.{◌≡◌, inl, inr, ℕ, ◌<◌, List, [], ◌∷◌, set, Option, Some, None, IsTrue, is_some, refl, arith}
+use Rattle.model.specs.declared.colours.Colour.TheVariants.{Grey}
 use Rattle.model.specs.declared.journals.HeapShape.{HeapShape}
-use Rattle.model.specs.Accounts.{Cell, Account, shade, shade_all, take_cell, in_cell, new_object}
-use Rattle.model.specs.Accounts.Cell.{Free, Taken}
+use Rattle.model.specs.Accounts.{Account, shade, shade_all, take_cell, in_cell, new_object}
+use Rattle.model.specs.Accounts.Cell.{Taken}
 use Rattle.model.specs.Worlds.{World, next_birth}
-use Rattle.model.specs.Collector.Places.{Place, root_at, word_at, Reach}
-use Rattle.model.specs.Collector.Table.{cell_at}
 use Rattle.model.specs.Collector.Invariant.{In, Tidy}
 use Rattle.model.specs.Collector.Changes.{Change, IsNew, births_after, Fresh, Allowed, RoomFor, changed}
 use Rattle.model.proofs.CollectorLemmas.Shading.{shade_darker, shade_phase}
-use Rattle.model.proofs.CollectorLemmas.Taking.{relisted, Takes, takes, came_before, came_here}
+use Rattle.model.proofs.CollectorLemmas.Taking.{Takes, takes, came_before, came_here}
 use Rattle.model.proofs.CollectorLemmas.Fading.{Fades, Apart, not_reached, darker_fades}
 
 -- what no path reaches fades over a thread's turn: nothing that is lost is written, and the new birth isn't lost

@@ -1,4 +1,4 @@
-use Rattle.std.proofs.Common.{◌≡◌, ◌⊎◌, inl, inr, ℕ, zero, suc, ◌+◌, ◌<◌, ◌≤◌, Bool, true, false, List, [], ◌∷◌, length, Option, Some, None, nat_lt, refl, sym, ◌∙◌, ap}
+use Rattle.std.proofs.Common.{◌≡◌, inl, inr, ℕ, Bool, true, false, List, [], ◌∷◌, length, Option, Some, None, nat_lt, refl, ap}
 use Rattle.model.specs.declared.colours.Colour.{Colour}
 use Rattle.model.specs.declared.colours.Colour.TheVariants.{White, Grey, Black}
 use Rattle.model.specs.declared.colours.Phase.{Phase}
@@ -7,9 +7,9 @@ use Rattle.model.specs.declared.journals.HeapShape.{HeapShape}
 use Rattle.model.specs.Accounts.{Cell, Account, shade}
 use Rattle.model.specs.Accounts.Cell.{Free, Taken}
 use Rattle.model.specs.Worlds.{World}
-use Rattle.model.specs.Collector.Places.{Place, root_at, word_at, words_of, slots_of, Reach}
+use Rattle.model.specs.Collector.Places.{root_at, word_at, words_of, slots_of}
 use Rattle.model.specs.Collector.Places.Place.{Slot, FrameEntry, MethodMonitor}
-use Rattle.model.specs.Collector.Table.{cell_at, shade_ref, at_phase, listed_in, with_cell, collected, step_in, statics_step, frames_step, word_step, mark_step, swept, append_step}
+use Rattle.model.specs.Collector.Table.{cell_at, shade_ref, listed_in, with_cell, collected, step_in, statics_step, frames_step, word_step, mark_step, swept, append_step}
 use Rattle.model.specs.Collector.Invariant.{Invariant}
 use Rattle.model.specs.Collector.Paths.{KeepsReachable}
 use Rattle.model.proofs.CollectorLemmas.Cells.{held_before, taken_within}
@@ -67,7 +67,7 @@ unfolding Held
 append_held shape a p true c b y e = swept_held shape a p (cell_at a.cells p) refl c b y e
 append_held shape a p false c b y e = (y, e)
 
-step_held : (shape : HeapShape) (w : World) (a : Account) (phase : Phase) (c b : ℕ) (y : Colour) → cell_at (step_in shape w a phase).cells c ≡ Taken b y → Held a.cells c b
+pub step_held : (shape : HeapShape) (w : World) (a : Account) (phase : Phase) (c b : ℕ) (y : Colour) → cell_at (step_in shape w a phase).cells c ≡ Taken b y → Held a.cells c b
 unfolding Held
 step_held shape w a Idle c b y e = let k = held_before (shade_darker (shade a 1) 2) c b y e in held_before (shade_darker a 1) c b k.0 k.1
 step_held shape w a (Statics s) c b y e = statics_held w a s (nat_lt s (length (slots_of w))) c b y e

@@ -1,18 +1,18 @@
-use Rattle.std.proofs.Common.{◌≡◌, ◌⊎◌, inl, inr, ℕ, zero, suc, ◌+◌, ◌<◌, ◌≤◌, Bool, true, false, List, [], ◌∷◌, length, Option, Some, None, nat_lt, refl, sym, ◌∙◌, ap, arith, ltb-false}
+use Rattle.std.proofs.Common.{◌≡◌, ◌⊎◌, inl, inr, ℕ, ◌+◌, ◌<◌, ◌≤◌, Bool, true, false, List, length, Option, Some, None, nat_lt, refl, ap, arith, ltb-false}
 use Rattle.model.specs.declared.colours.Colour.{Colour}
 use Rattle.model.specs.declared.colours.Phase.{Phase}
 use Rattle.model.specs.declared.colours.Phase.TheVariants.{Idle, Statics, Frames, Mark, Append}
 use Rattle.model.specs.declared.journals.HeapShape.{HeapShape}
 use Rattle.model.specs.Accounts.{Account, shade}
-use Rattle.model.specs.Worlds.{World, frames_at}
-use Rattle.model.specs.Collector.Places.{Place, root_at, ref_at, slots_of, entries_at, monitor_at}
+use Rattle.model.specs.Worlds.{World}
+use Rattle.model.specs.Collector.Places.{Place, root_at, slots_of}
 use Rattle.model.specs.Collector.Places.Place.{MemoryError, StackError, Slot, FrameEntry, MethodMonitor}
-use Rattle.model.specs.Collector.Table.{shade_ref, at_phase, statics_step, frames_step, step_in}
-use Rattle.model.specs.Collector.Invariant.{Kept, Scanned, Fronted, Begun, IsMark, Unblack, HasKept, NotWhite, Invariant}
-use Rattle.model.proofs.CollectorLemmas.Cells.{Darker, darker_not_white}
+use Rattle.model.specs.Collector.Table.{shade_ref, at_phase, statics_step, step_in}
+use Rattle.model.specs.Collector.Invariant.{Kept, Scanned, Fronted, Begun, IsMark, Unblack, NotWhite, Invariant}
+use Rattle.model.proofs.CollectorLemmas.Cells.{darker_not_white}
 use Rattle.model.proofs.CollectorLemmas.Spares.{tidy-phase}
 use Rattle.model.proofs.CollectorLemmas.Shading.{shade_keeps, shade_not_white, shade_darker, shade_phase}
-use Rattle.model.proofs.CollectorLemmas.Bounds.{within_refs, entry_within, monitor_within, thread_within, slot_within}
+use Rattle.model.proofs.CollectorLemmas.Bounds.{slot_within}
 
 -- the steps before marking keep the invariant
 

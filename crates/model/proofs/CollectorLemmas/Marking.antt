@@ -1,15 +1,14 @@
-use Rattle.std.proofs.Common.{◌≡◌, ◌⊎◌, inl, inr, ℕ, zero, suc, ◌+◌, ◌<◌, ◌≤◌, Bool, true, false, if◌then◌else◌, List, [], ◌∷◌, length, map, Option, Some, None, nat_lt, nat_eq, refl, sym, ◌∙◌, ap, ap₂, arith, ltb-false, eqb-true, eq-eqb}
+use Rattle.std.proofs.Common.{◌≡◌, ◌⊎◌, inl, inr, ℕ, ◌+◌, ◌<◌, ◌≤◌, Bool, true, false, if◌then◌else◌, List, [], ◌∷◌, length, map, Option, Some, None, nat_lt, nat_eq, refl, ◌∙◌, ap, ap₂, arith, ltb-false, eqb-true, eq-eqb}
 use Rattle.model.specs.declared.colours.Colour.{Colour}
 use Rattle.model.specs.declared.colours.Colour.TheVariants.{White, Grey, Black}
-use Rattle.model.specs.declared.colours.Phase.{Phase}
 use Rattle.model.specs.declared.colours.Phase.TheVariants.{Mark, Append}
 use Rattle.model.specs.declared.journals.HeapShape.{HeapShape}
 use Rattle.model.specs.Accounts.{Cell, Account, tint, has_white, shade}
 use Rattle.model.specs.Accounts.Cell.{Free, Taken}
 use Rattle.model.specs.Worlds.{World}
-use Rattle.model.specs.Collector.Places.{Place, root_at, word_at, words_of}
-use Rattle.model.specs.Collector.Table.{cell_at, shade_ref, at_phase, blackened, word_step, mark_step, step_in}
-use Rattle.model.specs.Collector.Invariant.{In, Distinct, Kept, Scanned, Fronted, Begun, HasKept, NotWhite, Tidy, Invariant}
+use Rattle.model.specs.Collector.Places.{word_at, words_of}
+use Rattle.model.specs.Collector.Table.{cell_at, shade_ref, at_phase, blackened, word_step, step_in}
+use Rattle.model.specs.Collector.Invariant.{Kept, Fronted, Begun, HasKept, NotWhite, Tidy, Invariant}
 use Rattle.model.proofs.CollectorLemmas.Cells.{length-cells, cell_at-map, darker_not_white}
 use Rattle.model.proofs.CollectorLemmas.Spares.{spare-map, tidy-phase}
 use Rattle.model.proofs.CollectorLemmas.Shading.{grey_after, shade_keeps, shade_not_white, shade_darker}

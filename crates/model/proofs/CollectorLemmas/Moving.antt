@@ -1,11 +1,9 @@
-use Rattle.std.proofs.Common.{◌≡◌, ◌⊎◌, inl, inr, ℕ, zero, suc, ◌+◌, ◌<◌, List, [], ◌∷◌, ◌++◌, length, take, map, set, slice_get, Option, Some, None, refl, sym, ◌∙◌, ap, arith}
+use Rattle.std.proofs.Common.{◌≡◌, ◌⊎◌, inl, inr, ℕ, zero, suc, List, [], ◌∷◌, ◌++◌, length, take, set, slice_get, Option, Some, None, arith}
 use Rattle.model.specs.Frames.{Frame}
-use Rattle.model.specs.Worlds.{World, Thread, Object, frames_of, frames_at, next_birth}
-use Rattle.model.specs.Worlds.Thread.{Live, Ended}
-use Rattle.model.specs.Collector.Places.{Place, ref_at, frame_refs, contents_refs, entries_at, monitor_at, words_of, slots_of, root_at, word_at, Reach}
+use Rattle.model.specs.Worlds.{World, Thread, Object, frames_of}
+use Rattle.model.specs.Collector.Places.{Place, ref_at, frame_refs, contents_refs, entries_at, monitor_at, words_of, slots_of, root_at, word_at}
 use Rattle.model.specs.Collector.Places.Place.{MemoryError, StackError, Slot, FrameEntry, MethodMonitor}
-use Rattle.model.specs.Collector.Invariant.{In}
-use Rattle.model.specs.Collector.Changes.{Change, IsNew, Fresh, Allowed}
+use Rattle.model.specs.Collector.Changes.{Change, Fresh, Allowed}
 use Rattle.model.specs.Collector.Moves.{RefMoves, RefsMove, FrameMoves, FramesMove, ThreadsMove, ObjectsMove, Moves}
 
 -- from moves of lists to places, and the lemmas for each shape of change

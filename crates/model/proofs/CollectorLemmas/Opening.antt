@@ -1,4 +1,4 @@
-use Rattle.std.proofs.Common.{◌≡◌, ◌⊎◌, inl, inr, ℕ, zero, suc, ◌+◌, ◌<◌, ◌≤◌, List, [], ◌∷◌, ◌++◌, length, map, set, replicate, Option, Some, None, refl, sym, ◌∙◌, ap, arith}
+use Rattle.std.proofs.Common.{◌≡◌, ◌⊎◌, inl, inr, ℕ, zero, suc, ◌+◌, ◌<◌, ◌≤◌, List, [], ◌∷◌, ◌++◌, length, map, set, replicate, Option, Some, None, refl, ap, arith}
 use Rattle.model.specs.declared.colours.Colour.{Colour}
 use Rattle.model.specs.declared.colours.Colour.TheVariants.{White, Grey, Black}
 use Rattle.model.specs.declared.colours.Phase.TheVariants.{Idle}
@@ -11,12 +11,12 @@ use Rattle.model.specs.CodeListings.{CodeListing}
 use Rattle.model.specs.declared.places.MethodPlace.{MethodPlace}
 use Rattle.model.specs.Frames.{Frame, opening_frame}
 use Rattle.model.specs.Programs.{main_in, code_at}
-use Rattle.model.specs.Worlds.{World, Object, opening_world, opening_objects, opening_frames}
+use Rattle.model.specs.Worlds.{opening_world, opening_objects, opening_frames}
 use Rattle.model.specs.Collector.Places.{Place, ref_at, entry_ref, entries_at, monitor_at, words_of, root_at, word_at}
 use Rattle.model.specs.Collector.Places.Place.{MemoryError, StackError, Slot, FrameEntry, MethodMonitor}
 use Rattle.model.specs.Collector.Table.{cell_at}
-use Rattle.model.specs.Collector.Invariant.{In, Distinct, Spare, Tidy, HasKept, Invariant}
-use Rattle.model.proofs.CollectorLemmas.Taking.{relisted, Takes, takes, Came, came_before, came_after, came_here, tidy-came, placed_is, room_for_none}
+use Rattle.model.specs.Collector.Invariant.{In, Distinct, Spare, Tidy, Invariant}
+use Rattle.model.proofs.CollectorLemmas.Taking.{relisted, Takes, takes, came_before, came_after, came_here, tidy-came, placed_is, room_for_none}
 
 -- the opening meets the invariant
 

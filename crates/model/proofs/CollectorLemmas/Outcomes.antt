@@ -1,12 +1,12 @@
-use Rattle.std.proofs.Common.{◌≡◌, ◌⊎◌, inl, inr, ℕ, zero, suc, ◌+◌, Bool, true, false, List, [], ◌∷◌, Option, Some, None, IsTrue, is_some, refl, sym, ◌∙◌, ap}
+use Rattle.std.proofs.Common.{◌≡◌, inl, ℕ, Bool, true, false, List, [], Option, Some, None, is_some, refl, ◌∙◌, ap}
 use Rattle.model.specs.declared.journals.HeapShape.{HeapShape}
 use Rattle.model.specs.declared.journals.Outcome.{Outcome}
 use Rattle.model.specs.declared.journals.Outcome.TheVariants.{Done, Object, NoRoom, Fault}
 use Rattle.model.specs.ClassListings.{ClassListing}
-use Rattle.model.specs.Accounts.{Account, has_room, after_turn, new_object, shade_all}
+use Rattle.model.specs.Accounts.{Account, has_room, after_turn}
 use Rattle.model.specs.declared.turns.Fault.{Fault as FaultKind}
 use Rattle.model.specs.Worlds.{World, next_birth, counted, with_fault}
-use Rattle.model.specs.Effects.{Choice, Effect}
+use Rattle.model.specs.Effects.{Effect}
 use Rattle.model.specs.Effects.Choice.{NotAsked, NewObject, NoRoom as NoneHasRoom}
 use Rattle.model.specs.Turns.{choice_of}
 use Rattle.model.specs.Table.Next.{next, asked}
@@ -15,7 +15,7 @@ use Rattle.model.specs.Collector.Places.{Place, root_at, word_at}
 use Rattle.model.specs.Collector.Places.Place.{MemoryError, StackError, Slot, FrameEntry, MethodMonitor}
 use Rattle.model.specs.Collector.Invariant.{Invariant}
 use Rattle.model.specs.Collector.Changes.{Change, Allowed, RoomFor, changed, taken_by, written_by}
-use Rattle.model.specs.Collector.Moves.{Moves, Lawful, change_of, object_of}
+use Rattle.model.specs.Collector.Moves.{Lawful, change_of}
 use Rattle.model.specs.Collector.Moves.Lawful.{faults, moves}
 use Rattle.model.proofs.CollectorLemmas.Moving.{allowed_from_moves, refs_same, threads_same, objects_same}
 use Rattle.model.proofs.CollectorLemmas.Turning.{world_keeps, changed_keeps}

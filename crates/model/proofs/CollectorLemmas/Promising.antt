@@ -1,6 +1,4 @@
-use Rattle.std.proofs.Common.{◌≡◌, ℕ, List}
 use Rattle.model.specs.Worlds.{next_birth}
-use Rattle.model.specs.Machines.{Machine}
 use Rattle.model.specs.Collector.Paths.{KeepsReachable, ThreeColour}
 use Rattle.model.specs.Collector.Runs.{machine_after, Always, Holds}
 use Rattle.model.proofs.CollectorLemmas.Running.{machine_holds}

@@ -1,4 +1,4 @@
-use Rattle.std.proofs.Common.{◌≡◌, ◌⊎◌, inl, inr, ℕ, zero, suc, ◌+◌, ◌-◌, ◌<◌, ◌≤◌, List, [], ◌∷◌, length, Option, Some, None, refl, sym, ◌∙◌, ap, arith}
+use Rattle.std.proofs.Common.{◌≡◌, ℕ, suc, ◌-◌, ◌<◌, List, [], ◌∷◌, Option, Some, None, refl, arith}
 use Rattle.model.specs.declared.colours.Colour.{Colour}
 use Rattle.model.specs.declared.colours.Phase.{Phase}
 use Rattle.model.specs.declared.colours.Phase.TheVariants.{Idle, Statics, Frames, Mark, Append}
@@ -13,17 +13,16 @@ use Rattle.model.specs.Worlds.{World, next_birth, counted}
 use Rattle.model.specs.Turns.{choice_of}
 use Rattle.model.specs.Table.Next.{next, asked}
 use Rattle.model.specs.Machines.{Machine, outcome_of}
-use Rattle.model.specs.Collector.Places.{Place, root_at, word_at, Reach}
 use Rattle.model.specs.Collector.Places.Reach.{at_root, by_word}
-use Rattle.model.specs.Collector.Table.{cell_at, collected}
+use Rattle.model.specs.Collector.Table.{cell_at}
 use Rattle.model.specs.Collector.Invariant.{Invariant}
-use Rattle.model.specs.Collector.Changes.{Change, changed}
+use Rattle.model.specs.Collector.Changes.{changed}
 use Rattle.model.specs.Collector.Runs.{turn_refusal, row_if, with_row, moved_by, moved_by_all, machine_after, Holds}
 use Rattle.model.specs.Collector.Reclaim.{ended_if, ended, IsAppend, Lost, ReclaimsInTwo, AlwaysReclaims}
 use Rattle.model.proofs.CollectorLemmas.Bounds.{words_made}
 use Rattle.model.proofs.CollectorLemmas.Outcomes.{after_is, counted_root, counted_word, turn_change, Turns, turns_by}
 use Rattle.model.proofs.CollectorLemmas.Running.{unfaulted, moved_keeps, machine_holds}
-use Rattle.model.proofs.CollectorLemmas.Fading.{Plain, Unswept, May, Fades, Apart, collected_fades}
+use Rattle.model.proofs.CollectorLemmas.Fading.{May, Fades, Apart, collected_fades}
 use Rattle.model.proofs.CollectorLemmas.FadingTurns.{changed_fades, apart_after, more_births}
 
 -- what no path reaches has no cell once two cycles have ended
@@ -52,7 +51,7 @@ unfolding Holds
 row_on L s program shape limits m actor (Some refused) e i f = f
 row_on L s program shape limits m (Thread t) None e i f =
     rw (e, after_is m.world m.account (outcome_of program m (Thread t)) (asked program m.world t) (next program m.world t (choice_of (outcome_of program m (Thread t)))).after (next program m.world t (choice_of (outcome_of program m (Thread t)))).writes)
-      (changed_on L s program shape m t (unfaulted program limits m.world t e) i f)
+    (changed_on L s program shape m t (unfaulted program limits m.world t e) i f)
 row_on L s program shape limits m Collector None e i f = rw e (record {
   apart = counted_apart L m.world f.apart;
   fades = collected_fades L shape s (next_birth m.world) m.world m.account i.tidy f.apart f.fades;

@@ -1,4 +1,4 @@
-use Rattle.std.proofs.Common.{◌≡◌, ℕ, Bool, true, false, List, [], ◌∷◌, Option, Some, None, ◌≤◌, ◌+◌, refl, sym, ◌∙◌, ap}
+use Rattle.std.proofs.Common.{◌≡◌, ℕ, List, [], ◌∷◌, Option, Some, None, ◌≤◌, ◌+◌, refl}
 use Rattle.model.specs.declared.journals.HeapShape.{HeapShape}
 use Rattle.model.specs.declared.journals.Limits.{Limits}
 use Rattle.model.specs.declared.turns.Actor.{Actor}
@@ -9,7 +9,6 @@ use Rattle.model.specs.ClassListings.{ClassListing}
 use Rattle.model.specs.Worlds.{World, next_birth}
 use Rattle.model.specs.Turns.{refusal, refusal_after}
 use Rattle.model.specs.Machines.{Machine, opening_machine, outcome_of}
-use Rattle.model.specs.Table.Next.{asked}
 use Rattle.model.specs.Collector.Table.{collected}
 use Rattle.model.specs.Collector.Runs.{turn_refusal, row_if, with_row, moved_by, moved_by_all, machine_after, Holds}
 use Rattle.model.proofs.CollectorLemmas.Collecting.{collected_keeps}

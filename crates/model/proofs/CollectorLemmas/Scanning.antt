@@ -1,10 +1,9 @@
-use Rattle.std.proofs.Common.{◌≡◌, ◌⊎◌, inl, inr, ℕ, zero, suc, ◌+◌, ◌<◌, ◌≤◌, Bool, true, false, List, [], ◌∷◌, length, Option, Some, None, nat_lt, refl, sym, ◌∙◌, ap, arith, ltb-false}
-use Rattle.model.specs.declared.colours.Phase.{Phase}
-use Rattle.model.specs.declared.colours.Phase.TheVariants.{Idle, Statics, Frames, Mark, Append}
+use Rattle.std.proofs.Common.{◌≡◌, ◌⊎◌, inl, inr, ℕ, ◌+◌, ◌<◌, ◌≤◌, Bool, true, false, List, [], ◌∷◌, length, Some, nat_lt, refl, ap, arith, ltb-false}
+use Rattle.model.specs.declared.colours.Phase.TheVariants.{Frames, Mark}
 use Rattle.model.specs.declared.journals.HeapShape.{HeapShape}
 use Rattle.model.specs.Accounts.{Account}
 use Rattle.model.specs.Worlds.{World, frames_at}
-use Rattle.model.specs.Collector.Places.{Place, root_at, ref_at, entries_at, monitor_at}
+use Rattle.model.specs.Collector.Places.{Place, root_at, entries_at}
 use Rattle.model.specs.Collector.Places.Place.{MemoryError, StackError, Slot, FrameEntry, MethodMonitor}
 use Rattle.model.specs.Collector.Table.{at_phase, frames_step, step_in}
 use Rattle.model.specs.Collector.Invariant.{Scanned, Fronted, Begun, Invariant}

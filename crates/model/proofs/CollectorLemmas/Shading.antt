@@ -1,13 +1,13 @@
-use Rattle.std.proofs.Common.{◌≡◌, ◌⊎◌, inl, inr, ℕ, zero, suc, ◌+◌, ◌<◌, ◌≤◌, Bool, true, false, if◌then◌else◌, List, [], ◌∷◌, ◌++◌, length, map, Option, Some, None, refl, sym, ◌∙◌, ap, arith}
+use Rattle.std.proofs.Common.{◌≡◌, inl, inr, ℕ, Bool, true, false, if◌then◌else◌, List, [], ◌∷◌, ◌++◌, map, refl, ◌∙◌, ap, arith}
 use Rattle.model.specs.declared.colours.Colour.{Colour}
 use Rattle.model.specs.declared.colours.Colour.TheVariants.{White, Grey, Black}
 use Rattle.model.specs.declared.colours.Phase.{Phase}
 use Rattle.model.specs.declared.colours.Phase.TheVariants.{Idle, Statics, Frames, Mark, Append}
 use Rattle.model.specs.declared.journals.HeapShape.{HeapShape}
 use Rattle.model.specs.Accounts.{Cell, Account, tint, has_white, shade, shade_all}
-use Rattle.model.specs.Accounts.Cell.{Free, Taken}
+use Rattle.model.specs.Accounts.Cell.{Taken}
 use Rattle.model.specs.Worlds.{World}
-use Rattle.model.specs.Collector.Places.{Place, root_at, word_at, Reach}
+use Rattle.model.specs.Collector.Places.{Reach}
 use Rattle.model.specs.Collector.Places.Reach.{at_root, by_word}
 use Rattle.model.specs.Collector.Table.{cell_at}
 use Rattle.model.specs.Collector.Invariant.{In, Distinct, Kept, Fronted, Begun, HasKept, NotWhite, Tidy, Invariant}
@@ -72,7 +72,7 @@ tidy-shade shape n a b t e h =
     }
 
 -- a cell that is kept after the shading was kept before
-kept_before : (shape : HeapShape) (n : ℕ) (a : Account) (b : ℕ) → Tidy shape n a → HasKept a.phase a.cells b → (c y : ℕ) (x : Colour) → cell_at (map (tint b) a.cells) c ≡ Taken y x → Kept a.phase c x → (z : Colour) × (cell_at a.cells c ≡ Taken y z) × Kept a.phase c z
+pub kept_before : (shape : HeapShape) (n : ℕ) (a : Account) (b : ℕ) → Tidy shape n a → HasKept a.phase a.cells b → (c y : ℕ) (x : Colour) → cell_at (map (tint b) a.cells) c ≡ Taken y x → Kept a.phase c x → (z : Colour) × (cell_at a.cells c ≡ Taken y z) × Kept a.phase c z
 kept_before shape n a b h k c y x e kept =
     elim (before (tinted_darker b a.cells) c y x e) [
       | inl s ↦ (x, s, kept)
@@ -137,7 +137,7 @@ shade_phase a b = refl
 
 -- ---- shading a list
 
-kept_in_shade : (a : Account) (b c : ℕ) → HasKept a.phase a.cells c → HasKept (shade a b).phase (shade a b).cells c
+pub kept_in_shade : (a : Account) (b c : ℕ) → HasKept a.phase a.cells c → HasKept (shade a b).phase (shade a b).cells c
 kept_in_shade a b c k = rw (shade_phase a b) (darker_kept (shade_darker a b) a.phase c k)
 
 pub kept_in_all : (bs : List ℕ) (a : Account) (c : ℕ) → HasKept a.phase a.cells c → HasKept (shade_all a bs).phase (shade_all a bs).cells c

@@ -1,12 +1,12 @@
-use Rattle.std.proofs.Common.{◌≡◌, ◌⊎◌, inl, inr, ℕ, zero, suc, ◌+◌, ◌<◌, ◌≤◌, List, [], ◌∷◌, ◌++◌, length, map, set, refl, sym, ◌∙◌, ap, arith}
+use Rattle.std.proofs.Common.{◌≡◌, inl, inr, ℕ, ◌<◌, ◌≤◌, List, [], ◌∷◌, ◌++◌, map, set, ◌∙◌, ap}
 use Rattle.model.specs.declared.colours.Phase.{Phase}
 use Rattle.model.specs.declared.journals.HeapShape.{HeapShape}
 use Rattle.model.specs.Accounts.{Cell, Account}
-use Rattle.model.specs.Accounts.Cell.{Free, Taken}
+use Rattle.model.specs.Accounts.Cell.{Free}
 use Rattle.model.specs.Collector.Table.{cell_at, at_phase}
-use Rattle.model.specs.Collector.Invariant.{In, Distinct, Spare, Tidy}
+use Rattle.model.specs.Collector.Invariant.{In, Spare, Tidy}
 use Rattle.model.proofs.CollectorLemmas.Lists.{In-push_cases, Distinct-push}
-use Rattle.model.proofs.CollectorLemmas.Cells.{cell_at-map, cell_at-set_other, cell_at-set_cases}
+use Rattle.model.proofs.CollectorLemmas.Cells.{cell_at-map, cell_at-set_other}
 
 -- a list of free cells after a change of the cells or of the list
 

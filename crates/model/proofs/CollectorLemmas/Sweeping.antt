@@ -1,4 +1,4 @@
-use Rattle.std.proofs.Common.{◌≡◌, ◌⊎◌, inl, inr, ℕ, zero, suc, ◌+◌, ◌<◌, ◌≤◌, Bool, true, false, List, [], ◌∷◌, ◌++◌, length, set, Some, nat_lt, refl, sym, ◌∙◌, ap, arith, ltb-true, ltb-false, length-set}
+use Rattle.std.proofs.Common.{◌≡◌, ◌⊎◌, inl, inr, ℕ, ◌+◌, ◌<◌, ◌≤◌, Bool, true, false, List, [], ◌∷◌, ◌++◌, length, set, Some, nat_lt, refl, sym, ◌∙◌, ap, arith, ltb-true, ltb-false, length-set}
 use Rattle.model.specs.declared.colours.Colour.{Colour}
 use Rattle.model.specs.declared.colours.Colour.TheVariants.{White, Grey, Black}
 use Rattle.model.specs.declared.colours.Phase.TheVariants.{Idle, Append}
@@ -6,9 +6,9 @@ use Rattle.model.specs.declared.journals.HeapShape.{HeapShape}
 use Rattle.model.specs.Accounts.{Cell, Account}
 use Rattle.model.specs.Accounts.Cell.{Free, Taken}
 use Rattle.model.specs.Worlds.{World}
-use Rattle.model.specs.Collector.Places.{Place, root_at, word_at}
+use Rattle.model.specs.Collector.Places.{word_at}
 use Rattle.model.specs.Collector.Table.{cell_at, at_phase, listed_in, with_cell, swept, append_step, step_in}
-use Rattle.model.specs.Collector.Invariant.{In, Distinct, Kept, HasKept, Spare, Tidy, Invariant}
+use Rattle.model.specs.Collector.Invariant.{Kept, HasKept, Spare, Tidy, Invariant}
 use Rattle.model.proofs.CollectorLemmas.Cells.{cell_at-set_cases, cell_at-set_same, cell_at-set_other, taken_within}
 use Rattle.model.proofs.CollectorLemmas.Spares.{spare-set, spare-push, unfree, tidy-phase}
 
@@ -20,7 +20,7 @@ kept_on p c Grey h = tt
 kept_on p c Black h = tt
 
 -- of another cell than p
-kept_back : (p c : ℕ) (x : Colour) → (c ≡ p → ⊥) → Kept (Append (p + 1)) c x → Kept (Append p) c x
+pub kept_back : (p c : ℕ) (x : Colour) → (c ≡ p → ⊥) → Kept (Append (p + 1)) c x → Kept (Append p) c x
 kept_back p c White ne h = grind arith
 kept_back p c Grey ne h = tt
 kept_back p c Black ne h = tt

@@ -1,19 +1,19 @@
-use Rattle.std.proofs.Common.{◌≡◌, ◌⊎◌, inl, inr, ℕ, zero, suc, ◌+◌, ◌<◌, ◌≤◌, List, [], ◌∷◌, Option, Some, None, refl, sym, ◌∙◌, ap, arith}
+use Rattle.std.proofs.Common.{◌≡◌, ◌⊎◌, inl, inr, ℕ, ◌<◌, List, [], ◌∷◌, arith}
 use Rattle.model.specs.declared.colours.Colour.{Colour}
 use Rattle.model.specs.declared.colours.Colour.TheVariants.{White, Grey, Black}
 use Rattle.model.specs.declared.colours.Phase.{Phase}
 use Rattle.model.specs.declared.colours.Phase.TheVariants.{Idle, Statics, Frames, Mark, Append}
 use Rattle.model.specs.declared.journals.HeapShape.{HeapShape}
-use Rattle.model.specs.Accounts.{Cell, Account}
-use Rattle.model.specs.Accounts.Cell.{Free, Taken}
+use Rattle.model.specs.Accounts.{Account}
+use Rattle.model.specs.Accounts.Cell.{Taken}
 use Rattle.model.specs.Worlds.{World}
-use Rattle.model.specs.Collector.Places.{Place, root_at, word_at, Reach}
+use Rattle.model.specs.Collector.Places.{Reach}
 use Rattle.model.specs.Collector.Table.{cell_at, at_phase}
 use Rattle.model.specs.Collector.Invariant.{Kept, IsMark, HasKept, NotWhite, Invariant}
 use Rattle.model.specs.Collector.Paths.{NotEmpty, Starts, Traced, ThreeColour}
 use Rattle.model.specs.Collector.Paths.Traced.{from_root, from_cell, over}
 use Rattle.model.proofs.CollectorLemmas.Shading.{reach_kept, one_colour}
-use Rattle.model.proofs.CollectorLemmas.Marking.{in_mark, mark_end}
+use Rattle.model.proofs.CollectorLemmas.Marking.{mark_end}
 
 -- what the invariant says of paths
 

@@ -1,15 +1,13 @@
-use Rattle.std.proofs.Common.{◌≡◌, ◌⊎◌, inl, inr, ℕ, zero, suc, ◌+◌, ◌<◌, ◌≤◌, Bool, true, false, List, [], ◌∷◌, ◌++◌, length, set, Option, Some, None, IsTrue, is_some, refl, sym, ◌∙◌, ap, arith}
-use Rattle.model.specs.declared.colours.Colour.{Colour}
+use Rattle.std.proofs.Common.{◌≡◌, ◌⊎◌, inl, inr, ℕ, ◌+◌, ◌≤◌, true, List, [], ◌∷◌, ◌++◌, set, Option, Some, None, IsTrue, is_some, refl, arith}
 use Rattle.model.specs.declared.colours.Colour.TheVariants.{White, Grey, Black}
 use Rattle.model.specs.declared.colours.Phase.{Phase}
 use Rattle.model.specs.declared.journals.HeapShape.{HeapShape}
-use Rattle.model.specs.Accounts.{Cell, Account, take_cell, in_cell, placed, with_new, new_object, shade_all}
-use Rattle.model.specs.Accounts.Cell.{Free, Taken}
+use Rattle.model.specs.Accounts.{Cell, Account, take_cell, in_cell, new_object, shade_all}
+use Rattle.model.specs.Accounts.Cell.{Taken}
 use Rattle.model.specs.Worlds.{World, next_birth}
-use Rattle.model.specs.Collector.Places.{Place, root_at, word_at, Reach}
+use Rattle.model.specs.Collector.Places.{Place, root_at, word_at}
 use Rattle.model.specs.Collector.Places.Place.{MemoryError}
-use Rattle.model.specs.Collector.Table.{cell_at}
-use Rattle.model.specs.Collector.Invariant.{In, Kept, Fronted, Begun, HasKept, NotWhite, Tidy, Invariant}
+use Rattle.model.specs.Collector.Invariant.{In, HasKept, NotWhite, Tidy, Invariant}
 use Rattle.model.specs.Collector.Changes.{Change, IsNew, births_after, Fresh, Allowed, RoomFor, changed}
 use Rattle.model.proofs.CollectorLemmas.Cells.{kept-grey}
 use Rattle.model.proofs.CollectorLemmas.Shading.{reach_kept, one_colour, fronted_before, begun_after, kept_in_all, not_white_in_all, shaded_not_white, shade_all_keeps}
@@ -49,10 +47,10 @@ came_not_white : (n c : ℕ) (old new : List Cell) → Came n c Grey old new →
 came_not_white n c old new h b k = record { never = λ d e. elim (came_before n c Grey old new h d b White e) [ inl s ↦ (let z = s.2 in cc) | inr s ↦ k.never d s ] }
 
 -- after the new birth came
-record Opened (shape : HeapShape) (w : World) (object : Option ℕ) (a b : Account) : Type 0 where
-  inv : Invariant shape w (births_after object (next_birth w)) b
-  new : (x : ℕ) → IsNew object (next_birth w) x → Safe b x
-  old : (x : ℕ) → HasKept a.phase a.cells x → HasKept b.phase b.cells x
+pub record Opened (shape : HeapShape) (w : World) (object : Option ℕ) (a b : Account) : Type 0 where
+  pub inv : Invariant shape w (births_after object (next_birth w)) b
+  pub new : (x : ℕ) → IsNew object (next_birth w) x → Safe b x
+  pub old : (x : ℕ) → HasKept a.phase a.cells x → HasKept b.phase b.cells x
 
 -- birth 1 was made before
 some_birth : (shape : HeapShape) (w : World) (n : ℕ) (a : Account) → Invariant shape w n a → 1 ≤ n
@@ -108,7 +106,7 @@ opened_by : (shape : HeapShape) (w : World) (words : ℕ) (a : Account) (o : Opt
 opened_by shape w words a (Some r) e room i = opened_here shape w words r.0 a r.1 (takes shape (next_birth w) a words r e i.tidy) i
 opened_by shape w words a None e room i = absurd (cc)
 
-opened : (shape : HeapShape) (w : World) (object : Option ℕ) (a : Account) → RoomFor object a → Invariant shape w (next_birth w) a → Opened shape w object a (new_object a (next_birth w) object)
+pub opened : (shape : HeapShape) (w : World) (object : Option ℕ) (a : Account) → RoomFor object a → Invariant shape w (next_birth w) a → Opened shape w object a (new_object a (next_birth w) object)
 opened shape w (Some words) a room i = opened_by shape w words a (take_cell a words) refl room i
 opened shape w None a room i = record { inv = i; new = λ x s. absurd s; old = λ x k. k }
 

@@ -1,8 +1,8 @@
 -- Worked rows of the collector: what its steps come to, computed from the table, between turns of a thread that are written
 -- out as the worlds after them and the births that they write.
-use Rattle.std.specs.Prelude.{◌≡◌, ℕ, zero, suc, pos, List, [], ◌∷◌, Option, Some, None, codes, refl}
+use Rattle.std.specs.Prelude.{◌≡◌, ℕ, zero, suc, pos, List, [], ◌∷◌, Some, None, codes, refl}
 use Rattle.model.specs.declared.colours.Colour.TheVariants.{White, Grey, Black}
-use Rattle.model.specs.declared.colours.Phase.TheVariants.{Idle, Statics, Frames, Mark, Append}
+use Rattle.model.specs.declared.colours.Phase.TheVariants.{Idle, Mark, Append}
 use Rattle.model.specs.declared.journals.HeapShape.{HeapShape}
 use Rattle.model.specs.declared.journals.Outcome.TheVariants.{Done, Object as Took}
 use Rattle.model.specs.declared.turns.Mark.TheVariants.{Unmarked}
@@ -13,7 +13,7 @@ use Rattle.model.specs.declared.values.Entry.TheVariants.{Holds}
 use Rattle.model.specs.Accounts.{Account, shade, after_turn, opening_account}
 use Rattle.model.specs.Accounts.Cell.{Free, Taken}
 use Rattle.model.specs.Frames.{Frame}
-use Rattle.model.specs.Worlds.{World, FieldValue, Object, Thread, free_monitor, opening_objects}
+use Rattle.model.specs.Worlds.{World, FieldValue, Object, free_monitor}
 use Rattle.model.specs.Worlds.Contents.{Instance}
 use Rattle.model.specs.Worlds.Thread.{Live}
 use Rattle.model.specs.Collector.Places.{root_at, word_at}

@@ -1,4 +1,4 @@
-use Rattle.std.specs.Prelude.{◌≡◌, ◌⊎◌, ℕ, List, [], ◌∷◌, map, Option, Some, None, Result, Ok, Err}
+use Rattle.std.specs.Prelude.{◌≡◌, ◌⊎◌, ℕ, List, [], ◌∷◌, Option, Some, None, Result, Ok, Err}
 use Rattle.model.specs.declared.turns.Fault.{Fault}
 use Rattle.model.specs.declared.turns.Abrupt.{Abrupt}
 use Rattle.model.specs.Frames.{Frame, Moved}

@@ -1,4 +1,4 @@
-use Rattle.std.proofs.Common.{◌≡◌, ℕ, [], ◌∷◌, List, Option, Some, None, Ok, refl}
+use Rattle.std.proofs.Common.{◌≡◌, ℕ, [], List, Option, Some, None, Ok, refl}
 use Rattle.model.specs.declared.names.Member.{Member}
 use Rattle.model.specs.declared.values.Kind.{Kind}
 use Rattle.model.specs.declared.builtins.Builtin.{Builtin}
@@ -11,21 +11,23 @@ use Rattle.model.specs.ClassListings.{ClassListing}
 use Rattle.model.specs.Frames.{Frame, running, replaced}
 use Rattle.model.specs.Programs.{instruction_of, builtin_of}
 use Rattle.model.specs.Worlds.{World, frames_at}
-use Rattle.model.specs.Effects.{Choice, Effect, faulted}
+use Rattle.model.specs.Effects.{Choice}
 use Rattle.model.specs.Effects.Choice.{NotAsked, NewObject, NoRoom}
 use Rattle.model.specs.Table.Constants.{constant}
 use Rattle.model.specs.Table.Numbers.{number}
 use Rattle.model.specs.Table.Next.{Listed, called, invoked, returned_as, by_family, at_instruction, at_frame, next, asked}
 use Rattle.model.specs.Collector.Moves.{Lawful, object_of}
-use Rattle.model.specs.Collector.Moves.Lawful.{faults, moves}
+use Rattle.model.specs.Collector.Moves.Lawful.{faults}
+use Rattle.model.proofs.NextKeeps.{next-choice}
 use Rattle.model.proofs.CollectorLemmas.Stepping.{replaced_lawful, stepped_lawful}
 use Rattle.model.proofs.CollectorLemmas.Table.Constants.{constant_lawful}
 use Rattle.model.proofs.CollectorLemmas.Table.Numbers.{number_lawful}
 use Rattle.model.proofs.CollectorLemmas.Table.Returns.{returned_lawful}
 use Rattle.model.proofs.CollectorLemmas.Table.Builtins.{builtin_lawful}
 
--- The table as a whole. A family that comes to it gets a file of its own here and its case of `family_lawful`; one that
--- asks for a cell is `Lawful` with the words that it asks for at `NewObject`, and adds its case to `asked_not`.
+-- The table as a whole. A family that comes to it gets a file of its own here and its case of `family_lawful`. One that asks
+-- for a cell is lawful with the words that it asks for where `NewObject` was chosen; where it asks for none, both choices
+-- come to the same (`asked_not`).
 
 called_lawful : (w : World) (t next : ℕ) (f : Frame) (builtin : Option Builtin) → running (frames_at w t) ≡ Some f → Lawful w None (called next w t (frames_at w t) f builtin)
 called_lawful w t next f (Some builtin) e = builtin_lawful w t next f builtin e
@@ -80,32 +82,5 @@ next_lawful program w t choice = rw (nothing choice) (frame_lawful program w t c
 
 -- ---- a choice that isn't asked for counts for nothing
 
-family_not : (program : List ClassListing) (w : World) (t : ℕ) (fs : List Frame) (f : Frame) (next : ℕ) (i : Listed) → by_family program w t fs f next NewObject i ≡ by_family program w t fs f next NotAsked i
-family_not program w t fs f next Nop = refl
-family_not program w t fs f next (Constant c) = refl
-family_not program w t fs f next (Number operation) = refl
-family_not program w t fs f next (Return kind) = refl
-family_not program w t fs f next (Invoke invocation member) = refl
-family_not program w t fs f next (Local access) = refl
-family_not program w t fs f next (Stack operation) = refl
-family_not program w t fs f next (Branch test target) = refl
-family_not program w t fs f next (TableSwitch table) = refl
-family_not program w t fs f next (LookupSwitch lookup) = refl
-family_not program w t fs f next (StaticField access member) = refl
-family_not program w t fs f next (Field access member) = refl
-family_not program w t fs f next (Array operation) = refl
-family_not program w t fs f next (Class operation name) = refl
-family_not program w t fs f next Throw = refl
-family_not program w t fs f next (Monitor operation) = refl
-
-instruction_not : (program : List ClassListing) (w : World) (t : ℕ) (fs : List Frame) (f : Frame) (i : Option Placed) → at_instruction program w t fs f NewObject i ≡ at_instruction program w t fs f NotAsked i
-instruction_not program w t fs f None = refl
-instruction_not program w t fs f (Some i) = family_not program w t fs f i.next i.instruction
-
-frame_not : (program : List ClassListing) (w : World) (t : ℕ) (fs : List Frame) (o : Option Frame) → at_frame program w t fs NewObject o ≡ at_frame program w t fs NotAsked o
-frame_not program w t fs None = refl
-frame_not program w t fs (Some f) = instruction_not program w t fs f (instruction_of program f)
-
 pub asked_not : (program : List ClassListing) (w : World) (t : ℕ) → asked program w t ≡ None → next program w t NewObject ≡ next program w t NotAsked
-unfolding next
-asked_not program w t e = frame_not program w t (frames_at w t) (running (frames_at w t))
+asked_not program w t e = next-choice program w t NewObject NotAsked

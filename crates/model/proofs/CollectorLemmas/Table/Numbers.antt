@@ -1,4 +1,4 @@
-use Rattle.std.proofs.Common.{◌≡◌, ℕ, ℤ, [], ◌∷◌, Option, Some, None, Result, Ok, Err, map, refl}
+use Rattle.std.proofs.Common.{ℕ, ℤ, [], ◌∷◌, Option, Some, None, Result, Ok, Err, map}
 use Rattle.model.specs.declared.instructions.NumberKind.{NumberKind}
 use Rattle.model.specs.declared.instructions.NumberKind.TheVariants.{Int as Ints, Long as Longs}
 use Rattle.model.specs.declared.instructions.NumberOperation.{NumberOperation}

@@ -1,9 +1,9 @@
-use Rattle.std.proofs.Common.{◌≡◌, ◌⊎◌, ℕ, ◌-◌, List, [], ◌∷◌, length, Option, Some, None, refl}
+use Rattle.std.proofs.Common.{◌≡◌, ℕ, List, [], ◌∷◌, Option, Some, None, refl}
 use Rattle.model.specs.declared.listings.Placed.{Placed}
 use Rattle.model.specs.ClassListings.{ClassListing}
-use Rattle.model.specs.Frames.{Frame, running, with_running, callers}
+use Rattle.model.specs.Frames.{Frame, running, callers}
 use Rattle.model.specs.Programs.{instruction_of}
-use Rattle.model.specs.Worlds.{World, Thread, frames_of, frames_at}
+use Rattle.model.specs.Worlds.{World, frames_of, frames_at}
 use Rattle.model.specs.Table.Returns.{past_invoke, resumed, left_with, returned}
 use Rattle.model.specs.Collector.Moves.{FrameMoves, FramesMove, Lawful}
 use Rattle.model.specs.Collector.Moves.Lawful.{moves}

@@ -1,6 +1,7 @@
 use Rattle.model.proofs.CollectorLemmas.Collecting.{collected_keeps}
 use Rattle.model.proofs.CollectorLemmas.Turning.{changed_keeps}
 use Rattle.model.proofs.CollectorLemmas.Promising.{always_holds, always_kept, always_coloured}
+use Rattle.model.proofs.CollectorLemmas.Reclaiming.{always_reclaims}
 use Rattle.model.proofs.collector.no_reachable_object_is_lost.Goals as goal
 
 pub returns-clause-collector : goal.returns-clause-collector
@@ -17,3 +18,6 @@ returns-clause-kept c = always_kept
 
 pub returns-clause-coloured : goal.returns-clause-coloured
 returns-clause-coloured c = always_coloured
+
+pub returns-clause-reclaimed : goal.returns-clause-reclaimed
+returns-clause-reclaimed c = always_reclaims
