@@ -5,3 +5,4 @@ pub mod OperandLemmas
 pub mod PushLemmas
 pub mod RunningLemmas
 pub mod StackLemmas
+pub mod RootLemmas
