@@ -1,18 +1,15 @@
 -- the references in a frame's entries
-use Rattle.std.proofs.Common.{◌≡◌, ℕ, zero, suc, ◌+◌, ◌-◌, ◌<◌, ◌≤◌, List, [], ◌∷◌, ◌++◌, length, map, reverse, take, drop, Option, Some, None, slice_get, get_or, refl, ap, sym, ◌∙◌, arith}
-use Rattle.std.proofs.lemmas.List.{reverse-reverse, length-map, length-take-le, length-drop, length-append, length-reverse, get_or-map, get_or-take, get_or-drop, get_or_read, get_or_past, map-append, reverse-append, drop-drop, length-take}
+use Rattle.std.proofs.Common.{◌≡◌, ℕ, zero, suc, ◌+◌, ◌<◌, ◌≤◌, List, [], ◌∷◌, ◌++◌, length, map, reverse, take, drop, Option, Some, None, slice_get, get_or, refl, ap, sym, ◌∙◌, arith}
+use Rattle.std.proofs.lemmas.List.{reverse-reverse, length-map, length-take-le, length-drop, get_or-map, get_or-take, get_or-drop, get_or_read, get_or_past, map-append, reverse-append, drop-drop, length-take}
 use Rattle.std.proofs.Math.Seq.{take-add}
 use Rattle.std.specs.Option.{option_map}
-use Rattle.std.proofs.lemmas.Option.{slice_get-map, slice_get_past}
-use Rattle.model.specs.declared.values.Value.{Value}
-use Rattle.model.specs.declared.values.Value.TheVariants.{Int, Long, Ref}
+use Rattle.std.proofs.lemmas.Option.{slice_get-map}
 use Rattle.model.specs.declared.values.Entry.{Entry}
 use Rattle.model.specs.declared.values.Entry.TheVariants.{Unset, Holds, UpperHalf}
 use Rattle.model.specs.Frames.{Frame}
 use Rattle.model.specs.Collector.Places.{ref_of, entry_ref, ref_at, frame_refs, entries_at, refs_of_frame}
 use Rattle.frames.specs.declared.activations.Activation.{Activation}
 use Rattle.frames.specs.Layout.{value_in, values_between, stack_of, frame_of, Stands, AreLaidOut, IsSound}
-use Rattle.frames.proofs.StackLemmas.{length-stack_of}
 use Rattle.frames.proofs.ArgumentLemmas.{stack_of-between}
 use Rattle.frames.proofs.LayoutLemmas.{laid_le, values_fit}
 
