@@ -28,6 +28,7 @@
 //! | `entries(d)`, `reference_at(d, j)`, `monitor_at(d)` | of the frame d, counted from the outermost: `length (entries_at frames d)`, `ref_at (entries_at frames d) j`, `monitor_at frames d` |
 //! | `store(next, n, i, v)` | under `n ≤ length f.stack`: `with_running frames (stored next f n i v).frame` |
 //! | `store_top(next, kind, i)` | `told result after ≡ moved_on frames (stored_at next kind i f)`, and nothing changes on an `Err` |
+//! | `views()` | `frames`, as plain data |
 //!
 //! Inside, an activation record says where a frame's locals begin in the array; its stack stands behind them, a value in
 //! one unit each, while the units that the values take are counted beside them. So each call takes the time of the

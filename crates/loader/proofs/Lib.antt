@@ -1,1 +1,6 @@
+pub mod BuiltinLemmas
+pub mod LimitLemmas
+pub mod ReferenceLemmas
+pub mod RunLemmas
 pub mod StepTables
+pub mod SubclassLemmas

@@ -1,7 +1,10 @@
+pub mod Accepted
 pub mod Accounts
 pub mod Arithmetic
 pub mod Bytecode
+pub mod ClassFiles
 pub mod ClassListings
+pub mod Classes
 pub mod CodeListings
 pub mod Collector
 pub mod Effects
@@ -15,10 +18,12 @@ pub mod Observers
 pub mod Printing
 pub mod Programs
 pub mod Ready
+pub mod Served
 pub mod Sizes
 pub mod Switches
 pub mod Table
 pub mod Texts
 pub mod Turns
 pub mod Values
+pub mod Views
 pub mod Worlds

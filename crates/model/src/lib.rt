@@ -7,8 +7,10 @@
 
 pub mod builtins;
 pub mod bytecode;
+pub mod class_files;
 pub mod collector;
 pub mod colours;
+pub mod descriptors;
 pub mod flags;
 pub mod instructions;
 pub mod journals;
@@ -16,9 +18,11 @@ pub mod listings;
 pub mod mnemonics;
 pub mod names;
 pub mod places;
+pub mod refusals;
 pub mod trees;
 pub mod turns;
 pub mod values;
+pub mod views;
 
 #[cfg(test)]
 mod tests;

@@ -3,6 +3,7 @@ ghost use Rattle.std.specs.Prelude.{◌≡◌, IfOk, ℕ, List};
 ghost use Rattle.std.specs.Str.{bytes_eq};
 
 use std::alloc::{AllocError, Global};
+use std::fmt;
 use std::marker::Model;
 
 /// The name of a class, field or method, or a descriptor, as its ASCII bytes (JVMS 4.2, 4.3): `java/lang/Object`,
@@ -47,6 +48,15 @@ impl Name {
         ensures { result.now ≡ self.now }
     {
         self.bytes.as_slice()
+    }
+}
+
+impl fmt::Display for Name {
+    fn fmt<W: fmt::Write>(&self, f: &mut fmt::Formatter<W>) -> fmt::Result {
+        for byte in self.bytes.as_slice() {
+            f.write_char(char::from(*byte))?;
+        }
+        Ok(())
     }
 }
 

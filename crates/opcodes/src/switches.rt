@@ -96,7 +96,8 @@ pub fn table(alloc: Global, pc: u16, bytes: &[u8]) -> Result<(Instr, &[u8]), OpE
     Ok((Instruction::TableSwitch(switch), rest))
 }
 
-fn rises(before: Option<i32>, key: i32) -> bool
+/// Whether a key may follow another.
+pub fn rises(before: Option<i32>, key: i32) -> bool
     ensures { result ≡ rises_of before key }
 {
     match before {

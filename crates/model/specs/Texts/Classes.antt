@@ -4,16 +4,19 @@ use Rattle.std.specs.Str.{bytes_eq}
 use Rattle.model.specs.declared.flags.ClassFlags.{ClassFlags}
 use Rattle.model.specs.declared.trees.MethodTree.{MethodTree}
 use Rattle.model.specs.Texts.Heads.{ClassHead, class_of, super_of}
+use Rattle.model.specs.Texts.Instructions.{only}
 use Rattle.model.specs.Texts.Methods.{method_tree}
 use Rattle.model.specs.Texts.Statements.{Statement}
 use Rattle.model.specs.Texts.Trees.{Tree}
 
+abbrev pub is_word : List ℕ → Option (List ℕ) → Bool
+is_word text None = false
+is_word text (Some word) = bytes_eq word text
+
 -- whether a statement is `.end method`
 abbrev pub is_end_spelled : List (List ℕ) → Bool
 is_end_spelled [] = false
-is_end_spelled (one ∷ []) = false
-is_end_spelled (one ∷ two ∷ []) = bytes_eq one (codes ".end") && bytes_eq two (codes "method")
-is_end_spelled (one ∷ two ∷ three ∷ more) = false
+is_end_spelled (word ∷ words) = bytes_eq word (codes ".end") && is_word (codes "method") (only words)
 
 abbrev pub is_end : Statement → Bool
 is_end None = false

@@ -58,7 +58,7 @@ used_in_methods [] = []
 used_in_methods (m ∷ ms) = used_in_body m.body ++ used_in_methods ms
 
 abbrev pub is_among : List ℤ → ℤ → Bool
-is_among zs z = list_any (int_eq z) zs
+is_among zs z = list_any (λ x. int_eq x z) zs
 
 -- the different ones among numbers, each at its first use
 abbrev pub different : List ℤ → List ℤ

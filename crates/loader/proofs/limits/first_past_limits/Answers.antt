@@ -1,0 +1,14 @@
+use Rattle.std.proofs.Common.{◌≡◌, ◌∙◌, ◌≤◌, length, sym, ap, arith}
+use Rattle.std.proofs.lemmas.List.{length-take-le}
+use Rattle.loader.proofs.LimitLemmas.{first_past_limits-few, first_past_limits-found, first_past_limits-last}
+use Rattle.loader.proofs.limits.first_past_limits.Goals as goal
+
+pub returns-then-program-le256 : goal.returns-then-program-le256
+returns-then-program-le256 c = c.first_too_large.ensures ∙ first_past_limits-few c.args.program.now (omega arith)
+
+pub slice_bounds-first_too_large-end : goal.slice_bounds-first_too_large-end
+slice_bounds-first_too_large-end c = sym (length-take-le 256 c.args.program.now (omega arith))
+
+pub returns-in-None : goal.returns-in-None
+returns-in-None c =
+    first_past_limits-last c.args.program.now c.index-program-256.result (omega arith) c.in-None.ensures c.index-program-256.is

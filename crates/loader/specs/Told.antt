@@ -1,0 +1,14 @@
+use Rattle.std.specs.Prelude.{ℕ, List, Option, Some, None, Result, Ok, Err}
+use Rattle.std.specs.Option.{option_map, option_copied}
+use Rattle.model.specs.ClassListings.{ClassListing}
+use Rattle.model.specs.Accepted.Refusals.{LoadRefusal}
+use Rattle.loader.specs.declared.rules.Refusal.{Refusal}
+
+-- a refusal with the name of the class that it refers to
+abbrev pub refusal_value : Refusal → LoadRefusal
+refusal_value r = record { rule = r.rule; class = option_map (λ (c : ClassListing). c.name) (option_copied r.class) }
+
+-- the refusal that an answer tells
+abbrev pub refusal_in : Result (Unit {0}) Refusal → Option LoadRefusal
+refusal_in (Ok u) = None
+refusal_in (Err r) = Some (refusal_value r)

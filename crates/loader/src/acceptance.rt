@@ -1,0 +1,40 @@
+//! Which lists of listings are programs.
+ghost use Rattle.std.specs.Prelude.{◌≡◌, None, OnOk, IfErr};
+ghost use Rattle.model.specs.Accepted.Refusals.{refusal_of};
+ghost use Rattle.loader.specs.Told.{refusal_value};
+ghost use Rattle.loader.specs.Errors.{Tells, IsRefusedBy};
+ghost use Rattle.loader.specs.Steps.{CanRun};
+
+use crate::errors::LoadError;
+use crate::rules::{Refusal, obeys_rules};
+use model::listings::Listing;
+use model::names::Name;
+use std::alloc::Global;
+
+fn told(alloc: Global, refusal: Refusal<'_>) -> LoadError
+    ensures { Tells (refusal_value refusal.entry) result }
+{
+    let rule = refusal.rule;
+    match refusal.class {
+        Some(class) => match Name::copy_of(alloc, class.name.as_bytes()) {
+            Ok(class) => LoadError::InClass { rule, class },
+            Err(error) => LoadError::Memory(error),
+        },
+        None => LoadError::InProgram { rule },
+    }
+}
+
+/// Tests whether these listings, in order, are a program: the rules are tried in their order, each over all classes.
+/// An error names the first rule that is broken and the first class that breaks it; `Memory` comes only where its name
+/// can't be copied. It searches by names, so it takes some time at hundreds of classes (JVMS 5.3).
+#[tactic(auto, using(crate::proofs::RunLemmas::accepted_runs))]
+pub fn accept(alloc: Global, program: &[Listing]) -> Result<(), LoadError>
+    ensures accepted { OnOk result (refusal_of program.now ≡ None) }
+    ensures runs { OnOk result (CanRun program.now) }
+    ensures refused { IfErr result (IsRefusedBy program.now) }
+{
+    match obeys_rules(program) {
+        Ok(()) => Ok(()),
+        Err(refusal) => Err(told(alloc, refusal)),
+    }
+}

@@ -1,0 +1,155 @@
+//! The machine's limits on classes.
+ghost use Rattle.std.specs.Prelude.{◌≡◌, ◌*◌, ◌≤◌, Some, length, nat_lt};
+ghost use Rattle.std.specs.Option.{option_copied};
+ghost use Rattle.std.specs.List.{find, list_any};
+ghost use Rattle.model.specs.declared.descriptors.ArgumentStand.TheVariants.{Start as AtStart};
+ghost use Rattle.model.specs.declared.listings.Method.{Method as MethodListing};
+ghost use Rattle.model.specs.Accepted.ArgumentUnits.{stand_after, units_begun, units_from, argument_units};
+ghost use Rattle.model.specs.Accepted.LimitsOfClasses.{own_fields, fields_within, has_too_many_fields, passes_limits, is_too_large, first_past_limits};
+
+use crate::classes::listed;
+use bitflags::Flags;
+use model::descriptors::ArgumentStand;
+use model::flags::{FieldFlags, MethodFlags};
+use model::listings::{Listing, Method};
+
+fn stand_after(stand: ArgumentStand, byte: u8) -> ArgumentStand
+    ensures { result ≡ stand_after stand byte }
+{
+    match stand {
+        ArgumentStand::Start | ArgumentStand::Array => {
+            if byte == b'[' {
+                ArgumentStand::Array
+            } else if byte == b'L' {
+                ArgumentStand::Name
+            } else {
+                ArgumentStand::Start
+            }
+        }
+        ArgumentStand::Name => {
+            if byte == b';' {
+                ArgumentStand::Start
+            } else {
+                ArgumentStand::Name
+            }
+        }
+    }
+}
+
+fn units_begun(stand: ArgumentStand, byte: u8) -> usize
+    ensures units { result ≡ units_begun stand byte }
+    ensures few { result ≤ 2 }
+{
+    match stand {
+        ArgumentStand::Start => { if byte == b'J' { 2 } else { 1 } }
+        ArgumentStand::Array | ArgumentStand::Name => 0,
+    }
+}
+
+/// The units of the arguments from here to the `)`.
+fn units_from(bytes: &[u8]) -> usize
+    ensures units { result ≡ units_from AtStart bytes.now }
+    ensures few { result ≤ 2 * length bytes.now }
+{
+    let mut stand = ArgumentStand::Start;
+    let mut units = 0;
+    for byte in bytes {
+        if *byte == b')' {
+            break;
+        }
+        units += units_begun(stand, *byte);
+        stand = stand_after(stand, *byte);
+    }
+    units
+}
+
+/// The units of the arguments of a method's descriptor.
+fn argument_units(descriptor: &[u8]) -> usize
+    ensures units { result ≡ argument_units descriptor.now }
+    ensures few { result ≤ 2 * length descriptor.now }
+{
+    match descriptor.split_first() {
+        Some((_, bytes)) => units_from(bytes),
+        None => 0,
+    }
+}
+
+/// Whether the locals of a method don't hold its arguments, or a frame of it takes more than 4,096 units.
+fn passes_limits(method: &Method) -> bool
+    ensures { result ≡ passes_limits method.now method.now.code }
+{
+    match &method.code {
+        Some(code) => {
+            let arguments = argument_units(method.descriptor.as_bytes());
+            let object = if method.flags.contains(MethodFlags::STATIC) {
+                0
+            } else {
+                1
+            };
+            let locals = usize::from(code.max_locals);
+            locals < arguments + object || locals + usize::from(code.max_stack) > 4096
+        }
+        None => false,
+    }
+}
+
+fn own_fields(class: &Listing) -> usize
+    ensures { result ≡ own_fields class.now }
+{
+    class
+        .fields
+        .iter()
+        .filter(|field| !field.flags.contains(FieldFlags::STATIC))
+        .count()
+}
+
+/// Whether an object of the class, with the fields of so many superclasses, has more fields than `room`.
+fn has_more_fields(steps: usize, program: &[Listing], class: &Listing, room: usize) -> bool
+    ensures { result ≡ nat_lt room (fields_within steps program.now (Some class.now)) }
+{
+    let own = own_fields(class);
+    if own > room {
+        return true;
+    }
+    if steps == 0 {
+        return false;
+    }
+    match listed(program, class.superclass.as_bytes()) {
+        Some(superclass) => has_more_fields(steps - 1, program, superclass, room - own),
+        None => false,
+    }
+}
+
+fn is_one_past_limits(methods: &[Method]) -> bool
+    ensures { result ≡ list_any (λ (m : MethodListing). passes_limits m m.code) methods.now }
+{
+    methods.iter().any(|method| passes_limits(method))
+}
+
+/// Whether an object of the class has more than 256 fields, or a method of it passes the limits.
+#[tactic(auto, unfolding(model::specs::Accepted::LimitsOfClasses::is_too_large))]
+fn is_too_large(program: &[Listing], class: &Listing) -> bool
+    ensures { result ≡ is_too_large program.now class.now }
+{
+    has_more_fields(program.len(), program, class, 256) || is_one_past_limits(&class.methods)
+}
+
+fn first_too_large<'a>(program: &[Listing], classes: &'a [Listing]) -> Option<&'a Listing>
+    ensures { option_copied result ≡ find (is_too_large program.now) classes.now }
+{
+    classes.iter().find(|class| is_too_large(program, class))
+}
+
+/// The first class past a limit; the 257th is past that of the number of classes.
+#[tactic(auto, unfolding(model::specs::Accepted::LimitsOfClasses::first_past_limits))]
+pub fn first_past_limits(program: &[Listing]) -> Option<&Listing>
+    ensures { option_copied result ≡ first_past_limits program.now }
+{
+    if program.len() <= 256 {
+        return first_too_large(program, program);
+    }
+    match first_too_large(program, &program[..256]) {
+        Some(class) => Some(class),
+        None => Some(&program[256]),
+    }
+}

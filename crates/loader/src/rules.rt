@@ -1,0 +1,148 @@
+//! The rules in their order, and the first that a list of listings breaks.
+ghost use Rattle.std.specs.Prelude.{◌≡◌};
+ghost use Rattle.std.specs.Option.{option_copied};
+ghost use Rattle.std.specs.List.{find, list_any};
+ghost use Rattle.model.specs.Programs.{is_main};
+ghost use Rattle.model.specs.Accepted.BuiltinNames.{has_builtin_name};
+ghost use Rattle.model.specs.Accepted.Superclasses.{is_class_twice, has_missing_parent, has_wrong_parent};
+ghost use Rattle.model.specs.Accepted.Cycles.{is_on_cycle};
+ghost use Rattle.model.specs.Accepted.MembersTwice.{has_member_twice};
+ghost use Rattle.model.specs.Accepted.RefusedMembers.{has_refused_member};
+ghost use Rattle.model.specs.Accepted.ExceptionRows.{has_bad_row};
+ghost use Rattle.model.specs.Accepted.Refusals.{refused_by, refused_main, refusal_of};
+ghost use Rattle.loader.specs.Told.{refusal_in};
+
+use crate::programs::is_main;
+use crate::classes::is_builtin;
+use crate::exception_rows::has_bad_row;
+use crate::limits::first_past_limits;
+use crate::members::{has_member_twice, has_refused_member};
+use crate::superclasses::{has_missing_parent, has_wrong_parent, is_class_twice, is_on_cycle};
+use model::listings::{Listing, Method};
+use model::refusals::LoadRule;
+
+/// A rule that is broken, and the first class in order that breaks it. Only the rule on main can be broken by none.
+#[derive(Clone, Copy)]
+pub struct Refusal<'a> {
+    pub rule: LoadRule,
+    pub class: Option<&'a Listing>,
+}
+
+fn first_with_builtin_name(program: &[Listing]) -> Option<&Listing>
+    ensures { option_copied result ≡ find has_builtin_name program.now }
+{
+    program.iter().find(|class| has_builtin_name(class))
+}
+
+#[tactic(auto, unfolding(model::specs::Accepted::BuiltinNames::has_builtin_name))]
+fn has_builtin_name(class: &Listing) -> bool
+    ensures { result ≡ has_builtin_name class.now }
+{
+    is_builtin(class.name.as_bytes())
+}
+
+fn first_twice(program: &[Listing]) -> Option<&Listing>
+    ensures { option_copied result ≡ find (is_class_twice program.now) program.now }
+{
+    program.iter().find(|class| is_class_twice(program, class))
+}
+
+fn first_with_missing_parent(program: &[Listing]) -> Option<&Listing>
+    ensures { option_copied result ≡ find (has_missing_parent program.now) program.now }
+{
+    program
+        .iter()
+        .find(|class| has_missing_parent(program, class))
+}
+
+fn first_on_cycle(program: &[Listing]) -> Option<&Listing>
+    ensures { option_copied result ≡ find (is_on_cycle program.now) program.now }
+{
+    program.iter().find(|class| is_on_cycle(program, class))
+}
+
+fn first_with_wrong_parent(program: &[Listing]) -> Option<&Listing>
+    ensures { option_copied result ≡ find (has_wrong_parent program.now) program.now }
+{
+    program
+        .iter()
+        .find(|class| has_wrong_parent(program, class))
+}
+
+fn first_with_member_twice(program: &[Listing]) -> Option<&Listing>
+    ensures { option_copied result ≡ find has_member_twice program.now }
+{
+    program.iter().find(|class| has_member_twice(class))
+}
+
+fn first_with_refused_member(program: &[Listing]) -> Option<&Listing>
+    ensures { option_copied result ≡ find (has_refused_member program.now) program.now }
+{
+    program
+        .iter()
+        .find(|class| has_refused_member(program, class))
+}
+
+fn first_with_bad_row(program: &[Listing]) -> Option<&Listing>
+    ensures { option_copied result ≡ find (has_bad_row program.now) program.now }
+{
+    program.iter().find(|class| has_bad_row(program, class))
+}
+
+/// `Err` with the rule and the class that breaks it, where one does.
+fn keeps(rule: LoadRule, found: Option<&Listing>) -> Result<(), Refusal<'_>>
+    ensures { refusal_in result ≡ refused_by rule (option_copied found.entry) }
+{
+    match found {
+        Some(class) => Err(Refusal {
+            rule,
+            class: Some(class),
+        }),
+        None => Ok(()),
+    }
+}
+
+fn has_main(methods: &[Method]) -> bool
+    ensures { result ≡ list_any is_main methods.now }
+{
+    methods.iter().any(|method| is_main(method))
+}
+
+/// `Err` where the first class declares no static `main()V`, or there is none.
+fn begins_with_main(program: &[Listing]) -> Result<(), Refusal<'_>>
+    ensures { refusal_in result ≡ refused_main program.now }
+{
+    match program.first() {
+        None => Err(Refusal {
+            rule: LoadRule::NoMain,
+            class: None,
+        }),
+        Some(class) => {
+            if has_main(&class.methods) {
+                Ok(())
+            } else {
+                keeps(LoadRule::NoMain, Some(class))
+            }
+        }
+    }
+}
+
+/// `Err` with the first rule, in order, that some class breaks, and the first class that does; else `Ok`.
+#[tactic(auto, using(crate::proofs::ReferenceLemmas::none_unresolved), unfolding(model::specs::Accepted::Refusals::refusal_of))]
+pub fn obeys_rules(program: &[Listing]) -> Result<(), Refusal<'_>>
+    ensures { refusal_in result ≡ refusal_of program.now }
+{
+    keeps(LoadRule::BuiltinName, first_with_builtin_name(program))?;
+    keeps(LoadRule::ClassTwice, first_twice(program))?;
+    keeps(
+        LoadRule::MissingSuperclass,
+        first_with_missing_parent(program),
+    )?;
+    keeps(LoadRule::Cycle, first_on_cycle(program))?;
+    keeps(LoadRule::WrongSuperclass, first_with_wrong_parent(program))?;
+    keeps(LoadRule::MemberTwice, first_with_member_twice(program))?;
+    keeps(LoadRule::RefusedMember, first_with_refused_member(program))?;
+    keeps(LoadRule::BadExceptionRow, first_with_bad_row(program))?;
+    keeps(LoadRule::LimitPassed, first_past_limits(program))?;
+    begins_with_main(program)
+}

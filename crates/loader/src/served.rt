@@ -1,0 +1,123 @@
+//! What the machine carries out so far.
+ghost use Rattle.std.specs.Prelude.{◌≡◌, is_some};
+ghost use Rattle.std.specs.List.{list_all};
+ghost use Rattle.model.specs.Programs.{builtin_of};
+ghost use Rattle.model.specs.Served.{serves_constant, serves_number, serves_invocation, is_served, serves_rows, serves_code, serves_fields, serves_methods, serves};
+ghost use Rattle.model.specs.declared.listings.Placed.{Placed as PlacedAt};
+
+use crate::programs::builtin_of;
+use bitflags::Flags;
+use model::flags::FieldFlags;
+use model::instructions::{
+    Constant, Instruction, Invocation, NumberKind, NumberOperation, Operator,
+};
+use model::listings::{ExceptionRow, Field, Listed, Listing, Method, Placed};
+use model::names::Member;
+
+fn serves_constant(constant: &Constant<i32, i64>) -> bool
+    ensures { result ≡ serves_constant constant.now }
+{
+    match constant {
+        Constant::SmallInt(_) | Constant::Byte(_) | Constant::Short(_) | Constant::Int(_, _) =>
+            true,
+        Constant::Null | Constant::SmallLong(_) | Constant::Long(_) => false,
+    }
+}
+
+fn serves_number(operation: NumberOperation) -> bool
+    ensures { result ≡ serves_number operation }
+{
+    match operation {
+        NumberOperation::Binary(NumberKind::Int, Operator::Add) => true,
+        NumberOperation::Binary(_, _)
+        | NumberOperation::Negate(_)
+        | NumberOperation::Convert(_)
+        | NumberOperation::CompareLongs => false,
+    }
+}
+
+/// Whether a member is one of the machine's own methods that it carries out.
+fn is_builtin_method(member: &Member) -> bool
+    ensures { result ≡ is_some (builtin_of member.now) }
+{
+    builtin_of(member).is_some()
+}
+
+fn serves_invocation(invocation: Invocation, member: &Member) -> bool
+    ensures { result ≡ serves_invocation invocation member.now }
+{
+    match invocation {
+        Invocation::Static => is_builtin_method(member),
+        Invocation::Virtual | Invocation::Special | Invocation::Interface(_) => false,
+    }
+}
+
+/// Whether the machine carries out this instruction.
+fn is_served(instruction: &Listed) -> bool
+    ensures { result ≡ is_served instruction.now }
+{
+    match instruction {
+        Instruction::Nop => true,
+        Instruction::Constant(constant) => serves_constant(constant),
+        Instruction::Number(operation) => serves_number(*operation),
+        Instruction::Return(kind) => kind.is_none(),
+        Instruction::Invoke(invocation, member) => serves_invocation(*invocation, member),
+        Instruction::Local(_)
+        | Instruction::Stack(_)
+        | Instruction::Branch(_, _)
+        | Instruction::TableSwitch(_)
+        | Instruction::LookupSwitch(_)
+        | Instruction::Static(_, _)
+        | Instruction::Field(_, _)
+        | Instruction::Array(_)
+        | Instruction::Class(_, _)
+        | Instruction::Throw
+        | Instruction::Monitor(_) => false,
+    }
+}
+
+fn serves_rows(rows: &[ExceptionRow]) -> bool
+    ensures { result ≡ serves_rows rows.now }
+{
+    rows.is_empty()
+}
+
+fn serves_instructions(instructions: &[Placed]) -> bool
+    ensures { result ≡ list_all (λ (i : PlacedAt). is_served i.instruction) instructions.now }
+{
+    instructions
+        .iter()
+        .all(|placed| is_served(&placed.instruction))
+}
+
+/// Whether the machine carries out a method's code: there are no exception rows, and all instructions are served.
+fn serves_code(method: &Method) -> bool
+    ensures { result ≡ serves_code method.now.code }
+{
+    match &method.code {
+        Some(code) => serves_rows(&code.rows) && serves_instructions(&code.instructions),
+        None => true,
+    }
+}
+
+fn serves_fields(fields: &[Field]) -> bool
+    ensures { result ≡ serves_fields fields.now }
+{
+    fields
+        .iter()
+        .all(|field| !field.flags.contains(FieldFlags::STATIC))
+}
+
+fn serves_methods(methods: &[Method]) -> bool
+    ensures { result ≡ serves_methods methods.now }
+{
+    methods.iter().all(|method| serves_code(method))
+}
+
+/// Whether the machine carries out all code of the class, and the class has no static field.
+#[tactic(auto, unfolding(model::specs::Served::serves))]
+pub fn serves(class: &Listing) -> bool
+    ensures { result ≡ serves class.now }
+{
+    serves_fields(&class.fields) && serves_methods(&class.methods)
+}

@@ -1,0 +1,97 @@
+//! What is asked of the superclass and the superinterfaces of a class.
+ghost use Rattle.std.specs.Prelude.{◌≡◌, is_none};
+ghost use Rattle.std.specs.List.{list_any};
+ghost use Rattle.model.specs.Classes.Named.{class_named};
+ghost use Rattle.model.specs.Classes.Subclasses.{is_subclass};
+ghost use Rattle.model.specs.Accepted.Superclasses.{is_class_twice, has_missing_parent, has_wrong_parent, is_no_superclass, is_no_superinterface};
+ghost use Rattle.model.specs.Accepted.Cycles.{is_on_cycle};
+
+use crate::classes::{is_builtin, is_there, listed};
+use crate::subclasses::is_subclass;
+use bitflags::Flags;
+use model::flags::ClassFlags;
+use model::listings::Listing;
+use model::names::Name;
+
+/// Whether two classes of the program have this class's name.
+#[tactic(auto, unfolding(model::specs::Accepted::Superclasses::is_class_twice))]
+pub fn is_class_twice(program: &[Listing], class: &Listing) -> bool
+    ensures { result ≡ is_class_twice program.now class.now }
+{
+    let name = class.name.as_bytes();
+    program
+        .iter()
+        .filter(|other| other.name.as_bytes() == name)
+        .count()
+        > 1
+}
+
+fn is_one_missing(program: &[Listing], names: &[Name]) -> bool
+    ensures { result ≡ list_any (λ name. is_none (class_named program.now name)) names.now }
+{
+    names.iter().any(|name| !is_there(program, name.as_bytes()))
+}
+
+/// Whether a superclass or superinterface of the class isn't there.
+#[tactic(auto, unfolding(model::specs::Accepted::Superclasses::has_missing_parent))]
+pub fn has_missing_parent(program: &[Listing], class: &Listing) -> bool
+    ensures { result ≡ has_missing_parent program.now class.now }
+{
+    !is_there(program, class.superclass.as_bytes()) || is_one_missing(program, &class.interfaces)
+}
+
+fn is_one_below(program: &[Listing], names: &[Name], above: &[u8]) -> bool
+    ensures { result ≡ list_any (λ name. is_subclass program.now name above.now) names.now }
+{
+    names
+        .iter()
+        .any(|name| is_subclass(program, name.as_bytes(), above))
+}
+
+/// Whether a superclass or superinterface of the class is the class itself or below it.
+#[tactic(auto, unfolding(model::specs::Accepted::Cycles::is_on_cycle))]
+pub fn is_on_cycle(program: &[Listing], class: &Listing) -> bool
+    ensures { result ≡ is_on_cycle program.now class.now }
+{
+    let name = class.name.as_bytes();
+    is_subclass(program, class.superclass.as_bytes(), name)
+        || is_one_below(program, &class.interfaces, name)
+}
+
+/// Whether a class of this name is there that can't be extended.
+fn is_no_superclass(program: &[Listing], name: &[u8]) -> bool
+    ensures { result ≡ is_no_superclass (class_named program.now name.now) }
+{
+    match listed(program, name) {
+        Some(class) => class.flags.contains(ClassFlags::INTERFACE)
+            || class.flags.contains(ClassFlags::FINAL),
+        None => false,
+    }
+}
+
+/// Whether a class of this name is there that can't be implemented.
+fn is_no_superinterface(program: &[Listing], name: &[u8]) -> bool
+    ensures { result ≡ is_no_superinterface (class_named program.now name.now) }
+{
+    match listed(program, name) {
+        Some(class) => !class.flags.contains(ClassFlags::INTERFACE),
+        None => is_builtin(name),
+    }
+}
+
+fn is_one_no_superinterface(program: &[Listing], names: &[Name]) -> bool
+    ensures { result ≡ list_any (λ name. is_no_superinterface (class_named program.now name)) names.now }
+{
+    names
+        .iter()
+        .any(|name| is_no_superinterface(program, name.as_bytes()))
+}
+
+/// Whether the superclass is an interface or final, or a superinterface is no interface.
+#[tactic(auto, unfolding(model::specs::Accepted::Superclasses::has_wrong_parent))]
+pub fn has_wrong_parent(program: &[Listing], class: &Listing) -> bool
+    ensures { result ≡ has_wrong_parent program.now class.now }
+{
+    is_no_superclass(program, class.superclass.as_bytes())
+        || is_one_no_superinterface(program, &class.interfaces)
+}
