@@ -1,6 +1,6 @@
 -- arguments are copied into units behind each other
-use Rattle.std.proofs.Common.{◌≡◌, ℕ, zero, suc, ◌+◌, ◌-◌, ◌<◌, ◌≤◌, List, [], ◌∷◌, ◌++◌, length, map, replicate, reverse, take, drop, slice_set, slice_index_or, get_or, refl, ap, sym, ◌∙◌, arith, add-one}
-use Rattle.std.proofs.lemmas.List.{set_split, append_assoc, take_more, take_more_set, drop-set-lt, drop-drop, drop_at, take_at, take-take, take-map, map_push, length-append, length-set, length-take-le, length-drop, length-map, get_or_append_left, get_or-take, get_or-drop, get_or_read, reverse-append, reverse-reverse, length-replicate}
+use Rattle.std.proofs.Common.{◌≡◌, ℕ, zero, suc, ◌+◌, ◌-◌, ◌<◌, ◌≤◌, List, [], ◌∷◌, ◌++◌, length, map, replicate, reverse, take, drop, slice_set, get_or, refl, ap, sym, ◌∙◌, arith, add-one}
+use Rattle.std.proofs.lemmas.List.{set_split, append_assoc, take_more, take_more_set, drop-set-lt, drop-drop, drop_at, take_at, take-take, take-map, map_push, length-append, length-set, length-take-le, length-drop, get_or_append_left, get_or-take, get_or-drop, get_or_read, reverse-append, reverse-reverse, length-replicate}
 use Rattle.model.specs.declared.values.Value.{Value}
 use Rattle.model.specs.declared.values.Value.TheVariants.{Int, Long, Ref}
 use Rattle.model.specs.declared.values.Entry.{Entry}

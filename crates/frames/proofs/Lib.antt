@@ -3,6 +3,7 @@ pub mod CallLemmas
 pub mod LayoutLemmas
 pub mod OperandLemmas
 pub mod PushLemmas
+pub mod RootLemmas
 pub mod RunningLemmas
 pub mod StackLemmas
 pub mod ViewLemmas

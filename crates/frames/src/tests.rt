@@ -2,7 +2,7 @@
 
 use crate::Frames;
 use model::places::MethodPlace;
-use model::turns::{Abrupt, Fault};
+use model::turns::{Abrupt, Fault, Mark};
 use model::values::{Entry, Kind, Value};
 use std::test::Fail;
 
@@ -86,6 +86,36 @@ fn hands_over_arguments(rt: HostRuntime) -> Result<(), Fail> {
     assert_eq!(rt; frames.values(), 1);
     assert!(rt; frames.reference() == Ok(None));
     assert_eq!(rt; frames.pc(), 3);
+    Ok(())
+}
+
+/// What a collector finds in two frames: the callee's local, then its stack bottom first, and the monitors.
+#[test]
+fn shows_its_roots(rt: HostRuntime) -> Result<(), Fail> {
+    let mut frames = Frames::new(rt.alloc())?;
+    assert!(rt; frames.has_room_for(1, 1));
+    frames.enter(MAIN, 1, 1);
+    assert!(rt; frames.has_room_for(1, 3));
+    frames.enter(CALLEE, 1, 3);
+    frames.set_monitor(Some(8));
+    frames.set_mark(Mark::Waiting);
+    assert_eq!(rt; frames.monitor(), Some(8));
+    assert!(rt; frames.mark() == Mark::Waiting);
+    frames.store(1, 0, 0, Value::Ref(Some(5)));
+    let values = [Value::Long(7), Value::Ref(Some(6))];
+    assert!(rt; frames.replace_all_if_room(2, 0, values.as_slice()).is_ok());
+    assert_eq!(rt; frames.entries(0), 1);
+    assert_eq!(rt; frames.entries(1), 3);
+    assert_eq!(rt; frames.entries(2), 0);
+    assert_eq!(rt; frames.reference_at(1, 0), Some(5));
+    assert_eq!(rt; frames.reference_at(1, 1), None);
+    assert_eq!(rt; frames.reference_at(1, 2), Some(6));
+    assert_eq!(rt; frames.reference_at(1, 3), None);
+    assert_eq!(rt; frames.monitor_at(0), None);
+    assert_eq!(rt; frames.monitor_at(1), Some(8));
+    frames.clear(9);
+    assert_eq!(rt; frames.values(), 0);
+    assert_eq!(rt; frames.pc(), 9);
     Ok(())
 }
 

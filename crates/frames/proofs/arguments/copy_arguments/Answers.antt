@@ -1,7 +1,4 @@
-use Rattle.std.proofs.Common.{arith, ◌≡◌, ◌∙◌, ◌+◌, ap, length, get_or}
-use Rattle.std.specs.Prelude.{vec_len}
-use Rattle.model.specs.declared.values.Entry.TheVariants.{Unset}
-use Rattle.frames.specs.Layout.{value_in}
+use Rattle.std.proofs.Common.{arith, ◌∙◌}
 use Rattle.frames.proofs.ArgumentLemmas.{Copied, value_next, copied_next, room_for_copy}
 use Rattle.frames.proofs.arguments.copy_arguments.Goals as goal
 

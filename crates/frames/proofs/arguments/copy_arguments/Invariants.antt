@@ -1,4 +1,4 @@
-use Rattle.std.proofs.Common.{◌≡◌, ◌+◌, ◌++◌, take, drop, length}
+use Rattle.std.proofs.Common.{◌≡◌, ◌+◌, ◌++◌, take, drop}
 use Rattle.std.specs.Prelude.{vec_len}
 use Rattle.model.specs.Values.{units_of_all}
 use Rattle.model.specs.Locals.{argument_entries}

@@ -1,4 +1,4 @@
-use Rattle.std.proofs.Common.{◌≡◌, take, ◌<◌, length}
+use Rattle.std.proofs.Common.{◌≡◌, take}
 use Rattle.model.specs.Frames.{running_frame, with_running, push_all}
 use Rattle.frames.proofs.thread_frames.Frames.push_all.Given as goal
 
