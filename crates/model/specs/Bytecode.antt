@@ -6,7 +6,6 @@ use Rattle.model.specs.Bytecode.Operands.{operands}
 use Rattle.model.specs.Bytecode.Ranges.{Fits}
 use Rattle.model.specs.declared.bytecode.Located.{Located}
 use Rattle.model.specs.declared.instructions.Instruction.TheVariants as instruction
-
 pub mod Fields
 pub mod Opcodes
 pub mod Operands
@@ -59,5 +58,6 @@ pub record IsCode (bytes : List ℕ) (items : List Located) : Type 0 where
   pub few : length bytes ≤ 65535
   pub land : AllByRecursion (λ x. AllByRecursion (IsPc items) (targets x.instruction)) items
 
+-- the instructions without their pcs
 abbrev pub instructions_of : List Located → List Instr
 instructions_of items = map (λ x. x.instruction) items
