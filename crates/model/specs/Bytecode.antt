@@ -58,5 +58,6 @@ pub record IsCode (bytes : List ℕ) (items : List Located) : Type 0 where
   pub few : length bytes ≤ 65535
   pub land : AllByRecursion (λ x. AllByRecursion (IsPc items) (targets x.instruction)) items
 
+-- the instructions without their pcs
 abbrev pub instructions_of : List Located → List Instr
 instructions_of items = map (λ x. x.instruction) items

@@ -1,12 +1,12 @@
 -- When instructions that stand one after another are code.
 use Rattle.std.specs.Prelude.{◌↔◌, ◌&&◌}
-use Rattle.std.proofs.Common.{◌≡◌, ℕ, zero, suc, ◌+◌, ◌<◌, ◌≤◌, Bool, true, false, cond, List, [], ◌∷◌, ◌++◌, length, map, refl, sym, ap, subst, ◌∙◌, arith, inl, inr}
+use Rattle.std.proofs.Common.{◌≡◌, ℕ, suc, ◌+◌, ◌<◌, ◌≤◌, Bool, true, false, List, [], ◌∷◌, ◌++◌, length, map, refl, sym, ap, ◌∙◌, arith, inl, inr}
 use Rattle.std.specs.List.{AllByRecursion, list_all}
 use Rattle.std.proofs.lemmas.Bool.{cases_lt, false≢true}
 use Rattle.std.proofs.lemmas.List.{length-append, get_or_past}
 use Rattle.model.specs.Bytecode.Opcodes.{Instr}
 use Rattle.model.specs.Bytecode.Operands.{operands}
-use Rattle.model.specs.Bytecode.{spelling, targets, Begins, StandFrom, IsPc, IsCode, instructions_of}
+use Rattle.model.specs.Bytecode.{spelling, targets, StandFrom, IsPc, IsCode, instructions_of}
 use Rattle.model.specs.declared.bytecode.Located.{Located}
 use Rattle.opcodes.specs.Starts.{is_start, lands, all_land, Real, AreReal}
 

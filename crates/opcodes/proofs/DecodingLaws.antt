@@ -1,22 +1,22 @@
 -- Instructions one after another: what has been read, and what is still to be read.
 use Rattle.std.specs.Prelude.{◌⊎◌, ◌↔◌}
-use Rattle.std.proofs.Common.{◌≡◌, ℕ, zero, suc, ◌+◌, ◌-◌, ◌<◌, ◌≤◌, Bool, true, false, cond, eqb, List, [], ◌∷◌, ◌++◌, length, get_or, Result, Ok, Err, refl, eq-eqb, sym, ap, subst, ◌∙◌, append_assoc, arith, inl, inr, is_ok, OnOk}
-use Rattle.std.specs.List.{AllByRecursion, list_all}
+use Rattle.std.proofs.Common.{◌≡◌, ℕ, zero, suc, ◌+◌, ◌-◌, ◌<◌, ◌≤◌, Bool, true, false, cond, eqb, List, [], ◌∷◌, ◌++◌, length, Ok, refl, eq-eqb, sym, ap, subst, ◌∙◌, append_assoc, arith, inl, inr}
+use Rattle.std.specs.List.{AllByRecursion}
 use Rattle.std.proofs.lemmas.Bool.{eqb-true}
 use Rattle.opcodes.proofs.FieldLaws.{chosen}
 use Rattle.std.proofs.lemmas.List.{append-nil, length-append, nil_from_length}
 use Rattle.model.specs.Bytecode.Opcodes.{Instr}
 use Rattle.model.specs.Bytecode.Operands.{operands}
-use Rattle.model.specs.Bytecode.{spelling, targets, Begins, StandFrom, IsPc, IsCode, instructions_of}
+use Rattle.model.specs.Bytecode.{spelling, Begins, StandFrom, IsPc}
 use Rattle.model.specs.declared.bytecode.Located.{Located}
 use Rattle.opcodes.specs.declared.error.OpError.{OpError}
 use Rattle.opcodes.specs.declared.error.OpError.TheVariants as error
 use Rattle.opcodes.specs.Reading.Steps.{Fails}
 use Rattle.opcodes.specs.Reading.{instruction_at}
-use Rattle.opcodes.specs.Starts.{is_start, lands, all_land, Real, AreReal}
-use Rattle.opcodes.proofs.Loops.{ok_is, fails-is}
+use Rattle.opcodes.specs.Starts.{is_start, Real, AreReal}
+use Rattle.opcodes.proofs.Loops.{ok_is}
 use Rattle.opcodes.proofs.FieldLaws.{IsBytes}
-use Rattle.opcodes.proofs.InstructionLaws.{IsFront, instruction-takes, instruction-again}
+use Rattle.opcodes.proofs.InstructionLaws.{instruction-takes, instruction-again}
 
 -- ---- lists
 

@@ -1,16 +1,13 @@
 -- Instructions written one after another.
-use Rattle.std.specs.Prelude.{◌↔◌}
-use Rattle.std.proofs.Common.{◌≡◌, ℕ, zero, suc, ◌+◌, ◌<◌, ◌≤◌, Bool, true, false, cond, eqb, List, [], ◌∷◌, ◌++◌, length, get_or, take, drop, add-one, drop-cons, map, refl, sym, ap, subst, ◌∙◌, append_assoc, arith, inl, inr}
-use Rattle.std.specs.List.{AllByRecursion, list_all}
+use Rattle.std.proofs.Common.{◌≡◌, ℕ, zero, suc, ◌+◌, ◌<◌, ◌≤◌, Bool, true, false, cond, eqb, List, [], ◌∷◌, ◌++◌, length, get_or, take, drop, add-one, drop-cons, refl, sym, ap, subst, ◌∙◌, append_assoc, arith, inl, inr}
 use Rattle.std.proofs.lemmas.Bool.{eqb-true}
 use Rattle.std.proofs.lemmas.List.{append-nil, length-append, map-append, take-append-drop, take_more}
 use Rattle.model.specs.Bytecode.Opcodes.{Instr}
 use Rattle.model.specs.Bytecode.Operands.{operands}
 use Rattle.model.specs.Bytecode.Ranges.{Fits}
-use Rattle.model.specs.Bytecode.{spelling, targets, Begins, StandFrom, IsPc, IsCode, instructions_of}
+use Rattle.model.specs.Bytecode.{spelling, Begins, StandFrom, IsCode, instructions_of}
 use Rattle.model.specs.declared.bytecode.Located.{Located}
-use Rattle.opcodes.specs.declared.error.OpError.TheVariants as error
-use Rattle.opcodes.specs.Starts.{is_start, lands, all_land, Real, AreReal}
+use Rattle.opcodes.specs.Starts.{is_start, all_land, AreReal}
 use Rattle.opcodes.specs.Writing.{IsSpelled}
 use Rattle.opcodes.proofs.FieldLaws.{chosen}
 use Rattle.opcodes.proofs.DecodingLaws.{pc-push, pc-left, pc-last, placed, located-is, or_true, eqb-same}

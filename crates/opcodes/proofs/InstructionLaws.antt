@@ -1,14 +1,11 @@
 -- An instruction that is read is spelled so, and what is spelled so is read again.
-use Rattle.std.proofs.Common.{◌≡◌, ℕ, zero, suc, ◌+◌, ◌^◌, ◌<◌, Bool, true, false, cond, List, [], ◌∷◌, ◌++◌, length, Option, Some, None, Result, Ok, Err, refl, sym, ap, subst, ◌∙◌, append_assoc, arith, ℤ}
-use Rattle.std.specs.Int.{Width, w8, w16, w32}
-use Rattle.std.specs.Int.RustNames.{FitsSigned}
-use Rattle.std.specs.List.{AllByRecursion}
+use Rattle.std.proofs.Common.{◌≡◌, ℕ, zero, suc, ◌^◌, ◌<◌, List, [], ◌∷◌, ◌++◌, length, Option, Some, None, Ok, refl, sym, ap, subst, ◌∙◌, append_assoc, arith}
+use Rattle.std.specs.Int.{w8, w16}
 use Rattle.model.specs.Bytecode.Fields.{u2, signed}
-use Rattle.model.specs.Bytecode.Opcodes.{Instr, opcode, load_opcode, store_opcode, element_load_opcode}
-use Rattle.model.specs.Bytecode.Operands.{operands, constant_operands, access_operands, array_operands, invoke_operands, primitive_number}
+use Rattle.model.specs.Bytecode.Opcodes.{Instr, opcode, load_opcode, store_opcode}
+use Rattle.model.specs.Bytecode.Operands.{operands, primitive_number}
 use Rattle.model.specs.Bytecode.Ranges.{Fits, ConstantFits, AccessFits, ArrayFits, InvokeFits}
-use Rattle.model.specs.Bytecode.{spelling, targets}
-use Rattle.model.specs.declared.values.Kind.{Kind}
+use Rattle.model.specs.Bytecode.{spelling}
 use Rattle.model.specs.declared.instructions.Width.TheVariants as width
 use Rattle.model.specs.declared.instructions.Constant.{Constant}
 use Rattle.model.specs.declared.instructions.Constant.TheVariants as constant
@@ -19,25 +16,20 @@ use Rattle.model.specs.declared.instructions.LocalAccess.TheVariants as access
 use Rattle.model.specs.declared.instructions.Primitive.{Primitive}
 use Rattle.model.specs.declared.instructions.ArrayOperation.{ArrayOperation}
 use Rattle.model.specs.declared.instructions.ArrayOperation.TheVariants as array
-use Rattle.model.specs.declared.instructions.Access.TheVariants as field
-use Rattle.model.specs.declared.instructions.ClassOperation.TheVariants as class
 use Rattle.model.specs.declared.instructions.Invocation.{Invocation}
 use Rattle.model.specs.declared.instructions.Invocation.TheVariants as invoke
 use Rattle.model.specs.declared.instructions.Instruction.TheVariants as instruction
-use Rattle.opcodes.specs.declared.error.OpError.{OpError}
-use Rattle.opcodes.specs.declared.error.OpError.TheVariants as error
 use Rattle.opcodes.specs.declared.layout.Layout.{Layout}
 use Rattle.opcodes.specs.declared.layout.Layout.TheVariants as layout
 use Rattle.opcodes.specs.declared.layout.Named.{Named}
 use Rattle.opcodes.specs.declared.layout.Named.TheVariants as named
 use Rattle.opcodes.specs.Reading.Steps.{◌>>=◌, byte_at, number_at, signed_at, entry_at}
 use Rattle.opcodes.specs.Reading.Tables.{bare_of, layout_of, primitives}
-use Rattle.opcodes.specs.Reading.Switches.{branch_at, table_at, lookup_at}
 use Rattle.opcodes.specs.Reading.{by_name, increment_at, ends_with_zero, interface_at, new_array, new_array_at, wide_form_at, wide_at, layout_at, by_layout, by_opcode, instruction_at}
 use Rattle.opcodes.specs.Starts.{Real}
 use Rattle.opcodes.proofs.Loops.{ok_is}
-use Rattle.opcodes.proofs.FieldLaws.{IsBytes, IsBytes-rest, bind_ok, Takes, Takes-then, Takes-shorter, wide8, wide16, byte_takes, u2_takes, u2_again, signed_takes, signed_again}
-use Rattle.opcodes.proofs.TableLaws.{IsBare, bare_of-takes, opcode_of, layout_of-takes, primitives-take, primitives-again, small_int-again, small_long-again, first_load-again, first_store-again, stack-again, number-again, return-again, element_load-again, element_store-again, monitor-again, layout-is_not_bare, layout-again}
+use Rattle.opcodes.proofs.FieldLaws.{IsBytes, bind_ok, Takes, Takes-then, Takes-shorter, wide8, wide16, byte_takes, u2_takes, u2_again, signed_takes, signed_again}
+use Rattle.opcodes.proofs.TableLaws.{bare_of-takes, opcode_of, layout_of-takes, primitives-take, primitives-again, small_int-again, small_long-again, first_load-again, first_store-again, stack-again, number-again, return-again, element_load-again, element_store-again, monitor-again, layout-is_not_bare, layout-again}
 use Rattle.opcodes.proofs.SwitchLaws.{IsRead, Reads, branch-takes, branch-again, table-takes, table-again, lookup-takes, lookup-again}
 
 -- ---- what is read is spelled so

@@ -1,7 +1,7 @@
 -- A branch or a switch that is read is spelled so, and what is spelled so is read again.
 use Rattle.std.specs.Prelude.{◌↔◌}
-use Rattle.std.proofs.Common.{◌≡◌, ℕ, zero, suc, ◌+◌, ◌-◌, ◌%◌, ◌^◌, ◌<◌, ◌≤◌, Bool, true, false, cond, List, [], ◌∷◌, ◌++◌, length, get_or, drop, add-one, drop-cons, replicate, map, Option, Some, None, Result, Ok, Err, refl, sym, ap, subst, ◌∙◌, append_assoc, arith, ℤ, pos, negsuc, ◌+ℤ◌, ◌-ℤ◌, ◌<ℤ◌, ◌≤ℤ◌, int_lt, min}
-use Rattle.std.specs.Int.{Width, w16, w32}
+use Rattle.std.proofs.Common.{◌≡◌, ℕ, zero, suc, ◌+◌, ◌-◌, ◌%◌, ◌^◌, ◌<◌, ◌≤◌, Bool, true, false, cond, List, [], ◌∷◌, ◌++◌, length, get_or, drop, add-one, drop-cons, replicate, map, Option, Some, None, Result, Ok, Err, refl, ap, subst, ◌∙◌, append_assoc, arith, ℤ, pos, negsuc, ◌+ℤ◌, ◌-ℤ◌, ◌<ℤ◌, ◌≤ℤ◌, int_lt, min}
+use Rattle.std.specs.Int.{w32}
 use Rattle.std.specs.Int.RustNames.{FitsSigned, unsigned_abs}
 use Rattle.std.specs.List.{flat_map, AllByRecursion}
 use Rattle.std.proofs.lemmas.Int.{ints}
@@ -10,7 +10,6 @@ use Rattle.model.specs.Bytecode.Fields.{signed, offset, pad}
 use Rattle.model.specs.Bytecode.Opcodes.{Instr, branch_opcode, opcode}
 use Rattle.model.specs.Bytecode.Operands.{branch_width, table_high, table_operands, lookup_operands, operands}
 use Rattle.model.specs.Bytecode.Ranges.{Fits, AreRisingFrom, AreRising, TableFits, LookupFits}
-use Rattle.model.specs.Bytecode.{targets}
 use Rattle.model.specs.Switches.{Table, Lookup}
 use Rattle.model.specs.declared.instructions.Width.TheVariants as width
 use Rattle.model.specs.declared.instructions.Test.{Test}
@@ -22,7 +21,7 @@ use Rattle.opcodes.specs.Reading.Steps.{◌>>=◌, signed_at}
 use Rattle.opcodes.specs.Reading.Switches.{pc_of, landing, branch_at, pad_at, targets_at, table_len, table_at, rises, pairs_at, lookup_at}
 use Rattle.opcodes.specs.Starts.{Real}
 use Rattle.opcodes.proofs.Loops.{ok_is}
-use Rattle.opcodes.proofs.FieldLaws.{IsBytes, IsBytes-rest, bind_ok, guard_then, chosen, Takes, Takes-then, Takes-shorter, IsWide, wide16, wide32, signed_takes, signed_again}
+use Rattle.opcodes.proofs.FieldLaws.{IsBytes, IsBytes-rest, bind_ok, guard_then, Takes, Takes-then, Takes-shorter, IsWide, wide16, wide32, signed_takes, signed_again}
 
 -- the bytes behind an opcode are the operands of an instruction, and a rest
 pub record IsRead (pc code : ℕ) (i : Instr) (bytes rest : List ℕ) : Type 0 where

@@ -1,8 +1,7 @@
 -- An opcode that the tables have stands in them for what is spelled with it, and the other way.
-use Rattle.std.specs.Prelude.{◌⊎◌}
-use Rattle.std.proofs.Common.{◌≡◌, ℕ, ltb, eqb, Bool, true, false, cond, List, [], ◌∷◌, Option, Some, None, refl, sym, ap, inl, inr}
+use Rattle.std.proofs.Common.{◌≡◌, ℕ, ltb, eqb, cond, List, [], ◌∷◌, Option, Some, None, refl, inl, inr}
 use Rattle.std.proofs.lemmas.Bool.{eqb-true}
-use Rattle.model.specs.Bytecode.Opcodes.{Instr, opcode, load_opcode, store_opcode, access_opcode, load_0_opcode, store_0_opcode, first_number, stack_opcode, number_opcode, return_opcode, branch_opcode, small_int_opcode, small_long_opcode, element_load_opcode, element_store_opcode, monitor_opcode}
+use Rattle.model.specs.Bytecode.Opcodes.{Instr, opcode, load_opcode, store_opcode, access_opcode, stack_opcode, number_opcode, return_opcode, branch_opcode, small_int_opcode, small_long_opcode, element_load_opcode, element_store_opcode, monitor_opcode}
 use Rattle.model.specs.Bytecode.Operands.{operands, primitive_number}
 use Rattle.model.specs.Bytecode.Ranges.{Fits}
 use Rattle.model.specs.declared.values.Kind.{Kind}
@@ -11,13 +10,7 @@ use Rattle.model.specs.declared.instructions.FirstLocal.{FirstLocal}
 use Rattle.model.specs.declared.instructions.SmallInt.{SmallInt}
 use Rattle.model.specs.declared.instructions.SmallLong.{SmallLong}
 use Rattle.model.specs.declared.instructions.StackOperation.{StackOperation}
-use Rattle.model.specs.declared.instructions.Operator.{Operator}
-use Rattle.model.specs.declared.instructions.NumberKind.{NumberKind}
 use Rattle.model.specs.declared.instructions.NumberOperation.{NumberOperation}
-use Rattle.model.specs.declared.instructions.Conversion.{Conversion}
-use Rattle.model.specs.declared.instructions.Test.{Test}
-use Rattle.model.specs.declared.instructions.Comparison.{Comparison}
-use Rattle.model.specs.declared.instructions.Identity.{Identity}
 use Rattle.model.specs.declared.instructions.ElementKind.{ElementKind}
 use Rattle.model.specs.declared.instructions.Primitive.{Primitive}
 use Rattle.model.specs.declared.instructions.MonitorOperation.{MonitorOperation}
@@ -31,9 +24,7 @@ use Rattle.model.specs.declared.instructions.ElementKind.TheVariants as element
 use Rattle.model.specs.declared.instructions.Access.TheVariants as field
 use Rattle.model.specs.declared.instructions.FirstLocal.TheVariants as first
 use Rattle.model.specs.declared.instructions.Identity.TheVariants as identity
-use Rattle.model.specs.declared.instructions.Increment.TheVariants as increment
 use Rattle.model.specs.declared.instructions.Instruction.TheVariants as instruction
-use Rattle.model.specs.declared.instructions.Invocation.TheVariants as invoke
 use Rattle.model.specs.declared.instructions.Local.TheVariants as local
 use Rattle.model.specs.declared.instructions.MonitorOperation.TheVariants as monitor
 use Rattle.model.specs.declared.instructions.NumberOperation.TheVariants as number
@@ -47,7 +38,6 @@ use Rattle.model.specs.declared.instructions.Test.TheVariants as test
 use Rattle.model.specs.declared.instructions.Width.TheVariants as width
 use Rattle.opcodes.specs.declared.layout.Layout.{Layout}
 use Rattle.opcodes.specs.declared.layout.Layout.TheVariants as layout
-use Rattle.opcodes.specs.declared.layout.Named.{Named}
 use Rattle.opcodes.specs.declared.layout.Named.TheVariants as named
 use Rattle.opcodes.specs.Reading.Steps.{entry_at}
 use Rattle.opcodes.specs.Reading.Tables.{constants_and_loads, stores_and_stack, numbers_and_returns, bare_of, low_layouts, high_layouts, layout_of, primitives}

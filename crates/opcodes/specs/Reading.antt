@@ -25,6 +25,7 @@ pub mod Steps
 pub mod Tables
 pub mod Switches
 
+-- the instruction that takes a pool number so
 abbrev pub by_name : Named → ℕ → Instr
 by_name named.Int n = instruction.Constant (constant.Int Wide n)
 by_name named.Long n = instruction.Constant (constant.Long n)
@@ -43,6 +44,7 @@ increment_at bytes = do
   z ← signed_at w8 n.1
   Ok (instruction.Local (access.Increment (increment.Byte n.0 z.0)), z.1)
 
+-- the last byte of invokeinterface is zero (JVMS 6.5)
 abbrev pub ends_with_zero : ℕ → ℕ → ℕ → List ℕ → Result (Instr × List ℕ) OpError
 ends_with_zero n count zero rest = Ok (instruction.Invoke (invoke.Interface count) n, rest)
 ends_with_zero n count (suc b) rest = Err error.Opcode
@@ -55,10 +57,12 @@ interface_at bytes = do
   last ← byte_at count.1
   ends_with_zero n.0 count.0 last.0 last.1
 
+-- the instruction on an array of this type, if it is one
 abbrev pub new_array : Option Primitive → List ℕ → Result (Instr × List ℕ) OpError
 new_array None rest = Err error.Opcode
 new_array (Some type) rest = Ok (instruction.Array (array.New type), rest)
 
+-- the number of a type
 unfoldable pub new_array_at : List ℕ → Result (Instr × List ℕ) OpError
 new_array_at bytes = do
   n ← byte_at bytes
@@ -88,6 +92,7 @@ wide_form_at (Some layout.TableSwitch) bytes = Err error.Opcode
 wide_form_at (Some layout.LookupSwitch) bytes = Err error.Opcode
 wide_form_at (Some layout.Wide) bytes = Err error.Opcode
 
+-- an opcode, and the wide form of its operands
 unfoldable pub wide_at : List ℕ → Result (Instr × List ℕ) OpError
 wide_at bytes = do
   b ← byte_at bytes
@@ -121,10 +126,12 @@ layout_at pc layout.TableSwitch bytes = table_at pc bytes
 layout_at pc layout.LookupSwitch bytes = lookup_at pc bytes
 layout_at pc layout.Wide bytes = wide_at bytes
 
+-- an instruction whose opcode has this layout, if it has one
 abbrev pub by_layout : ℕ → Option Layout → List ℕ → Result (Instr × List ℕ) OpError
 by_layout pc None bytes = Err error.Opcode
 by_layout pc (Some l) bytes = layout_at pc l bytes
 
+-- an instruction whose opcode stands for it alone, or has a layout
 abbrev pub by_opcode : ℕ → Option Instr → Option Layout → List ℕ → Result (Instr × List ℕ) OpError
 by_opcode pc None l bytes = by_layout pc l bytes
 by_opcode pc (Some i) l bytes = Ok (i, bytes)

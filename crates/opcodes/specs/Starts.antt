@@ -1,5 +1,5 @@
 -- Where instructions begin, as a test of each pc.
-use Rattle.std.specs.Prelude.{ℕ, Bool, true, false, ◌&&◌, List, [], ◌∷◌, slice_index_or, ◌<◌}
+use Rattle.std.specs.Prelude.{ℕ, Bool, false, List, slice_index_or, ◌<◌}
 use Rattle.std.specs.List.{list_all, AllByRecursion}
 use Rattle.model.specs.Bytecode.Opcodes.{Instr}
 use Rattle.model.specs.Bytecode.{targets}
@@ -21,5 +21,6 @@ all_land starts is = list_all (lands starts) is
 abbrev pub Real : Instr → Type 0
 Real i = AllByRecursion (λ t. t < 65535) (targets i)
 
+-- no target of any of them is
 abbrev pub AreReal : List Located → Type 0
 AreReal items = AllByRecursion (λ x. Real x.instruction) items

@@ -4,7 +4,7 @@ use model::instructions::{Access, ClassOperation, Test};
 use model::values::Kind;
 
 /// What a pool number of two bytes, with nothing behind it, is taken for.
-#[derive(Clone, Copy, PartialEq, Eq)]
+#[derive(Clone, Copy)]
 pub enum Named {
     /// `ldc_w`
     Int,
@@ -21,7 +21,7 @@ pub enum Named {
 }
 
 /// What stands behind an opcode that has operands.
-#[derive(Clone, Copy, PartialEq, Eq)]
+#[derive(Clone, Copy)]
 pub enum Layout {
     /// `bipush`
     Byte,

@@ -24,6 +24,7 @@ use Rattle.model.specs.declared.instructions.Invocation.{Invocation}
 use Rattle.model.specs.declared.instructions.Invocation.TheVariants as invoke
 use Rattle.model.specs.declared.instructions.Instruction.TheVariants as instruction
 
+-- bipush, sipush, ldc, ldc_w, ldc2_w have one operand, the others none
 abbrev pub constant_operands : Constant ℕ ℕ → List ℕ
 constant_operands constant.Null = []
 constant_operands (constant.SmallInt n) = []
@@ -54,17 +55,19 @@ branch_width (test.Ints c) = w16
 branch_width (test.Refs c) = w16
 branch_width (test.Null c) = w16
 
--- default, low, high and the targets; high is where the last target stands
+-- the int of a table's last target
 abbrev pub table_high : Table ℕ → ℤ
 table_high s = s.low +ℤ pos (length s.targets) -ℤ pos 1
 
+-- pad, default, low, high, and the targets (JVMS 6.5, tableswitch)
 abbrev pub table_operands : ℕ → Table ℕ → List ℕ
 table_operands pc s = pad pc ++ (signed w32 (offset pc s.default) ++ (signed w32 s.low ++ (signed w32 (table_high s) ++ flat_map (λ t. signed w32 (offset pc t)) s.targets)))
 
--- default, count, and pairs of a key and a target
+-- pad, default, count, and pairs of a key and a target (JVMS 6.5, lookupswitch)
 abbrev pub lookup_operands : ℕ → Lookup ℕ → List ℕ
 lookup_operands pc s = pad pc ++ (signed w32 (offset pc s.default) ++ (signed w32 (pos (length s.pairs)) ++ flat_map (λ p. signed w32 p.0 ++ signed w32 (offset pc p.1)) s.pairs))
 
+-- the types of newarray (JVMS 6.5, table 6.5.newarray-A)
 abbrev pub primitive_number : Primitive → ℕ
 primitive_number Char = 5
 primitive_number Byte = 8
@@ -72,6 +75,7 @@ primitive_number Short = 9
 primitive_number Int = 10
 primitive_number Long = 11
 
+-- the type of newarray, the class of anewarray
 abbrev pub array_operands : ArrayOperation ℕ → List ℕ
 array_operands (array.New type) = primitive_number type ∷ []
 array_operands (array.NewOf n) = u2 n
@@ -79,12 +83,14 @@ array_operands array.Length = []
 array_operands (array.Load k) = []
 array_operands (array.Store k) = []
 
+-- the method, and for invokeinterface a count and a zero byte
 abbrev pub invoke_operands : Invocation → ℕ → List ℕ
 invoke_operands invoke.Virtual n = u2 n
 invoke_operands invoke.Special n = u2 n
 invoke_operands invoke.Static n = u2 n
 invoke_operands (invoke.Interface count) n = u2 n ++ count ∷ 0 ∷ []
 
+-- the bytes behind the opcode of an instruction at this pc
 abbrev pub operands : ℕ → Instr → List ℕ
 operands pc instruction.Nop = []
 operands pc (instruction.Constant c) = constant_operands c

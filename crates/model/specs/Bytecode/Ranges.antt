@@ -20,6 +20,7 @@ use Rattle.model.specs.declared.instructions.Invocation.{Invocation}
 use Rattle.model.specs.declared.instructions.Invocation.TheVariants as invoke
 use Rattle.model.specs.declared.instructions.Instruction.TheVariants as instruction
 
+-- a pool number in one byte or two, and bytes and shorts with their sign
 abbrev pub ConstantFits : Constant ℕ ℕ → Type 0
 ConstantFits constant.Null = Unit {0}
 ConstantFits (constant.SmallInt n) = Unit {0}
@@ -30,6 +31,7 @@ ConstantFits (constant.Int Narrow n) = n < 2 ^ 8
 ConstantFits (constant.Int Wide n) = n < 2 ^ 16
 ConstantFits (constant.Long n) = n < 2 ^ 16
 
+-- a local in one byte or, behind wide, in two
 abbrev pub AccessFits : LocalAccess → Type 0
 AccessFits (access.Load k (local.First n)) = Unit {0}
 AccessFits (access.Load k (local.Byte n)) = n < 2 ^ 8
@@ -45,11 +47,12 @@ abbrev pub AreRisingFrom : ℤ → List (ℤ × ℕ) → Type 0
 AreRisingFrom key [] = Unit {0}
 AreRisingFrom key (p ∷ pairs) = (key <ℤ p.0) × AreRisingFrom p.0 pairs
 
+-- keys rise from the first pair on
 abbrev pub AreRising : List (ℤ × ℕ) → Type 0
 AreRising [] = Unit {0}
 AreRising (p ∷ pairs) = AreRisingFrom p.0 pairs
 
--- low is at most high, and both are ints
+-- some target is there, low and high are ints
 pub record TableFits (pc : ℕ) (s : Table ℕ) : Type 0 where
   pub some : 1 ≤ length s.targets
   pub low : FitsSigned w32 s.low
@@ -57,12 +60,14 @@ pub record TableFits (pc : ℕ) (s : Table ℕ) : Type 0 where
   pub default : FitsSigned w32 (offset pc s.default)
   pub targets : AllByRecursion (λ t. FitsSigned w32 (offset pc t)) s.targets
 
+-- the count is an int, and the keys rise
 pub record LookupFits (pc : ℕ) (s : Lookup ℕ) : Type 0 where
   pub few : length s.pairs < 2 ^ 31
   pub default : FitsSigned w32 (offset pc s.default)
   pub pairs : AllByRecursion (λ p. FitsSigned w32 p.0 × FitsSigned w32 (offset pc p.1)) s.pairs
   pub rising : AreRising s.pairs
 
+-- the class of anewarray is a pool number in two bytes
 abbrev pub ArrayFits : ArrayOperation ℕ → Type 0
 ArrayFits (array.New type) = Unit {0}
 ArrayFits (array.NewOf n) = n < 2 ^ 16
@@ -70,6 +75,7 @@ ArrayFits array.Length = Unit {0}
 ArrayFits (array.Load k) = Unit {0}
 ArrayFits (array.Store k) = Unit {0}
 
+-- a method is a pool number in two bytes, and a count has one byte
 abbrev pub InvokeFits : Invocation → ℕ → Type 0
 InvokeFits invoke.Virtual n = n < 2 ^ 16
 InvokeFits invoke.Special n = n < 2 ^ 16

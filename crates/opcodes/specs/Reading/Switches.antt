@@ -19,6 +19,7 @@ pc_of (negsuc n) = 65535
 abbrev pub landing : ℕ → ℤ → ℕ
 landing pc z = pc_of (pos pc +ℤ z)
 
+-- an offset of two bytes or four
 unfoldable pub branch_at : ℕ → Test → List ℕ → Result (Instr × List ℕ) OpError
 branch_at pc t bytes = do
   z ← signed_at (branch_width t) bytes
@@ -39,9 +40,11 @@ targets_at pc (suc n) bytes = do
   others ← targets_at pc n z.1
   Ok (landing pc z.0 ∷ others.0, others.1)
 
+-- how many ints there are from low to high
 abbrev pub table_len : ℤ → ℤ → ℕ
 table_len low high = unsigned_abs (high -ℤ low) + 1
 
+-- pad, default, low, high, and a target for each int between
 unfoldable pub table_at : ℕ → List ℕ → Result (Instr × List ℕ) OpError
 table_at pc bytes = do
   rest ← pad_at (3 - pc % 4) bytes
@@ -62,6 +65,7 @@ pairs_at pc before (suc n) bytes = do
   key ← signed_at w32 bytes
   if rises before key.0 then (signed_at w32 key.1 >>= λ z. pairs_at pc (Some key.0) n z.1 >>= λ others. Ok ((key.0, landing pc z.0) ∷ others.0, others.1)) else Err error.Switch
 
+-- pad, default, a count that isn't negative, and as many pairs
 unfoldable pub lookup_at : ℕ → List ℕ → Result (Instr × List ℕ) OpError
 lookup_at pc bytes = do
   rest ← pad_at (3 - pc % 4) bytes

@@ -1,4 +1,4 @@
-use Rattle.std.proofs.Common.{◌≡◌, true, false, ap, sym, ◌∙◌, length, ◌≤◌, arith, rules}
+use Rattle.std.proofs.Common.{◌≡◌, true, false, sym, ◌∙◌, length, ◌≤◌, arith, rules}
 use Rattle.std.proofs.lemmas.Bool.{false≢true}
 use Rattle.std.proofs.lemmas.Result.{err_from_is_err_and}
 use Rattle.model.specs.Bytecode.{instructions_of}

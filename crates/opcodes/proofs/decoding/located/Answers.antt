@@ -1,4 +1,4 @@
-use Rattle.std.proofs.Common.{◌≡◌, ◌-◌, ◌≤◌, ◌<◌, length, arith, rules}
+use Rattle.std.proofs.Common.{arith, rules}
 use Rattle.std.proofs.lemmas.Result.{err_from_is_err_and}
 use Rattle.opcodes.proofs.InstructionLaws.{instruction-takes}
 use Rattle.opcodes.proofs.DecodingLaws.{some_left, none_left, begun, goes_on, read-fails, is_all, is_only}

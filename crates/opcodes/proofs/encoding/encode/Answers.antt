@@ -1,4 +1,4 @@
-use Rattle.std.proofs.Common.{◌≡◌, ◌≤◌, true, false, ap, sym, ◌∙◌, length, arith, rules}
+use Rattle.std.proofs.Common.{◌≡◌, true, false, ap, sym, ◌∙◌, length, arith, rules}
 use Rattle.std.proofs.lemmas.Bool.{false≢true}
 use Rattle.opcodes.specs.Starts.{all_land}
 use Rattle.opcodes.proofs.DecodingLaws.{none_left}

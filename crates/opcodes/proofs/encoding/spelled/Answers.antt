@@ -1,6 +1,6 @@
-use Rattle.std.proofs.Common.{◌≡◌, ◌<◌, ◌+◌, ◌++◌, ◌∷◌, [], take, drop, length, arith, rules}
+use Rattle.std.proofs.Common.{◌≡◌, ◌<◌, ◌+◌, ◌++◌, drop, length, arith}
 use Rattle.std.proofs.lemmas.Result.{err_from_is_err_and}
-use Rattle.model.specs.Bytecode.{instructions_of, spelling}
+use Rattle.model.specs.Bytecode.{spelling}
 use Rattle.opcodes.proofs.EncodingLaws.{goes_on, has_next, too_long, take-item, drop-item}
 use Rattle.opcodes.proofs.encoding.spelled.Goals as goal
 

@@ -1,4 +1,4 @@
-use Rattle.std.proofs.Common.{◌≡◌, true, rules, arith, sym, ap, ◌∙◌, to_z, of_z, get_or, pos, ◌<◌, length}
+use Rattle.std.proofs.Common.{◌≡◌, true, rules, sym, ap, ◌∙◌, to_z, of_z, get_or, pos}
 use Rattle.std.specs.Int.{w32}
 use Rattle.std.proofs.lemmas.Int.{to_z-of_z}
 use Rattle.opcodes.specs.Reading.Switches.{rises}

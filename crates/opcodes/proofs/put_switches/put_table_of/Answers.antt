@@ -1,4 +1,4 @@
-use Rattle.std.proofs.Common.{◌≡◌, ◌++◌, ap, ◌∙◌, rules, pos, ◌+ℤ◌, ◌-ℤ◌, length, to_z, of_z}
+use Rattle.std.proofs.Common.{◌≡◌, ◌++◌, rules, pos, ◌+ℤ◌, ◌-ℤ◌, length}
 use Rattle.std.specs.Int.{w32}
 use Rattle.std.specs.List.{flat_map}
 use Rattle.std.proofs.lemmas.Int.{ints, to_z-of_z}
