@@ -1,4 +1,5 @@
 pub mod BuiltinLemmas
-pub mod SubclassLemmas
 pub mod LimitLemmas
 pub mod ReferenceLemmas
+pub mod StepTables
+pub mod SubclassLemmas

@@ -1,3 +1,5 @@
 pub mod Builtins
-pub mod Told
 pub mod Errors
+pub mod Prepared
+pub mod Steps
+pub mod Told

@@ -1,4 +1,5 @@
-//! From listings to a program: which lists of listings the machine takes, and why it refuses the others.
+//! From listings to a program: which lists of listings the machine takes, why it refuses the others, and a program as the
+//! machine runs it.
 //!
 //! Each rule is a function of its own, under the name that the definitions of the crate `model` give it.
 #![tactic(auto)]
@@ -10,6 +11,7 @@ pub mod errors;
 mod exception_rows;
 mod limits;
 mod members;
+pub mod programs;
 mod rules;
 mod served;
 mod subclasses;

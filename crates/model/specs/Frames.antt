@@ -73,6 +73,12 @@ as_long (Ok (Int z)) = Err WrongKind
 as_long (Ok (Long z)) = Ok z
 as_long (Ok (Ref r)) = Err WrongKind
 
+abbrev pub as_ref : Result Value Fault → Result (Option ℕ) Fault
+as_ref (Err e) = Err e
+as_ref (Ok (Int z)) = Err WrongKind
+as_ref (Ok (Long z)) = Err WrongKind
+as_ref (Ok (Ref r)) = Ok r
+
 abbrev pub both : {A B : Type 0} → Result A Fault → Result B Fault → Result (A × B) Fault
 both (Err e) second = Err e
 both (Ok x) (Err e) = Err e
@@ -84,12 +90,18 @@ int_on stack = as_int (top_of stack)
 abbrev pub long_on : List Value → Result ℤ Fault
 long_on stack = as_long (top_of stack)
 
+abbrev pub ref_on : List Value → Result (Option ℕ) Fault
+ref_on stack = as_ref (top_of stack)
+
 -- two operands, the upper one first
 abbrev pub two_ints_on : List Value → Result (ℤ × ℤ) Fault
 two_ints_on stack = both (int_on stack) (int_on (drop 1 stack))
 
 abbrev pub two_longs_on : List Value → Result (ℤ × ℤ) Fault
 two_longs_on stack = both (long_on stack) (long_on (drop 1 stack))
+
+abbrev pub two_refs_on : List Value → Result (Option ℕ × Option ℕ) Fault
+two_refs_on stack = both (ref_on stack) (ref_on (drop 1 stack))
 
 -- an int above a long, as a shift of a long wants them
 abbrev pub count_and_long_on : List Value → Result (ℤ × ℤ) Fault

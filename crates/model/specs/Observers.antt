@@ -1,5 +1,6 @@
 use Rattle.std.specs.Prelude.{ℕ, zero, suc, ◌+◌, List, [], ◌∷◌, ◌++◌, drop, take, length, slice_get, nat_lt, Bool, true, false, ◌&&◌, Option, Some, None, if◌then◌else◌, is_some}
 use Rattle.std.specs.List.{find, list_any}
+use Rattle.model.specs.declared.journals.Limits.{Limits}
 use Rattle.model.specs.declared.journals.Row.{Row}
 use Rattle.model.specs.declared.turns.Actor.{Actor}
 use Rattle.model.specs.declared.turns.Actor.TheVariants.{Thread as ByThread, Collector}
@@ -62,8 +63,9 @@ pick_of v = find (is_ready v.program (ideal v)) (cyclic_from (after_last 0 v.jou
 
 -- ---- the output limit
 
-abbrev pub is_full_for : Recorded → ℕ → Bool
-is_full_for v t = is_ready v.program (ideal v) t && overflows v.program v.journal.limits (ideal v) t
+-- a ready thread whose turn would be refused for its output
+abbrev pub is_held_by_output : List ClassListing → Limits → World → ℕ → Bool
+is_held_by_output program limits w t = is_ready program w t && overflows program limits w t
 
 abbrev pub is_running : Status → Bool
 is_running Running = true
@@ -71,7 +73,7 @@ is_running Finished = false
 is_running Stuck = false
 is_running Faulted = false
 
--- it runs, has steps left, and some thread's turn would be refused for its output
+-- it runs, has steps left, and the output holds some ready thread
 abbrev pub output_full_of : Recorded → Bool
 output_full_of v =
-    is_running (status_of v) && nat_lt (ideal v).rows v.journal.limits.steps && list_any (is_full_for v) (thread_numbers (ideal v))
+    is_running (status_of v) && nat_lt (ideal v).rows v.journal.limits.steps && list_any (is_held_by_output v.program v.journal.limits (ideal v)) (thread_numbers (ideal v))

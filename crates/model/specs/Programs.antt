@@ -1,4 +1,4 @@
-use Rattle.std.specs.Prelude.{ℕ, List, [], ◌∷◌, slice_get, Option, Some, None, Bool, true, false, ◌&&◌, ◌==◌, codes, cond, position, bit_and}
+use Rattle.std.specs.Prelude.{ℕ, List, [], ◌∷◌, slice_get, Option, Some, None, is_some, Bool, true, false, ◌&&◌, ◌==◌, codes, cond, position, bit_and}
 use Rattle.std.specs.Option.{option_map, option_and_then}
 use Rattle.std.specs.Str.{bytes_eq}
 use Rattle.std.specs.List.{find}
@@ -37,9 +37,9 @@ instruction_of program f = option_and_then (λ code. placed_at code f.pc) (code_
 abbrev pub is_static : Method → Bool
 is_static m = bit_and m.flags.0 8 == 8
 
--- a static `main()V` (JVMS 5.2)
+-- a static `main()V` with code (JVMS 5.2)
 abbrev pub is_main : Method → Bool
-is_main m = is_static m && bytes_eq m.name (codes "main") && bytes_eq m.descriptor (codes "()V")
+is_main m = is_static m && is_some m.code && bytes_eq m.name (codes "main") && bytes_eq m.descriptor (codes "()V")
 
 -- the place of the main method: in the first class
 abbrev pub main_in : List ClassListing → Option MethodPlace

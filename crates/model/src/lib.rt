@@ -6,14 +6,22 @@
 #![tactic(auto)]
 
 pub mod builtins;
+pub mod bytecode;
+pub mod class_files;
+pub mod collector;
 pub mod colours;
 pub mod descriptors;
 pub mod flags;
 pub mod instructions;
 pub mod journals;
 pub mod listings;
+pub mod mnemonics;
 pub mod names;
 pub mod places;
 pub mod refusals;
+pub mod trees;
 pub mod turns;
 pub mod values;
+
+#[cfg(test)]
+mod tests;

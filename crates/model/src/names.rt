@@ -1,5 +1,6 @@
 //! Names of classes, members and types.
 ghost use Rattle.std.specs.Prelude.{◌≡◌, IfOk, ℕ, List};
+ghost use Rattle.std.specs.Str.{bytes_eq};
 
 use std::alloc::{AllocError, Global};
 use std::fmt;
@@ -33,6 +34,13 @@ impl Name {
         Ok(Name {
             bytes: Vec::from_slice(alloc, bytes)?,
         })
+    }
+
+    /// Whether the name is this text.
+    pub fn is(&self, text: &str) -> bool
+        ensures { result ≡ bytes_eq self.now text.now }
+    {
+        self.bytes.as_slice() == text.as_bytes()
     }
 
     /// The bytes, in order.

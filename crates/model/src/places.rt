@@ -3,6 +3,6 @@
 /// A method, by the place of its class in the program and its own place in the class.
 #[derive(Clone, Copy, Debug, PartialEq, Eq)]
 pub struct MethodPlace {
-    pub class: u16,
-    pub method: u16,
+    pub class: usize,
+    pub method: usize,
 }

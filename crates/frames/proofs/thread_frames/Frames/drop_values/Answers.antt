@@ -1,0 +1,28 @@
+use Rattle.std.proofs.Common.{refl, arith}
+use Rattle.frames.proofs.LayoutLemmas.{opened, sound_put, drops, view_drop}
+use Rattle.frames.proofs.thread_frames.Frames.drop_values.Goals as goal
+
+pub overflow_sub-running : goal.overflow_sub-running
+overflow_sub-running c =
+    let o = opened _ _ _ _ _ _ _ c.self.invariant c.self.view_is c.requires.some (omega arith) c.index_mut-running.ensures.value in
+    (drops o _ _ c.requires.there c.requires.sized).0
+
+pub overflow_sub-running-2 : goal.overflow_sub-running-2
+overflow_sub-running-2 c =
+    let o = opened _ _ _ _ _ _ _ c.self.invariant c.self.view_is c.requires.some (omega arith) c.index_mut-running.ensures.value in
+    (drops o _ _ c.requires.there c.requires.sized).1
+
+pub invariant_of-self : goal.invariant_of-self
+invariant_of-self c =
+    let o = opened _ _ _ _ _ _ _ c.self.invariant c.self.view_is c.requires.some (omega arith) c.index_mut-running.ensures.value in
+    sound_put o _ _ refl refl (drops o _ _ c.requires.there c.requires.sized).3 refl
+
+pub returns-clause-left : goal.returns-clause-left
+returns-clause-left c =
+    let o = opened _ _ _ _ _ _ _ c.self.invariant c.self.view_is c.requires.some (omega arith) c.index_mut-running.ensures.value in
+    view_drop o _ _ (drops o _ _ c.requires.there c.requires.sized).0
+
+pub returns-clause-room : goal.returns-clause-room
+returns-clause-room c =
+    let o = opened _ _ _ _ _ _ _ c.self.invariant c.self.view_is c.requires.some (omega arith) c.index_mut-running.ensures.value in
+    (drops o _ _ c.requires.there c.requires.sized).2

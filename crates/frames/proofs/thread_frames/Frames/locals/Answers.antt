@@ -1,0 +1,14 @@
+use Rattle.std.proofs.Common.{arith, sym}
+use Rattle.frames.proofs.LayoutLemmas.{opened, region_fits, length-locals}
+use Rattle.frames.proofs.thread_frames.Frames.locals.Goals as goal
+
+pub returns-clause-count : goal.returns-clause-count
+returns-clause-count c =
+    let o = opened _ _ _ _ _ _ _ c.self.invariant c.self.view_is c.requires (omega arith) c.index.ensures in
+    sym (length-locals o)
+
+pub returns-clause-few : goal.returns-clause-few
+returns-clause-few c =
+    let o = opened _ _ _ _ _ _ _ c.self.invariant c.self.view_is c.requires (omega arith) c.index.ensures in
+    let fits = region_fits o in
+    omega arith

@@ -1,0 +1,47 @@
+use Rattle.std.proofs.Common.{refl, sym, arith, length-set}
+use Rattle.std.proofs.lemmas.List.{take-set-le}
+use Rattle.frames.proofs.LayoutLemmas.{opened, sound_put, pushes, view_push_value, region_fits}
+use Rattle.frames.proofs.thread_frames.Frames.push.Goals as goal
+
+pub overflow_add-top : goal.overflow_add-top
+overflow_add-top c =
+    let o = opened _ _ _ _ _ _ _ c.self.invariant c.self.view_is c.requires.some (omega arith) c.index_mut-running.ensures.value in
+    let fits = region_fits o in
+    omega arith
+
+pub overflow_add-top-2 : goal.overflow_add-top-2
+overflow_add-top-2 c =
+    let o = opened _ _ _ _ _ _ _ c.self.invariant c.self.view_is c.requires.some (omega arith) c.index_mut-running.ensures.value in
+    let fits = region_fits o in
+    omega arith
+
+pub overflow_add-running : goal.overflow_add-running
+overflow_add-running c =
+    let o = opened _ _ _ _ _ _ _ c.self.invariant c.self.view_is c.requires.some (omega arith) c.index_mut-running.ensures.value in
+    let fits = region_fits o in
+    omega arith
+
+pub overflow_add-running-2 : goal.overflow_add-running-2
+overflow_add-running-2 c =
+    let o = opened _ _ _ _ _ _ _ c.self.invariant c.self.view_is c.requires.some (omega arith) c.index_mut-running.ensures.value in
+    let fits = region_fits o in
+    let p = pushes o c.args.value c.requires.room in
+    omega (arith, c.units_of.ensures)
+
+pub index_mut-requires : goal.index_mut-requires
+index_mut-requires c =
+    let o = opened _ _ _ _ _ _ _ c.self.invariant c.self.view_is c.requires.some (omega arith) c.index_mut-running.ensures.value in
+    let p = pushes o c.args.value c.requires.room in
+    omega arith
+
+pub invariant_of-self : goal.invariant_of-self
+invariant_of-self c =
+    let o = opened _ _ _ _ _ _ _ c.self.invariant c.self.view_is c.requires.some (omega arith) c.index_mut-running.ensures.value in
+    let p = pushes o c.args.value c.requires.room in
+    rw c.units_of.ensures (sound_put o _ _ (length-set _ _ _) (sym (take-set-le _ _ _ _ (omega arith))) p.3 refl)
+
+pub returns : goal.returns
+returns c =
+    let o = opened _ _ _ _ _ _ _ c.self.invariant c.self.view_is c.requires.some (omega arith) c.index_mut-running.ensures.value in
+    let p = pushes o c.args.value c.requires.room in
+    rw c.units_of.ensures (view_push_value o c.args.value p.1)

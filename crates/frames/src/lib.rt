@@ -1,0 +1,44 @@
+//! The frames of one thread (JVMS 2.6), in one fixed array of 4,096 units that is made once.
+//!
+//! A contract sees `Frames` as a `List Frame` of `Rattle.model.specs.Frames`, outermost first; the last one runs. No
+//! call but `new` takes memory. With f for `running_frame frames.old`, and under `0 < length frames` where a frame must
+//! run:
+//!
+//! | call | what it ensures |
+//! |---|---|
+//! | `new` | `[]` |
+//! | `depth`, `is_empty` | how many frames there are |
+//! | `has_room_for(max_locals, max_stack)` | `has_room_for frames max_locals max_stack` |
+//! | `enter(method, max_locals, max_stack)` | under `has_room_for`: `frames ++ opening_frame method max_locals max_stack ∷ []` |
+//! | `call(method, max_locals, max_stack, n)` | under `has_room_for`, `n ≤ length f.stack` and `units_of_all (take n f.stack) ≤ max_locals`: `frames_of_call frames method max_locals max_stack n`, where the n values at the top of the caller's stack are the first locals |
+//! | `leave` | `callers frames` |
+//! | `method`, `pc`, `room`, `taken`, `values`, `locals` | of f: its method, its pc, the units that its stack may take and takes, how many values stand on it, how many entries its locals have |
+//! | `value(k)` | `top_of (drop k f.stack)` |
+//! | `int`, `long`, `reference`, `two_ints`, `two_longs`, `two_references`, `count_and_long` | `int_on f.stack` and the like; where it is `Ok`, the stack has so many values (`deep`), which take so many units (`wide`) |
+//! | `int_below(k)`, `long_below(k)`, `reference_below(k)` | `int_on (drop k f.stack)` and the like |
+//! | `go_to(pc)` | `with_running frames (record f { pc = pc })` |
+//! | `discard(next, n)` | under `n ≤ length f.stack`: `with_running frames (replaced next f n []).frame` |
+//! | `replace(next, n, v)` | also under `units_of v ≤ units_of_all (take n f.stack)`: `with_running frames (replaced next f n (v ∷ [])).frame` |
+//! | `replace_if_room(next, n, v)`, `replace_all_if_room(next, n, vs)` | under `n ≤ length f.stack`: `told result after ≡ moved_on frames (replaced_if_room next f n vs)`, and nothing changes on an `Err` |
+//! | `entry(i)` | `slice_get f.locals i` |
+//! | `has_local(kind, i)`, `load(kind, i)`, `local_int(i)` | `has_local kind f.locals i`, `local_at kind f.locals i`, `as_int (local_at Int f.locals i)` |
+//! | `operand(kind)` | `value_on kind f.stack` |
+//! | `store(next, n, i, v)` | under `n ≤ length f.stack`: `with_running frames (stored next f n i v).frame` |
+//! | `store_top(next, kind, i)` | `told result after ≡ moved_on frames (stored_at next kind i f)`, and nothing changes on an `Err` |
+//!
+//! Inside, an activation record says where a frame's locals begin in the array; its stack stands behind them, a value in
+//! one unit each, while the units that the values take are counted beside them. So each call takes the time of the
+//! values that it moves.
+#![tactic(auto)]
+
+mod activations;
+mod arguments;
+mod locals;
+mod operands;
+mod results;
+mod thread_frames;
+
+pub use thread_frames::Frames;
+
+#[cfg(test)]
+mod tests;

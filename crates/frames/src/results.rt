@@ -1,0 +1,110 @@
+//! What an instruction leaves on the running frame's stack.
+ghost use Rattle.std.specs.Prelude.{◌≡◌, ℕ, ◌+◌, ◌*◌, ◌<◌, ◌≤◌, [], ◌∷◌, length, take, drop, OnErr};
+ghost use Rattle.model.specs.Frames.{running_frame, with_running, replaced, replaced_if_room, push_all, told, moved_on};
+ghost use Rattle.model.specs.Values.{units_of as units_taken, units_of_all};
+
+use crate::thread_frames::{Frames, units_of};
+use model::turns::{Abrupt, Fault};
+use model::values::Value;
+
+impl Frames {
+    /// How many units so many values at the top take.
+    fn units_above(&self, count: u8) -> usize
+        requires some { 0 < length self.now }
+        requires there { count ≤ length (running_frame self.now).stack }
+        ensures { result ≡ units_of_all (take count (running_frame self.now).stack) }
+    {
+        let mut units = 0;
+        for above in 0..count {
+            units += units_of(self.held(above as usize));
+        }
+        units
+    }
+
+    /// Goes to this pc, without so many values at the top.
+    pub fn discard(&mut self, next: u16, count: u8)
+        requires some { 0 < length self.old }
+        requires there { count ≤ length (running_frame self.old).stack }
+        ensures { self.new ≡ with_running self.old (replaced next (running_frame self.old) count []).frame }
+    {
+        let units = self.units_above(count);
+        self.drop_values(count, units);
+        self.go_to(next);
+    }
+
+    /// Goes to this pc, with a value in place of so many at the top, which take no less room.
+    pub fn replace(&mut self, next: u16, count: u8, value: Value)
+        requires some { 0 < length self.old }
+        requires there { count ≤ length (running_frame self.old).stack }
+        requires room { units_taken value ≤ units_of_all (take count (running_frame self.old).stack) }
+        ensures { self.new ≡ with_running self.old (replaced next (running_frame self.old) count (value ∷ [])).frame }
+    {
+        let units = self.units_above(count);
+        self.drop_values(count, units);
+        self.push(value);
+        self.go_to(next);
+    }
+
+    /// Goes to this pc, with a value in place of so many at the top; F2 where it has no room, and then nothing changes.
+    pub fn replace_if_room(&mut self, next: u16, count: u8, value: Value) -> Result<(), Abrupt>
+        requires some { 0 < length self.old }
+        requires there { count ≤ length (running_frame self.old).stack }
+        ensures step { told result self.new ≡ moved_on self.old (replaced_if_room next (running_frame self.old) count (value ∷ [])) }
+        ensures kept { OnErr result (self.new ≡ self.old) }
+    {
+        let units = self.units_above(count);
+        if self.taken() - units + units_of(value) > self.room() {
+            return Err(Abrupt::Fault(Fault::StackFull));
+        }
+        self.drop_values(count, units);
+        self.push(value);
+        self.go_to(next);
+        Ok(())
+    }
+
+    /// Values, bottom first, on top of the running frame's stack.
+    fn push_all(&mut self, values: &[Value])
+        requires some { 0 < length self.old }
+        requires room { units_of_all (push_all values.now (running_frame self.old).stack) ≤ (running_frame self.old).room }
+        ensures { self.new ≡ with_running self.old (record (running_frame self.old) { stack = push_all values.now (running_frame self.old).stack }) }
+    {
+        for value in values {
+            self.push(*value);
+        }
+    }
+
+    /// Goes to this pc, with values, bottom first, in place of so many at the top; F2 where they have no room, and then
+    /// nothing changes.
+    pub fn replace_all_if_room(
+        &mut self,
+        next: u16,
+        count: u8,
+        values: &[Value],
+    ) -> Result<(), Abrupt>
+        requires some { 0 < length self.old }
+        requires there { count ≤ length (running_frame self.old).stack }
+        ensures step { told result self.new ≡ moved_on self.old (replaced_if_room next (running_frame self.old) count values.now) }
+        ensures kept { OnErr result (self.new ≡ self.old) }
+    {
+        let units = self.units_above(count);
+        if self.taken() - units + units_of_values(values) > self.room() {
+            return Err(Abrupt::Fault(Fault::StackFull));
+        }
+        self.drop_values(count, units);
+        self.push_all(values);
+        self.go_to(next);
+        Ok(())
+    }
+}
+
+/// The units that values take on a stack.
+fn units_of_values(values: &[Value]) -> usize
+    ensures units { result ≡ units_of_all values.now }
+    ensures few { result ≤ 2 * length values.now }
+{
+    let mut units = 0;
+    for value in values {
+        units += units_of(*value);
+    }
+    units
+}

@@ -1,0 +1,4 @@
+pub mod OpeningState
+pub mod Refusing
+pub mod Stepping
+pub mod Turning

@@ -1,0 +1,50 @@
+-- Where the rules refuse nothing, a thread's turn is allowed.
+use Rattle.std.proofs.Common.{◌≡◌, ◌<◌, ◌≤◌, ◌+◌, ℕ, List, [], ◌∷◌, length, Option, Some, None, IfSome, Bool, true, false, nat_lt, nat_le, is_none, refl, ap, sym, ◌∙◌, arith}
+use Rattle.std.specs.Prelude.{if◌then◌else◌, ◌&&◌}
+use Rattle.model.specs.declared.journals.Limits.{Limits}
+use Rattle.model.specs.declared.turns.Actor.TheVariants.{Thread}
+use Rattle.model.specs.declared.turns.Fault.{Fault}
+use Rattle.model.specs.declared.turns.Turn.{Turn}
+use Rattle.model.specs.declared.turns.Turn.TheVariants.{NotReady, OutputFull, StepLimit}
+use Rattle.std.proofs.lemmas.Bool.{ltb-false, leb-false}
+use Rattle.model.specs.ClassListings.{ClassListing}
+use Rattle.model.specs.Worlds.{World, is_live}
+use Rattle.model.specs.Ready.{is_ready}
+use Rattle.model.specs.Turns.{refusal, refusal_after, thread_refusal, overflows, passes, print_of}
+use Rattle.instructions.specs.Loaded.{Loaded}
+use Rattle.instructions.specs.Allowed.{IsAllowed}
+
+faultless : (program : List ClassListing) (limits : Limits) (w : World) (t : ℕ) (o : Option (Fault × ℕ)) → refusal_after program limits w (Thread t) o ≡ None → o ≡ None
+faultless program limits w t None e = refl
+faultless program limits w t (Some fault) e = cc
+
+counted : (b : Bool) (r : Option Turn) → (if b then Some StepLimit else r) ≡ None → (b ≡ false) × (r ≡ None)
+counted true r e = cc
+counted false r e = (refl, e)
+
+unrefused : (ready full : Bool) → (if ready then (if full then Some OutputFull else None) else Some NotReady) ≡ None → (ready ≡ true) × (full ≡ false)
+unrefused true true e = cc
+unrefused true false e = (refl, refl)
+unrefused false full e = cc
+
+second_holds : (a b : Bool) → (a && b) ≡ true → b ≡ true
+second_holds true b e = e
+second_holds false b e = cc
+
+fits : (limit : ℕ) (output : List ℕ) (o : Option (List ℕ)) → passes limit output o ≡ false → IfSome o (λ line. length output + length line ≤ limit)
+fits limit output None e = tt
+fits limit output (Some line) e = ltb-false limit (length output + length line) e
+
+pub allowed : (s : Loaded) (t : ℕ) → refusal s.program s.limits s.world (Thread t) ≡ None → IsAllowed s t
+unfolding refusal
+allowed s t e =
+    let none : s.world.fault ≡ None = faultless s.program s.limits s.world t s.world.fault e in
+    let rest : refusal_after s.program s.limits s.world (Thread t) None ≡ None = ap (refusal_after s.program s.limits s.world (Thread t)) (sym none) ∙ e in
+    let steps = counted (nat_le s.limits.steps s.world.rows) (thread_refusal s.program s.limits s.world t) rest in
+    let ready = unrefused (is_ready s.program s.world t) (overflows s.program s.limits s.world t) steps.1 in
+    record {
+      faultless = none;
+      counted = leb-false s.limits.steps s.world.rows steps.0;
+      live = second_holds (is_none s.world.fault) (is_live s.world t) ready.0;
+      fits = fits s.limits.output s.world.output (print_of s.program s.world t) ready.1
+    }

@@ -1,0 +1,11 @@
+use Rattle.std.specs.Prelude.{◌≡◌, ◌<◌, ◌≤◌, ◌+◌, ℕ, List, length, Option, Some, None, IfSome, true}
+use Rattle.model.specs.Worlds.{World, is_live}
+use Rattle.model.specs.Turns.{print_of}
+use Rattle.instructions.specs.Loaded.{Loaded}
+
+-- nothing refuses a thread's turn
+pub record IsAllowed (s : Loaded) (t : ℕ) : Type 0 where
+  pub faultless : s.world.fault ≡ None
+  pub counted : s.world.rows < s.limits.steps
+  pub live : is_live s.world t ≡ true
+  pub fits : IfSome (print_of s.program s.world t) (λ line. length s.world.output + length line ≤ s.limits.output)

@@ -1,0 +1,4 @@
+pub mod Acting
+pub mod Allowed
+pub mod Going
+pub mod Loaded

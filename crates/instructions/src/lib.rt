@@ -1,0 +1,6 @@
+//! One case of the instruction table: a thread's turn on the state of a running program.
+#![tactic(auto)]
+
+mod acting;
+mod printing;
+pub mod state;

@@ -1,0 +1,4 @@
+pub mod BodyLemmas
+pub mod MethodLemmas
+pub mod NumberLemmas
+pub mod SignatureLemmas

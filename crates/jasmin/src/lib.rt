@@ -1,0 +1,24 @@
+//! Reads Jasmin texts as trees, and tells a tree's listing.
+//!
+//! The syntax is that of the Jasmin assembler in this project's profile: one class, in statements of one line each.
+#![tactic(auto)]
+
+mod bodies;
+mod descriptors;
+mod errors;
+mod flags;
+mod heads;
+mod instructions;
+mod mnemonics;
+mod names;
+mod numbers;
+mod operands;
+mod reader;
+mod signatures;
+mod tables;
+
+pub use errors::{Fault, TextError};
+pub use reader::read;
+
+#[cfg(test)]
+mod tests;

@@ -1,0 +1,164 @@
+//! The structure of a text: the class, its methods and their bodies.
+ghost use Rattle.std.specs.Prelude.{◌≡◌, ◌≢◌, [], ◌∷◌, true, None, Some, IfOk, MatchOption, MatchResult};
+ghost use Rattle.std.specs.Option.{option_and_then, option_to_list};
+ghost use Rattle.model.specs.Texts.{tree_of};
+ghost use Rattle.model.specs.Texts.Classes.{class_tree, methods_of};
+ghost use Rattle.model.specs.Texts.Flags.{has};
+ghost use Rattle.model.specs.Texts.Heads.{MethodHead as Head};
+ghost use Rattle.model.specs.Texts.Methods.{body_with, method_without};
+ghost use Rattle.jasmin.specs.Bodies.{block_of, behind_block, first_body, first_method};
+
+use crate::bodies::{Part, end_of, next_of, part_of};
+use crate::errors::{Fault, TextError};
+use crate::heads::{MethodHead, class_head, method_head, super_name};
+use bitflags::Flags;
+use jasmin_words::statements::{Statement, Statements};
+use model::flags::ClassFlags;
+use model::names::Name;
+use model::trees::{BodyTree, ClassTree, MethodTree, TextLine};
+use std::alloc::Global;
+
+/// Reads a text. It is refused where it spells no tree, with the first fault of the least faulty line, and where memory
+/// runs out (J9).
+pub fn read(alloc: Global, text: &[u8]) -> Result<ClassTree, TextError>
+    ensures { MatchResult result (λ tree. tree_of text.now ≡ Some tree) (λ e. e.fault ≢ Fault.Memory → tree_of text.now ≡ None) }
+{
+    let mut statements = Statements::new(text);
+    match class_tree(alloc, &mut statements) {
+        Ok(tree) => Ok(tree),
+        Err(fault) => Err(TextError {
+            line: statements.line(),
+            fault,
+        }),
+    }
+}
+
+/// The class that statements spell.
+fn class_tree(alloc: Global, statements: &mut Statements<'_>) -> Result<ClassTree, Fault>
+    ensures { MatchResult result (λ tree. class_tree statements.old ≡ Some tree) (λ e. e ≢ Fault.Memory → class_tree statements.old ≡ None) }
+{
+    let first = next_of(statements)?.ok_or(Fault::Statement)?;
+    let head = class_head(first)?;
+    let second = next_of(statements)?.ok_or(Fault::Statement)?;
+    let superclass = super_name(second)?;
+    let methods = methods_of(alloc, head.flags, statements)?;
+    Ok(ClassTree {
+        flags: head.flags,
+        name: Name::copy_of(alloc, head.name)?,
+        superclass: Name::copy_of(alloc, superclass)?,
+        interfaces: Vec::new(alloc),
+        fields: Vec::new(alloc),
+        methods,
+    })
+}
+
+/// The methods that statements spell, in a class with these flags.
+#[tactic(auto, using(crate::proofs::MethodLemmas::methods))]
+fn methods_of(
+    alloc: Global,
+    class: ClassFlags,
+    statements: &mut Statements<'_>,
+) -> Result<Vec<MethodTree>, Fault>
+    ensures { MatchResult result (λ methods. methods_of class statements.old ≡ Some methods.items) (λ e. e ≢ Fault.Memory → methods_of class statements.old ≡ None) }
+{
+    let mut methods = Vec::new(alloc);
+    'rows: while let Some(statement) = next_of(statements)? {
+        let head = method_head(class, statement)?;
+        let method = method_under(alloc, class, head, statements)?;
+        methods.push(method)?;
+    }
+    Ok(methods)
+}
+
+/// A method with this head, by the statements up to its `.end method`.
+#[tactic(auto, using(crate::proofs::MethodLemmas::alone))]
+fn method_under(
+    alloc: Global,
+    class: ClassFlags,
+    head: MethodHead<'_>,
+    statements: &mut Statements<'_>,
+) -> Result<MethodTree, Fault>
+    ensures { MatchResult result (λ method. (first_method (record { flags = head.entry.flags; name = head.entry.name.now; descriptor = head.entry.descriptor.now }) statements.old ≡ Some method) × (statements.new ≡ behind_block statements.old)) (λ e. e ≢ Fault.Memory → first_method (record { flags = head.entry.flags; name = head.entry.name.now; descriptor = head.entry.descriptor.now }) statements.old ≡ None) }
+{
+    let name = Name::copy_of(alloc, head.name)?;
+    let descriptor = Name::copy_of(alloc, head.descriptor)?;
+    let flags = head.flags;
+    if flags.bits() & 0x0500 != 0 {
+        no_body(class, statements)?;
+        return Ok(MethodTree {
+            flags,
+            name,
+            descriptor,
+            body: None,
+        });
+    }
+    let body = body(alloc, class, statements)?;
+    Ok(MethodTree {
+        flags,
+        name,
+        descriptor,
+        body: Some(body),
+    })
+}
+
+/// The end of a method that has no body.
+#[tactic(auto, using(crate::proofs::MethodLemmas::ends))]
+fn no_body(class: ClassFlags, statements: &mut Statements<'_>) -> Result<(), Fault>
+    ensures { MatchResult result (λ _. (block_of statements.old ≡ Some []) × (statements.new ≡ behind_block statements.old)) (λ _. (head : Head) → option_and_then (method_without head) (block_of statements.old) ≡ None) }
+{
+    let statement = next_of(statements)?.ok_or(Fault::End)?;
+    end_of(class, statement)
+}
+
+/// A body, up to its `.end method`.
+#[tactic(auto, using(crate::proofs::BodyLemmas::bodies))]
+fn body(
+    alloc: Global,
+    class: ClassFlags,
+    statements: &mut Statements<'_>,
+) -> Result<BodyTree, Fault>
+    ensures { MatchResult result (λ body. (first_body statements.old ≡ Some body) × (statements.new ≡ behind_block statements.old)) (λ e. e ≢ Fault.Memory → first_body statements.old ≡ None) }
+{
+    let mut stack: Option<u16> = None;
+    let mut locals: Option<u16> = None;
+    let mut lines = Vec::new(alloc);
+    'rows: while let Some(statement) = next_of(statements)? {
+        match part_of(alloc, class, statement)? {
+            Part::End => return whole_body(alloc, stack, locals, lines),
+            Part::StackLimit(n) => {
+                if stack.is_some() {
+                    return Err(Fault::Statement);
+                }
+                stack = Some(n);
+            }
+            Part::LocalsLimit(n) => {
+                if locals.is_some() {
+                    return Err(Fault::Statement);
+                }
+                locals = Some(n);
+            }
+            Part::Line(line) => lines.push(line)?,
+        }
+    }
+    Err(Fault::End)
+}
+
+/// A body of which all statements were read.
+fn whole_body(
+    alloc: Global,
+    stack: Option<u16>,
+    locals: Option<u16>,
+    lines: Vec<TextLine>,
+) -> Result<BodyTree, Fault>
+    ensures { MatchResult result (λ body. body_with (option_to_list stack) (option_to_list locals) [] lines.items ≡ Some body) (λ _. body_with (option_to_list stack) (option_to_list locals) [] lines.items ≡ None) }
+{
+    match (stack, locals) {
+        (Some(max_stack), Some(max_locals)) => Ok(BodyTree {
+            max_stack,
+            max_locals,
+            rows: Vec::new(alloc),
+            lines,
+        }),
+        _ => Err(Fault::Limit),
+    }
+}

@@ -1,0 +1,147 @@
+//! The command line.
+ghost use Rattle.std.specs.Prelude.{◌≡◌, ◌<◌, IfOk, length};
+ghost use Rattle.jvm.specs.Commands.{HasFiles};
+
+use clap::error::ErrorKind;
+use clap::{Arg, ArgAction, ArgMatches, Command as Line, Error as ClapError, value_parser};
+use std::alloc::{AllocError, AllocFailed, Global};
+use thiserror::Error;
+
+/// What the program is to do.
+#[derive(Drop)]
+pub enum Command {
+    /// Runs the program of these files.
+    Run(RunOptions),
+}
+
+/// How `jvm run` runs.
+#[derive(Drop)]
+pub struct RunOptions {
+    pub small: u32,
+    pub medium: u32,
+    pub large: u32,
+    pub steps: u32,
+    pub output: u32,
+    pub files: Vec<String>,
+}
+
+/// Why a command line stands for no command.
+#[derive(Debug, Drop, Error)]
+pub enum LineError {
+    /// There is no memory for it.
+    #[error("memory")]
+    Memory,
+    /// A file name is missing, or a number is out of its range.
+    #[error("options")]
+    Options,
+    /// The words are no command, or ask for help or the version: what clap says, and whether it goes to standard error.
+    #[error("{text}")]
+    Words { text: String, mistake: bool },
+}
+
+impl From<AllocError> for LineError {
+    fn from(_error: AllocError) -> LineError {
+        LineError::Memory
+    }
+}
+
+impl<T: Drop> From<AllocFailed<T>> for LineError {
+    fn from(_error: AllocFailed<T>) -> LineError {
+        LineError::Memory
+    }
+}
+
+/// An option of a number.
+fn number<'a>(alloc: Global, name: &'a str, default: &'a str, help: &'a str) -> Result<Arg<'a>, AllocError> {
+    Ok(Arg::new(alloc, name)
+        .long(name)
+        .value_name("N")
+        .value_parser(value_parser!(u32))
+        .default_value(default)
+        .help(help))
+}
+
+/// The words that clap reads: `jvm run` and its options.
+fn line<'a>(alloc: Global) -> Result<Line<'a>, AllocError> {
+    let files = Arg::new(alloc, "FILE")
+        .action(ArgAction::Append)
+        .num_args(1..)
+        .help("Jasmin texts, one class each; the first has main");
+    let run = Line::new(alloc, "run")
+        .about("Runs the main of the first file's class")
+        .arg(number(alloc, "small", "64", "cells of 4 words")?)?
+        .arg(number(alloc, "medium", "0", "cells of 32 words")?)?
+        .arg(number(alloc, "large", "0", "cells of 256 words")?)?
+        .arg(number(alloc, "steps", "1000000", "turns that may be made")?)?
+        .arg(number(alloc, "output", "65536", "bytes that may be printed")?)?
+        .arg(number(alloc, "gc", "0", "collector turns after a thread's turn (0 so far)")?)?
+        .arg(number(alloc, "carriers", "1", "threads that carry turns (1 so far)")?)?
+        .arg(files)?;
+    Line::new(alloc, "jvm")
+        .about("A small Java virtual machine with an on-the-fly collector")
+        .version("0.1.0")
+        .subcommand_required(true)
+        .subcommand(run)
+}
+
+/// The file names, copied. `Options` where there is none.
+fn files(alloc: Global, matches: &ArgMatches<'_>) -> Result<Vec<String>, LineError>
+    ensures { IfOk result (λ files. 0 < length files.items) }
+{
+    let mut files = Vec::new(alloc);
+    for name in matches.get_strs("FILE").unwrap_or(&[]) {
+        files.push(String::from_str(alloc, *name)?)?;
+    }
+    if files.is_empty() {
+        return Err(LineError::Options);
+    }
+    Ok(files)
+}
+
+/// The number of an option; 0 where it has none, which its default rules out.
+fn number_of(matches: &ArgMatches<'_>, name: &str) -> u32 {
+    matches.get_one::<u32>(name).unwrap_or(0)
+}
+
+/// The options of `run`.
+fn run_options(alloc: Global, matches: &ArgMatches<'_>) -> Result<RunOptions, LineError>
+    ensures { IfOk result (λ options. 0 < length options.files.items) }
+{
+    if number_of(matches, "gc") != 0 || number_of(matches, "carriers") != 1 {
+        return Err(LineError::Options);
+    }
+    Ok(RunOptions {
+        small: number_of(matches, "small"),
+        medium: number_of(matches, "medium"),
+        large: number_of(matches, "large"),
+        steps: number_of(matches, "steps"),
+        output: number_of(matches, "output"),
+        files: files(alloc, matches)?,
+    })
+}
+
+/// What clap says of words that it doesn't take, or `Memory` where it had none.
+fn told(alloc: Global, error: ClapError) -> Result<LineError, AllocError> {
+    if error.kind() == ErrorKind::OutOfMemory {
+        return Ok(LineError::Memory);
+    }
+    Ok(LineError::Words {
+        mistake: error.use_stderr(),
+        text: error.to_string(alloc)?,
+    })
+}
+
+/// The command that the words stand for, the program's own name first. `Words` where clap takes none of them, `Options` where
+/// no file is named or a number is out of its range, `Memory` where there was none.
+pub fn options(alloc: Global, words: &[&str]) -> Result<Command, LineError>
+    ensures { IfOk result HasFiles }
+{
+    let line = line(alloc)?;
+    match line.try_get_matches_from(words) {
+        Ok(matches) => match matches.subcommand() {
+            Some((_, run)) => Ok(Command::Run(run_options(alloc, run)?)),
+            None => Err(LineError::Options),
+        },
+        Err(error) => Err(told(alloc, error)?),
+    }
+}

@@ -1,0 +1,209 @@
+use Rattle.std.proofs.Common.{◌≡◌, ◌⊎◌, inl, inr, ℕ, zero, suc, ◌+◌, ◌<◌, ◌≤◌, List, [], ◌∷◌, ◌++◌, length, map, set, replicate, Option, Some, None, refl, sym, ◌∙◌, ap, arith}
+use Rattle.model.specs.declared.colours.Colour.{Colour}
+use Rattle.model.specs.declared.colours.Colour.TheVariants.{White, Grey, Black}
+use Rattle.model.specs.declared.colours.Phase.TheVariants.{Idle}
+use Rattle.model.specs.declared.journals.HeapShape.{HeapShape}
+use Rattle.model.specs.declared.values.Entry.TheVariants.{Unset}
+use Rattle.model.specs.Accounts.{Cell, Account, numbers_up, empty_account, opening_account, placed, take_cell}
+use Rattle.model.specs.Accounts.Cell.{Free, Taken}
+use Rattle.model.specs.ClassListings.{ClassListing}
+use Rattle.model.specs.CodeListings.{CodeListing}
+use Rattle.model.specs.declared.places.MethodPlace.{MethodPlace}
+use Rattle.model.specs.Frames.{Frame, opening_frame}
+use Rattle.model.specs.Programs.{main_in, code_at}
+use Rattle.model.specs.Worlds.{World, Object, opening_world, opening_objects, opening_frames}
+use Rattle.model.specs.Collector.Places.{Place, ref_at, entry_ref, entries_at, monitor_at, words_of, root_at, word_at}
+use Rattle.model.specs.Collector.Places.Place.{MemoryError, StackError, Slot, FrameEntry, MethodMonitor}
+use Rattle.model.specs.Collector.Table.{cell_at}
+use Rattle.model.specs.Collector.Invariant.{In, Distinct, Spare, Tidy, HasKept, Invariant}
+use Rattle.model.proofs.CollectorLemmas.Taking.{relisted, Takes, takes, Came, came_before, came_after, came_here, tidy-came, placed_is, room_for_none}
+
+-- the opening meets the invariant
+
+-- ---- the account without a birth
+
+no_birth : (n c b : ℕ) (x : Colour) → cell_at (replicate n Free) c ≡ Taken b x → ⊥
+no_birth zero c b x e = cc
+no_birth (suc n) zero b x e = cc
+no_birth (suc n) (suc c) b x e = no_birth n c b x e
+
+all_free : (n c : ℕ) → cell_at (replicate n Free) c ≡ Free
+all_free zero c = refl
+all_free (suc n) zero = refl
+all_free (suc n) (suc c) = all_free n c
+
+length-free : (n : ℕ) → length (replicate n Free) ≡ n
+length-free zero = refl
+length-free (suc n) = ap suc (length-free n)
+
+numbers-within : (n first c : ℕ) → In c (numbers_up first n) → (first ≤ c) × (c < first + n)
+numbers-within zero first c h = absurd h
+numbers-within (suc n) first c (inl e) = (omega arith, omega arith)
+numbers-within (suc n) first c (inr h) = let k = numbers-within n (first + 1) c h in (omega arith, omega arith)
+
+numbers-distinct : (n first : ℕ) → Distinct (numbers_up first n)
+numbers-distinct zero first = tt
+numbers-distinct (suc n) first = (λ h. let k = numbers-within n (first + 1) first h in omega arith, numbers-distinct n (first + 1))
+
+length-numbers : (n first : ℕ) → length (numbers_up first n) ≡ n
+length-numbers zero first = refl
+length-numbers (suc n) first = ap suc (length-numbers n (first + 1))
+
+spare-opening : (cells first past n : ℕ) → past ≡ first + n → Spare (replicate cells Free) first past (numbers_up first n)
+spare-opening cells first past n e = record { unused = λ c h. all_free cells c; fits = λ c h. (let k = numbers-within n first c h in (k.0, (let u = k.1 in omega arith))); once = numbers-distinct n first }
+
+tidy-empty : (shape : HeapShape) → Tidy shape 1 (empty_account shape)
+tidy-empty shape =
+    let cells = shape.small + shape.medium + shape.large in
+    record {
+      sized = length-free cells;
+      one = λ c d b x y k l. absurd (no_birth cells c b x k);
+      some = λ c x k. no_birth cells c 0 x k;
+      born = λ c b x k. absurd (no_birth cells c b x k);
+      listed = λ b c k. absurd (no_birth cells c b Grey k);
+      only_grey = λ b h. absurd h;
+      once = tt;
+      small = spare-opening cells 0 shape.small shape.small (omega arith);
+      medium = spare-opening cells shape.small (shape.small + shape.medium) shape.medium refl;
+      large = spare-opening cells (shape.small + shape.medium) (shape.small + shape.medium + shape.large) shape.large refl;
+    }
+
+-- ---- births 1 and 2 come
+
+-- what the opening account is: births 1 and 2 in two cells, white, no other birth, none grey
+record Opens (shape : HeapShape) (o : Account) : Type 0 where
+  cells : List Cell
+  small : List ℕ
+  medium : List ℕ
+  large : List ℕ
+  is : o ≡ record { cells = cells; small = small; medium = medium; large = large; grey = []; phase = Idle }
+  tidy : Tidy shape 3 (record { cells = cells; small = small; medium = medium; large = large; grey = []; phase = Idle })
+  memory : (c : ℕ) × (cell_at cells c ≡ Taken 1 White)
+  stack : (c : ℕ) × (cell_at cells c ≡ Taken 2 White)
+  white : (c b : ℕ) (x : Colour) → cell_at cells c ≡ Taken b x → x ≡ White
+
+-- the first birth came
+record Begins (shape : HeapShape) (o : Account) : Type 0 where
+  cells : List Cell
+  small : List ℕ
+  medium : List ℕ
+  large : List ℕ
+  is : o ≡ record { cells = cells; small = small; medium = medium; large = large; grey = []; phase = Idle }
+  tidy : Tidy shape 2 (record { cells = cells; small = small; medium = medium; large = large; grey = []; phase = Idle })
+  memory : (c : ℕ) × (cell_at cells c ≡ Taken 1 White)
+  white : (c b : ℕ) (x : Colour) → cell_at cells c ≡ Taken b x → x ≡ White
+  left : 1 ≤ length small + length medium + length large
+
+begins : (shape : HeapShape) → 2 ≤ shape.small + shape.medium + shape.large → Begins shape (placed (empty_account shape) 1 0 White)
+begins shape two =
+    let o = empty_account shape in
+    let a = length-numbers shape.small 0 in
+    let b = length-numbers shape.medium shape.small in
+    let d = length-numbers shape.large (shape.small + shape.medium) in
+    let room = room_for_none o o.small o.medium o.large (omega arith) in
+    let t = takes shape 1 o 0 room.0 room.1 (tidy-empty shape) in
+    let c = room.0.0 in
+    let came = came_here 1 c White o.cells t.within t.was_free in
+    record {
+      cells = set o.cells c (Taken 1 White);
+      small = t.small;
+      medium = t.medium;
+      large = t.large;
+      is = placed_is shape 1 o 0 White room.0 t room.1;
+      tidy = tidy-came shape 1 (relisted o t.small t.medium t.large) c White (omega arith) t.was_free t.within t.not_small t.not_medium t.not_large t.tidy;
+      memory = (c, came.here);
+      white = λ e y x k. elim (came_before 1 c White _ _ came e y x k) [ inl s ↦ s.2 | inr s ↦ absurd (no_birth _ e y x s) ];
+      left = (let l = t.left in omega arith);
+    }
+
+-- birth 2 comes into an account that is known
+second_is : (shape : HeapShape) (a b : Account) (r : ℕ × Account) (t : Takes shape 2 b r.0 r.1) → a ≡ b → take_cell b 0 ≡ Some r → placed a 2 0 White ≡ record (relisted b t.small t.medium t.large) { cells = set b.cells r.0 (Taken 2 White) }
+second_is shape a b r t e f = rw e (placed_is shape 2 b 0 White r t f)
+
+opens : (shape : HeapShape) → 2 ≤ shape.small + shape.medium + shape.large → Opens shape (opening_account shape)
+opens shape two =
+    let f = begins shape two in
+    let o : Account = record { cells = f.cells; small = f.small; medium = f.medium; large = f.large; grey = []; phase = Idle } in
+    let room = room_for_none o f.small f.medium f.large f.left in
+    let t = takes shape 2 o 0 room.0 room.1 f.tidy in
+    let c = room.0.0 in
+    let came = came_here 2 c White f.cells t.within t.was_free in
+    record {
+      cells = set f.cells c (Taken 2 White);
+      small = t.small;
+      medium = t.medium;
+      large = t.large;
+      is = second_is shape (placed (empty_account shape) 1 0 White) o room.0 t f.is room.1;
+      tidy = tidy-came shape 2 (relisted o t.small t.medium t.large) c White (omega arith) t.was_free t.within t.not_small t.not_medium t.not_large t.tidy;
+      memory = (f.memory.0, came_after 2 c White _ _ came f.memory.0 1 White f.memory.1);
+      stack = (c, came.here);
+      white = λ e y x k. elim (came_before 2 c White _ _ came e y x k) [ inl s ↦ s.2 | inr s ↦ f.white e y x s ];
+    }
+
+-- ---- the opening world leads to no other birth
+
+no_entry : (n k b : ℕ) → ref_at (map entry_ref (replicate n Unset) ++ []) k ≡ Some b → ⊥
+no_entry zero k b e = cc
+no_entry (suc n) zero b e = cc
+no_entry (suc n) (suc k) b e = no_entry n k b e
+
+-- frames that lead nowhere
+record Rootless (frames : List Frame) : Type 0 where
+  entries : (d j b : ℕ) → ref_at (entries_at frames d) j ≡ Some b → ⊥
+  monitors : (d b : ℕ) → monitor_at frames d ≡ Some b → ⊥
+
+no_frame : Rootless []
+no_frame = record { entries = λ d j b e. cc; monitors = λ d b e. cc }
+
+framed_rootless : (program : List ClassListing) (place : MethodPlace) (o : Option CodeListing) → code_at program place ≡ o → Rootless (opening_frames program (Some place))
+framed_rootless program place None e = rw e no_frame
+framed_rootless program place (Some code) e = rw e (record { entries = entries; monitors = monitors })
+  where
+    entries : (d j b : ℕ) → ref_at (entries_at (opening_frame place code.max_locals code.max_stack ∷ []) d) j ≡ Some b → ⊥
+    entries zero j b e = no_entry code.max_locals j b e
+    entries (suc d) j b e = cc
+
+    monitors : (d b : ℕ) → monitor_at (opening_frame place code.max_locals code.max_stack ∷ []) d ≡ Some b → ⊥
+    monitors zero b e = cc
+    monitors (suc d) b e = cc
+
+opening_rootless : (program : List ClassListing) (main : Option MethodPlace) → Rootless (opening_frames program main)
+opening_rootless program None = no_frame
+opening_rootless program (Some place) = framed_rootless program place (code_at program place) refl
+
+opening_roots : (program : List ClassListing) (p : Place) (b : ℕ) → root_at (opening_world program) p ≡ Some b → (b ≡ 1) ⊎ (b ≡ 2)
+unfolding root_at
+opening_roots program MemoryError b e = inl cc
+opening_roots program StackError b e = inr cc
+opening_roots program (Slot s) b e = absurd (cc)
+opening_roots program (FrameEntry zero d j) b e = absurd ((opening_rootless program (main_in program)).entries d j b e)
+opening_roots program (FrameEntry (suc t) d j) b e = absurd (no_frame.entries d j b e)
+opening_roots program (MethodMonitor zero d) b e = absurd ((opening_rootless program (main_in program)).monitors d b e)
+opening_roots program (MethodMonitor (suc t) d) b e = absurd (no_frame.monitors d b e)
+
+no_word : (x k b : ℕ) → ref_at (words_of opening_objects x) k ≡ Some b → ⊥
+no_word zero k b e = cc
+no_word (suc zero) k b e = cc
+no_word (suc (suc zero)) k b e = cc
+no_word (suc (suc (suc x))) k b e = cc
+
+opening_words : (program : List ClassListing) (x k b : ℕ) → word_at (opening_world program) x k ≡ Some b → ⊥
+unfolding word_at
+opening_words program x k b e = no_word x k b e
+
+pub opening_keeps : (program : List ClassListing) (shape : HeapShape) → 2 ≤ shape.small + shape.medium + shape.large → Invariant shape (opening_world program) 3 (opening_account shape)
+opening_keeps program shape two =
+    let o = opens shape two in
+    rw o.is (record {
+      tidy = o.tidy;
+      roots = λ p b e. elim (opening_roots program p b e) [
+        | inl s ↦ record { cell = o.memory.0; colour = White; held = rw s (o.memory.1); kept = tt }
+        | inr s ↦ record { cell = o.stack.0; colour = White; held = rw s (o.stack.1); kept = tt }
+      ];
+      words = λ c b x k b' h kept e. absurd (opening_words program b k b' e);
+      scanned = λ p b s e. absurd s;
+      unblack = λ c b h u. (let k = o.white c b Black h in cc);
+      marked = λ c b k b' m h e. absurd m;
+      front = λ b k b' f e. absurd f;
+      begun = tt;
+    })

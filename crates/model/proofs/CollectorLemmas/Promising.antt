@@ -1,0 +1,25 @@
+use Rattle.std.proofs.Common.{◌≡◌, ℕ, List}
+use Rattle.model.specs.Worlds.{next_birth}
+use Rattle.model.specs.Machines.{Machine}
+use Rattle.model.specs.Collector.Paths.{KeepsReachable, ThreeColour}
+use Rattle.model.specs.Collector.Runs.{machine_after, Always, Holds}
+use Rattle.model.proofs.CollectorLemmas.Running.{machine_holds}
+use Rattle.model.proofs.CollectorLemmas.Tracing.{three_colours}
+use Rattle.model.proofs.CollectorLemmas.Holding.{keeps_reachable}
+
+-- what is promised of every run
+
+pub always_holds : Always Holds
+always_holds program shape limits actors fits = machine_holds program shape limits actors fits.0
+
+pub always_kept : Always (λ shape m. KeepsReachable shape m.world m.account)
+unfolding Holds
+always_kept program shape limits actors fits =
+    let m = machine_after program shape limits actors in
+    keeps_reachable shape m.world (next_birth m.world) m.account (machine_holds program shape limits actors fits.0)
+
+pub always_coloured : Always (λ shape m. ThreeColour m.world m.account)
+unfolding Holds
+always_coloured program shape limits actors fits =
+    let m = machine_after program shape limits actors in
+    three_colours shape m.world (next_birth m.world) m.account (machine_holds program shape limits actors fits.0)

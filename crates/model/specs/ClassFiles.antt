@@ -1,0 +1,7 @@
+-- Class files (JVMS 4): bytes, and what they spell.
+pub mod Numbers
+pub mod Entries
+pub mod Pools
+pub mod References
+pub mod Attributes
+pub mod Fields

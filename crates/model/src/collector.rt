@@ -1,0 +1,22 @@
+//! What is proved of the collector, on the definitions alone.
+
+ghost use Rattle.std.specs.Prelude.{ℕ};
+ghost use Rattle.model.specs.declared.journals.HeapShape.{HeapShape};
+ghost use Rattle.model.specs.Accounts.{Account};
+ghost use Rattle.model.specs.Worlds.{World, next_birth};
+ghost use Rattle.model.specs.Collector.Table.{collected};
+ghost use Rattle.model.specs.Collector.Invariant.{Invariant};
+ghost use Rattle.model.specs.Collector.Changes.{Change, Allowed, RoomFor, changed};
+ghost use Rattle.model.specs.Collector.Paths.{KeepsReachable, ThreeColour};
+ghost use Rattle.model.specs.Collector.Runs.{Always, Holds};
+
+/// Whatever threads and collector do, in whatever order: the invariant of three colours holds, with paths and without;
+/// a reachable birth has one cell; and the collector gives back no cell whose birth a path reaches (Dijkstra et al.,
+/// CACM 21(11), 1978). The first two clauses say it of a single step.
+pub fn no_reachable_object_is_lost()
+    ensures collector { (shape : HeapShape) (w : World) (n : ℕ) (a : Account) → Invariant shape w n a → Invariant shape w n (collected shape w a) }
+    ensures thread { (shape : HeapShape) (w : World) (a : Account) (c : Change) → RoomFor c.object a → Allowed w c → Invariant shape w (next_birth w) a → Invariant shape c.after (next_birth c.after) (changed w a c) }
+    ensures holds { Always Holds }
+    ensures kept { Always (λ shape m. KeepsReachable shape m.world m.account) }
+    ensures coloured { Always (λ shape m. ThreeColour m.world m.account) }
+{}

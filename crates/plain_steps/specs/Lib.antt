@@ -1,0 +1,2 @@
+pub mod PlainMoves
+pub mod Told

@@ -1,0 +1,27 @@
+//! The instructions that change the running frame alone, by families (JVMS 6.5).
+//!
+//! A step takes a thread's frames, of which there is one at least, and the pc behind the instruction. It answers the
+//! references that it wrote, or why the instruction can't be carried out; the frames are then as they were. No step
+//! takes memory. With f for `running_frame frames.old`:
+//!
+//! | call | what it ensures |
+//! |---|---|
+//! | `constant(frames, next, c)` | `told_with result frames.new ≡ moved_with frames.old (constant next c f)` |
+//! | `number(frames, next, operation)` | the same with `number next operation f` |
+//! | `plain_step(frames, step)` | the same with `plain_move step.next step.action f`, where that is `Some` |
+//!
+//! `proofs/TableLemmas.antt` says what such an equation comes to in the instruction table: `by_family-plain`, then
+//! `stepped-done` or `stepped-abrupt`.
+#![tactic(auto)]
+
+mod constants;
+mod numbers;
+mod steps;
+#[cfg(test)]
+mod tests;
+mod written;
+
+pub use constants::constant;
+pub use numbers::number;
+pub use steps::plain_step;
+pub use written::Written;

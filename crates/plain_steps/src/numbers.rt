@@ -1,0 +1,136 @@
+//! The instructions on numbers.
+ghost use Rattle.std.specs.Prelude.{◌≡◌, ◌<◌, ◌≤◌, length, take, IsOk, OnErr};
+ghost use Rattle.model.specs.Values.{units_of_all};
+ghost use Rattle.model.specs.Frames.{running_frame};
+ghost use Rattle.model.specs.Table.Numbers.{number as number_move, operands_of};
+ghost use Rattle.model.specs.declared.instructions.NumberOperation.TheVariants.{Binary, Negate, Convert, CompareLongs};
+ghost use Rattle.model.specs.declared.instructions.NumberKind.TheVariants.{Int, Long};
+ghost use Rattle.plain_steps.specs.Told.{told_with, moved_with};
+
+use crate::written::Written;
+use frames::Frames;
+use model::instructions::{Conversion, NumberKind, NumberOperation, Operator};
+use model::turns::{Abrupt, Exception, Fault};
+use values::{IntType, Value};
+
+/// An operator, a change of sign, a conversion or a comparison (JVMS 6.5). Faults of the operands come first, F1 and
+/// F3 from the top; then ArithmeticException of a division by zero; then F2 of a conversion.
+pub fn number(frames: &mut Frames, next: u16, operation: NumberOperation) -> Result<Written, Abrupt>
+    requires { 0 < length frames.old }
+    ensures step { told_with result frames.new ≡ moved_with frames.old (number_move next operation (running_frame frames.old)) }
+    ensures kept { OnErr result (frames.new ≡ frames.old) }
+{
+    match operation {
+        NumberOperation::Binary(NumberKind::Int, op) => int_operation(frames, next, op),
+        NumberOperation::Binary(NumberKind::Long, op) => long_operation(frames, next, op),
+        NumberOperation::Negate(NumberKind::Int) => int_negation(frames, next),
+        NumberOperation::Negate(NumberKind::Long) => long_negation(frames, next),
+        NumberOperation::Convert(conversion) => convert(frames, next, conversion),
+        NumberOperation::CompareLongs => comparison(frames, next),
+    }
+}
+
+/// An operator on two ints.
+fn int_operation(frames: &mut Frames, next: u16, op: Operator) -> Result<Written, Abrupt>
+    requires { 0 < length frames.old }
+    ensures step { told_with result frames.new ≡ moved_with frames.old (number_move next (Binary Int op) (running_frame frames.old)) }
+    ensures kept { OnErr result (frames.new ≡ frames.old) }
+{
+    let (right, left) = frames.two_ints()?;
+    match values::iop(op, left, right) {
+        Some(value) => {
+            frames.replace(next, 2, Value::Int(value));
+            Ok(Written::none())
+        }
+        None => Err(Abrupt::Throw(Exception::Arithmetic)),
+    }
+}
+
+/// An operator on two longs, or a shift of a long.
+fn long_operation(frames: &mut Frames, next: u16, op: Operator) -> Result<Written, Abrupt>
+    requires { 0 < length frames.old }
+    ensures step { told_with result frames.new ≡ moved_with frames.old (number_move next (Binary Long op) (running_frame frames.old)) }
+    ensures kept { OnErr result (frames.new ≡ frames.old) }
+{
+    let (right, left) = long_operands(frames, op)?;
+    match values::lop(op, left, right) {
+        Some(value) => {
+            frames.replace(next, 2, Value::Long(value));
+            Ok(Written::none())
+        }
+        None => Err(Abrupt::Throw(Exception::Arithmetic)),
+    }
+}
+
+/// The operands of an operator on longs, the right one first; a shift's count is an int.
+fn long_operands(frames: &Frames, op: Operator) -> Result<(i64, i64), Fault>
+    requires { 0 < length frames.now }
+    ensures operands { result ≡ operands_of Long op (running_frame frames.now).stack }
+    ensures deep { IsOk result → 2 ≤ length (running_frame frames.now).stack }
+    ensures wide { IsOk result → 2 ≤ units_of_all (take 2 (running_frame frames.now).stack) }
+{
+    match op {
+        Operator::Shl | Operator::Shr | Operator::Ushr => {
+            let (count, long) = frames.count_and_long()?;
+            Ok((i64::from(count), long))
+        }
+        Operator::Add
+        | Operator::Sub
+        | Operator::Mul
+        | Operator::Div
+        | Operator::Rem
+        | Operator::And
+        | Operator::Or
+        | Operator::Xor => frames.two_longs(),
+    }
+}
+
+/// The change of an int's sign.
+fn int_negation(frames: &mut Frames, next: u16) -> Result<Written, Abrupt>
+    requires { 0 < length frames.old }
+    ensures step { told_with result frames.new ≡ moved_with frames.old (number_move next (Negate Int) (running_frame frames.old)) }
+    ensures kept { OnErr result (frames.new ≡ frames.old) }
+{
+    let value = frames.int()?;
+    frames.replace(next, 1, Value::Int(values::negate_int(value)));
+    Ok(Written::none())
+}
+
+/// The change of a long's sign.
+fn long_negation(frames: &mut Frames, next: u16) -> Result<Written, Abrupt>
+    requires { 0 < length frames.old }
+    ensures step { told_with result frames.new ≡ moved_with frames.old (number_move next (Negate Long) (running_frame frames.old)) }
+    ensures kept { OnErr result (frames.new ≡ frames.old) }
+{
+    let value = frames.long()?;
+    frames.replace(next, 1, Value::Long(values::negate_long(value)));
+    Ok(Written::none())
+}
+
+/// A conversion of one number.
+fn convert(frames: &mut Frames, next: u16, conversion: Conversion) -> Result<Written, Abrupt>
+    requires { 0 < length frames.old }
+    ensures step { told_with result frames.new ≡ moved_with frames.old (number_move next (Convert conversion) (running_frame frames.old)) }
+    ensures kept { OnErr result (frames.new ≡ frames.old) }
+{
+    let value = match conversion {
+        Conversion::IntToLong => Value::Long(values::int_to_long(frames.int()?)),
+        Conversion::LongToInt => Value::Int(values::long_to_int(frames.long()?)),
+        Conversion::IntToByte => Value::Int(values::truncate(IntType::Byte, frames.int()?)),
+        Conversion::IntToChar => Value::Int(values::truncate(IntType::Char, frames.int()?)),
+        Conversion::IntToShort => Value::Int(values::truncate(IntType::Short, frames.int()?)),
+    };
+    frames.replace_if_room(next, 1, value)?;
+    Ok(Written::none())
+}
+
+/// The comparison of two longs.
+fn comparison(frames: &mut Frames, next: u16) -> Result<Written, Abrupt>
+    requires { 0 < length frames.old }
+    ensures step { told_with result frames.new ≡ moved_with frames.old (number_move next CompareLongs (running_frame frames.old)) }
+    ensures kept { OnErr result (frames.new ≡ frames.old) }
+{
+    let (right, left) = frames.two_longs()?;
+    frames.replace(next, 2, Value::Int(values::compare_longs(left, right)));
+    Ok(Written::none())
+}

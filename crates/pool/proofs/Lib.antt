@@ -1,0 +1,6 @@
+pub mod DescriptorLemmas
+pub mod EntryLemmas
+pub mod FieldLemmas
+pub mod PoolLemmas
+pub mod SlotLoops
+pub mod Steps

@@ -1,0 +1,17 @@
+//! The constant pool of a class file (JVMS 4.4): its entries as bytes, and what they may name.
+#![tactic(auto)]
+
+pub mod descriptors;
+mod entries;
+mod error;
+pub mod fields;
+pub mod names;
+mod pools;
+mod references;
+
+pub use error::ReadError;
+pub use pools::Pool;
+pub use references::MemberKind;
+
+#[cfg(test)]
+mod tests;

@@ -1,0 +1,103 @@
+use super::*;
+use crate::descriptors::{argument_units, is_field_descriptor};
+use crate::names::{is_class_name, is_field_name, is_method_name};
+use model::class_files::{Entry, FormatFault};
+use std::test::*;
+
+/// The pool of a class E over java/lang/Object with a method `main()V` with code, and two bytes behind it.
+const BYTES: [u8; 60] = [
+    0, 8, 1, 0, 1, b'E', 7, 0, 1, 1, 0, 16, b'j', b'a', b'v', b'a', b'/', b'l', b'a', b'n', b'g',
+    b'/', b'O', b'b', b'j', b'e', b'c', b't', 7, 0, 3, 1, 0, 4, b'm', b'a', b'i', b'n', 1, 0, 3,
+    b'(', b')', b'V', 1, 0, 4, b'C', b'o', b'd', b'e', 12, 0, 5, 0, 6, 0, 33, 0, 2,
+];
+
+#[test]
+fn a_class_and_its_method(rt: HostRuntime) -> Result<(), Fail> {
+    let mut bytes = Vec::from_slice(rt.alloc(), &BYTES)?;
+    if let Some(count) = bytes.as_mut_slice().get_mut(1) {
+        *count = 9;
+    }
+    let (pool, rest) = Pool::read(rt.alloc(), &bytes)?;
+    assert_eq!(rt; rest, [0, 33, 0, 2].as_slice());
+    assert_eq!(rt; pool.count(), 9);
+    assert_eq!(rt; pool.text(1), Some(b"E".as_slice()));
+    assert_eq!(rt; pool.class(2), Some(1));
+    assert_eq!(rt; pool.name_and_type(8), Some((5, 6)));
+    assert!(rt; pool.entry(0).is_none());
+    assert!(rt; pool.entry(9).is_none());
+    assert!(rt; matches!(pool.entry(4), Some(Entry::Class(3))));
+    assert!(rt; pool.check().is_ok());
+    let mut written = Vec::new(rt.alloc());
+    pool.write(&mut written)?;
+    assert_eq!(rt; bytes.get(..56), Some(written.as_slice()));
+    Ok(())
+}
+
+fn fault(rt: &impl Alloc<A = std::alloc::Global>, bytes: &[u8]) -> Option<FormatFault> {
+    match Pool::read(rt.alloc(), bytes) {
+        Err(ReadError::Format(fault)) => Some(fault),
+        _ => None,
+    }
+}
+
+#[test]
+fn faults(rt: HostRuntime) {
+    // no count, and a count of 0
+    assert_eq!(rt; fault(&rt, &[0]), Some(FormatFault::Short));
+    assert_eq!(rt; fault(&rt, &[0, 0]), Some(FormatFault::Index));
+    // the pool of no entry
+    assert_eq!(rt; fault(&rt, &[0, 1]), None);
+    // a Float; a text longer than the file, before its bytes are looked at; NUL; a byte past 7F
+    assert_eq!(rt; fault(&rt, &[0, 2, 4, 0, 0, 0, 0]), Some(FormatFault::Tag));
+    assert_eq!(rt; fault(&rt, &[0, 2, 1, 0, 2, 0]), Some(FormatFault::Short));
+    assert_eq!(rt; fault(&rt, &[0, 2, 1, 0, 1, 0]), Some(FormatFault::Name));
+    assert_eq!(rt; fault(&rt, &[0, 2, 1, 0, 1, 0x80]), Some(FormatFault::Name));
+    // a Long in the last number is told at its tag
+    assert_eq!(rt; fault(&rt, &[0, 2, 5]), Some(FormatFault::Index));
+    assert_eq!(rt; fault(&rt, &[0, 3, 5]), Some(FormatFault::Short));
+    // a class that names its own entry, the second of a long, and a text that is no name
+    assert_eq!(rt; fault(&rt, &[0, 2, 7, 0, 1]), Some(FormatFault::Index));
+    assert_eq!(rt;
+        fault(&rt, &[0, 4, 5, 0, 0, 0, 0, 0, 0, 0, 0, 7, 0, 2]),
+        Some(FormatFault::Index)
+    );
+    assert_eq!(rt;
+        fault(&rt, &[0, 3, 1, 0, 1, b'/', 7, 0, 1]),
+        Some(FormatFault::Name)
+    );
+}
+
+#[test]
+fn a_member_of_the_other_kind(rt: HostRuntime) {
+    // E, its class, the texts a and ()V, both together, and a reference to them
+    let mut bytes = [
+        0, 7, 1, 0, 1, b'E', 7, 0, 1, 1, 0, 1, b'a', 1, 0, 3, b'(', b')', b'V', 12, 0, 3, 0, 4, 10,
+        0, 2, 0, 5,
+    ];
+    assert_eq!(rt; fault(&rt, &bytes), None);
+    bytes[24] = 9;
+    assert_eq!(rt; fault(&rt, &bytes), Some(FormatFault::Name));
+    bytes[24] = 11;
+    assert_eq!(rt; fault(&rt, &bytes), None);
+    bytes[26] = 5;
+    assert_eq!(rt; fault(&rt, &bytes), Some(FormatFault::Index));
+}
+
+#[test]
+fn names_and_descriptors(rt: HostRuntime) {
+    assert!(rt; is_class_name(b"java/lang/Object"));
+    assert!(rt; !is_class_name(b"java//Object"));
+    assert!(rt; !is_class_name(b"java/"));
+    assert!(rt; is_field_name(b"$a_1"));
+    assert!(rt; !is_field_name(b"1a"));
+    assert!(rt; !is_field_name(b"<init>"));
+    assert!(rt; is_method_name(b"<clinit>"));
+    assert!(rt; !is_method_name(b"<main>"));
+    assert!(rt; is_field_descriptor(b"[[La/B;"));
+    assert!(rt; !is_field_descriptor(b"Z"));
+    assert!(rt; !is_field_descriptor(b"II"));
+    assert_eq!(rt; argument_units(b"(IJ[JLA;)V"), Some(5));
+    assert_eq!(rt; argument_units(b"()I"), Some(0));
+    assert_eq!(rt; argument_units(b"(V)I"), None);
+    assert_eq!(rt; argument_units(b"(I"), None);
+}

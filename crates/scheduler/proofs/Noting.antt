@@ -1,0 +1,85 @@
+-- A thread's turn on the state, and its row in the journal.
+use Rattle.std.proofs.Common.{◌≡◌, ◌<◌, ◌+◌, ℕ, List, [], ◌∷◌, ◌++◌, length, Option, Some, None, refl, ap, sym, ◌∙◌, arith, length-append, Bool, true, false, nat_le}
+use Rattle.std.specs.Prelude.{if◌then◌else◌}
+use Rattle.model.specs.declared.journals.HeapShape.{HeapShape}
+use Rattle.model.specs.declared.journals.Limits.{Limits}
+use Rattle.model.specs.declared.journals.Outcome.{Outcome}
+use Rattle.model.specs.declared.journals.Row.{Row}
+use Rattle.model.specs.declared.turns.Actor.TheVariants.{Thread, Collector}
+use Rattle.model.specs.declared.turns.Fault.{Fault}
+use Rattle.model.specs.declared.turns.Turn.{Turn}
+use Rattle.model.specs.declared.turns.Turn.TheVariants.{NotReady, StepLimit}
+use Rattle.model.specs.ClassListings.{ClassListing}
+use Rattle.model.specs.Effects.{Effect}
+use Rattle.model.specs.Effects.Choice.{NotAsked}
+use Rattle.model.specs.Journals.{JournalValue, blank, with_row}
+use Rattle.model.specs.Worlds.{World, counted}
+use Rattle.model.specs.Table.Next.{next}
+use Rattle.model.specs.Turns.{refusal, refusal_after, choice_of, ideal_step, unless_refused}
+use Rattle.model.specs.Machines.{Recorded, Machine, machine_of, machine_of-noted, noted, advance, told_of}
+use Rattle.model.specs.Observers.{ideal, after_actor, after_last}
+use Rattle.model.proofs.NextKeeps.{next-rows, next-choice}
+use Rattle.instructions.specs.Loaded.{Loaded, after_step, fresh}
+use Rattle.instructions.proofs.Refusing.{allowed}
+use Rattle.scheduler.specs.Worlds.{recorded, IsOf}
+
+after_last-push : (n : ℕ) (rows : List Row) (row : Row) → after_last n (rows ++ row ∷ []) ≡ after_actor (after_last n rows) row.actor
+after_last-push n [] row = refl
+after_last-push n (r ∷ rows) row = after_last-push (after_actor n r.actor) rows row
+
+module _ (s : Loaded) (j : JournalValue) (k : ℕ) (is : IsOf s j k) (t : ℕ) where
+
+  -- nothing refuses the thread's turn
+  abbrev pub Unrefused : Type 0
+  Unrefused = refusal s.program j.limits (ideal (recorded s j)) (Thread t) ≡ None
+
+  on_state : Unrefused → refusal s.program s.limits s.world (Thread t) ≡ None
+  on_state e = ap (λ (l : Limits). refusal s.program l s.world (Thread t)) is.limits_are ∙ ap (λ (w : World). refusal s.program j.limits w (Thread t)) is.world_is ∙ e
+
+  -- so there is room for a row
+  pub row_fits : Unrefused → length j.rows < j.limits.steps
+  row_fits e =
+      let h = (allowed s t (on_state e)).counted in
+      let rows = is.rows_are in
+      let steps = ap (λ (l : Limits). l.steps) is.limits_are in
+      omega (arith, h, rows, steps)
+
+  step_world : (o : Outcome) → Unrefused → ideal_step s.program j.limits (ideal (recorded s j)) (Thread t) (choice_of o) ≡ counted (next s.program s.world t NotAsked).after
+  step_world o e =
+      ap (unless_refused s.program (ideal (recorded s j)) (Thread t) (choice_of o)) e
+      ∙ ap (λ (effect : Effect). counted effect.after) (next-choice s.program (ideal (recorded s j)) t (choice_of o) NotAsked)
+      ∙ ap (λ (w : World). counted (next s.program w t NotAsked).after) (sym is.world_is)
+
+  -- after the turn and its row the state is again what the journal stands for
+  pub noted_is : (worker : ℕ) (o : Outcome) → Unrefused → IsOf (after_step s t) (with_row j (record { actor = Thread t; outcome = o; worker = worker })) (t + 1)
+  noted_is worker o e =
+      let row : Row = record { actor = Thread t; outcome = o; worker = worker } in
+      record {
+        limits_are = is.limits_are;
+        rows_are =
+            ap (λ (n : ℕ). n + 1) (next-rows s.program s.world t NotAsked ∙ is.rows_are) ∙ sym (length-append j.rows (row ∷ []));
+        world_is = sym (ap (λ (m : Machine). m.world) (machine_of-noted (recorded s j) row) ∙ step_world o e);
+        next_is = sym (after_last-push 0 j.rows row)
+      }
+
+-- the answer to a turn is told by the state's fault
+pub answer_is : (s : Loaded) (j : JournalValue) (k : ℕ) → IsOf s j k → told_of s.world.fault ≡ told_of (ideal (recorded s j)).fault
+answer_is s j k is = ap (λ (w : World). told_of w.fault) is.world_is
+
+-- a collector's turn is always refused
+full_or_not_ready : (b : Bool) → (if b then Some StepLimit else Some NotReady) ≡ None → ⊥
+full_or_not_ready true e = cc
+full_or_not_ready false e = cc
+
+refused_after : (program : List ClassListing) (limits : Limits) (w : World) (fault : Option (Fault × ℕ)) → refusal_after program limits w Collector fault ≡ None → ⊥
+refused_after program limits w (Some fault) e = cc
+refused_after program limits w None e = full_or_not_ready (nat_le limits.steps w.rows) e
+
+pub collector_refused : (program : List ClassListing) (limits : Limits) (w : World) → refusal program limits w Collector ≡ None → ⊥
+unfolding refusal
+collector_refused program limits w e = refused_after program limits w w.fault e
+
+-- a new state is what a blank journal stands for
+pub opened_is : (program : List ClassListing) (shape : HeapShape) (limits : Limits) → IsOf (fresh program limits) (blank shape limits 1) 0
+unfolding machine_of
+opened_is program shape limits = record { limits_are = refl; rows_are = refl; world_is = refl; next_is = refl }

@@ -1,0 +1,4 @@
+//! Worlds: a program, its heap's shape and limits, and the turns that it makes.
+#![tactic(auto)]
+
+pub mod worlds;
