@@ -107,6 +107,7 @@ fn is_main(method: &Method) -> bool
     ensures { result ≡ is_main method.now }
 {
     method.flags.contains(MethodFlags::STATIC)
+        && method.code.is_some()
         && method.name.as_bytes() == b"main".as_slice()
         && method.descriptor.as_bytes() == b"()V".as_slice()
 }
