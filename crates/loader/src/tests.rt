@@ -199,16 +199,6 @@ fn name_of_a_builtin_class(rt: HostRuntime) -> Result<(), Fail> {
 }
 
 #[test]
-fn name_of_no_builtin_class(rt: HostRuntime) -> Result<(), Fail> {
-    let alloc = rt.alloc();
-    assert_eq!(rt;
-        told(alloc, &[program(alloc, "java/lang/String")?])?.as_str(),
-        "accepted"
-    );
-    Ok(())
-}
-
-#[test]
 fn class_twice(rt: HostRuntime) -> Result<(), Fail> {
     let alloc = rt.alloc();
     let (x, y) = (plain(alloc, "X")?, plain(alloc, "Y")?);
@@ -230,68 +220,11 @@ fn class_twice(rt: HostRuntime) -> Result<(), Fail> {
 }
 
 #[test]
-fn builtin_name_before_class_twice(rt: HostRuntime) -> Result<(), Fail> {
-    let alloc = rt.alloc();
-    assert_eq!(rt;
-        told(
-            alloc,
-            &[
-                plain(alloc, "X")?,
-                plain(alloc, "X")?,
-                plain(alloc, "vm/Sys")?
-            ]
-        )?
-        .as_str(),
-        "L11 in class vm/Sys"
-    );
-    Ok(())
-}
-
-#[test]
 fn missing_superclass(rt: HostRuntime) -> Result<(), Fail> {
     let alloc = rt.alloc();
     assert_eq!(rt;
         told(alloc, &[class(alloc, "X", "Y", 1)?])?.as_str(),
         "L2 in class X"
-    );
-    Ok(())
-}
-
-#[test]
-fn missing_superinterface(rt: HostRuntime) -> Result<(), Fail> {
-    let alloc = rt.alloc();
-    assert_eq!(rt;
-        told(alloc, &[implementing(alloc, "J")?])?.as_str(),
-        "L2 in class X"
-    );
-    Ok(())
-}
-
-#[test]
-fn class_above_itself(rt: HostRuntime) -> Result<(), Fail> {
-    let alloc = rt.alloc();
-    assert_eq!(rt;
-        told(alloc, &[class(alloc, "X", "X", 1)?])?.as_str(),
-        "L3 in class X"
-    );
-    Ok(())
-}
-
-#[test]
-fn class_below_a_cycle(rt: HostRuntime) -> Result<(), Fail> {
-    let alloc = rt.alloc();
-    let lower = class(alloc, "E", "X", 1)?;
-    assert_eq!(rt;
-        told(
-            alloc,
-            &[
-                lower,
-                class(alloc, "X", "Y", 1)?,
-                class(alloc, "Y", "X", 1)?
-            ]
-        )?
-        .as_str(),
-        "L3 in class X"
     );
     Ok(())
 }
@@ -333,50 +266,6 @@ fn interface_extended(rt: HostRuntime) -> Result<(), Fail> {
 }
 
 #[test]
-fn final_class_extended(rt: HostRuntime) -> Result<(), Fail> {
-    let alloc = rt.alloc();
-    assert_eq!(rt;
-        told(
-            alloc,
-            &[
-                class(alloc, "X", "F", 1)?,
-                class(alloc, "F", "java/lang/Object", 0x0010)?
-            ]
-        )?
-        .as_str(),
-        "L4 in class X"
-    );
-    Ok(())
-}
-
-#[test]
-fn class_implemented(rt: HostRuntime) -> Result<(), Fail> {
-    let alloc = rt.alloc();
-    assert_eq!(rt;
-        told(alloc, &[implementing(alloc, "java/lang/Object")?])?.as_str(),
-        "L4 in class X"
-    );
-    Ok(())
-}
-
-#[test]
-fn interface_implemented(rt: HostRuntime) -> Result<(), Fail> {
-    let alloc = rt.alloc();
-    assert_eq!(rt;
-        told(
-            alloc,
-            &[
-                implementing(alloc, "J")?,
-                class(alloc, "J", "java/lang/Object", 0x0600)?
-            ]
-        )?
-        .as_str(),
-        "accepted"
-    );
-    Ok(())
-}
-
-#[test]
 fn field_twice(rt: HostRuntime) -> Result<(), Fail> {
     let alloc = rt.alloc();
     let mut class = program(alloc, "X")?;
@@ -384,63 +273,6 @@ fn field_twice(rt: HostRuntime) -> Result<(), Fail> {
     class.fields.push(field(alloc, "y", 1)?)?;
     class.fields.push(field(alloc, "x", 2)?)?;
     assert_eq!(rt; told(alloc, &[class])?.as_str(), "L5 in class X");
-    Ok(())
-}
-
-#[test]
-fn method_twice(rt: HostRuntime) -> Result<(), Fail> {
-    let alloc = rt.alloc();
-    assert_eq!(rt; told_with(alloc, main(alloc)?)?.as_str(), "L5 in class X");
-    Ok(())
-}
-
-#[test]
-fn method_with_another_descriptor(rt: HostRuntime) -> Result<(), Fail> {
-    let alloc = rt.alloc();
-    assert_eq!(rt;
-        told_with(alloc, empty(alloc, "main", "(I)V", PUBLIC_STATIC, (0, 1))?)?.as_str(),
-        "accepted"
-    );
-    Ok(())
-}
-
-#[test]
-fn class_initializer(rt: HostRuntime) -> Result<(), Fail> {
-    let alloc = rt.alloc();
-    assert_eq!(rt;
-        told_with(alloc, empty(alloc, "<clinit>", "()V", 0x0008, (0, 0))?)?.as_str(),
-        "L10 in class X"
-    );
-    Ok(())
-}
-
-#[test]
-fn native_method(rt: HostRuntime) -> Result<(), Fail> {
-    let alloc = rt.alloc();
-    assert_eq!(rt;
-        told_with(alloc, empty(alloc, "f", "()V", 0x0109, (0, 0))?)?.as_str(),
-        "L10 in class X"
-    );
-    Ok(())
-}
-
-#[test]
-fn static_synchronized_method(rt: HostRuntime) -> Result<(), Fail> {
-    let alloc = rt.alloc();
-    assert_eq!(rt;
-        told_with(alloc, empty(alloc, "f", "()V", 0x0029, (0, 0))?)?.as_str(),
-        "L10 in class X"
-    );
-    Ok(())
-}
-
-#[test]
-fn synchronized_run(rt: HostRuntime) -> Result<(), Fail> {
-    let alloc = rt.alloc();
-    assert_eq!(rt;
-        told_with(alloc, empty(alloc, "run", "()V", 0x0021, (0, 1))?)?.as_str(),
-        "accepted"
-    );
     Ok(())
 }
 
@@ -460,39 +292,6 @@ fn synchronized_run_of_a_thread(rt: HostRuntime) -> Result<(), Fail> {
 }
 
 #[test]
-fn null_constant(rt: HostRuntime) -> Result<(), Fail> {
-    let alloc = rt.alloc();
-    assert_eq!(rt;
-        told_at(alloc, Instruction::Constant(Constant::Null))?.as_str(),
-        "L10 in class X"
-    );
-    Ok(())
-}
-
-#[test]
-fn int_constant(rt: HostRuntime) -> Result<(), Fail> {
-    let alloc = rt.alloc();
-    assert_eq!(rt;
-        told_at(
-            alloc,
-            Instruction::Constant(Constant::SmallInt(SmallInt::One))
-        )?
-        .as_str(),
-        "accepted"
-    );
-    Ok(())
-}
-
-#[test]
-fn static_field(rt: HostRuntime) -> Result<(), Fail> {
-    let alloc = rt.alloc();
-    let mut class = program(alloc, "X")?;
-    class.fields.push(field(alloc, "x", 0x0008)?)?;
-    assert_eq!(rt; told(alloc, &[class])?.as_str(), "L10 in class X");
-    Ok(())
-}
-
-#[test]
 fn call_of_print(rt: HostRuntime) -> Result<(), Fail> {
     let alloc = rt.alloc();
     let member = Member {
@@ -508,60 +307,11 @@ fn call_of_print(rt: HostRuntime) -> Result<(), Fail> {
 }
 
 #[test]
-fn frame_of_4096_units(rt: HostRuntime) -> Result<(), Fail> {
-    let alloc = rt.alloc();
-    assert_eq!(rt;
-        told_with(alloc, empty(alloc, "f", "()V", PUBLIC_STATIC, (96, 4000))?)?.as_str(),
-        "accepted"
-    );
-    Ok(())
-}
-
-#[test]
 fn frame_of_4097_units(rt: HostRuntime) -> Result<(), Fail> {
     let alloc = rt.alloc();
     assert_eq!(rt;
         told_with(alloc, empty(alloc, "f", "()V", PUBLIC_STATIC, (97, 4000))?)?.as_str(),
         "L8 in class X"
-    );
-    Ok(())
-}
-
-/// An object, a long, an int, an array of longs, and one of objects of a class `JJ`: 1 + 2 + 1 + 1 + 1.
-#[test]
-fn locals_for_arguments(rt: HostRuntime) -> Result<(), Fail> {
-    let alloc = rt.alloc();
-    assert_eq!(rt;
-        told_with(alloc, empty(alloc, "f", "(JI[[J[LJJ;)V", 1, (0, 6))?)?.as_str(),
-        "accepted"
-    );
-    Ok(())
-}
-
-#[test]
-fn too_few_locals_for_arguments(rt: HostRuntime) -> Result<(), Fail> {
-    let alloc = rt.alloc();
-    assert_eq!(rt;
-        told_with(alloc, empty(alloc, "f", "(JI[[J[LJJ;)V", 1, (0, 5))?)?.as_str(),
-        "L8 in class X"
-    );
-    Ok(())
-}
-
-#[test]
-fn object_of_256_fields(rt: HostRuntime) -> Result<(), Fail> {
-    let alloc = rt.alloc();
-    assert_eq!(rt;
-        told(
-            alloc,
-            &[
-                program(alloc, "E")?,
-                with_fields(alloc, "X", "java/lang/Object", 256)?,
-                class(alloc, "Y", "X", 1)?
-            ]
-        )?
-        .as_str(),
-        "accepted"
     );
     Ok(())
 }
@@ -585,13 +335,6 @@ fn object_of_257_fields(rt: HostRuntime) -> Result<(), Fail> {
 }
 
 #[test]
-fn program_of_256_classes(rt: HostRuntime) -> Result<(), Fail> {
-    let alloc = rt.alloc();
-    assert_eq!(rt; told(alloc, &classes(alloc, 256)?)?.as_str(), "accepted");
-    Ok(())
-}
-
-#[test]
 fn program_of_258_classes(rt: HostRuntime) -> Result<(), Fail> {
     let alloc = rt.alloc();
     assert_eq!(rt;
@@ -609,29 +352,10 @@ fn no_class(rt: HostRuntime) -> Result<(), Fail> {
 }
 
 #[test]
-fn main_in_the_second_class(rt: HostRuntime) -> Result<(), Fail> {
-    let alloc = rt.alloc();
-    assert_eq!(rt;
-        told(alloc, &[plain(alloc, "X")?, program(alloc, "E")?])?.as_str(),
-        "L9 in class X"
-    );
-    Ok(())
-}
-
-#[test]
 fn instance_main(rt: HostRuntime) -> Result<(), Fail> {
     let alloc = rt.alloc();
     let mut class = plain(alloc, "X")?;
     class.methods.push(empty(alloc, "main", "()V", 1, (0, 1))?)?;
     assert_eq!(rt; told(alloc, &[class])?.as_str(), "L9 in class X");
-    Ok(())
-}
-
-#[test]
-fn instance_main_without_room_for_its_object(rt: HostRuntime) -> Result<(), Fail> {
-    let alloc = rt.alloc();
-    let mut class = plain(alloc, "X")?;
-    class.methods.push(empty(alloc, "main", "()V", 1, (0, 0))?)?;
-    assert_eq!(rt; told(alloc, &[class])?.as_str(), "L8 in class X");
     Ok(())
 }

@@ -1,5 +1,11 @@
 -- Classes by name, the machine's own among them, and how they lie above one another (JVMS 5.3, 5.4.3).
 pub mod Builtin
 pub mod Flags
+pub mod Layout
 pub mod Named
+pub mod Resolution
+pub mod Search
+pub mod Selection
+pub mod Subclass
 pub mod Subclasses
+pub mod Types

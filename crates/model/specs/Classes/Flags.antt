@@ -22,3 +22,9 @@ is_synchronized m = has_flag m.flags.0 0x0020
 
 abbrev pub is_native : Method → Bool
 is_native m = has_flag m.flags.0 0x0100
+
+abbrev pub is_abstract : ClassListing → Bool
+is_abstract c = has_flag c.flags.0 0x0400
+
+abbrev pub is_private : Method → Bool
+is_private m = has_flag m.flags.0 0x0002
