@@ -1,0 +1,3 @@
+-- Reading the parts of a class file from left to right, with the first fault that is met.
+pub mod Attributes
+pub mod Fields

@@ -1,0 +1,97 @@
+//! Fields of a class file.
+
+ghost use Rattle.std.specs.Prelude.{◌≡◌, None};
+ghost use Rattle.std.specs.Option.{option_copied};
+ghost use Rattle.model.specs.ClassFiles.Fields as definition;
+ghost use Rattle.model.specs.ClassFiles.Pools.{entry_at};
+ghost use Rattle.pool.specs.Checks.{fault_in};
+ghost use Rattle.pool.specs.Reading.Steps.{Gives};
+ghost use Rattle.classfile.specs.Reading.Attributes.{attributes_from};
+ghost use Rattle.classfile.specs.Reading.Fields.{value_of, constant_from, constants_from, field_flags_from, field_from};
+
+use crate::attributes::{field_name_at, field_type_at, sized_at, text_at};
+use bitflags::Flags;
+use model::class_files::{ConstantValue, Entry, FieldEntry, FormatFault};
+use model::flags::FieldFlags;
+use pool::fields::u16_at;
+use pool::{Pool, ReadError};
+
+const STATIC: u16 = 0x0008;
+const INTERFACE: u16 = 0x0200;
+
+/// Whether a field may have these flags in a class of those.
+fn are_field_flags(class: u16, flags: u16) -> bool
+    ensures { result ≡ definition.are_field_flags class flags }
+{
+    flags & 0xff20 == 0 && (class & INTERFACE == 0 || flags & 0x0019 == 0x0019)
+}
+
+/// Whether an int holds the values of this type.
+fn is_int_type(text: &[u8]) -> bool
+    ensures { result ≡ definition.is_int_type text.now }
+{
+    text == b"B".as_slice()
+        || text == b"C".as_slice()
+        || text == b"S".as_slice()
+        || text == b"I".as_slice()
+}
+
+/// Whether an entry may be the value of a field of this type.
+fn is_value_of(text: &[u8], entry: Option<&Entry>) -> bool
+    ensures { result ≡ definition.is_value_of text.now (option_copied entry.entry) }
+{
+    match entry {
+        Some(Entry::Integer(_)) => is_int_type(text),
+        Some(Entry::Long(_)) => text == b"J".as_slice(),
+        _ => false,
+    }
+}
+
+/// The number in the bytes of a ConstantValue. C8 where they aren't two, C6 where it is the number of an entry of another
+/// kind than the field's type wants.
+#[tactic(auto, unfolding(crate::specs::Reading::Fields::value_of))]
+fn value_in(pool: &Pool, text: &[u8], info: &[u8]) -> Result<u16, ReadError>
+    ensures { Gives (λ x. x) result (value_of pool.now text.now info.now) }
+{
+    if info.len() != 2 {
+        return Err(ReadError::Format(FormatFault::Attribute));
+    }
+    let value = u16::from_be_bytes([info[0], info[1]]);
+    if is_value_of(text, pool.entry(value)) {
+        Ok(value)
+    } else {
+        Err(ReadError::Format(FormatFault::Index))
+    }
+}
+
+/// A ConstantValue behind its name. C8 where one was found before.
+#[tactic(auto, unfolding(crate::specs::Reading::Fields::constant_from))]
+fn constant_of<'a>(
+    pool: &Pool,
+    text: &[u8],
+    before: Option<ConstantValue>,
+    name: u16,
+    bytes: &'a [u8],
+) -> Result<(Option<ConstantValue>, &'a [u8]), ReadError>
+    ensures { Gives (λ x. (x.0, x.1.now)) result (constant_from pool.now text.now before name bytes.now) }
+{
+    if before.is_some() {
+        return Err(ReadError::Format(FormatFault::Attribute));
+    }
+    let (info, rest) = sized_at(bytes)?;
+    let value = value_in(pool, text, info)?;
+    Ok((Some(ConstantValue { name, value }), rest))
+}
+
+/// The flags of a field in a class of these flags. C11 where they don't go together.
+#[tactic(auto, unfolding(crate::specs::Reading::Fields::field_flags_from))]
+fn field_flags_at(class: u16, bytes: &[u8]) -> Result<(u16, &[u8]), ReadError>
+    ensures { Gives (λ x. (x.0, x.1.now)) result (field_flags_from class bytes.now) }
+{
+    let (flags, rest) = u16_at(bytes)?;
+    if are_field_flags(class, flags) {
+        Ok((flags, rest))
+    } else {
+        Err(ReadError::Format(FormatFault::Flags))
+    }
+}

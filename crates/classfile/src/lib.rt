@@ -1,0 +1,5 @@
+//! Class files (JVMS 4): read, tested and written.
+#![tactic(auto)]
+
+mod attributes;
+mod fields;
