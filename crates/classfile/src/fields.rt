@@ -1,12 +1,12 @@
 //! Fields of a class file.
 
-ghost use Rattle.std.specs.Prelude.{◌≡◌, None};
+ghost use Rattle.std.specs.Prelude.{◌≡◌, ◌++◌, None, OnOk};
 ghost use Rattle.std.specs.Option.{option_copied};
+ghost use Rattle.model.specs.Texts.Flags.{has};
 ghost use Rattle.model.specs.ClassFiles.Fields as definition;
-ghost use Rattle.model.specs.ClassFiles.Pools.{entry_at};
-ghost use Rattle.pool.specs.Checks.{fault_in};
+ghost use Rattle.model.specs.ClassFiles.Fields.{field_bytes};
 ghost use Rattle.pool.specs.Reading.Steps.{Gives};
-ghost use Rattle.classfile.specs.Reading.Attributes.{attributes_from};
+ghost use Rattle.classfile.specs.Reading.Attributes.{attribute_from, attributes_from};
 ghost use Rattle.classfile.specs.Reading.Fields.{value_of, constant_from, constants_from, field_flags_from, field_from};
 
 use crate::attributes::{field_name_at, field_type_at, sized_at, text_at};
@@ -15,6 +15,7 @@ use model::class_files::{ConstantValue, Entry, FieldEntry, FormatFault};
 use model::flags::FieldFlags;
 use pool::fields::u16_at;
 use pool::{Pool, ReadError};
+use std::alloc::AllocError;
 
 const STATIC: u16 = 0x0008;
 const INTERFACE: u16 = 0x0200;
@@ -93,5 +94,112 @@ fn field_flags_at(class: u16, bytes: &[u8]) -> Result<(u16, &[u8]), ReadError>
         Ok((flags, rest))
     } else {
         Err(ReadError::Format(FormatFault::Flags))
+    }
+}
+
+/// Whether an attribute of this name counts: a static field's ConstantValue.
+fn is_constant_value(is_static: bool, text: &[u8]) -> bool
+    ensures { result ≡ definition.is_constant_value is_static text.now }
+{
+    is_static && text == b"ConstantValue".as_slice()
+}
+
+/// An attribute of a field: a static field's ConstantValue is taken, all others are skipped.
+#[tactic(auto, unfolding(crate::specs::Reading::Attributes::attribute_from))]
+fn attribute_of<'a>(
+    pool: &Pool,
+    is_static: bool,
+    text: &[u8],
+    before: Option<ConstantValue>,
+    bytes: &'a [u8],
+) -> Result<(Option<ConstantValue>, &'a [u8]), ReadError>
+    ensures { Gives (λ x. (x.0, x.1.now)) result (attribute_from pool.now (definition.is_constant_value is_static) (constant_from pool.now text.now) before bytes.now) }
+{
+    let (name, rest) = text_at(pool, bytes)?;
+    if is_constant_value(is_static, name.bytes) {
+        constant_of(pool, text, before, name.number, rest)
+    } else {
+        let (_, rest) = sized_at(rest)?;
+        Ok((before, rest))
+    }
+}
+
+/// So many attributes of a field.
+fn attributes_of<'a>(
+    pool: &Pool,
+    is_static: bool,
+    text: &[u8],
+    count: u16,
+    bytes: &'a [u8],
+) -> Result<(Option<ConstantValue>, &'a [u8]), ReadError>
+    ensures { Gives (λ x. (x.0, x.1.now)) result (attributes_from pool.now (definition.is_constant_value is_static) (constant_from pool.now text.now) count None bytes.now) }
+{
+    let mut found = None;
+    let mut rest = bytes;
+    for _ in 0..count {
+        let (constant, after) = attribute_of(pool, is_static, text, found, rest)?;
+        found = constant;
+        rest = after;
+    }
+    Ok((found, rest))
+}
+
+/// A field's attributes behind their count.
+#[tactic(auto, unfolding(crate::specs::Reading::Fields::constants_from))]
+fn constants_of<'a>(
+    pool: &Pool,
+    is_static: bool,
+    text: &[u8],
+    bytes: &'a [u8],
+) -> Result<(Option<ConstantValue>, &'a [u8]), ReadError>
+    ensures { Gives (λ x. (x.0, x.1.now)) result (constants_from pool.now is_static text.now bytes.now) }
+{
+    let (count, rest) = u16_at(bytes)?;
+    attributes_of(pool, is_static, text, count, rest)
+}
+
+/// Whether a flag is among flags.
+fn is_static(flags: u16) -> bool
+    ensures { result ≡ has flags 8 }
+{
+    flags & STATIC != 0
+}
+
+#[tactic(auto, unfolding(crate::specs::Reading::Fields::field_from))]
+fn field_of<'a>(
+    pool: &Pool,
+    class: u16,
+    bytes: &'a [u8],
+) -> Result<(FieldEntry, &'a [u8]), ReadError>
+    ensures { Gives (λ x. (x.0, x.1.now)) result (field_from pool.now class bytes.now) }
+{
+    let (flags, rest) = field_flags_at(class, bytes)?;
+    let (name, rest) = field_name_at(pool, rest)?;
+    let (descriptor, rest) = field_type_at(pool, rest)?;
+    let (constant, rest) = constants_of(pool, is_static(flags), descriptor.bytes, rest)?;
+    let field = FieldEntry {
+        flags: FieldFlags::from_bits_retain(flags),
+        name: name.number,
+        descriptor: descriptor.number,
+        constant,
+    };
+    Ok((field, rest))
+}
+
+/// Writes a field at the end, with its ConstantValue and no other attribute.
+fn put_field(out: &mut Vec<u8>, field: &FieldEntry) -> Result<(), AllocError>
+    ensures { OnOk result (out.new.items ≡ out.old.items ++ field_bytes field.now) }
+{
+    out.extend_from_slice(&field.flags.bits().to_be_bytes())?;
+    out.extend_from_slice(&field.name.to_be_bytes())?;
+    out.extend_from_slice(&field.descriptor.to_be_bytes())?;
+    match field.constant {
+        None => out.extend_from_slice(&[0, 0]),
+        Some(constant) => {
+            out.extend_from_slice(&[0, 1])?;
+            out.extend_from_slice(&constant.name.to_be_bytes())?;
+            out.extend_from_slice(&[0, 0, 0, 2])?;
+            out.extend_from_slice(&constant.value.to_be_bytes())
+        }
     }
 }

@@ -1,0 +1,3 @@
+pub mod AttributeLoops
+pub mod AttributeLemmas
+pub mod FieldLaws
