@@ -1,3 +1,4 @@
 pub mod AttributeLoops
 pub mod AttributeLemmas
 pub mod FieldLaws
+pub mod ListLoops

@@ -166,7 +166,7 @@ fn is_static(flags: u16) -> bool
 }
 
 #[tactic(auto, unfolding(crate::specs::Reading::Fields::field_from))]
-fn field_of<'a>(
+pub fn field_of<'a>(
     pool: &Pool,
     class: u16,
     bytes: &'a [u8],
@@ -187,7 +187,7 @@ fn field_of<'a>(
 }
 
 /// Writes a field at the end, with its ConstantValue and no other attribute.
-fn put_field(out: &mut Vec<u8>, field: &FieldEntry) -> Result<(), AllocError>
+pub fn put_field(out: &mut Vec<u8>, field: &FieldEntry) -> Result<(), AllocError>
     ensures { OnOk result (out.new.items ≡ out.old.items ++ field_bytes field.now) }
 {
     out.extend_from_slice(&field.flags.bits().to_be_bytes())?;

@@ -3,3 +3,6 @@
 
 mod attributes;
 mod fields;
+mod heads;
+
+pub use heads::ClassHead;

@@ -5,3 +5,5 @@ pub mod Pools
 pub mod References
 pub mod Attributes
 pub mod Fields
+pub mod Lists
+pub mod Heads
