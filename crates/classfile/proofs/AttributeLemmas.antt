@@ -115,24 +115,24 @@ module _ {S : Type 0} (pool : List Entry) (wanted : List ℕ → Bool) (step : S
       let there : is_some (text_at pool b.0.0.0) ≡ true = ap is_some t.text in
       let same : passes wanted (text_at pool b.0.0.0) ≡ wanted b.0.0.1 = ap (passes wanted) t.text in
       elim (chosen (wanted b.0.0.1) (step s b.0.0.0 b.0.1) (skipped s b.0.1) (Ok x) b.2) [
-      | inl good ↦
-          let d = takes s b.0.0.0 b.0.1 x t.takes.rest_fits good.1 in
-          record {
-            a = record { name = b.0.0.0; info = d.0 };
-            takes = Takes-then bytes (u2 b.0.0.0) b.0.1 (sized_bytes d.0) x.1 t.takes d.1.takes;
-            fits = record { name = t.small; text = there; info = d.1.small };
-            runs = rw (same ∙ good.0) (x.0, d.2, refl);
-          }
-      | inr other ↦
-          let i = bind_ok (sized_from b.0.1) (λ info. Ok (s, info.1)) x other.1 in
-          let z = sized_takes b.0.1 i.0 t.takes.rest_fits i.1 in
-          let end : i.0.1 ≡ x.1 = ap (λ (p : S × List ℕ). p.1) (ok_is (s, i.0.1) x i.2) in
-          record {
-            a = record { name = b.0.0.0; info = i.0.0 };
-            takes = subst (λ (r : List ℕ). Takes bytes (attribute_bytes (record { name = b.0.0.0; info = i.0.0 })) r) end (Takes-then bytes (u2 b.0.0.0) b.0.1 (sized_bytes i.0.0) i.0.1 t.takes z.takes);
-            fits = record { name = t.small; text = there; info = z.small };
-            runs = rw (same ∙ other.0) (ap (λ (p : S × List ℕ). p.0) (ok_is (s, i.0.1) x i.2));
-          }
+        | inl good ↦
+            let d = takes s b.0.0.0 b.0.1 x t.takes.rest_fits good.1 in
+            record {
+              a = record { name = b.0.0.0; info = d.0 };
+              takes = Takes-then bytes (u2 b.0.0.0) b.0.1 (sized_bytes d.0) x.1 t.takes d.1.takes;
+              fits = record { name = t.small; text = there; info = d.1.small };
+              runs = rw (same ∙ good.0) (x.0, d.2, refl);
+            }
+        | inr other ↦
+            let i = bind_ok (sized_from b.0.1) (λ info. Ok (s, info.1)) x other.1 in
+            let z = sized_takes b.0.1 i.0 t.takes.rest_fits i.1 in
+            let end : i.0.1 ≡ x.1 = ap (λ (p : S × List ℕ). p.1) (ok_is (s, i.0.1) x i.2) in
+            record {
+              a = record { name = b.0.0.0; info = i.0.0 };
+              takes = subst (λ (r : List ℕ). Takes bytes (attribute_bytes (record { name = b.0.0.0; info = i.0.0 })) r) end (Takes-then bytes (u2 b.0.0.0) b.0.1 (sized_bytes i.0.0) i.0.1 t.takes z.takes);
+              fits = record { name = t.small; text = there; info = z.small };
+              runs = rw (same ∙ other.0) (ap (λ (p : S × List ℕ). p.0) (ok_is (s, i.0.1) x i.2));
+            }
       ]
 
   runs_then : (b : Bool) (s m t : S) (a : Attribute) (attributes : List Attribute) → RunsBy b s a (λ n. n ≡ m) → Runs m attributes t → RunsBy b s a (λ n. Runs n attributes t)

@@ -1,5 +1,5 @@
 -- A field that is read is spelled so, and what spells a field is read.
-use Rattle.std.proofs.Common.{◌≡◌, ℕ, zero, suc, ◌+◌, ◌^◌, ◌<◌, ◌≤◌, Bool, true, false, cond, eqb, List, [], ◌∷◌, ◌++◌, length, Option, Some, None, Result, Ok, Err, refl, sym, ap, subst, ◌∙◌, append_assoc, arith, w16, Bor}
+use Rattle.std.proofs.Common.{◌≡◌, ℕ, zero, suc, ◌+◌, ◌^◌, ◌<◌, ◌≤◌, Bool, true, false, cond, eqb, List, [], ◌∷◌, ◌++◌, length, Option, Some, None, Result, Ok, Err, refl, sym, ap, subst, ◌∙◌, append_assoc, arith, w16, inl, inr, ◌⊎◌}
 use Rattle.std.specs.Prelude.{filter}
 use Rattle.std.specs.Int.{from_be_bytes}
 use Rattle.std.specs.List.{flat_map, AllByRecursion}
@@ -12,7 +12,7 @@ use Rattle.model.specs.ClassFiles.Numbers.{u2}
 use Rattle.model.specs.ClassFiles.Pools.{entry_at}
 use Rattle.model.specs.ClassFiles.References.{text_at}
 use Rattle.model.specs.ClassFiles.Attributes.{Attribute, sized_bytes, attribute_bytes, attributes_bytes, AttributeFits, passes}
-use Rattle.model.specs.ClassFiles.Fields.{are_field_flags, is_value_of, is_constant_value, counts, constant_attribute, constant_attributes, ConstantFits, ConstantsFit, SpellsField}
+use Rattle.model.specs.ClassFiles.Fields.{are_field_flags, is_value_of, is_constant_value, counts, constant_attribute, constant_attributes, ConstantFits, ConstantsFit, SpellsField, field_bytes}
 use Rattle.model.specs.declared.class_files.Entry.{Entry}
 use Rattle.model.specs.declared.class_files.ConstantValue.{ConstantValue}
 use Rattle.model.specs.declared.class_files.FieldEntry.{FieldEntry}
@@ -57,7 +57,7 @@ constant_takes pool type None name bytes x fits e =
     let c : ConstantValue = record { name = name; value = b.0 } in
     let made : Option ConstantValue × List ℕ = (Some c, a.0.1) in
     subst (λ (y : Option ConstantValue × List ℕ). (info : List ℕ) × Sized bytes info y.1 × TakesConstant pool type None (record { name = name; info = info }) y.0) (ok_is made x b.2)
-        (a.0.0, z, (c, refl, ap (λ (i : List ℕ). record { name = name; info = i }) (sym v.0), record { value = v.1; kind = v.2 }))
+    (a.0.0, z, (c, refl, ap (λ (i : List ℕ). record { name = name; info = i }) (sym v.0), record { value = v.1; kind = v.2 }))
 
 constant_again : (pool : List Entry) (type : List ℕ) (s : Option ConstantValue) (a : Attribute) (t : Option ConstantValue) (rest : List ℕ) → TakesConstant pool type s a t → length a.info < 2 ^ 32
     → constant_from pool type s a.name (sized_bytes a.info ++ rest) ≡ Ok (t, rest)
@@ -100,7 +100,7 @@ module _ (pool : List Entry) (static : Bool) (type : List ℕ) where
       let later : AllRun (Some c) attributes t = subst (λ (m : Option ConstantValue). AllRun m attributes t) h.1.1 h.2 in
       let r = runs_after c attributes t later in
       subst (λ (o : Option ConstantValue). (a ∷ those attributes ≡ constant_attributes o) × ConstantsFit pool type o) r.1
-          (ap (λ (b : Attribute). b ∷ those attributes) h.1.2 ∙ ap (λ (list : List Attribute). constant_attribute c ∷ list) r.0, h.1.3)
+      (ap (λ (b : Attribute). b ∷ those attributes) h.1.2 ∙ ap (λ (list : List Attribute). constant_attribute c ∷ list) r.0, h.1.3)
   found_by false a attributes t h others = others h
 
   pub runs_found : (attributes : List Attribute) (t : Option ConstantValue) → AllRun None attributes t → (those attributes ≡ constant_attributes t) × ConstantsFit pool type t
@@ -164,7 +164,7 @@ constants_again pool static type attributes found rest few fit counted fits =
     let runs = found_runs pool static type attributes found fits counted in
     let regrouped = append_assoc (u2 (length attributes)) (flat_map attribute_bytes attributes) rest in
     ap (constants_from pool static type) regrouped ∙ rw (number_again w16 wide16 (length attributes) (flat_map attribute_bytes attributes ++ rest) few)
-        (attributes_again pool wanted (constant_from pool type) (TakesConstant pool type) (λ s a t more does small. constant_again pool type s a t more does small) attributes None found rest fit runs)
+    (attributes_again pool wanted (constant_from pool type) (TakesConstant pool type) (λ s a t more does small. constant_again pool type s a t more does small) attributes None found rest fit runs)
 
 -- ---- flags
 
@@ -203,25 +203,25 @@ field_takes pool class bytes x fits e =
     let tail = attributes_bytes k.attributes in
     let whole = Takes-then bytes (u2 a.0.0) a.0.1 (u2 b.0.0.0 ++ (u2 c.0.0.0 ++ tail)) d.0.1 f.0 (Takes-then a.0.1 (u2 b.0.0.0) b.0.1 (u2 c.0.0.0 ++ tail) d.0.1 n.0.takes (Takes-then b.0.1 (u2 c.0.0.0) c.0.1 tail d.0.1 t.0.takes k.takes)) in
     subst (IsField pool class bytes) (ok_is read x d.2) (record {
-        text = u2 a.0.0 ++ (u2 b.0.0.0 ++ (u2 c.0.0.0 ++ tail));
-        takes = whole;
-        spells = record {
-          attributes = k.attributes;
-          few = k.few;
-          fit = k.fit;
-          bytes_are = refl;
-          counted = k.counted;
-          flags_fit = f.1;
-          flags_agree = f.2;
-          name_fits = n.0.small;
-          name_is = ap (passes is_field_name) n.0.text ∙ n.1;
-          descriptor_fits = t.0.small;
-          type = c.0.0.1;
-          descriptor_at = t.0.text;
-          descriptor_is = t.1;
-          constant_fits = k.constant_fits;
-        };
-      })
+      text = u2 a.0.0 ++ (u2 b.0.0.0 ++ (u2 c.0.0.0 ++ tail));
+      takes = whole;
+      spells = record {
+        attributes = k.attributes;
+        few = k.few;
+        fit = k.fit;
+        bytes_are = refl;
+        counted = k.counted;
+        flags_fit = f.1;
+        flags_agree = f.2;
+        name_fits = n.0.small;
+        name_is = ap (passes is_field_name) n.0.text ∙ n.1;
+        descriptor_fits = t.0.small;
+        type = c.0.0.1;
+        descriptor_at = t.0.text;
+        descriptor_is = t.1;
+        constant_fits = k.constant_fits;
+      };
+    })
 
 passed_text : (test : List ℕ → Bool) (o : Option (List ℕ)) → passes test o ≡ true → (text : List ℕ) × (o ≡ Some text) × (test text ≡ true)
 passed_text test None e = absurd cc
@@ -234,10 +234,57 @@ field_again pool class text f rest s =
     let tail = attributes_bytes s.attributes in
     let end = tail ++ rest in
     let one : text ++ rest ≡ u2 f.flags.0 ++ (u2 f.name ++ (u2 f.descriptor ++ end)) =
-        ap (λ (b : List ℕ). b ++ rest) s.bytes_are ∙ append_assoc (u2 f.flags.0) (u2 f.name ++ (u2 f.descriptor ++ tail)) rest
-        ∙ ap (λ (b : List ℕ). u2 f.flags.0 ++ b) (append_assoc (u2 f.name) (u2 f.descriptor ++ tail) rest ∙ ap (λ (b : List ℕ). u2 f.name ++ b) (append_assoc (u2 f.descriptor) tail rest)) in
+    ap (λ (b : List ℕ). b ++ rest) s.bytes_are ∙ append_assoc (u2 f.flags.0) (u2 f.name ++ (u2 f.descriptor ++ tail)) rest
+    ∙ ap (λ (b : List ℕ). u2 f.flags.0 ++ b) (append_assoc (u2 f.name) (u2 f.descriptor ++ tail) rest ∙ ap (λ (b : List ℕ). u2 f.name ++ b) (append_assoc (u2 f.descriptor) tail rest)) in
     ap (field_from pool class) one ∙ rw (
-        flags_again class f.flags.0 (u2 f.name ++ (u2 f.descriptor ++ end)) s.flags_fit s.flags_agree,
-        tested_again pool is_field_name f.name n.0 (u2 f.descriptor ++ end) s.name_fits n.1 n.2,
-        tested_again pool is_field_descriptor f.descriptor s.type end s.descriptor_fits s.descriptor_at s.descriptor_is,
-        constants_again pool (has f.flags.0 0x0008) s.type s.attributes f.constant rest s.few s.fit s.counted s.constant_fits) refl
+      flags_again class f.flags.0 (u2 f.name ++ (u2 f.descriptor ++ end)) s.flags_fit s.flags_agree,
+      tested_again pool is_field_name f.name n.0 (u2 f.descriptor ++ end) s.name_fits n.1 n.2,
+      tested_again pool is_field_descriptor f.descriptor s.type end s.descriptor_fits s.descriptor_at s.descriptor_is,
+      constants_again pool (has f.flags.0 0x0008) s.type s.attributes f.constant rest s.few s.fit s.counted s.constant_fits,
+    ) refl
+
+-- ---- what is written
+
+kept_by : (b : Bool) (a : Attribute) (others : List Attribute) (c : Attribute) → cond b (a ∷ others) others ≡ c ∷ [] → ((b ≡ true) × (a ≡ c)) ⊎ ((b ≡ false) × (others ≡ c ∷ []))
+kept_by true a others c e = let same : a ≡ c = cc in inl (refl, same)
+kept_by false a others c e = inr (refl, e)
+
+-- an attribute that counts was among those that stand there
+was_there : (pool : List Entry) (static : Bool) (attributes : List Attribute) (c : Attribute) → AllByRecursion (AttributeFits pool) attributes → filter (counts pool static) attributes ≡ c ∷ [] → AttributeFits pool c × (counts pool static c ≡ true)
+was_there pool static [] c fit e = absurd cc
+was_there pool static (a ∷ attributes) c fit e =
+    elim (kept_by (counts pool static a) a (filter (counts pool static) attributes) c e) [
+      | inl here ↦ subst (λ (b : Attribute). AttributeFits pool b × (counts pool static b ≡ true)) here.1 (fit.0, here.0)
+      | inr later ↦ was_there pool static attributes c fit.1 later.1
+    ]
+
+record CanBeWritten (pool : List Entry) (static : Bool) (o : Option ConstantValue) : Type 0 where
+  pub few : length (constant_attributes o) < 2 ^ 16
+  pub fit : AllByRecursion (AttributeFits pool) (constant_attributes o)
+  pub counted : filter (counts pool static) (constant_attributes o) ≡ constant_attributes o
+
+can_be_written : (pool : List Entry) (static : Bool) (attributes : List Attribute) (o : Option ConstantValue) → AllByRecursion (AttributeFits pool) attributes → filter (counts pool static) attributes ≡ constant_attributes o → CanBeWritten pool static o
+can_be_written pool static attributes None fit e = record { few = omega arith; fit = tt; counted = refl }
+can_be_written pool static attributes (Some c) fit e =
+    let w = was_there pool static attributes (constant_attribute c) fit e in
+    record { few = omega arith; fit = (w.0, tt); counted = rw w.1 refl }
+
+pub field_written : (pool : List Entry) (class : ℕ) (bytes : List ℕ) (f : FieldEntry) → SpellsField pool class bytes f → SpellsField pool class (field_bytes f) f
+field_written pool class bytes f s =
+    let w = can_be_written pool (has f.flags.0 0x0008) s.attributes f.constant s.fit s.counted in
+    record {
+      attributes = constant_attributes f.constant;
+      few = w.few;
+      fit = w.fit;
+      bytes_are = refl;
+      counted = w.counted;
+      flags_fit = s.flags_fit;
+      flags_agree = s.flags_agree;
+      name_fits = s.name_fits;
+      name_is = s.name_is;
+      descriptor_fits = s.descriptor_fits;
+      type = s.type;
+      descriptor_at = s.descriptor_at;
+      descriptor_is = s.descriptor_is;
+      constant_fits = s.constant_fits;
+    }

@@ -1,17 +1,21 @@
 -- A class file's head that is read is spelled so, and what spells a head is read.
-use Rattle.std.proofs.Common.{◌≡◌, ℕ, ◌^◌, ◌<◌, Bool, true, false, cond, eqb, List, [], ◌∷◌, ◌++◌, length, Result, Ok, Err, refl, sym, ap, subst, ◌∙◌, append_assoc, arith, w16, w32}
+use Rattle.std.proofs.Common.{◌≡◌, ℕ, ◌^◌, ◌<◌, Bool, true, false, cond, eqb, List, [], ◌∷◌, ◌++◌, length, Result, Ok, Err, refl, sym, ap, subst, ◌∙◌, append_assoc, arith, w16, w32, Bor}
 use Rattle.std.specs.Int.{to_be_bytes}
 use Rattle.std.proofs.lemmas.Bool.{eqb-true}
 use Rattle.model.specs.ClassFiles.Numbers.{u2, u4}
 use Rattle.model.specs.ClassFiles.Pools.{pool_bytes, PoolFits}
 use Rattle.model.specs.ClassFiles.References.{AreSound}
-use Rattle.model.specs.ClassFiles.Fields.{SpellsField}
-use Rattle.model.specs.ClassFiles.Heads.{HeadPart, opening, are_class_flags, is_class, SpellsClass, SpellsList, SpellsBehindPool, SpellsHead}
+use Rattle.model.specs.ClassFiles.Fields.{SpellsField, field_bytes}
+use Rattle.model.specs.ClassFiles.Heads.{HeadPart, opening, are_class_flags, is_class, SpellsClass, SpellsList, SpellsBehindPool, SpellsHead, IsHead, list_bytes, behind_bytes, head_bytes}
+use Rattle.model.specs.ClassFiles.Lists.{SpellsAll}
+use Rattle.std.specs.List.{flat_map}
+use Rattle.std.specs.Prelude.{IfOk}
+use Rattle.pool.specs.declared.error.ReadError.{ReadError}
 use Rattle.model.specs.declared.class_files.Entry.{Entry}
 use Rattle.model.specs.declared.class_files.FieldEntry.{FieldEntry}
 use Rattle.model.specs.declared.class_files.FormatFault.{FormatFault}
 use Rattle.model.specs.declared.class_files.FormatFault.TheVariants as fault
-use Rattle.pool.specs.Reading.Steps.{◌>>=◌, number_at}
+use Rattle.pool.specs.Reading.Steps.{◌>>=◌, Gives, number_at}
 use Rattle.pool.specs.Reading.Pools.{pool_from}
 use Rattle.pool.proofs.Steps.{bind_ok, passed_ok, ok_is}
 use Rattle.pool.proofs.FieldLemmas.{IsBytes, Takes, Takes-then, wide16, wide32, number_takes, number_again}
@@ -20,7 +24,7 @@ use Rattle.classfile.specs.Reading.Attributes.{Reads}
 use Rattle.classfile.specs.Reading.Fields.{field_from}
 use Rattle.classfile.specs.Reading.Lists.{list_from}
 use Rattle.classfile.specs.Reading.Heads.{opening_from, class_flags_from, class_from, behind_from, head_from}
-use Rattle.classfile.proofs.FieldLaws.{field_takes, field_again}
+use Rattle.classfile.proofs.FieldLaws.{field_takes, field_again, field_written}
 use Rattle.classfile.proofs.ListLaws.{Found, list_takes, list_again}
 
 -- ---- magic number and version
@@ -106,41 +110,42 @@ behind_takes pool bytes x fits e =
     let made : HeadPart = record { pool = pool; flags = record { 0 = a.0.0 }; class = b.0.0; superclass = c.0.0; interfaces = d.0.0; fields = f.0.0 } in
     let read : HeadPart × List ℕ = (made, f.0.1) in
     let whole = Takes-then bytes (u2 a.0.0) a.0.1 (tb.text ++ (tc.text ++ (td.text ++ tf.text))) f.0.1 ta.0
-        (Takes-then a.0.1 tb.text b.0.1 (tc.text ++ (td.text ++ tf.text)) f.0.1 tb.takes
-        (Takes-then b.0.1 tc.text c.0.1 (td.text ++ tf.text) f.0.1 tc.takes
-        (Takes-then c.0.1 td.text d.0.1 tf.text f.0.1 td.takes tf.takes))) in
+    (Takes-then a.0.1 tb.text b.0.1 (tc.text ++ (td.text ++ tf.text)) f.0.1 tb.takes
+    (Takes-then b.0.1 tc.text c.0.1 (td.text ++ tf.text) f.0.1 tc.takes
+    (Takes-then c.0.1 td.text d.0.1 tf.text f.0.1 td.takes tf.takes))) in
     subst (IsBehind pool bytes) (ok_is read x f.2) (record {
-        text = u2 a.0.0 ++ (tb.text ++ (tc.text ++ (td.text ++ tf.text)));
-        takes = whole;
-        pool_is = refl;
-        spells = record {
-          flags_fit = ta.1;
-          flags_agree = ta.2;
-          class_bytes = tb.text;
-          class_spells = tb.spells;
-          super_bytes = tc.text;
-          super_spells = tc.spells;
-          interface_bytes = td.text;
-          interfaces_spell = td.spells;
-          field_bytes = tf.text;
-          fields_spell = tf.spells;
-          bytes_are = refl;
-        };
-      })
+      text = u2 a.0.0 ++ (tb.text ++ (tc.text ++ (td.text ++ tf.text)));
+      takes = whole;
+      pool_is = refl;
+      spells = record {
+        flags_fit = ta.1;
+        flags_agree = ta.2;
+        class_bytes = tb.text;
+        class_spells = tb.spells;
+        super_bytes = tc.text;
+        super_spells = tc.spells;
+        interface_bytes = td.text;
+        interfaces_spell = td.spells;
+        field_bytes = tf.text;
+        fields_spell = tf.spells;
+        bytes_are = refl;
+      };
+    })
 
 behind_again : (text : List ℕ) (h : HeadPart) (rest : List ℕ) → SpellsBehindPool text h → behind_from h.pool (text ++ rest) ≡ Ok (h, rest)
 unfolding behind_from
 behind_again text h rest s =
     let one : text ++ rest ≡ u2 h.flags.0 ++ (s.class_bytes ++ (s.super_bytes ++ (s.interface_bytes ++ (s.field_bytes ++ rest)))) = ap (λ (t : List ℕ). t ++ rest) s.bytes_are ∙ append_assoc (u2 h.flags.0) (s.class_bytes ++ (s.super_bytes ++ (s.interface_bytes ++ s.field_bytes))) rest
-        ∙ ap (λ (t : List ℕ). u2 h.flags.0 ++ t) (append_assoc s.class_bytes (s.super_bytes ++ (s.interface_bytes ++ s.field_bytes)) rest
-        ∙ ap (λ (t : List ℕ). s.class_bytes ++ t) (append_assoc s.super_bytes (s.interface_bytes ++ s.field_bytes) rest
-        ∙ ap (λ (t : List ℕ). s.super_bytes ++ t) (append_assoc s.interface_bytes s.field_bytes rest))) in
+    ∙ ap (λ (t : List ℕ). u2 h.flags.0 ++ t) (append_assoc s.class_bytes (s.super_bytes ++ (s.interface_bytes ++ s.field_bytes)) rest
+    ∙ ap (λ (t : List ℕ). s.class_bytes ++ t) (append_assoc s.super_bytes (s.interface_bytes ++ s.field_bytes) rest
+    ∙ ap (λ (t : List ℕ). s.super_bytes ++ t) (append_assoc s.interface_bytes s.field_bytes rest))) in
     ap (behind_from h.pool) one ∙ rw (
-        flags_again h.flags.0 (s.class_bytes ++ (s.super_bytes ++ (s.interface_bytes ++ (s.field_bytes ++ rest)))) s.flags_fit s.flags_agree,
-        class_again h.pool s.class_bytes h.class (s.super_bytes ++ (s.interface_bytes ++ (s.field_bytes ++ rest))) s.class_spells,
-        class_again h.pool s.super_bytes h.superclass (s.interface_bytes ++ (s.field_bytes ++ rest)) s.super_spells,
-        list_again (class_from h.pool) (SpellsClass h.pool) (λ t x r k. class_again h.pool t x r k) s.interface_bytes h.interfaces (s.field_bytes ++ rest) s.interfaces_spell,
-        list_again (field_from h.pool h.flags.0) (SpellsField h.pool h.flags.0) (λ t x r k. field_again h.pool h.flags.0 t x r k) s.field_bytes h.fields rest s.fields_spell) refl
+      flags_again h.flags.0 (s.class_bytes ++ (s.super_bytes ++ (s.interface_bytes ++ (s.field_bytes ++ rest)))) s.flags_fit s.flags_agree,
+      class_again h.pool s.class_bytes h.class (s.super_bytes ++ (s.interface_bytes ++ (s.field_bytes ++ rest))) s.class_spells,
+      class_again h.pool s.super_bytes h.superclass (s.interface_bytes ++ (s.field_bytes ++ rest)) s.super_spells,
+      list_again (class_from h.pool) (SpellsClass h.pool) (λ t x r k. class_again h.pool t x r k) s.interface_bytes h.interfaces (s.field_bytes ++ rest) s.interfaces_spell,
+      list_again (field_from h.pool h.flags.0) (SpellsField h.pool h.flags.0) (λ t x r k. field_again h.pool h.flags.0 t x r k) s.field_bytes h.fields rest s.fields_spell,
+    ) refl
 
 -- ---- the head
 
@@ -170,3 +175,48 @@ unfolding head_from
 head_again text h rest s =
     let one : text ++ rest ≡ opening ++ (pool_bytes h.pool ++ (s.behind_pool ++ rest)) = ap (λ (t : List ℕ). t ++ rest) s.bytes_are ∙ append_assoc opening (pool_bytes h.pool ++ s.behind_pool) rest ∙ ap (λ (t : List ℕ). opening ++ t) (append_assoc (pool_bytes h.pool) s.behind_pool rest) in
     ap head_from one ∙ rw (opening_again (pool_bytes h.pool ++ (s.behind_pool ++ rest)), pool_again h.pool (s.behind_pool ++ rest) s.pool_fits s.pool_is_sound) (behind_again s.behind_pool h rest s.behind)
+
+-- ---- what is written
+
+classes_written : (pool : List Entry) (body : List ℕ) (classes : List ℕ) → SpellsAll (SpellsClass pool) body classes → SpellsAll (SpellsClass pool) (flat_map u2 classes) classes
+classes_written pool body [] s = refl
+classes_written pool body (n ∷ classes) s = (u2 n, flat_map u2 classes, refl, (refl, s.3.1, s.3.2), classes_written pool s.1 classes s.4)
+
+fields_written : (pool : List Entry) (class : ℕ) (body : List ℕ) (fields : List FieldEntry) → SpellsAll (SpellsField pool class) body fields → SpellsAll (SpellsField pool class) (flat_map field_bytes fields) fields
+fields_written pool class body [] s = refl
+fields_written pool class body (f ∷ fields) s = (field_bytes f, flat_map field_bytes fields, refl, field_written pool class s.0 f s.3, fields_written pool class s.1 fields s.4)
+
+pub head_written : (bytes : List ℕ) (h : HeadPart) → SpellsHead bytes h → SpellsHead (head_bytes h) h
+head_written bytes h s =
+    let b = s.behind in
+    record {
+      pool_fits = s.pool_fits;
+      pool_is_sound = s.pool_is_sound;
+      behind_pool = behind_bytes h;
+      bytes_are = refl;
+      behind = record {
+        flags_fit = b.flags_fit;
+        flags_agree = b.flags_agree;
+        class_bytes = u2 h.class;
+        class_spells = (refl, b.class_spells.1, b.class_spells.2);
+        super_bytes = u2 h.superclass;
+        super_spells = (refl, b.super_spells.1, b.super_spells.2);
+        interface_bytes = list_bytes u2 h.interfaces;
+        interfaces_spell = record { few = b.interfaces_spell.few; body = flat_map u2 h.interfaces; bytes_are = refl; all = classes_written h.pool b.interfaces_spell.body h.interfaces b.interfaces_spell.all };
+        field_bytes = list_bytes field_bytes h.fields;
+        fields_spell = record { few = b.fields_spell.few; body = flat_map field_bytes h.fields; bytes_are = refl; all = fields_written h.pool h.flags.0 b.fields_spell.body h.fields b.fields_spell.all };
+        bytes_are = refl;
+      };
+    }
+
+-- ---- what a reader found
+
+pub is_found : (bytes : List ℕ) (r : Result (HeadPart × Bor (List ℕ)) ReadError) → IsBytes bytes → Gives (λ x. (x.0, x.1.now)) r (head_from bytes) → IfOk r (λ x. (text : List ℕ) × SpellsHead text x.0 × (bytes ≡ text ++ x.1.now))
+is_found bytes (Ok x) fits given = let f = head_takes bytes (x.0, x.1.now) fits given in (f.text, f.spells, f.takes.parts)
+is_found bytes (Err e) fits given = tt
+
+pub one_alone : (a b x y : List ℕ) (h k : HeadPart) → SpellsHead a h → SpellsHead b k → a ++ x ≡ b ++ y → (h ≡ k) × (x ≡ y)
+one_alone a b x y h k s t e =
+    let same : head_from (a ++ x) ≡ Ok (k, y) = ap head_from e ∙ head_again b k y t in
+    let both = ok_is (h, x) (k, y) (sym (head_again a h x s) ∙ same) in
+    (ap (λ (p : HeadPart × List ℕ). p.0) both, ap (λ (p : HeadPart × List ℕ). p.1) both)

@@ -38,11 +38,11 @@ module _ {A : Type 0} (read : List ℕ → Reads A) (Spells : List ℕ → A →
       let others = repeated_takes takes n a.0.1 b.0 one.takes.rest_fits b.1 in
       let made : List A × List ℕ = (a.0.0 ∷ b.0.0, b.0.1) in
       subst (AllFound (suc n) bytes) (ok_is made x b.2) (record {
-          text = one.text ++ others.text;
-          takes = Takes-then bytes one.text a.0.1 others.text b.0.1 one.takes others.takes;
-          number = ap suc others.number;
-          spells = (one.text, others.text, refl, one.spells, others.spells);
-        })
+        text = one.text ++ others.text;
+        takes = Takes-then bytes one.text a.0.1 others.text b.0.1 one.takes others.takes;
+        number = ap suc others.number;
+        spells = (one.text, others.text, refl, one.spells, others.spells);
+      })
 
   repeated_again : ReadAgain → (xs : List A) (text rest : List ℕ) → SpellsAll Spells text xs → repeated read (length xs) (text ++ rest) ≡ Ok (xs, rest)
   unfolding repeated

@@ -42,7 +42,10 @@ pub fn text_at<'a, 'b>(pool: &'a Pool, bytes: &'b [u8]) -> Result<(Text<'a>, &'b
 
 /// The field's name whose number stands at the front of the bytes. C6 where there is no text, C7 where it is no name.
 #[tactic(auto, unfolding(crate::specs::Reading::Attributes::tested_from))]
-pub fn field_name_at<'a, 'b>(pool: &'a Pool, bytes: &'b [u8]) -> Result<(Text<'a>, &'b [u8]), ReadError>
+pub fn field_name_at<'a, 'b>(
+    pool: &'a Pool,
+    bytes: &'b [u8],
+) -> Result<(Text<'a>, &'b [u8]), ReadError>
     ensures { Gives (λ x. ((x.0.number, x.0.bytes.now), x.1.now)) result (tested_from pool.now field_name_test bytes.now) }
 {
     let (text, rest) = text_at(pool, bytes)?;
@@ -56,7 +59,10 @@ pub fn field_name_at<'a, 'b>(pool: &'a Pool, bytes: &'b [u8]) -> Result<(Text<'a
 /// The field's descriptor whose number stands at the front of the bytes. C6 where there is no text, C7 where it is no
 /// descriptor.
 #[tactic(auto, unfolding(crate::specs::Reading::Attributes::tested_from))]
-pub fn field_type_at<'a, 'b>(pool: &'a Pool, bytes: &'b [u8]) -> Result<(Text<'a>, &'b [u8]), ReadError>
+pub fn field_type_at<'a, 'b>(
+    pool: &'a Pool,
+    bytes: &'b [u8],
+) -> Result<(Text<'a>, &'b [u8]), ReadError>
     ensures { Gives (λ x. ((x.0.number, x.0.bytes.now), x.1.now)) result (tested_from pool.now field_descriptor_test bytes.now) }
 {
     let (text, rest) = text_at(pool, bytes)?;

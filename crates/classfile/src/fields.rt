@@ -18,6 +18,7 @@ use pool::{Pool, ReadError};
 use std::alloc::AllocError;
 
 const STATIC: u16 = 0x0008;
+
 const INTERFACE: u16 = 0x0200;
 
 /// Whether a field may have these flags in a class of those.

@@ -1,25 +1,29 @@
 //! A class file up to its methods.
 
-ghost use Rattle.std.specs.Prelude.{◌≡◌};
+ghost use Rattle.std.specs.Prelude.{◌≡◌, ◌++◌, ◌<◌, ◌^◌, ℕ, List, length, Ok, IfOk, OnOk};
+ghost use Rattle.std.specs.List.{flat_map};
+ghost use Rattle.model.specs.ClassFiles.Numbers.{u2};
+ghost use Rattle.model.specs.ClassFiles.Fields.{field_bytes};
+ghost use Rattle.model.specs.ClassFiles.Heads.{HeadPart, SpellsHead, behind_bytes, head_bytes};
 ghost use Rattle.model.specs.ClassFiles.Heads as definition;
 ghost use Rattle.pool.specs.Reading.Steps.{Gives};
 ghost use Rattle.classfile.specs.Reading.Fields.{field_from};
 ghost use Rattle.classfile.specs.Reading.Lists.{repeated, list_from};
 ghost use Rattle.classfile.specs.Reading.Heads.{opening_from, class_flags_from, class_from, behind_from, head_from};
 
-use crate::fields::field_of;
+use crate::fields::{field_of, put_field};
 use bitflags::Flags;
 use model::class_files::{FieldEntry, FormatFault};
 use model::flags::ClassFlags;
 use pool::fields::{u16_at, u32_at};
 use pool::names::is_class_name;
 use pool::{Pool, ReadError};
-use std::alloc::Global;
+use std::alloc::{AllocError, Global};
 use std::marker::Model;
 
-/// A class file up to its methods (JVMS 4.1). A contract sees its parts.
+/// The parts of a class file up to its methods.
 #[derive(Drop)]
-pub struct ClassHead {
+struct Parts {
     pool: Pool,
     flags: ClassFlags,
     class: u16,
@@ -28,7 +32,7 @@ pub struct ClassHead {
     fields: Vec<FieldEntry>,
 }
 
-impl Model for ClassHead {
+impl Model for Parts {
     ghost use Rattle.model.specs.ClassFiles.Heads.{HeadPart};
 
     ghost Value = { HeadPart };
@@ -172,7 +176,7 @@ fn counted_fields_at<'a>(
 
 /// What stands behind the pool.
 #[tactic(auto, unfolding(crate::specs::Reading::Heads::behind_from))]
-fn behind_pool(alloc: Global, pool: Pool, bytes: &[u8]) -> Result<(ClassHead, &[u8]), ReadError>
+fn behind_pool(alloc: Global, pool: Pool, bytes: &[u8]) -> Result<(Parts, &[u8]), ReadError>
     ensures { Gives (λ x. (x.0, x.1.now)) result (behind_from pool bytes.now) }
 {
     let (flags, rest) = class_flags_at(bytes)?;
@@ -180,7 +184,7 @@ fn behind_pool(alloc: Global, pool: Pool, bytes: &[u8]) -> Result<(ClassHead, &[
     let (superclass, rest) = class_at(&pool, rest)?;
     let (interfaces, rest) = interfaces_at(alloc, &pool, rest)?;
     let (fields, rest) = counted_fields_at(alloc, &pool, flags, rest)?;
-    let head = ClassHead {
+    let parts = Parts {
         pool,
         flags: ClassFlags::from_bits_retain(flags),
         class,
@@ -188,15 +192,107 @@ fn behind_pool(alloc: Global, pool: Pool, bytes: &[u8]) -> Result<(ClassHead, &[
         interfaces,
         fields,
     };
-    Ok((head, rest))
+    Ok((parts, rest))
 }
 
 /// A class file up to its methods.
 #[tactic(auto, unfolding(crate::specs::Reading::Heads::head_from))]
-fn head_of(alloc: Global, bytes: &[u8]) -> Result<(ClassHead, &[u8]), ReadError>
+fn head_of(alloc: Global, bytes: &[u8]) -> Result<(Parts, &[u8]), ReadError>
     ensures { Gives (λ x. (x.0, x.1.now)) result (head_from bytes.now) }
 {
     let (_, rest) = opening_of(bytes)?;
     let (pool, rest) = Pool::read(alloc, rest)?;
     behind_pool(alloc, pool, rest)
+}
+
+/// A class file up to its methods (JVMS 4.1). A contract sees its parts, which are those of some class file.
+#[derive(Drop)]
+pub struct ClassHead {
+    parts: Parts,
+}
+
+impl Model for ClassHead {
+    ghost use Rattle.model.specs.ClassFiles.Heads.{HeadPart, IsHead};
+
+    ghost Value = { HeadPart };
+
+    ghost view = { λ a. a.parts };
+
+    ghost invariant = { λ a. IsHead a.parts };
+}
+
+impl ClassHead {
+    /// Reads a class file up to its methods from the front of the bytes. C1, C2, C3, C5, C6, C7, C8 or C11: the first fault
+    /// from left to right.
+    pub fn read(alloc: Global, bytes: &[u8]) -> Result<(ClassHead, &[u8]), ReadError>
+        // What is read is spelled so.
+        ensures found { IfOk result (λ x. (text : List ℕ) × SpellsHead text x.0 × (bytes.now ≡ text ++ x.1.now)) }
+        // What is spelled so is read, unless memory runs out.
+        ensures only { (head : HeadPart) (text rest : List ℕ) → SpellsHead text head → bytes.now ≡ text ++ rest → let read : HeadPart × List ℕ = (head, rest) in Gives (λ x. (x.0, x.1.now)) result (Ok read) }
+        // Which fault it is.
+        ensures exact { Gives (λ x. (x.0, x.1.now)) result (head_from bytes.now) }
+    {
+        let (parts, rest) = head_of(alloc, bytes)?;
+        Ok((ClassHead { parts }, rest))
+    }
+
+    /// Writes the head at the end, with the attributes that count and no others.
+    pub fn write(&self, out: &mut Vec<u8>) -> Result<(), AllocError>
+        ensures { OnOk result ((text : List ℕ) × SpellsHead text self.now × (out.new.items ≡ out.old.items ++ text)) }
+    {
+        put_parts(out, &self.parts)
+    }
+}
+
+/// No head begins another: bytes are those of one head alone.
+pub fn one_head()
+    ensures { (a b x y : List ℕ) (h k : HeadPart) → SpellsHead a h → SpellsHead b k → a ++ x ≡ b ++ y → (h ≡ k) × (x ≡ y) }
+{}
+
+/// Writes so many numbers of classes at the end.
+fn put_classes(out: &mut Vec<u8>, classes: &[u16]) -> Result<(), AllocError>
+    ensures { OnOk result (out.new.items ≡ out.old.items ++ flat_map u2 classes.now) }
+{
+    for class in classes {
+        out.extend_from_slice(&class.to_be_bytes())?;
+    }
+    Ok(())
+}
+
+/// Writes so many fields at the end.
+fn put_fields(out: &mut Vec<u8>, fields: &[FieldEntry]) -> Result<(), AllocError>
+    ensures { OnOk result (out.new.items ≡ out.old.items ++ flat_map field_bytes fields.now) }
+{
+    for field in fields {
+        put_field(out, field)?;
+    }
+    Ok(())
+}
+
+/// Writes what stands behind the pool at the end.
+fn put_behind(out: &mut Vec<u8>, parts: &Parts) -> Result<(), AllocError>
+    requires interfaces { length parts.now.interfaces < 2 ^ 16 }
+    requires fields { length parts.now.fields < 2 ^ 16 }
+    ensures { OnOk result (out.new.items ≡ out.old.items ++ behind_bytes parts.now) }
+{
+    out.extend_from_slice(&parts.flags.bits().to_be_bytes())?;
+    out.extend_from_slice(&parts.class.to_be_bytes())?;
+    out.extend_from_slice(&parts.superclass.to_be_bytes())?;
+    let interfaces = parts.interfaces.as_slice();
+    out.extend_from_slice(&(interfaces.len() as u16).to_be_bytes())?;
+    put_classes(out, interfaces)?;
+    let fields = parts.fields.as_slice();
+    out.extend_from_slice(&(fields.len() as u16).to_be_bytes())?;
+    put_fields(out, fields)
+}
+
+/// Writes a head at the end.
+fn put_parts(out: &mut Vec<u8>, parts: &Parts) -> Result<(), AllocError>
+    requires interfaces { length parts.now.interfaces < 2 ^ 16 }
+    requires fields { length parts.now.fields < 2 ^ 16 }
+    ensures { OnOk result (out.new.items ≡ out.old.items ++ head_bytes parts.now) }
+{
+    out.extend_from_slice(&[0xca, 0xfe, 0xba, 0xbe, 0, 0, 0, 49])?;
+    parts.pool.write(out)?;
+    put_behind(out, parts)
 }

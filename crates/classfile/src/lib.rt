@@ -5,4 +5,7 @@ mod attributes;
 mod fields;
 mod heads;
 
-pub use heads::ClassHead;
+pub use heads::{ClassHead, one_head};
+
+#[cfg(test)]
+mod tests;

@@ -1,5 +1,6 @@
 -- A class file up to its methods (JVMS 4.1).
 use Rattle.std.specs.Prelude.{◌≡◌, ℕ, ◌+◌, ◌^◌, ◌<◌, Bool, true, not, ◌&&◌, ◌||◌, ◌==◌, bit_and, List, [], ◌∷◌, ◌++◌, length, Option}
+use Rattle.std.specs.List.{flat_map}
 use Rattle.std.specs.Option.{option_and_then}
 use Rattle.model.specs.Texts.Names.{is_class_name}
 use Rattle.model.specs.Texts.Flags.{has, class_flags_agree}
@@ -7,7 +8,7 @@ use Rattle.model.specs.ClassFiles.Numbers.{u2}
 use Rattle.model.specs.ClassFiles.Pools.{entry_at, pool_bytes, PoolFits}
 use Rattle.model.specs.ClassFiles.References.{text_at, class_of, AreSound}
 use Rattle.model.specs.ClassFiles.Attributes.{passes}
-use Rattle.model.specs.ClassFiles.Fields.{SpellsField}
+use Rattle.model.specs.ClassFiles.Fields.{SpellsField, field_bytes}
 use Rattle.model.specs.ClassFiles.Lists.{SpellsAll}
 use Rattle.model.specs.declared.class_files.Entry.{Entry}
 use Rattle.model.specs.declared.class_files.FieldEntry.{FieldEntry}
@@ -66,3 +67,18 @@ pub record SpellsHead (bytes : List ℕ) (h : HeadPart) : Type 0 where
   pub behind_pool : List ℕ
   pub behind : SpellsBehindPool behind_pool h
   pub bytes_are : bytes ≡ opening ++ (pool_bytes h.pool ++ behind_pool)
+
+-- the parts of some class file
+abbrev pub IsHead : HeadPart → Type 0
+IsHead h = (bytes : List ℕ) × SpellsHead bytes h
+
+-- ---- the bytes with the attributes that count and no others
+
+abbrev pub list_bytes : {A : Type 0} → (A → List ℕ) → List A → List ℕ
+list_bytes spelling xs = u2 (length xs) ++ flat_map spelling xs
+
+abbrev pub behind_bytes : HeadPart → List ℕ
+behind_bytes h = u2 h.flags.0 ++ (u2 h.class ++ (u2 h.superclass ++ (list_bytes u2 h.interfaces ++ list_bytes field_bytes h.fields)))
+
+abbrev pub head_bytes : HeadPart → List ℕ
+head_bytes h = opening ++ (pool_bytes h.pool ++ behind_bytes h)
