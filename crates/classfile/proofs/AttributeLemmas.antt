@@ -1,15 +1,14 @@
 -- Attributes that are read are those that were written, and what was written is read again.
-use Rattle.std.proofs.Common.{◌≡◌, ℕ, zero, suc, ◌+◌, ◌^◌, ◌<◌, ◌≤◌, Bool, true, false, cond, List, [], ◌∷◌, ◌++◌, length, get_or, Option, Some, None, Result, Ok, Err, refl, sym, ap, subst, ◌∙◌, append_assoc, arith, inl, inr, w16, w32}
+use Rattle.std.proofs.Common.{◌≡◌, ℕ, zero, suc, ◌^◌, ◌<◌, Bool, true, false, cond, List, [], ◌∷◌, ◌++◌, length, Option, Some, None, Ok, Err, refl, sym, ap, subst, ◌∙◌, append_assoc, arith, inl, inr, w16, w32}
 use Rattle.std.specs.Prelude.{is_some}
 use Rattle.std.specs.List.{flat_map, AllByRecursion}
 use Rattle.model.specs.ClassFiles.Numbers.{u2, u4}
 use Rattle.model.specs.ClassFiles.References.{text_at}
 use Rattle.model.specs.ClassFiles.Attributes.{Attribute, sized_bytes, attribute_bytes, AttributeFits, passes}
-use Rattle.model.specs.declared.class_files.FormatFault.{FormatFault}
-use Rattle.model.specs.declared.class_files.FormatFault.TheVariants.{Index, Name}
+use Rattle.model.specs.declared.class_files.FormatFault.TheVariants.{Name}
 use Rattle.model.specs.declared.class_files.Entry.{Entry}
 use Rattle.pool.specs.Reading.Steps.{◌>>=◌, number_at, taken}
-use Rattle.pool.proofs.Steps.{bind_ok, guard_ok, passed_ok, chosen, ok_is}
+use Rattle.pool.proofs.Steps.{bind_ok, passed_ok, chosen, ok_is}
 use Rattle.pool.proofs.FieldLemmas.{IsBytes, Takes, Takes-then, Takes-nothing, wide16, wide32, number_takes, number_again, taken_takes, taken_again}
 use Rattle.classfile.specs.Reading.Attributes.{Reads, sized_from, the_text, text_from, tested_from, skipped, attribute_from, attributes_from}
 

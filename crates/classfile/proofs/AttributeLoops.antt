@@ -1,9 +1,8 @@
 -- Reading attributes one after another, as a loop does.
-use Rattle.std.proofs.Common.{◌≡◌, ℕ, suc, ◌-◌, ◌+◌, ◌≤◌, ◌<◌, Bool, List, Result, Ok, Err, refl, sym, ap, ◌∙◌, arith}
-use Rattle.model.specs.declared.class_files.FormatFault.{FormatFault}
+use Rattle.std.proofs.Common.{◌≡◌, ℕ, suc, ◌-◌, ◌+◌, ◌≤◌, ◌<◌, Bool, List, Ok, refl, sym, ap, ◌∙◌, arith}
 use Rattle.model.specs.declared.class_files.Entry.{Entry}
 use Rattle.pool.specs.declared.error.ReadError.{ReadError}
-use Rattle.pool.specs.Reading.Steps.{◌>>=◌, Fails}
+use Rattle.pool.specs.Reading.Steps.{Fails}
 use Rattle.pool.proofs.Steps.{fails-then, fails-is}
 use Rattle.classfile.specs.Reading.Attributes.{Reads, attribute_from, attributes_from}
 

@@ -1,5 +1,5 @@
 -- A field that is read is spelled so, and what spells a field is read.
-use Rattle.std.proofs.Common.{◌≡◌, ℕ, zero, suc, ◌+◌, ◌^◌, ◌<◌, ◌≤◌, Bool, true, false, cond, eqb, List, [], ◌∷◌, ◌++◌, length, Option, Some, None, Result, Ok, Err, refl, sym, ap, subst, ◌∙◌, append_assoc, arith, w16, inl, inr, ◌⊎◌}
+use Rattle.std.proofs.Common.{◌≡◌, ℕ, ◌^◌, ◌<◌, Bool, true, false, cond, eqb, List, [], ◌∷◌, ◌++◌, length, Option, Some, None, Ok, Err, refl, sym, ap, subst, ◌∙◌, append_assoc, arith, w16, inl, inr, ◌⊎◌}
 use Rattle.std.specs.Prelude.{filter}
 use Rattle.std.specs.Int.{from_be_bytes}
 use Rattle.std.specs.List.{flat_map, AllByRecursion}
@@ -16,14 +16,13 @@ use Rattle.model.specs.ClassFiles.Fields.{are_field_flags, is_value_of, is_const
 use Rattle.model.specs.declared.class_files.Entry.{Entry}
 use Rattle.model.specs.declared.class_files.ConstantValue.{ConstantValue}
 use Rattle.model.specs.declared.class_files.FieldEntry.{FieldEntry}
-use Rattle.model.specs.declared.class_files.FormatFault.{FormatFault}
 use Rattle.model.specs.declared.class_files.FormatFault.TheVariants as fault
 use Rattle.pool.specs.Reading.Steps.{◌>>=◌, number_at}
 use Rattle.pool.proofs.Steps.{bind_ok, passed_ok, ok_is}
 use Rattle.pool.proofs.FieldLemmas.{IsBytes, Takes, Takes-then, wide16, number_takes, number_again}
-use Rattle.classfile.specs.Reading.Attributes.{Reads, sized_from, tested_from, attributes_from}
+use Rattle.classfile.specs.Reading.Attributes.{sized_from, tested_from, attributes_from}
 use Rattle.classfile.specs.Reading.Fields.{value_of, constant_from, constants_from, field_flags_from, field_from}
-use Rattle.classfile.proofs.AttributeLemmas.{Sized, sized_takes, sized_again, IsText, tested_takes, tested_again, RunsBy, Runs, StepTakes, StepAgain, AreAttributes, attributes_take, attributes_again, the_some}
+use Rattle.classfile.proofs.AttributeLemmas.{Sized, sized_takes, sized_again, tested_takes, tested_again, RunsBy, Runs, attributes_take, attributes_again}
 
 -- ---- one ConstantValue
 

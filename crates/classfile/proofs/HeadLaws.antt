@@ -1,26 +1,23 @@
 -- A class file's head that is read is spelled so, and what spells a head is read.
-use Rattle.std.proofs.Common.{◌≡◌, ℕ, ◌^◌, ◌<◌, Bool, true, false, cond, eqb, List, [], ◌∷◌, ◌++◌, length, Result, Ok, Err, refl, sym, ap, subst, ◌∙◌, append_assoc, arith, w16, w32, Bor}
-use Rattle.std.specs.Int.{to_be_bytes}
+use Rattle.std.proofs.Common.{◌≡◌, ℕ, ◌^◌, ◌<◌, true, cond, eqb, List, [], ◌∷◌, ◌++◌, Result, Ok, Err, refl, sym, ap, subst, ◌∙◌, append_assoc, arith, w16, w32, Bor}
 use Rattle.std.proofs.lemmas.Bool.{eqb-true}
 use Rattle.model.specs.ClassFiles.Numbers.{u2, u4}
 use Rattle.model.specs.ClassFiles.Pools.{pool_bytes, PoolFits}
 use Rattle.model.specs.ClassFiles.References.{AreSound}
 use Rattle.model.specs.ClassFiles.Fields.{SpellsField, field_bytes}
-use Rattle.model.specs.ClassFiles.Heads.{HeadPart, opening, are_class_flags, is_class, SpellsClass, SpellsList, SpellsBehindPool, SpellsHead, IsHead, list_bytes, behind_bytes, head_bytes}
+use Rattle.model.specs.ClassFiles.Heads.{HeadPart, opening, are_class_flags, is_class, SpellsClass, SpellsBehindPool, SpellsHead, list_bytes, behind_bytes, head_bytes}
 use Rattle.model.specs.ClassFiles.Lists.{SpellsAll}
 use Rattle.std.specs.List.{flat_map}
 use Rattle.std.specs.Prelude.{IfOk}
 use Rattle.pool.specs.declared.error.ReadError.{ReadError}
 use Rattle.model.specs.declared.class_files.Entry.{Entry}
 use Rattle.model.specs.declared.class_files.FieldEntry.{FieldEntry}
-use Rattle.model.specs.declared.class_files.FormatFault.{FormatFault}
 use Rattle.model.specs.declared.class_files.FormatFault.TheVariants as fault
 use Rattle.pool.specs.Reading.Steps.{◌>>=◌, Gives, number_at}
 use Rattle.pool.specs.Reading.Pools.{pool_from}
 use Rattle.pool.proofs.Steps.{bind_ok, passed_ok, ok_is}
 use Rattle.pool.proofs.FieldLemmas.{IsBytes, Takes, Takes-then, wide16, wide32, number_takes, number_again}
 use Rattle.pool.proofs.PoolLemmas.{pool_takes, pool_again}
-use Rattle.classfile.specs.Reading.Attributes.{Reads}
 use Rattle.classfile.specs.Reading.Fields.{field_from}
 use Rattle.classfile.specs.Reading.Lists.{list_from}
 use Rattle.classfile.specs.Reading.Heads.{opening_from, class_flags_from, class_from, behind_from, head_from}

@@ -1,5 +1,5 @@
 -- What is read one after another is spelled so, and what is spelled so is read.
-use Rattle.std.proofs.Common.{◌≡◌, ℕ, zero, suc, ◌^◌, ◌<◌, List, [], ◌∷◌, ◌++◌, length, Result, Ok, Err, refl, sym, ap, subst, ◌∙◌, append_assoc, arith, w16}
+use Rattle.std.proofs.Common.{◌≡◌, ℕ, zero, suc, List, [], ◌∷◌, ◌++◌, length, Ok, refl, sym, ap, subst, ◌∙◌, append_assoc, arith, w16}
 use Rattle.model.specs.ClassFiles.Numbers.{u2}
 use Rattle.model.specs.ClassFiles.Lists.{SpellsAll}
 use Rattle.model.specs.ClassFiles.Heads.{SpellsList}

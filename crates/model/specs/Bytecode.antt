@@ -6,6 +6,7 @@ use Rattle.model.specs.Bytecode.Operands.{operands}
 use Rattle.model.specs.Bytecode.Ranges.{Fits}
 use Rattle.model.specs.declared.bytecode.Located.{Located}
 use Rattle.model.specs.declared.instructions.Instruction.TheVariants as instruction
+
 pub mod Fields
 pub mod Opcodes
 pub mod Operands

@@ -7,3 +7,6 @@ pub mod Attributes
 pub mod Fields
 pub mod Lists
 pub mod Heads
+pub mod Codes
+pub mod Methods
+pub mod Classes

@@ -1,5 +1,5 @@
 -- Reading attributes, of which some are wanted.
-use Rattle.std.specs.Prelude.{ℕ, zero, suc, Bool, List, [], ◌∷◌, Option, Some, None, Result, Ok, Err, if◌then◌else◌}
+use Rattle.std.specs.Prelude.{ℕ, zero, suc, Bool, List, Option, Some, None, Result, Ok, Err, if◌then◌else◌}
 use Rattle.std.specs.Int.{w16, w32}
 use Rattle.model.specs.ClassFiles.References.{text_at}
 use Rattle.model.specs.declared.class_files.Entry.{Entry}

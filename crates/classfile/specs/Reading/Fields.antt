@@ -1,5 +1,5 @@
 -- Reading fields.
-use Rattle.std.specs.Prelude.{ℕ, zero, suc, Bool, ◌==◌, bit_and, List, [], ◌∷◌, length, Option, Some, None, Result, Ok, Err, if◌then◌else◌}
+use Rattle.std.specs.Prelude.{ℕ, Bool, ◌==◌, List, length, Option, Some, None, Result, Ok, Err, if◌then◌else◌}
 use Rattle.std.specs.Int.{w16, from_be_bytes}
 use Rattle.model.specs.Texts.Names.{is_field_name}
 use Rattle.model.specs.Texts.Descriptors.{is_field_descriptor}

@@ -1,9 +1,8 @@
 -- Reading a class file up to its methods.
-use Rattle.std.specs.Prelude.{ℕ, ◌==◌, List, Result, Ok, Err, if◌then◌else◌}
+use Rattle.std.specs.Prelude.{ℕ, ◌==◌, List, Ok, Err, if◌then◌else◌}
 use Rattle.std.specs.Int.{w16, w32}
 use Rattle.model.specs.ClassFiles.Heads.{HeadPart, are_class_flags, is_class}
 use Rattle.model.specs.declared.class_files.Entry.{Entry}
-use Rattle.model.specs.declared.class_files.FormatFault.{FormatFault}
 use Rattle.model.specs.declared.class_files.FormatFault.TheVariants.{Magic, Version, Index, Flags}
 use Rattle.pool.specs.Reading.Steps.{◌>>=◌, number_at}
 use Rattle.pool.specs.Reading.Pools.{pool_from}
