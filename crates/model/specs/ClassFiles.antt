@@ -5,3 +5,8 @@ pub mod Pools
 pub mod References
 pub mod Attributes
 pub mod Fields
+pub mod Lists
+pub mod Heads
+pub mod Codes
+pub mod Methods
+pub mod Classes

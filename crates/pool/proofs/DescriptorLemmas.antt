@@ -1,5 +1,5 @@
 -- Descriptors, byte by byte.
-use Rattle.std.proofs.Common.{◌≡◌, ℕ, suc, ◌+◌, ◌<◌, ◌≤◌, Bool, true, false, ◌&&◌, not, eqb, cond, List, [], ◌∷◌, ◌++◌, length, get_or, take, drop, ltb, inl, inr, Option, Some, None, refl, sym, ap, ◌∙◌, arith, add-one, drop-cons, length-append}
+use Rattle.std.proofs.Common.{◌≡◌, ℕ, ◌+◌, ◌<◌, Bool, true, false, eqb, List, [], ◌∷◌, ◌++◌, length, get_or, take, drop, ltb, inl, inr, Option, Some, None, refl, sym, ap, ◌∙◌, arith, add-one, drop-cons, length-append}
 use Rattle.std.specs.Prelude.{sum}
 use Rattle.std.specs.Option.{option_map}
 use Rattle.std.specs.List.{position, position_or_len, before_first, after_first}
@@ -7,7 +7,7 @@ use Rattle.std.proofs.lemmas.Option.{cond_some}
 use Rattle.std.proofs.lemmas.Bool.{cases_lt, ltb-true, lt-ltb}
 use Rattle.std.proofs.lemmas.List.{drop_all}
 use Rattle.std.proofs.lemmas.List.Sums.{sum_by-append}
-use Rattle.model.specs.Texts.Descriptors.{Place, type_begins, in_name, nowhere, units_ended, place_after, ends_there, types_from, types_of, is_one}
+use Rattle.model.specs.Texts.Descriptors.{Place, nowhere, units_ended, place_after, types_from, is_one}
 use Rattle.pool.specs.Spots.{tally, tally_if}
 
 -- with so many types and units before

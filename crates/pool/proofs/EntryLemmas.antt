@@ -1,15 +1,12 @@
 -- An entry that is read is the entry that was written, and what was written is read again.
-use Rattle.std.proofs.Common.{◌≡◌, ℕ, zero, suc, ◌+◌, ◌^◌, ◌<◌, ◌≤◌, Bool, true, false, cond, ltb, eqb, List, [], ◌∷◌, ◌++◌, length, Result, Ok, Err, refl, sym, ap, subst, ◌∙◌, append_assoc, arith, inl, inr, ℤ, w16, w32, w64}
-use Rattle.std.specs.Prelude.{IsTrue}
+use Rattle.std.proofs.Common.{◌≡◌, ℕ, ◌^◌, ◌<◌, ◌≤◌, true, cond, ltb, eqb, List, ◌∷◌, ◌++◌, length, Ok, Err, refl, sym, ap, subst, ◌∙◌, append_assoc, arith, inl, inr, w16, w32, w64}
 use Rattle.std.specs.List.{list_all}
-use Rattle.std.specs.Int.{to_be_bytes}
 use Rattle.std.proofs.lemmas.Bool.{eqb-true, ltb-false, le-ltb}
 use Rattle.model.specs.ClassFiles.Numbers.{u2, s4, s8}
 use Rattle.model.specs.ClassFiles.Entries.{entry_bytes, numbers_of, is_text_byte, EntryFits}
 use Rattle.model.specs.declared.class_files.Entry.{Entry}
 use Rattle.model.specs.declared.class_files.Entry.TheVariants.{Utf8, Integer, Long, Class, Fieldref, Methodref, InterfaceMethodref, NameAndType}
-use Rattle.model.specs.declared.class_files.FormatFault.{FormatFault}
-use Rattle.model.specs.declared.class_files.FormatFault.TheVariants.{Index, Name, Tag}
+use Rattle.model.specs.declared.class_files.FormatFault.TheVariants.{Index, Name}
 use Rattle.pool.specs.Reading.Steps.{◌>>=◌, byte_at, number_at, signed_at, taken}
 use Rattle.pool.specs.Reading.Entries.{utf8_from, integer_from, class_from, long_from, pair_from, paired, tagged, entry_from}
 use Rattle.pool.proofs.Steps.{bind_ok, guard_ok, passed_ok, chosen, ok_is}

@@ -1,5 +1,5 @@
 -- Steps of reading, taken apart.
-use Rattle.std.proofs.Common.{◌≡◌, ℕ, Bool, true, false, cond, Option, Some, None, Result, Ok, Err, refl, sym, ap, subst, ◌∙◌, inl, inr, ◌⊎◌}
+use Rattle.std.proofs.Common.{◌≡◌, Bool, true, false, cond, Result, Ok, Err, refl, inl, inr, ◌⊎◌}
 use Rattle.model.specs.declared.class_files.FormatFault.{FormatFault}
 use Rattle.pool.specs.declared.error.ReadError.{ReadError}
 use Rattle.pool.specs.declared.error.ReadError.TheVariants as error

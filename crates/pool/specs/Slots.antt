@@ -1,5 +1,5 @@
 -- What stands under the numbers of a pool, from 0 on.
-use Rattle.std.specs.Prelude.{◌≡◌, ℕ, List, [], ◌∷◌, Option, Some, None}
+use Rattle.std.specs.Prelude.{◌≡◌, List, [], ◌∷◌, Option, Some, None}
 use Rattle.model.specs.ClassFiles.Pools.{slots_of}
 use Rattle.model.specs.declared.class_files.Entry.{Entry}
 

@@ -1,5 +1,5 @@
 -- Where the reading of types stands.
-use Rattle.std.specs.Prelude.{ℕ, ◌+◌, List, length, sum, Option, Some, None}
+use Rattle.std.specs.Prelude.{ℕ, List, length, sum, Option, Some, None}
 use Rattle.std.specs.Option.{option_map}
 use Rattle.model.specs.Texts.Descriptors.{Place, type_begins, in_name, nowhere}
 use Rattle.pool.specs.declared.descriptors.Spot.{Spot}

@@ -1,7 +1,6 @@
 -- Attributes (JVMS 4.7).
-use Rattle.std.specs.Prelude.{◌≡◌, ℕ, ◌^◌, ◌<◌, Bool, true, false, List, [], ◌∷◌, ◌++◌, length, is_some, Option, Some, None}
+use Rattle.std.specs.Prelude.{◌≡◌, ℕ, ◌^◌, ◌<◌, Bool, true, false, List, ◌++◌, length, is_some, Option, Some, None}
 use Rattle.std.specs.List.{flat_map}
-use Rattle.std.specs.Str.{bytes_eq}
 use Rattle.model.specs.ClassFiles.Numbers.{u2, u4}
 use Rattle.model.specs.ClassFiles.References.{text_at}
 use Rattle.model.specs.declared.class_files.Entry.{Entry}

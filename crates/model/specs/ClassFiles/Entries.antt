@@ -1,5 +1,5 @@
 -- Entries of a constant pool as bytes (JVMS 4.4).
-use Rattle.std.specs.Prelude.{ℕ, ◌^◌, ◌<◌, Bool, ◌&&◌, nat_le, List, [], ◌∷◌, ◌++◌, length, IsTrue}
+use Rattle.std.specs.Prelude.{ℕ, ◌^◌, ◌<◌, Bool, ◌&&◌, nat_le, List, ◌∷◌, ◌++◌, length, IsTrue}
 use Rattle.std.specs.List.{list_all}
 use Rattle.std.specs.Int.{w32, w64}
 use Rattle.std.specs.Prelude.{FitsSigned}

@@ -76,3 +76,7 @@ pub record SpellsField (pool : List Entry) (class : ℕ) (bytes : List ℕ) (f :
   pub descriptor_at : text_at pool f.descriptor ≡ Some type
   pub descriptor_is : is_field_descriptor type ≡ true
   pub constant_fits : ConstantsFit pool type f.constant
+
+-- a field's bytes with the attributes that count and no others
+abbrev pub field_bytes : FieldEntry → List ℕ
+field_bytes f = u2 f.flags.0 ++ (u2 f.name ++ (u2 f.descriptor ++ attributes_bytes (constant_attributes f.constant)))

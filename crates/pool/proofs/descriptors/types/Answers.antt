@@ -1,7 +1,7 @@
-use Rattle.std.proofs.Common.{◌≡◌, get_or, drop, arith, refl}
-use Rattle.model.specs.Texts.Descriptors.{types_of, types_from}
+use Rattle.std.proofs.Common.{arith, refl}
+use Rattle.model.specs.Texts.Descriptors.{types_of}
 use Rattle.pool.specs.Spots.{place_of, tally_if}
-use Rattle.pool.proofs.DescriptorLemmas.{more, goes_on, stops}
+use Rattle.pool.proofs.DescriptorLemmas.{goes_on, stops}
 use Rattle.pool.proofs.descriptors.types.Goals as goal
 
 pub returns-in_err-spot : goal.returns-in_err-spot

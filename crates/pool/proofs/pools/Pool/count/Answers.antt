@@ -1,6 +1,4 @@
-use Rattle.std.proofs.Common.{arith, ap, ◌∙◌, Fits}
-use Rattle.pool.specs.Slots.{entries_in}
-use Rattle.model.specs.ClassFiles.Pools.{pool_count}
+use Rattle.std.proofs.Common.{arith}
 use Rattle.pool.proofs.PoolLemmas.{count_is}
 use Rattle.pool.proofs.pools.Pool.count.Goals as goal
 

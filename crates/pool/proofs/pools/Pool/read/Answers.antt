@@ -1,4 +1,4 @@
-use Rattle.std.proofs.Common.{◌≡◌, ap, ◌∙◌, subst, arith}
+use Rattle.std.proofs.Common.{ap, ◌∙◌, subst, arith}
 use Rattle.pool.specs.Reading.Steps.{Gives}
 use Rattle.pool.specs.Reading.Pools.{pool_from}
 use Rattle.pool.proofs.PoolLemmas.{is_found, pool_again}

@@ -1,0 +1,74 @@
+//! Texts and attributes at the front of bytes.
+
+ghost use Rattle.std.specs.Prelude.{◌≡◌};
+ghost use Rattle.model.specs.Texts.Names.{is_field_name as field_name_test};
+ghost use Rattle.model.specs.Texts.Descriptors.{is_field_descriptor as field_descriptor_test};
+ghost use Rattle.pool.specs.Reading.Steps.{Gives};
+ghost use Rattle.classfile.specs.Reading.Attributes.{sized_from, text_from, tested_from};
+
+use model::class_files::FormatFault;
+use pool::descriptors::is_field_descriptor;
+use pool::fields::{bytes_at, u16_at, u32_at};
+use pool::names::is_field_name;
+use pool::{Pool, ReadError};
+
+/// A text of the pool under its number.
+#[derive(Clone, Copy)]
+pub struct Text<'a> {
+    pub number: u16,
+    pub bytes: &'a [u8],
+}
+
+/// The bytes behind their number, and those after them. C3 where they pass the end.
+#[tactic(auto, unfolding(crate::specs::Reading::Attributes::sized_from))]
+pub fn sized_at(bytes: &[u8]) -> Result<(&[u8], &[u8]), ReadError>
+    ensures { Gives (λ x. (x.0.now, x.1.now)) result (sized_from bytes.now) }
+{
+    let (len, rest) = u32_at(bytes)?;
+    bytes_at(len as usize, rest)
+}
+
+/// The text whose number stands at the front of the bytes. C6 where there is none.
+#[tactic(auto, unfolding(crate::specs::Reading::Attributes::text_from))]
+pub fn text_at<'a, 'b>(pool: &'a Pool, bytes: &'b [u8]) -> Result<(Text<'a>, &'b [u8]), ReadError>
+    ensures { Gives (λ x. ((x.0.number, x.0.bytes.now), x.1.now)) result (text_from pool.now bytes.now) }
+{
+    let (number, rest) = u16_at(bytes)?;
+    match pool.text(number) {
+        None => Err(ReadError::Format(FormatFault::Index)),
+        Some(bytes) => Ok((Text { number, bytes }, rest)),
+    }
+}
+
+/// The field's name whose number stands at the front of the bytes. C6 where there is no text, C7 where it is no name.
+#[tactic(auto, unfolding(crate::specs::Reading::Attributes::tested_from))]
+pub fn field_name_at<'a, 'b>(
+    pool: &'a Pool,
+    bytes: &'b [u8],
+) -> Result<(Text<'a>, &'b [u8]), ReadError>
+    ensures { Gives (λ x. ((x.0.number, x.0.bytes.now), x.1.now)) result (tested_from pool.now field_name_test bytes.now) }
+{
+    let (text, rest) = text_at(pool, bytes)?;
+    if is_field_name(text.bytes) {
+        Ok((text, rest))
+    } else {
+        Err(ReadError::Format(FormatFault::Name))
+    }
+}
+
+/// The field's descriptor whose number stands at the front of the bytes. C6 where there is no text, C7 where it is no
+/// descriptor.
+#[tactic(auto, unfolding(crate::specs::Reading::Attributes::tested_from))]
+pub fn field_type_at<'a, 'b>(
+    pool: &'a Pool,
+    bytes: &'b [u8],
+) -> Result<(Text<'a>, &'b [u8]), ReadError>
+    ensures { Gives (λ x. ((x.0.number, x.0.bytes.now), x.1.now)) result (tested_from pool.now field_descriptor_test bytes.now) }
+{
+    let (text, rest) = text_at(pool, bytes)?;
+    if is_field_descriptor(text.bytes) {
+        Ok((text, rest))
+    } else {
+        Err(ReadError::Format(FormatFault::Name))
+    }
+}

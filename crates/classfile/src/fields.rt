@@ -1,0 +1,206 @@
+//! Fields of a class file.
+
+ghost use Rattle.std.specs.Prelude.{◌≡◌, ◌++◌, None, OnOk};
+ghost use Rattle.std.specs.Option.{option_copied};
+ghost use Rattle.model.specs.Texts.Flags.{has};
+ghost use Rattle.model.specs.ClassFiles.Fields as definition;
+ghost use Rattle.model.specs.ClassFiles.Fields.{field_bytes};
+ghost use Rattle.pool.specs.Reading.Steps.{Gives};
+ghost use Rattle.classfile.specs.Reading.Attributes.{attribute_from, attributes_from};
+ghost use Rattle.classfile.specs.Reading.Fields.{value_of, constant_from, constants_from, field_flags_from, field_from};
+
+use crate::attributes::{field_name_at, field_type_at, sized_at, text_at};
+use bitflags::Flags;
+use model::class_files::{ConstantValue, Entry, FieldEntry, FormatFault};
+use model::flags::FieldFlags;
+use pool::fields::u16_at;
+use pool::{Pool, ReadError};
+use std::alloc::AllocError;
+
+const STATIC: u16 = 0x0008;
+
+const INTERFACE: u16 = 0x0200;
+
+/// Whether a field may have these flags in a class of those.
+fn are_field_flags(class: u16, flags: u16) -> bool
+    ensures { result ≡ definition.are_field_flags class flags }
+{
+    flags & 0xff20 == 0 && (class & INTERFACE == 0 || flags & 0x0019 == 0x0019)
+}
+
+/// Whether an int holds the values of this type.
+fn is_int_type(text: &[u8]) -> bool
+    ensures { result ≡ definition.is_int_type text.now }
+{
+    text == b"B".as_slice()
+        || text == b"C".as_slice()
+        || text == b"S".as_slice()
+        || text == b"I".as_slice()
+}
+
+/// Whether an entry may be the value of a field of this type.
+fn is_value_of(text: &[u8], entry: Option<&Entry>) -> bool
+    ensures { result ≡ definition.is_value_of text.now (option_copied entry.entry) }
+{
+    match entry {
+        Some(Entry::Integer(_)) => is_int_type(text),
+        Some(Entry::Long(_)) => text == b"J".as_slice(),
+        _ => false,
+    }
+}
+
+/// The number in the bytes of a ConstantValue. C8 where they aren't two, C6 where it is the number of an entry of another
+/// kind than the field's type wants.
+#[tactic(auto, unfolding(crate::specs::Reading::Fields::value_of))]
+fn value_in(pool: &Pool, text: &[u8], info: &[u8]) -> Result<u16, ReadError>
+    ensures { Gives (λ x. x) result (value_of pool.now text.now info.now) }
+{
+    if info.len() != 2 {
+        return Err(ReadError::Format(FormatFault::Attribute));
+    }
+    let value = u16::from_be_bytes([info[0], info[1]]);
+    if is_value_of(text, pool.entry(value)) {
+        Ok(value)
+    } else {
+        Err(ReadError::Format(FormatFault::Index))
+    }
+}
+
+/// A ConstantValue behind its name. C8 where one was found before.
+#[tactic(auto, unfolding(crate::specs::Reading::Fields::constant_from))]
+fn constant_of<'a>(
+    pool: &Pool,
+    text: &[u8],
+    before: Option<ConstantValue>,
+    name: u16,
+    bytes: &'a [u8],
+) -> Result<(Option<ConstantValue>, &'a [u8]), ReadError>
+    ensures { Gives (λ x. (x.0, x.1.now)) result (constant_from pool.now text.now before name bytes.now) }
+{
+    if before.is_some() {
+        return Err(ReadError::Format(FormatFault::Attribute));
+    }
+    let (info, rest) = sized_at(bytes)?;
+    let value = value_in(pool, text, info)?;
+    Ok((Some(ConstantValue { name, value }), rest))
+}
+
+/// The flags of a field in a class of these flags. C11 where they don't go together.
+#[tactic(auto, unfolding(crate::specs::Reading::Fields::field_flags_from))]
+fn field_flags_at(class: u16, bytes: &[u8]) -> Result<(u16, &[u8]), ReadError>
+    ensures { Gives (λ x. (x.0, x.1.now)) result (field_flags_from class bytes.now) }
+{
+    let (flags, rest) = u16_at(bytes)?;
+    if are_field_flags(class, flags) {
+        Ok((flags, rest))
+    } else {
+        Err(ReadError::Format(FormatFault::Flags))
+    }
+}
+
+/// Whether an attribute of this name counts: a static field's ConstantValue.
+fn is_constant_value(is_static: bool, text: &[u8]) -> bool
+    ensures { result ≡ definition.is_constant_value is_static text.now }
+{
+    is_static && text == b"ConstantValue".as_slice()
+}
+
+/// An attribute of a field: a static field's ConstantValue is taken, all others are skipped.
+#[tactic(auto, unfolding(crate::specs::Reading::Attributes::attribute_from))]
+fn attribute_of<'a>(
+    pool: &Pool,
+    is_static: bool,
+    text: &[u8],
+    before: Option<ConstantValue>,
+    bytes: &'a [u8],
+) -> Result<(Option<ConstantValue>, &'a [u8]), ReadError>
+    ensures { Gives (λ x. (x.0, x.1.now)) result (attribute_from pool.now (definition.is_constant_value is_static) (constant_from pool.now text.now) before bytes.now) }
+{
+    let (name, rest) = text_at(pool, bytes)?;
+    if is_constant_value(is_static, name.bytes) {
+        constant_of(pool, text, before, name.number, rest)
+    } else {
+        let (_, rest) = sized_at(rest)?;
+        Ok((before, rest))
+    }
+}
+
+/// So many attributes of a field.
+fn attributes_of<'a>(
+    pool: &Pool,
+    is_static: bool,
+    text: &[u8],
+    count: u16,
+    bytes: &'a [u8],
+) -> Result<(Option<ConstantValue>, &'a [u8]), ReadError>
+    ensures { Gives (λ x. (x.0, x.1.now)) result (attributes_from pool.now (definition.is_constant_value is_static) (constant_from pool.now text.now) count None bytes.now) }
+{
+    let mut found = None;
+    let mut rest = bytes;
+    for _ in 0..count {
+        let (constant, after) = attribute_of(pool, is_static, text, found, rest)?;
+        found = constant;
+        rest = after;
+    }
+    Ok((found, rest))
+}
+
+/// A field's attributes behind their count.
+#[tactic(auto, unfolding(crate::specs::Reading::Fields::constants_from))]
+fn constants_of<'a>(
+    pool: &Pool,
+    is_static: bool,
+    text: &[u8],
+    bytes: &'a [u8],
+) -> Result<(Option<ConstantValue>, &'a [u8]), ReadError>
+    ensures { Gives (λ x. (x.0, x.1.now)) result (constants_from pool.now is_static text.now bytes.now) }
+{
+    let (count, rest) = u16_at(bytes)?;
+    attributes_of(pool, is_static, text, count, rest)
+}
+
+/// Whether a flag is among flags.
+fn is_static(flags: u16) -> bool
+    ensures { result ≡ has flags 8 }
+{
+    flags & STATIC != 0
+}
+
+#[tactic(auto, unfolding(crate::specs::Reading::Fields::field_from))]
+pub fn field_of<'a>(
+    pool: &Pool,
+    class: u16,
+    bytes: &'a [u8],
+) -> Result<(FieldEntry, &'a [u8]), ReadError>
+    ensures { Gives (λ x. (x.0, x.1.now)) result (field_from pool.now class bytes.now) }
+{
+    let (flags, rest) = field_flags_at(class, bytes)?;
+    let (name, rest) = field_name_at(pool, rest)?;
+    let (descriptor, rest) = field_type_at(pool, rest)?;
+    let (constant, rest) = constants_of(pool, is_static(flags), descriptor.bytes, rest)?;
+    let field = FieldEntry {
+        flags: FieldFlags::from_bits_retain(flags),
+        name: name.number,
+        descriptor: descriptor.number,
+        constant,
+    };
+    Ok((field, rest))
+}
+
+/// Writes a field at the end, with its ConstantValue and no other attribute.
+pub fn put_field(out: &mut Vec<u8>, field: &FieldEntry) -> Result<(), AllocError>
+    ensures { OnOk result (out.new.items ≡ out.old.items ++ field_bytes field.now) }
+{
+    out.extend_from_slice(&field.flags.bits().to_be_bytes())?;
+    out.extend_from_slice(&field.name.to_be_bytes())?;
+    out.extend_from_slice(&field.descriptor.to_be_bytes())?;
+    match field.constant {
+        None => out.extend_from_slice(&[0, 0]),
+        Some(constant) => {
+            out.extend_from_slice(&[0, 1])?;
+            out.extend_from_slice(&constant.name.to_be_bytes())?;
+            out.extend_from_slice(&[0, 0, 0, 2])?;
+            out.extend_from_slice(&constant.value.to_be_bytes())
+        }
+    }
+}

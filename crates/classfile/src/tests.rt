@@ -1,0 +1,104 @@
+use super::*;
+use model::class_files::FormatFault;
+use pool::ReadError;
+use std::alloc::Global;
+use std::test::*;
+
+/// A class E over java/lang/Object with the method `public static main()V`, whose code is one return.
+const E: [u8; 100] = [
+    0xca, 0xfe, 0xba, 0xbe, 0, 0, 0, 49, 0, 8, 1, 0, 1, b'E', 7, 0, 1, 1, 0, 16, b'j', b'a', b'v',
+    b'a', b'/', b'l', b'a', b'n', b'g', b'/', b'O', b'b', b'j', b'e', b'c', b't', 7, 0, 3, 1, 0, 4,
+    b'm', b'a', b'i', b'n', 1, 0, 3, b'(', b')', b'V', 1, 0, 4, b'C', b'o', b'd', b'e', 0, 0x21, 0,
+    2, 0, 4, 0, 0, 0, 0, 0, 1, 0, 9, 0, 5, 0, 6, 0, 1, 0, 7, 0, 0, 0, 13, 0, 0, 0, 0, 0, 0, 0, 1,
+    0xb1, 0, 0, 0, 0, 0, 0,
+];
+
+fn fault(rt: &impl Alloc<A = Global>, bytes: &[u8]) -> Option<FormatFault> {
+    match ClassHead::read(rt.alloc(), bytes) {
+        Err(ReadError::Format(fault)) => Some(fault),
+        _ => None,
+    }
+}
+
+#[test]
+fn the_head_of_e(rt: HostRuntime) -> Result<(), Fail> {
+    let (head, rest) = ClassHead::read(rt.alloc(), &E)?;
+    assert_eq!(rt; E.get(69..), Some(rest));
+    let mut written = Vec::new(rt.alloc());
+    head.write(&mut written)?;
+    assert_eq!(rt; E.get(..69), Some(written.as_slice()));
+    one_head();
+    Ok(())
+}
+
+#[test]
+fn heads_that_are_cut(rt: HostRuntime) {
+    for len in 0..69usize {
+        let Some(front) = E.get(..len) else {
+            return;
+        };
+        assert_eq!(rt; fault(&rt, front), Some(FormatFault::Short));
+    }
+}
+
+/// E with another byte at a place.
+fn changed(rt: &impl Alloc<A = Global>, place: usize, byte: u8) -> Option<FormatFault> {
+    let mut bytes = E;
+    if let Some(old) = bytes.get_mut(place) {
+        *old = byte;
+    }
+    fault(rt, &bytes)
+}
+
+#[test]
+fn changed_bytes(rt: HostRuntime) {
+    assert_eq!(rt; changed(&rt, 0, 0), Some(FormatFault::Magic));
+    assert_eq!(rt; changed(&rt, 5, 1), Some(FormatFault::Version));
+    assert_eq!(rt; changed(&rt, 7, 0), Some(FormatFault::Version));
+    assert_eq!(rt; changed(&rt, 9, 0), Some(FormatFault::Index));
+    assert_eq!(rt; changed(&rt, 9, 0xff), Some(FormatFault::Tag));
+    // final and abstract, an interface that isn't abstract, and a bit that no class has
+    assert_eq!(rt; changed(&rt, 59, 0x04), None);
+    assert_eq!(rt; changed(&rt, 59, 0x02), Some(FormatFault::Flags));
+    assert_eq!(rt; changed(&rt, 60, 0x02), Some(FormatFault::Flags));
+    // no superclass, and one that is a text
+    assert_eq!(rt; changed(&rt, 64, 0), Some(FormatFault::Index));
+    assert_eq!(rt; changed(&rt, 64, 3), Some(FormatFault::Index));
+}
+
+/// A class A over Object with one field `x I`, static or not, which is deprecated and has a value.
+fn one_field(flags: u8, length: u8, value: u8) -> [u8; 112] {
+    [
+        0xca, 0xfe, 0xba, 0xbe, 0, 0, 0, 49, 0, 10, 1, 0, 1, b'A', 7, 0, 1, 1, 0, 1, b'O', 7, 0, 3,
+        1, 0, 1, b'x', 1, 0, 1, b'I', 1, 0, 13, b'C', b'o', b'n', b's', b't', b'a', b'n', b't',
+        b'V', b'a', b'l', b'u', b'e', 3, 0, 0, 0, 7, 1, 0, 10, b'D', b'e', b'p', b'r', b'e', b'c',
+        b'a', b't', b'e', b'd', 0, 0x21, 0, 2, 0, 4, 0, 0, 0, 1, 0, flags, 0, 5, 0, 6, 0, 2, 0, 9,
+        0, 0, 0, 0, 0, 7, 0, 0, 0, length, 0, value, 0, 0, 0, 0, 0, 0, 0, 0, 0, 0, 0, 0, 0, 0,
+    ]
+}
+
+#[test]
+fn fields(rt: HostRuntime) -> Result<(), Fail> {
+    let bytes = one_field(8, 2, 8);
+    let (head, rest) = ClassHead::read(rt.alloc(), &bytes)?;
+    assert_eq!(rt; rest.len(), 14);
+    let mut written = Vec::new(rt.alloc());
+    head.write(&mut written)?;
+    // the attribute Deprecated is left out, and the count of attributes is one less
+    assert_eq!(rt; written.len(), 92);
+    assert_eq!(rt; written.get(83).copied(), Some(1));
+    let (_, nothing) = ClassHead::read(rt.alloc(), &written)?;
+    assert!(rt; nothing.is_empty());
+    // another length, a value that is a class, a field that isn't static, and a bit that no field has
+    assert_eq!(rt;
+        fault(&rt, &one_field(8, 3, 8)),
+        Some(FormatFault::Attribute)
+    );
+    assert_eq!(rt; fault(&rt, &one_field(8, 2, 2)), Some(FormatFault::Index));
+    assert_eq!(rt; fault(&rt, &one_field(0, 2, 2)), None);
+    assert_eq!(rt;
+        fault(&rt, &one_field(0x28, 2, 8)),
+        Some(FormatFault::Flags)
+    );
+    Ok(())
+}
