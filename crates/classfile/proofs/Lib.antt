@@ -1,6 +1,6 @@
-pub mod AttributeLoops
 pub mod AttributeLemmas
+pub mod AttributeLoops
 pub mod FieldLaws
-pub mod ListLoops
-pub mod ListLaws
 pub mod HeadLaws
+pub mod ListLaws
+pub mod ListLoops
