@@ -23,5 +23,5 @@ pub opening_shown : (program : List ClassListing) (limits : Limits) (place : Met
 opening_shown program limits place locals stack frames states output main found entered done empty =
     let placed : main.place ≡ place = cc (main.place_is, found) in
     let open_is : opening_frames program (main_in program) ≡ opening_frame place locals stack ∷ [] =
-      framed program main.place main.code main.place_is main.code_is ∙ rw (placed, main.locals_are, main.stack_is) refl in
+    framed program main.place main.code main.place_is main.code_is ∙ rw (placed, main.locals_are, main.stack_is) refl in
     rw (entered, done, empty, states-replicate program, sym open_is) refl

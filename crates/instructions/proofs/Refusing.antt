@@ -46,5 +46,5 @@ allowed s t e =
       faultless = none;
       counted = leb-false s.limits.steps s.world.rows steps.0;
       live = second_holds (is_none s.world.fault) (is_live s.world t) ready.0;
-      fits = fits s.limits.output s.world.output (print_of s.program s.world t) ready.1
+      fits = fits s.limits.output s.world.output (print_of s.program s.world t) ready.1;
     }

@@ -31,7 +31,6 @@ use Rattle.instructions.specs.Acting.{Parts, moved_in, printed_in, acted, acted_
 use Rattle.instructions.specs.Loaded.{world_shown, world_after}
 
 module _ (program : List ClassListing) (f : Frame) (states : List ClassState) (output : List ℕ) (rows : ℕ) where
-
   abbrev pub w : World
   w = world_shown false (f ∷ []) states output None rows
 

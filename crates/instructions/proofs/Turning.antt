@@ -90,7 +90,6 @@ RunsOn program (Ok parts) = RunsMainUnlessEnded program parts.ended parts.frames
 RunsOn program (Err fault) = Unit {0}
 
 module _ (program : List ClassListing) (f : Frame) (main_is : main_in program ≡ Some f.method) where
-
   moved_runs : (output : List ℕ) (r : Result Moved Abrupt) → KeepsMethod f r → RunsOn program (moved_in (f ∷ []) output r)
   moved_runs output (Ok moved) e = record { frame = moved.frame; alone = refl; main_is = main_is ∙ ap Some (sym e) }
   moved_runs output (Err abrupt) e = tt
@@ -112,7 +111,6 @@ module _ (program : List ClassListing) (f : Frame) (main_is : main_in program �
   acted_at_runs output (Some step) = acted_runs output step.next step.action
 
 module _ (program : List ClassListing) (limits : Limits) (states : List ClassState) (output : List ℕ) (rows capacity : ℕ) where
-
   abbrev state : Bool → List Frame → Option (Fault × ℕ) → Loaded
   state ended frames fault = record { program = program; limits = limits; world = world_shown ended frames states output fault rows }
 
@@ -137,12 +135,13 @@ module _ (program : List ClassListing) (limits : Limits) (states : List ClassSta
         main_is = main.main_is;
         faultless = may.faultless;
         counted = may.counted;
-        fits = within main.frame (subst (λ (o : Option (List ℕ)). IfSome o (λ line. length output + length line ≤ limits.output)) (printed_alike main.frame) fits_here) main.alone
+        fits = within main.frame (subst (λ (o : Option (List ℕ)). IfSome o (λ line. length output + length line ≤ limits.output)) (printed_alike main.frame) fits_here) main.alone;
       }
     where
       room_for : (o : Option (List ℕ)) → limits.output ≤ capacity → IfSome o (λ line. length output + length line ≤ limits.output) → IfSome o (λ line. length output + length line ≤ capacity)
       room_for None room h = tt
       room_for (Some line) room h = omega arith
+
       within : (f : Frame) → IfSome (printed_at (f ∷ []) (standing program f)) (λ line. length output + length line ≤ limits.output) → frames ≡ f ∷ [] → IfSome (printed_at frames (standing program (running_frame frames))) (λ line. length output + length line ≤ capacity)
       within f h alone = subst (λ (fs : List Frame). IfSome (printed_at fs (standing program (running_frame fs))) (λ line. length output + length line ≤ capacity)) (sym alone) (room_for (printed_at (f ∷ []) (standing program f)) room h)
 
@@ -150,7 +149,7 @@ module _ (program : List ClassListing) (limits : Limits) (states : List ClassSta
   pub done_runs : (frames : List Frame) (fault : Option (Fault × ℕ)) (t : ℕ) (ended after_ended : Bool) (after_frames : List Frame) (after_output : List ℕ) → IsGoing program limits ended frames output fault rows capacity t → told_parts (Ok after_ended) after_frames after_output ≡ acted_at frames output (standing program (running_frame frames)) → RunsMainUnlessEnded program after_ended after_frames
   done_runs frames fault t ended after_ended after_frames after_output g e =
       let here : told_parts (Ok after_ended) after_frames after_output ≡ acted_at (g.frame ∷ []) output (standing program g.frame) =
-        e ∙ ap (λ (fs : List Frame). acted_at fs output (standing program (running_frame fs))) g.alone in
+      e ∙ ap (λ (fs : List Frame). acted_at fs output (standing program (running_frame fs))) g.alone in
       subst (RunsOn program) (sym here) (acted_at_runs program g.frame g.main_is output (standing program g.frame))
 
   turned : (f : Frame) → (state false (f ∷ []) None).world ≡ world_shown false (f ∷ []) states output None rows
@@ -167,7 +166,7 @@ module _ (program : List ClassListing) (limits : Limits) (states : List ClassSta
   pub done_shown : (frames : List Frame) (fault : Option (Fault × ℕ)) (t : ℕ) (ended after_ended : Bool) (after_frames : List Frame) (after_output : List ℕ) → IsGoing program limits ended frames output fault rows capacity t → told_parts (Ok after_ended) after_frames after_output ≡ acted_at frames output (standing program (running_frame frames)) → record { program = program; limits = limits; world = world_shown after_ended after_frames states after_output fault (rows + 1) } ≡ after_step (record { program = program; limits = limits; world = world_shown ended frames states output fault rows }) t
   done_shown frames fault t ended after_ended after_frames after_output g e =
       let here : told_parts (Ok after_ended) after_frames after_output ≡ acted_at (g.frame ∷ []) output (standing program g.frame) =
-        e ∙ ap (λ (fs : List Frame). acted_at fs output (standing program (running_frame fs))) g.alone in
+      e ∙ ap (λ (fs : List Frame). acted_at fs output (standing program (running_frame fs))) g.alone in
       ap (λ (o : Option (Fault × ℕ)). let s : Loaded = record { program = program; limits = limits; world = world_shown after_ended after_frames states after_output o (rows + 1) } in s) g.faultless
       ∙ ap (λ (r : Result Parts Fault). let s : Loaded = record { program = program; limits = limits; world = counted (world_after (world_shown false (g.frame ∷ []) states output None rows) r) } in s) here
       ∙ sym (after_of g.frame) ∙ sym (state_is ended frames fault t g)
@@ -175,7 +174,7 @@ module _ (program : List ClassListing) (limits : Limits) (states : List ClassSta
   pub fault_shown : (frames : List Frame) (fault : Option (Fault × ℕ)) (t : ℕ) (ended : Bool) (kind : Fault) (after_frames : List Frame) (after_output : List ℕ) → IsGoing program limits ended frames output fault rows capacity t → told_parts (Err kind) after_frames after_output ≡ acted_at frames output (standing program (running_frame frames)) → record { program = program; limits = limits; world = world_shown ended frames states output (Some (kind, t)) (rows + 1) } ≡ after_step (record { program = program; limits = limits; world = world_shown ended frames states output fault rows }) t
   fault_shown frames fault t ended kind after_frames after_output g e =
       let here : told_parts (Err kind) after_frames after_output ≡ acted_at (g.frame ∷ []) output (standing program g.frame) =
-        e ∙ ap (λ (fs : List Frame). acted_at fs output (standing program (running_frame fs))) g.alone in
+      e ∙ ap (λ (fs : List Frame). acted_at fs output (standing program (running_frame fs))) g.alone in
       let parts : world_shown ended frames states output (Some (kind, t)) (rows + 1) ≡ world_shown false (g.frame ∷ []) states output (Some (kind, 0)) (rows + 1) = rw (g.lives, g.alone, g.first) refl in
       ap (λ (w : World). let s : Loaded = record { program = program; limits = limits; world = w } in s) parts
       ∙ ap (λ (r : Result Parts Fault). let s : Loaded = record { program = program; limits = limits; world = counted (world_after (world_shown false (g.frame ∷ []) states output None rows) r) } in s) here

@@ -38,7 +38,7 @@ world_shown ended frames states output fault rows = record {
   output = output;
   objects = opening_objects;
   fault = fault;
-  rows = rows
+  rows = rows;
 }
 
 -- the thread runs main

@@ -21,34 +21,55 @@ pub struct Ending {
 impl Ending {
     /// A good end.
     fn good() -> Ending {
-        Ending { status: 0, line: None }
+        Ending {
+            status: 0,
+            line: None,
+        }
     }
 
     /// This status and this line; `jvm: memory` where there is no memory for the line.
     fn told(status: u8, line: Result<String, AllocError>) -> Ending {
         match line {
-            Ok(line) => Ending { status, line: Some(line) },
+            Ok(line) => Ending {
+                status,
+                line: Some(line),
+            },
             Err(_) => Ending::memory(),
         }
     }
 
     /// Memory ran out: status 6.
     fn memory() -> Ending {
-        Ending { status: 6, line: None }
+        Ending {
+            status: 6,
+            line: None,
+        }
     }
 }
 
 /// The heap of some options. So far no object is made: any cell of another size makes a shape that no world has (P1).
 fn shape_of(options: &RunOptions) -> HeapShape {
     if options.medium == 0 && options.large == 0 {
-        HeapShape { small: options.small, medium: 0, large: 0 }
+        HeapShape {
+            small: options.small,
+            medium: 0,
+            large: 0,
+        }
     } else {
-        HeapShape { small: 0, medium: 0, large: 0 }
+        HeapShape {
+            small: 0,
+            medium: 0,
+            large: 0,
+        }
     }
 }
 
 /// The files' bytes, in order.
-fn read_all<F: Files>(alloc: Global, files: &mut F, names: &[String]) -> Result<Vec<Vec<u8>>, Ending> {
+fn read_all<F: Files>(
+    alloc: Global,
+    files: &mut F,
+    names: &[String],
+) -> Result<Vec<Vec<u8>>, Ending> {
     let mut sources = Vec::new(alloc);
     for name in names {
         match files.read(alloc, name.as_str()) {
@@ -132,7 +153,10 @@ fn launched<F: Files>(alloc: Global, options: &RunOptions, files: &mut F) -> Res
         Ok(sources) => sources,
         Err(ending) => return Err(ending),
     };
-    let limits = Limits { steps: options.steps, output: options.output };
+    let limits = Limits {
+        steps: options.steps,
+        output: options.output,
+    };
     match launch(alloc, sources, shape_of(options), limits, &[]) {
         Ok(world) => Ok(world),
         Err(error) => Err(refused(alloc, names, &error)),
@@ -140,7 +164,12 @@ fn launched<F: Files>(alloc: Global, options: &RunOptions, files: &mut F) -> Res
 }
 
 /// Runs a program and writes its output.
-fn run<F: Files, W: Write>(alloc: Global, options: &RunOptions, files: &mut F, output: &mut W) -> Ending {
+fn run<F: Files, W: Write>(
+    alloc: Global,
+    options: &RunOptions,
+    files: &mut F,
+    output: &mut W,
+) -> Ending {
     match launched(alloc, options, files) {
         Ok(mut world) => {
             carry_on(&mut world);
@@ -167,7 +196,13 @@ fn tell<E: Write>(errors: &mut E, ending: &Ending) {
 
 /// Does what a command says with files, standard output and standard error, and answers the exit status: 0 where all threads
 /// ended, 2 refused input, 3 a fault, 4 a limit, 5 stuck, 6 memory or a file that can't be read or written.
-pub fn execute<F: Files, W: Write, E: Write>(alloc: Global, command: &Command, files: &mut F, output: &mut W, errors: &mut E) -> u8 {
+pub fn execute<F: Files, W: Write, E: Write>(
+    alloc: Global,
+    command: &Command,
+    files: &mut F,
+    output: &mut W,
+    errors: &mut E,
+) -> u8 {
     let ending = match command {
         Command::Run(options) => run(alloc, options, files, output),
     };

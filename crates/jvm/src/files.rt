@@ -1,9 +1,8 @@
 //! Files by name.
 
 use std::alloc::Global;
-use std::fs;
 use std::io::ErrorKind;
-use std::rt;
+use std::{fs, rt};
 
 /// Why a file was not read.
 #[derive(Clone, Copy, Debug, PartialEq, Eq)]

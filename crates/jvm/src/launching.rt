@@ -74,7 +74,13 @@ fn read_sources(alloc: Global, sources: &[Vec<u8>]) -> Result<Vec<Listing>, Laun
 ///
 /// The first of these refusals that is met is told: a source that isn't in the text relation or doesn't assemble, by its
 /// place; the first rule that the listings break; P1 and P2. Want of memory may come in place of any.
-pub fn launch(alloc: Global, sources: Vec<Vec<u8>>, shape: HeapShape, limits: Limits, actors: &[Actor]) -> Result<World, LaunchError>
+pub fn launch(
+    alloc: Global,
+    sources: Vec<Vec<u8>>,
+    shape: HeapShape,
+    limits: Limits,
+    actors: &[Actor],
+) -> Result<World, LaunchError>
     ensures launched { IfOk result (IsLaunched (texts_of sources.items) shape limits actors.now) }
     ensures refused { IfErr result (Excuses (texts_of sources.items) shape limits) }
 {

@@ -11,10 +11,9 @@ mod tests;
 use crate::executing::execute;
 use crate::files::SystemFiles;
 use crate::options::{LineError, options};
-use std::env;
-use std::io;
 use std::io::Write;
 use std::process::ExitCode;
+use std::{env, io};
 
 /// The status of a command line that stands for no command; what there is to say is said.
 fn refused(rt: &HostRuntime, error: &LineError) -> io::Result<u8> {

@@ -52,13 +52,20 @@ impl<T: Drop> From<AllocFailed<T>> for LineError {
 }
 
 /// An option of a number.
-fn number<'a>(alloc: Global, name: &'a str, default: &'a str, help: &'a str) -> Result<Arg<'a>, AllocError> {
-    Ok(Arg::new(alloc, name)
-        .long(name)
-        .value_name("N")
-        .value_parser(value_parser!(u32))
-        .default_value(default)
-        .help(help))
+fn number<'a>(
+    alloc: Global,
+    name: &'a str,
+    default: &'a str,
+    help: &'a str,
+) -> Result<Arg<'a>, AllocError> {
+    Ok(
+        Arg::new(alloc, name)
+            .long(name)
+            .value_name("N")
+            .value_parser(value_parser!(u32))
+            .default_value(default)
+            .help(help),
+    )
 }
 
 /// The words that clap reads: `jvm run` and its options.
@@ -74,8 +81,18 @@ fn line<'a>(alloc: Global) -> Result<Line<'a>, AllocError> {
         .arg(number(alloc, "large", "0", "cells of 256 words")?)?
         .arg(number(alloc, "steps", "1000000", "turns that may be made")?)?
         .arg(number(alloc, "output", "65536", "bytes that may be printed")?)?
-        .arg(number(alloc, "gc", "0", "collector turns after a thread's turn (0 so far)")?)?
-        .arg(number(alloc, "carriers", "1", "threads that carry turns (1 so far)")?)?
+        .arg(number(
+            alloc,
+            "gc",
+            "0",
+            "collector turns after a thread's turn (0 so far)",
+        )?)?
+        .arg(number(
+            alloc,
+            "carriers",
+            "1",
+            "threads that carry turns (1 so far)",
+        )?)?
         .arg(files)?;
     Line::new(alloc, "jvm")
         .about("A small Java virtual machine with an on-the-fly collector")

@@ -26,7 +26,15 @@ impl Files for OneFile<'_> {
 }
 
 /// Runs `jvm` with these words behind its name on one file `a.j`, and compares the status and what is written.
-fn check(rt: &impl Abort, alloc: Global, words: &[&str], text: &[u8], status: u8, output: &[u8], errors: &[u8]) -> Result<(), Fail> {
+fn check(
+    rt: &impl Abort,
+    alloc: Global,
+    words: &[&str],
+    text: &[u8],
+    status: u8,
+    output: &[u8],
+    errors: &[u8],
+) -> Result<(), Fail> {
     let mut files = OneFile { name: "a.j", text };
     let mut line = Vec::new(alloc);
     line.push("jvm")?;
@@ -41,24 +49,77 @@ fn check(rt: &impl Abort, alloc: Global, words: &[&str], text: &[u8], status: u8
     Ok(())
 }
 
-const EMPTY_MAIN: &[u8] = b".class public E\n.super java/lang/Object\n.method public static main()V\n.limit stack 0\n.limit locals 0\nreturn\n.end method\n";
-const SUM: &[u8] = b".class public A\n.super java/lang/Object\n.method public static main()V\n.limit stack 2\n.limit locals 0\nldc 2147483647\niconst_1\niadd\ninvokestatic vm/Sys/print(I)V\nreturn\n.end method\n";
-const MISSING_OPERAND: &[u8] = b".class A\n.super java/lang/Object\n.method static main()V\n.limit stack 2\n.limit locals 0\niconst_1\niadd\n.end method\n";
+const EMPTY_MAIN: &[u8] =
+    b".class public E\n.super java/lang/Object\n.method public static main()V\n.limit stack 0\n.limit locals 0\nreturn\n.end method\n";
+
+const SUM: &[u8] =
+    b".class public A\n.super java/lang/Object\n.method public static main()V\n.limit stack 2\n.limit locals 0\nldc 2147483647\niconst_1\niadd\ninvokestatic vm/Sys/print(I)V\nreturn\n.end method\n";
+
+const MISSING_OPERAND: &[u8] =
+    b".class A\n.super java/lang/Object\n.method static main()V\n.limit stack 2\n.limit locals 0\niconst_1\niadd\n.end method\n";
 
 #[test]
 fn the_empty_main_ends(rt: HostRuntime) -> Result<(), Fail> {
-    check(&rt, rt.alloc(), ["run", "--small", "2", "a.j"].as_slice(), EMPTY_MAIN, 0, b"", b"")
+    check(
+        &rt,
+        rt.alloc(),
+        ["run", "--small", "2", "a.j"].as_slice(),
+        EMPTY_MAIN,
+        0,
+        b"",
+        b"",
+    )
 }
 
 #[test]
 fn a_sum_wraps(rt: HostRuntime) -> Result<(), Fail> {
-    check(&rt, rt.alloc(), ["run", "a.j"].as_slice(), SUM, 0, b"-2147483648\n", b"")?;
-    check(&rt, rt.alloc(), ["run", "--output", "12", "a.j"].as_slice(), SUM, 0, b"-2147483648\n", b"")?;
-    check(&rt, rt.alloc(), ["run", "--output", "11", "a.j"].as_slice(), SUM, 4, b"", b"jvm: output limit\n")?;
-    check(&rt, rt.alloc(), ["run", "--steps", "3", "a.j"].as_slice(), SUM, 4, b"", b"jvm: step limit\n")
+    check(
+        &rt,
+        rt.alloc(),
+        ["run", "a.j"].as_slice(),
+        SUM,
+        0,
+        b"-2147483648\n",
+        b"",
+    )?;
+    check(
+        &rt,
+        rt.alloc(),
+        ["run", "--output", "12", "a.j"].as_slice(),
+        SUM,
+        0,
+        b"-2147483648\n",
+        b"",
+    )?;
+    check(
+        &rt,
+        rt.alloc(),
+        ["run", "--output", "11", "a.j"].as_slice(),
+        SUM,
+        4,
+        b"",
+        b"jvm: output limit\n",
+    )?;
+    check(
+        &rt,
+        rt.alloc(),
+        ["run", "--steps", "3", "a.j"].as_slice(),
+        SUM,
+        4,
+        b"",
+        b"jvm: step limit\n",
+    )
 }
 
 #[test]
 fn a_fault_is_told(rt: HostRuntime) -> Result<(), Fail> {
-    check(&rt, rt.alloc(), ["run", "a.j"].as_slice(), MISSING_OPERAND, 3, b"", b"jvm: fault F1 in thread 0\n")
+    check(
+        &rt,
+        rt.alloc(),
+        ["run", "a.j"].as_slice(),
+        MISSING_OPERAND,
+        3,
+        b"",
+        b"jvm: fault F1 in thread 0\n",
+    )
 }

@@ -87,10 +87,10 @@ is_print : (m : Member) → (bytes_eq m.class (codes "vm/Sys") && bytes_eq m.nam
 is_print m h =
     let first = and-left (bytes_eq m.class (codes "vm/Sys") && bytes_eq m.name (codes "print")) (bytes_eq m.descriptor (codes "(I)V")) h in
     member_made m.class m.name m.descriptor
-        ((bytes_eq-Decides m.class (codes "vm/Sys")).0 (and-left (bytes_eq m.class (codes "vm/Sys")) (bytes_eq m.name (codes "print")) first))
-        ((bytes_eq-Decides m.name (codes "print")).0 (and-right (bytes_eq m.class (codes "vm/Sys")) (bytes_eq m.name (codes "print")) first))
-        ((bytes_eq-Decides m.descriptor (codes "(I)V")).0
-            (and-right (bytes_eq m.class (codes "vm/Sys") && bytes_eq m.name (codes "print")) (bytes_eq m.descriptor (codes "(I)V")) h))
+    ((bytes_eq-Decides m.class (codes "vm/Sys")).0 (and-left (bytes_eq m.class (codes "vm/Sys")) (bytes_eq m.name (codes "print")) first))
+    ((bytes_eq-Decides m.name (codes "print")).0 (and-right (bytes_eq m.class (codes "vm/Sys")) (bytes_eq m.name (codes "print")) first))
+    ((bytes_eq-Decides m.descriptor (codes "(I)V")).0
+    (and-right (bytes_eq m.class (codes "vm/Sys") && bytes_eq m.name (codes "print")) (bytes_eq m.descriptor (codes "(I)V")) h))
 
 member_is : (m : Member) → is_some (builtin_of m) ≡ true → m ≡ print
 member_is m h =
@@ -129,7 +129,7 @@ instructions_resolve : (program : List ClassListing) (is : List Placed) → list
 instructions_resolve program [] none h = refl
 instructions_resolve program (i ∷ is) none h =
     rw (served_resolves program i.instruction none (and-left (is_served i.instruction) (list_all (λ (j : Placed). is_served j.instruction) is) h))
-        (instructions_resolve program is none (and-right (is_served i.instruction) (list_all (λ (j : Placed). is_served j.instruction) is) h))
+    (instructions_resolve program is none (and-right (is_served i.instruction) (list_all (λ (j : Placed). is_served j.instruction) is) h))
 
 rows_resolve : (program : List ClassListing) (rows : List ExceptionRow) → serves_rows rows ≡ true
     → list_any (λ (row : ExceptionRow). not (catch_resolves program row.class)) rows ≡ false
@@ -141,24 +141,24 @@ code_resolves : (program : List ClassListing) (code : Option CodeListing) → li
 code_resolves program None none h = refl
 code_resolves program (Some code) none h =
     rw (instructions_resolve program code.instructions none
-            (and-right (serves_rows code.rows) (list_all (λ (i : Placed). is_served i.instruction) code.instructions) h))
-        (rows_resolve program code.rows
-            (and-left (serves_rows code.rows) (list_all (λ (i : Placed). is_served i.instruction) code.instructions) h))
+    (and-right (serves_rows code.rows) (list_all (λ (i : Placed). is_served i.instruction) code.instructions) h))
+    (rows_resolve program code.rows
+    (and-left (serves_rows code.rows) (list_all (λ (i : Placed). is_served i.instruction) code.instructions) h))
 
 methods_resolve : (program : List ClassListing) (ms : List Method) → listed program (codes "vm/Sys") ≡ None
     → serves_methods ms ≡ true → list_any (λ (m : Method). is_unresolved_in program m.code) ms ≡ false
 methods_resolve program [] none h = refl
 methods_resolve program (m ∷ ms) none h =
     rw (code_resolves program m.code none (and-left (serves_code m.code) (serves_methods ms) h))
-        (methods_resolve program ms none (and-right (serves_code m.code) (serves_methods ms) h))
+    (methods_resolve program ms none (and-right (serves_code m.code) (serves_methods ms) h))
 
 class_resolves : (program : List ClassListing) (c : ClassListing) → listed program (codes "vm/Sys") ≡ None
     → has_refused_member program c ≡ false → has_unresolved program c ≡ false
 unfolding has_refused_member serves has_unresolved
 class_resolves program c none h =
     methods_resolve program c.methods none
-        (and-right (serves_fields c.fields) (serves_methods c.methods)
-            (or-not (list_any (is_refused program c.name) c.methods) (serves_fields c.fields && serves_methods c.methods) h))
+    (and-right (serves_fields c.fields) (serves_methods c.methods)
+    (or-not (list_any (is_refused program c.name) c.methods) (serves_fields c.fields && serves_methods c.methods) h))
 
 -- ---- so where no class has the name of a built-in one, and none has a refused member, all references resolve
 
@@ -167,7 +167,7 @@ classes_resolve : (program cs : List ClassListing) → listed program (codes "vm
 classes_resolve program [] none h = refl
 classes_resolve program (c ∷ cs) none h =
     rw (class_resolves program c none (cond-none (has_refused_member program c) c (find (has_refused_member program) cs) h))
-        (classes_resolve program cs none (cond-rest (has_refused_member program c) c (find (has_refused_member program) cs) h))
+    (classes_resolve program cs none (cond-rest (has_refused_member program c) c (find (has_refused_member program) cs) h))
 
 sys_builtin : (name : List ℕ) → name ≡ codes "vm/Sys" → is_some (builtin name) ≡ true
 unfolding builtin_classes
@@ -184,13 +184,13 @@ not_sys : (c : ClassListing) → has_builtin_name c ≡ false → bytes_eq c.nam
 unfolding has_builtin_name
 not_sys c h =
     refuted (bytes_eq c.name (codes "vm/Sys"))
-        (λ same. true-false (is_some (builtin c.name)) (sys_builtin c.name ((bytes_eq-Decides c.name (codes "vm/Sys")).0 same)) h)
+    (λ same. true-false (is_some (builtin c.name)) (sys_builtin c.name ((bytes_eq-Decides c.name (codes "vm/Sys")).0 same)) h)
 
 sys_unlisted : (program : List ClassListing) → find has_builtin_name program ≡ None → listed program (codes "vm/Sys") ≡ None
 sys_unlisted [] h = refl
 sys_unlisted (c ∷ cs) h =
     rw (not_sys c (cond-none (has_builtin_name c) c (find has_builtin_name cs) h))
-        (sys_unlisted cs (cond-rest (has_builtin_name c) c (find has_builtin_name cs) h))
+    (sys_unlisted cs (cond-rest (has_builtin_name c) c (find has_builtin_name cs) h))
 
 pub none_unresolved : (program : List ClassListing) → find has_builtin_name program ≡ None → find (has_refused_member program) program ≡ None
     → find (has_unresolved program) program ≡ None

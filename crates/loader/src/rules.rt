@@ -12,11 +12,11 @@ ghost use Rattle.model.specs.Accepted.ExceptionRows.{has_bad_row};
 ghost use Rattle.model.specs.Accepted.Refusals.{refused_by, refused_main, refusal_of};
 ghost use Rattle.loader.specs.Told.{refusal_in};
 
-use crate::programs::is_main;
 use crate::classes::is_builtin;
 use crate::exception_rows::has_bad_row;
 use crate::limits::first_past_limits;
 use crate::members::{has_member_twice, has_refused_member};
+use crate::programs::is_main;
 use crate::superclasses::{has_missing_parent, has_wrong_parent, is_class_twice, is_on_cycle};
 use model::listings::{Listing, Method};
 use model::refusals::LoadRule;

@@ -31,8 +31,9 @@ any-found : (f : List ℕ → Bool) (xs : List (List ℕ)) → list_any f xs ≡
 any-found f [] h = cc
 any-found f (x ∷ xs) h =
     elim (or-cases (f x) (list_any f xs) h) [
-      inl here ↦ (x, inl refl, here)
-    | inr there ↦ let found : (y : List ℕ) × HasName xs y × (f y ≡ true) = any-found f xs there in (found.0, inr found.1, found.2) ]
+      | inl here ↦ (x, inl refl, here)
+      | inr there ↦ let found : (y : List ℕ) × HasName xs y × (f y ≡ true) = any-found f xs there in (found.0, inr found.1, found.2)
+    ]
 
 any-has : (f : List ℕ → Bool) (xs : List (List ℕ)) (x : List ℕ) → HasName xs x → f x ≡ true → list_any f xs ≡ true
 any-has f [] x h t = absurd h
@@ -47,11 +48,12 @@ unfolding is_within
 is_within-Subclass zero program name above h = subst (λ (x : List ℕ). Subclass program name x) (equal name above h) same
 is_within-Subclass (suc n) program name above h =
     elim (or-cases (bytes_eq name above) (list_any (λ p. is_within n program p above) (parents_named program name)) h) [
-      inl here ↦ subst (λ (x : List ℕ). Subclass program name x) (equal name above here) same
-    | inr there ↦
-        let found : (p : List ℕ) × HasName (parents_named program name) p × (is_within n program p above ≡ true) =
-            any-found (λ p. is_within n program p above) (parents_named program name) there in
-        through found.0 (parent found.1) (is_within-Subclass n program found.0 above found.2) ]
+      | inl here ↦ subst (λ (x : List ℕ). Subclass program name x) (equal name above here) same
+      | inr there ↦
+          let found : (p : List ℕ) × HasName (parents_named program name) p × (is_within n program p above ≡ true) =
+          any-found (λ p. is_within n program p above) (parents_named program name) there in
+          through found.0 (parent found.1) (is_within-Subclass n program found.0 above found.2)
+    ]
 
 -- ---- a relation is a path
 
@@ -113,7 +115,7 @@ length-without : (a : List ℕ) (xs : List (List ℕ)) → has xs a ≡ true →
 length-without a [] h = cc
 length-without a (x ∷ xs) h =
     length-cond_lt (bytes_eq x a) x (without a xs) xs (length-without_le a xs)
-        (λ other. length-without a xs (or-first_false (bytes_eq x a) (has xs a) h other))
+    (λ other. length-without a xs (or-first_false (bytes_eq x a) (has xs a) h other))
 
 has-cond : (b : Bool) (x name : List ℕ) (rest : List (List ℕ)) → (b ≡ true → bytes_eq x name ≡ true → ⊥)
     → (bytes_eq x name ≡ true) ⊎ (has rest name ≡ true) → has (cond b rest (x ∷ rest)) name ≡ true
@@ -125,8 +127,8 @@ has-without : (a name : List ℕ) (xs : List (List ℕ)) → (name ≡ a → ⊥
 has-without a name [] other h = cc
 has-without a name (x ∷ xs) other h =
     has-cond (bytes_eq x a) x name (without a xs)
-        (λ is_a is_name. other (sym (equal x name is_name) ∙ equal x a is_a))
-        (elim (or-cases (bytes_eq x name) (has xs name) h) [ inl here ↦ inl here | inr there ↦ inr (has-without a name xs other there) ])
+    (λ is_a is_name. other (sym (equal x name is_name) ∙ equal x a is_a))
+    (elim (or-cases (bytes_eq x name) (has xs name) h) [ inl here ↦ inl here | inr there ↦ inr (has-without a name xs other there) ])
 
 inside-without : (a : List ℕ) (pool : List (List ℕ)) (name : List ℕ) (xs : List (List ℕ)) → Inside pool name xs → Avoids a name xs
     → Inside (without a pool) name xs
@@ -148,16 +150,17 @@ visited program pool a above name x xs false e h p i v =
     let other : name ≡ a → ⊥ = λ is. differ (bytes_eq name a) (subst (λ (n : List ℕ). bytes_eq name n ≡ true) is (itself name)) e in
     inl (other, v)
   where
-  differ : (b : Bool) → b ≡ true → b ≡ false → ⊥
-  differ b p q = cc
+    differ : (b : Bool) → b ≡ true → b ≡ false → ⊥
+    differ b p q = cc
 
 split : (program : List ClassListing) (pool : List (List ℕ)) (a above name : List ℕ) (xs : List (List ℕ))
     → IsPath program name xs above → Inside pool name xs → Avoids a name xs ⊎ Behind program pool a above
 split program pool a above name [] p i = inl tt
 split program pool a above name (x ∷ xs) p i =
     elim (split program pool a above x xs p.1 i.1) [
-      inl avoids ↦ visited program pool a above name x xs (bytes_eq name a) refl p.0 p.1 i.1 avoids
-    | inr behind ↦ inr behind ]
+      | inl avoids ↦ visited program pool a above name x xs (bytes_eq name a) refl p.0 p.1 i.1 avoids
+      | inr behind ↦ inr behind
+    ]
 
 nothing_in : (pool : List (List ℕ)) (name : List ℕ) → length pool ≤ 0 → has pool name ≡ true → ⊥
 nothing_in [] name few h = cc
@@ -173,7 +176,7 @@ above-within : (steps : ℕ) (program : List ClassListing) (name above y : List 
 unfolding is_within
 above-within steps program name above y h below =
     or-right (bytes_eq name above) (list_any (λ p. is_within steps program p above) (parents_named program name))
-        (any-has (λ p. is_within steps program p above) (parents_named program name) y h below)
+    (any-has (λ p. is_within steps program p above) (parents_named program name) y h below)
 
 path-within : (steps : ℕ) (program : List ClassListing) (pool : List (List ℕ)) (name above : List ℕ) (xs : List (List ℕ)) → length pool ≤ steps
     → IsPath program name xs above → Inside pool name xs → is_within steps program name above ≡ true
@@ -181,12 +184,13 @@ path-within steps program pool name above [] few p i = here-within steps program
 path-within zero program pool name above (x ∷ xs) few p i = absurd (nothing_in pool name few i.0)
 path-within (suc n) program pool name above (x ∷ xs) few p i =
     elim (split program pool name above name (x ∷ xs) p i) [
-      inl avoids ↦ absurd (avoids.0 refl)
-    | inr behind ↦
-        let fewer : length (without name pool) ≤ n = omega (arith, length-without name pool i.0) in
-        let rest : (ys : List (List ℕ)) × IsPath program behind.0 ys above × Inside pool behind.0 ys × Avoids name behind.0 ys = behind.2 in
-        above-within n program name above behind.0 behind.1
-            (path-within n program (without name pool) behind.0 above rest.0 fewer rest.1 (inside-without name pool behind.0 rest.0 rest.2 rest.3)) ]
+      | inl avoids ↦ absurd (avoids.0 refl)
+      | inr behind ↦
+          let fewer : length (without name pool) ≤ n = omega (arith, length-without name pool i.0) in
+          let rest : (ys : List (List ℕ)) × IsPath program behind.0 ys above × Inside pool behind.0 ys × Avoids name behind.0 ys = behind.2 in
+          above-within n program name above behind.0 behind.1
+          (path-within n program (without name pool) behind.0 above rest.0 fewer rest.1 (inside-without name pool behind.0 rest.0 rest.2 rest.3))
+    ]
 
 -- ---- the names of all classes: each name that has a parent is among them
 
@@ -200,8 +204,9 @@ has-append_left : (xs ys : List (List ℕ)) (name : List ℕ) → has xs name �
 has-append_left [] ys name h = cc
 has-append_left (x ∷ xs) ys name h =
     elim (or-cases (bytes_eq x name) (has xs name) h) [
-      inl here ↦ rw here
-    | inr there ↦ or-right (bytes_eq x name) (has (xs ++ ys) name) (has-append_left xs ys name there) ]
+      | inl here ↦ rw here
+      | inr there ↦ or-right (bytes_eq x name) (has (xs ++ ys) name) (has-append_left xs ys name there)
+    ]
 
 has-append_right : (xs ys : List (List ℕ)) (name : List ℕ) → has ys name ≡ true → has (xs ++ ys) name ≡ true
 has-append_right [] ys name h = h
@@ -225,8 +230,9 @@ found-either (Some c) second x h = inl h
 parent-named : (program : List ClassListing) (name x : List ℕ) → HasName (parents_named program name) x → has (names_of program) name ≡ true
 parent-named program name x h =
     elim (found-either (listed program name) (builtin name) x h) [
-      inl one ↦ has-append_left (map name_of program) (map name_of builtin_classes) name (found-named program name x one)
-    | inr other ↦ has-append_right (map name_of program) (map name_of builtin_classes) name (found-named builtin_classes name x other) ]
+      | inl one ↦ has-append_left (map name_of program) (map name_of builtin_classes) name (found-named program name x one)
+      | inr other ↦ has-append_right (map name_of program) (map name_of builtin_classes) name (found-named builtin_classes name x other)
+    ]
 
 path-inside : (program : List ClassListing) (name above : List ℕ) (xs : List (List ℕ)) → IsPath program name xs above
     → Inside (names_of program) name xs
@@ -251,7 +257,7 @@ pub Subclass-is_subclass : (program : List ClassListing) (name above : List ℕ)
 Subclass-is_subclass program name above h =
     let path : SomePath program name above = path_of program h in
     path-within (length program + 23) program (names_of program) name above path.0 (names-length program) path.1
-        (path-inside program name above path.0 path.1)
+    (path-inside program name above path.0 path.1)
 
 pub is_subclass-Subclass : (program : List ClassListing) (name above : List ℕ) → is_subclass program name above ≡ true → Subclass program name above
 is_subclass-Subclass program name above h = is_within-Subclass (length program + 23) program name above h

@@ -19,10 +19,9 @@ pub mod mnemonics;
 pub mod names;
 pub mod places;
 pub mod refusals;
+#[cfg(test)]
+mod tests;
 pub mod trees;
 pub mod turns;
 pub mod values;
 pub mod views;
-
-#[cfg(test)]
-mod tests;

@@ -28,7 +28,6 @@ after_last-push n [] row = refl
 after_last-push n (r ∷ rows) row = after_last-push (after_actor n r.actor) rows row
 
 module _ (s : Loaded) (j : JournalValue) (k : ℕ) (is : IsOf s j k) (t : ℕ) where
-
   -- nothing refuses the thread's turn
   abbrev pub Unrefused : Type 0
   Unrefused = refusal s.program j.limits (ideal (recorded s j)) (Thread t) ≡ None
@@ -59,7 +58,7 @@ module _ (s : Loaded) (j : JournalValue) (k : ℕ) (is : IsOf s j k) (t : ℕ) w
         rows_are =
             ap (λ (n : ℕ). n + 1) (next-rows s.program s.world t NotAsked ∙ is.rows_are) ∙ sym (length-append j.rows (row ∷ []));
         world_is = sym (ap (λ (m : Machine). m.world) (machine_of-noted (recorded s j) row) ∙ step_world o e);
-        next_is = sym (after_last-push 0 j.rows row)
+        next_is = sym (after_last-push 0 j.rows row);
       }
 
 -- the answer to a turn is told by the state's fault

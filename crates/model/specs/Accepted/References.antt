@@ -76,7 +76,7 @@ invocation_resolves program Special m = names_class program m && not (bytes_eq m
 invocation_resolves program Static m = finds_static program m
 invocation_resolves program (Interface count) m =
     is_interface_found (class_named program m.class) && not (is_initializer m.name) && finds_instance program m
-        && count == argument_units m.descriptor + 1
+    && count == argument_units m.descriptor + 1
 
 -- an array of 255 dimensions is no element
 abbrev pub array_resolves : List ClassListing → ArrayOperation (List ℕ) → Bool
@@ -119,7 +119,7 @@ abbrev pub is_unresolved_in : List ClassListing → Option CodeListing → Bool
 is_unresolved_in program None = false
 is_unresolved_in program (Some code) =
     list_any (λ (i : Placed). not (resolves program i.instruction)) code.instructions
-        || list_any (λ (row : ExceptionRow). not (catch_resolves program row.class)) code.rows
+    || list_any (λ (row : ExceptionRow). not (catch_resolves program row.class)) code.rows
 
 -- L6: an instruction or an exception row of the class refers to what can't be resolved
 unfoldable pub has_unresolved : List ClassListing → ClassListing → Bool

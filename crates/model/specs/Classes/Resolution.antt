@@ -27,4 +27,4 @@ is_initializer name = bytes_eq name (codes "<init>") || bytes_eq name (codes "<c
 abbrev pub resolved_method : List ClassListing → Member → Option (Declared Method)
 resolved_method program m =
     first_declared program (method_of m.name m.descriptor)
-        (if is_initializer m.name then m.class ∷ [] else method_order program m.class)
+    (if is_initializer m.name then m.class ∷ [] else method_order program m.class)

@@ -56,7 +56,7 @@ unfoldable pub is_subtype_within : ℕ → List ClassListing → List ℕ → Li
 is_subtype_within zero program name above = false
 is_subtype_within (suc steps) program name above =
     types_compare (is_subclass program name above) (bytes_eq above (codes "java/lang/Object"))
-        (λ n m. is_subtype_within steps program n m) (element_of name) (element_of above)
+    (λ n m. is_subtype_within steps program n m) (element_of name) (element_of above)
 
 abbrev pub is_subtype : List ClassListing → List ℕ → List ℕ → Bool
 is_subtype program name above = is_subtype_within (length name + 1) program name above
