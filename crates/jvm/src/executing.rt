@@ -9,7 +9,7 @@ use model::journals::{HeapShape, Limits};
 use model::turns::{Status, Turn};
 use scheduler::worlds::{World, WorldError};
 use std::alloc::{AllocError, Global};
-use std::io::Write;
+use std::io::{Read, Write};
 
 /// A status, and the line that goes to standard error behind `jvm: `.
 #[derive(Drop)]
@@ -194,12 +194,13 @@ fn tell<E: Write>(errors: &mut E, ending: &Ending) {
     let _ = errors.write_all(b"\n");
 }
 
-/// Does what a command says with files, standard output and standard error, and answers the exit status: 0 where all threads
+/// Does what a command says with files, standard input, output and error, and answers the exit status: 0 where all threads
 /// ended, 2 refused input, 3 a fault, 4 a limit, 5 stuck, 6 memory or a file that can't be read or written.
-pub fn execute<F: Files, W: Write, E: Write>(
+pub fn execute<F: Files, R: Read, W: Write, E: Write>(
     alloc: Global,
     command: &Command,
     files: &mut F,
+    _input: &mut R,
     output: &mut W,
     errors: &mut E,
 ) -> u8 {

@@ -49,9 +49,10 @@ fn perform(rt: &HostRuntime) -> io::Result<u8> {
     match options(alloc, words.as_slice()) {
         Ok(command) => {
             let mut files = SystemFiles { runtime: rt };
+            let mut input = rt.stdin();
             let mut output = rt.stdout();
             let mut errors = rt.stderr();
-            Ok(execute(alloc, &command, &mut files, &mut output, &mut errors))
+            Ok(execute(alloc, &command, &mut files, &mut input, &mut output, &mut errors))
         }
         Err(error) => refused(rt, &error),
     }
