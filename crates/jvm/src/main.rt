@@ -52,7 +52,14 @@ fn perform(rt: &HostRuntime) -> io::Result<u8> {
             let mut input = rt.stdin();
             let mut output = rt.stdout();
             let mut errors = rt.stderr();
-            Ok(execute(alloc, &command, &mut files, &mut input, &mut output, &mut errors))
+            Ok(execute(
+                alloc,
+                &command,
+                &mut files,
+                &mut input,
+                &mut output,
+                &mut errors,
+            ))
         }
         Err(error) => refused(rt, &error),
     }

@@ -43,7 +43,14 @@ fn check(
     let mut written = Vec::new(alloc);
     let mut told = Vec::new(alloc);
     let mut input = b"".as_slice();
-    let answer = execute(alloc, &command, &mut files, &mut input, &mut written, &mut told);
+    let answer = execute(
+        alloc,
+        &command,
+        &mut files,
+        &mut input,
+        &mut written,
+        &mut told,
+    );
     assert_eq!(rt; told.as_slice(), errors);
     assert_eq!(rt; written.as_slice(), output);
     assert_eq!(rt; answer, status);
@@ -128,29 +135,109 @@ fn a_fault_is_told(rt: HostRuntime) -> Result<(), Fail> {
 #[test]
 fn a_refused_text_is_told_with_its_line(rt: HostRuntime) -> Result<(), Fail> {
     let words = ["run", "a.j"];
-    check(&rt, rt.alloc(), words.as_slice(), b"", 2, b"", b"jvm: a.j: J1 at line 1\n")?;
-    check(&rt, rt.alloc(), words.as_slice(), b".class public E\n.super java/lang/Object\n.method public static main()V\n.limit stack 0\n.limit locals 0\ngoto X\n.end method\n", 2, b"", b"jvm: a.j: J2 at line 6\n")?;
-    check(&rt, rt.alloc(), words.as_slice(), b".class E\n.super \xff\n", 2, b"", b"jvm: a.j: J8 at line 2\n")?;
-    check(&rt, rt.alloc(), words.as_slice(), b"\xca\xfe\xba\xbe\x00\x00\x00\x31", 2, b"", b"jvm: a.j: J8 at line 1\n")
+    check(
+        &rt,
+        rt.alloc(),
+        words.as_slice(),
+        b"",
+        2,
+        b"",
+        b"jvm: a.j: J1 at line 1\n",
+    )?;
+    check(
+        &rt,
+        rt.alloc(),
+        words.as_slice(),
+        b".class public E\n.super java/lang/Object\n.method public static main()V\n.limit stack 0\n.limit locals 0\ngoto X\n.end method\n",
+        2,
+        b"",
+        b"jvm: a.j: J2 at line 6\n",
+    )?;
+    check(
+        &rt,
+        rt.alloc(),
+        words.as_slice(),
+        b".class E\n.super \xff\n",
+        2,
+        b"",
+        b"jvm: a.j: J8 at line 2\n",
+    )?;
+    check(
+        &rt,
+        rt.alloc(),
+        words.as_slice(),
+        b"\xca\xfe\xba\xbe\x00\x00\x00\x31",
+        2,
+        b"",
+        b"jvm: a.j: J8 at line 1\n",
+    )
 }
 
 #[test]
 fn a_program_that_is_none_is_told_with_its_class(rt: HostRuntime) -> Result<(), Fail> {
     let words = ["run", "a.j"];
-    check(&rt, rt.alloc(), words.as_slice(), b".class E\n.super java/lang/Object\n", 2, b"", b"jvm: load: L9 in class E\n")?;
-    check(&rt, rt.alloc(), words.as_slice(), b".class E\n.super java/lang/Object\n.method static main()V\n.limit stack 0\n.limit locals 0\n.end method\n", 2, b"", b"jvm: a.j: A1 in method main()V\n")
+    check(
+        &rt,
+        rt.alloc(),
+        words.as_slice(),
+        b".class E\n.super java/lang/Object\n",
+        2,
+        b"",
+        b"jvm: load: L9 in class E\n",
+    )?;
+    check(
+        &rt,
+        rt.alloc(),
+        words.as_slice(),
+        b".class E\n.super java/lang/Object\n.method static main()V\n.limit stack 0\n.limit locals 0\n.end method\n",
+        2,
+        b"",
+        b"jvm: a.j: A1 in method main()V\n",
+    )
 }
 
 #[test]
 fn a_heap_out_of_range_is_told(rt: HostRuntime) -> Result<(), Fail> {
-    check(&rt, rt.alloc(), ["run", "--small", "1", "a.j"].as_slice(), EMPTY_MAIN, 2, b"", b"jvm: world: P1\n")?;
-    check(&rt, rt.alloc(), ["run", "--medium", "1", "a.j"].as_slice(), EMPTY_MAIN, 2, b"", b"jvm: world: P1\n")?;
-    check(&rt, rt.alloc(), ["run", "--steps", "0", "a.j"].as_slice(), EMPTY_MAIN, 2, b"", b"jvm: world: P2\n")
+    check(
+        &rt,
+        rt.alloc(),
+        ["run", "--small", "1", "a.j"].as_slice(),
+        EMPTY_MAIN,
+        2,
+        b"",
+        b"jvm: world: P1\n",
+    )?;
+    check(
+        &rt,
+        rt.alloc(),
+        ["run", "--medium", "1", "a.j"].as_slice(),
+        EMPTY_MAIN,
+        2,
+        b"",
+        b"jvm: world: P1\n",
+    )?;
+    check(
+        &rt,
+        rt.alloc(),
+        ["run", "--steps", "0", "a.j"].as_slice(),
+        EMPTY_MAIN,
+        2,
+        b"",
+        b"jvm: world: P2\n",
+    )
 }
 
 #[test]
 fn a_file_that_is_not_there_is_told(rt: HostRuntime) -> Result<(), Fail> {
-    check(&rt, rt.alloc(), ["run", "b.j"].as_slice(), EMPTY_MAIN, 6, b"", b"jvm: cannot read b.j\n")
+    check(
+        &rt,
+        rt.alloc(),
+        ["run", "b.j"].as_slice(),
+        EMPTY_MAIN,
+        6,
+        b"",
+        b"jvm: cannot read b.j\n",
+    )
 }
 
 /// What is wrong with these words behind the program's name: 6 memory, 7 options, 8 clap's mistakes, 0 what clap shows, 1
@@ -172,10 +259,22 @@ fn command_lines_are_taken_or_refused(rt: HostRuntime) -> Result<(), Fail> {
     let alloc = rt.alloc();
     assert_eq!(rt; line_status(alloc, ["run", "a.j", "b.j"].as_slice())?, 1);
     assert_eq!(rt; line_status(alloc, ["run"].as_slice())?, 7);
-    assert_eq!(rt; line_status(alloc, ["run", "--gc", "1", "a.j"].as_slice())?, 7);
-    assert_eq!(rt; line_status(alloc, ["run", "--carriers", "2", "a.j"].as_slice())?, 7);
-    assert_eq!(rt; line_status(alloc, ["run", "--journal", "p", "a.j"].as_slice())?, 8);
-    assert_eq!(rt; line_status(alloc, ["run", "--small", "many", "a.j"].as_slice())?, 8);
+    assert_eq!(rt;
+        line_status(alloc, ["run", "--gc", "1", "a.j"].as_slice())?,
+        7
+    );
+    assert_eq!(rt;
+        line_status(alloc, ["run", "--carriers", "2", "a.j"].as_slice())?,
+        7
+    );
+    assert_eq!(rt;
+        line_status(alloc, ["run", "--journal", "p", "a.j"].as_slice())?,
+        8
+    );
+    assert_eq!(rt;
+        line_status(alloc, ["run", "--small", "many", "a.j"].as_slice())?,
+        8
+    );
     assert_eq!(rt; line_status(alloc, ["walk", "a.j"].as_slice())?, 8);
     assert_eq!(rt; line_status(alloc, ["--help"].as_slice())?, 0);
     assert_eq!(rt; line_status(alloc, ["--version"].as_slice())?, 0);
