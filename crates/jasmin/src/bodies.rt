@@ -39,16 +39,28 @@ pub enum Part {
     Line(TextLine),
 }
 
+/// Which limits of a body were given so far.
+#[derive(Clone, Copy)]
+pub struct Given {
+    pub stack: bool,
+    pub locals: bool,
+}
+
 /// What a statement of a body says, in a class with these flags.
 #[tactic(auto, using(crate::proofs::BodyLemmas::directives))]
-pub fn part_of(alloc: Global, class: ClassFlags, statement: Statement<'_>) -> Result<Part, Fault>
+pub fn part_of(
+    alloc: Global,
+    class: ClassFlags,
+    given: Given,
+    statement: Statement<'_>,
+) -> Result<Part, Fault>
     ensures { MatchResult result (λ part. Says (Some (statement.entry.first.now ∷ statement.entry.operands)) part) (λ e. e ≢ Fault.Memory → SaysNothing (Some (statement.entry.first.now ∷ statement.entry.operands))) }
 {
     if statement.first == b".end".as_slice() {
         return end(statement.operands);
     }
     if statement.first == b".limit".as_slice() {
-        return limit(statement.operands);
+        return limit(given, statement.operands);
     }
     match mnemonic(statement.first) {
         Some(mnemonic) => {
@@ -85,15 +97,25 @@ fn end(operands: Words<'_>) -> Result<Part, Fault>
     }
 }
 
-/// The words behind `.limit`.
-fn limit(mut operands: Words<'_>) -> Result<Part, Fault>
+/// The words behind `.limit`. A limit that is given again is told before a fault of its number.
+fn limit(given: Given, mut operands: Words<'_>) -> Result<Part, Fault>
     ensures { MatchResult result (λ part. Says (Some (codes ".limit" ∷ operands.entry)) part) (λ _. SaysNothing (Some (codes ".limit" ∷ operands.entry))) }
 {
     let which = operands.next_word().ok_or(Fault::Operand)?;
     if which == b"stack".as_slice() {
-        Ok(Part::StackLimit(units(operands)?))
+        match units(operands) {
+            Ok(n) => Ok(Part::StackLimit(n)),
+            Err(fault) => Err(if given.stack { Fault::Statement } else { fault }),
+        }
     } else if which == b"locals".as_slice() {
-        Ok(Part::LocalsLimit(units(operands)?))
+        match units(operands) {
+            Ok(n) => Ok(Part::LocalsLimit(n)),
+            Err(fault) => Err(if given.locals {
+                Fault::Statement
+            } else {
+                fault
+            }),
+        }
     } else {
         Err(Fault::Operand)
     }

@@ -8,7 +8,7 @@ ghost use Rattle.model.specs.Texts.Heads.{MethodHead as Head};
 ghost use Rattle.model.specs.Texts.Methods.{body_with, method_without};
 ghost use Rattle.jasmin.specs.Bodies.{block_of, behind_block, first_body, first_method};
 
-use crate::bodies::{Part, end_of, next_of, part_of};
+use crate::bodies::{Given, Part, end_of, next_of, part_of};
 use crate::errors::{Fault, TextError};
 use crate::heads::{MethodHead, class_head, method_head, super_name};
 use bitflags::Flags;
@@ -123,7 +123,7 @@ fn body(
     let mut locals: Option<u16> = None;
     let mut lines = Vec::new(alloc);
     'rows: while let Some(statement) = next_of(statements)? {
-        match part_of(alloc, class, statement)? {
+        match part_of(alloc, class, given_of(stack, locals), statement)? {
             Part::End => return whole_body(alloc, stack, locals, lines),
             Part::StackLimit(n) => {
                 if stack.is_some() {
@@ -141,6 +141,13 @@ fn body(
         }
     }
     Err(Fault::End)
+}
+
+fn given_of(stack: Option<u16>, locals: Option<u16>) -> Given {
+    Given {
+        stack: stack.is_some(),
+        locals: locals.is_some(),
+    }
 }
 
 /// A body of which all statements were read.

@@ -178,6 +178,7 @@ fn a_method_has_its_limits_and_its_end(rt: HostRuntime) -> Result<(), Fail> {
             0,
             Fault::Memory,
         ),
+        (".limit stack 1\n.limit stack x\n", 5, Fault::Statement),
         (".limit stack 65536\n", 4, Fault::Range),
         (".limit stack 99999999999999999999999\n", 4, Fault::Range),
         (".limit stack -1\n", 4, Fault::Range),
