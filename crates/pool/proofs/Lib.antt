@@ -1,5 +1,7 @@
+pub mod BuilderLemmas
 pub mod DescriptorLemmas
 pub mod EntryLemmas
+pub mod EqualEntries
 pub mod FieldLemmas
 pub mod PoolLemmas
 pub mod SlotLoops

@@ -169,15 +169,15 @@ neither : (a b : Option FormatFault) → or_else a b ≡ None → (a ≡ None) �
 neither None b h = (refl, h)
 neither (Some fault) b h = absurd cc
 
-sound_from : (pool es : List Entry) → first_fault pool es ≡ None → AllByRecursion (λ e. entry_fault pool e ≡ None) es
+pub sound_from : (pool es : List Entry) → first_fault pool es ≡ None → AllByRecursion (λ e. entry_fault pool e ≡ None) es
 sound_from pool [] h = tt
 sound_from pool (e ∷ es) h = let p = neither (entry_fault pool e) (first_fault pool es) h in (p.0, sound_from pool es p.1)
 
-faultless : (pool es : List Entry) → AllByRecursion (λ e. entry_fault pool e ≡ None) es → first_fault pool es ≡ None
+pub faultless : (pool es : List Entry) → AllByRecursion (λ e. entry_fault pool e ≡ None) es → first_fault pool es ≡ None
 faultless pool [] h = refl
 faultless pool (e ∷ es) h = rw h.0 (faultless pool es h.1)
 
-unless_ok : {A : Type 0} (fault : Option FormatFault) (x y : A) → unless fault x ≡ Ok y → (fault ≡ None) × (x ≡ y)
+pub unless_ok : {A : Type 0} (fault : Option FormatFault) (x y : A) → unless fault x ≡ Ok y → (fault ≡ None) × (x ≡ y)
 unless_ok None x y e = (refl, ok_is x y e)
 unless_ok (Some fault) x y e = absurd cc
 

@@ -1,4 +1,6 @@
 pub mod Checks
+pub mod Making
+pub mod Numbering
 pub mod Reading
 pub mod Slots
 pub mod Spots

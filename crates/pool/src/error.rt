@@ -1,4 +1,4 @@
-//! Why bytes could not be read.
+//! Why bytes could not be read, or entries are no pool.
 
 ghost use Rattle.std.specs.Prelude.{◌≡◌};
 ghost use Rattle.pool.specs.declared.error.ReadError.TheVariants as error;
@@ -6,7 +6,7 @@ ghost use Rattle.pool.specs.declared.error.ReadError.TheVariants as error;
 use model::class_files::FormatFault;
 use std::alloc::{AllocError, AllocFailed};
 
-/// Why bytes could not be read.
+/// Why bytes could not be read, or entries are no pool.
 #[derive(Clone, Copy, Debug, PartialEq, Eq)]
 pub enum ReadError {
     /// The first fault from left to right.

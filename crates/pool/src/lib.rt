@@ -1,6 +1,7 @@
 //! The constant pool of a class file (JVMS 4.4): its entries as bytes, and what they may name.
 #![tactic(auto)]
 
+mod builder;
 pub mod descriptors;
 mod entries;
 mod error;
@@ -9,6 +10,7 @@ pub mod names;
 mod pools;
 mod references;
 
+pub use builder::{AddError, PoolBuilder};
 pub use error::ReadError;
 pub use pools::Pool;
 pub use references::MemberKind;

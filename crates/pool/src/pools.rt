@@ -10,7 +10,7 @@ ghost use Rattle.model.specs.ClassFiles.References.{first_fault, AreSound};
 ghost use Rattle.pool.specs.Checks.{fault_in};
 ghost use Rattle.pool.specs.Slots.{entries_in, AreSlots};
 ghost use Rattle.pool.specs.Reading.Steps.{Gives};
-ghost use Rattle.pool.specs.Reading.Pools.{is_long, slots_from, slots_after, entries_from, pool_from};
+ghost use Rattle.pool.specs.Reading.Pools.{is_long, slots_from, slots_after, entries_from, unless, pool_from};
 
 use crate::entries::{entry_of, put_entry};
 use crate::error::ReadError;
@@ -75,6 +75,25 @@ impl Pool {
         put_entries(out, &self.slots)
     }
 
+    /// The pool of these slots.
+    pub(crate) fn of_slots(slots: Vec<Option<Entry>>) -> Pool
+        requires slots { AreSlots slots.items }
+        requires fits { PoolFits (entries_in slots.items) }
+        ensures { result ≡ entries_in slots.items }
+    {
+        Pool { slots }
+    }
+
+    /// The pool, if each entry names what it should; else the first fault.
+    pub(crate) fn checked(self) -> Result<Pool, ReadError>
+        ensures { Gives (λ pool. pool) result (unless (first_fault self self) self) }
+    {
+        match self.check() {
+            Ok(()) => Ok(self),
+            Err(fault) => Err(ReadError::Format(fault)),
+        }
+    }
+
     /// That each entry names what it should. The fault is that of the first that doesn't.
     pub fn check(&self) -> Result<(), FormatFault>
         ensures { fault_in result ≡ first_fault self.now self.now }
@@ -97,7 +116,7 @@ fn put_entries(out: &mut Vec<u8>, slots: &[Option<Entry>]) -> Result<(), AllocEr
 }
 
 /// Whether an entry takes two numbers.
-fn is_wide(entry: &Entry) -> bool
+pub(crate) fn is_wide(entry: &Entry) -> bool
     ensures { result ≡ is_long entry.now }
 {
     matches!(entry, Entry::Long(_))
@@ -151,8 +170,5 @@ fn sound_pool(alloc: Global, bytes: &[u8]) -> Result<(Pool, &[u8]), ReadError>
     ensures { Gives (λ x. (x.0, x.1.now)) result (pool_from bytes.now) }
 {
     let (pool, rest) = entries_of(alloc, bytes)?;
-    match pool.check() {
-        Ok(()) => Ok((pool, rest)),
-        Err(fault) => Err(ReadError::Format(fault)),
-    }
+    Ok((pool.checked()?, rest))
 }

@@ -2,6 +2,8 @@ use super::*;
 use crate::descriptors::{argument_units, is_field_descriptor};
 use crate::names::{is_class_name, is_field_name, is_method_name};
 use model::class_files::{Entry, FormatFault};
+use model::names::Name;
+use std::alloc::{AllocError, Global};
 use std::test::*;
 
 /// The pool of a class E over java/lang/Object with a method `main()V` with code, and two bytes behind it.
@@ -100,4 +102,95 @@ fn names_and_descriptors(rt: HostRuntime) {
     assert_eq!(rt; argument_units(b"()I"), Some(0));
     assert_eq!(rt; argument_units(b"(V)I"), None);
     assert_eq!(rt; argument_units(b"(I"), None);
+}
+
+fn utf8(alloc: Global, text: &str) -> Result<Entry, AllocError> {
+    Ok(Entry::Utf8(Name::copy_of(alloc, text.as_bytes())?))
+}
+
+#[test]
+fn a_pool_entry_by_entry(rt: HostRuntime) -> Result<(), Fail> {
+    let alloc = rt.alloc();
+    let mut builder = PoolBuilder::new(alloc);
+    assert_eq!(rt; builder.add(utf8(alloc, "E")?), Ok(1));
+    assert_eq!(rt; builder.add(Entry::Class(1)), Ok(2));
+    assert_eq!(rt; builder.add(utf8(alloc, "java/lang/Object")?), Ok(3));
+    assert_eq!(rt; builder.add(Entry::Class(3)), Ok(4));
+    // both were added
+    assert_eq!(rt; builder.add(utf8(alloc, "E")?), Ok(1));
+    assert_eq!(rt; builder.add(Entry::Class(1)), Ok(2));
+    assert_eq!(rt; builder.add(utf8(alloc, "main")?), Ok(5));
+    assert_eq!(rt; builder.add(utf8(alloc, "()V")?), Ok(6));
+    assert_eq!(rt; builder.add(utf8(alloc, "Code")?), Ok(7));
+    assert_eq!(rt; builder.add(Entry::NameAndType(5, 6)), Ok(8));
+    assert_eq!(rt; builder.number(&Entry::Class(3)), Some(4));
+    assert_eq!(rt; builder.number(&Entry::Class(4)), None);
+    let pool = builder.finish()?;
+    let mut bytes = Vec::from_slice(alloc, &BYTES)?;
+    if let Some(count) = bytes.as_mut_slice().get_mut(1) {
+        *count = 9;
+    }
+    let mut written = Vec::new(alloc);
+    pool.write(&mut written)?;
+    assert_eq!(rt; bytes.get(..56), Some(written.as_slice()));
+    Ok(())
+}
+
+#[test]
+fn a_long_takes_two_numbers(rt: HostRuntime) -> Result<(), Fail> {
+    let mut builder = PoolBuilder::new(rt.alloc());
+    assert_eq!(rt; builder.add(Entry::Long(7)), Ok(1));
+    assert_eq!(rt; builder.add(Entry::Integer(7)), Ok(3));
+    assert_eq!(rt; builder.add(Entry::Long(-7)), Ok(4));
+    assert_eq!(rt; builder.add(Entry::Long(7)), Ok(1));
+    assert_eq!(rt; builder.add(Entry::Integer(-7)), Ok(6));
+    assert_eq!(rt; builder.finish()?.count(), 7);
+    Ok(())
+}
+
+#[test]
+fn a_full_pool(rt: HostRuntime) {
+    let mut builder = PoolBuilder::new(rt.alloc());
+    for z in 0..65533i32 {
+        assert!(rt; builder.add(Entry::Integer(z)).is_ok());
+    }
+    assert_eq!(rt; builder.add(Entry::Long(0)), Err(AddError::Full));
+    assert_eq!(rt; builder.add(Entry::Integer(-1)), Ok(65534));
+    assert_eq!(rt; builder.add(Entry::Integer(-2)), Err(AddError::Full));
+    assert_eq!(rt; builder.add(Entry::Integer(65532)), Ok(65533));
+    assert_eq!(rt; builder.finish().ok().map(|pool| pool.count()), Some(65535));
+}
+
+/// Why these entries are no pool.
+fn refusal(alloc: Global, entries: Vec<Entry>) -> Option<FormatFault> {
+    let mut builder = PoolBuilder::new(alloc);
+    for entry in entries {
+        builder.add(entry).ok()?;
+    }
+    match builder.finish() {
+        Err(ReadError::Format(fault)) => Some(fault),
+        _ => None,
+    }
+}
+
+#[test]
+fn entries_that_are_no_pool(rt: HostRuntime) -> Result<(), Fail> {
+    let alloc = rt.alloc();
+    // a class that names no text, one whose name is none, and a reference that names itself
+    assert_eq!(rt;
+        refusal(alloc, vec![in alloc; Entry::Class(2)]?),
+        Some(FormatFault::Index)
+    );
+    let no_name = vec![in alloc; Entry::Class(2), utf8(alloc, "E/")?]?;
+    assert_eq!(rt; refusal(alloc, no_name), Some(FormatFault::Name));
+    let own = vec![in alloc; Entry::Fieldref(1, 1)]?;
+    assert_eq!(rt; refusal(alloc, own), Some(FormatFault::Index));
+    // a byte past 7F is told before the class that names nothing
+    let past = Entry::Utf8(Name::copy_of(alloc, &[0x80])?);
+    assert_eq!(rt;
+        refusal(alloc, vec![in alloc; Entry::Class(9), past]?),
+        Some(FormatFault::Name)
+    );
+    assert_eq!(rt; refusal(alloc, vec![in alloc; utf8(alloc, "E/")?]?), None);
+    Ok(())
 }
