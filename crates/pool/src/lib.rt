@@ -7,6 +7,7 @@ mod entries;
 mod error;
 pub mod fields;
 pub mod names;
+mod naming;
 mod pools;
 mod references;
 
