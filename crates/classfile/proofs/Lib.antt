@@ -1,6 +1,11 @@
 pub mod AttributeLemmas
 pub mod AttributeLoops
+pub mod CodeLaws
 pub mod FieldLaws
 pub mod HeadLaws
+pub mod InstructionLaws
 pub mod ListLaws
 pub mod ListLoops
+pub mod MethodLaws
+pub mod ClassLaws
+pub mod SkippedLaws

@@ -4,7 +4,7 @@ ghost use Rattle.std.specs.Prelude.{◌≡◌};
 ghost use Rattle.model.specs.Texts.Names.{is_field_name as field_name_test};
 ghost use Rattle.model.specs.Texts.Descriptors.{is_field_descriptor as field_descriptor_test};
 ghost use Rattle.pool.specs.Reading.Steps.{Gives};
-ghost use Rattle.classfile.specs.Reading.Attributes.{sized_from, text_from, tested_from};
+ghost use Rattle.classfile.specs.Reading.Attributes.{sized_from, text_from, tested_from, none_wanted, no_step, attribute_from, attributes_from, skipped_from};
 
 use model::class_files::FormatFault;
 use pool::descriptors::is_field_descriptor;
@@ -71,4 +71,34 @@ pub fn field_type_at<'a, 'b>(
     } else {
         Err(ReadError::Format(FormatFault::Name))
     }
+}
+
+/// Skips an attribute. C6 where its name is no text, C3 where its bytes pass the end.
+#[tactic(auto, unfolding(crate::specs::Reading::Attributes::attribute_from))]
+fn skip_attribute<'a>(pool: &Pool, bytes: &'a [u8]) -> Result<&'a [u8], ReadError>
+    ensures { Gives (λ x. (0, x.now)) result (attribute_from pool.now none_wanted no_step 0 bytes.now) }
+{
+    let (_, rest) = text_at(pool, bytes)?;
+    let (_, rest) = sized_at(rest)?;
+    Ok(rest)
+}
+
+/// Skips so many attributes.
+fn skip_some<'a>(pool: &Pool, count: u16, bytes: &'a [u8]) -> Result<&'a [u8], ReadError>
+    ensures { Gives (λ x. (0, x.now)) result (attributes_from pool.now none_wanted no_step count 0 bytes.now) }
+{
+    let mut rest = bytes;
+    for _ in 0..count {
+        rest = skip_attribute(pool, rest)?;
+    }
+    Ok(rest)
+}
+
+/// Skips attributes behind their count.
+#[tactic(auto, unfolding(crate::specs::Reading::Attributes::skipped_from))]
+pub fn skip_attributes<'a>(pool: &Pool, bytes: &'a [u8]) -> Result<&'a [u8], ReadError>
+    ensures { Gives (λ x. (0, x.now)) result (skipped_from pool.now bytes.now) }
+{
+    let (count, rest) = u16_at(bytes)?;
+    skip_some(pool, count, rest)
 }

@@ -160,7 +160,7 @@ fn constants_of<'a>(
 }
 
 /// Whether a flag is among flags.
-fn is_static(flags: u16) -> bool
+pub fn is_static(flags: u16) -> bool
     ensures { result ≡ has flags 8 }
 {
     flags & STATIC != 0

@@ -83,7 +83,7 @@ fn class_flags_at(bytes: &[u8]) -> Result<(u16, &[u8]), ReadError>
 }
 
 /// Whether a number is of a class that is no array.
-fn is_class(pool: &Pool, number: u16) -> bool
+pub fn is_class(pool: &Pool, number: u16) -> bool
     ensures { result ≡ definition.is_class pool.now number }
 {
     match pool.class(number) {
@@ -234,6 +234,48 @@ impl ClassHead {
     {
         let (parts, rest) = head_of(alloc, bytes)?;
         Ok((ClassHead { parts }, rest))
+    }
+
+    /// The constant pool.
+    pub fn pool(&self) -> &Pool
+        ensures { result.now ≡ self.now.pool }
+    {
+        &self.parts.pool
+    }
+
+    /// The access flags of the class, as bits.
+    pub fn flags(&self) -> u16
+        ensures { result ≡ self.now.flags.0 }
+    {
+        self.parts.flags.bits()
+    }
+
+    /// The number of the class in the pool.
+    pub fn class(&self) -> u16
+        ensures { result ≡ self.now.class }
+    {
+        self.parts.class
+    }
+
+    /// The number of the superclass in the pool.
+    pub fn superclass(&self) -> u16
+        ensures { result ≡ self.now.superclass }
+    {
+        self.parts.superclass
+    }
+
+    /// The numbers of the superinterfaces in the pool, in order.
+    pub fn interfaces(&self) -> &[u16]
+        ensures { result.now ≡ self.now.interfaces }
+    {
+        self.parts.interfaces.as_slice()
+    }
+
+    /// The fields, in order.
+    pub fn fields(&self) -> &[FieldEntry]
+        ensures { result.now ≡ self.now.fields }
+    {
+        self.parts.fields.as_slice()
     }
 
     /// Writes the head at the end, with the attributes that count and no others.

@@ -1,5 +1,5 @@
 -- Reading attributes, of which some are wanted.
-use Rattle.std.specs.Prelude.{ℕ, zero, suc, Bool, List, Option, Some, None, Result, Ok, Err, if◌then◌else◌}
+use Rattle.std.specs.Prelude.{ℕ, zero, suc, Bool, false, List, Option, Some, None, Result, Ok, Err, if◌then◌else◌}
 use Rattle.std.specs.Int.{w16, w32}
 use Rattle.model.specs.ClassFiles.References.{text_at}
 use Rattle.model.specs.declared.class_files.Entry.{Entry}
@@ -42,3 +42,14 @@ attribute_from pool wanted step s bytes = text_from pool bytes >>= λ name. if w
 unfoldable pub attributes_from : {S : Type 0} → List Entry → (List ℕ → Bool) → (S → ℕ → List ℕ → Reads S) → ℕ → S → List ℕ → Reads S
 attributes_from pool wanted step zero s bytes = Ok (s, bytes)
 attributes_from pool wanted step (suc n) s bytes = attribute_from pool wanted step s bytes >>= λ first. attributes_from pool wanted step n first.0 first.1
+
+-- no attribute is wanted
+abbrev pub none_wanted : List ℕ → Bool
+none_wanted text = false
+
+abbrev pub no_step : ℕ → ℕ → List ℕ → Reads ℕ
+no_step s name bytes = Err Name
+
+-- attributes that don't count, behind their count
+unfoldable pub skipped_from : List Entry → List ℕ → Reads ℕ
+skipped_from pool bytes = number_at w16 bytes >>= λ count. attributes_from pool none_wanted no_step count.0 0 count.1

@@ -1,0 +1,88 @@
+//! The code of a method as bytes and as instructions.
+
+ghost use Rattle.std.specs.Prelude.{◌≡◌};
+ghost use Rattle.classfile.specs.Reading.Answers.{Answers, Tells};
+ghost use Rattle.classfile.specs.Reading.Instructions.{decoded, as_format};
+ghost use Rattle.classfile.specs.Writing.{code_bytes};
+
+use crate::error::ClassError;
+use model::names::Name;
+use opcodes::{Code, Located, OpError, decode};
+use std::alloc::Global;
+use std::marker::Model;
+
+/// The name and the descriptor of a method, to tell it by.
+#[derive(Clone, Copy)]
+pub struct Signature<'a> {
+    pub name: &'a [u8],
+    pub descriptor: &'a [u8],
+}
+
+/// The instructions of a method, with the bytes that they were read from. A contract sees the instructions.
+#[derive(Drop)]
+pub struct Instructions {
+    bytes: Vec<u8>,
+    code: Code,
+}
+
+impl Model for Instructions {
+    ghost use Rattle.std.specs.Prelude.{List};
+    ghost use Rattle.model.specs.Bytecode.{IsCode};
+    ghost use Rattle.model.specs.declared.bytecode.Located.{Located};
+
+    ghost Value = { List Located };
+
+    ghost view = { λ a. a.code };
+
+    ghost invariant = { λ a. IsCode a.bytes.items a.code };
+}
+
+/// A method's code is faulty. Want of memory is told alone, also where there is none for the method's name.
+fn faulty(alloc: Global, method: Signature, fault: OpError) -> ClassError
+    ensures { Tells fault result }
+{
+    match fault {
+        OpError::Memory => return ClassError::Memory,
+        _ => {}
+    }
+    let Ok(name) = Name::copy_of(alloc, method.name) else {
+        return ClassError::Memory;
+    };
+    let Ok(descriptor) = Name::copy_of(alloc, method.descriptor) else {
+        return ClassError::Memory;
+    };
+    ClassError::Code {
+        name,
+        descriptor,
+        fault,
+    }
+}
+
+impl Instructions {
+    /// The instructions that the bytes are the code of. Faulty code is told with its method.
+    pub fn read(alloc: Global, method: Signature, bytes: &[u8]) -> Result<Instructions, ClassError>
+        ensures { Answers (λ x. x) result (as_format (decoded bytes.now)) }
+    {
+        match decode(alloc, bytes) {
+            Ok(code) => Ok(Instructions {
+                bytes: Vec::from_slice(alloc, bytes)?,
+                code,
+            }),
+            Err(fault) => Err(faulty(alloc, method, fault)),
+        }
+    }
+
+    /// The bytes of the instructions.
+    pub fn bytes(&self) -> &[u8]
+        ensures { result.now ≡ code_bytes self.now }
+    {
+        self.bytes.as_slice()
+    }
+
+    /// The instructions, in order.
+    pub fn as_slice(&self) -> &[Located]
+        ensures { result.now ≡ self.now }
+    {
+        self.code.as_slice()
+    }
+}
