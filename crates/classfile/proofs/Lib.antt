@@ -1,5 +1,6 @@
 pub mod AttributeLemmas
 pub mod AttributeLoops
+pub mod ClassLaws
 pub mod CodeLaws
 pub mod FieldLaws
 pub mod HeadLaws
@@ -7,5 +8,4 @@ pub mod InstructionLaws
 pub mod ListLaws
 pub mod ListLoops
 pub mod MethodLaws
-pub mod ClassLaws
 pub mod SkippedLaws
