@@ -6,7 +6,7 @@ use crate::options::{Command, RunOptions};
 use jasmin::{Fault as TextFault, ListingError};
 use loader::LoadError;
 use model::journals::{HeapShape, Limits};
-use model::turns::{Status, Turn};
+use model::turns::{Actor, Status, Turn};
 use scheduler::worlds::{World, WorldError};
 use std::alloc::{AllocError, Global};
 use std::io::{Read, Write};
@@ -47,20 +47,12 @@ impl Ending {
     }
 }
 
-/// The heap of some options. So far no object is made: any cell of another size makes a shape that no world has (P1).
+/// The heap of some options.
 fn shape_of(options: &RunOptions) -> HeapShape {
-    if options.medium == 0 && options.large == 0 {
-        HeapShape {
-            small: options.small,
-            medium: 0,
-            large: 0,
-        }
-    } else {
-        HeapShape {
-            small: 0,
-            medium: 0,
-            large: 0,
-        }
+    HeapShape {
+        small: options.small,
+        medium: options.medium,
+        large: options.large,
     }
 }
 
@@ -110,8 +102,19 @@ fn refused(alloc: Global, names: &[String], error: &LaunchError) -> Ending {
     }
 }
 
-/// Makes turns of the thread that is picked until the world runs no more or a turn isn't done.
-fn carry_on(world: &mut World) {
+/// Makes so many turns of the collector, while the world runs.
+fn collect(world: &mut World, turns: u32) {
+    for _ in 0..turns {
+        if world.status() != Status::Running {
+            return;
+        }
+        let _ = world.turn(Actor::Collector);
+    }
+}
+
+/// Makes turns of the thread that is picked, each followed by so many of the collector, until the world runs no more or a
+/// thread's turn isn't done.
+fn carry_on(world: &mut World, gc: u32) {
     let steps = world.journal().limits().steps;
     for _ in 0..=steps {
         if world.status() != Status::Running {
@@ -119,12 +122,13 @@ fn carry_on(world: &mut World) {
         }
         match world.pick() {
             Some(thread) => {
-                if world.turn(model::turns::Actor::Thread(thread)) != Turn::Done {
+                if world.turn(Actor::Thread(thread)) != Turn::Done {
                     return;
                 }
             }
             None => return,
         }
+        collect(world, gc);
     }
 }
 
@@ -172,7 +176,7 @@ fn run<F: Files, W: Write>(
 ) -> Ending {
     match launched(alloc, options, files) {
         Ok(mut world) => {
-            carry_on(&mut world);
+            carry_on(&mut world, options.gc);
             match output.write_all(world.output()) {
                 Ok(()) => ended(alloc, &world),
                 Err(_) => Ending::told(6, format!(in alloc; "cannot write -")),

@@ -1,6 +1,6 @@
 //! The command line.
-ghost use Rattle.std.specs.Prelude.{◌≡◌, ◌<◌, IfOk, length};
-ghost use Rattle.jvm.specs.Commands.{HasFiles};
+ghost use Rattle.std.specs.Prelude.{◌≡◌, ◌<◌, ◌≤◌, IfOk, length};
+ghost use Rattle.jvm.specs.Commands.{HasFiles, InRange};
 
 use clap::error::ErrorKind;
 use clap::{Arg, ArgAction, ArgMatches, Command as Line, Error as ClapError, value_parser};
@@ -22,6 +22,8 @@ pub struct RunOptions {
     pub large: u32,
     pub steps: u32,
     pub output: u32,
+    /// how many turns the collector makes after each turn of a thread
+    pub gc: u32,
     pub files: Vec<String>,
 }
 
@@ -77,15 +79,15 @@ fn line<'a>(alloc: Global) -> Result<Line<'a>, AllocError> {
     let run = Line::new(alloc, "run")
         .about("Runs the main of the first file's class")
         .arg(number(alloc, "small", "64", "cells of 4 words")?)?
-        .arg(number(alloc, "medium", "0", "cells of 32 words")?)?
-        .arg(number(alloc, "large", "0", "cells of 256 words")?)?
+        .arg(number(alloc, "medium", "16", "cells of 32 words")?)?
+        .arg(number(alloc, "large", "4", "cells of 256 words")?)?
         .arg(number(alloc, "steps", "1000000", "turns that may be made")?)?
         .arg(number(alloc, "output", "65536", "bytes that may be printed")?)?
         .arg(number(
             alloc,
             "gc",
-            "0",
-            "collector turns after a thread's turn (0 so far)",
+            "1",
+            "collector turns after a thread's turn, 0 to 1000",
         )?)?
         .arg(number(
             alloc,
@@ -122,9 +124,11 @@ fn number_of(matches: &ArgMatches<'_>, name: &str) -> u32 {
 
 /// The options of `run`.
 fn run_options(alloc: Global, matches: &ArgMatches<'_>) -> Result<RunOptions, LineError>
-    ensures { IfOk result (λ options. 0 < length options.files.items) }
+    ensures files { IfOk result (λ options. 0 < length options.files.items) }
+    ensures range { IfOk result (λ options. options.gc ≤ 1000) }
 {
-    if number_of(matches, "gc") != 0 || number_of(matches, "carriers") != 1 {
+    let gc = number_of(matches, "gc");
+    if gc > 1000 || number_of(matches, "carriers") != 1 {
         return Err(LineError::Options);
     }
     Ok(RunOptions {
@@ -133,6 +137,7 @@ fn run_options(alloc: Global, matches: &ArgMatches<'_>) -> Result<RunOptions, Li
         large: number_of(matches, "large"),
         steps: number_of(matches, "steps"),
         output: number_of(matches, "output"),
+        gc,
         files: files(alloc, matches)?,
     })
 }
@@ -151,7 +156,8 @@ fn told(alloc: Global, error: ClapError) -> Result<LineError, AllocError> {
 /// The command that the words stand for, the program's own name first. `Words` where clap takes none of them, `Options` where
 /// no file is named or a number is out of its range, `Memory` where there was none.
 pub fn options(alloc: Global, words: &[&str]) -> Result<Command, LineError>
-    ensures { IfOk result HasFiles }
+    ensures files { IfOk result HasFiles }
+    ensures range { IfOk result InRange }
 {
     let line = line(alloc)?;
     match line.try_get_matches_from(words) {

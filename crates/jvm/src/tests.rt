@@ -119,6 +119,38 @@ fn a_sum_wraps(rt: HostRuntime) -> Result<(), Fail> {
     )
 }
 
+/// Five turns of the thread, of which the fourth prints, and after each but the last one of the collector: nine rows.
+#[test]
+fn the_collector_has_its_turns(rt: HostRuntime) -> Result<(), Fail> {
+    check(
+        &rt,
+        rt.alloc(),
+        ["run", "--steps", "9", "a.j"].as_slice(),
+        SUM,
+        0,
+        b"-2147483648\n",
+        b"",
+    )?;
+    check(
+        &rt,
+        rt.alloc(),
+        ["run", "--steps", "8", "a.j"].as_slice(),
+        SUM,
+        4,
+        b"-2147483648\n",
+        b"jvm: step limit\n",
+    )?;
+    check(
+        &rt,
+        rt.alloc(),
+        ["run", "--gc", "0", "--steps", "5", "a.j"].as_slice(),
+        SUM,
+        0,
+        b"-2147483648\n",
+        b"",
+    )
+}
+
 #[test]
 fn a_fault_is_told(rt: HostRuntime) -> Result<(), Fail> {
     check(
@@ -201,7 +233,10 @@ fn a_heap_out_of_range_is_told(rt: HostRuntime) -> Result<(), Fail> {
     check(
         &rt,
         rt.alloc(),
-        ["run", "--small", "1", "a.j"].as_slice(),
+        [
+            "run", "--small", "1", "--medium", "0", "--large", "0", "a.j",
+        ]
+        .as_slice(),
         EMPTY_MAIN,
         2,
         b"",
@@ -210,7 +245,7 @@ fn a_heap_out_of_range_is_told(rt: HostRuntime) -> Result<(), Fail> {
     check(
         &rt,
         rt.alloc(),
-        ["run", "--medium", "1", "a.j"].as_slice(),
+        ["run", "--large", "65536", "a.j"].as_slice(),
         EMPTY_MAIN,
         2,
         b"",
@@ -260,7 +295,11 @@ fn command_lines_are_taken_or_refused(rt: HostRuntime) -> Result<(), Fail> {
     assert_eq!(rt; line_status(alloc, ["run", "a.j", "b.j"].as_slice())?, 1);
     assert_eq!(rt; line_status(alloc, ["run"].as_slice())?, 7);
     assert_eq!(rt;
-        line_status(alloc, ["run", "--gc", "1", "a.j"].as_slice())?,
+        line_status(alloc, ["run", "--gc", "1000", "a.j"].as_slice())?,
+        1
+    );
+    assert_eq!(rt;
+        line_status(alloc, ["run", "--gc", "1001", "a.j"].as_slice())?,
         7
     );
     assert_eq!(rt;
