@@ -1,5 +1,5 @@
 -- What the statements of a body say, one by one.
-use Rattle.std.proofs.Common.{◌≡◌, ℕ, true, false, List, [], ◌∷◌, ◌++◌, refl, ◌∙◌, Some, None, Option, append_assoc, append-nil}
+use Rattle.std.proofs.Common.{◌≡◌, ℕ, true, false, List, [], ◌∷◌, ◌++◌, refl, ◌∙◌, Some, None, Option, codes, append_assoc, append-nil}
 use Rattle.std.specs.Option.{option_and_then, option_to_list, is_some}
 use Rattle.std.specs.Str.{bytes_eq}
 use Rattle.std.proofs.lemmas.Slice.Eq.{bytes_eq-Decides}
@@ -7,6 +7,7 @@ use Rattle.model.specs.declared.trees.CatchRow.{CatchRow}
 use Rattle.model.specs.declared.trees.TextLine.{TextLine}
 use Rattle.model.specs.Texts.Bodies.{Body}
 use Rattle.model.specs.Texts.Classes.{is_end}
+use Rattle.model.specs.Texts.Mnemonics.{mnemonic_of}
 use Rattle.model.specs.Texts.Methods.{Part, stack_limit, locals_limit, code_line, part_of, parts_of, part_before, stack_limits, locals_limits, catch_rows, code_lines, body_with}
 use Rattle.model.specs.Texts.Statements.{Statement}
 use Rattle.jasmin.specs.declared.bodies.Part.TheVariants as held
@@ -16,7 +17,12 @@ use Rattle.jasmin.specs.Bodies.{Says, SaysNothing, block_of, in_block, behind_bl
 pub word_is : (word text : List ℕ) → bytes_eq word text ≡ true → word ≡ text
 word_is word text h = (bytes_eq-Decides word text).0 h
 
-pub ruleset directives = (word_is)
+-- `.end` begins no part of a body
+pub end_says_nothing : (words : List (List ℕ)) → part_of (Some (codes ".end" ∷ words)) ≡ None
+unfolding mnemonic_of
+end_says_nothing words = refl
+
+pub ruleset directives = (word_is, end_says_nothing)
 
 -- the body of the limits and lines so far and of parts that follow
 limited : Option ℕ → Option ℕ → List TextLine → List Part → Option Body

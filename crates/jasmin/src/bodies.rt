@@ -2,13 +2,13 @@
 ghost use Rattle.std.specs.Prelude.{◌≡◌, ◌≢◌, [], ◌∷◌, codes, true, false, None, Some, IfOk, MatchOption, MatchResult};
 ghost use Rattle.std.specs.Option.{option_and_then};
 ghost use Rattle.model.specs.Texts.Classes.{is_end};
-ghost use Rattle.model.specs.Texts.Instructions.{only};
+ghost use Rattle.model.specs.Texts.Operands.{only};
 ghost use Rattle.model.specs.Texts.Numbers.{natural_to};
 ghost use Rattle.jasmin.specs.Bodies.{Says, SaysNothing};
 
 use crate::errors::Fault;
 use crate::heads::method_head;
-use crate::instructions::instruction_by;
+use crate::instructions::{instruction_by, wide_instruction};
 use crate::mnemonics::mnemonic;
 use crate::names::is_part;
 use crate::numbers::natural;
@@ -62,6 +62,10 @@ pub fn part_of(
     if statement.first == b".limit".as_slice() {
         return limit(given, statement.operands);
     }
+    if statement.first == b"wide".as_slice() {
+        let instruction = wide_instruction(statement.operands)?;
+        return Ok(Part::Line(TextLine::Instruction(instruction)));
+    }
     match mnemonic(statement.first) {
         Some(mnemonic) => {
             let instruction = instruction_by(alloc, mnemonic, statement.operands)?;
@@ -87,6 +91,7 @@ pub fn end_of(class: ClassFlags, statement: Statement<'_>) -> Result<(), Fault>
 }
 
 /// The words behind `.end`.
+#[tactic(auto, using(crate::proofs::BodyLemmas::directives))]
 fn end(operands: Words<'_>) -> Result<Part, Fault>
     ensures { MatchResult result (λ part. Says (Some (codes ".end" ∷ operands.entry)) part) (λ _. SaysNothing (Some (codes ".end" ∷ operands.entry))) }
 {

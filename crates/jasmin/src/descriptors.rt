@@ -2,7 +2,7 @@
 ghost use Rattle.std.specs.Prelude.{◌≡◌, ◌≤◌, ◌==◌, length};
 ghost use Rattle.std.specs.List.{position, sum};
 ghost use Rattle.std.specs.Option.{option_map, option_to_list};
-ghost use Rattle.model.specs.Texts.Descriptors.{types_of, is_result, arguments_of, is_primitive, place_after, units_ended};
+ghost use Rattle.model.specs.Texts.Descriptors.{types_of, is_result, is_field_descriptor, is_array_descriptor, arguments_of, is_primitive, place_after, units_ended};
 ghost use Rattle.jasmin.specs.Rows.{place_of, totals_of};
 
 use crate::names::joins;
@@ -24,6 +24,20 @@ pub fn argument_units(descriptor: &[u8]) -> Option<usize>
     } else {
         None
     }
+}
+
+/// Whether a word is an array's descriptor.
+pub fn is_array_descriptor(word: &[u8]) -> bool
+    ensures { result ≡ is_array_descriptor word.now }
+{
+    matches!(word, [b'[', ..]) && is_field_descriptor(word)
+}
+
+/// Whether a word is a field's descriptor.
+pub fn is_field_descriptor(word: &[u8]) -> bool
+    ensures { result ≡ is_field_descriptor word.now }
+{
+    word.len() <= 65_535 && types(word).is_some_and(|row| row.count == 1)
 }
 
 /// The place of the first closing parenthesis.

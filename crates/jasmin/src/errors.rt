@@ -35,6 +35,15 @@ impl Fault {
     pub fn number(self) -> u8 {
         self as u8 + 1
     }
+
+    /// Of two faults of a line the one with the lower number.
+    pub fn or_lower(self, other: Fault) -> Fault {
+        if other.number() < self.number() {
+            other
+        } else {
+            self
+        }
+    }
 }
 
 impl From<AllocError> for Fault {

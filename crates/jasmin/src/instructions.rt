@@ -1,16 +1,37 @@
 //! Instructions.
-ghost use Rattle.std.specs.Prelude.{◌≡◌, ◌≢◌, ◌∷◌, None, Some, MatchResult, IfOk};
-ghost use Rattle.model.specs.Texts.Instructions.{instruction_by, method_named};
+ghost use Rattle.std.specs.Prelude.{◌≡◌, ◌≢◌, ◌∷◌, pos, None, Some, MatchResult, IfOk};
+ghost use Rattle.std.specs.Option.{option_and_then};
+ghost use Rattle.model.specs.Texts.Instructions.{instruction_by, wide_by, wide_instruction, operand_of, field_of, interface_call};
+ghost use Rattle.model.specs.Texts.Numbers.{number_in};
+ghost use Rattle.model.specs.Texts.Operands.{only, both, method_named, class_named, type_named, primitives};
+ghost use Rattle.model.specs.Texts.Tables.{named};
 
+use crate::descriptors::is_array_descriptor;
 use crate::errors::Fault;
-use crate::operands::{alone, only, only_number};
+use crate::locals::local_by;
+use crate::mnemonics::mnemonic;
+use crate::names::is_class_name;
+use crate::numbers::integer;
+use crate::operands::{alone, both, only, only_number};
 use crate::signatures;
+use crate::tables::named;
 use jasmin_words::words::Words;
-use model::instructions::{Constant, Instruction};
+use model::instructions::{
+    ArrayOperation, ClassOperation, Constant, Instruction, Invocation, Primitive, Width,
+};
 use model::mnemonics::Mnemonic;
 use model::names::{Member, Name};
 use model::trees::Written;
 use std::alloc::Global;
+
+/// The primitive types of elements.
+const PRIMITIVES: [(&str, Primitive); 5] = [
+    ("char", Primitive::Char),
+    ("byte", Primitive::Byte),
+    ("short", Primitive::Short),
+    ("int", Primitive::Int),
+    ("long", Primitive::Long),
+];
 
 /// The instruction of a mnemonic, by its operands.
 pub fn instruction_by(
@@ -22,7 +43,9 @@ pub fn instruction_by(
 {
     match mnemonic {
         Mnemonic::Nop => alone(Instruction::Nop, operands),
+        Mnemonic::Null => alone(Instruction::Constant(Constant::Null), operands),
         Mnemonic::SmallInt(n) => alone(Instruction::Constant(Constant::SmallInt(n)), operands),
+        Mnemonic::SmallLong(n) => alone(Instruction::Constant(Constant::SmallLong(n)), operands),
         Mnemonic::Byte => {
             let n = only_number(operands, -0x80, 0x7f)?;
             Ok(Instruction::Constant(Constant::Byte(n as i8)))
@@ -35,25 +58,129 @@ pub fn instruction_by(
             let n = only_number(operands, -0x8000_0000, 0x7fff_ffff)?;
             Ok(Instruction::Constant(Constant::Int(width, n as i32)))
         }
+        Mnemonic::Long => {
+            let n = only_number(operands, i64::MIN, i64::MAX)?;
+            Ok(Instruction::Constant(Constant::Long(n)))
+        }
+        Mnemonic::Local(m) => Ok(Instruction::Local(local_by(Width::Narrow, m, operands)?)),
+        Mnemonic::FirstLocal(access) => alone(Instruction::Local(access), operands),
+        Mnemonic::Stack(operation) => alone(Instruction::Stack(operation), operands),
         Mnemonic::Number(operation) => alone(Instruction::Number(operation), operands),
+        Mnemonic::Return(kind) => alone(Instruction::Return(kind), operands),
+        Mnemonic::Static(access) => Ok(Instruction::Static(access, field_of(alloc, operands)?)),
+        Mnemonic::Field(access) => Ok(Instruction::Field(access, field_of(alloc, operands)?)),
+        Mnemonic::NewArray => {
+            let primitive = named(&PRIMITIVES, only(operands)?).ok_or(Fault::Operand)?;
+            Ok(Instruction::Array(ArrayOperation::New(primitive)))
+        }
+        Mnemonic::NewArrayOf => {
+            let class = type_named(alloc, only(operands)?)?;
+            Ok(Instruction::Array(ArrayOperation::NewOf(class)))
+        }
+        Mnemonic::ArrayLength => alone(Instruction::Array(ArrayOperation::Length), operands),
+        Mnemonic::ArrayLoad(kind) => alone(
+            Instruction::Array(ArrayOperation::Load(kind)),
+            operands,
+        ),
+        Mnemonic::ArrayStore(kind) => {
+            alone(Instruction::Array(ArrayOperation::Store(kind)), operands)
+        }
+        Mnemonic::Class(operation) => {
+            let class = operand_of(alloc, operation, only(operands)?)?;
+            Ok(Instruction::Class(operation, class))
+        }
         Mnemonic::Invoke(invocation) => {
-            let method = member(alloc, only(operands)?)?;
+            let method = method_named(alloc, only(operands)?)?;
             Ok(Instruction::Invoke(invocation, method))
         }
-        Mnemonic::Return(kind) => alone(Instruction::Return(kind), operands),
+        Mnemonic::InvokeInterface => {
+            let (word, count) = both(operands)?;
+            interface_call(alloc, word, count)
+        }
+        Mnemonic::Throw => alone(Instruction::Throw, operands),
+        Mnemonic::Monitor(operation) => alone(Instruction::Monitor(operation), operands),
     }
 }
 
-/// A method that a word names, in names of its own.
-fn member(alloc: Global, word: &[u8]) -> Result<Member, Fault>
+/// The instruction behind `wide`, which asks for the wide form of a local.
+pub fn wide_instruction(mut operands: Words<'_>) -> Result<Written, Fault>
+    ensures { MatchResult result (λ i. wide_instruction operands.entry ≡ Some i) (λ _. wide_instruction operands.entry ≡ None) }
+{
+    let word = operands.next_word().ok_or(Fault::Operand)?;
+    match mnemonic(word) {
+        Some(Mnemonic::Local(m)) => Ok(Instruction::Local(local_by(Width::Wide, m, operands)?)),
+        Some(_) => Err(Fault::Operand),
+        None => Err(Fault::Mnemonic),
+    }
+}
+
+/// The field that two operands name, in names of its own.
+fn field_of(alloc: Global, operands: Words<'_>) -> Result<Member, Fault>
+    ensures { MatchResult result (λ m. field_of operands.entry ≡ Some m) (λ e. e ≢ Fault.Memory → field_of operands.entry ≡ None) }
+{
+    let (path, descriptor) = both(operands)?;
+    let Some(named) = signatures::field_named(path, descriptor) else {
+        return Err(Fault::Operand);
+    };
+    copied(alloc, named)
+}
+
+/// The method that a word names, in names of its own.
+fn method_named(alloc: Global, word: &[u8]) -> Result<Member, Fault>
     ensures { MatchResult result (λ m. method_named word.now ≡ Some m) (λ e. e ≢ Fault.Memory → method_named word.now ≡ None) }
 {
     let Some(named) = signatures::method_named(word) else {
         return Err(Fault::Operand);
     };
+    copied(alloc, named)
+}
+
+/// A member in names of its own.
+fn copied(alloc: Global, named: signatures::MemberName<'_>) -> Result<Member, Fault>
+    ensures { MatchResult result (λ m. m ≡ record { class = named.entry.class.now; name = named.entry.name.now; descriptor = named.entry.descriptor.now }) (λ e. e ≡ Fault.Memory) }
+{
     Ok(Member {
         class: Name::copy_of(alloc, named.class)?,
         name: Name::copy_of(alloc, named.name)?,
         descriptor: Name::copy_of(alloc, named.descriptor)?,
     })
+}
+
+/// The call of an interface's method, with a count of 1 to 255.
+fn interface_call(alloc: Global, word: &[u8], count: &[u8]) -> Result<Written, Fault>
+    ensures { MatchResult result (λ i. interface_call (method_named word.now) (number_in (pos 1) (pos 255) count.now) ≡ Some i) (λ e. e ≢ Fault.Memory → interface_call (method_named word.now) (number_in (pos 1) (pos 255) count.now) ≡ None) }
+{
+    let method = method_named(alloc, word)?;
+    let count = integer(count, 1, 255)?;
+    Ok(Instruction::Invoke(Invocation::Interface(count as u8), method))
+}
+
+/// A new object's class, or what is tested against.
+fn operand_of(alloc: Global, operation: ClassOperation, word: &[u8]) -> Result<Name, Fault>
+    ensures { MatchResult result (λ name. operand_of operation word.now ≡ Some name) (λ e. e ≢ Fault.Memory → operand_of operation word.now ≡ None) }
+{
+    match operation {
+        ClassOperation::New => class_named(alloc, word),
+        ClassOperation::CheckCast | ClassOperation::InstanceOf => type_named(alloc, word),
+    }
+}
+
+/// A class, in a name of its own.
+pub fn class_named(alloc: Global, word: &[u8]) -> Result<Name, Fault>
+    ensures { MatchResult result (λ name. class_named word.now ≡ Some name) (λ e. e ≢ Fault.Memory → class_named word.now ≡ None) }
+{
+    if !is_class_name(word) {
+        return Err(Fault::Operand);
+    }
+    Ok(Name::copy_of(alloc, word)?)
+}
+
+/// A class or an array's descriptor, in a name of its own.
+fn type_named(alloc: Global, word: &[u8]) -> Result<Name, Fault>
+    ensures { MatchResult result (λ name. type_named word.now ≡ Some name) (λ e. e ≢ Fault.Memory → type_named word.now ≡ None) }
+{
+    if !(is_class_name(word) || is_array_descriptor(word)) {
+        return Err(Fault::Operand);
+    }
+    Ok(Name::copy_of(alloc, word)?)
 }

@@ -11,6 +11,7 @@ mod flags;
 mod heads;
 mod instructions;
 mod listings;
+mod locals;
 mod mnemonics;
 mod names;
 mod numbers;
@@ -25,5 +26,7 @@ pub use errors::{Fault, TextError};
 pub use listings::{ListingError, listing};
 pub use reader::read;
 
+#[cfg(test)]
+mod spellings;
 #[cfg(test)]
 mod tests;

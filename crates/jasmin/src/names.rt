@@ -14,9 +14,14 @@ pub fn is_class_name(word: &[u8]) -> bool
 pub fn is_method_name(word: &[u8]) -> bool
     ensures { result ≡ is_method_name word.now }
 {
-    word == b"<init>".as_slice()
-        || word == b"<clinit>".as_slice()
-        || word.len() <= 65_535 && is_part(word)
+    word == b"<init>".as_slice() || word == b"<clinit>".as_slice() || is_field_name(word)
+}
+
+/// Whether a word is a field's name: one part.
+pub fn is_field_name(word: &[u8]) -> bool
+    ensures { result ≡ is_field_name word.now }
+{
+    word.len() <= 65_535 && is_part(word)
 }
 
 /// Whether a word is one part: a letter, `_` or `$`, and behind it also digits.

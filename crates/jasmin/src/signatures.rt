@@ -1,12 +1,12 @@
-//! Words that name a method with its descriptor.
+//! Words that name a member with its class and its descriptor.
 ghost use Rattle.std.specs.Prelude.{◌≡◌, ◌+◌, ◌==◌, ◌&&◌, nat_le, not, [], length, None, Some, IfNone, IfSome, MatchOption};
-ghost use Rattle.std.specs.List.{position, suffix_len, before_last, after_last};
-ghost use Rattle.model.specs.Texts.Descriptors.{arguments_of};
-ghost use Rattle.model.specs.Texts.Instructions.{before_parenthesis, from_parenthesis, method_named};
-ghost use Rattle.model.specs.Texts.Names.{is_class_name, is_method_name};
+ghost use Rattle.std.specs.List.{position, suffix_len};
+ghost use Rattle.model.specs.Texts.Descriptors.{arguments_of, is_field_descriptor};
+ghost use Rattle.model.specs.Texts.Names.{is_class_name, is_field_name, is_method_name};
+ghost use Rattle.model.specs.Texts.Operands.{before_parenthesis, from_parenthesis, class_in, name_in, method_named, field_named};
 
-use crate::descriptors::argument_units;
-use crate::names::{is_class_name, is_method_name};
+use crate::descriptors::{argument_units, is_field_descriptor};
+use crate::names::{is_class_name, is_field_name, is_method_name};
 
 /// A word cut at its first parenthesis, and the units of the arguments.
 #[derive(Clone, Copy)]
@@ -38,9 +38,9 @@ fn opening_in(word: &[u8]) -> Option<usize>
     word.iter().position(|b| *b == b'(')
 }
 
-/// A method as an instruction names it: class, name and descriptor.
+/// A member as an instruction names it: class, name and descriptor.
 #[derive(Clone, Copy)]
-pub struct MethodName<'a> {
+pub struct MemberName<'a> {
     pub class: &'a [u8],
     pub name: &'a [u8],
     pub descriptor: &'a [u8],
@@ -48,7 +48,7 @@ pub struct MethodName<'a> {
 
 /// A word of the form class/name(ARGS)RESULT, with 255 units of arguments at most.
 #[tactic(auto, using(crate::proofs::SignatureLemmas::signatures))]
-pub fn method_named(word: &[u8]) -> Option<MethodName<'_>>
+pub fn method_named(word: &[u8]) -> Option<MemberName<'_>>
     ensures { MatchOption result (method_named word.now ≡ None) (λ m. method_named word.now ≡ Some (record { class = m.class.now; name = m.name.now; descriptor = m.descriptor.now })) }
 {
     let Some(signature) = cut_signature(word) else {
@@ -57,18 +57,43 @@ pub fn method_named(word: &[u8]) -> Option<MethodName<'_>>
     let Some((class, name)) = class_and_name(signature.path) else {
         return None;
     };
-    if !is_member(class, name, signature.units) {
+    if !is_method(class, name, signature.units) {
         return None;
     }
-    Some(MethodName {
+    Some(MemberName {
         class,
         name,
         descriptor: signature.descriptor,
     })
 }
 
+/// A field by its class and name, in a word of the form class/name, and its descriptor.
+#[tactic(auto, using(crate::proofs::SignatureLemmas::signatures))]
+pub fn field_named<'a>(path: &'a [u8], descriptor: &'a [u8]) -> Option<MemberName<'a>>
+    ensures { MatchOption result (field_named path.now descriptor.now ≡ None) (λ m. field_named path.now descriptor.now ≡ Some (record { class = m.class.now; name = m.name.now; descriptor = m.descriptor.now })) }
+{
+    let Some((class, name)) = class_and_name(path) else {
+        return None;
+    };
+    if !is_field(class, name, descriptor) {
+        return None;
+    }
+    Some(MemberName {
+        class,
+        name,
+        descriptor,
+    })
+}
+
+/// Whether a class and a field may be named so, with this descriptor.
+fn is_field(class: &[u8], name: &[u8], descriptor: &[u8]) -> bool
+    ensures { result ≡ (is_class_name class.now && is_field_name name.now && is_field_descriptor descriptor.now) }
+{
+    is_class_name(class) && is_field_name(name) && is_field_descriptor(descriptor)
+}
+
 /// Whether a class and a method may be named so, with arguments of so many units.
-fn is_member(class: &[u8], name: &[u8], units: usize) -> bool
+fn is_method(class: &[u8], name: &[u8], units: usize) -> bool
     ensures { result ≡ (is_class_name class.now && is_method_name name.now && nat_le units 255) }
 {
     is_class_name(class) && is_method_name(name) && units <= 255
@@ -76,8 +101,8 @@ fn is_member(class: &[u8], name: &[u8], units: usize) -> bool
 
 /// A path cut at its last slash.
 fn class_and_name(path: &[u8]) -> Option<(&[u8], &[u8])>
-    ensures none { IfNone result (before_last (λ b. b == 47) path.now ≡ []) }
-    ensures some { IfSome result (λ cut. (cut.0.now ≡ before_last (λ b. b == 47) path.now) × (cut.1.now ≡ after_last (λ b. b == 47) path.now)) }
+    ensures none { IfNone result (class_in path.now ≡ []) }
+    ensures some { IfSome result (λ cut. (cut.0.now ≡ class_in path.now) × (cut.1.now ≡ name_in path.now)) }
 {
     let behind = behind_last_slash(path);
     if behind == 0 {

@@ -14,6 +14,7 @@ use Rattle.model.specs.Sizes.{pad_at}
 use Rattle.model.specs.Texts.{tree_of}
 use Rattle.model.specs.Texts.Assembling.{assembles}
 use Rattle.model.specs.Texts.ListingOfTree.{listing_of}
+use Rattle.model.specs.Texts.Mnemonics.{mnemonic_of}
 
 -- the listing that a text spells
 abbrev pub listing_spelled : List ℕ → Option ClassListing
@@ -42,7 +43,7 @@ pub smallest : listing_spelled (main_text (codes ".limit stack 0\n.limit locals 
     });
   } ∷ [];
 })
-unfolding tree_of listing_of
+unfolding tree_of listing_of mnemonic_of
 smallest = refl
 
 -- an int that wraps: `ldc`, a sum and a print, with the print's class, name and descriptor
@@ -69,50 +70,50 @@ pub wraps : listing_spelled (codes "; a sum\n.class A\n .super\tjava/lang/Object
     });
   } ∷ [];
 })
-unfolding tree_of listing_of
+unfolding tree_of listing_of mnemonic_of
 wraps = refl
 
 -- no line is spelled `goto X`
 pub no_goto : tree_of (main_text (codes ".limit stack 0\n.limit locals 0\ngoto X\n.end method\n")) ≡ None
-unfolding tree_of
+unfolding tree_of mnemonic_of
 no_goto = refl
 
 pub nothing : tree_of [] ≡ None
-unfolding tree_of
+unfolding tree_of mnemonic_of
 nothing = refl
 
 -- a limit is given once
 pub repeated_limit : tree_of (main_text (codes ".limit stack 0\n.limit stack 0\n.limit locals 0\nreturn\n.end method\n")) ≡ None
-unfolding tree_of
+unfolding tree_of mnemonic_of
 repeated_limit = refl
 
 -- a number has no 0 in front
 pub leading_zero : tree_of (main_text (codes ".limit stack 1\n.limit locals 0\nbipush 05\nreturn\n.end method\n")) ≡ None
-unfolding tree_of
+unfolding tree_of mnemonic_of
 leading_zero = refl
 
 -- a flag is given once
 pub repeated_flag : tree_of (codes ".class public public E\n.super java/lang/Object\n") ≡ None
-unfolding tree_of
+unfolding tree_of mnemonic_of
 repeated_flag = refl
 
 -- a line with a byte past 7F spells nothing, in a comment too
 pub no_text : tree_of (main_text (codes ".limit stack 1\n.limit locals 0\nreturn ;" ++ 0xff ∷ codes "\n.end method\n")) ≡ None
-unfolding tree_of
+unfolding tree_of mnemonic_of
 no_text = refl
 
 -- a method without its end
 pub endless : tree_of (main_text (codes ".limit stack 0\n.limit locals 0\nreturn\n")) ≡ None
-unfolding tree_of
+unfolding tree_of mnemonic_of
 endless = refl
 
 -- code is not empty
 pub empty_code : option_map assembles (tree_of (main_text (codes ".limit stack 0\n.limit locals 0\n.end method\n"))) ≡ Some false
-unfolding tree_of assembles
+unfolding tree_of assembles mnemonic_of
 empty_code = refl
 
 pub one_return : option_map assembles (tree_of (main_text (codes ".limit stack 0\n.limit locals 0\nreturn\n.end method\n"))) ≡ Some true
-unfolding tree_of assembles
+unfolding tree_of assembles mnemonic_of
 one_return = refl
 
 -- a switch behind `ldc` and 0, 1, 2 or 3 nops

@@ -14,10 +14,12 @@ pub mod Instructions
 pub mod Labels
 pub mod Lines
 pub mod ListingOfTree
+pub mod Locals
 pub mod Methods
 pub mod Mnemonics
 pub mod Names
 pub mod Numbers
+pub mod Operands
 pub mod Statements
 pub mod Tables
 pub mod Trees

@@ -4,7 +4,7 @@ use Rattle.std.specs.Str.{bytes_eq}
 use Rattle.model.specs.declared.flags.ClassFlags.{ClassFlags}
 use Rattle.model.specs.declared.trees.MethodTree.{MethodTree}
 use Rattle.model.specs.Texts.Heads.{ClassHead, class_of, super_of}
-use Rattle.model.specs.Texts.Instructions.{only}
+use Rattle.model.specs.Texts.Operands.{only}
 use Rattle.model.specs.Texts.Methods.{method_tree}
 use Rattle.model.specs.Texts.Statements.{Statement}
 use Rattle.model.specs.Texts.Trees.{Tree}

@@ -53,6 +53,11 @@ is_one (Some units) = length units == 1
 abbrev pub is_field_descriptor : List ℕ → Bool
 is_field_descriptor word = fits word && is_one (types_of word)
 
+-- an array's descriptor, which names its class (JVMS 4.4.1)
+abbrev pub is_array_descriptor : List ℕ → Bool
+is_array_descriptor [] = false
+is_array_descriptor (b ∷ bs) = b == 91 && is_field_descriptor (b ∷ bs)
+
 -- what a method returns: a type, or nothing
 abbrev pub is_result : List ℕ → Bool
 is_result word = bytes_eq word (codes "V") || is_one (types_of word)

@@ -5,8 +5,8 @@ use Rattle.model.specs.declared.flags.ClassFlags.{ClassFlags}
 use Rattle.model.specs.declared.flags.MethodFlags.{MethodFlags}
 use Rattle.model.specs.Texts.Descriptors.{arguments_of}
 use Rattle.model.specs.Texts.Flags.{class_flags, method_flags, flags_and_word, class_flags_agree, method_flags_agree, has}
-use Rattle.model.specs.Texts.Instructions.{before_parenthesis, from_parenthesis, only}
 use Rattle.model.specs.Texts.Names.{is_class_name, is_method_name}
+use Rattle.model.specs.Texts.Operands.{class_named, before_parenthesis, from_parenthesis, only}
 use Rattle.model.specs.Texts.Statements.{Statement}
 
 -- the words behind a directive
@@ -28,11 +28,8 @@ class_head (Some (flags, name)) =
 abbrev pub class_of : Statement → Option ClassHead
 class_of s = option_and_then (λ words. class_head (flags_and_word class_flags words)) (behind (codes ".class") s)
 
-abbrev pub class_name : List ℕ → Option (List ℕ)
-class_name word = if is_class_name word then Some word else None
-
 abbrev pub super_of : Statement → Option (List ℕ)
-super_of s = option_and_then (λ words. option_and_then class_name (only words)) (behind (codes ".super") s)
+super_of s = option_and_then (λ words. option_and_then class_named (only words)) (behind (codes ".super") s)
 
 -- what a `.method` says
 pub record MethodHead : Type 0 where

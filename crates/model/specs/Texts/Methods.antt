@@ -9,8 +9,9 @@ use Rattle.model.specs.declared.trees.TextLine.TheVariants.{Instruction}
 use Rattle.model.specs.Texts.Bodies.{Body}
 use Rattle.model.specs.Texts.Flags.{has}
 use Rattle.model.specs.Texts.Heads.{MethodHead, method_of}
-use Rattle.model.specs.Texts.Instructions.{instruction_of, only}
+use Rattle.model.specs.Texts.Instructions.{instruction_of}
 use Rattle.model.specs.Texts.Numbers.{natural_to}
+use Rattle.model.specs.Texts.Operands.{only}
 use Rattle.model.specs.Texts.Statements.{Statement}
 
 -- what a statement of a method's body says
