@@ -12,7 +12,6 @@ use Rattle.model.specs.declared.turns.Turn.TheVariants.{Done as TurnDone, Fault 
 use Rattle.model.specs.ClassListings.{ClassListing}
 use Rattle.model.specs.Journals.{JournalValue, blank, with_row as journal_with_row}
 use Rattle.model.specs.Worlds.{World, opening_world, next_birth}
-use Rattle.model.specs.Effects.{Effect}
 use Rattle.model.specs.Effects.Choice.{NotAsked, NewObject}
 use Rattle.model.specs.Table.Next.{next, asked}
 use Rattle.model.specs.Turns.{refusal, choice_of, ideal_step}
