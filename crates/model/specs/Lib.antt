@@ -2,6 +2,7 @@ pub mod Accepted
 pub mod Accounts
 pub mod Arithmetic
 pub mod Bytecode
+pub mod Callees
 pub mod ClassFiles
 pub mod ClassListings
 pub mod Classes
@@ -23,6 +24,7 @@ pub mod Programs
 pub mod Ready
 pub mod Results
 pub mod Served
+pub mod Signatures
 pub mod Sizes
 pub mod Switches
 pub mod Table

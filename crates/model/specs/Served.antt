@@ -1,4 +1,4 @@
-use Rattle.std.specs.Prelude.{ℕ, ℤ, List, [], ◌∷◌, Bool, true, false, ◌&&◌, not, is_some, Option, Some, None}
+use Rattle.std.specs.Prelude.{ℕ, ℤ, List, [], ◌∷◌, Bool, true, false, ◌&&◌, not, codes, Option, Some, None}
 use Rattle.std.specs.List.{list_all}
 use Rattle.model.specs.declared.names.Member.{Member}
 use Rattle.model.specs.declared.values.Kind.{Kind}
@@ -20,7 +20,7 @@ use Rattle.model.specs.declared.instructions.Instruction.TheVariants.{Nop, Const
 use Rattle.model.specs.CodeListings.{CodeListing}
 use Rattle.model.specs.ClassListings.{ClassListing}
 use Rattle.model.specs.Classes.Flags.{is_static_field}
-use Rattle.model.specs.Programs.{builtin_of}
+use Rattle.model.specs.Programs.{is_member}
 use Rattle.model.specs.Table.Next.{Listed}
 
 -- What the machine carries out so far. A class with anything else is refused, so that no program meets a case that the
@@ -65,11 +65,11 @@ abbrev pub serves_return : Option Kind → Bool
 serves_return None = true
 serves_return (Some kind) = false
 
--- the machine's own static methods
+-- printing an int
 abbrev pub serves_invocation : Invocation → Member → Bool
 serves_invocation Virtual member = false
 serves_invocation Special member = false
-serves_invocation Static member = is_some (builtin_of member)
+serves_invocation Static member = is_member member (codes "vm/Sys") (codes "print") (codes "(I)V")
 serves_invocation (Interface count) member = false
 
 abbrev pub is_served : Listed → Bool
