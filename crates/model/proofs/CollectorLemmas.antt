@@ -16,6 +16,8 @@ pub mod Stepping
 pub mod Known
 pub mod Locals
 pub mod Calls
+pub mod Unwinding
+pub mod Choosing
 pub mod Table
 pub mod Outcomes
 pub mod Running
