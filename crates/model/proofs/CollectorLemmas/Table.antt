@@ -10,4 +10,5 @@ pub mod Numbers
 pub mod Objects
 pub mod Returns
 pub mod Statics
+pub mod Threads
 pub mod Throws
