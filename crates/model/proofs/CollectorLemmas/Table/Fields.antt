@@ -1,0 +1,10 @@
+use Rattle.std.proofs.Common.{◌≡◌, Some}
+use Rattle.model.specs.declared.instructions.Access.{Access}
+use Rattle.model.specs.declared.names.Member.{Member}
+use Rattle.model.specs.Frames.{running}
+use Rattle.model.specs.Completions.{Site, frames_in}
+use Rattle.model.specs.Table.Fields.{field_accessed}
+use Rattle.model.specs.Collector.Moves.{CompletionMoves}
+
+pub field_moves : (s : Site) → running (frames_in s) ≡ Some s.frame → (access : Access) (member : Member) → CompletionMoves s.world (field_accessed s access member)
+field_moves s e access member = tt
