@@ -1,12 +1,12 @@
 -- Class files (JVMS 4): bytes, and what they spell.
-pub mod Numbers
+pub mod Attributes
+pub mod Classes
+pub mod Codes
 pub mod Entries
+pub mod Fields
+pub mod Heads
+pub mod Lists
+pub mod Methods
+pub mod Numbers
 pub mod Pools
 pub mod References
-pub mod Attributes
-pub mod Fields
-pub mod Lists
-pub mod Heads
-pub mod Codes
-pub mod Methods
-pub mod Classes

@@ -56,16 +56,17 @@ pub record Moves (w : World) (c : Change) : Type 0 where
 abbrev pub change_of : Option ℕ → Effect → Change
 change_of object e = record { after = e.after; object = object; writes = e.writes }
 
--- how many words the new object has, by what was asked for and chosen
+-- how many words the new object has, by what was chosen and asked for: there is none where none was asked for, and otherwise
+-- unless none had room
 abbrev pub object_of : Choice → Option ℕ → Option ℕ
-object_of NotAsked words = None
+object_of NotAsked words = words
 object_of NewObject words = words
 object_of NoRoom words = None
 
--- a fault, which changes nothing but the recorded fault, or a move of the world, which records none
+-- a fault, which changes nothing but the recorded fault, or a move of the world, which records none; neither counts a row
 pub data Lawful (w : World) (object : Option ℕ) (e : Effect) : Type 0 where
   faults : (t : ℕ) (fault : Fault) → e ≡ faulted w t fault → Lawful w object e
-  moves : e.after.fault ≡ w.fault → Moves w (change_of object e) → Lawful w object e
+  moves : e.after.fault ≡ w.fault → e.after.rows ≡ w.rows → Moves w (change_of object e) → Lawful w object e
 
 -- the same of what an instruction comes to, before it is chosen whether a cell is free: what a family is shown to do
 

@@ -1,20 +1,16 @@
-use Rattle.std.proofs.Common.{◌≡◌, ℕ, ℤ, [], Some, None, Result, Ok, Err, refl}
+use Rattle.std.proofs.Common.{◌≡◌, ℤ, [], Some, Result, Ok, Err, refl}
 use Rattle.model.specs.declared.turns.Fault.{Fault}
 use Rattle.model.specs.declared.builtins.Builtin.{Builtin}
 use Rattle.model.specs.declared.builtins.Builtin.TheVariants.{PrintInt}
-use Rattle.model.specs.Frames.{Frame, running, with_running, int_on, replaced}
-use Rattle.model.specs.Worlds.{World, frames_at}
-use Rattle.model.specs.Worlds.Thread.{Live}
+use Rattle.model.specs.Frames.{running, int_on, replaced}
+use Rattle.model.specs.Completions.{Site, frames_in}
 use Rattle.model.specs.Table.Builtins.{print_on, builtin_call}
-use Rattle.model.specs.Collector.Moves.{Lawful}
-use Rattle.model.specs.Collector.Moves.Lawful.{faults, moves}
-use Rattle.model.proofs.CollectorLemmas.Moving.{frames_set}
-use Rattle.model.proofs.CollectorLemmas.Stepping.{replaced_moves, thread_moves}
+use Rattle.model.specs.Collector.Moves.{CompletionMoves}
+use Rattle.model.proofs.CollectorLemmas.Stepping.{replaced_lawful, site_moves}
 
-print_lawful : (w : World) (t next : ℕ) (f : Frame) (r : Result ℤ Fault) → running (frames_at w t) ≡ Some f → Lawful w None (print_on next w t (frames_at w t) f r)
-print_lawful w t next f (Err fault) e = faults t fault refl
-print_lawful w t next f (Ok z) e =
-    moves refl (thread_moves w _ t (Live (with_running (frames_at w t) (replaced next f 1 []).frame)) [] refl refl refl (frames_set _ (frames_at w t) _ f _ e (replaced_moves _ next f 1 [] tt)) (λ b k. absurd k))
+print_moves : (s : Site) → running (frames_in s) ≡ Some s.frame → (r : Result ℤ Fault) → CompletionMoves s.world (print_on s r)
+print_moves s e (Err fault) = tt
+print_moves s e (Ok z) = site_moves s e (replaced s.next s.frame 1 []) (replaced_lawful s.world s.next s.frame 1 [] tt)
 
-pub builtin_lawful : (w : World) (t next : ℕ) (f : Frame) (builtin : Builtin) → running (frames_at w t) ≡ Some f → Lawful w None (builtin_call next w t (frames_at w t) f builtin)
-builtin_lawful w t next f PrintInt e = print_lawful w t next f (int_on f.stack) e
+pub builtin_moves : (s : Site) → running (frames_in s) ≡ Some s.frame → (builtin : Builtin) → CompletionMoves s.world (builtin_call s builtin)
+builtin_moves s e PrintInt = print_moves s e (int_on s.frame.stack)

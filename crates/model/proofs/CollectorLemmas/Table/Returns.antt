@@ -1,12 +1,13 @@
 use Rattle.std.proofs.Common.{◌≡◌, ℕ, List, [], ◌∷◌, Option, Some, None, refl}
+use Rattle.model.specs.declared.values.Kind.{Kind}
 use Rattle.model.specs.declared.listings.Placed.{Placed}
 use Rattle.model.specs.ClassListings.{ClassListing}
 use Rattle.model.specs.Frames.{Frame, running, callers}
 use Rattle.model.specs.Programs.{instruction_of}
-use Rattle.model.specs.Worlds.{World, frames_of, frames_at}
+use Rattle.model.specs.Worlds.{frames_of}
+use Rattle.model.specs.Completions.{Site, frames_in}
 use Rattle.model.specs.Table.Returns.{past_invoke, resumed, left_with, returned}
-use Rattle.model.specs.Collector.Moves.{FrameMoves, FramesMove, Lawful}
-use Rattle.model.specs.Collector.Moves.Lawful.{moves}
+use Rattle.model.specs.Collector.Moves.{FrameMoves, FramesMove, CompletionMoves}
 use Rattle.model.proofs.CollectorLemmas.Moving.{frame_same, frames_set, frames_same, frames_taken, frames_trans}
 use Rattle.model.proofs.CollectorLemmas.Stepping.{thread_moves}
 
@@ -23,8 +24,12 @@ left_moves : (P : ℕ → Type 0) (program : List ClassListing) (gs : List Frame
 left_moves P program [] = tt
 left_moves P program (g ∷ gs) = resumed_moves P program (g ∷ gs) (running (g ∷ gs)) refl
 
-pub returned_lawful : (program : List ClassListing) (w : World) (t : ℕ) → Lawful w None (returned program w t (frames_at w t))
-returned_lawful program w t =
-    moves refl (thread_moves w _ t (left_with program (callers (frames_at w t))) [] refl refl refl
-    (frames_trans _ (frames_at w t) (callers (frames_at w t)) _ (frames_taken _ (frames_at w t) _) (left_moves _ program (callers (frames_at w t))))
-    (λ b k. absurd k))
+pub returned_moves : (s : Site) → running (frames_in s) ≡ Some s.frame → (kind : Option Kind) → CompletionMoves s.world (returned s kind)
+returned_moves s e None = record {
+  fault = refl;
+  rows = refl;
+  moves = thread_moves s.world _ s.thread (left_with s.program (callers (frames_in s))) [] refl refl refl
+      (frames_trans _ (frames_in s) (callers (frames_in s)) _ (frames_taken _ (frames_in s) _) (left_moves _ s.program (callers (frames_in s))))
+      (λ b k. absurd k);
+}
+returned_moves s e (Some kind) = tt
