@@ -32,3 +32,4 @@ pub mod Turning
 pub mod Unwinding
 pub mod WorkedRows
 pub mod WorkedRuns
+pub mod Words

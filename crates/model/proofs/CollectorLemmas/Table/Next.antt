@@ -20,6 +20,10 @@ use Rattle.model.proofs.CollectorLemmas.Stepping.{replaced_lawful, completes_mov
 use Rattle.model.proofs.CollectorLemmas.Choosing.{effect_lawful}
 use Rattle.model.proofs.CollectorLemmas.Table.Constants.{constant_lawful}
 use Rattle.model.proofs.CollectorLemmas.Table.Numbers.{number_lawful}
+use Rattle.model.proofs.CollectorLemmas.Table.Statics.{static_moves}
+use Rattle.model.proofs.CollectorLemmas.Table.Fields.{field_moves}
+use Rattle.model.proofs.CollectorLemmas.Table.Arrays.{array_moves}
+use Rattle.model.proofs.CollectorLemmas.Table.Objects.{class_moves}
 use Rattle.model.proofs.CollectorLemmas.Table.Returns.{returned_moves}
 use Rattle.model.proofs.CollectorLemmas.Table.Builtins.{builtin_moves}
 
@@ -45,10 +49,10 @@ family_moves s e (Branch test target) = tt
 family_moves s e (TableSwitch table) = tt
 family_moves s e (LookupSwitch lookup) = tt
 family_moves s e (Return kind) = returned_moves s e kind
-family_moves s e (StaticField access member) = tt
-family_moves s e (Field access member) = tt
-family_moves s e (Array operation) = tt
-family_moves s e (Class operation name) = tt
+family_moves s e (StaticField access member) = static_moves s e access member
+family_moves s e (Field access member) = field_moves s e access member
+family_moves s e (Array operation) = array_moves s e operation
+family_moves s e (Class operation name) = class_moves s e operation name
 family_moves s e (Invoke invocation member) = invoked_moves s e invocation member
 family_moves s e Throw = tt
 family_moves s e (Monitor operation) = tt
