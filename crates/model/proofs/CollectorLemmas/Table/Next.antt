@@ -1,19 +1,14 @@
 use Rattle.std.proofs.Common.{◌≡◌, ℕ, [], List, Option, Some, None, Ok, refl}
-use Rattle.model.specs.declared.names.Member.{Member}
-use Rattle.model.specs.declared.builtins.Builtin.{Builtin}
 use Rattle.model.specs.declared.listings.Placed.{Placed}
 use Rattle.model.specs.declared.instructions.Instruction.TheVariants.{Nop, Constant, Local, Stack, Number, Branch, TableSwitch, LookupSwitch, Return, Static as StaticField, Field, Array, Class, Invoke, Throw, Monitor}
-use Rattle.model.specs.declared.instructions.Invocation.{Invocation}
-use Rattle.model.specs.declared.instructions.Invocation.TheVariants.{Virtual, Special, Static, Interface}
 use Rattle.model.specs.ClassListings.{ClassListing}
 use Rattle.model.specs.Frames.{Frame, running, replaced}
-use Rattle.model.specs.Programs.{instruction_of, builtin_of}
+use Rattle.model.specs.Programs.{instruction_of}
 use Rattle.model.specs.Worlds.{World, frames_at}
 use Rattle.model.specs.Completions.{Site, frames_in}
 use Rattle.model.specs.Effects.{Choice}
 use Rattle.model.specs.Table.Constants.{constant}
 use Rattle.model.specs.Table.Numbers.{number}
-use Rattle.model.specs.Table.Invokes.{called, invoked}
 use Rattle.model.specs.Table.Next.{Listed, by_family, at_instruction, at_frame, completion, next, asked}
 use Rattle.model.specs.Collector.Moves.{CompletionMoves, Lawful, object_of}
 use Rattle.model.proofs.CollectorLemmas.Stepping.{replaced_lawful, completes_moves}
@@ -21,19 +16,15 @@ use Rattle.model.proofs.CollectorLemmas.Choosing.{effect_lawful}
 use Rattle.model.proofs.CollectorLemmas.Table.Constants.{constant_lawful}
 use Rattle.model.proofs.CollectorLemmas.Table.Numbers.{number_lawful}
 use Rattle.model.proofs.CollectorLemmas.Table.Returns.{returned_moves}
-use Rattle.model.proofs.CollectorLemmas.Table.Builtins.{builtin_moves}
+use Rattle.model.proofs.CollectorLemmas.Table.Statics.{static_moves}
+use Rattle.model.proofs.CollectorLemmas.Table.Fields.{field_moves}
+use Rattle.model.proofs.CollectorLemmas.Table.Arrays.{array_moves}
+use Rattle.model.proofs.CollectorLemmas.Table.Objects.{class_moves}
+use Rattle.model.proofs.CollectorLemmas.Table.Invokes.{invoked_moves}
+use Rattle.model.proofs.CollectorLemmas.Table.Throws.{threw_moves}
+use Rattle.model.proofs.CollectorLemmas.Table.Monitors.{monitor_moves}
 
 -- The table as a whole. A family has a file of its own here and its case of `family_moves`.
-
-called_moves : (s : Site) → running (frames_in s) ≡ Some s.frame → (builtin : Option Builtin) → CompletionMoves s.world (called s builtin)
-called_moves s e (Some builtin) = builtin_moves s e builtin
-called_moves s e None = tt
-
-invoked_moves : (s : Site) → running (frames_in s) ≡ Some s.frame → (invocation : Invocation) (member : Member) → CompletionMoves s.world (invoked s invocation member)
-invoked_moves s e Static member = called_moves s e (builtin_of member)
-invoked_moves s e Virtual member = tt
-invoked_moves s e Special member = tt
-invoked_moves s e (Interface count) member = tt
 
 family_moves : (s : Site) → running (frames_in s) ≡ Some s.frame → (i : Listed) → CompletionMoves s.world (by_family s i)
 family_moves s e Nop = completes_moves s e (Ok (replaced s.next s.frame 0 [])) (replaced_lawful s.world s.next s.frame 0 [] tt)
@@ -45,13 +36,13 @@ family_moves s e (Branch test target) = tt
 family_moves s e (TableSwitch table) = tt
 family_moves s e (LookupSwitch lookup) = tt
 family_moves s e (Return kind) = returned_moves s e kind
-family_moves s e (StaticField access member) = tt
-family_moves s e (Field access member) = tt
-family_moves s e (Array operation) = tt
-family_moves s e (Class operation name) = tt
+family_moves s e (StaticField access member) = static_moves s e access member
+family_moves s e (Field access member) = field_moves s e access member
+family_moves s e (Array operation) = array_moves s e operation
+family_moves s e (Class operation name) = class_moves s e operation name
 family_moves s e (Invoke invocation member) = invoked_moves s e invocation member
-family_moves s e Throw = tt
-family_moves s e (Monitor operation) = tt
+family_moves s e Throw = threw_moves s e
+family_moves s e (Monitor operation) = monitor_moves s e operation
 
 instruction_moves : (program : List ClassListing) (w : World) (t : ℕ) (f : Frame) (i : Option Placed) → running (frames_at w t) ≡ Some f → CompletionMoves w (at_instruction program w t f i)
 instruction_moves program w t f None e = tt
