@@ -24,6 +24,7 @@ pub mod Ready
 pub mod Results
 pub mod Served
 pub mod Sizes
+pub mod Stores
 pub mod Switches
 pub mod Table
 pub mod Texts
@@ -31,4 +32,5 @@ pub mod Turns
 pub mod Unwinding
 pub mod Values
 pub mod Views
+pub mod Words
 pub mod Worlds
