@@ -30,5 +30,6 @@ pub mod Taking
 pub mod Tracing
 pub mod Turning
 pub mod Unwinding
+pub mod Words
 pub mod WorkedRows
 pub mod WorkedRuns

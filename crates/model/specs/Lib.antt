@@ -26,6 +26,7 @@ pub mod Results
 pub mod Served
 pub mod Signatures
 pub mod Sizes
+pub mod Stores
 pub mod Switches
 pub mod Table
 pub mod Texts
@@ -33,4 +34,5 @@ pub mod Turns
 pub mod Unwinding
 pub mod Values
 pub mod Views
+pub mod Words
 pub mod Worlds

@@ -1,0 +1,7 @@
+-- Worked rows of the instruction table: a file for each family. The values are those of JVMS 6.5, worked out by hand.
+pub mod Branches
+pub mod Locals
+pub mod Stacks
+pub mod Switches
+pub mod Throwing
+pub mod Worked
