@@ -3,4 +3,5 @@ pub mod Branches
 pub mod Locals
 pub mod Stacks
 pub mod Switches
+pub mod Throwing
 pub mod Worked
