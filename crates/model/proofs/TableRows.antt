@@ -5,4 +5,5 @@ pub mod Locals
 pub mod PlainPrograms
 pub mod Stacks
 pub mod Switches
+pub mod Throwing
 pub mod Worked
