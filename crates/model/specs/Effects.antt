@@ -1,7 +1,7 @@
 use Rattle.std.specs.Prelude.{ℕ, List, [], ◌∷◌, ◌++◌, Result, Ok, Err, Option, Some, None}
 use Rattle.model.specs.declared.values.Value.TheVariants.{Ref}
 use Rattle.model.specs.declared.turns.Fault.{Fault}
-use Rattle.model.specs.declared.turns.Fault.TheVariants.{StackFull}
+use Rattle.model.specs.declared.turns.Fault.TheVariants.{NoInstruction, StackFull}
 use Rattle.model.specs.declared.turns.Exception.{Exception}
 use Rattle.model.specs.declared.turns.Abrupt.{Abrupt}
 use Rattle.model.specs.ClassListings.{ClassListing}
@@ -22,8 +22,6 @@ pub data Choice : Type 0 where
   NotAsked : Choice
   NewObject : Choice
   NoRoom : Choice
-  -- the turn is at fault: after an ask that is F2 alone, for the new object or for a handler, and so one world
-  Faulting : Choice
 
 -- the new object is there, and its reference on the stack; F2 where it has no room
 abbrev pub created_with : World → ℕ → Contents → Result Moved Abrupt → Effect
@@ -34,21 +32,19 @@ created_with w t contents (Ok m) = record {
 created_with w t contents (Err abrupt) = faulted w t StackFull
 
 abbrev pub created_on : World → ℕ → ℕ → ℕ → Contents → Option Frame → Effect
-created_on w t next taken contents None = faulted w t StackFull
+created_on w t next taken contents None = faulted w t NoInstruction
 created_on w t next taken contents (Some f) = created_with w t contents (replaced_if_room next f taken (Ref (Some (next_birth w)) ∷ []))
 
 abbrev pub created : List ClassListing → World → ℕ → ℕ → ℕ → Contents → Choice → Effect
 created program w t next taken contents NotAsked = created_on w t next taken contents (running (frames_at w t))
 created program w t next taken contents NewObject = created_on w t next taken contents (running (frames_at w t))
 created program w t next taken contents NoRoom = thrown program w w t 1
-created program w t next taken contents Faulting = faulted w t StackFull
 
 -- a new exception is thrown, or the OutOfMemoryError that was made before the run
 abbrev pub raised : List ClassListing → World → ℕ → Exception → Choice → Effect
 raised program w t exception NotAsked = thrown program w (with_new w (plain_object (exception_class exception))) t (next_birth w)
 raised program w t exception NewObject = thrown program w (with_new w (plain_object (exception_class exception))) t (next_birth w)
 raised program w t exception NoRoom = thrown program w w t 1
-raised program w t exception Faulting = faulted w t StackFull
 
 abbrev pub effect_of : List ClassListing → World → ℕ → Choice → Completion → Effect
 effect_of program w t choice (Goes after writes) = record { after = after; writes = writes }

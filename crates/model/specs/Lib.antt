@@ -25,6 +25,7 @@ pub mod Ready
 pub mod Results
 pub mod Served
 pub mod Signatures
+pub mod Shows
 pub mod Sizes
 pub mod Stores
 pub mod Switches

@@ -12,7 +12,7 @@ use Rattle.model.specs.declared.turns.Turn.TheVariants.{Done as TurnDone, Fault 
 use Rattle.model.specs.ClassListings.{ClassListing}
 use Rattle.model.specs.Journals.{JournalValue, blank, with_row as journal_with_row}
 use Rattle.model.specs.Worlds.{World, opening_world, next_birth}
-use Rattle.model.specs.Effects.Choice.{NotAsked, NewObject, NoRoom as NoneHasRoom}
+use Rattle.model.specs.Effects.Choice.{NotAsked, NewObject}
 use Rattle.model.specs.Table.Next.{next, asked}
 use Rattle.model.specs.Turns.{refusal, choice_of, ideal_step}
 use Rattle.model.specs.Accounts.{Account, opening_account, has_room, after_turn}
@@ -66,14 +66,14 @@ outcome_by false outcome = outcome
 
 abbrev pub outcome_asked : List ClassListing → World → ℕ → Bool → Outcome
 outcome_asked program w t true = outcome_by (is_fault (next program w t NewObject).after) Object
-outcome_asked program w t false = outcome_by (is_fault (next program w t NoneHasRoom).after) NoRoom
+outcome_asked program w t false = NoRoom
 
 abbrev pub outcome_if : List ClassListing → Machine → ℕ → Option ℕ → Outcome
 outcome_if program m t None = outcome_by (is_fault (next program m.world t NotAsked).after) Done
 outcome_if program m t (Some words) = outcome_asked program m.world t (has_room m.account words)
 
--- what comes of a turn that nothing refuses: Fault where it faults, after an ask too; else NoRoom where it asks for a cell
--- and none has room, Object where it asks and one has, Done where it doesn't ask
+-- what comes of a turn that nothing refuses: NoRoom where it asks for a cell and none has room, Fault where it faults
+-- (after an ask that has room too), Object where it asked, else Done
 abbrev pub outcome_of : List ClassListing → Machine → Actor → Outcome
 outcome_of program m (Thread t) = outcome_if program m t (asked program m.world t)
 outcome_of program m Collector = Done

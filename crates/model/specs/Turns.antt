@@ -10,7 +10,7 @@ use Rattle.model.specs.declared.turns.Turn.TheVariants.{NotReady, Stopped, Outpu
 use Rattle.model.specs.ClassListings.{ClassListing}
 use Rattle.model.specs.Worlds.{World, counted}
 use Rattle.model.specs.Effects.{Choice}
-use Rattle.model.specs.Effects.Choice.{NotAsked, NewObject, NoRoom, Faulting}
+use Rattle.model.specs.Effects.Choice.{NotAsked, NewObject, NoRoom}
 use Rattle.model.specs.Completions.{prints}
 use Rattle.model.specs.Table.Next.{completion, next}
 use Rattle.model.specs.Ready.{is_ready}
@@ -52,11 +52,12 @@ refusal program limits w actor = refusal_after program limits w actor w.fault
 
 -- ---- the ideal run
 
+-- after an ask that has room the only fault is F2, so a fault's choice is that of an object
 abbrev pub choice_of : Outcome → Choice
 choice_of WasDone = NotAsked
 choice_of GotObject = NewObject
 choice_of FoundNoRoom = NoRoom
-choice_of WasFault = Faulting
+choice_of WasFault = NewObject
 
 abbrev pub acted : List ClassListing → World → Actor → Choice → World
 acted program w (Thread t) choice = (next program w t choice).after

@@ -1,7 +1,7 @@
 use Rattle.std.proofs.Common.{◌≡◌, ◌⊎◌, inl, inr, ℕ, ◌+◌, Bool, true, false, List, [], ◌∷◌, ◌++◌, length, drop, set, Option, Some, None, Ok, Err, nat_le, refl, sym, ap, arith}
 use Rattle.std.proofs.lemmas.List.{length-append}
 use Rattle.model.specs.declared.values.Value.TheVariants.{Ref}
-use Rattle.model.specs.declared.turns.Fault.TheVariants.{StackFull}
+use Rattle.model.specs.declared.turns.Fault.TheVariants.{NoInstruction, StackFull}
 use Rattle.model.specs.declared.turns.Exception.{Exception}
 use Rattle.model.specs.ClassListings.{ClassListing}
 use Rattle.model.specs.Classes.Exceptions.{exception_class}
@@ -10,11 +10,10 @@ use Rattle.model.specs.Frames.{Frame, running, with_running, push_all, replaced,
 use Rattle.model.specs.Worlds.{World, Contents, Object, frames_at, next_birth, plain_object}
 use Rattle.model.specs.Worlds.Thread.{Live}
 use Rattle.model.specs.Objects.{made_of, with_new, words_in}
-use Rattle.model.specs.Results.{Effect, faulted}
 use Rattle.model.specs.Completions.{Completion, asks}
 use Rattle.model.specs.Completions.Completion.{Goes, Prints, Creates, Throws, Raises, Faults, Waits}
 use Rattle.model.specs.Effects.{Choice, created_with, created_on, created, raised, effect_of}
-use Rattle.model.specs.Effects.Choice.{NotAsked, NewObject, NoRoom, Faulting}
+use Rattle.model.specs.Effects.Choice.{NotAsked, NewObject, NoRoom}
 use Rattle.model.specs.Collector.Places.{contents_refs, slots_of}
 use Rattle.model.specs.Collector.Invariant.{In}
 use Rattle.model.specs.Collector.Moves.{LeadNowhere, WorldMoves, CompletionMoves, Moves, Lawful, object_of}
@@ -22,7 +21,7 @@ use Rattle.model.specs.Collector.Moves.Lawful.{faults, moves}
 use Rattle.model.proofs.CollectorLemmas.Moving.{AllMay, refs_same, frames_set, threads_same, threads_set, objects_same, objects_more}
 use Rattle.model.proofs.CollectorLemmas.Known.{memory_error_known}
 use Rattle.model.proofs.CollectorLemmas.Stepping.{replaced_moves}
-use Rattle.model.proofs.CollectorLemmas.Unwinding.{Kept, OneFault, thrown_one_fault, thrown_lawful}
+use Rattle.model.proofs.CollectorLemmas.Unwinding.{Kept, thrown_lawful}
 
 -- what an instruction comes to is lawful, whatever is chosen
 
@@ -54,7 +53,7 @@ created_if_room w t next taken contents f e h = go (nat_le (units_of_all (push_a
     go false s = rw s (faults t StackFull refl)
 
 created_on_lawful : (w : World) (t next taken : ℕ) (contents : Contents) (o : Option Frame) → running (frames_at w t) ≡ o → LeadNowhere (contents_refs contents) → Lawful w (Some (words_in contents)) (created_on w t next taken contents o)
-created_on_lawful w t next taken contents None e h = faults t StackFull refl
+created_on_lawful w t next taken contents None e h = faults t NoInstruction refl
 created_on_lawful w t next taken contents (Some f) e h = created_if_room w t next taken contents f e h
 
 -- ---- something is thrown that is there
@@ -69,7 +68,6 @@ created_lawful : (program : List ClassListing) (w : World) (t next taken : ℕ) 
 created_lawful program w t next taken contents NotAsked h = created_on_lawful w t next taken contents (running (frames_at w t)) refl h
 created_lawful program w t next taken contents NewObject h = created_on_lawful w t next taken contents (running (frames_at w t)) refl h
 created_lawful program w t next taken contents NoRoom h = no_room_lawful program w t
-created_lawful program w t next taken contents Faulting h = faults t StackFull refl
 
 -- ---- an exception is made and thrown
 
@@ -87,7 +85,6 @@ raised_lawful : (program : List ClassListing) (w : World) (t : ℕ) (exception :
 raised_lawful program w t exception NotAsked = thrown_lawful program w (with_new w (plain_object (exception_class exception))) (Some 0) t (next_birth w) refl (inl refl) (one_more w (exception_class exception))
 raised_lawful program w t exception NewObject = thrown_lawful program w (with_new w (plain_object (exception_class exception))) (Some 0) t (next_birth w) refl (inl refl) (one_more w (exception_class exception))
 raised_lawful program w t exception NoRoom = no_room_lawful program w t
-raised_lawful program w t exception Faulting = faults t StackFull refl
 
 -- ---- whatever an instruction comes to
 
@@ -96,7 +93,6 @@ none_made : (choice : Choice) → object_of choice None ≡ None
 none_made NotAsked = refl
 none_made NewObject = refl
 none_made NoRoom = refl
-none_made Faulting = refl
 
 -- what is printed is no place
 printed_moves : (w after : World) (output : List ℕ) → Moves w (record { after = after; object = None; writes = [] }) → Moves w (record { after = record after { output = output }; object = None; writes = [] })
@@ -124,46 +120,3 @@ effect-choice program w t a b (Throws birth) e = refl
 effect-choice program w t a b (Raises exception) e = absurd (cc)
 effect-choice program w t a b (Faults fault) e = refl
 effect-choice program w t a b Waits e = refl
-
--- ---- after an ask the only fault is F2
-
-pub faulting-is : (program : List ClassListing) (w : World) (t words : ℕ) (c : Completion) → asks c ≡ Some words → effect_of program w t Faulting c ≡ faulted w t StackFull
-faulting-is program w t words (Goes after writes) e = absurd (cc)
-faulting-is program w t words (Prints after bytes) e = absurd (cc)
-faulting-is program w t words (Creates next taken contents) e = refl
-faulting-is program w t words (Throws birth) e = absurd (cc)
-faulting-is program w t words (Raises exception) e = refl
-faulting-is program w t words (Faults fault) e = absurd (cc)
-faulting-is program w t words Waits e = absurd (cc)
-
-created_one_fault : (w : World) (t next taken : ℕ) (contents : Contents) (o : Option Frame) → OneFault w t (created_on w t next taken contents o)
-created_one_fault w t next taken contents None = inl refl
-created_one_fault w t next taken contents (Some f) = go (nat_le (units_of_all (push_all (Ref (Some (next_birth w)) ∷ []) (drop taken f.stack))) f.room) refl
-  where
-    go : (fits : Bool) → nat_le (units_of_all (push_all (Ref (Some (next_birth w)) ∷ []) (drop taken f.stack))) f.room ≡ fits → OneFault w t (created_on w t next taken contents (Some f))
-    go true s = rw s (inr refl)
-    go false s = rw s (inl refl)
-
-none_had_room : (program : List ClassListing) (w : World) (t : ℕ) → OneFault w t (effect_of program w t NotAsked (Throws 1))
-none_had_room program w t = thrown_one_fault program w w t 1 refl
-
-one_fault-created : (program : List ClassListing) (w : World) (t next taken : ℕ) (contents : Contents) (choice : Choice) → OneFault w t (created program w t next taken contents choice)
-one_fault-created program w t next taken contents NotAsked = created_one_fault w t next taken contents (running (frames_at w t))
-one_fault-created program w t next taken contents NewObject = created_one_fault w t next taken contents (running (frames_at w t))
-one_fault-created program w t next taken contents NoRoom = none_had_room program w t
-one_fault-created program w t next taken contents Faulting = inl refl
-
-one_fault-raised : (program : List ClassListing) (w : World) (t : ℕ) (exception : Exception) (choice : Choice) → OneFault w t (raised program w t exception choice)
-one_fault-raised program w t exception NotAsked = thrown_one_fault program w (with_new w (plain_object (exception_class exception))) t (next_birth w) refl
-one_fault-raised program w t exception NewObject = thrown_one_fault program w (with_new w (plain_object (exception_class exception))) t (next_birth w) refl
-one_fault-raised program w t exception NoRoom = none_had_room program w t
-one_fault-raised program w t exception Faulting = inl refl
-
-pub effect_one_fault : (program : List ClassListing) (w : World) (t words : ℕ) (choice : Choice) (c : Completion) → asks c ≡ Some words → OneFault w t (effect_of program w t choice c)
-effect_one_fault program w t words choice (Goes after writes) e = absurd (cc)
-effect_one_fault program w t words choice (Prints after bytes) e = absurd (cc)
-effect_one_fault program w t words choice (Creates next taken contents) e = one_fault-created program w t next taken contents choice
-effect_one_fault program w t words choice (Throws birth) e = absurd (cc)
-effect_one_fault program w t words choice (Raises exception) e = one_fault-raised program w t exception choice
-effect_one_fault program w t words choice (Faults fault) e = absurd (cc)
-effect_one_fault program w t words choice Waits e = absurd (cc)

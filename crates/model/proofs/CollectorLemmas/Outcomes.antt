@@ -5,10 +5,9 @@ use Rattle.model.specs.declared.journals.Outcome.TheVariants.{Done, Object, NoRo
 use Rattle.model.specs.ClassListings.{ClassListing}
 use Rattle.model.specs.Accounts.{Account, has_room, after_turn}
 use Rattle.model.specs.declared.turns.Fault.{Fault as FaultKind}
-use Rattle.model.specs.declared.turns.Fault.TheVariants.{StackFull}
 use Rattle.model.specs.Worlds.{World, next_birth, counted, with_fault}
 use Rattle.model.specs.Results.{Effect}
-use Rattle.model.specs.Effects.Choice.{NotAsked, NewObject, NoRoom as NoneHasRoom, Faulting}
+use Rattle.model.specs.Effects.Choice.{NotAsked, NewObject, NoRoom as NoneHasRoom}
 use Rattle.model.specs.Turns.{choice_of}
 use Rattle.model.specs.Table.Next.{next, asked}
 use Rattle.model.specs.Machines.{Machine, is_fault, outcome_by, outcome_asked, outcome_if}
@@ -21,7 +20,7 @@ use Rattle.model.specs.Collector.Moves.Lawful.{faults, moves}
 use Rattle.model.proofs.CollectorLemmas.Moving.{allowed_from_moves, refs_same, threads_same, objects_same}
 use Rattle.model.proofs.CollectorLemmas.Turning.{world_keeps, changed_keeps}
 use Rattle.model.proofs.CollectorLemmas.Table.Next.{next_lawful}
-use Rattle.model.proofs.NextKeeps.{next-choice, next-faulting}
+use Rattle.model.proofs.NextKeeps.{next-choice}
 
 -- a thread's turn keeps the invariant, whatever its outcome
 
@@ -77,6 +76,11 @@ lawful_done : (w : World) (object : Option ℕ) (e : Effect) → Lawful w object
 lawful_done w object e (faults t fault s) f = let k = ap (λ (x : Effect). is_fault x.after) s in absurd (cc)
 lawful_done w object e (moves s r m) f = allowed_from_moves w (change_of object e) m
 
+-- it made no object
+lawful_either : (w : World) (e : Effect) → Lawful w None e → Allowed w (change_of None e)
+lawful_either w e (faults t fault s) = rw s (fault_allowed w t fault)
+lawful_either w e (moves s r m) = allowed_from_moves w (change_of None e) m
+
 -- ---- a thread's turn
 
 abbrev pub turn_change : List ClassListing → World → ℕ → Option ℕ → Outcome → Change
@@ -94,32 +98,26 @@ pub record Turns (program : List ClassListing) (m : Machine) (t : ℕ) (words : 
 unasked_by : (program : List ClassListing) (m : Machine) (t : ℕ) → m.world.fault ≡ None → asked program m.world t ≡ None → (f : Bool) → is_fault (next program m.world t NotAsked).after ≡ f → Turns program m t None (outcome_by f Done)
 unasked_by program m t n e true f =
     let l : Lawful m.world None (next program m.world t NotAsked) = rw e at (next_lawful program m.world t NotAsked) in
-    record { allowed = rw (next-choice program m.world t Faulting NotAsked e) (lawful_fault m.world None _ l n f); room = tt }
+    record { allowed = rw (next-choice program m.world t NewObject NotAsked e) (lawful_fault m.world None _ l n f); room = tt }
 unasked_by program m t n e false f =
     let l : Lawful m.world None (next program m.world t NotAsked) = rw e at (next_lawful program m.world t NotAsked) in
     record { allowed = lawful_done m.world None _ l f; room = tt }
 
--- a fault after an ask, whether or not a cell had room
-faulted_by : (program : List ClassListing) (m : Machine) (t words : ℕ) → asked program m.world t ≡ Some words → Turns program m t (Some words) Fault
-faulted_by program m t words e = record { allowed = rw (next-faulting program m.world t words e) (fault_allowed m.world t StackFull); room = tt }
-
-asked_by : (program : List ClassListing) (m : Machine) (t words : ℕ) → asked program m.world t ≡ Some words → has_room m.account words ≡ true → (f : Bool) → is_fault (next program m.world t NewObject).after ≡ f → Turns program m t (Some words) (outcome_by f Object)
-asked_by program m t words e room true f = faulted_by program m t words e
-asked_by program m t words e room false f =
+asked_by : (program : List ClassListing) (m : Machine) (t words : ℕ) → m.world.fault ≡ None → asked program m.world t ≡ Some words → has_room m.account words ≡ true → (f : Bool) → is_fault (next program m.world t NewObject).after ≡ f → Turns program m t (Some words) (outcome_by f Object)
+asked_by program m t words n e room true f =
+    let l : Lawful m.world (Some words) (next program m.world t NewObject) = rw e at (next_lawful program m.world t NewObject) in
+    record { allowed = lawful_fault m.world (Some words) _ l n f; room = tt }
+asked_by program m t words n e room false f =
     let l : Lawful m.world (Some words) (next program m.world t NewObject) = rw e at (next_lawful program m.world t NewObject) in
     record { allowed = lawful_done m.world (Some words) _ l f; room = room }
 
-roomless_by : (program : List ClassListing) (m : Machine) (t words : ℕ) → asked program m.world t ≡ Some words → (f : Bool) → is_fault (next program m.world t NoneHasRoom).after ≡ f → Turns program m t (Some words) (outcome_by f NoRoom)
-roomless_by program m t words e true f = faulted_by program m t words e
-roomless_by program m t words e false f = record { allowed = lawful_done m.world None _ (next_lawful program m.world t NoneHasRoom) f; room = tt }
-
-roomed_by : (program : List ClassListing) (m : Machine) (t words : ℕ) → asked program m.world t ≡ Some words → (room : Bool) → has_room m.account words ≡ room → Turns program m t (Some words) (outcome_asked program m.world t room)
-roomed_by program m t words e true r = asked_by program m t words e r (is_fault (next program m.world t NewObject).after) refl
-roomed_by program m t words e false r = roomless_by program m t words e (is_fault (next program m.world t NoneHasRoom).after) refl
+roomed_by : (program : List ClassListing) (m : Machine) (t words : ℕ) → m.world.fault ≡ None → asked program m.world t ≡ Some words → (room : Bool) → has_room m.account words ≡ room → Turns program m t (Some words) (outcome_asked program m.world t room)
+roomed_by program m t words n e true r = asked_by program m t words n e r (is_fault (next program m.world t NewObject).after) refl
+roomed_by program m t words n e false r = record { allowed = lawful_either m.world _ (next_lawful program m.world t NoneHasRoom); room = tt }
 
 pub turns_by : (program : List ClassListing) (m : Machine) (t : ℕ) (words : Option ℕ) → m.world.fault ≡ None → asked program m.world t ≡ words → Turns program m t words (outcome_if program m t words)
 turns_by program m t None n e = unasked_by program m t n e (is_fault (next program m.world t NotAsked).after) refl
-turns_by program m t (Some words) n e = roomed_by program m t words e (has_room m.account words) refl
+turns_by program m t (Some words) n e = roomed_by program m t words n e (has_room m.account words) refl
 
 -- a turn that isn't refused keeps the invariant
 pub turn_keeps : (program : List ClassListing) (shape : HeapShape) (m : Machine) (t : ℕ) (outcome : Outcome) → outcome ≡ outcome_if program m t (asked program m.world t) → m.world.fault ≡ None → Invariant shape m.world (next_birth m.world) m.account

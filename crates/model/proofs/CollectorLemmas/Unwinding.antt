@@ -6,7 +6,6 @@ use Rattle.model.specs.ClassListings.{ClassListing}
 use Rattle.model.specs.Frames.{Frame}
 use Rattle.model.specs.Worlds.{World, Object, Monitor, frames_of, frames_at, next_birth}
 use Rattle.model.specs.Worlds.Thread.{Live, Ended}
-use Rattle.model.specs.Results.{Effect, faulted}
 use Rattle.model.specs.Objects.{object_at, class_at}
 use Rattle.model.specs.Monitors.{is_owner, exited, released, released_object, released_all}
 use Rattle.model.specs.Unwinding.{Landing, handler_of, lands_at, landing, left_monitors, handling, landed, unwound, thrown}
@@ -137,40 +136,3 @@ thrown_lawful program w v object t birth e known k =
     let same : reverse fs ≡ frames_at w t = reverse-twice (frames_at v t) ∙ ap (λ ts. frames_of (slice_get ts t)) e in
     let l : LandsIn P birth (frames_at w t) (landing program class fs) = rw (← same) (lands P program class birth fs (inr (inl refl))) in
     landed_lawful w (released_all v t (left_monitors program class fs)) object t birth class (landing program class fs) known l (λ Q. all_keep Q w v (births_after object (next_birth w)) t (left_monitors program class fs) (k Q))
-
--- ---- the only fault is F2
-
--- an effect that is F2, or records no fault
-abbrev pub OneFault : World → ℕ → Effect → Type 0
-OneFault w t e = (e ≡ faulted w t StackFull) ⊎ (e.after.fault ≡ w.fault)
-
-released_object-fault : (v : World) (t birth : ℕ) (o : Option Object) → (released_object v t birth o).fault ≡ v.fault
-released_object-fault v t birth None = refl
-released_object-fault v t birth (Some o) = go (is_owner t o.monitor.owner) refl
-  where
-    go : (owns : Bool) → is_owner t o.monitor.owner ≡ owns → (released_object v t birth (Some o)).fault ≡ v.fault
-    go true s = rw s refl
-    go false s = rw s refl
-
-released-fault : (v : World) (t : ℕ) (monitor : Option ℕ) → (released v t monitor).fault ≡ v.fault
-released-fault v t None = refl
-released-fault v t (Some birth) = released_object-fault v t birth (object_at v birth)
-
-all-fault : (v : World) (t : ℕ) (monitors : List (Option ℕ)) → (released_all v t monitors).fault ≡ v.fault
-all-fault v t [] = refl
-all-fault v t (monitor ∷ monitors) = all-fault (released v t monitor) t monitors ∙ released-fault v t monitor
-
-landed_one_fault : (w v : World) (t birth : ℕ) (class : List ℕ) (l : Landing) → v.fault ≡ w.fault → OneFault w t (landed w v t birth class l)
-landed_one_fault w v t birth class Unhandled e = inr e
-landed_one_fault w v t birth class (Handled handler f callers) e = go (nat_le 1 f.room) refl
-  where
-    go : (room : Bool) → nat_le 1 f.room ≡ room → OneFault w t (landed w v t birth class (Handled handler f callers))
-    go true s = rw s (inr e)
-    go false s = rw s (inl refl)
-
-pub thrown_one_fault : (program : List ClassListing) (w v : World) (t birth : ℕ) → v.fault ≡ w.fault → OneFault w t (thrown program w v t birth)
-thrown_one_fault program w v t birth e =
-    let fs = reverse (frames_at v t) in
-    let class = class_at v birth in
-    let monitors = left_monitors program class fs in
-    landed_one_fault w (released_all v t monitors) t birth class (landing program class fs) (all-fault v t monitors ∙ e)

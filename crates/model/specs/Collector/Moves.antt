@@ -4,7 +4,7 @@ use Rattle.model.specs.declared.turns.Abrupt.{Abrupt}
 use Rattle.model.specs.Frames.{Frame, Moved}
 use Rattle.model.specs.Results.{Effect, faulted}
 use Rattle.model.specs.Effects.{Choice}
-use Rattle.model.specs.Effects.Choice.{NotAsked, NewObject, NoRoom, Faulting}
+use Rattle.model.specs.Effects.Choice.{NotAsked, NewObject, NoRoom}
 use Rattle.model.specs.Worlds.{World, Thread, Object, frames_of, next_birth}
 use Rattle.model.specs.Completions.{Completion}
 use Rattle.model.specs.Completions.Completion.{Goes, Prints, Creates, Throws, Raises, Faults, Waits}
@@ -56,12 +56,12 @@ pub record Moves (w : World) (c : Change) : Type 0 where
 abbrev pub change_of : Option ℕ → Effect → Change
 change_of object e = record { after = e.after; object = object; writes = e.writes }
 
--- how many words the new object has, by what was chosen and asked for
+-- how many words the new object has, by what was chosen and asked for: there is none where none was asked for, and otherwise
+-- unless none had room
 abbrev pub object_of : Choice → Option ℕ → Option ℕ
 object_of NotAsked words = words
 object_of NewObject words = words
 object_of NoRoom words = None
-object_of Faulting words = None
 
 -- a fault, which changes nothing but the recorded fault, or a move of the world, which records none; neither counts a row
 pub data Lawful (w : World) (object : Option ℕ) (e : Effect) : Type 0 where
