@@ -1,7 +1,9 @@
-use Rattle.std.specs.Prelude.{ℕ, ℤ, List, [], ◌∷◌, Bool, true, false, ◌&&◌, not, is_some, Option, Some, None}
+use Rattle.std.specs.Prelude.{ℕ, ℤ, List, [], ◌∷◌, Bool, true, false, ◌&&◌, not, Option, Some, None}
 use Rattle.std.specs.List.{list_all}
 use Rattle.model.specs.declared.names.Member.{Member}
 use Rattle.model.specs.declared.values.Kind.{Kind}
+use Rattle.model.specs.declared.builtins.Builtin.{Builtin}
+use Rattle.model.specs.declared.builtins.Builtin.TheVariants.{PrintInt}
 use Rattle.model.specs.declared.listings.Field.{Field as FieldListing}
 use Rattle.model.specs.declared.listings.Method.{Method}
 use Rattle.model.specs.declared.listings.Placed.{Placed}
@@ -65,11 +67,19 @@ abbrev pub serves_return : Option Kind → Bool
 serves_return None = true
 serves_return (Some kind) = false
 
--- the machine's own static methods
+-- the print of an int
+abbrev pub serves_builtin : Builtin → Bool
+serves_builtin PrintInt = true
+
+abbrev pub serves_call : Option Builtin → Bool
+serves_call None = false
+serves_call (Some builtin) = serves_builtin builtin
+
+-- calls of the machine's own static methods
 abbrev pub serves_invocation : Invocation → Member → Bool
 serves_invocation Virtual member = false
 serves_invocation Special member = false
-serves_invocation Static member = is_some (builtin_of member)
+serves_invocation Static member = serves_call (builtin_of member)
 serves_invocation (Interface count) member = false
 
 abbrev pub is_served : Listed → Bool
