@@ -6,6 +6,9 @@ pub mod Fields
 pub mod HeapSites
 pub mod Locals
 pub mod Objects
+pub mod Listings
+pub mod Locals
+pub mod PlainPrograms
 pub mod Stacks
 pub mod Stages
 pub mod Statics

@@ -23,6 +23,7 @@ pub mod Programs
 pub mod Ready
 pub mod Results
 pub mod Served
+pub mod Shows
 pub mod Sizes
 pub mod Stores
 pub mod Switches

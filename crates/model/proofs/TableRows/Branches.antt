@@ -1,5 +1,5 @@
 -- Worked branches: from pc 3 to 40 where they are taken, else to the next instruction, at 6. Stacks are written top first.
-use Rattle.std.specs.Prelude.{◌≡◌, ℕ, pos, negsuc, List, [], ◌∷◌, Result, Some, None, refl}
+use Rattle.std.specs.Prelude.{◌≡◌, pos, negsuc, List, [], ◌∷◌, Result, Some, None, refl}
 use Rattle.model.specs.declared.values.Value.{Value}
 use Rattle.model.specs.declared.values.Value.TheVariants.{Int, Long, Ref}
 use Rattle.model.specs.declared.turns.Fault.TheVariants.{StackEmpty, WrongKind}

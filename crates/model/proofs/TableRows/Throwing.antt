@@ -20,7 +20,7 @@ use Rattle.model.specs.Results.{Effect, faulted}
 use Rattle.model.specs.Completions.{Completion, asks, prints, waits, raises}
 use Rattle.model.specs.Completions.Completion.{Goes, Prints, Creates, Throws, Raises, Faults, Waits}
 use Rattle.model.specs.Effects.{Choice, effect_of}
-use Rattle.model.specs.Effects.Choice.{NotAsked, NewObject, NoRoom, Faulting}
+use Rattle.model.specs.Effects.Choice.{NotAsked, NewObject, NoRoom}
 
 -- ---- the program: main's rows and those of the method that it calls
 
@@ -245,10 +245,6 @@ created_on_full = refl
 not_created : create NoRoom (before 3) 0 ≡ then (world (Live (main_at 6 (Int (pos 1) ∷ []) ∷ m_at 30 (Ref (Some 1) ∷ []) 2 ∷ [])) (objects (Some 0) 1)) (1 ∷ [])
 unfolding is_within builtin_classes
 not_created = refl
-
--- the row of a fault stands for F2, which is one world
-at_fault : create Faulting (before 3) 0 ≡ create NewObject (before 3) 0
-at_fault = refl
 
 -- ---- the rest
 
