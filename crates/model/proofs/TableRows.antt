@@ -4,10 +4,9 @@ pub mod Branches
 pub mod FieldRuns
 pub mod Fields
 pub mod HeapSites
-pub mod Locals
-pub mod Objects
 pub mod Listings
 pub mod Locals
+pub mod Objects
 pub mod PlainPrograms
 pub mod Stacks
 pub mod Stages
