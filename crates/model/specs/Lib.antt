@@ -24,8 +24,8 @@ pub mod Programs
 pub mod Ready
 pub mod Results
 pub mod Served
-pub mod Signatures
 pub mod Shows
+pub mod Signatures
 pub mod Sizes
 pub mod Stores
 pub mod Switches

@@ -13,6 +13,6 @@ pub mod Objects
 pub mod Returns
 pub mod Stacks
 pub mod Statics
-pub mod Threads
 pub mod Switches
+pub mod Threads
 pub mod Throws
