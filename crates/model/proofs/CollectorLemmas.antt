@@ -18,7 +18,6 @@ pub mod Opening
 pub mod Outcomes
 pub mod Promising
 pub mod Reclaiming
-pub mod Recording
 pub mod Running
 pub mod Scanning
 pub mod Shading

@@ -36,10 +36,10 @@ thread_refusal program limits w t =
     then (if overflows program limits w t then Some OutputFull else None)
     else Some NotReady
 
--- the collector has no turn yet
+-- the collector is always ready
 abbrev pub actor_refusal : List ClassListing → Limits → World → Actor → Option Turn
 actor_refusal program limits w (Thread t) = thread_refusal program limits w t
-actor_refusal program limits w Collector = Some NotReady
+actor_refusal program limits w Collector = None
 
 abbrev pub refusal_after : List ClassListing → Limits → World → Actor → Option (Fault × ℕ) → Option Turn
 refusal_after program limits w actor (Some fault) = Some Stopped
