@@ -1,7 +1,11 @@
 -- Worked rows of the instruction table: a file for each family. The values are those of JVMS 6.5, worked out by hand.
 pub mod Arrays
 pub mod Branches
+pub mod ArrayRuns
+pub mod DropRuns
 pub mod FieldRuns
+pub mod LinkRuns
+pub mod LoopRuns
 pub mod Fields
 pub mod HeapSites
 pub mod Listings
