@@ -3,7 +3,7 @@ use Rattle.std.specs.List.{list_all}
 use Rattle.model.specs.declared.names.Member.{Member}
 use Rattle.model.specs.declared.values.Kind.{Kind}
 use Rattle.model.specs.declared.builtins.Builtin.{Builtin}
-use Rattle.model.specs.declared.builtins.Builtin.TheVariants.{PrintInt}
+use Rattle.model.specs.declared.builtins.Builtin.TheVariants.{PrintInt, PrintLong, PutByte, Initialize, RunThread, StartThread, JoinThread}
 use Rattle.model.specs.declared.listings.Field.{Field as FieldListing}
 use Rattle.model.specs.declared.listings.Method.{Method}
 use Rattle.model.specs.declared.listings.Placed.{Placed}
@@ -70,6 +70,12 @@ serves_return (Some kind) = false
 -- the print of an int
 abbrev pub serves_builtin : Builtin → Bool
 serves_builtin PrintInt = true
+serves_builtin PrintLong = false
+serves_builtin PutByte = false
+serves_builtin Initialize = false
+serves_builtin RunThread = false
+serves_builtin StartThread = false
+serves_builtin JoinThread = false
 
 abbrev pub serves_call : Option Builtin → Bool
 serves_call None = false
