@@ -1,15 +1,15 @@
 -- Worked rows of the instruction table: a file for each family. The values are those of JVMS 6.5, worked out by hand.
+pub mod ArrayRuns
 pub mod Arrays
 pub mod Branches
-pub mod ArrayRuns
 pub mod DropRuns
 pub mod FieldRuns
-pub mod LinkRuns
-pub mod LoopRuns
 pub mod Fields
 pub mod HeapSites
+pub mod LinkRuns
 pub mod Listings
 pub mod Locals
+pub mod LoopRuns
 pub mod Objects
 pub mod PlainPrograms
 pub mod Stacks
