@@ -1,4 +1,5 @@
 -- Worked rows of the instruction table: a file for each family. The values are those of JVMS 6.5, worked out by hand.
+pub mod ArrayRuns
 pub mod Arrays
 pub mod Branches
 pub mod Builtins
@@ -9,6 +10,14 @@ pub mod Invokes
 pub mod Listings
 pub mod Locals
 pub mod Monitors
+pub mod DropRuns
+pub mod FieldRuns
+pub mod Fields
+pub mod HeapSites
+pub mod LinkRuns
+pub mod Listings
+pub mod Locals
+pub mod LoopRuns
 pub mod Objects
 pub mod PlainPrograms
 pub mod Returns
