@@ -3,6 +3,7 @@ pub mod ArrayRuns
 pub mod Arrays
 pub mod Branches
 pub mod Builtins
+pub mod CallPrograms
 pub mod DropRuns
 pub mod FieldRuns
 pub mod Fields
@@ -21,6 +22,7 @@ pub mod Stacks
 pub mod Stages
 pub mod Statics
 pub mod Switches
+pub mod ThreadPrograms
 pub mod Threads
 pub mod Throwing
 pub mod Throws
