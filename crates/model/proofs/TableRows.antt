@@ -18,6 +18,7 @@ pub mod Objects
 pub mod PlainPrograms
 pub mod Returns
 pub mod Sites
+pub mod SlotRuns
 pub mod Stacks
 pub mod Stages
 pub mod Statics

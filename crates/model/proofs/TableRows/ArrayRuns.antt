@@ -20,6 +20,7 @@ use Rattle.model.specs.declared.turns.Actor.TheVariants.{Thread}
 use Rattle.model.specs.ClassListings.{ClassListing}
 use Rattle.model.specs.Accounts.{after_turn, shade}
 use Rattle.model.specs.Classes.Builtin.{builtin_classes}
+use Rattle.model.specs.Classes.Search.{upwards}
 use Rattle.model.specs.Classes.Subclasses.{is_within}
 use Rattle.model.specs.Classes.Types.{is_subtype_within}
 use Rattle.model.specs.Machines.{Recorded, Machine, machine_of, after_turn_by, after_turns, opened, opening_machine}
@@ -48,11 +49,11 @@ abbrev bytes_run : Machine
 bytes_run = moved_by_all bytes (small 3) ample (opening_machine bytes (small 3)) (thread 10)
 
 bytes-output : bytes_run.world.output ≡ codes "-56\n"
-unfolding moved_by refusal next completion after_turn shade int_wrap digits
+unfolding moved_by refusal next completion after_turn shade builtin_classes upwards int_wrap digits
 bytes-output = refl
 
 bytes-end : bytes_run.world.threads ≡ Ended None ∷ []
-unfolding moved_by refusal next completion after_turn shade int_wrap digits
+unfolding moved_by refusal next completion after_turn shade builtin_classes upwards int_wrap digits
 bytes-end = refl
 
 -- ---- five ints want five words, and cells of four have no room: what is thrown was made before the run
@@ -86,13 +87,13 @@ abbrev caught_run : HeapShape → Machine
 caught_run shape = moved_by_all caught shape ample (opening_machine caught shape) (thread 6)
 
 caught-without_room : (caught_run (small 2)).world.output ≡ codes "1\n"
-unfolding moved_by refusal next completion after_turn shade builtin_classes is_within is_subtype_within digits
+unfolding moved_by refusal next completion after_turn shade builtin_classes upwards is_within is_subtype_within digits
 caught-without_room = refl
 
 caught-with_room : (caught_run two_medium).world.output ≡ codes "0\n"
-unfolding moved_by refusal next completion after_turn shade builtin_classes is_within is_subtype_within digits
+unfolding moved_by refusal next completion after_turn shade builtin_classes upwards is_within is_subtype_within digits
 caught-with_room = refl
 
 caught-end : (caught_run two_medium).world.threads ≡ Ended None ∷ []
-unfolding moved_by refusal next completion after_turn shade builtin_classes is_within is_subtype_within digits
+unfolding moved_by refusal next completion after_turn shade builtin_classes upwards is_within is_subtype_within digits
 caught-end = refl

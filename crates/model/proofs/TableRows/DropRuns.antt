@@ -48,8 +48,8 @@ drop0 = opening_machine k (small 3)
 
 abbrev drop1 : Machine
 drop1 =
-    stage (world (main_at 1 4 ([]) ([])) ([]) (object (Int (pos 0)) ∷ []) 2)
-    (account (Taken 1 White ∷ Taken 2 White ∷ Taken 3 Grey ∷ []) ([]) (3 ∷ []) (Idle))
+    stage (world (main_at 1 4 [] []) [] (object (Int (pos 0)) ∷ []) 2)
+    (account (Taken 1 White ∷ Taken 2 White ∷ Taken 3 Grey ∷ []) [] (3 ∷ []) Idle)
 
 drop0-drop1 : moved drop0 (thread 2) ≡ drop1
 unfolding moved_by refusal next completion after_turn shade collected root_at word_at builtin_classes upwards interfaces_from is_within is_subtype_within int_wrap digits
@@ -57,8 +57,8 @@ drop0-drop1 = refl
 
 abbrev drop2 : Machine
 drop2 =
-    stage (world (main_at 1 4 ([]) ([])) ([]) (object (Int (pos 0)) ∷ []) 16)
-    (account (Taken 1 White ∷ Taken 2 White ∷ Taken 3 White ∷ []) ([]) ([]) (Idle))
+    stage (world (main_at 1 4 [] []) [] (object (Int (pos 0)) ∷ []) 16)
+    (account (Taken 1 White ∷ Taken 2 White ∷ Taken 3 White ∷ []) [] [] Idle)
 
 drop1-drop2 : moved drop1 (collector 14) ≡ drop2
 unfolding moved_by refusal next completion after_turn shade collected root_at word_at builtin_classes upwards interfaces_from is_within is_subtype_within int_wrap digits
@@ -66,8 +66,8 @@ drop1-drop2 = refl
 
 abbrev drop3 : Machine
 drop3 =
-    stage (world (main_at 1 4 ([]) ([])) ([]) (object (Int (pos 0)) ∷ []) 26)
-    (account (Taken 1 White ∷ Taken 2 White ∷ Taken 3 White ∷ []) ([]) ([]) (Append 2))
+    stage (world (main_at 1 4 [] []) [] (object (Int (pos 0)) ∷ []) 26)
+    (account (Taken 1 White ∷ Taken 2 White ∷ Taken 3 White ∷ []) [] [] (Append 2))
 
 drop2-drop3 : moved drop2 (collector 10) ≡ drop3
 unfolding moved_by refusal next completion after_turn shade collected root_at word_at builtin_classes upwards interfaces_from is_within is_subtype_within int_wrap digits
@@ -75,8 +75,8 @@ drop2-drop3 = refl
 
 abbrev drop4 : Machine
 drop4 =
-    stage (world (main_at 1 4 ([]) ([])) ([]) (object (Int (pos 0)) ∷ []) 27)
-    (account (Taken 1 White ∷ Taken 2 White ∷ Free ∷ []) (2 ∷ []) ([]) (Append 3))
+    stage (world (main_at 1 4 [] []) [] (object (Int (pos 0)) ∷ []) 27)
+    (account (Taken 1 White ∷ Taken 2 White ∷ Free ∷ []) (2 ∷ []) [] (Append 3))
 
 drop3-drop4 : moved drop3 (collector 1) ≡ drop4
 unfolding moved_by refusal next completion after_turn shade collected root_at word_at builtin_classes upwards interfaces_from is_within is_subtype_within int_wrap digits
@@ -84,8 +84,8 @@ drop3-drop4 = refl
 
 abbrev drop5 : Machine
 drop5 =
-    stage (world (main_at 1 4 ([]) ([])) ([]) (object (Int (pos 0)) ∷ []) 28)
-    (account (Taken 1 White ∷ Taken 2 White ∷ Free ∷ []) (2 ∷ []) ([]) (Idle))
+    stage (world (main_at 1 4 [] []) [] (object (Int (pos 0)) ∷ []) 28)
+    (account (Taken 1 White ∷ Taken 2 White ∷ Free ∷ []) (2 ∷ []) [] Idle)
 
 drop4-drop5 : moved drop4 (collector 1) ≡ drop5
 unfolding moved_by refusal next completion after_turn shade collected root_at word_at builtin_classes upwards interfaces_from is_within is_subtype_within int_wrap digits
@@ -97,4 +97,4 @@ drop-run =
     (then k (small 3) ample drop1 drop2 drop5 (collector 14) (collector 10 ++ collector 1 ++ collector 1) drop1-drop2
     (then k (small 3) ample drop2 drop3 drop5 (collector 10) (collector 1 ++ collector 1) drop2-drop3
     (then k (small 3) ample drop3 drop4 drop5 (collector 1) (collector 1) drop3-drop4
-    (drop4-drop5))))
+    drop4-drop5)))

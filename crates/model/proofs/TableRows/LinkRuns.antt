@@ -78,8 +78,8 @@ link0 = opening_machine n (small 4)
 
 abbrev link1 : Machine
 link1 =
-    stage (world (main_at 3 8 (Holds (Ref (Some 3)) ∷ Holds (Ref (Some 4)) ∷ []) ([])) ([]) (object (Int (pos 0)) (Ref None) ∷ object (Int (pos 0)) (Ref None) ∷ []) 4)
-    (account (Taken 1 White ∷ Taken 2 White ∷ Taken 3 Grey ∷ Taken 4 Grey ∷ []) ([]) (3 ∷ 4 ∷ []) (Idle))
+    stage (world (main_at 3 8 (Holds (Ref (Some 3)) ∷ Holds (Ref (Some 4)) ∷ []) []) [] (object (Int (pos 0)) (Ref None) ∷ object (Int (pos 0)) (Ref None) ∷ []) 4)
+    (account (Taken 1 White ∷ Taken 2 White ∷ Taken 3 Grey ∷ Taken 4 Grey ∷ []) [] (3 ∷ 4 ∷ []) Idle)
 
 link0-link1 : moved link0 (thread 4) ≡ link1
 unfolding moved_by refusal next completion after_turn shade collected root_at word_at builtin_classes upwards interfaces_from is_within is_subtype_within int_wrap digits
@@ -87,8 +87,8 @@ link0-link1 = refl
 
 abbrev link2 : Machine
 link2 =
-    stage (world (main_at 3 15 (Holds (Ref (Some 3)) ∷ Holds (Ref (Some 4)) ∷ []) (Ref (Some 3) ∷ [])) ([]) (object (Int (pos 0)) (Ref None) ∷ object (Int (pos 7)) (Ref None) ∷ []) 8)
-    (account (Taken 1 White ∷ Taken 2 White ∷ Taken 3 Grey ∷ Taken 4 Grey ∷ []) ([]) (3 ∷ 4 ∷ []) (Idle))
+    stage (world (main_at 3 15 (Holds (Ref (Some 3)) ∷ Holds (Ref (Some 4)) ∷ []) (Ref (Some 3) ∷ [])) [] (object (Int (pos 0)) (Ref None) ∷ object (Int (pos 7)) (Ref None) ∷ []) 8)
+    (account (Taken 1 White ∷ Taken 2 White ∷ Taken 3 Grey ∷ Taken 4 Grey ∷ []) [] (3 ∷ 4 ∷ []) Idle)
 
 link1-link2 : moved link1 (thread 4) ≡ link2
 unfolding moved_by refusal next completion after_turn shade collected root_at word_at builtin_classes upwards interfaces_from is_within is_subtype_within int_wrap digits
@@ -96,8 +96,8 @@ link1-link2 = refl
 
 abbrev link3 : Machine
 link3 =
-    stage (world (main_at 3 21 (Holds (Ref (Some 3)) ∷ Holds (Ref None) ∷ []) ([])) ([]) (object (Int (pos 0)) (Ref (Some 4)) ∷ object (Int (pos 7)) (Ref None) ∷ []) 12)
-    (account (Taken 1 White ∷ Taken 2 White ∷ Taken 3 Grey ∷ Taken 4 Grey ∷ []) ([]) (3 ∷ 4 ∷ []) (Idle))
+    stage (world (main_at 3 21 (Holds (Ref (Some 3)) ∷ Holds (Ref None) ∷ []) []) [] (object (Int (pos 0)) (Ref (Some 4)) ∷ object (Int (pos 7)) (Ref None) ∷ []) 12)
+    (account (Taken 1 White ∷ Taken 2 White ∷ Taken 3 Grey ∷ Taken 4 Grey ∷ []) [] (3 ∷ 4 ∷ []) Idle)
 
 link2-link3 : moved link2 (thread 4) ≡ link3
 unfolding moved_by refusal next completion after_turn shade collected root_at word_at builtin_classes upwards interfaces_from is_within is_subtype_within int_wrap digits
@@ -105,8 +105,8 @@ link2-link3 = refl
 
 abbrev link4 : Machine
 link4 =
-    stage (world (main_at 3 21 (Holds (Ref (Some 3)) ∷ Holds (Ref None) ∷ []) ([])) ([]) (object (Int (pos 0)) (Ref (Some 4)) ∷ object (Int (pos 7)) (Ref None) ∷ []) 33)
-    (account (Taken 1 White ∷ Taken 2 White ∷ Taken 3 White ∷ Taken 4 White ∷ []) ([]) ([]) (Idle))
+    stage (world (main_at 3 21 (Holds (Ref (Some 3)) ∷ Holds (Ref None) ∷ []) []) [] (object (Int (pos 0)) (Ref (Some 4)) ∷ object (Int (pos 7)) (Ref None) ∷ []) 33)
+    (account (Taken 1 White ∷ Taken 2 White ∷ Taken 3 White ∷ Taken 4 White ∷ []) [] [] Idle)
 
 link3-link4 : moved link3 (collector 21) ≡ link4
 unfolding moved_by refusal next completion after_turn shade collected root_at word_at builtin_classes upwards interfaces_from is_within is_subtype_within int_wrap digits
@@ -114,8 +114,8 @@ link3-link4 = refl
 
 abbrev link5 : Machine
 link5 =
-    stage (world (main_at 3 21 (Holds (Ref (Some 3)) ∷ Holds (Ref None) ∷ []) ([])) ([]) (object (Int (pos 0)) (Ref (Some 4)) ∷ object (Int (pos 7)) (Ref None) ∷ []) 40)
-    (account (Taken 1 Grey ∷ Taken 2 Grey ∷ Taken 3 Grey ∷ Taken 4 White ∷ []) ([]) (1 ∷ 2 ∷ 3 ∷ []) (Mark 0))
+    stage (world (main_at 3 21 (Holds (Ref (Some 3)) ∷ Holds (Ref None) ∷ []) []) [] (object (Int (pos 0)) (Ref (Some 4)) ∷ object (Int (pos 7)) (Ref None) ∷ []) 40)
+    (account (Taken 1 Grey ∷ Taken 2 Grey ∷ Taken 3 Grey ∷ Taken 4 White ∷ []) [] (1 ∷ 2 ∷ 3 ∷ []) (Mark 0))
 
 link4-link5 : moved link4 (collector 7) ≡ link5
 unfolding moved_by refusal next completion after_turn shade collected root_at word_at builtin_classes upwards interfaces_from is_within is_subtype_within int_wrap digits
@@ -123,8 +123,8 @@ link4-link5 = refl
 
 abbrev link6 : Machine
 link6 =
-    stage (world (main_at 3 30 (Holds (Ref (Some 3)) ∷ Holds (Ref None) ∷ []) (Ref (Some 4) ∷ [])) ([]) (object (Int (pos 0)) (Ref None) ∷ object (Int (pos 7)) (Ref None) ∷ []) 45)
-    (account (Taken 1 Grey ∷ Taken 2 Grey ∷ Taken 3 Grey ∷ Taken 4 Grey ∷ []) ([]) (1 ∷ 2 ∷ 3 ∷ 4 ∷ []) (Mark 0))
+    stage (world (main_at 3 30 (Holds (Ref (Some 3)) ∷ Holds (Ref None) ∷ []) (Ref (Some 4) ∷ [])) [] (object (Int (pos 0)) (Ref None) ∷ object (Int (pos 7)) (Ref None) ∷ []) 45)
+    (account (Taken 1 Grey ∷ Taken 2 Grey ∷ Taken 3 Grey ∷ Taken 4 Grey ∷ []) [] (1 ∷ 2 ∷ 3 ∷ 4 ∷ []) (Mark 0))
 
 link5-link6 : moved link5 (thread 5) ≡ link6
 unfolding moved_by refusal next completion after_turn shade collected root_at word_at builtin_classes upwards interfaces_from is_within is_subtype_within int_wrap digits
@@ -132,8 +132,8 @@ link5-link6 = refl
 
 abbrev link7 : Machine
 link7 =
-    stage (world (main_at 3 30 (Holds (Ref (Some 3)) ∷ Holds (Ref None) ∷ []) (Ref (Some 4) ∷ [])) ([]) (object (Int (pos 0)) (Ref None) ∷ object (Int (pos 7)) (Ref None) ∷ []) 59)
-    (account (Taken 1 White ∷ Taken 2 White ∷ Taken 3 White ∷ Taken 4 White ∷ []) ([]) ([]) (Idle))
+    stage (world (main_at 3 30 (Holds (Ref (Some 3)) ∷ Holds (Ref None) ∷ []) (Ref (Some 4) ∷ [])) [] (object (Int (pos 0)) (Ref None) ∷ object (Int (pos 7)) (Ref None) ∷ []) 59)
+    (account (Taken 1 White ∷ Taken 2 White ∷ Taken 3 White ∷ Taken 4 White ∷ []) [] [] Idle)
 
 link6-link7 : moved link6 (collector 14) ≡ link7
 unfolding moved_by refusal next completion after_turn shade collected root_at word_at builtin_classes upwards interfaces_from is_within is_subtype_within int_wrap digits
@@ -142,7 +142,7 @@ link6-link7 = refl
 abbrev link8 : Machine
 link8 =
     stage (world (Ended None) (codes "7\n") (object (Int (pos 0)) (Ref None) ∷ object (Int (pos 7)) (Ref None) ∷ []) 62)
-    (account (Taken 1 White ∷ Taken 2 White ∷ Taken 3 White ∷ Taken 4 White ∷ []) ([]) ([]) (Idle))
+    (account (Taken 1 White ∷ Taken 2 White ∷ Taken 3 White ∷ Taken 4 White ∷ []) [] [] Idle)
 
 link7-link8 : moved link7 (thread 3) ≡ link8
 unfolding moved_by refusal next completion after_turn shade collected root_at word_at builtin_classes upwards interfaces_from is_within is_subtype_within int_wrap digits
@@ -157,4 +157,4 @@ link-run =
     (then n (small 4) ample link4 link5 link8 (collector 7) (thread 5 ++ collector 14 ++ thread 3) link4-link5
     (then n (small 4) ample link5 link6 link8 (thread 5) (collector 14 ++ thread 3) link5-link6
     (then n (small 4) ample link6 link7 link8 (collector 14) (thread 3) link6-link7
-    (link7-link8)))))))
+    link7-link8))))))
