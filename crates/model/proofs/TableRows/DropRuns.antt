@@ -1,11 +1,11 @@
 -- An object that is dropped at once: the first cycle leaves it, grey as it was made, and the second gives its cell back.
-use Rattle.std.specs.Prelude.{◌≡◌, ℕ, pos, negsuc, List, [], ◌∷◌, ◌++◌, replicate, Option, Some, None, codes, refl}
+use Rattle.std.specs.Prelude.{◌≡◌, pos, List, [], ◌∷◌, ◌++◌, codes, refl}
 use Rattle.std.specs.Int.{int_wrap}
 use Rattle.std.specs.Fmt.{digits}
-use Rattle.model.specs.declared.colours.Colour.TheVariants.{White, Grey, Black}
-use Rattle.model.specs.declared.colours.Phase.TheVariants.{Idle, Statics, Frames, Mark, Append}
-use Rattle.model.proofs.TableRows.Listings.{Sized, print, return, ample}
-use Rattle.model.proofs.TableRows.Stages.{class_of, field, member, small, main_at, world, collector, thread, account, stage, then}
+use Rattle.model.specs.declared.colours.Colour.TheVariants.{White, Grey}
+use Rattle.model.specs.declared.colours.Phase.TheVariants.{Idle, Append}
+use Rattle.model.proofs.TableRows.Listings.{return, ample}
+use Rattle.model.proofs.TableRows.Stages.{class_of, field, small, main_at, world, collector, thread, account, stage, then}
 use Rattle.model.specs.Accounts.Cell.{Free, Taken}
 use Rattle.model.specs.Accounts.{after_turn, shade}
 use Rattle.model.specs.ClassListings.{ClassListing}
@@ -14,21 +14,19 @@ use Rattle.model.specs.Classes.Search.{upwards, interfaces_from}
 use Rattle.model.specs.Classes.Subclasses.{is_within}
 use Rattle.model.specs.Classes.Types.{is_subtype_within}
 use Rattle.model.specs.Collector.Places.{root_at, word_at}
-use Rattle.model.specs.Collector.Runs.{moved_by, moved_by_all, row_by}
+use Rattle.model.specs.Collector.Runs.{moved_by, moved_by_all}
 use Rattle.model.specs.Collector.Table.{collected}
 use Rattle.model.specs.Machines.{Machine, opening_machine}
 use Rattle.model.specs.Objects.{made_of}
 use Rattle.model.specs.Table.Next.{completion, next}
 use Rattle.model.specs.Turns.{refusal}
 use Rattle.model.specs.Worlds.Contents.{Instance}
-use Rattle.model.specs.Worlds.Thread.{Ended}
 use Rattle.model.specs.Worlds.{Object}
 use Rattle.model.specs.declared.instructions.ClassOperation.TheVariants.{New}
 use Rattle.model.specs.declared.instructions.Instruction.TheVariants.{Class, Stack}
 use Rattle.model.specs.declared.instructions.StackOperation.TheVariants.{Pop}
 use Rattle.model.specs.declared.turns.Actor.{Actor}
-use Rattle.model.specs.declared.values.Entry.TheVariants.{Unset, Holds}
-use Rattle.model.specs.declared.values.Value.TheVariants.{Int, Ref}
+use Rattle.model.specs.declared.values.Value.TheVariants.{Int}
 use Rattle.model.specs.declared.values.Value.{Value}
 
 abbrev k : List ClassListing

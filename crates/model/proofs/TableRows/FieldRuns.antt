@@ -1,10 +1,10 @@
 -- An object that comes while the collector marks, and one that comes while it appends: class K makes an object with an int,
 -- puts 5 into it and prints what it gets back, on three small cells.
-use Rattle.std.specs.Prelude.{◌≡◌, ℕ, pos, negsuc, List, [], ◌∷◌, ◌++◌, replicate, Option, Some, None, codes, refl}
+use Rattle.std.specs.Prelude.{◌≡◌, pos, List, [], ◌∷◌, ◌++◌, Some, None, codes, refl}
 use Rattle.std.specs.Int.{int_wrap}
 use Rattle.std.specs.Fmt.{digits}
 use Rattle.model.specs.declared.colours.Colour.TheVariants.{White, Grey, Black}
-use Rattle.model.specs.declared.colours.Phase.TheVariants.{Idle, Statics, Frames, Mark, Append}
+use Rattle.model.specs.declared.colours.Phase.TheVariants.{Idle, Mark, Append}
 use Rattle.model.proofs.TableRows.Listings.{Sized, print, return, ample}
 use Rattle.model.proofs.TableRows.Stages.{class_of, field, member, small, main_at, world, collector, thread, account, stage, then}
 use Rattle.model.specs.Accounts.Cell.{Free, Taken}

@@ -1,13 +1,13 @@
 -- A reference that moves from an object to the stack while the collector marks: class N makes two objects, links the first to
 -- the second, and later takes the link away with the second on its stack, on four small cells.
-use Rattle.std.specs.Prelude.{◌≡◌, ℕ, pos, negsuc, List, [], ◌∷◌, ◌++◌, replicate, Option, Some, None, codes, refl}
+use Rattle.std.specs.Prelude.{◌≡◌, pos, List, [], ◌∷◌, ◌++◌, Some, None, codes, refl}
 use Rattle.std.specs.Int.{int_wrap}
 use Rattle.std.specs.Fmt.{digits}
-use Rattle.model.specs.declared.colours.Colour.TheVariants.{White, Grey, Black}
-use Rattle.model.specs.declared.colours.Phase.TheVariants.{Idle, Statics, Frames, Mark, Append}
+use Rattle.model.specs.declared.colours.Colour.TheVariants.{White, Grey}
+use Rattle.model.specs.declared.colours.Phase.TheVariants.{Idle, Mark}
 use Rattle.model.proofs.TableRows.Listings.{Sized, print, return, ample}
 use Rattle.model.proofs.TableRows.Stages.{class_of, field, member, small, main_at, world, collector, thread, account, stage, then}
-use Rattle.model.specs.Accounts.Cell.{Free, Taken}
+use Rattle.model.specs.Accounts.Cell.{Taken}
 use Rattle.model.specs.Accounts.{after_turn, shade}
 use Rattle.model.specs.ClassListings.{ClassListing}
 use Rattle.model.specs.Classes.Builtin.{builtin_classes}
@@ -15,7 +15,7 @@ use Rattle.model.specs.Classes.Search.{upwards, interfaces_from}
 use Rattle.model.specs.Classes.Subclasses.{is_within}
 use Rattle.model.specs.Classes.Types.{is_subtype_within}
 use Rattle.model.specs.Collector.Places.{root_at, word_at}
-use Rattle.model.specs.Collector.Runs.{moved_by, moved_by_all, row_by}
+use Rattle.model.specs.Collector.Runs.{moved_by, moved_by_all}
 use Rattle.model.specs.Collector.Table.{collected}
 use Rattle.model.specs.Machines.{Machine, opening_machine}
 use Rattle.model.specs.Objects.{made_of}
@@ -32,7 +32,7 @@ use Rattle.model.specs.declared.instructions.Instruction.TheVariants.{Class, Con
 use Rattle.model.specs.declared.instructions.Local.TheVariants.{First}
 use Rattle.model.specs.declared.instructions.LocalAccess.TheVariants.{Load, Store}
 use Rattle.model.specs.declared.turns.Actor.{Actor}
-use Rattle.model.specs.declared.values.Entry.TheVariants.{Unset, Holds}
+use Rattle.model.specs.declared.values.Entry.TheVariants.{Holds}
 use Rattle.model.specs.declared.values.Kind.TheVariants.{Ref as RefKind}
 use Rattle.model.specs.declared.values.Value.TheVariants.{Int, Ref}
 use Rattle.model.specs.declared.values.Value.{Value}

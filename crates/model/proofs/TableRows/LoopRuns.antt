@@ -1,12 +1,12 @@
 -- A loop that makes objects and drops them, on eight small cells without a collector: six objects have cells, and the next ask
 -- finds none.
-use Rattle.std.specs.Prelude.{◌≡◌, ℕ, pos, negsuc, List, [], ◌∷◌, ◌++◌, replicate, Option, Some, None, codes, refl}
+use Rattle.std.specs.Prelude.{◌≡◌, pos, List, [], ◌∷◌, ◌++◌, Some, codes, refl}
 use Rattle.std.specs.Int.{int_wrap}
 use Rattle.std.specs.Fmt.{digits}
-use Rattle.model.specs.declared.colours.Colour.TheVariants.{White, Grey, Black}
-use Rattle.model.specs.declared.colours.Phase.TheVariants.{Idle, Statics, Frames, Mark, Append}
-use Rattle.model.proofs.TableRows.Listings.{Sized, print, return, ample}
-use Rattle.model.proofs.TableRows.Stages.{class_of, field, member, small, main_at, world, collector, thread, account, stage, then}
+use Rattle.model.specs.declared.colours.Colour.TheVariants.{White, Grey}
+use Rattle.model.specs.declared.colours.Phase.TheVariants.{Idle}
+use Rattle.model.proofs.TableRows.Listings.{return, ample}
+use Rattle.model.proofs.TableRows.Stages.{class_of, small, main_at, world, thread, account, stage, then}
 use Rattle.model.specs.Accounts.Cell.{Free, Taken}
 use Rattle.model.specs.Accounts.{after_turn, shade}
 use Rattle.model.specs.ClassListings.{ClassListing}
@@ -38,10 +38,9 @@ use Rattle.model.specs.declared.instructions.Test.TheVariants.{Ints}
 use Rattle.model.specs.declared.journals.Outcome.TheVariants.{NoRoom}
 use Rattle.model.specs.declared.turns.Actor.TheVariants.{Thread}
 use Rattle.model.specs.declared.turns.Actor.{Actor}
-use Rattle.model.specs.declared.values.Entry.TheVariants.{Unset, Holds}
+use Rattle.model.specs.declared.values.Entry.TheVariants.{Holds}
 use Rattle.model.specs.declared.values.Kind.TheVariants.{Int as IntKind}
-use Rattle.model.specs.declared.values.Value.TheVariants.{Int, Ref}
-use Rattle.model.specs.declared.values.Value.{Value}
+use Rattle.model.specs.declared.values.Value.TheVariants.{Int}
 
 -- instructions at their pcs: 0, 1, 2 (Top), 5, 6, 9, 10, 13 and 16
 abbrev g : List ClassListing
