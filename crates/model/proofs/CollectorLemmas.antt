@@ -32,5 +32,4 @@ pub mod Tracing
 pub mod Turning
 pub mod Unwinding
 pub mod Words
-pub mod WorkedRows
 pub mod WorkedRuns
