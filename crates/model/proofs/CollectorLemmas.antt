@@ -21,6 +21,7 @@ pub mod Reclaiming
 pub mod Running
 pub mod Scanning
 pub mod Shading
+pub mod Showing
 pub mod Spares
 pub mod Stepping
 pub mod Sweeping
@@ -30,5 +31,4 @@ pub mod Tracing
 pub mod Turning
 pub mod Unwinding
 pub mod Words
-pub mod WorkedRows
 pub mod WorkedRuns

@@ -1,6 +1,6 @@
-use Rattle.std.specs.Prelude.{ℕ, ℤ, List, [], ◌∷◌, ◌++◌, Option, Some, None, Result, Ok, Err}
+use Rattle.std.specs.Prelude.{ℕ, ◌%◌, ◌^◌, ℤ, List, [], ◌∷◌, ◌++◌, Option, Some, None, Result, Ok, Err}
 use Rattle.std.specs.Fmt.{signed_decimal}
-use Rattle.std.specs.Int.{w8, cast_unsigned}
+use Rattle.std.specs.Int.{w32, cast_unsigned}
 use Rattle.model.specs.declared.values.Value.{Value}
 use Rattle.model.specs.declared.turns.Fault.{Fault}
 use Rattle.model.specs.declared.builtins.Builtin.{Builtin}
@@ -13,7 +13,7 @@ decimal_line z = signed_decimal z ++ 10 ∷ []
 
 -- the low 8 bits of a number
 abbrev pub low_byte : ℤ → List ℕ
-low_byte z = cast_unsigned w8 z ∷ []
+low_byte z = cast_unsigned w32 z % 2 ^ 8 ∷ []
 
 -- what is printed of an operand, where it is right
 abbrev pub line_of : (ℤ → List ℕ) → Result ℤ Fault → Option (List ℕ)

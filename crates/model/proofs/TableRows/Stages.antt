@@ -1,44 +1,27 @@
 -- Runs are computed in stages: the machine is written out between turns, each stage is an equation, and the equations chain.
-use Rattle.std.proofs.Common.{◌≡◌, ℕ, ◌+◌, List, [], ◌∷◌, ◌++◌, Option, Some, None, refl, ◌∙◌, ap}
+use Rattle.std.proofs.Common.{◌≡◌, ℕ, List, [], ◌∷◌, ◌++◌, replicate, Some, None, ◌∙◌, ap}
 use Rattle.std.specs.Prelude.{codes}
 use Rattle.model.specs.declared.colours.Phase.{Phase}
 use Rattle.model.specs.declared.journals.HeapShape.{HeapShape}
 use Rattle.model.specs.declared.journals.Limits.{Limits}
 use Rattle.model.specs.declared.listings.Field.{Field}
 use Rattle.model.specs.declared.listings.ExceptionRow.{ExceptionRow}
-use Rattle.model.specs.declared.listings.Placed.{Placed}
 use Rattle.model.specs.declared.names.Member.{Member}
 use Rattle.model.specs.declared.turns.Actor.{Actor}
+use Rattle.model.specs.declared.turns.Actor.TheVariants.{Thread as ByThread, Collector}
 use Rattle.model.specs.declared.turns.ClassState.TheVariants.{Done as Initialised}
 use Rattle.model.specs.declared.turns.Mark.TheVariants.{Unmarked}
-use Rattle.model.specs.declared.instructions.Invocation.TheVariants.{Static}
-use Rattle.model.specs.declared.instructions.Instruction.TheVariants.{Return, Invoke}
 use Rattle.model.specs.declared.values.Entry.{Entry}
 use Rattle.model.specs.declared.values.Value.{Value}
 use Rattle.model.specs.ClassListings.{ClassListing}
 use Rattle.model.specs.Accounts.{Cell, Account}
-use Rattle.model.specs.Frames.{Frame}
 use Rattle.model.specs.Worlds.{World, Thread, Object, opening_objects}
 use Rattle.model.specs.Worlds.Thread.{Live}
-use Rattle.model.specs.Table.Next.{Listed}
 use Rattle.model.specs.Machines.{Machine}
 use Rattle.model.specs.Collector.Runs.{moved_by, moved_by_all}
+use Rattle.model.proofs.TableRows.Listings.{Sized, placed_from}
 
 -- ---- programs
-
--- an instruction and its size in bytes
-abbrev pub Sized : Type 0
-Sized = ℕ × Listed
-
-abbrev pub placed_from : ℕ → List Sized → List Placed
-placed_from pc [] = []
-placed_from pc (i ∷ is) = record { pc = pc; next = pc + i.0; instruction = i.1 } ∷ placed_from (pc + i.0) is
-
-abbrev pub print : Sized
-print = (3, Invoke Static (record { class = codes "vm/Sys"; name = codes "print"; descriptor = codes "(I)V" }))
-
-abbrev pub return : Sized
-return = (1, Return None)
 
 -- a class with these fields and a static main with these limits
 abbrev pub class_of : List ℕ → List Field → ℕ → ℕ → List ExceptionRow → List Sized → ClassListing
@@ -67,9 +50,6 @@ member class name descriptor = record { class = class; name = name; descriptor =
 abbrev pub small : ℕ → HeapShape
 small n = record { small = n; medium = 0; large = 0 }
 
-abbrev pub limits : Limits
-limits = record { steps = 1000000; output = 65536 }
-
 -- main's frame
 abbrev pub main_at : ℕ → ℕ → List Entry → List Value → Thread
 main_at room pc locals stack = Live (record { method = record { class = 0; method = 0 }; pc = pc; locals = locals; stack = stack; room = room; monitor = None; mark = Unmarked } ∷ [])
@@ -84,6 +64,12 @@ world thread output objects rows = record {
   fault = None;
   rows = rows;
 }
+
+abbrev pub collector : ℕ → List Actor
+collector n = replicate n Collector
+
+abbrev pub thread : ℕ → List Actor
+thread n = replicate n (ByThread 0)
 
 abbrev pub account : List Cell → List ℕ → List ℕ → Phase → Account
 account cells free grey phase = record { cells = cells; small = free; medium = []; large = []; grey = grey; phase = phase }
