@@ -15,9 +15,9 @@ use Rattle.model.specs.Classes.Search.{upwards, interfaces_from}
 use Rattle.model.specs.Classes.Subclasses.{is_within}
 use Rattle.model.specs.Classes.Types.{is_subtype_within}
 use Rattle.model.specs.Collector.Places.{root_at, word_at}
-use Rattle.model.specs.Collector.Runs.{moved_by, moved_by_all, row_by}
+use Rattle.model.specs.Collector.Runs.{moved_by, moved_by_all}
 use Rattle.model.specs.Collector.Table.{collected}
-use Rattle.model.specs.Machines.{Machine, opening_machine}
+use Rattle.model.specs.Machines.{Machine, opening_machine, row_by}
 use Rattle.model.specs.Objects.{made_of}
 use Rattle.model.specs.Table.Next.{completion, next}
 use Rattle.model.specs.Turns.{refusal}
