@@ -46,39 +46,39 @@ first_lives false frames (suc t) e = cc
 
 -- ---- no action leaves the method
 
--- a move keeps the frame's method
-abbrev KeepsMethod : Frame → Result Moved Abrupt → Type 0
-KeepsMethod f (Ok moved) = moved.frame.method ≡ f.method
-KeepsMethod f (Err abrupt) = Unit {0}
+-- a move keeps the frame's method and its monitor
+abbrev KeepsPlace : Frame → Result Moved Abrupt → Type 0
+KeepsPlace f (Ok moved) = (moved.frame.method ≡ f.method) × (moved.frame.monitor ≡ f.monitor)
+KeepsPlace f (Err abrupt) = Unit {0}
 
-room_keeps : (next : ℕ) (f : Frame) (n : ℕ) (vs : List Value) (b : Bool) (e : Abrupt) → KeepsMethod f (if b then Ok (replaced next f n vs) else Err e)
-room_keeps next f n vs true e = refl
+room_keeps : (next : ℕ) (f : Frame) (n : ℕ) (vs : List Value) (b : Bool) (e : Abrupt) → KeepsPlace f (if b then Ok (replaced next f n vs) else Err e)
+room_keeps next f n vs true e = (refl, refl)
 room_keeps next f n vs false e = tt
 
-replaced_keeps : (next : ℕ) (f : Frame) (n : ℕ) (vs : List Value) → KeepsMethod f (replaced_if_room next f n vs)
+replaced_keeps : (next : ℕ) (f : Frame) (n : ℕ) (vs : List Value) → KeepsPlace f (replaced_if_room next f n vs)
 replaced_keeps next f n vs = room_keeps next f n vs _ _
 
-operated_keeps : (next : ℕ) (f : Frame) (kind : NumberKind) (o : Option ℤ) → KeepsMethod f (operated next f kind o)
-operated_keeps next f kind (Some z) = refl
+operated_keeps : (next : ℕ) (f : Frame) (kind : NumberKind) (o : Option ℤ) → KeepsPlace f (operated next f kind o)
+operated_keeps next f kind (Some z) = (refl, refl)
 operated_keeps next f kind None = tt
 
-binary_keeps : (next : ℕ) (f : Frame) (kind : NumberKind) (op : Operator) (r : Result (ℤ × ℤ) Fault) → KeepsMethod f (binary_on next f kind op r)
+binary_keeps : (next : ℕ) (f : Frame) (kind : NumberKind) (op : Operator) (r : Result (ℤ × ℤ) Fault) → KeepsPlace f (binary_on next f kind op r)
 binary_keeps next f kind op (Err e) = tt
 binary_keeps next f kind op (Ok operands) = operated_keeps next f kind _
 
-negated_keeps : (next : ℕ) (f : Frame) (kind : NumberKind) (r : Result ℤ Fault) → KeepsMethod f (negated_on next f kind r)
+negated_keeps : (next : ℕ) (f : Frame) (kind : NumberKind) (r : Result ℤ Fault) → KeepsPlace f (negated_on next f kind r)
 negated_keeps next f kind (Err e) = tt
-negated_keeps next f kind (Ok z) = refl
+negated_keeps next f kind (Ok z) = (refl, refl)
 
-converted_keeps : (next : ℕ) (f : Frame) (c : Conversion) (r : Result ℤ Fault) → KeepsMethod f (converted_on next f c r)
+converted_keeps : (next : ℕ) (f : Frame) (c : Conversion) (r : Result ℤ Fault) → KeepsPlace f (converted_on next f c r)
 converted_keeps next f c (Err e) = tt
 converted_keeps next f c (Ok z) = replaced_keeps next f 1 (number_value (target_kind c) (conversion_result c z) ∷ [])
 
-compared_keeps : (next : ℕ) (f : Frame) (r : Result (ℤ × ℤ) Fault) → KeepsMethod f (compared_on next f r)
+compared_keeps : (next : ℕ) (f : Frame) (r : Result (ℤ × ℤ) Fault) → KeepsPlace f (compared_on next f r)
 compared_keeps next f (Err e) = tt
-compared_keeps next f (Ok operands) = refl
+compared_keeps next f (Ok operands) = (refl, refl)
 
-number_keeps : (next : ℕ) (operation : NumberOperation) (f : Frame) → KeepsMethod f (number next operation f)
+number_keeps : (next : ℕ) (operation : NumberOperation) (f : Frame) → KeepsPlace f (number next operation f)
 number_keeps next (Binary kind op) f = binary_keeps next f kind op (operands_of kind op f.stack)
 number_keeps next (Negate kind) f = negated_keeps next f kind (operand_of kind f.stack)
 number_keeps next (Convert c) f = converted_keeps next f c (operand_of (source_kind c) f.stack)
@@ -89,17 +89,17 @@ abbrev RunsOn : List ClassListing → Result Parts Fault → Type 0
 RunsOn program (Ok parts) = RunsMainUnlessEnded program parts.ended parts.frames
 RunsOn program (Err fault) = Unit {0}
 
-module _ (program : List ClassListing) (f : Frame) (main_is : main_in program ≡ Some f.method) where
-  moved_runs : (output : List ℕ) (r : Result Moved Abrupt) → KeepsMethod f r → RunsOn program (moved_in (f ∷ []) output r)
-  moved_runs output (Ok moved) e = record { frame = moved.frame; alone = refl; main_is = main_is ∙ ap Some (sym e) }
+module _ (program : List ClassListing) (f : Frame) (main_is : main_in program ≡ Some f.method) (unlocked : f.monitor ≡ None) where
+  moved_runs : (output : List ℕ) (r : Result Moved Abrupt) → KeepsPlace f r → RunsOn program (moved_in (f ∷ []) output r)
+  moved_runs output (Ok moved) e = record { frame = moved.frame; alone = refl; main_is = main_is ∙ ap Some (sym e.0); unlocked = e.1 ∙ unlocked }
   moved_runs output (Err abrupt) e = tt
 
   printed_runs : (output : List ℕ) (next : ℕ) (r : Result ℤ Fault) → RunsOn program (printed_in (f ∷ []) output next r)
-  printed_runs output next (Ok z) = record { frame = (replaced next f 1 []).frame; alone = refl; main_is = main_is }
+  printed_runs output next (Ok z) = record { frame = (replaced next f 1 []).frame; alone = refl; main_is = main_is; unlocked = unlocked }
   printed_runs output next (Err fault) = tt
 
   acted_runs : (output : List ℕ) (next : ℕ) (action : Action) → RunsOn program (acted (f ∷ []) output next action)
-  acted_runs output next Nop = moved_runs output (Ok (replaced next f 0 [])) refl
+  acted_runs output next Nop = moved_runs output (Ok (replaced next f 0 [])) (refl, refl)
   acted_runs output next (Constant c) = moved_runs output (constant next c f) (replaced_keeps next f 0 (constant_value c ∷ []))
   acted_runs output next (Number operation) = moved_runs output (number next operation f) (number_keeps next operation f)
   acted_runs output next Return = tt
@@ -133,6 +133,7 @@ module _ (program : List ClassListing) (limits : Limits) (states : List ClassSta
         frame = main.frame;
         alone = main.alone;
         main_is = main.main_is;
+        unlocked = main.unlocked;
         faultless = may.faultless;
         counted = may.counted;
         fits = within main.frame (subst (λ (o : Option (List ℕ)). IfSome o (λ line. length output + length line ≤ limits.output)) (printed_alike main.frame) fits_here) main.alone;
@@ -150,7 +151,7 @@ module _ (program : List ClassListing) (limits : Limits) (states : List ClassSta
   done_runs frames fault t ended after_ended after_frames after_output g e =
       let here : told_parts (Ok after_ended) after_frames after_output ≡ acted_at (g.frame ∷ []) output (standing program g.frame) =
       e ∙ ap (λ (fs : List Frame). acted_at fs output (standing program (running_frame fs))) g.alone in
-      subst (RunsOn program) (sym here) (acted_at_runs program g.frame g.main_is output (standing program g.frame))
+      subst (RunsOn program) (sym here) (acted_at_runs program g.frame g.main_is g.unlocked output (standing program g.frame))
 
   turned : (f : Frame) → (state false (f ∷ []) None).world ≡ world_shown false (f ∷ []) states output None rows
   turned f = refl

@@ -13,6 +13,7 @@ pub record IsGoing (program : List ClassListing) (limits : Limits) (ended : Bool
   pub frame : Frame
   pub alone : frames ≡ frame ∷ []
   pub main_is : main_in program ≡ Some frame.method
+  pub unlocked : frame.monitor ≡ None
   pub faultless : fault ≡ None
   pub counted : rows < limits.steps
   pub fits : IfSome (printed_at frames (standing program (running_frame frames))) (λ line. length output + length line ≤ capacity)

@@ -37,7 +37,7 @@ and-right : (a b : Bool) → (a && b) ≡ true → b ≡ true
 and-right true b h = h
 and-right false b h = cc
 
-or-not : (a b : Bool) → (a || not b) ≡ false → b ≡ true
+pub or-not : (a b : Bool) → (a || not b) ≡ false → b ≡ true
 or-not true b h = cc
 or-not false true h = refl
 or-not false false h = cc
@@ -46,11 +46,11 @@ not-some : (b : Bool) → is_some (cond b (Some PrintInt) None) ≡ true → b �
 not-some true h = refl
 not-some false h = cc
 
-cond-none : (b : Bool) (c : ClassListing) (rest : Option ClassListing) → cond b (Some c) rest ≡ None → b ≡ false
+pub cond-none : (b : Bool) (c : ClassListing) (rest : Option ClassListing) → cond b (Some c) rest ≡ None → b ≡ false
 cond-none true c rest h = cc
 cond-none false c rest h = refl
 
-cond-rest : (b : Bool) (c : ClassListing) (rest : Option ClassListing) → cond b (Some c) rest ≡ None → rest ≡ None
+pub cond-rest : (b : Bool) (c : ClassListing) (rest : Option ClassListing) → cond b (Some c) rest ≡ None → rest ≡ None
 cond-rest true c rest h = cc
 cond-rest false c rest h = h
 
