@@ -1,6 +1,7 @@
 -- A turn on the parts of the state.
 use Rattle.std.proofs.Common.{◌≡◌, ◌<◌, ◌≤◌, ◌+◌, ℕ, zero, suc, ℤ, List, [], ◌∷◌, length, Option, Some, None, IfSome, Result, Ok, Err, IfOk, Bool, true, false, nat_le, refl, ap, sym, ◌∙◌, arith, subst}
 use Rattle.std.specs.Prelude.{if◌then◌else◌, slice_get}
+use Rattle.std.specs.List.{list_all}
 use Rattle.std.specs.Option.{option_map}
 use Rattle.model.specs.declared.instructions.Constant.{Constant as ConstantOperand}
 use Rattle.model.specs.declared.instructions.Conversion.{Conversion}
@@ -20,6 +21,7 @@ use Rattle.model.specs.declared.values.Value.{Value}
 use Rattle.model.specs.ClassListings.{ClassListing}
 use Rattle.model.specs.Frames.{Frame, Moved, int_on, replaced, replaced_if_room, running_frame, with_running}
 use Rattle.model.specs.Programs.{main_in, instruction_of}
+use Rattle.model.specs.Served.{serves}
 use Rattle.model.specs.Worlds.{World, lives, is_live, counted}
 use Rattle.model.specs.Turns.{refusal, print_of}
 use Rattle.model.specs.Table.Constants.{constant, constant_value}
@@ -115,19 +117,20 @@ module _ (program : List ClassListing) (limits : Limits) (states : List ClassSta
   state ended frames fault = record { program = program; limits = limits; world = world_shown ended frames states output fault rows }
 
   -- what the table prints is what the step prints
-  printed_alike : (f : Frame) → print_of program (world_shown false (f ∷ []) states output None rows) 0 ≡ printed_at (f ∷ []) (standing program f)
-  printed_alike f = print_shown_at program f states output rows ∙ ap (printed_at (f ∷ [])) (sym (step_stands program f))
+  printed_alike : (f : Frame) → list_all serves program ≡ true → main_in program ≡ Some f.method → f.monitor ≡ None → print_of program (world_shown false (f ∷ []) states output None rows) 0 ≡ printed_at (f ∷ []) (standing program f)
+  printed_alike f served main_is unlocked = print_shown_at program f states output None rows served main_is unlocked ∙ ap (printed_at (f ∷ [])) (sym (step_stands program f))
 
-  pub going : (ended : Bool) (frames : List Frame) (fault : Option (Fault × ℕ)) (t : ℕ) → limits.output ≤ capacity → RunsMainUnlessEnded program ended frames → refusal program limits (world_shown ended frames states output fault rows) (Thread t) ≡ None → IsGoing program limits ended frames output fault rows capacity t
-  going true frames fault t room main e =
+  pub going : (ended : Bool) (frames : List Frame) (fault : Option (Fault × ℕ)) (t : ℕ) → list_all serves program ≡ true → limits.output ≤ capacity → RunsMainUnlessEnded program ended frames → refusal program limits (world_shown ended frames states output fault rows) (Thread t) ≡ None → IsGoing program limits ended frames output fault rows capacity t
+  going true frames fault t served room main e =
       let may = allowed (state true frames fault) t e in absurd (cc (first_lives true frames t may.live).0)
-  going false frames fault t room main e =
+  going false frames fault t served room main e =
       let may = allowed (state false frames fault) t e in
       let first = first_lives false frames t may.live in
       let fits = subst (λ (k : ℕ). IfSome (print_of program (world_shown false frames states output fault rows) k) (λ line. length output + length line ≤ limits.output)) first.1 may.fits in
       let fits_none = subst (λ (o : Option (Fault × ℕ)). IfSome (print_of program (world_shown false frames states output o rows) 0) (λ line. length output + length line ≤ limits.output)) may.faultless fits in
       let fits_here = subst (λ (fs : List Frame). IfSome (print_of program (world_shown false fs states output None rows) 0) (λ line. length output + length line ≤ limits.output)) main.alone fits_none in
       record {
+        served = served;
         lives = refl;
         first = first.1;
         frame = main.frame;
@@ -136,7 +139,7 @@ module _ (program : List ClassListing) (limits : Limits) (states : List ClassSta
         unlocked = main.unlocked;
         faultless = may.faultless;
         counted = may.counted;
-        fits = within main.frame (subst (λ (o : Option (List ℕ)). IfSome o (λ line. length output + length line ≤ limits.output)) (printed_alike main.frame) fits_here) main.alone;
+        fits = within main.frame (subst (λ (o : Option (List ℕ)). IfSome o (λ line. length output + length line ≤ limits.output)) (printed_alike main.frame served main.main_is main.unlocked) fits_here) main.alone;
       }
     where
       room_for : (o : Option (List ℕ)) → limits.output ≤ capacity → IfSome o (λ line. length output + length line ≤ limits.output) → IfSome o (λ line. length output + length line ≤ capacity)
@@ -156,10 +159,10 @@ module _ (program : List ClassListing) (limits : Limits) (states : List ClassSta
   turned : (f : Frame) → (state false (f ∷ []) None).world ≡ world_shown false (f ∷ []) states output None rows
   turned f = refl
 
-  after_of : (f : Frame) → after_step (state false (f ∷ []) None) 0 ≡ record { program = program; limits = limits; world = counted (world_after (world_shown false (f ∷ []) states output None rows) (acted_at (f ∷ []) output (standing program f))) }
-  after_of f =
+  after_of : (f : Frame) → list_all serves program ≡ true → main_in program ≡ Some f.method → f.monitor ≡ None → after_step (state false (f ∷ []) None) 0 ≡ record { program = program; limits = limits; world = counted (world_after (world_shown false (f ∷ []) states output None rows) (acted_at (f ∷ []) output (standing program f))) }
+  after_of f served main_is unlocked =
       ap (λ (after : World). let s : Loaded = record { program = program; limits = limits; world = counted after } in s)
-      (next_shown program f states output rows ∙ ap (λ (step : Option Step). world_after (world_shown false (f ∷ []) states output None rows) (acted_at (f ∷ []) output step)) (sym (step_stands program f)))
+      (next_shown program f states output None rows served main_is unlocked ∙ ap (λ (step : Option Step). world_after (world_shown false (f ∷ []) states output None rows) (acted_at (f ∷ []) output step)) (sym (step_stands program f)))
 
   state_is : (ended : Bool) (frames : List Frame) (fault : Option (Fault × ℕ)) (t : ℕ) → (g : IsGoing program limits ended frames output fault rows capacity t) → after_step (state ended frames fault) t ≡ after_step (state false (g.frame ∷ []) None) 0
   state_is ended frames fault t g = rw (g.lives, g.alone, g.faultless, g.first) refl
@@ -170,7 +173,7 @@ module _ (program : List ClassListing) (limits : Limits) (states : List ClassSta
       e ∙ ap (λ (fs : List Frame). acted_at fs output (standing program (running_frame fs))) g.alone in
       ap (λ (o : Option (Fault × ℕ)). let s : Loaded = record { program = program; limits = limits; world = world_shown after_ended after_frames states after_output o (rows + 1) } in s) g.faultless
       ∙ ap (λ (r : Result Parts Fault). let s : Loaded = record { program = program; limits = limits; world = counted (world_after (world_shown false (g.frame ∷ []) states output None rows) r) } in s) here
-      ∙ sym (after_of g.frame) ∙ sym (state_is ended frames fault t g)
+      ∙ sym (after_of g.frame g.served g.main_is g.unlocked) ∙ sym (state_is ended frames fault t g)
 
   pub fault_shown : (frames : List Frame) (fault : Option (Fault × ℕ)) (t : ℕ) (ended : Bool) (kind : Fault) (after_frames : List Frame) (after_output : List ℕ) → IsGoing program limits ended frames output fault rows capacity t → told_parts (Err kind) after_frames after_output ≡ acted_at frames output (standing program (running_frame frames)) → record { program = program; limits = limits; world = world_shown ended frames states output (Some (kind, t)) (rows + 1) } ≡ after_step (record { program = program; limits = limits; world = world_shown ended frames states output fault rows }) t
   fault_shown frames fault t ended kind after_frames after_output g e =
@@ -179,4 +182,4 @@ module _ (program : List ClassListing) (limits : Limits) (states : List ClassSta
       let parts : world_shown ended frames states output (Some (kind, t)) (rows + 1) ≡ world_shown false (g.frame ∷ []) states output (Some (kind, 0)) (rows + 1) = rw (g.lives, g.alone, g.first) refl in
       ap (λ (w : World). let s : Loaded = record { program = program; limits = limits; world = w } in s) parts
       ∙ ap (λ (r : Result Parts Fault). let s : Loaded = record { program = program; limits = limits; world = counted (world_after (world_shown false (g.frame ∷ []) states output None rows) r) } in s) here
-      ∙ sym (after_of g.frame) ∙ sym (state_is ended frames fault t g)
+      ∙ sym (after_of g.frame g.served g.main_is g.unlocked) ∙ sym (state_is ended frames fault t g)

@@ -26,6 +26,7 @@ use Rattle.model.specs.Classes.Resolution.{method_of, resolved_method}
 use Rattle.model.specs.Accepted.BuiltinNames.{has_builtin_name}
 use Rattle.model.specs.Accepted.References.{finds_static, resolves, catch_resolves, is_unresolved_in, has_unresolved}
 use Rattle.model.specs.Accepted.RefusedMembers.{is_refused, has_refused_member}
+use Rattle.model.proofs.Served.{served_cases}
 
 -- ---- tests
 
@@ -42,9 +43,9 @@ or-not true b h = cc
 or-not false true h = refl
 or-not false false h = cc
 
-not-some : (b : Bool) → is_some (cond b (Some PrintInt) None) ≡ true → b ≡ true
-not-some true h = refl
-not-some false h = cc
+print-first : (b : Bool) → cond b (Some PrintInt) None ≡ Some PrintInt → b ≡ true
+print-first true h = refl
+print-first false h = cc
 
 pub cond-none : (b : Bool) (c : ClassListing) (rest : Option ClassListing) → cond b (Some c) rest ≡ None → b ≡ false
 cond-none true c rest h = cc
@@ -92,36 +93,19 @@ is_print m h =
     ((bytes_eq-Decides m.descriptor (codes "(I)V")).0
     (and-right (bytes_eq m.class (codes "vm/Sys") && bytes_eq m.name (codes "print")) (bytes_eq m.descriptor (codes "(I)V")) h))
 
-member_is : (m : Member) → is_some (builtin_of m) ≡ true → m ≡ print
+member_is : (m : Member) → builtin_of m ≡ Some PrintInt → m ≡ print
 member_is m h =
-    is_print m (not-some (bytes_eq m.class (codes "vm/Sys") && bytes_eq m.name (codes "print") && bytes_eq m.descriptor (codes "(I)V")) h)
+    is_print m (print-first (bytes_eq m.class (codes "vm/Sys") && bytes_eq m.name (codes "print") && bytes_eq m.descriptor (codes "(I)V")) h)
 
 -- ---- what is served resolves
 
-invoke_resolves : (program : List ClassListing) (m : Member) → listed program (codes "vm/Sys") ≡ None → is_some (builtin_of m) ≡ true
+invoke_resolves : (program : List ClassListing) (m : Member) → listed program (codes "vm/Sys") ≡ None → builtin_of m ≡ Some PrintInt
     → finds_static program m ≡ true
 invoke_resolves program m none h = rw (member_is m h) (finds_print program none)
 
 served_resolves : (program : List ClassListing) (i : Listed) → listed program (codes "vm/Sys") ≡ None → is_served i ≡ true → resolves program i ≡ true
-served_resolves program Nop none h = refl
-served_resolves program (Constant c) none h = refl
-served_resolves program (Local access) none h = refl
-served_resolves program (Stack operation) none h = refl
-served_resolves program (Number operation) none h = refl
-served_resolves program (Branch test target) none h = refl
-served_resolves program (TableSwitch table) none h = refl
-served_resolves program (LookupSwitch lookup) none h = refl
-served_resolves program (Return kind) none h = refl
-served_resolves program (StaticField access m) none h = cc
-served_resolves program (Field access m) none h = cc
-served_resolves program (Array operation) none h = cc
-served_resolves program (Class operation name) none h = cc
-served_resolves program (Invoke Virtual m) none h = cc
-served_resolves program (Invoke Special m) none h = cc
-served_resolves program (Invoke Static m) none h = invoke_resolves program m none h
-served_resolves program (Invoke (Interface count) m) none h = cc
-served_resolves program Throw none h = refl
-served_resolves program (Monitor operation) none h = refl
+served_resolves program i none h =
+    served_cases (λ (i : Listed). resolves program i ≡ true) refl (λ c. refl) refl refl (λ m named. invoke_resolves program m none named) i h
 
 instructions_resolve : (program : List ClassListing) (is : List Placed) → listed program (codes "vm/Sys") ≡ None
     → list_all (λ (i : Placed). is_served i.instruction) is ≡ true
