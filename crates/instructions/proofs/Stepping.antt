@@ -1,6 +1,5 @@
 -- A turn of the one thread, by its resolved step, is the turn that the instruction table gives.
 use Rattle.std.proofs.Common.{◌≡◌, ℕ, ℤ, List, [], ◌∷◌, Option, Some, None, Result, Ok, Err, Bool, true, false, refl, ap, sym, ◌∙◌}
-use Rattle.std.specs.List.{list_all}
 use Rattle.std.specs.Option.{option_map, option_and_then}
 use Rattle.model.specs.declared.names.Member.{Member}
 use Rattle.model.specs.declared.builtins.Builtin.{Builtin}
@@ -21,10 +20,10 @@ use Rattle.model.specs.Completions.{Completion, Site, completes, prints}
 use Rattle.model.specs.Effects.{effect_of}
 use Rattle.model.specs.Effects.Choice.{NotAsked}
 use Rattle.model.specs.Frames.{Frame, Moved, int_on}
-use Rattle.model.specs.Printing.{line_of}
+use Rattle.model.specs.Printing.{decimal_line, line_of}
 use Rattle.model.specs.Programs.{builtin_of, code_at, instruction_of, main_in, placed_at}
-use Rattle.model.specs.Served.{is_served, serves}
-use Rattle.model.specs.Table.Builtins.{print_on}
+use Rattle.model.specs.Served.{is_served, ServedProgram}
+use Rattle.model.specs.Table.Builtins.{prints_on}
 use Rattle.model.specs.Table.Constants.{constant}
 use Rattle.model.specs.Table.Numbers.{number}
 use Rattle.model.specs.Table.Next.{Listed, next, by_family, at_instruction}
@@ -56,16 +55,16 @@ module _ (program : List ClassListing) (f : Frame) (states : List ClassState) (o
   completes_shown n (Err (Faulted kind)) e = refl
   completes_shown n (Err (Thrown exception)) e = absurd e
 
-  print_shown : (n : ℕ) (r : Result ℤ Fault) → left (print_on (site n) r) ≡ world_after w (printed_in (f ∷ []) output n r)
+  print_shown : (n : ℕ) (r : Result ℤ Fault) → left (prints_on (site n) decimal_line r) ≡ world_after w (printed_in (f ∷ []) output n r)
   print_shown n (Ok z) = refl
   print_shown n (Err e) = refl
 
   returned_shown : (n : ℕ) → IsInMain (site n) → Shown n (Return None)
   returned_shown n main = ap left (returned_is (site n) main)
 
-  invoked_shown : (n : ℕ) (m : Member) → builtin_of m ≡ Some PrintInt → Shown n (Invoke Static m)
-  invoked_shown n m named =
-      ap left (printed_is (site n) m named) ∙ print_shown n (int_on f.stack)
+  invoked_shown : (n : ℕ) → IsInMain (site n) → (m : Member) → builtin_of m ≡ Some PrintInt → Shown n (Invoke Static m)
+  invoked_shown n main m named =
+      ap left (printed_is (site n) m named main.unhidden) ∙ print_shown n (int_on f.stack)
       ∙ sym (ap (λ (b : Option Builtin). world_after w (acted (f ∷ []) output n (call_of b))) named)
 
   family_shown : (n : ℕ) → IsInMain (site n) → (i : Listed) → is_served i ≡ true → Shown n i
@@ -73,7 +72,7 @@ module _ (program : List ClassListing) (f : Frame) (states : List ClassState) (o
       served_cases (Shown n) refl
       (λ c. completes_shown n (constant n c f) (constant-throws_nothing n c f))
       (completes_shown n (number n (Binary Ints Add) f) (number-throws_nothing n f))
-      (returned_shown n main) (invoked_shown n) i served
+      (returned_shown n main) (invoked_shown n main) i served
 
   -- and so is what the table says of its print
   abbrev PrintShown : ℕ → Listed → Type 0
@@ -84,13 +83,13 @@ module _ (program : List ClassListing) (f : Frame) (states : List ClassState) (o
   completes_silent n (Err (Faulted kind)) e = refl
   completes_silent n (Err (Thrown exception)) e = absurd e
 
-  print_told : (n : ℕ) (r : Result ℤ Fault) → prints (print_on (site n) r) ≡ line_of r
+  print_told : (n : ℕ) (r : Result ℤ Fault) → prints (prints_on (site n) decimal_line r) ≡ line_of decimal_line r
   print_told n (Ok z) = refl
   print_told n (Err e) = refl
 
-  invoked_told : (n : ℕ) (m : Member) → builtin_of m ≡ Some PrintInt → PrintShown n (Invoke Static m)
-  invoked_told n m named =
-      ap prints (printed_is (site n) m named) ∙ print_told n (int_on f.stack)
+  invoked_told : (n : ℕ) → IsInMain (site n) → (m : Member) → builtin_of m ≡ Some PrintInt → PrintShown n (Invoke Static m)
+  invoked_told n main m named =
+      ap prints (printed_is (site n) m named main.unhidden) ∙ print_told n (int_on f.stack)
       ∙ sym (ap (λ (b : Option Builtin). printed_at (f ∷ []) (Some (record { next = n; action = call_of b }))) named)
 
   family_told : (n : ℕ) → IsInMain (site n) → (i : Listed) → is_served i ≡ true → PrintShown n i
@@ -98,15 +97,15 @@ module _ (program : List ClassListing) (f : Frame) (states : List ClassState) (o
       served_cases (PrintShown n) refl
       (λ c. completes_silent n (constant n c f) (constant-throws_nothing n c f))
       (completes_silent n (number n (Binary Ints Add) f) (number-throws_nothing n f))
-      (ap prints (returned_is (site n) main)) (invoked_told n) i served
+      (ap prints (returned_is (site n) main)) (invoked_told n main) i served
 
-  module _ (served : list_all serves program ≡ true) (main_is : main_in program ≡ Some f.method) (unlocked : f.monitor ≡ None) where
+  module _ (served : ServedProgram program) (main_is : main_in program ≡ Some f.method) (unlocked : f.monitor ≡ None) where
     in_main : (n : ℕ) → IsInMain (site n)
-    in_main n = record { alone = refl; main_is = main_is; unlocked = unlocked }
+    in_main n = record { alone = refl; main_is = main_is; unlocked = unlocked; unhidden = served.unhidden }
 
     at_shown : (i : Option Placed) → instruction_of program f ≡ i → left (at_instruction program w 0 f i) ≡ world_after w (acted_at (f ∷ []) output (option_map step_of i))
     at_shown None e = refl
-    at_shown (Some i) e = family_shown i.next (in_main i.next) i.instruction (instruction_served program f i served e)
+    at_shown (Some i) e = family_shown i.next (in_main i.next) i.instruction (instruction_served program f i served.code e)
 
     -- a turn by the table is a turn by the step
     pub next_shown : (next program w 0 NotAsked).after ≡ world_after w (acted_at (f ∷ []) output (option_map step_of (instruction_of program f)))
@@ -115,7 +114,7 @@ module _ (program : List ClassListing) (f : Frame) (states : List ClassState) (o
 
     at_told : (i : Option Placed) → instruction_of program f ≡ i → prints (at_instruction program w 0 f i) ≡ printed_at (f ∷ []) (option_map step_of i)
     at_told None e = refl
-    at_told (Some i) e = family_told i.next (in_main i.next) i.instruction (instruction_served program f i served e)
+    at_told (Some i) e = family_told i.next (in_main i.next) i.instruction (instruction_served program f i served.code e)
 
     -- what the table says of the next print is what the step says
     pub print_shown_at : print_of program w 0 ≡ printed_at (f ∷ []) (option_map step_of (instruction_of program f))

@@ -1,7 +1,6 @@
 -- A turn on the parts of the state.
 use Rattle.std.proofs.Common.{◌≡◌, ◌<◌, ◌≤◌, ◌+◌, ℕ, zero, suc, ℤ, List, [], ◌∷◌, length, Option, Some, None, IfSome, Result, Ok, Err, IfOk, Bool, true, false, nat_le, refl, ap, sym, ◌∙◌, arith, subst}
 use Rattle.std.specs.Prelude.{if◌then◌else◌, slice_get}
-use Rattle.std.specs.List.{list_all}
 use Rattle.std.specs.Option.{option_map}
 use Rattle.model.specs.declared.instructions.Constant.{Constant as ConstantOperand}
 use Rattle.model.specs.declared.instructions.Conversion.{Conversion}
@@ -9,8 +8,6 @@ use Rattle.model.specs.declared.instructions.NumberKind.{NumberKind}
 use Rattle.model.specs.declared.instructions.Operator.{Operator}
 use Rattle.model.specs.declared.instructions.NumberOperation.{NumberOperation}
 use Rattle.model.specs.declared.instructions.NumberOperation.TheVariants.{Binary, Negate, Convert, CompareLongs}
-use Rattle.model.specs.declared.builtins.Builtin.{Builtin}
-use Rattle.model.specs.declared.builtins.Builtin.TheVariants.{PrintInt}
 use Rattle.model.specs.declared.journals.Limits.{Limits}
 use Rattle.model.specs.declared.turns.Actor.TheVariants.{Thread}
 use Rattle.model.specs.declared.turns.ClassState.{ClassState}
@@ -21,7 +18,7 @@ use Rattle.model.specs.declared.values.Value.{Value}
 use Rattle.model.specs.ClassListings.{ClassListing}
 use Rattle.model.specs.Frames.{Frame, Moved, int_on, replaced, replaced_if_room, running_frame, with_running}
 use Rattle.model.specs.Programs.{main_in, instruction_of}
-use Rattle.model.specs.Served.{serves}
+use Rattle.model.specs.Served.{ServedProgram}
 use Rattle.model.specs.Worlds.{World, lives, is_live, counted}
 use Rattle.model.specs.Turns.{refusal, print_of}
 use Rattle.model.specs.Table.Constants.{constant, constant_value}
@@ -29,7 +26,7 @@ use Rattle.model.specs.Arithmetic.{conversion_result}
 use Rattle.model.specs.Table.Numbers.{number, number_value, target_kind, operated, binary_on, negated_on, converted_on, compared_on, operands_of, operand_of, source_kind}
 use Rattle.loader.specs.Steps.{step_of}
 use Rattle.loader.specs.declared.programs.Action.{Action}
-use Rattle.loader.specs.declared.programs.Action.TheVariants.{Nop, Constant, Number, Return, Call, Unserved}
+use Rattle.loader.specs.declared.programs.Action.TheVariants.{Nop, Constant, Number, Return, Print, Unserved}
 use Rattle.loader.specs.declared.programs.Step.{Step}
 use Rattle.instructions.specs.Acting.{Parts, moved_in, printed_in, acted, acted_at, printed_at, standing, told_parts}
 use Rattle.instructions.specs.Allowed.{IsAllowed}
@@ -105,7 +102,7 @@ module _ (program : List ClassListing) (f : Frame) (main_is : main_in program �
   acted_runs output next (Constant c) = moved_runs output (constant next c f) (replaced_keeps next f 0 (constant_value c ∷ []))
   acted_runs output next (Number operation) = moved_runs output (number next operation f) (number_keeps next operation f)
   acted_runs output next Return = tt
-  acted_runs output next (Call PrintInt) = printed_runs output next (int_on f.stack)
+  acted_runs output next Print = printed_runs output next (int_on f.stack)
   acted_runs output next Unserved = tt
 
   acted_at_runs : (output : List ℕ) (step : Option Step) → RunsOn program (acted_at (f ∷ []) output step)
@@ -117,10 +114,10 @@ module _ (program : List ClassListing) (limits : Limits) (states : List ClassSta
   state ended frames fault = record { program = program; limits = limits; world = world_shown ended frames states output fault rows }
 
   -- what the table prints is what the step prints
-  printed_alike : (f : Frame) → list_all serves program ≡ true → main_in program ≡ Some f.method → f.monitor ≡ None → print_of program (world_shown false (f ∷ []) states output None rows) 0 ≡ printed_at (f ∷ []) (standing program f)
+  printed_alike : (f : Frame) → ServedProgram program → main_in program ≡ Some f.method → f.monitor ≡ None → print_of program (world_shown false (f ∷ []) states output None rows) 0 ≡ printed_at (f ∷ []) (standing program f)
   printed_alike f served main_is unlocked = print_shown_at program f states output None rows served main_is unlocked ∙ ap (printed_at (f ∷ [])) (sym (step_stands program f))
 
-  pub going : (ended : Bool) (frames : List Frame) (fault : Option (Fault × ℕ)) (t : ℕ) → list_all serves program ≡ true → limits.output ≤ capacity → RunsMainUnlessEnded program ended frames → refusal program limits (world_shown ended frames states output fault rows) (Thread t) ≡ None → IsGoing program limits ended frames output fault rows capacity t
+  pub going : (ended : Bool) (frames : List Frame) (fault : Option (Fault × ℕ)) (t : ℕ) → ServedProgram program → limits.output ≤ capacity → RunsMainUnlessEnded program ended frames → refusal program limits (world_shown ended frames states output fault rows) (Thread t) ≡ None → IsGoing program limits ended frames output fault rows capacity t
   going true frames fault t served room main e =
       let may = allowed (state true frames fault) t e in absurd (cc (first_lives true frames t may.live).0)
   going false frames fault t served room main e =
@@ -159,7 +156,7 @@ module _ (program : List ClassListing) (limits : Limits) (states : List ClassSta
   turned : (f : Frame) → (state false (f ∷ []) None).world ≡ world_shown false (f ∷ []) states output None rows
   turned f = refl
 
-  after_of : (f : Frame) → list_all serves program ≡ true → main_in program ≡ Some f.method → f.monitor ≡ None → after_step (state false (f ∷ []) None) 0 ≡ record { program = program; limits = limits; world = counted (world_after (world_shown false (f ∷ []) states output None rows) (acted_at (f ∷ []) output (standing program f))) }
+  after_of : (f : Frame) → ServedProgram program → main_in program ≡ Some f.method → f.monitor ≡ None → after_step (state false (f ∷ []) None) 0 ≡ record { program = program; limits = limits; world = counted (world_after (world_shown false (f ∷ []) states output None rows) (acted_at (f ∷ []) output (standing program f))) }
   after_of f served main_is unlocked =
       ap (λ (after : World). let s : Loaded = record { program = program; limits = limits; world = counted after } in s)
       (next_shown program f states output None rows served main_is unlocked ∙ ap (λ (step : Option Step). world_after (world_shown false (f ∷ []) states output None rows) (acted_at (f ∷ []) output step)) (sym (step_stands program f)))

@@ -1,7 +1,7 @@
 -- No thread of a state waits or asks for a cell: it has ended, or runs main, all of whose code is carried out.
 use Rattle.std.proofs.Common.{◌≡◌, ◌≤◌, ℕ, zero, suc, List, [], ◌∷◌, Option, Some, None, Bool, true, false, is_none, refl, ap, sym, ◌∙◌, ◌+◌, subst}
 use Rattle.std.specs.Prelude.{◌&&◌, ◌||◌, ◌++◌, drop, take, length, nat_lt, not}
-use Rattle.std.specs.List.{find, list_all, list_any}
+use Rattle.std.specs.List.{find, list_any}
 use Rattle.std.specs.Option.{option_map}
 use Rattle.model.specs.declared.journals.Limits.{Limits}
 use Rattle.model.specs.declared.turns.ClassState.{ClassState}
@@ -13,7 +13,7 @@ use Rattle.model.specs.Completions.{waits}
 use Rattle.model.specs.Observers.{cyclic_from, status_by, status_in}
 use Rattle.model.specs.Ready.{is_ready, thread_numbers}
 use Rattle.model.specs.Programs.{main_in}
-use Rattle.model.specs.Served.{serves}
+use Rattle.model.specs.Served.{ServedProgram}
 use Rattle.model.specs.Turns.{overflows, passes, print_of}
 use Rattle.model.specs.Table.Next.{asked, completion}
 use Rattle.model.specs.Worlds.{World, is_live}
@@ -103,7 +103,7 @@ module _ (program : List ClassListing) (limits : Limits) (states : List ClassSta
   lives_in_main false frames sound t lives = rw sound.main.alone sound.main.main_is
 
   -- and prints what its step does
-  told_in : (f : Frame) → list_all serves program ≡ true → main_in program ≡ Some f.method → f.monitor ≡ None → print_of program (shown false (f ∷ [])) 0 ≡ printed_at (f ∷ []) (standing program f)
+  told_in : (f : Frame) → ServedProgram program → main_in program ≡ Some f.method → f.monitor ≡ None → print_of program (shown false (f ∷ [])) 0 ≡ printed_at (f ∷ []) (standing program f)
   told_in f served main_is unlocked = print_shown_at program f states output fault rows served main_is unlocked ∙ ap (printed_at (f ∷ [])) (sym (step_stands program f))
 
   told : (ended : Bool) (frames : List Frame) → IsSound program limits ended frames capacity → (t : ℕ) → is_live (shown ended frames) t ≡ true → print_of program (shown ended frames) t ≡ printed_at frames (standing program (running_frame frames))

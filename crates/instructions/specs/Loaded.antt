@@ -1,5 +1,4 @@
 use Rattle.std.specs.Prelude.{◌≡◌, ◌≤◌, ℕ, List, [], ◌∷◌, Bool, true, false, Option, Some, None, Result, Ok, Err}
-use Rattle.std.specs.List.{list_all}
 use Rattle.model.specs.declared.journals.Limits.{Limits}
 use Rattle.model.specs.declared.turns.ClassState.{ClassState}
 use Rattle.model.specs.declared.turns.Fault.{Fault}
@@ -9,7 +8,7 @@ use Rattle.model.specs.Programs.{main_in}
 use Rattle.model.specs.Worlds.{World, Thread, counted, opening_objects, opening_world}
 use Rattle.model.specs.Worlds.Thread.{Live, Ended}
 use Rattle.model.specs.Effects.Choice.{NotAsked}
-use Rattle.model.specs.Served.{serves}
+use Rattle.model.specs.Served.{ServedProgram}
 use Rattle.model.specs.Table.Next.{next}
 use Rattle.instructions.specs.Acting.{Parts}
 
@@ -56,7 +55,7 @@ RunsMainUnlessEnded program false frames = RunsMain program frames
 
 -- what holds of the parts: the machine carries out all code of the program, and the thread runs its main or has ended
 pub record IsSound (program : List ClassListing) (limits : Limits) (ended : Bool) (frames : List Frame) (capacity : ℕ) : Type 0 where
-  pub served : list_all serves program ≡ true
+  pub served : ServedProgram program
   pub room : limits.output ≤ capacity
   pub main : RunsMainUnlessEnded program ended frames
 

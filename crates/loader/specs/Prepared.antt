@@ -1,10 +1,9 @@
 use Rattle.std.specs.Prelude.{◌≡◌, ◌<◌, ◌≤◌, ◌+◌, ℕ, List, length, slice_index_or, true, Option, Some, None}
-use Rattle.std.specs.List.{list_all}
 use Rattle.model.specs.declared.places.MethodPlace.{MethodPlace}
 use Rattle.model.specs.ClassListings.{ClassListing}
 use Rattle.model.specs.CodeListings.{CodeListing}
 use Rattle.model.specs.Programs.{main_in, code_at}
-use Rattle.model.specs.Served.{serves}
+use Rattle.model.specs.Served.{ServedProgram}
 use Rattle.loader.specs.declared.programs.Step.{Step}
 use Rattle.loader.specs.Steps.{step_in}
 
@@ -16,6 +15,6 @@ pub record IsPrepared (program : List ClassListing) (main : MethodPlace) (max_lo
   pub locals_are : code.max_locals ≡ max_locals
   pub stack_is : code.max_stack ≡ max_stack
   pub fits : max_locals + max_stack ≤ 4096
-  pub served : list_all serves program ≡ true
+  pub served : ServedProgram program
   pub len : length steps ≡ 65536
   pub steps_are : (pc : ℕ) → pc < 65536 → slice_index_or steps pc None ≡ step_in code.instructions pc

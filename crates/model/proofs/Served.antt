@@ -1,14 +1,14 @@
 -- What the machine carries out so far, in the words of the instruction table: no such instruction asks for a cell, waits or
 -- throws, and main's return ends its thread.
 use Rattle.std.proofs.Common.{◌≡◌, ℕ, zero, suc, ℤ, List, [], ◌∷◌, Option, Some, None, Result, Ok, Err, Bool, true, false, is_none, nat_le, refl, ap, sym, ◌∙◌, subst}
-use Rattle.std.specs.Prelude.{◌&&◌, ◌==◌, not, cond, drop, filter, map, slice_get, if◌then◌else◌}
+use Rattle.std.specs.Prelude.{codes, ◌&&◌, ◌==◌, not, cond, drop, filter, map, slice_get, if◌then◌else◌}
 use Rattle.std.specs.List.{find, list_all}
 use Rattle.std.specs.Option.{option_and_then}
 use Rattle.model.specs.declared.names.Member.{Member}
 use Rattle.model.specs.declared.values.Kind.{Kind}
 use Rattle.model.specs.declared.values.Value.{Value}
 use Rattle.model.specs.declared.builtins.Builtin.{Builtin}
-use Rattle.model.specs.declared.builtins.Builtin.TheVariants.{PrintInt}
+use Rattle.model.specs.declared.builtins.Builtin.TheVariants.{PrintInt, PrintLong, PutByte, Initialize, RunThread, StartThread, JoinThread}
 use Rattle.model.specs.declared.listings.Field.{Field as FieldListing}
 use Rattle.model.specs.declared.listings.Method.{Method}
 use Rattle.model.specs.declared.listings.Placed.{Placed}
@@ -25,6 +25,7 @@ use Rattle.model.specs.declared.turns.Fault.TheVariants.{NoInstruction, StackFul
 use Rattle.model.specs.declared.turns.Abrupt.{Abrupt}
 use Rattle.model.specs.declared.turns.Abrupt.TheVariants.{Fault as Faulted, Throw as Thrown}
 use Rattle.model.specs.ClassListings.{ClassListing}
+use Rattle.model.specs.Classes.Named.{listed}
 use Rattle.model.specs.CodeListings.{CodeListing}
 use Rattle.model.specs.Frames.{Frame, Moved, int_on, two_ints_on, push_all, replaced}
 use Rattle.model.specs.Values.{units_of_all}
@@ -35,19 +36,27 @@ use Rattle.model.specs.Worlds.Thread.{Ended}
 use Rattle.model.specs.Completions.{Completion, Site, asks, waits, frames_in, completes}
 use Rattle.model.specs.Completions.Completion.{Goes, Prints, Creates, Throws, Raises, Faults, Waits}
 use Rattle.model.specs.Effects.{Choice, effect_of}
-use Rattle.model.specs.Table.Builtins.{print_on}
+use Rattle.model.specs.Printing.{decimal_line}
+use Rattle.model.specs.Table.Builtins.{prints_on}
 use Rattle.model.specs.Table.Constants.{constant, constant_value}
 use Rattle.model.specs.Table.Numbers.{number, binary_on}
 use Rattle.model.specs.Table.Returns.{returned}
 use Rattle.model.specs.Table.Next.{Listed, by_family, at_instruction, completion, asked}
 use Rattle.model.specs.Ready.{is_ready}
-use Rattle.model.specs.Served.{serves_constant, serves_number, serves_call, is_served, serves_rows, serves_code, serves_methods, serves_fields, serves}
+use Rattle.model.proofs.OwnMethods.{print_called, main_gives}
+use Rattle.model.specs.Served.{serves_constant, serves_number, serves_call, is_served, serves_rows, serves_code, serves_methods, serves_fields, serves, ServedProgram}
 
 -- ---- the cases of what is served
 
-print_called : (b : Option Builtin) → serves_call b ≡ true → b ≡ Some PrintInt
-print_called None e = cc
-print_called (Some PrintInt) e = refl
+print_served : (b : Option Builtin) → serves_call b ≡ true → b ≡ Some PrintInt
+print_served None e = cc
+print_served (Some PrintInt) e = refl
+print_served (Some PrintLong) e = cc
+print_served (Some PutByte) e = cc
+print_served (Some Initialize) e = cc
+print_served (Some RunThread) e = cc
+print_served (Some StartThread) e = cc
+print_served (Some JoinThread) e = cc
 
 number_cases : (P : NumberOperation → Type 0) → P (Binary Ints Add) → (operation : NumberOperation) → serves_number operation ≡ true → P operation
 number_cases P sum (Binary Ints Add) e = sum
@@ -73,7 +82,7 @@ served_cases P nop constants sum ends prints (Constant c) e = constants c
 served_cases P nop constants sum ends prints (Number operation) e = number_cases (λ (o : NumberOperation). P (Number o)) sum operation e
 served_cases P nop constants sum ends prints (Return None) e = ends
 served_cases P nop constants sum ends prints (Return (Some kind)) e = cc
-served_cases P nop constants sum ends prints (Invoke Static m) e = prints m (print_called (builtin_of m) e)
+served_cases P nop constants sum ends prints (Invoke Static m) e = prints m (print_served (builtin_of m) e)
 served_cases P nop constants sum ends prints (Invoke Virtual m) e = cc
 served_cases P nop constants sum ends prints (Invoke Special m) e = cc
 served_cases P nop constants sum ends prints (Invoke (Interface count) m) e = cc
@@ -113,19 +122,20 @@ number-throws_nothing next f = sum-throws_nothing next f (two_ints_on f.stack)
 
 -- ---- at an instruction of main
 
--- main's frame stands there, alone on its thread, with no monitor to give back
+-- main's frame stands there, alone on its thread, with no monitor to give back; no class has the name of the machine's own
 pub record IsInMain (s : Site) : Type 0 where
   pub alone : frames_in s ≡ s.frame ∷ []
   pub main_is : main_in s.program ≡ Some s.frame.method
   pub unlocked : s.frame.monitor ≡ None
+  pub unhidden : listed s.program (codes "vm/Sys") ≡ None
 
 -- main's return ends the thread
 pub returned_is : (s : Site) → IsInMain s → returned s None ≡ Goes (with_thread s.world s.thread (Ended None)) []
-returned_is s main = rw main.alone
+returned_is s main = rw (main_gives s.program s.frame.method main.main_is, main.alone, main.unlocked) refl
 
 -- a call of the machine's print prints
-pub printed_is : (s : Site) (m : Member) → builtin_of m ≡ Some PrintInt → by_family s (Invoke Static m) ≡ print_on s (int_on s.frame.stack)
-printed_is s m e = rw e
+pub printed_is : (s : Site) (m : Member) → builtin_of m ≡ Some PrintInt → listed s.program (codes "vm/Sys") ≡ None → by_family s (Invoke Static m) ≡ prints_on s decimal_line (int_on s.frame.stack)
+printed_is s m e none = print_called s m e none
 
 -- neither asks for a cell nor waits
 abbrev pub IsQuiet : Completion → Type 0
@@ -136,9 +146,9 @@ completes-quiet s (Ok moved) e = (refl, refl)
 completes-quiet s (Err (Faulted fault)) e = (refl, refl)
 completes-quiet s (Err (Thrown exception)) e = absurd e
 
-print_on-quiet : (s : Site) (r : Result ℤ Fault) → IsQuiet (print_on s r)
-print_on-quiet s (Ok z) = (refl, refl)
-print_on-quiet s (Err fault) = (refl, refl)
+prints_on-quiet : (s : Site) (r : Result ℤ Fault) → IsQuiet (prints_on s decimal_line r)
+prints_on-quiet s (Ok z) = (refl, refl)
+prints_on-quiet s (Err fault) = (refl, refl)
 
 family-quiet : (s : Site) → IsInMain s → (i : Listed) → is_served i ≡ true → IsQuiet (by_family s i)
 family-quiet s main i e =
@@ -147,7 +157,7 @@ family-quiet s main i e =
     (λ c. completes-quiet s (constant s.next c s.frame) (constant-throws_nothing s.next c s.frame))
     (completes-quiet s (number s.next (Binary Ints Add) s.frame) (number-throws_nothing s.next s.frame))
     (subst IsQuiet (sym (returned_is s main)) (refl, refl))
-    (λ m named. subst IsQuiet (sym (printed_is s m named)) (print_on-quiet s (int_on s.frame.stack)))
+    (λ m named. subst IsQuiet (sym (printed_is s m named main.unhidden)) (prints_on-quiet s (int_on s.frame.stack)))
     i e
 
 -- ---- all code of a program that is served is
@@ -195,7 +205,7 @@ instruction_served program f i served there =
 -- ---- a thread that has ended, or runs main alone
 
 pub record IsAtMain (program : List ClassListing) (w : World) (t : ℕ) (f : Frame) : Type 0 where
-  pub served : list_all serves program ≡ true
+  pub served : ServedProgram program
   pub alone : frames_at w t ≡ f ∷ []
   pub main_is : main_in program ≡ Some f.method
   pub unlocked : f.monitor ≡ None
@@ -204,7 +214,7 @@ abbrev site_at : List ClassListing → World → ℕ → Frame → ℕ → Site
 site_at program w t f n = record { program = program; world = w; thread = t; frame = f; next = n }
 
 in_main : (program : List ClassListing) (w : World) (t : ℕ) (f : Frame) (n : ℕ) → IsAtMain program w t f → IsInMain (site_at program w t f n)
-in_main program w t f n at = record { alone = at.alone; main_is = at.main_is; unlocked = at.unlocked }
+in_main program w t f n at = record { alone = at.alone; main_is = at.main_is; unlocked = at.unlocked; unhidden = at.served.unhidden }
 
 -- what it comes to
 pub completion-main : (program : List ClassListing) (w : World) (t : ℕ) (f : Frame) → frames_at w t ≡ f ∷ [] → completion program w t ≡ at_instruction program w t f (instruction_of program f)
@@ -219,7 +229,7 @@ pub main-quiet : (program : List ClassListing) (w : World) (t : ℕ) (f : Frame)
 main-quiet program w t f at = subst IsQuiet (sym (completion-main program w t f at.alone)) (by_instruction (instruction_of program f) refl) where
   by_instruction : (i : Option Placed) → instruction_of program f ≡ i → IsQuiet (at_instruction program w t f i)
   by_instruction None e = (refl, refl)
-  by_instruction (Some i) e = family-quiet (site_at program w t f i.next) (in_main program w t f i.next at) i.instruction (instruction_served program f i at.served e)
+  by_instruction (Some i) e = family-quiet (site_at program w t f i.next) (in_main program w t f i.next at) i.instruction (instruction_served program f i at.served.code e)
 
 pub none-quiet : (program : List ClassListing) (w : World) (t : ℕ) → frames_at w t ≡ [] → IsQuiet (completion program w t)
 none-quiet program w t e = subst IsQuiet (sym (completion-none program w t e)) (refl, refl)

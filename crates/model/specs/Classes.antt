@@ -3,6 +3,7 @@ pub mod Builtin
 pub mod Exceptions
 pub mod Flags
 pub mod Layout
+pub mod MethodPlaces
 pub mod Named
 pub mod Resolution
 pub mod Search

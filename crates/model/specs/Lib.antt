@@ -2,6 +2,7 @@ pub mod Accepted
 pub mod Accounts
 pub mod Arithmetic
 pub mod Bytecode
+pub mod Callees
 pub mod ClassFiles
 pub mod ClassListings
 pub mod Classes
@@ -23,6 +24,8 @@ pub mod Programs
 pub mod Ready
 pub mod Results
 pub mod Served
+pub mod Shows
+pub mod Signatures
 pub mod Sizes
 pub mod Stores
 pub mod Switches

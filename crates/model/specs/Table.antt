@@ -14,4 +14,5 @@ pub mod Returns
 pub mod Stacks
 pub mod Statics
 pub mod Switches
+pub mod Threads
 pub mod Throws

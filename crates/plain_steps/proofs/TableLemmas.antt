@@ -1,6 +1,7 @@
 -- what a plain step comes to in the instruction table
 use Rattle.std.proofs.Common.{◌≡◌, ℕ, List, Option, Some, None, Result, Ok, Err, refl, ap}
 use Rattle.model.specs.declared.builtins.Builtin.{Builtin}
+use Rattle.model.specs.declared.builtins.Builtin.TheVariants.{PrintInt, PrintLong, PutByte, Initialize, RunThread, StartThread, JoinThread}
 use Rattle.model.specs.declared.instructions.Instruction.TheVariants.{Nop, Constant, Local, Stack, Number, Branch, TableSwitch, LookupSwitch, Return, Static as StaticField, Field, Array, Class, Invoke, Throw, Monitor}
 use Rattle.model.specs.declared.instructions.Invocation.TheVariants.{Virtual, Special, Static, Interface}
 use Rattle.model.specs.declared.turns.Abrupt.{Abrupt}
@@ -17,7 +18,13 @@ use Rattle.plain_steps.specs.Told.{told_with, moved_with}
 
 plain_move-call : (next : ℕ) (builtin : Option Builtin) (f : Frame) → plain_move next (call_of builtin) f ≡ None
 plain_move-call next None f = refl
-plain_move-call next (Some builtin) f = refl
+plain_move-call next (Some PrintInt) f = refl
+plain_move-call next (Some PrintLong) f = refl
+plain_move-call next (Some PutByte) f = refl
+plain_move-call next (Some Initialize) f = refl
+plain_move-call next (Some RunThread) f = refl
+plain_move-call next (Some StartThread) f = refl
+plain_move-call next (Some JoinThread) f = refl
 
 -- a listed instruction whose action is plain comes to its move of the running frame
 pub by_family-plain : (s : Site) (i : Listed) (m : Result Moved Abrupt) → plain_move s.next (action_of i) s.frame ≡ Some m → by_family s i ≡ completes s m

@@ -22,7 +22,7 @@ use Rattle.model.proofs.CollectorLemmas.Moving.{AllMay, refs_same, refs_new, ref
 -- ---- monitors are no places
 
 -- one object changes, but not its contents
-objects_touched : (P : ℕ → Type 0) (os us : List Object) (b : ℕ) (u v : Object) → slice_get us b ≡ Some u → v.contents ≡ u.contents → ObjectsMove P os us → ObjectsMove P os (set us b v)
+pub objects_touched : (P : ℕ → Type 0) (os us : List Object) (b : ℕ) (u v : Object) → slice_get us b ≡ Some u → v.contents ≡ u.contents → ObjectsMove P os us → ObjectsMove P os (set us b v)
 objects_touched P os [] b u v e c h = tt
 objects_touched P [] (x ∷ us) zero u v e c h = (let s : x ≡ u = cc in rw (c, ← s) h)
 objects_touched P [] (x ∷ us) (suc b) u v e c h = (h.0, objects_touched P [] us b u v e c h.1)
@@ -54,7 +54,7 @@ released_object_keeps : (P : ℕ → Type 0) (w v : World) (n t birth : ℕ) (o 
 released_object_keeps P w v n t birth None e k = k
 released_object_keeps P w v n t birth (Some o) e k = released_if P w v n t birth o (is_owner t o.monitor.owner) e refl k
 
-released_keeps : (P : ℕ → Type 0) (w v : World) (n t : ℕ) (monitor : Option ℕ) → Kept P w n v → Kept P w n (released v t monitor)
+pub released_keeps : (P : ℕ → Type 0) (w v : World) (n t : ℕ) (monitor : Option ℕ) → Kept P w n v → Kept P w n (released v t monitor)
 released_keeps P w v n t None k = k
 released_keeps P w v n t (Some birth) k = released_object_keeps P w v n t birth (object_at v birth) refl k
 

@@ -8,13 +8,21 @@ use Rattle.model.specs.Worlds.{World, frames_at}
 use Rattle.model.specs.Completions.{Site, frames_in}
 use Rattle.model.specs.Effects.{Choice}
 use Rattle.model.specs.Table.Constants.{constant}
+use Rattle.model.specs.Table.Locals.{local}
+use Rattle.model.specs.Table.Stacks.{rearranged}
 use Rattle.model.specs.Table.Numbers.{number}
+use Rattle.model.specs.Table.Branches.{branched}
+use Rattle.model.specs.Table.Switches.{table_switched, lookup_switched}
 use Rattle.model.specs.Table.Next.{Listed, by_family, at_instruction, at_frame, completion, next, asked}
 use Rattle.model.specs.Collector.Moves.{CompletionMoves, Lawful, object_of}
 use Rattle.model.proofs.CollectorLemmas.Stepping.{replaced_lawful, completes_moves}
 use Rattle.model.proofs.CollectorLemmas.Choosing.{effect_lawful}
 use Rattle.model.proofs.CollectorLemmas.Table.Constants.{constant_lawful}
+use Rattle.model.proofs.CollectorLemmas.Table.Locals.{local_lawful}
+use Rattle.model.proofs.CollectorLemmas.Table.Stacks.{rearranged_lawful}
 use Rattle.model.proofs.CollectorLemmas.Table.Numbers.{number_lawful}
+use Rattle.model.proofs.CollectorLemmas.Table.Branches.{branched_lawful}
+use Rattle.model.proofs.CollectorLemmas.Table.Switches.{table_switched_lawful, lookup_switched_lawful}
 use Rattle.model.proofs.CollectorLemmas.Table.Returns.{returned_moves}
 use Rattle.model.proofs.CollectorLemmas.Table.Statics.{static_moves}
 use Rattle.model.proofs.CollectorLemmas.Table.Fields.{field_moves}
@@ -29,12 +37,12 @@ use Rattle.model.proofs.CollectorLemmas.Table.Monitors.{monitor_moves}
 family_moves : (s : Site) → running (frames_in s) ≡ Some s.frame → (i : Listed) → CompletionMoves s.world (by_family s i)
 family_moves s e Nop = completes_moves s e (Ok (replaced s.next s.frame 0 [])) (replaced_lawful s.world s.next s.frame 0 [] tt)
 family_moves s e (Constant c) = completes_moves s e (constant s.next c s.frame) (constant_lawful s.world s.next c s.frame)
-family_moves s e (Local access) = tt
-family_moves s e (Stack operation) = tt
+family_moves s e (Local access) = completes_moves s e (local s.next access s.frame) (local_lawful s.world s.thread s.next access s.frame e)
+family_moves s e (Stack operation) = completes_moves s e (rearranged s.next operation s.frame) (rearranged_lawful s.world s.thread s.next operation s.frame e)
 family_moves s e (Number operation) = completes_moves s e (number s.next operation s.frame) (number_lawful s.world s.next operation s.frame)
-family_moves s e (Branch test target) = tt
-family_moves s e (TableSwitch table) = tt
-family_moves s e (LookupSwitch lookup) = tt
+family_moves s e (Branch test target) = completes_moves s e (branched s.next test target s.frame) (branched_lawful s.world s.next test target s.frame)
+family_moves s e (TableSwitch table) = completes_moves s e (table_switched table s.frame) (table_switched_lawful s.world table s.frame)
+family_moves s e (LookupSwitch lookup) = completes_moves s e (lookup_switched lookup s.frame) (lookup_switched_lawful s.world lookup s.frame)
 family_moves s e (Return kind) = returned_moves s e kind
 family_moves s e (StaticField access member) = static_moves s e access member
 family_moves s e (Field access member) = field_moves s e access member

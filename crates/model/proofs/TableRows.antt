@@ -1,0 +1,27 @@
+-- Worked rows of the instruction table: a file for each family. The values are those of JVMS 6.5, worked out by hand.
+pub mod ArrayRuns
+pub mod Arrays
+pub mod Branches
+pub mod Builtins
+pub mod DropRuns
+pub mod FieldRuns
+pub mod Fields
+pub mod HeapSites
+pub mod Invokes
+pub mod LinkRuns
+pub mod Listings
+pub mod Locals
+pub mod LoopRuns
+pub mod Monitors
+pub mod Objects
+pub mod PlainPrograms
+pub mod Returns
+pub mod Sites
+pub mod Stacks
+pub mod Stages
+pub mod Statics
+pub mod Switches
+pub mod Threads
+pub mod Throwing
+pub mod Throws
+pub mod Worked
