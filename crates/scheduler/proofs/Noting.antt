@@ -10,7 +10,7 @@ use Rattle.model.specs.declared.turns.Fault.{Fault}
 use Rattle.model.specs.declared.turns.Turn.{Turn}
 use Rattle.model.specs.declared.turns.Turn.TheVariants.{NotReady, StepLimit}
 use Rattle.model.specs.ClassListings.{ClassListing}
-use Rattle.model.specs.Effects.{Effect}
+use Rattle.model.specs.Results.{Effect}
 use Rattle.model.specs.Effects.Choice.{NotAsked}
 use Rattle.model.specs.Journals.{JournalValue, blank, with_row}
 use Rattle.model.specs.Worlds.{World, counted}
