@@ -22,6 +22,7 @@ pub mod Recording
 pub mod Running
 pub mod Scanning
 pub mod Shading
+pub mod Showing
 pub mod Spares
 pub mod Stepping
 pub mod Sweeping
