@@ -1,6 +1,5 @@
 -- Programs of calls, run whole by thread 0: a recursion without end, selection, and the faults of calls and returns.
-use Rattle.std.proofs.Common.{◌∙◌, ap, arith}
-use Rattle.std.specs.Prelude.{◌≡◌, ℕ, zero, suc, ◌+◌, List, [], ◌∷◌, replicate, Option, Some, None, codes, refl}
+use Rattle.std.specs.Prelude.{◌≡◌, ℕ, List, [], ◌∷◌, replicate, Option, Some, None, codes, refl}
 use Rattle.std.specs.Int.{int_wrap}
 use Rattle.std.specs.Fmt.{digits}
 use Rattle.model.specs.declared.instructions.Constant.TheVariants.{SmallInt}
@@ -29,9 +28,7 @@ use Rattle.model.specs.Classes.Types.{is_subtype_within}
 use Rattle.model.specs.Worlds.{World, opening_world}
 use Rattle.model.specs.Worlds.Thread.{Live, Ended}
 use Rattle.model.specs.Table.Next.{completion, next}
-use Rattle.model.specs.Effects.Choice.{NewObject}
-use Rattle.model.specs.Turns.{refusal, ideal_step}
-use Rattle.model.specs.declared.turns.Actor.TheVariants.{Thread}
+use Rattle.model.specs.Turns.{refusal}
 use Rattle.model.proofs.TableRows.Listings.{Sized, print, return, after, run, more}
 use Rattle.model.proofs.TableRows.Sites.{class, interface, method, abstract_method, member, place, frame, object, world}
 

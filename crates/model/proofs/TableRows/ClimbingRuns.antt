@@ -1,6 +1,6 @@
 -- A synchronized method that calls itself until 256 frames are there. The StackOverflowError leaves the monitor as often as it
 -- was entered, so that main, which handles it, no longer owns the monitor.
-use Rattle.std.specs.Prelude.{◌≡◌, ℕ, ◌+◌, List, [], ◌∷◌, ◌++◌, replicate, Option, Some, None, codes, refl}
+use Rattle.std.specs.Prelude.{◌≡◌, ℕ, ◌+◌, List, [], ◌∷◌, ◌++◌, replicate, Some, None, codes, refl}
 use Rattle.std.specs.Int.{int_wrap}
 use Rattle.std.specs.Fmt.{digits}
 use Rattle.model.specs.declared.instructions.FirstLocal.TheVariants.{Zero as FirstZero}
