@@ -22,6 +22,7 @@ pub mod Recording
 pub mod Running
 pub mod Scanning
 pub mod Shading
+pub mod Showing
 pub mod Spares
 pub mod Stepping
 pub mod Sweeping
@@ -31,5 +32,4 @@ pub mod Tracing
 pub mod Turning
 pub mod Unwinding
 pub mod Words
-pub mod WorkedRows
 pub mod WorkedRuns

@@ -1,5 +1,5 @@
 -- What no case of the instruction table changes, and what it doesn't look at.
-use Rattle.std.proofs.Common.{◌≡◌, ℕ, List, Option, None, refl, ap}
+use Rattle.std.proofs.Common.{◌≡◌, ℕ, List, Option, None, ap}
 use Rattle.model.specs.ClassListings.{ClassListing}
 use Rattle.model.specs.Results.{Effect}
 use Rattle.model.specs.Worlds.{World}

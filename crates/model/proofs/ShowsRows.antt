@@ -1,18 +1,16 @@
 -- Worked rows of what a heap shows: one that shows a world, and reasons why others don't.
 use Rattle.std.proofs.Common.{◌≡◌, ◌⊎◌, inl, inr, ℕ, zero, suc, pos, List, [], ◌∷◌, Option, Some, None, codes, refl, sym, ◌∙◌}
-use Rattle.model.specs.declared.values.Value.{Value}
 use Rattle.model.specs.declared.values.Value.TheVariants.{Int, Ref}
-use Rattle.model.specs.declared.values.Entry.{Entry}
 use Rattle.model.specs.declared.values.Entry.TheVariants.{Unset, Holds}
 use Rattle.model.specs.declared.turns.Mark.TheVariants.{Unmarked}
 use Rattle.model.specs.Frames.{Frame}
-use Rattle.model.specs.Worlds.{World, Thread, FieldValue, Statics, Contents, Monitor, Object, free_monitor, plain_object}
+use Rattle.model.specs.Worlds.{World, FieldValue, Statics, Contents, Monitor, Object, free_monitor, plain_object}
 use Rattle.model.specs.Worlds.Thread.{Live, Ended}
 use Rattle.model.specs.Worlds.Contents.{Instance, Array}
 use Rattle.model.specs.Collector.Places.{root_at, word_at, Reach}
 use Rattle.model.specs.Collector.Places.Place.{MemoryError, StackError, Slot, FrameEntry, MethodMonitor}
 use Rattle.model.specs.Collector.Places.Reach.{at_root, by_word}
-use Rattle.model.specs.Shows.{ObjectKind, Held, HeapCell, HeapWorld, birth_in, value_read, thread_read, all_read, HasCell, Shows}
+use Rattle.model.specs.Shows.{Held, HeapCell, HeapWorld, birth_in, value_read, thread_read, HasCell, Shows}
 use Rattle.model.specs.Shows.ObjectKind.{OfClass, OfElements}
 
 -- ---- the ideal world: birth 4 has a field that leads to the array 5, and 3 is no longer reached

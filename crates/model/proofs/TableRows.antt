@@ -3,6 +3,8 @@ pub mod ArrayRuns
 pub mod Arrays
 pub mod Branches
 pub mod Builtins
+pub mod CallPrograms
+pub mod ClimbingRuns
 pub mod DropRuns
 pub mod FieldRuns
 pub mod Fields
@@ -17,10 +19,12 @@ pub mod Objects
 pub mod PlainPrograms
 pub mod Returns
 pub mod Sites
+pub mod SlotRuns
 pub mod Stacks
 pub mod Stages
 pub mod Statics
 pub mod Switches
+pub mod ThreadPrograms
 pub mod Threads
 pub mod Throwing
 pub mod Throws

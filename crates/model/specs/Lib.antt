@@ -12,6 +12,7 @@ pub mod Completions
 pub mod Effects
 pub mod Faults
 pub mod Frames
+pub mod Heaps
 pub mod Journals
 pub mod Limits
 pub mod Locals

@@ -1,6 +1,4 @@
 use Rattle.std.specs.Prelude.{ℕ, List, [], ◌∷◌, ◌++◌, length, slice_get, slice_set, Option, Some, None}
-use Rattle.std.specs.Option.{option_map}
-use Rattle.model.specs.declared.turns.Exception.{Exception}
 use Rattle.model.specs.Worlds.{World, Contents, Object, free_monitor}
 use Rattle.model.specs.Worlds.Contents.{Instance, Array}
 

@@ -1,4 +1,4 @@
-use Rattle.std.specs.Prelude.{ℕ, ◌+◌, List, [], ◌∷◌, length, map, filter, slice_get, slice_set, Option, Some, None, Bool, true, false, cond, codes}
+use Rattle.std.specs.Prelude.{ℕ, ◌+◌, List, [], ◌∷◌, length, map, filter, slice_get, slice_set, Option, Some, None, Bool, true, false, codes}
 use Rattle.std.specs.List.{flat_map}
 use Rattle.model.specs.declared.listings.Constant.{Constant}
 use Rattle.model.specs.declared.listings.Constant.TheVariants.{Int as IntConstant, Long as LongConstant}

@@ -1,4 +1,4 @@
-use Rattle.std.proofs.Common.{◌≡◌, ◌⊎◌, inl, inr, ℕ, ◌+◌, Bool, true, false, List, [], ◌∷◌, ◌++◌, length, drop, set, Option, Some, None, Ok, Err, nat_le, refl, sym, ap, arith}
+use Rattle.std.proofs.Common.{◌≡◌, ◌⊎◌, inl, inr, ℕ, ◌+◌, Bool, true, false, List, [], ◌∷◌, ◌++◌, drop, Option, Some, None, Ok, nat_le, refl}
 use Rattle.std.proofs.lemmas.List.{length-append}
 use Rattle.model.specs.declared.values.Value.TheVariants.{Ref}
 use Rattle.model.specs.declared.turns.Fault.TheVariants.{NoInstruction, StackFull}
@@ -7,7 +7,7 @@ use Rattle.model.specs.ClassListings.{ClassListing}
 use Rattle.model.specs.Classes.Exceptions.{exception_class}
 use Rattle.model.specs.Values.{units_of_all}
 use Rattle.model.specs.Frames.{Frame, running, with_running, push_all, replaced, replaced_if_room}
-use Rattle.model.specs.Worlds.{World, Contents, Object, frames_at, next_birth, plain_object}
+use Rattle.model.specs.Worlds.{World, Contents, frames_at, next_birth, plain_object}
 use Rattle.model.specs.Worlds.Thread.{Live}
 use Rattle.model.specs.Objects.{made_of, with_new, words_in}
 use Rattle.model.specs.Completions.{Completion, asks}
@@ -16,7 +16,7 @@ use Rattle.model.specs.Effects.{Choice, created_with, created_on, created, raise
 use Rattle.model.specs.Effects.Choice.{NotAsked, NewObject, NoRoom}
 use Rattle.model.specs.Collector.Places.{contents_refs, slots_of}
 use Rattle.model.specs.Collector.Invariant.{In}
-use Rattle.model.specs.Collector.Moves.{LeadNowhere, WorldMoves, CompletionMoves, Moves, Lawful, object_of}
+use Rattle.model.specs.Collector.Moves.{LeadNowhere, CompletionMoves, Moves, Lawful, object_of}
 use Rattle.model.specs.Collector.Moves.Lawful.{faults, moves}
 use Rattle.model.proofs.CollectorLemmas.Moving.{AllMay, refs_same, frames_set, threads_same, threads_set, objects_same, objects_more}
 use Rattle.model.proofs.CollectorLemmas.Known.{memory_error_known}

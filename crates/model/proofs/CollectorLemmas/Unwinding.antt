@@ -1,16 +1,15 @@
-use Rattle.std.proofs.Common.{◌≡◌, ◌⊎◌, inl, inr, ℕ, zero, suc, Bool, true, false, List, [], ◌∷◌, ◌++◌, length, map, reverse, set, slice_get, Option, Some, None, nat_le, refl, sym, ◌∙◌, ap, length-set}
+use Rattle.std.proofs.Common.{◌≡◌, ◌⊎◌, inl, inr, ℕ, zero, suc, Bool, true, false, List, [], ◌∷◌, ◌++◌, map, reverse, set, slice_get, Option, Some, None, nat_le, refl, ◌∙◌, ap, length-set}
 use Rattle.std.proofs.lemmas.List.{reverse-append}
-use Rattle.model.specs.declared.values.Value.TheVariants.{Ref}
 use Rattle.model.specs.declared.turns.Fault.TheVariants.{StackFull}
 use Rattle.model.specs.ClassListings.{ClassListing}
 use Rattle.model.specs.Frames.{Frame}
-use Rattle.model.specs.Worlds.{World, Object, Monitor, frames_of, frames_at, next_birth}
+use Rattle.model.specs.Worlds.{World, Object, frames_of, frames_at, next_birth}
 use Rattle.model.specs.Worlds.Thread.{Live, Ended}
 use Rattle.model.specs.Objects.{object_at, class_at}
 use Rattle.model.specs.Monitors.{is_owner, exited, released, released_object, released_all}
-use Rattle.model.specs.Unwinding.{Landing, handler_of, lands_at, landing, left_monitors, handling, landed, unwound, thrown}
+use Rattle.model.specs.Unwinding.{Landing, handler_of, lands_at, landing, left_monitors, handling, landed, thrown}
 use Rattle.model.specs.Unwinding.Landing.{Handled, Unhandled}
-use Rattle.model.specs.Collector.Places.{ref_of, entry_ref, contents_refs, slots_of, Reach}
+use Rattle.model.specs.Collector.Places.{ref_of, entry_ref, slots_of, Reach}
 use Rattle.model.specs.Collector.Invariant.{In}
 use Rattle.model.specs.Collector.Changes.{IsNew, births_after}
 use Rattle.model.specs.Collector.Moves.{FrameMoves, FramesMove, ObjectsMove, Lawful}

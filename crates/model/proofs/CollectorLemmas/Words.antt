@@ -1,4 +1,4 @@
-use Rattle.std.proofs.Common.{◌≡◌, ◌⊎◌, inl, inr, ℕ, zero, suc, List, [], ◌∷◌, ◌++◌, length, filter, map, drop, replicate, set, slice_get, Option, Some, None, Result, Ok, Err, refl, ap, length-set}
+use Rattle.std.proofs.Common.{◌≡◌, ◌⊎◌, inl, inr, ℕ, zero, suc, List, [], ◌∷◌, ◌++◌, filter, map, replicate, set, Option, Some, None, Result, Ok, Err, refl, length-set}
 use Rattle.std.proofs.lemmas.List.{map-append}
 use Rattle.model.specs.declared.listings.Constant.{Constant}
 use Rattle.model.specs.declared.listings.Constant.TheVariants.{Int as IntConstant, Long as LongConstant}

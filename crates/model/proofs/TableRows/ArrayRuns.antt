@@ -1,5 +1,5 @@
 -- Programs with an array, and one that catches what the machine throws, run whole.
-use Rattle.std.specs.Prelude.{◌≡◌, ℕ, ℤ, pos, List, [], ◌∷◌, Some, None, codes, refl}
+use Rattle.std.specs.Prelude.{◌≡◌, pos, List, [], ◌∷◌, Some, None, codes, refl}
 use Rattle.std.specs.Int.{int_wrap}
 use Rattle.std.specs.Fmt.{digits}
 use Rattle.model.specs.declared.instructions.ArrayOperation.TheVariants.{New, Load, Store}
@@ -15,7 +15,6 @@ use Rattle.model.specs.declared.instructions.SmallInt.TheVariants.{Zero, One, Tw
 use Rattle.model.specs.declared.instructions.StackOperation.TheVariants.{Dup, Pop}
 use Rattle.model.specs.declared.journals.HeapShape.{HeapShape}
 use Rattle.model.specs.declared.journals.Outcome.TheVariants.{Done, NoRoom}
-use Rattle.model.specs.declared.journals.Row.{Row}
 use Rattle.model.specs.declared.turns.Actor.TheVariants.{Thread}
 use Rattle.model.specs.ClassListings.{ClassListing}
 use Rattle.model.specs.Accounts.{after_turn, shade}

@@ -1,5 +1,5 @@
 -- Where the rows of statics, fields, arrays and objects stand: two classes, an interface, and an object or two of each kind.
-use Rattle.std.specs.Prelude.{◌≡◌, ℕ, pos, negsuc, List, [], ◌∷◌, Option, Some, None, codes}
+use Rattle.std.specs.Prelude.{ℕ, pos, negsuc, List, [], ◌∷◌, Option, Some, None, codes}
 use Rattle.model.specs.declared.listings.Constant.{Constant}
 use Rattle.model.specs.declared.listings.Constant.TheVariants.{Int as IntConstant, Long as LongConstant}
 use Rattle.model.specs.declared.listings.Field.{Field}

@@ -1,13 +1,13 @@
 -- A reference that moves from an object to the stack while the collector marks: class N makes two objects, links the first to
 -- the second, and later takes the link away with the second on its stack, on four small cells.
-use Rattle.std.specs.Prelude.{◌≡◌, ℕ, pos, negsuc, List, [], ◌∷◌, ◌++◌, replicate, Option, Some, None, codes, refl}
+use Rattle.std.specs.Prelude.{◌≡◌, pos, List, [], ◌∷◌, ◌++◌, Some, None, codes, refl}
 use Rattle.std.specs.Int.{int_wrap}
 use Rattle.std.specs.Fmt.{digits}
-use Rattle.model.specs.declared.colours.Colour.TheVariants.{White, Grey, Black}
-use Rattle.model.specs.declared.colours.Phase.TheVariants.{Idle, Statics, Frames, Mark, Append}
+use Rattle.model.specs.declared.colours.Colour.TheVariants.{White, Grey}
+use Rattle.model.specs.declared.colours.Phase.TheVariants.{Idle, Mark}
 use Rattle.model.proofs.TableRows.Listings.{Sized, print, return, ample}
 use Rattle.model.proofs.TableRows.Stages.{class_of, field, member, small, main_at, world, collector, thread, account, stage, then}
-use Rattle.model.specs.Accounts.Cell.{Free, Taken}
+use Rattle.model.specs.Accounts.Cell.{Taken}
 use Rattle.model.specs.Accounts.{after_turn, shade}
 use Rattle.model.specs.ClassListings.{ClassListing}
 use Rattle.model.specs.Classes.Builtin.{builtin_classes}
@@ -15,7 +15,7 @@ use Rattle.model.specs.Classes.Search.{upwards, interfaces_from}
 use Rattle.model.specs.Classes.Subclasses.{is_within}
 use Rattle.model.specs.Classes.Types.{is_subtype_within}
 use Rattle.model.specs.Collector.Places.{root_at, word_at}
-use Rattle.model.specs.Collector.Runs.{moved_by, moved_by_all, row_by}
+use Rattle.model.specs.Collector.Runs.{moved_by, moved_by_all}
 use Rattle.model.specs.Collector.Table.{collected}
 use Rattle.model.specs.Machines.{Machine, opening_machine}
 use Rattle.model.specs.Objects.{made_of}
@@ -32,7 +32,7 @@ use Rattle.model.specs.declared.instructions.Instruction.TheVariants.{Class, Con
 use Rattle.model.specs.declared.instructions.Local.TheVariants.{First}
 use Rattle.model.specs.declared.instructions.LocalAccess.TheVariants.{Load, Store}
 use Rattle.model.specs.declared.turns.Actor.{Actor}
-use Rattle.model.specs.declared.values.Entry.TheVariants.{Unset, Holds}
+use Rattle.model.specs.declared.values.Entry.TheVariants.{Holds}
 use Rattle.model.specs.declared.values.Kind.TheVariants.{Ref as RefKind}
 use Rattle.model.specs.declared.values.Value.TheVariants.{Int, Ref}
 use Rattle.model.specs.declared.values.Value.{Value}
@@ -78,8 +78,8 @@ link0 = opening_machine n (small 4)
 
 abbrev link1 : Machine
 link1 =
-    stage (world (main_at 3 8 (Holds (Ref (Some 3)) ∷ Holds (Ref (Some 4)) ∷ []) ([])) ([]) (object (Int (pos 0)) (Ref None) ∷ object (Int (pos 0)) (Ref None) ∷ []) 4)
-    (account (Taken 1 White ∷ Taken 2 White ∷ Taken 3 Grey ∷ Taken 4 Grey ∷ []) ([]) (3 ∷ 4 ∷ []) (Idle))
+    stage (world (main_at 3 8 (Holds (Ref (Some 3)) ∷ Holds (Ref (Some 4)) ∷ []) []) [] (object (Int (pos 0)) (Ref None) ∷ object (Int (pos 0)) (Ref None) ∷ []) 4)
+    (account (Taken 1 White ∷ Taken 2 White ∷ Taken 3 Grey ∷ Taken 4 Grey ∷ []) [] (3 ∷ 4 ∷ []) Idle)
 
 link0-link1 : moved link0 (thread 4) ≡ link1
 unfolding moved_by refusal next completion after_turn shade collected root_at word_at builtin_classes upwards interfaces_from is_within is_subtype_within int_wrap digits
@@ -87,8 +87,8 @@ link0-link1 = refl
 
 abbrev link2 : Machine
 link2 =
-    stage (world (main_at 3 15 (Holds (Ref (Some 3)) ∷ Holds (Ref (Some 4)) ∷ []) (Ref (Some 3) ∷ [])) ([]) (object (Int (pos 0)) (Ref None) ∷ object (Int (pos 7)) (Ref None) ∷ []) 8)
-    (account (Taken 1 White ∷ Taken 2 White ∷ Taken 3 Grey ∷ Taken 4 Grey ∷ []) ([]) (3 ∷ 4 ∷ []) (Idle))
+    stage (world (main_at 3 15 (Holds (Ref (Some 3)) ∷ Holds (Ref (Some 4)) ∷ []) (Ref (Some 3) ∷ [])) [] (object (Int (pos 0)) (Ref None) ∷ object (Int (pos 7)) (Ref None) ∷ []) 8)
+    (account (Taken 1 White ∷ Taken 2 White ∷ Taken 3 Grey ∷ Taken 4 Grey ∷ []) [] (3 ∷ 4 ∷ []) Idle)
 
 link1-link2 : moved link1 (thread 4) ≡ link2
 unfolding moved_by refusal next completion after_turn shade collected root_at word_at builtin_classes upwards interfaces_from is_within is_subtype_within int_wrap digits
@@ -96,8 +96,8 @@ link1-link2 = refl
 
 abbrev link3 : Machine
 link3 =
-    stage (world (main_at 3 21 (Holds (Ref (Some 3)) ∷ Holds (Ref None) ∷ []) ([])) ([]) (object (Int (pos 0)) (Ref (Some 4)) ∷ object (Int (pos 7)) (Ref None) ∷ []) 12)
-    (account (Taken 1 White ∷ Taken 2 White ∷ Taken 3 Grey ∷ Taken 4 Grey ∷ []) ([]) (3 ∷ 4 ∷ []) (Idle))
+    stage (world (main_at 3 21 (Holds (Ref (Some 3)) ∷ Holds (Ref None) ∷ []) []) [] (object (Int (pos 0)) (Ref (Some 4)) ∷ object (Int (pos 7)) (Ref None) ∷ []) 12)
+    (account (Taken 1 White ∷ Taken 2 White ∷ Taken 3 Grey ∷ Taken 4 Grey ∷ []) [] (3 ∷ 4 ∷ []) Idle)
 
 link2-link3 : moved link2 (thread 4) ≡ link3
 unfolding moved_by refusal next completion after_turn shade collected root_at word_at builtin_classes upwards interfaces_from is_within is_subtype_within int_wrap digits
@@ -105,8 +105,8 @@ link2-link3 = refl
 
 abbrev link4 : Machine
 link4 =
-    stage (world (main_at 3 21 (Holds (Ref (Some 3)) ∷ Holds (Ref None) ∷ []) ([])) ([]) (object (Int (pos 0)) (Ref (Some 4)) ∷ object (Int (pos 7)) (Ref None) ∷ []) 33)
-    (account (Taken 1 White ∷ Taken 2 White ∷ Taken 3 White ∷ Taken 4 White ∷ []) ([]) ([]) (Idle))
+    stage (world (main_at 3 21 (Holds (Ref (Some 3)) ∷ Holds (Ref None) ∷ []) []) [] (object (Int (pos 0)) (Ref (Some 4)) ∷ object (Int (pos 7)) (Ref None) ∷ []) 33)
+    (account (Taken 1 White ∷ Taken 2 White ∷ Taken 3 White ∷ Taken 4 White ∷ []) [] [] Idle)
 
 link3-link4 : moved link3 (collector 21) ≡ link4
 unfolding moved_by refusal next completion after_turn shade collected root_at word_at builtin_classes upwards interfaces_from is_within is_subtype_within int_wrap digits
@@ -114,8 +114,8 @@ link3-link4 = refl
 
 abbrev link5 : Machine
 link5 =
-    stage (world (main_at 3 21 (Holds (Ref (Some 3)) ∷ Holds (Ref None) ∷ []) ([])) ([]) (object (Int (pos 0)) (Ref (Some 4)) ∷ object (Int (pos 7)) (Ref None) ∷ []) 40)
-    (account (Taken 1 Grey ∷ Taken 2 Grey ∷ Taken 3 Grey ∷ Taken 4 White ∷ []) ([]) (1 ∷ 2 ∷ 3 ∷ []) (Mark 0))
+    stage (world (main_at 3 21 (Holds (Ref (Some 3)) ∷ Holds (Ref None) ∷ []) []) [] (object (Int (pos 0)) (Ref (Some 4)) ∷ object (Int (pos 7)) (Ref None) ∷ []) 40)
+    (account (Taken 1 Grey ∷ Taken 2 Grey ∷ Taken 3 Grey ∷ Taken 4 White ∷ []) [] (1 ∷ 2 ∷ 3 ∷ []) (Mark 0))
 
 link4-link5 : moved link4 (collector 7) ≡ link5
 unfolding moved_by refusal next completion after_turn shade collected root_at word_at builtin_classes upwards interfaces_from is_within is_subtype_within int_wrap digits
@@ -123,8 +123,8 @@ link4-link5 = refl
 
 abbrev link6 : Machine
 link6 =
-    stage (world (main_at 3 30 (Holds (Ref (Some 3)) ∷ Holds (Ref None) ∷ []) (Ref (Some 4) ∷ [])) ([]) (object (Int (pos 0)) (Ref None) ∷ object (Int (pos 7)) (Ref None) ∷ []) 45)
-    (account (Taken 1 Grey ∷ Taken 2 Grey ∷ Taken 3 Grey ∷ Taken 4 Grey ∷ []) ([]) (1 ∷ 2 ∷ 3 ∷ 4 ∷ []) (Mark 0))
+    stage (world (main_at 3 30 (Holds (Ref (Some 3)) ∷ Holds (Ref None) ∷ []) (Ref (Some 4) ∷ [])) [] (object (Int (pos 0)) (Ref None) ∷ object (Int (pos 7)) (Ref None) ∷ []) 45)
+    (account (Taken 1 Grey ∷ Taken 2 Grey ∷ Taken 3 Grey ∷ Taken 4 Grey ∷ []) [] (1 ∷ 2 ∷ 3 ∷ 4 ∷ []) (Mark 0))
 
 link5-link6 : moved link5 (thread 5) ≡ link6
 unfolding moved_by refusal next completion after_turn shade collected root_at word_at builtin_classes upwards interfaces_from is_within is_subtype_within int_wrap digits
@@ -132,8 +132,8 @@ link5-link6 = refl
 
 abbrev link7 : Machine
 link7 =
-    stage (world (main_at 3 30 (Holds (Ref (Some 3)) ∷ Holds (Ref None) ∷ []) (Ref (Some 4) ∷ [])) ([]) (object (Int (pos 0)) (Ref None) ∷ object (Int (pos 7)) (Ref None) ∷ []) 59)
-    (account (Taken 1 White ∷ Taken 2 White ∷ Taken 3 White ∷ Taken 4 White ∷ []) ([]) ([]) (Idle))
+    stage (world (main_at 3 30 (Holds (Ref (Some 3)) ∷ Holds (Ref None) ∷ []) (Ref (Some 4) ∷ [])) [] (object (Int (pos 0)) (Ref None) ∷ object (Int (pos 7)) (Ref None) ∷ []) 59)
+    (account (Taken 1 White ∷ Taken 2 White ∷ Taken 3 White ∷ Taken 4 White ∷ []) [] [] Idle)
 
 link6-link7 : moved link6 (collector 14) ≡ link7
 unfolding moved_by refusal next completion after_turn shade collected root_at word_at builtin_classes upwards interfaces_from is_within is_subtype_within int_wrap digits
@@ -142,7 +142,7 @@ link6-link7 = refl
 abbrev link8 : Machine
 link8 =
     stage (world (Ended None) (codes "7\n") (object (Int (pos 0)) (Ref None) ∷ object (Int (pos 7)) (Ref None) ∷ []) 62)
-    (account (Taken 1 White ∷ Taken 2 White ∷ Taken 3 White ∷ Taken 4 White ∷ []) ([]) ([]) (Idle))
+    (account (Taken 1 White ∷ Taken 2 White ∷ Taken 3 White ∷ Taken 4 White ∷ []) [] [] Idle)
 
 link7-link8 : moved link7 (thread 3) ≡ link8
 unfolding moved_by refusal next completion after_turn shade collected root_at word_at builtin_classes upwards interfaces_from is_within is_subtype_within int_wrap digits
@@ -157,4 +157,4 @@ link-run =
     (then n (small 4) ample link4 link5 link8 (collector 7) (thread 5 ++ collector 14 ++ thread 3) link4-link5
     (then n (small 4) ample link5 link6 link8 (thread 5) (collector 14 ++ thread 3) link5-link6
     (then n (small 4) ample link6 link7 link8 (collector 14) (thread 3) link6-link7
-    (link7-link8)))))))
+    link7-link8))))))

@@ -8,14 +8,14 @@ use Rattle.model.specs.declared.instructions.SmallLong.TheVariants.{One as LongO
 use Rattle.model.specs.declared.instructions.NumberOperation.TheVariants.{Binary}
 use Rattle.model.specs.declared.instructions.NumberKind.TheVariants.{Int as Ints, Long as Longs}
 use Rattle.model.specs.declared.instructions.Operator.{Operator}
-use Rattle.model.specs.declared.instructions.Operator.TheVariants.{Div, Rem}
+use Rattle.model.specs.declared.instructions.Operator.TheVariants.{Div, Rem, Shl, Ushr}
 use Rattle.model.specs.declared.instructions.Comparison.TheVariants.{Less}
 use Rattle.model.specs.declared.instructions.Test.TheVariants.{Ints as TwoInts}
 use Rattle.model.specs.declared.instructions.FirstLocal.TheVariants.{Zero as FirstZero}
 use Rattle.model.specs.declared.instructions.Local.TheVariants.{First}
 use Rattle.model.specs.declared.instructions.Increment.TheVariants.{Byte as ByByte}
 use Rattle.model.specs.declared.instructions.LocalAccess.TheVariants.{Load, Store, Increment}
-use Rattle.model.specs.declared.instructions.StackOperation.TheVariants.{Dup}
+use Rattle.model.specs.declared.instructions.StackOperation.TheVariants.{Dup, Dup2X2}
 use Rattle.model.specs.declared.instructions.Instruction.TheVariants.{Nop, Constant, Local, Stack, Number, Branch, TableSwitch, LookupSwitch}
 use Rattle.model.specs.declared.values.Kind.TheVariants.{Int as IntKind}
 use Rattle.model.specs.declared.turns.Fault.TheVariants.{WrongKind, WrongLocal, NoInstruction}
@@ -26,7 +26,7 @@ use Rattle.model.specs.Worlds.{opening_world}
 use Rattle.model.specs.Worlds.Thread.{Ended}
 use Rattle.model.specs.Turns.{refusal}
 use Rattle.model.specs.Table.Next.{completion, next}
-use Rattle.model.proofs.TableRows.Listings.{Sized, main_of, ldc, ldc2_w, print, return, run}
+use Rattle.model.proofs.TableRows.Listings.{Sized, main_of, ldc, ldc2_w, print, printl, return, run}
 
 abbrev iconst_m1 : Sized
 iconst_m1 = (1, Constant (SmallInt MinusOne))
@@ -77,7 +77,33 @@ by_zero-birth : length (run 3 by_zero).objects ≡ 4
 unfolding refusal next completion upwards builtin_classes int_wrap digits
 by_zero-birth = refl
 
--- ---- a long is no value of one unit: F3
+-- ---- shifts: by the low 5 bits of an int's count, by the low 6 of a long's
+
+abbrev shifts : List ClassListing
+shifts = main_of 3 0 (iconst_1 ∷ bipush (pos 33) ∷ int Shl ∷ print ∷ lconst_1 ∷ bipush (pos 65) ∷ long Shl ∷ printl ∷ iconst_m1 ∷ bipush (pos 33) ∷ int Ushr ∷ print ∷ ldc2_w (negsuc 0) ∷ bipush (pos 65) ∷ long Ushr ∷ printl ∷ return ∷ [])
+
+shifts-output : (run 17 shifts).output ≡ codes "2\n2\n2147483647\n9223372036854775807\n"
+unfolding refusal next completion upwards builtin_classes int_wrap digits
+shifts-output = refl
+
+shifts-end : (run 17 shifts).threads ≡ Ended None ∷ []
+unfolding refusal next completion upwards builtin_classes int_wrap digits
+shifts-end = refl
+
+-- ---- a long below another one
+
+abbrev copied_below : List ClassListing
+copied_below = main_of 6 0 (ldc2_w (pos 7) ∷ ldc2_w (pos 9) ∷ (1, Stack Dup2X2) ∷ printl ∷ printl ∷ printl ∷ return ∷ [])
+
+copied_below-output : (run 7 copied_below).output ≡ codes "9\n7\n9\n"
+unfolding refusal next completion upwards builtin_classes int_wrap digits
+copied_below-output = refl
+
+copied_below-end : (run 7 copied_below).threads ≡ Ended None ∷ []
+unfolding refusal next completion upwards builtin_classes int_wrap digits
+copied_below-end = refl
+
+-- a long is no value of one unit: F3
 abbrev copied_long : List ClassListing
 copied_long = main_of 6 0 (ldc2_w (pos 7) ∷ (1, Stack Dup) ∷ return ∷ [])
 

@@ -1,5 +1,5 @@
 -- Runs are computed in stages: the machine is written out between turns, each stage is an equation, and the equations chain.
-use Rattle.std.proofs.Common.{◌≡◌, ℕ, List, [], ◌∷◌, ◌++◌, replicate, Option, Some, None, refl, ◌∙◌, ap}
+use Rattle.std.proofs.Common.{◌≡◌, ℕ, List, [], ◌∷◌, ◌++◌, replicate, Some, None, ◌∙◌, ap}
 use Rattle.std.specs.Prelude.{codes}
 use Rattle.model.specs.declared.colours.Phase.{Phase}
 use Rattle.model.specs.declared.journals.HeapShape.{HeapShape}
@@ -15,7 +15,6 @@ use Rattle.model.specs.declared.values.Entry.{Entry}
 use Rattle.model.specs.declared.values.Value.{Value}
 use Rattle.model.specs.ClassListings.{ClassListing}
 use Rattle.model.specs.Accounts.{Cell, Account}
-use Rattle.model.specs.Frames.{Frame}
 use Rattle.model.specs.Worlds.{World, Thread, Object, opening_objects}
 use Rattle.model.specs.Worlds.Thread.{Live}
 use Rattle.model.specs.Machines.{Machine}

@@ -3,7 +3,7 @@
 use Rattle.std.specs.Prelude.{◌≡◌, ℕ, pos, List, [], ◌∷◌, ◌++◌, Option, Some, None, codes, refl}
 use Rattle.model.specs.declared.values.Value.{Value}
 use Rattle.model.specs.declared.values.Value.TheVariants.{Int, Ref}
-use Rattle.model.specs.declared.values.Entry.TheVariants.{Unset, Holds}
+use Rattle.model.specs.declared.values.Entry.TheVariants.{Holds}
 use Rattle.model.specs.declared.turns.Fault.TheVariants.{StackFull, WrongKind}
 use Rattle.model.specs.declared.turns.Mark.TheVariants.{Unmarked}
 use Rattle.model.specs.declared.turns.Exception.TheVariants.{Arithmetic, ArrayIndexOutOfBounds, StackOverflow}
@@ -13,12 +13,12 @@ use Rattle.model.specs.ClassListings.{ClassListing}
 use Rattle.model.specs.Classes.Builtin.{builtin_classes}
 use Rattle.model.specs.Classes.Subclasses.{is_within}
 use Rattle.model.specs.Frames.{Frame}
-use Rattle.model.specs.Worlds.{World, Contents, Object, Monitor, Thread, free_monitor, plain_object}
+use Rattle.model.specs.Worlds.{World, Contents, Object, Thread, free_monitor, plain_object}
 use Rattle.model.specs.Worlds.Contents.{Instance, Array}
 use Rattle.model.specs.Worlds.Thread.{Live, Ended}
 use Rattle.model.specs.Results.{Effect, faulted}
-use Rattle.model.specs.Completions.{Completion, asks, prints, waits, raises}
-use Rattle.model.specs.Completions.Completion.{Goes, Prints, Creates, Throws, Raises, Faults, Waits}
+use Rattle.model.specs.Completions.{Completion, asks, prints, raises}
+use Rattle.model.specs.Completions.Completion.{Goes, Prints, Creates, Throws, Faults}
 use Rattle.model.specs.Effects.{Choice, effect_of}
 use Rattle.model.specs.Effects.Choice.{NotAsked, NewObject, NoRoom}
 

@@ -1,4 +1,4 @@
-use Rattle.std.specs.Prelude.{ℕ, ℤ, List, [], ◌∷◌, Option, Some, None, Result, Ok, Err}
+use Rattle.std.specs.Prelude.{ℕ, ℤ, List, [], Option, Some, None, Ok}
 use Rattle.model.specs.declared.names.Member.{Member}
 use Rattle.model.specs.declared.listings.Placed.{Placed}
 use Rattle.model.specs.declared.instructions.Instruction.{Instruction}

@@ -1,5 +1,4 @@
-use Rattle.std.specs.Prelude.{ℕ, List, [], ◌∷◌, Bool, true, false, Option, Some, None, Result, Ok, Err}
-use Rattle.std.specs.Option.{option_map}
+use Rattle.std.specs.Prelude.{[], ◌∷◌, Bool, true, false, Option, Some, None, Result, Ok, Err}
 use Rattle.model.specs.declared.values.Kind.{Kind}
 use Rattle.model.specs.declared.values.Kind.TheVariants.{Int, Long, Ref}
 use Rattle.model.specs.declared.values.Value.{Value}
@@ -9,7 +8,6 @@ use Rattle.model.specs.declared.turns.Fault.{Fault}
 use Rattle.model.specs.declared.turns.Fault.TheVariants.{NoInstruction, WrongReturn}
 use Rattle.model.specs.declared.turns.Abrupt.{Abrupt}
 use Rattle.model.specs.declared.turns.Abrupt.TheVariants.{Fault as Faulted}
-use Rattle.model.specs.ClassListings.{ClassListing}
 use Rattle.model.specs.Signatures.{result_kind}
 use Rattle.model.specs.Frames.{Frame, Moved, running, with_running, callers, replaced, replaced_if_room}
 use Rattle.model.specs.Locals.{value_on}

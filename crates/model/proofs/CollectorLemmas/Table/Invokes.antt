@@ -3,7 +3,6 @@ use Rattle.model.specs.declared.names.Member.{Member}
 use Rattle.model.specs.declared.listings.Method.{Method}
 use Rattle.model.specs.declared.places.MethodPlace.{MethodPlace}
 use Rattle.model.specs.declared.turns.Fault.{Fault}
-use Rattle.model.specs.declared.turns.Exception.TheVariants.{StackOverflow}
 use Rattle.model.specs.declared.instructions.Invocation.{Invocation}
 use Rattle.model.specs.declared.instructions.Invocation.TheVariants.{Virtual, Special, Static, Interface}
 use Rattle.model.specs.CodeListings.{CodeListing}
@@ -23,7 +22,7 @@ use Rattle.model.specs.Objects.{class_at}
 use Rattle.model.specs.Monitors.{entered}
 use Rattle.model.specs.Completions.{Completion, Site, frames_in}
 use Rattle.model.specs.Table.Monitors.{monitor_of}
-use Rattle.model.specs.Table.Invokes.{fault_in_pops, after_pops, with_arguments, arguments_in, method_monitor, may_enter_if, is_full_if, entered_if, births_if, guarded, enters_frame, call_if, enters_if, called, called_on, on_object, selected_for, special_for, invoked}
+use Rattle.model.specs.Table.Invokes.{fault_in_pops, after_pops, arguments_in, method_monitor, may_enter_if, is_full_if, entered_if, births_if, guarded, enters_frame, call_if, called, called_on, on_object, selected_for, special_for, invoked}
 use Rattle.model.specs.Collector.Places.{ref_of, frame_refs, Reach}
 use Rattle.model.specs.Collector.Invariant.{In}
 use Rattle.model.specs.Collector.Moves.{FramesMove, CompletionMoves}

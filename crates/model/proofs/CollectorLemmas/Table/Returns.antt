@@ -1,4 +1,4 @@
-use Rattle.std.proofs.Common.{◌≡◌, ℕ, Bool, true, false, List, [], ◌∷◌, map, Option, Some, None, Result, Ok, Err, refl}
+use Rattle.std.proofs.Common.{◌≡◌, ℕ, Bool, true, false, [], ◌∷◌, Option, Some, None, Result, Ok, Err, refl}
 use Rattle.model.specs.declared.values.Kind.{Kind}
 use Rattle.model.specs.declared.values.Value.{Value}
 use Rattle.model.specs.declared.listings.Placed.{Placed}
@@ -10,10 +10,10 @@ use Rattle.model.specs.Programs.{method_at, instruction_of}
 use Rattle.model.specs.Worlds.{World, next_birth}
 use Rattle.model.specs.Worlds.Thread.{Live, Ended}
 use Rattle.model.specs.Completions.{Site, frames_in}
-use Rattle.model.specs.Table.Returns.{gives, past_invoke, left_world, resumes, leaves_to, leaves_with, leaves_if, return_if, returned}
+use Rattle.model.specs.Table.Returns.{gives, past_invoke, left_world, resumes, leaves_to, leaves_if, return_if, returned}
 use Rattle.model.specs.Collector.Places.{ref_of, Reach}
 use Rattle.model.specs.Collector.Moves.{CompletionMoves, ResultMoves}
-use Rattle.model.proofs.CollectorLemmas.Moving.{AllMay, frames_set, frames_taken, frames_trans}
+use Rattle.model.proofs.CollectorLemmas.Moving.{frames_set, frames_taken, frames_trans}
 use Rattle.model.proofs.CollectorLemmas.Stepping.{replaced_lawful, if_room_lawful, abrupt_moves}
 use Rattle.model.proofs.CollectorLemmas.Locals.{value_on_known}
 use Rattle.model.proofs.CollectorLemmas.Unwinding.{Kept, released_keeps}

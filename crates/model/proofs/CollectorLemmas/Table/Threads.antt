@@ -1,10 +1,10 @@
-use Rattle.std.proofs.Common.{◌≡◌, ◌⊎◌, inl, inr, ℕ, ◌≤◌, Bool, true, false, List, [], ◌∷◌, ◌++◌, length, map, set, nat_le, codes, Option, Some, None, is_some, Result, Ok, Err, refl, sym, ap, arith, length-set}
+use Rattle.std.proofs.Common.{◌≡◌, ◌⊎◌, inl, inr, ℕ, ◌≤◌, Bool, true, false, List, [], ◌∷◌, ◌++◌, length, map, set, nat_le, codes, Option, Some, None, is_some, Result, Ok, Err, refl, arith, length-set}
 use Rattle.model.specs.declared.values.Value.TheVariants.{Ref}
 use Rattle.model.specs.declared.turns.Fault.{Fault}
 use Rattle.model.specs.Classes.Selection.{selected}
 use Rattle.model.specs.Callees.{Callee, callee_of}
 use Rattle.model.specs.Callees.Callee.{Own, Coded, NoCode}
-use Rattle.model.specs.Frames.{running, with_running, ref_on, replaced}
+use Rattle.model.specs.Frames.{running, with_running, replaced}
 use Rattle.model.specs.Locals.{called_frame}
 use Rattle.model.specs.Worlds.{World, Thread, Object, frames_of}
 use Rattle.model.specs.Worlds.Thread.{Live, Ended}
