@@ -1,15 +1,14 @@
 -- Calls of the machine's own print, and what main returns, where the table looks them up by name.
-use Rattle.std.proofs.Common.{◌≡◌, ℕ, zero, suc, ◌+◌, ◌<◌, ℤ, List, [], ◌∷◌, ◌++◌, Option, Some, None, Result, Ok, Err, Bool, true, false, bytes_eq, refl, arith, ap, sym, ◌∙◌}
+use Rattle.std.proofs.Common.{◌≡◌, ℕ, suc, ◌+◌, ◌<◌, List, [], ◌∷◌, ◌++◌, Option, Some, None, Bool, true, false, bytes_eq, refl, arith, ap, ◌∙◌}
 use Rattle.std.proofs.lemmas.Slice.Eq.{bytes_eq-Decides}
 use Rattle.std.proofs.lemmas.Bool.{ltb-true}
-use Rattle.std.specs.Prelude.{◌&&◌, not, cond, codes, length, slice_get, is_some, position, nat_lt}
+use Rattle.std.specs.Prelude.{◌&&◌, not, cond, codes, length, slice_get, is_some, nat_lt}
 use Rattle.std.specs.List.{flat_map, position_or_len}
-use Rattle.std.specs.Option.{option_map, option_and_then}
+use Rattle.std.specs.Option.{option_map}
 use Rattle.model.specs.declared.names.Member.{Member}
 use Rattle.model.specs.declared.values.Value.{Value}
 use Rattle.model.specs.declared.values.Value.TheVariants.{Int, Long, Ref}
 use Rattle.model.specs.declared.values.Kind.TheVariants.{Int as IntKind}
-use Rattle.model.specs.declared.builtins.Builtin.{Builtin}
 use Rattle.model.specs.declared.builtins.Builtin.TheVariants.{PrintInt, PrintLong, PutByte, Initialize, RunThread, StartThread, JoinThread}
 use Rattle.model.specs.declared.listings.Method.{Method}
 use Rattle.model.specs.declared.places.MethodPlace.{MethodPlace}
@@ -22,7 +21,7 @@ use Rattle.model.specs.Classes.Search.{Declared, upwards, with_superclasses, sup
 use Rattle.model.specs.Classes.Resolution.{method_of, resolved_method}
 use Rattle.model.specs.Callees.{callee_of}
 use Rattle.model.specs.Callees.Callee.{Own}
-use Rattle.model.specs.Programs.{is_member, is_own_initializer, builtin_of, method_at, is_static, is_main, main_in}
+use Rattle.model.specs.Programs.{is_member, builtin_of, method_at, is_static, is_main, main_in}
 use Rattle.model.specs.Frames.{int_on}
 use Rattle.model.specs.Printing.{decimal_line}
 use Rattle.model.specs.Completions.{Completion, Site}
@@ -36,7 +35,7 @@ both false b e = absurd (cc)
 
 -- ---- the machine's own print
 
-pub print : Member
+unfoldable pub print : Member
 print = record { class = codes "vm/Sys"; name = codes "print"; descriptor = codes "(I)V" }
 
 -- nothing else is the print of an int

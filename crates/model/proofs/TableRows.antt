@@ -4,6 +4,7 @@ pub mod Arrays
 pub mod Branches
 pub mod Builtins
 pub mod CallPrograms
+pub mod ClimbingRuns
 pub mod DropRuns
 pub mod FieldRuns
 pub mod Fields

@@ -1,11 +1,9 @@
-use Rattle.std.specs.Prelude.{ℕ, List, [], ◌∷◌, slice_get, Option, Some, None, is_some, Bool, true, false, ◌&&◌, ◌==◌, codes, cond, position, bit_and}
+use Rattle.std.specs.Prelude.{ℕ, List, [], ◌∷◌, slice_get, Option, Some, None, is_some, Bool, ◌&&◌, ◌==◌, codes, cond, position, bit_and}
 use Rattle.std.specs.Option.{option_map, option_and_then}
 use Rattle.std.specs.Str.{bytes_eq}
 use Rattle.std.specs.List.{find}
 use Rattle.model.specs.declared.listings.Method.{Method}
-use Rattle.model.specs.declared.listings.Code.{Code}
 use Rattle.model.specs.declared.listings.Placed.{Placed}
-use Rattle.model.specs.declared.flags.MethodFlags.{MethodFlags}
 use Rattle.model.specs.declared.names.Member.{Member}
 use Rattle.model.specs.declared.builtins.Builtin.{Builtin}
 use Rattle.model.specs.declared.builtins.Builtin.TheVariants.{PrintInt, PrintLong, PutByte, Initialize, RunThread, StartThread, JoinThread}

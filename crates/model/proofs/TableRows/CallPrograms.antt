@@ -1,6 +1,5 @@
 -- Programs of calls, run whole by thread 0: a recursion without end, selection, and the faults of calls and returns.
-use Rattle.std.proofs.Common.{◌∙◌, ap, arith}
-use Rattle.std.specs.Prelude.{◌≡◌, ℕ, zero, suc, ◌+◌, pos, List, [], ◌∷◌, replicate, Option, Some, None, codes, refl}
+use Rattle.std.specs.Prelude.{◌≡◌, ℕ, List, [], ◌∷◌, replicate, Option, Some, None, codes, refl}
 use Rattle.std.specs.Int.{int_wrap}
 use Rattle.std.specs.Fmt.{digits}
 use Rattle.model.specs.declared.instructions.Constant.TheVariants.{SmallInt}
@@ -17,10 +16,9 @@ use Rattle.model.specs.declared.instructions.Invocation.TheVariants.{Virtual, Sp
 use Rattle.model.specs.declared.instructions.MonitorOperation.TheVariants.{Enter}
 use Rattle.model.specs.declared.instructions.Instruction.TheVariants.{Constant, Local, Branch, Class, Invoke, Return, Throw, Monitor}
 use Rattle.model.specs.declared.values.Kind.TheVariants.{Int as IntKind, Ref as RefKind}
-use Rattle.model.specs.declared.values.Value.TheVariants.{Int, Ref}
-use Rattle.model.specs.declared.values.Entry.TheVariants.{Unset, Holds}
+use Rattle.model.specs.declared.values.Value.TheVariants.{Ref}
+use Rattle.model.specs.declared.values.Entry.TheVariants.{Holds}
 use Rattle.model.specs.declared.listings.Method.{Method}
-use Rattle.model.specs.declared.turns.Fault.{Fault}
 use Rattle.model.specs.declared.turns.Fault.TheVariants.{WrongClass, WrongReturn, NoMethod, MonitorLimit}
 use Rattle.model.specs.ClassListings.{ClassListing}
 use Rattle.model.specs.Classes.Builtin.{builtin_classes}
@@ -30,10 +28,8 @@ use Rattle.model.specs.Classes.Types.{is_subtype_within}
 use Rattle.model.specs.Worlds.{World, opening_world}
 use Rattle.model.specs.Worlds.Thread.{Live, Ended}
 use Rattle.model.specs.Table.Next.{completion, next}
-use Rattle.model.specs.Effects.Choice.{NewObject}
-use Rattle.model.specs.Turns.{refusal, ideal_step}
-use Rattle.model.specs.declared.turns.Actor.TheVariants.{Thread}
-use Rattle.model.proofs.TableRows.Listings.{Sized, print, return, ample, after, run}
+use Rattle.model.specs.Turns.{refusal}
+use Rattle.model.proofs.TableRows.Listings.{Sized, print, return, after, run, more}
 use Rattle.model.proofs.TableRows.Sites.{class, interface, method, abstract_method, member, place, frame, object, world}
 
 -- ---- instructions
@@ -59,13 +55,6 @@ object_class = codes "java/lang/Object"
 -- a class with a static main of these limits, and other methods behind it
 abbrev main_class : List ℕ → ℕ → ℕ → List Sized → List Method → ClassListing
 main_class name stack locals code methods = class name object_class [] (method 9 (codes "main") (codes "()V") stack locals code ∷ methods)
-
--- so many turns more
-more : (m n : ℕ) (program : List ClassListing) (w v u : World) → after m program w ≡ v → after n program v ≡ u → after (m + n) program w ≡ u
-more zero n program w v u h k =
-    let e : zero + n ≡ n = omega arith in rw e (ap (after n program) h ∙ k)
-more (suc m) n program w v u h k =
-    let e : suc m + n ≡ suc (m + n) = omega arith in rw e (more m n program (ideal_step program ample w (Thread 0) NewObject) v u h k)
 
 -- ---- S/f()V calls itself: the 256th turn finds 256 frames, and throws the StackOverflowError that was made before the run
 

@@ -1,4 +1,5 @@
 -- What programs of worked rows are written with: classes of one main, and runs of the ideal world by thread 0 alone.
+use Rattle.std.proofs.Common.{◌≡◌, ◌∙◌, ap, arith}
 use Rattle.std.specs.Prelude.{ℕ, zero, suc, ◌+◌, ℤ, List, [], ◌∷◌, Some, None, codes}
 use Rattle.model.specs.declared.instructions.Constant.TheVariants.{Int as LoadInt, Long as LoadLong}
 use Rattle.model.specs.declared.instructions.Width.TheVariants.{Narrow}
@@ -62,3 +63,10 @@ after (suc n) program w = after n program (ideal_step program ample w (Thread 0)
 
 abbrev pub run : ℕ → List ClassListing → World
 run n program = after n program (opening_world program)
+
+-- some turns, and then some more
+pub more : (m n : ℕ) (program : List ClassListing) (w v u : World) → after m program w ≡ v → after n program v ≡ u → after (m + n) program w ≡ u
+more zero n program w v u h k =
+    let e : zero + n ≡ n = omega arith in rw e (ap (after n program) h ∙ k)
+more (suc m) n program w v u h k =
+    let e : suc m + n ≡ suc (m + n) = omega arith in rw e (more m n program (ideal_step program ample w (Thread 0) NewObject) v u h k)

@@ -8,7 +8,7 @@ use Rattle.model.specs.declared.listings.Method.{Method}
 use Rattle.model.specs.declared.turns.Mark.TheVariants.{Unmarked}
 use Rattle.model.specs.ClassListings.{ClassListing}
 use Rattle.model.specs.Frames.{Frame}
-use Rattle.model.specs.Worlds.{World, Thread, Object, Contents, Monitor, free_monitor, plain_object}
+use Rattle.model.specs.Worlds.{World, Thread, Object, plain_object}
 use Rattle.model.specs.Worlds.Contents.{Instance}
 use Rattle.model.specs.Completions.{Site}
 use Rattle.model.proofs.TableRows.Listings.{Sized, placed_from}

@@ -1,6 +1,5 @@
 -- Programs of several threads: two monitors that two threads enter in opposite orders, a thread that is started twice, and a
 -- 65th thread.
-use Rattle.std.proofs.Common.{◌∙◌, ap}
 use Rattle.std.specs.Prelude.{◌≡◌, ℕ, zero, suc, ◌+◌, List, [], ◌∷◌, ◌++◌, replicate, Option, Some, None, codes, refl}
 use Rattle.std.specs.List.{find}
 use Rattle.std.specs.Int.{int_wrap}
@@ -20,7 +19,7 @@ use Rattle.model.specs.declared.values.Entry.TheVariants.{Holds}
 use Rattle.model.specs.declared.listings.Field.{Field}
 use Rattle.model.specs.declared.turns.Actor.TheVariants.{Thread as ByThread}
 use Rattle.model.specs.declared.turns.Fault.TheVariants.{ThreadLimit}
-use Rattle.model.specs.declared.turns.Status.TheVariants.{Stuck, Finished}
+use Rattle.model.specs.declared.turns.Status.TheVariants.{Stuck}
 use Rattle.model.specs.ClassListings.{ClassListing}
 use Rattle.model.specs.Classes.Builtin.{builtin_classes}
 use Rattle.model.specs.Classes.Search.{upwards, interfaces_from}
@@ -33,7 +32,7 @@ use Rattle.model.specs.Ready.{is_ready, thread_numbers}
 use Rattle.model.specs.Observers.{cyclic_from, status_in}
 use Rattle.model.specs.Table.Next.{completion, next}
 use Rattle.model.specs.Turns.{refusal, ideal_step}
-use Rattle.model.proofs.TableRows.Listings.{Sized, return, ample, after, run}
+use Rattle.model.proofs.TableRows.Listings.{Sized, return, ample, after, run, more}
 use Rattle.model.proofs.TableRows.Sites.{class, method, member, place, frame, object}
 
 abbrev new : List ℕ → Sized
@@ -203,18 +202,54 @@ started n = record (opening_world starts) {
   rows = n + n + n;
 }
 
-starts-10 : after 30 starts (started 0) ≡ started 10
+-- the new object is on main's stack, and the fault is recorded
+abbrev full : World
+full = record (started 63) {
+  threads = Live (frame (place 0 0) 3 [] (Ref (Some 66) ∷ []) 1 None ∷ []) ∷ replicate 63 (Ended None);
+  objects = opening_objects ++ started_from 1 63 ++ object (codes "T") None 0 None ∷ [];
+  fault = Some (ThreadLimit, 0);
+  rows = 191;
+}
+
+starts-10 : after 30 starts (opening_world starts) ≡ started 10
 unfolding refusal next completion builtin_classes upwards interfaces_from is_within is_subtype_within int_wrap digits
 starts-10 = refl
 
-starts-63 : after 3 starts (started 62) ≡ started 63
+starts-20 : after 30 starts (started 10) ≡ started 20
+unfolding refusal next completion builtin_classes upwards interfaces_from is_within is_subtype_within int_wrap digits
+starts-20 = refl
+
+starts-30 : after 30 starts (started 20) ≡ started 30
+unfolding refusal next completion builtin_classes upwards interfaces_from is_within is_subtype_within int_wrap digits
+starts-30 = refl
+
+starts-40 : after 30 starts (started 30) ≡ started 40
+unfolding refusal next completion builtin_classes upwards interfaces_from is_within is_subtype_within int_wrap digits
+starts-40 = refl
+
+starts-50 : after 30 starts (started 40) ≡ started 50
+unfolding refusal next completion builtin_classes upwards interfaces_from is_within is_subtype_within int_wrap digits
+starts-50 = refl
+
+starts-60 : after 30 starts (started 50) ≡ started 60
+unfolding refusal next completion builtin_classes upwards interfaces_from is_within is_subtype_within int_wrap digits
+starts-60 = refl
+
+starts-63 : after 9 starts (started 60) ≡ started 63
 unfolding refusal next completion builtin_classes upwards interfaces_from is_within is_subtype_within int_wrap digits
 starts-63 = refl
 
-starts-65th : (after 2 starts (started 63)).fault ≡ Some (ThreadLimit, 0)
+starts-65th : after 2 starts (started 63) ≡ full
 unfolding refusal next completion builtin_classes upwards interfaces_from is_within is_subtype_within int_wrap digits
 starts-65th = refl
 
-starts-row : (after 3 starts (started 63)).rows ≡ 191
-unfolding refusal next completion builtin_classes upwards interfaces_from is_within is_subtype_within int_wrap digits
-starts-row = refl
+starts-all : run 191 starts ≡ full
+starts-all =
+    let w = opening_world starts in
+    let to_20 = more 30 30 starts w (started 10) (started 20) starts-10 starts-20 in
+    let to_30 = more 60 30 starts w (started 20) (started 30) to_20 starts-30 in
+    let to_40 = more 90 30 starts w (started 30) (started 40) to_30 starts-40 in
+    let to_50 = more 120 30 starts w (started 40) (started 50) to_40 starts-50 in
+    let to_60 = more 150 30 starts w (started 50) (started 60) to_50 starts-60 in
+    let to_63 = more 180 9 starts w (started 60) (started 63) to_60 starts-63 in
+    more 189 2 starts w (started 63) full to_63 starts-65th

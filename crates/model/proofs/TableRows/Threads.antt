@@ -1,5 +1,5 @@
 -- Worked rows of start and join (java/lang/Thread): birth 3 is the thread's object.
-use Rattle.std.specs.Prelude.{◌≡◌, ℕ, pos, [], ◌∷◌, ◌++◌, List, replicate, codes, Option, Some, None, refl}
+use Rattle.std.specs.Prelude.{◌≡◌, ℕ, pos, [], ◌∷◌, List, replicate, codes, Option, Some, None, refl}
 use Rattle.model.specs.declared.values.Value.{Value}
 use Rattle.model.specs.declared.values.Value.TheVariants.{Int, Ref}
 use Rattle.model.specs.declared.values.Entry.TheVariants.{Unset, Holds}
