@@ -2,7 +2,8 @@
 use Rattle.std.proofs.Common.{◌≡◌, ◌<◌, ◌≤◌, ◌+◌, ℕ, List, [], ◌∷◌, length, Option, Some, None, IfSome, Bool, true, false, nat_lt, nat_le, is_none, refl, ap, sym, ◌∙◌, arith}
 use Rattle.std.specs.Prelude.{if◌then◌else◌, ◌&&◌, not}
 use Rattle.model.specs.declared.journals.Limits.{Limits}
-use Rattle.model.specs.declared.turns.Actor.TheVariants.{Thread}
+use Rattle.model.specs.declared.turns.Actor.{Actor}
+use Rattle.model.specs.declared.turns.Actor.TheVariants.{Thread, Collector}
 use Rattle.model.specs.declared.turns.Fault.{Fault}
 use Rattle.model.specs.declared.turns.Turn.{Turn}
 use Rattle.model.specs.declared.turns.Turn.TheVariants.{NotReady, OutputFull, StepLimit}
@@ -12,13 +13,13 @@ use Rattle.model.specs.Worlds.{World, is_live}
 use Rattle.model.specs.Completions.{waits}
 use Rattle.model.specs.Table.Next.{completion}
 use Rattle.model.specs.Ready.{is_ready}
-use Rattle.model.specs.Turns.{refusal, refusal_after, thread_refusal, overflows, passes, print_of}
+use Rattle.model.specs.Turns.{refusal, refusal_after, actor_refusal, thread_refusal, overflows, passes, print_of}
 use Rattle.instructions.specs.Loaded.{Loaded}
 use Rattle.instructions.specs.Allowed.{IsAllowed}
 
-faultless : (program : List ClassListing) (limits : Limits) (w : World) (t : ℕ) (o : Option (Fault × ℕ)) → refusal_after program limits w (Thread t) o ≡ None → o ≡ None
-faultless program limits w t None e = refl
-faultless program limits w t (Some fault) e = cc
+faultless : (program : List ClassListing) (limits : Limits) (w : World) (actor : Actor) (o : Option (Fault × ℕ)) → refusal_after program limits w actor o ≡ None → o ≡ None
+faultless program limits w actor None e = refl
+faultless program limits w actor (Some fault) e = cc
 
 counted : (b : Bool) (r : Option Turn) → (if b then Some StepLimit else r) ≡ None → (b ≡ false) × (r ≡ None)
 counted true r e = cc
@@ -44,7 +45,7 @@ fits limit output (Some line) e = ltb-false limit (length output + length line) 
 pub allowed : (s : Loaded) (t : ℕ) → refusal s.program s.limits s.world (Thread t) ≡ None → IsAllowed s t
 unfolding refusal
 allowed s t e =
-    let none : s.world.fault ≡ None = faultless s.program s.limits s.world t s.world.fault e in
+    let none : s.world.fault ≡ None = faultless s.program s.limits s.world (Thread t) s.world.fault e in
     let rest : refusal_after s.program s.limits s.world (Thread t) None ≡ None = ap (refusal_after s.program s.limits s.world (Thread t)) (sym none) ∙ e in
     let steps = counted (nat_le s.limits.steps s.world.rows) (thread_refusal s.program s.limits s.world t) rest in
     let ready = unrefused (is_ready s.program s.world t) (overflows s.program s.limits s.world t) steps.1 in
@@ -56,3 +57,15 @@ allowed s t e =
           (first_holds (is_none s.world.fault && is_live s.world t) (not (waits (completion s.program s.world t))) ready.0);
       fits = fits s.limits.output s.world.output (print_of s.program s.world t) ready.1;
     }
+
+-- the collector's turn is refused by a fault and at the limit of steps alone
+pub collector_counted : (s : Loaded) → refusal s.program s.limits s.world Collector ≡ None → s.world.rows < s.limits.steps
+unfolding refusal
+collector_counted s e =
+    let none : s.world.fault ≡ None = faultless s.program s.limits s.world Collector s.world.fault e in
+    let rest : refusal_after s.program s.limits s.world Collector None ≡ None = ap (refusal_after s.program s.limits s.world Collector) (sym none) ∙ e in
+    leb-false s.limits.steps s.world.rows (counted (nat_le s.limits.steps s.world.rows) (actor_refusal s.program s.limits s.world Collector) rest).0
+
+pub collector_faultless : (s : Loaded) → refusal s.program s.limits s.world Collector ≡ None → s.world.fault ≡ None
+unfolding refusal
+collector_faultless s e = faultless s.program s.limits s.world Collector s.world.fault e

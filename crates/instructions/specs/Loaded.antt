@@ -26,6 +26,10 @@ fresh program limits = record { program = program; limits = limits; world = open
 abbrev pub after_step : Loaded → ℕ → Loaded
 after_step s t = record s { world = counted (next s.program s.world t NotAsked).after }
 
+-- the same after a turn of the collector, which counts a row and changes nothing else of the ideal world
+abbrev pub after_collection : Loaded → Loaded
+after_collection s = record s { world = counted s.world }
+
 -- ---- how the parts of the state show a world: there is one thread, and no object but the first two births
 
 abbrev pub thread_shown : Bool → List Frame → Thread

@@ -4,6 +4,7 @@ use Rattle.std.specs.Prelude.{if◌then◌else◌}
 use Rattle.model.specs.declared.journals.HeapShape.{HeapShape}
 use Rattle.model.specs.declared.journals.Limits.{Limits}
 use Rattle.model.specs.declared.journals.Outcome.{Outcome}
+use Rattle.model.specs.declared.journals.Outcome.TheVariants.{Done}
 use Rattle.model.specs.declared.journals.Row.{Row}
 use Rattle.model.specs.declared.turns.Actor.TheVariants.{Thread, Collector}
 use Rattle.model.specs.declared.turns.Fault.{Fault}
@@ -19,8 +20,8 @@ use Rattle.model.specs.Turns.{refusal, refusal_after, choice_of, ideal_step, unl
 use Rattle.model.specs.Machines.{Recorded, Machine, machine_of, machine_of-noted, noted, advance, told_of}
 use Rattle.model.specs.Observers.{ideal, after_actor, after_last}
 use Rattle.model.proofs.NextKeeps.{next-rows, next-choice}
-use Rattle.instructions.specs.Loaded.{Loaded, after_step, fresh}
-use Rattle.instructions.proofs.Refusing.{allowed}
+use Rattle.instructions.specs.Loaded.{Loaded, after_step, after_collection, fresh}
+use Rattle.instructions.proofs.Refusing.{allowed, collector_counted, collector_faultless}
 use Rattle.scheduler.specs.Worlds.{recorded, IsOf}
 
 after_last-push : (n : ℕ) (rows : List Row) (row : Row) → after_last n (rows ++ row ∷ []) ≡ after_actor (after_last n rows) row.actor
@@ -68,18 +69,37 @@ module _ (s : Loaded) (j : JournalValue) (k : ℕ) (is : IsOf s j k) (t : ℕ) w
 pub answer_is : (s : Loaded) (j : JournalValue) (k : ℕ) → IsOf s j k → told_of s.world.fault ≡ told_of (ideal (recorded s j)).fault
 answer_is s j k is = ap (λ (w : World). told_of w.fault) is.world_is
 
--- a collector's turn is always refused
-full_or_not_ready : (b : Bool) → (if b then Some StepLimit else Some NotReady) ≡ None → ⊥
-full_or_not_ready true e = cc
-full_or_not_ready false e = cc
+-- ---- a collector's turn
 
-refused_after : (program : List ClassListing) (limits : Limits) (w : World) (fault : Option (Fault × ℕ)) → refusal_after program limits w Collector fault ≡ None → ⊥
-refused_after program limits w (Some fault) e = cc
-refused_after program limits w None e = full_or_not_ready (nat_le limits.steps w.rows) e
+module _ (s : Loaded) (j : JournalValue) (k : ℕ) (is : IsOf s j k) where
+  abbrev pub MayCollect : Type 0
+  MayCollect = refusal s.program j.limits (ideal (recorded s j)) Collector ≡ None
 
-pub collector_refused : (program : List ClassListing) (limits : Limits) (w : World) → refusal program limits w Collector ≡ None → ⊥
-unfolding refusal
-collector_refused program limits w e = refused_after program limits w w.fault e
+  pub may_collect : MayCollect → refusal s.program s.limits s.world Collector ≡ None
+  may_collect e = ap (λ (l : Limits). refusal s.program l s.world Collector) is.limits_are ∙ ap (λ (w : World). refusal s.program j.limits w Collector) is.world_is ∙ e
+
+  pub collector_row_fits : MayCollect → length j.rows < j.limits.steps
+  collector_row_fits e =
+      let h = collector_counted s (may_collect e) in
+      let rows = is.rows_are in
+      let steps = ap (λ (l : Limits). l.steps) is.limits_are in
+      omega (arith, h, rows, steps)
+
+  pub collected_is : (worker : ℕ) → MayCollect → IsOf (after_collection s) (with_row j (record { actor = Collector; outcome = Done; worker = worker })) k
+  collected_is worker e =
+      let row : Row = record { actor = Collector; outcome = Done; worker = worker } in
+      record {
+        limits_are = is.limits_are;
+        rows_are = ap (λ (n : ℕ). n + 1) is.rows_are ∙ sym (length-append j.rows (row ∷ []));
+        world_is = sym (
+          ap (λ (m : Machine). m.world) (machine_of-noted (recorded s j) row)
+          ∙ ap (unless_refused s.program (ideal (recorded s j)) Collector (choice_of Done)) e
+          ∙ ap (λ (w : World). counted w) (sym is.world_is));
+        next_is = is.next_is ∙ sym (after_last-push 0 j.rows row);
+      }
+
+  pub collected_faultless : MayCollect → s.world.fault ≡ None
+  collected_faultless e = collector_faultless s (may_collect e)
 
 -- a new state is what a blank journal stands for
 pub opened_is : (program : List ClassListing) (shape : HeapShape) (limits : Limits) → IsOf (fresh program limits) (blank shape limits 1) 0

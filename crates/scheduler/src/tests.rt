@@ -258,11 +258,27 @@ fn only_main_was_started(rt: HostRuntime) -> Result<(), Fail> {
     let mut world = world_of(rt.alloc(), wrapping_sum(rt.alloc())?, 65_536)?;
     assert_eq!(rt; world.turn(Actor::Thread(1)), Turn::NotReady);
     assert_eq!(rt; world.turn(Actor::Thread(255)), Turn::NotReady);
-    assert_eq!(rt; world.turn(Actor::Collector), Turn::NotReady);
     assert!(rt; world.thread(1)?.is_none());
     assert_eq!(rt; world.journal().rows().len(), 0);
     assert_eq!(rt; world.journal().shape(), TWO_CELLS);
     assert_eq!(rt; world.journal().workers(), 1);
+    Ok(())
+}
+
+/// The collector's turn is done and has its row; the thread that is picked is the one behind the last thread's row.
+#[test]
+fn the_collector_has_a_row(rt: HostRuntime) -> Result<(), Fail> {
+    let mut world = world_of(rt.alloc(), wrapping_sum(rt.alloc())?, 65_536)?;
+    let collected = Row {
+        actor: Actor::Collector,
+        outcome: Outcome::Done,
+        worker: 0,
+    };
+    assert_eq!(rt; world.turn(Actor::Collector), Turn::Done);
+    assert_eq!(rt; world.turn(MAIN), Turn::Done);
+    assert_eq!(rt; world.turn(Actor::Collector), Turn::Done);
+    assert_eq!(rt; world.journal().rows(), [collected, DONE, collected].as_slice());
+    assert_eq!(rt; world.pick(), Some(0));
     Ok(())
 }
 
