@@ -59,13 +59,13 @@ allowed s t e =
     }
 
 -- the collector's turn is refused by a fault and at the limit of steps alone
-pub collector_counted : (s : Loaded) → refusal s.program s.limits s.world Collector ≡ None → s.world.rows < s.limits.steps
+pub collector_faultless : (program : List ClassListing) (limits : Limits) (w : World) → refusal program limits w Collector ≡ None → w.fault ≡ None
 unfolding refusal
-collector_counted s e =
-    let none : s.world.fault ≡ None = faultless s.program s.limits s.world Collector s.world.fault e in
-    let rest : refusal_after s.program s.limits s.world Collector None ≡ None = ap (refusal_after s.program s.limits s.world Collector) (sym none) ∙ e in
-    leb-false s.limits.steps s.world.rows (counted (nat_le s.limits.steps s.world.rows) (actor_refusal s.program s.limits s.world Collector) rest).0
+collector_faultless program limits w e = faultless program limits w Collector w.fault e
 
-pub collector_faultless : (s : Loaded) → refusal s.program s.limits s.world Collector ≡ None → s.world.fault ≡ None
+pub collector_counted : (program : List ClassListing) (limits : Limits) (w : World) → refusal program limits w Collector ≡ None → w.rows < limits.steps
 unfolding refusal
-collector_faultless s e = faultless s.program s.limits s.world Collector s.world.fault e
+collector_counted program limits w e =
+    let none : w.fault ≡ None = faultless program limits w Collector w.fault e in
+    let rest : refusal_after program limits w Collector None ≡ None = ap (refusal_after program limits w Collector) (sym none) ∙ e in
+    leb-false limits.steps w.rows (counted (nat_le limits.steps w.rows) (actor_refusal program limits w Collector) rest).0

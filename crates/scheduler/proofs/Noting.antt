@@ -80,7 +80,7 @@ module _ (s : Loaded) (j : JournalValue) (k : ℕ) (is : IsOf s j k) where
 
   pub collector_row_fits : MayCollect → length j.rows < j.limits.steps
   collector_row_fits e =
-      let h = collector_counted s (may_collect e) in
+      let h = collector_counted s.program s.limits s.world (may_collect e) in
       let rows = is.rows_are in
       let steps = ap (λ (l : Limits). l.steps) is.limits_are in
       omega (arith, h, rows, steps)
@@ -92,14 +92,14 @@ module _ (s : Loaded) (j : JournalValue) (k : ℕ) (is : IsOf s j k) where
         limits_are = is.limits_are;
         rows_are = ap (λ (n : ℕ). n + 1) is.rows_are ∙ sym (length-append j.rows (row ∷ []));
         world_is = sym (
-          ap (λ (m : Machine). m.world) (machine_of-noted (recorded s j) row)
-          ∙ ap (unless_refused s.program (ideal (recorded s j)) Collector (choice_of Done)) e
-          ∙ ap (λ (w : World). counted w) (sym is.world_is));
+            ap (λ (m : Machine). m.world) (machine_of-noted (recorded s j) row)
+            ∙ ap (unless_refused s.program (ideal (recorded s j)) Collector (choice_of Done)) e
+            ∙ ap (λ (w : World). counted w) (sym is.world_is));
         next_is = is.next_is ∙ sym (after_last-push 0 j.rows row);
       }
 
   pub collected_faultless : MayCollect → s.world.fault ≡ None
-  collected_faultless e = collector_faultless s (may_collect e)
+  collected_faultless e = collector_faultless s.program s.limits s.world (may_collect e)
 
 -- a new state is what a blank journal stands for
 pub opened_is : (program : List ClassListing) (shape : HeapShape) (limits : Limits) → IsOf (fresh program limits) (blank shape limits 1) 0

@@ -277,7 +277,10 @@ fn the_collector_has_a_row(rt: HostRuntime) -> Result<(), Fail> {
     assert_eq!(rt; world.turn(Actor::Collector), Turn::Done);
     assert_eq!(rt; world.turn(MAIN), Turn::Done);
     assert_eq!(rt; world.turn(Actor::Collector), Turn::Done);
-    assert_eq!(rt; world.journal().rows(), [collected, DONE, collected].as_slice());
+    assert_eq!(rt;
+        world.journal().rows(),
+        [collected, DONE, collected].as_slice()
+    );
     assert_eq!(rt; world.pick(), Some(0));
     Ok(())
 }
