@@ -192,37 +192,3 @@ wrong_return = main_class (codes "M") 1 0 (ireturn ∷ []) [] ∷ []
 wrong_return-faulted : run 2 wrong_return ≡ record (opening_world wrong_return) { fault = Some (WrongReturn, 0); rows = 1 }
 unfolding refusal next completion builtin_classes upwards interfaces_from is_within is_subtype_within int_wrap digits
 wrong_return-faulted = refl
-
--- ---- main enters the monitor of an Object again and again: F10 at the 65,536th entry. It opens with the object in local 0;
--- from then on each third turn enters
-
-abbrev entries : List ClassListing
-entries = main_class (codes "M") 1 1 (new object_class ∷ (1, Local (Store RefKind (First FirstZero))) ∷ aload_0 ∷ (1, Monitor Enter) ∷ (3, Branch (Always Narrow) 4) ∷ []) [] ∷ []
-
--- before the next aload_0, with so many entries
-abbrev entered : Option ℕ → ℕ → ℕ → World
-entered owner count rows = record (opening_world entries) {
-  threads = Live (frame (place 0 0) 4 (Holds (Ref (Some 3)) ∷ []) [] 1 None ∷ []) ∷ [];
-  objects = (world [] (object object_class owner count None ∷ [])).objects;
-  rows = rows;
-}
-
-entries-first : run 2 entries ≡ entered None 0 2
-unfolding refusal next completion builtin_classes upwards interfaces_from is_within is_subtype_within int_wrap digits
-entries-first = refl
-
-entries-one : run 5 entries ≡ entered (Some 0) 1 5
-unfolding refusal next completion builtin_classes upwards interfaces_from is_within is_subtype_within int_wrap digits
-entries-one = refl
-
-entries-last : after 3 entries (entered (Some 0) 65534 196604) ≡ entered (Some 0) 65535 196607
-unfolding refusal next completion builtin_classes upwards interfaces_from is_within is_subtype_within int_wrap digits
-entries-last = refl
-
-entries-full : (after 2 entries (entered (Some 0) 65535 196607)).fault ≡ Some (MonitorLimit, 0)
-unfolding refusal next completion builtin_classes upwards interfaces_from is_within is_subtype_within int_wrap digits
-entries-full = refl
-
-entries-row : (after 3 entries (entered (Some 0) 65535 196607)).rows ≡ 196609
-unfolding refusal next completion builtin_classes upwards interfaces_from is_within is_subtype_within int_wrap digits
-entries-row = refl
