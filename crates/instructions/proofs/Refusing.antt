@@ -1,6 +1,6 @@
 -- Where the rules refuse nothing, a thread's turn is allowed.
 use Rattle.std.proofs.Common.{◌≡◌, ◌<◌, ◌≤◌, ◌+◌, ℕ, List, [], ◌∷◌, length, Option, Some, None, IfSome, Bool, true, false, nat_lt, nat_le, is_none, refl, ap, sym, ◌∙◌, arith}
-use Rattle.std.specs.Prelude.{if◌then◌else◌, ◌&&◌}
+use Rattle.std.specs.Prelude.{if◌then◌else◌, ◌&&◌, not}
 use Rattle.model.specs.declared.journals.Limits.{Limits}
 use Rattle.model.specs.declared.turns.Actor.TheVariants.{Thread}
 use Rattle.model.specs.declared.turns.Fault.{Fault}
@@ -9,6 +9,8 @@ use Rattle.model.specs.declared.turns.Turn.TheVariants.{NotReady, OutputFull, St
 use Rattle.std.proofs.lemmas.Bool.{ltb-false, leb-false}
 use Rattle.model.specs.ClassListings.{ClassListing}
 use Rattle.model.specs.Worlds.{World, is_live}
+use Rattle.model.specs.Completions.{waits}
+use Rattle.model.specs.Table.Next.{completion}
 use Rattle.model.specs.Ready.{is_ready}
 use Rattle.model.specs.Turns.{refusal, refusal_after, thread_refusal, overflows, passes, print_of}
 use Rattle.instructions.specs.Loaded.{Loaded}
@@ -26,6 +28,10 @@ unrefused : (ready full : Bool) → (if ready then (if full then Some OutputFull
 unrefused true true e = cc
 unrefused true false e = (refl, refl)
 unrefused false full e = cc
+
+first_holds : (a b : Bool) → (a && b) ≡ true → a ≡ true
+first_holds true b e = refl
+first_holds false b e = cc
 
 second_holds : (a b : Bool) → (a && b) ≡ true → b ≡ true
 second_holds true b e = e
@@ -45,6 +51,8 @@ allowed s t e =
     record {
       faultless = none;
       counted = leb-false s.limits.steps s.world.rows steps.0;
-      live = second_holds (is_none s.world.fault) (is_live s.world t) ready.0;
+      live =
+          second_holds (is_none s.world.fault) (is_live s.world t)
+          (first_holds (is_none s.world.fault && is_live s.world t) (not (waits (completion s.program s.world t))) ready.0);
       fits = fits s.limits.output s.world.output (print_of s.program s.world t) ready.1;
     }

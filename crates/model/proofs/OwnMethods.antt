@@ -35,7 +35,7 @@ both false b e = absurd (cc)
 
 -- ---- the machine's own print
 
-pub print : Member
+unfoldable pub print : Member
 print = record { class = codes "vm/Sys"; name = codes "print"; descriptor = codes "(I)V" }
 
 -- nothing else is the print of an int

@@ -1,7 +1,7 @@
 -- What the machine carries out so far, in the words of the instruction table: no such instruction asks for a cell, waits or
 -- throws, and main's return ends its thread.
 use Rattle.std.proofs.Common.{◌≡◌, ℕ, zero, suc, ℤ, List, [], ◌∷◌, Option, Some, None, Result, Ok, Err, Bool, true, false, is_none, nat_le, refl, ap, sym, ◌∙◌, subst}
-use Rattle.std.specs.Prelude.{codes, ◌&&◌, ◌==◌, not, cond, drop, slice_get, if◌then◌else◌}
+use Rattle.std.specs.Prelude.{codes, ◌&&◌, ◌==◌, not, cond, drop, filter, map, slice_get, if◌then◌else◌}
 use Rattle.std.specs.List.{find, list_all}
 use Rattle.std.specs.Option.{option_and_then}
 use Rattle.model.specs.declared.names.Member.{Member}
@@ -9,6 +9,7 @@ use Rattle.model.specs.declared.values.Kind.{Kind}
 use Rattle.model.specs.declared.values.Value.{Value}
 use Rattle.model.specs.declared.builtins.Builtin.{Builtin}
 use Rattle.model.specs.declared.builtins.Builtin.TheVariants.{PrintInt, PrintLong, PutByte, Initialize, RunThread, StartThread, JoinThread}
+use Rattle.model.specs.declared.listings.Field.{Field as FieldListing}
 use Rattle.model.specs.declared.listings.Method.{Method}
 use Rattle.model.specs.declared.listings.Placed.{Placed}
 use Rattle.model.specs.declared.places.MethodPlace.{MethodPlace}
@@ -28,8 +29,9 @@ use Rattle.model.specs.Classes.Named.{listed}
 use Rattle.model.specs.CodeListings.{CodeListing}
 use Rattle.model.specs.Frames.{Frame, Moved, int_on, two_ints_on, push_all, replaced}
 use Rattle.model.specs.Values.{units_of_all}
+use Rattle.model.specs.Classes.Flags.{is_static_field}
 use Rattle.model.specs.Programs.{builtin_of, code_at, instruction_of, main_in, method_at, placed_at}
-use Rattle.model.specs.Worlds.{World, frames_at, is_live, with_thread}
+use Rattle.model.specs.Worlds.{World, frames_at, is_live, opening_slot, opening_slots, opening_slots_of, with_thread}
 use Rattle.model.specs.Worlds.Thread.{Ended}
 use Rattle.model.specs.Completions.{Completion, Site, asks, waits, frames_in, completes}
 use Rattle.model.specs.Completions.Completion.{Goes, Prints, Creates, Throws, Raises, Faults, Waits}
@@ -42,7 +44,7 @@ use Rattle.model.specs.Table.Returns.{returned}
 use Rattle.model.specs.Table.Next.{Listed, by_family, at_instruction, completion, asked}
 use Rattle.model.specs.Ready.{is_ready}
 use Rattle.model.proofs.OwnMethods.{print_called, main_gives}
-use Rattle.model.specs.Served.{serves_constant, serves_number, serves_call, is_served, serves_rows, serves_code, serves_methods, serves_fields, serves}
+use Rattle.model.specs.Served.{serves_constant, serves_number, serves_call, is_served, serves_rows, serves_code, serves_methods, serves_fields, serves, ServedProgram}
 
 -- ---- the cases of what is served
 
@@ -203,17 +205,16 @@ instruction_served program f i served there =
 -- ---- a thread that has ended, or runs main alone
 
 pub record IsAtMain (program : List ClassListing) (w : World) (t : ℕ) (f : Frame) : Type 0 where
-  pub served : list_all serves program ≡ true
+  pub served : ServedProgram program
   pub alone : frames_at w t ≡ f ∷ []
   pub main_is : main_in program ≡ Some f.method
   pub unlocked : f.monitor ≡ None
-  pub unhidden : listed program (codes "vm/Sys") ≡ None
 
 abbrev site_at : List ClassListing → World → ℕ → Frame → ℕ → Site
 site_at program w t f n = record { program = program; world = w; thread = t; frame = f; next = n }
 
 in_main : (program : List ClassListing) (w : World) (t : ℕ) (f : Frame) (n : ℕ) → IsAtMain program w t f → IsInMain (site_at program w t f n)
-in_main program w t f n at = record { alone = at.alone; main_is = at.main_is; unlocked = at.unlocked; unhidden = at.unhidden }
+in_main program w t f n at = record { alone = at.alone; main_is = at.main_is; unlocked = at.unlocked; unhidden = at.served.unhidden }
 
 -- what it comes to
 pub completion-main : (program : List ClassListing) (w : World) (t : ℕ) (f : Frame) → frames_at w t ≡ f ∷ [] → completion program w t ≡ at_instruction program w t f (instruction_of program f)
@@ -228,7 +229,7 @@ pub main-quiet : (program : List ClassListing) (w : World) (t : ℕ) (f : Frame)
 main-quiet program w t f at = subst IsQuiet (sym (completion-main program w t f at.alone)) (by_instruction (instruction_of program f) refl) where
   by_instruction : (i : Option Placed) → instruction_of program f ≡ i → IsQuiet (at_instruction program w t f i)
   by_instruction None e = (refl, refl)
-  by_instruction (Some i) e = family-quiet (site_at program w t f i.next) (in_main program w t f i.next at) i.instruction (instruction_served program f i at.served e)
+  by_instruction (Some i) e = family-quiet (site_at program w t f i.next) (in_main program w t f i.next at) i.instruction (instruction_served program f i at.served.code e)
 
 pub none-quiet : (program : List ClassListing) (w : World) (t : ℕ) → frames_at w t ≡ [] → IsQuiet (completion program w t)
 none-quiet program w t e = subst IsQuiet (sym (completion-none program w t e)) (refl, refl)
@@ -246,3 +247,25 @@ quiet-ready program w t quiet = ap (λ (b : Bool). is_none w.fault && is_live w 
 
 pub quiet-asked : (program : List ClassListing) (w : World) (t : ℕ) → IsQuiet (completion program w t) → asked program w t ≡ None
 quiet-asked program w t quiet = quiet.0
+
+-- ---- a program that is served has no static field
+
+not-false : (b : Bool) → not b ≡ true → b ≡ false
+not-false true e = cc
+not-false false e = refl
+
+no_static : (fields : List FieldListing) → serves_fields fields ≡ true → filter is_static_field fields ≡ []
+no_static [] e = refl
+no_static (f ∷ fs) e =
+    let one = both (not (is_static_field f)) (serves_fields fs) e in
+    rw (not-false (is_static_field f) one.0) (no_static fs one.1)
+
+slots-none : (c : ClassListing) → serves c ≡ true → opening_slots_of c ≡ []
+unfolding serves
+slots-none c e = ap (map (opening_slot c.name)) (no_static c.fields (both (serves_fields c.fields) (serves_methods c.methods) e).0)
+
+pub opening_slots-none : (program : List ClassListing) → list_all serves program ≡ true → opening_slots program ≡ []
+opening_slots-none [] e = refl
+opening_slots-none (c ∷ cs) e =
+    let one = both (serves c) (list_all serves cs) e in
+    rw (slots-none c one.0) (opening_slots-none cs one.1)

@@ -1,4 +1,4 @@
-use Rattle.std.specs.Prelude.{ℕ, ℤ, List, [], ◌∷◌, Bool, true, false, ◌&&◌, not, Option, Some, None}
+use Rattle.std.specs.Prelude.{◌≡◌, codes, ℕ, ℤ, List, [], ◌∷◌, Bool, true, false, ◌&&◌, not, Option, Some, None}
 use Rattle.std.specs.List.{list_all}
 use Rattle.model.specs.declared.names.Member.{Member}
 use Rattle.model.specs.declared.values.Kind.{Kind}
@@ -22,6 +22,7 @@ use Rattle.model.specs.declared.instructions.Instruction.TheVariants.{Nop, Const
 use Rattle.model.specs.CodeListings.{CodeListing}
 use Rattle.model.specs.ClassListings.{ClassListing}
 use Rattle.model.specs.Classes.Flags.{is_static_field}
+use Rattle.model.specs.Classes.Named.{listed}
 use Rattle.model.specs.Programs.{builtin_of}
 use Rattle.model.specs.Table.Next.{Listed}
 
@@ -125,3 +126,8 @@ serves_fields fields = list_all (λ (f : FieldListing). not (is_static_field f))
 -- the machine carries out all code of the class, and the class has no static field
 unfoldable pub serves : ClassListing → Bool
 serves c = serves_fields c.fields && serves_methods c.methods
+
+-- the machine can run the program: it carries out all code, and no class of the program has the name of its own that prints
+pub record ServedProgram (program : List ClassListing) : Type 0 where
+  pub code : list_all serves program ≡ true
+  pub unhidden : listed program (codes "vm/Sys") ≡ None

@@ -10,11 +10,11 @@ use Rattle.model.specs.declared.turns.Fault.{Fault}
 use Rattle.model.specs.declared.turns.Turn.{Turn}
 use Rattle.model.specs.declared.turns.Turn.TheVariants.{NotReady, StepLimit}
 use Rattle.model.specs.ClassListings.{ClassListing}
-use Rattle.model.specs.Effects.{Effect}
+use Rattle.model.specs.Results.{Effect}
 use Rattle.model.specs.Effects.Choice.{NotAsked}
 use Rattle.model.specs.Journals.{JournalValue, blank, with_row}
 use Rattle.model.specs.Worlds.{World, counted}
-use Rattle.model.specs.Table.Next.{next}
+use Rattle.model.specs.Table.Next.{asked, next}
 use Rattle.model.specs.Turns.{refusal, refusal_after, choice_of, ideal_step, unless_refused}
 use Rattle.model.specs.Machines.{Recorded, Machine, machine_of, machine_of-noted, noted, advance, told_of}
 use Rattle.model.specs.Observers.{ideal, after_actor, after_last}
@@ -35,6 +35,9 @@ module _ (s : Loaded) (j : JournalValue) (k : ℕ) (is : IsOf s j k) (t : ℕ) w
   on_state : Unrefused → refusal s.program s.limits s.world (Thread t) ≡ None
   on_state e = ap (λ (l : Limits). refusal s.program l s.world (Thread t)) is.limits_are ∙ ap (λ (w : World). refusal s.program j.limits w (Thread t)) is.world_is ∙ e
 
+  asked_none : asked s.program s.world t ≡ None → asked s.program (ideal (recorded s j)) t ≡ None
+  asked_none none = ap (λ (w : World). asked s.program w t) (sym is.world_is) ∙ none
+
   -- so there is room for a row
   pub row_fits : Unrefused → length j.rows < j.limits.steps
   row_fits e =
@@ -43,21 +46,21 @@ module _ (s : Loaded) (j : JournalValue) (k : ℕ) (is : IsOf s j k) (t : ℕ) w
       let steps = ap (λ (l : Limits). l.steps) is.limits_are in
       omega (arith, h, rows, steps)
 
-  step_world : (o : Outcome) → Unrefused → ideal_step s.program j.limits (ideal (recorded s j)) (Thread t) (choice_of o) ≡ counted (next s.program s.world t NotAsked).after
-  step_world o e =
+  step_world : (o : Outcome) → Unrefused → asked s.program s.world t ≡ None → ideal_step s.program j.limits (ideal (recorded s j)) (Thread t) (choice_of o) ≡ counted (next s.program s.world t NotAsked).after
+  step_world o e none =
       ap (unless_refused s.program (ideal (recorded s j)) (Thread t) (choice_of o)) e
-      ∙ ap (λ (effect : Effect). counted effect.after) (next-choice s.program (ideal (recorded s j)) t (choice_of o) NotAsked)
+      ∙ ap (λ (effect : Effect). counted effect.after) (next-choice s.program (ideal (recorded s j)) t (choice_of o) NotAsked (asked_none none))
       ∙ ap (λ (w : World). counted (next s.program w t NotAsked).after) (sym is.world_is)
 
   -- after the turn and its row the state is again what the journal stands for
-  pub noted_is : (worker : ℕ) (o : Outcome) → Unrefused → IsOf (after_step s t) (with_row j (record { actor = Thread t; outcome = o; worker = worker })) (t + 1)
-  noted_is worker o e =
+  pub noted_is : (worker : ℕ) (o : Outcome) → Unrefused → asked s.program s.world t ≡ None → IsOf (after_step s t) (with_row j (record { actor = Thread t; outcome = o; worker = worker })) (t + 1)
+  noted_is worker o e none =
       let row : Row = record { actor = Thread t; outcome = o; worker = worker } in
       record {
         limits_are = is.limits_are;
         rows_are =
             ap (λ (n : ℕ). n + 1) (next-rows s.program s.world t NotAsked ∙ is.rows_are) ∙ sym (length-append j.rows (row ∷ []));
-        world_is = sym (ap (λ (m : Machine). m.world) (machine_of-noted (recorded s j) row) ∙ step_world o e);
+        world_is = sym (ap (λ (m : Machine). m.world) (machine_of-noted (recorded s j) row) ∙ step_world o e none);
         next_is = sym (after_last-push 0 j.rows row);
       }
 
