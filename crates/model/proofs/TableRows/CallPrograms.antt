@@ -1,5 +1,5 @@
 -- Programs of calls, run whole by thread 0: a recursion without end, selection, and the faults of calls and returns.
-use Rattle.std.specs.Prelude.{◌≡◌, ℕ, List, [], ◌∷◌, replicate, Option, Some, None, codes, refl}
+use Rattle.std.specs.Prelude.{◌≡◌, ℕ, List, [], ◌∷◌, replicate, Some, None, codes, refl}
 use Rattle.std.specs.Int.{int_wrap}
 use Rattle.std.specs.Fmt.{digits}
 use Rattle.model.specs.declared.instructions.Constant.TheVariants.{SmallInt}
@@ -7,19 +7,15 @@ use Rattle.model.specs.declared.instructions.SmallInt.{SmallInt as SmallIntOf}
 use Rattle.model.specs.declared.instructions.SmallInt.TheVariants.{One, Two, Three}
 use Rattle.model.specs.declared.instructions.FirstLocal.TheVariants.{Zero as FirstZero}
 use Rattle.model.specs.declared.instructions.Local.TheVariants.{First}
-use Rattle.model.specs.declared.instructions.LocalAccess.TheVariants.{Load, Store}
+use Rattle.model.specs.declared.instructions.LocalAccess.TheVariants.{Load}
 use Rattle.model.specs.declared.instructions.ClassOperation.TheVariants.{New}
-use Rattle.model.specs.declared.instructions.Test.TheVariants.{Always}
-use Rattle.model.specs.declared.instructions.Width.TheVariants.{Narrow}
 use Rattle.model.specs.declared.instructions.Invocation.{Invocation}
 use Rattle.model.specs.declared.instructions.Invocation.TheVariants.{Virtual, Special, Static, Interface}
-use Rattle.model.specs.declared.instructions.MonitorOperation.TheVariants.{Enter}
-use Rattle.model.specs.declared.instructions.Instruction.TheVariants.{Constant, Local, Branch, Class, Invoke, Return, Throw, Monitor}
+use Rattle.model.specs.declared.instructions.Instruction.TheVariants.{Constant, Local, Class, Invoke, Return, Throw}
 use Rattle.model.specs.declared.values.Kind.TheVariants.{Int as IntKind, Ref as RefKind}
 use Rattle.model.specs.declared.values.Value.TheVariants.{Ref}
-use Rattle.model.specs.declared.values.Entry.TheVariants.{Holds}
 use Rattle.model.specs.declared.listings.Method.{Method}
-use Rattle.model.specs.declared.turns.Fault.TheVariants.{WrongClass, WrongReturn, NoMethod, MonitorLimit}
+use Rattle.model.specs.declared.turns.Fault.TheVariants.{WrongClass, WrongReturn, NoMethod}
 use Rattle.model.specs.ClassListings.{ClassListing}
 use Rattle.model.specs.Classes.Builtin.{builtin_classes}
 use Rattle.model.specs.Classes.Search.{upwards, interfaces_from}
@@ -30,7 +26,7 @@ use Rattle.model.specs.Worlds.Thread.{Live, Ended}
 use Rattle.model.specs.Table.Next.{completion, next}
 use Rattle.model.specs.Turns.{refusal}
 use Rattle.model.proofs.TableRows.Listings.{Sized, print, return, after, run, more}
-use Rattle.model.proofs.TableRows.Sites.{class, interface, method, abstract_method, member, place, frame, object, world}
+use Rattle.model.proofs.TableRows.Sites.{class, interface, method, abstract_method, member, place, frame}
 
 -- ---- instructions
 
