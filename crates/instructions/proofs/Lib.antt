@@ -2,3 +2,4 @@ pub mod OpeningState
 pub mod Refusing
 pub mod Stepping
 pub mod Turning
+pub mod Waiting

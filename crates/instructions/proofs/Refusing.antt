@@ -1,22 +1,25 @@
 -- Where the rules refuse nothing, a thread's turn is allowed.
 use Rattle.std.proofs.Common.{◌≡◌, ◌<◌, ◌≤◌, ◌+◌, ℕ, List, [], ◌∷◌, length, Option, Some, None, IfSome, Bool, true, false, nat_lt, nat_le, is_none, refl, ap, sym, ◌∙◌, arith}
-use Rattle.std.specs.Prelude.{if◌then◌else◌, ◌&&◌}
+use Rattle.std.specs.Prelude.{if◌then◌else◌, ◌&&◌, not}
 use Rattle.model.specs.declared.journals.Limits.{Limits}
-use Rattle.model.specs.declared.turns.Actor.TheVariants.{Thread}
+use Rattle.model.specs.declared.turns.Actor.{Actor}
+use Rattle.model.specs.declared.turns.Actor.TheVariants.{Thread, Collector}
 use Rattle.model.specs.declared.turns.Fault.{Fault}
 use Rattle.model.specs.declared.turns.Turn.{Turn}
 use Rattle.model.specs.declared.turns.Turn.TheVariants.{NotReady, OutputFull, StepLimit}
 use Rattle.std.proofs.lemmas.Bool.{ltb-false, leb-false}
 use Rattle.model.specs.ClassListings.{ClassListing}
 use Rattle.model.specs.Worlds.{World, is_live}
+use Rattle.model.specs.Completions.{waits}
+use Rattle.model.specs.Table.Next.{completion}
 use Rattle.model.specs.Ready.{is_ready}
-use Rattle.model.specs.Turns.{refusal, refusal_after, thread_refusal, overflows, passes, print_of}
+use Rattle.model.specs.Turns.{refusal, refusal_after, actor_refusal, thread_refusal, overflows, passes, print_of}
 use Rattle.instructions.specs.Loaded.{Loaded}
 use Rattle.instructions.specs.Allowed.{IsAllowed}
 
-faultless : (program : List ClassListing) (limits : Limits) (w : World) (t : ℕ) (o : Option (Fault × ℕ)) → refusal_after program limits w (Thread t) o ≡ None → o ≡ None
-faultless program limits w t None e = refl
-faultless program limits w t (Some fault) e = cc
+faultless : (program : List ClassListing) (limits : Limits) (w : World) (actor : Actor) (o : Option (Fault × ℕ)) → refusal_after program limits w actor o ≡ None → o ≡ None
+faultless program limits w actor None e = refl
+faultless program limits w actor (Some fault) e = cc
 
 counted : (b : Bool) (r : Option Turn) → (if b then Some StepLimit else r) ≡ None → (b ≡ false) × (r ≡ None)
 counted true r e = cc
@@ -26,6 +29,10 @@ unrefused : (ready full : Bool) → (if ready then (if full then Some OutputFull
 unrefused true true e = cc
 unrefused true false e = (refl, refl)
 unrefused false full e = cc
+
+first_holds : (a b : Bool) → (a && b) ≡ true → a ≡ true
+first_holds true b e = refl
+first_holds false b e = cc
 
 second_holds : (a b : Bool) → (a && b) ≡ true → b ≡ true
 second_holds true b e = e
@@ -38,13 +45,27 @@ fits limit output (Some line) e = ltb-false limit (length output + length line) 
 pub allowed : (s : Loaded) (t : ℕ) → refusal s.program s.limits s.world (Thread t) ≡ None → IsAllowed s t
 unfolding refusal
 allowed s t e =
-    let none : s.world.fault ≡ None = faultless s.program s.limits s.world t s.world.fault e in
+    let none : s.world.fault ≡ None = faultless s.program s.limits s.world (Thread t) s.world.fault e in
     let rest : refusal_after s.program s.limits s.world (Thread t) None ≡ None = ap (refusal_after s.program s.limits s.world (Thread t)) (sym none) ∙ e in
     let steps = counted (nat_le s.limits.steps s.world.rows) (thread_refusal s.program s.limits s.world t) rest in
     let ready = unrefused (is_ready s.program s.world t) (overflows s.program s.limits s.world t) steps.1 in
     record {
       faultless = none;
       counted = leb-false s.limits.steps s.world.rows steps.0;
-      live = second_holds (is_none s.world.fault) (is_live s.world t) ready.0;
+      live =
+          second_holds (is_none s.world.fault) (is_live s.world t)
+          (first_holds (is_none s.world.fault && is_live s.world t) (not (waits (completion s.program s.world t))) ready.0);
       fits = fits s.limits.output s.world.output (print_of s.program s.world t) ready.1;
     }
+
+-- the collector's turn is refused by a fault and at the limit of steps alone
+pub collector_faultless : (program : List ClassListing) (limits : Limits) (w : World) → refusal program limits w Collector ≡ None → w.fault ≡ None
+unfolding refusal
+collector_faultless program limits w e = faultless program limits w Collector w.fault e
+
+pub collector_counted : (program : List ClassListing) (limits : Limits) (w : World) → refusal program limits w Collector ≡ None → w.rows < limits.steps
+unfolding refusal
+collector_counted program limits w e =
+    let none : w.fault ≡ None = faultless program limits w Collector w.fault e in
+    let rest : refusal_after program limits w Collector None ≡ None = ap (refusal_after program limits w Collector) (sym none) ∙ e in
+    leb-false limits.steps w.rows (counted (nat_le limits.steps w.rows) (actor_refusal program limits w Collector) rest).0

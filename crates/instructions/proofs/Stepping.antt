@@ -2,126 +2,123 @@
 use Rattle.std.proofs.Common.{◌≡◌, ℕ, ℤ, List, [], ◌∷◌, Option, Some, None, Result, Ok, Err, Bool, true, false, refl, ap, sym, ◌∙◌}
 use Rattle.std.specs.Option.{option_map, option_and_then}
 use Rattle.model.specs.declared.names.Member.{Member}
-use Rattle.model.specs.declared.values.Kind.{Kind}
 use Rattle.model.specs.declared.builtins.Builtin.{Builtin}
 use Rattle.model.specs.declared.builtins.Builtin.TheVariants.{PrintInt}
-use Rattle.model.specs.declared.places.MethodPlace.{MethodPlace}
 use Rattle.model.specs.declared.listings.Placed.{Placed}
-use Rattle.model.specs.declared.instructions.Instruction.TheVariants.{Nop, Constant, Local, Stack, Number, Branch, TableSwitch, LookupSwitch, Return, Static as StaticField, Field, Array, Class, Invoke, Throw, Monitor}
-use Rattle.model.specs.declared.instructions.Invocation.{Invocation}
-use Rattle.model.specs.declared.instructions.Invocation.TheVariants.{Virtual, Special, Static, Interface}
+use Rattle.model.specs.declared.instructions.NumberKind.TheVariants.{Int as Ints}
+use Rattle.model.specs.declared.instructions.Operator.TheVariants.{Add}
+use Rattle.model.specs.declared.instructions.NumberOperation.TheVariants.{Binary}
+use Rattle.model.specs.declared.instructions.Instruction.TheVariants.{Return, Invoke}
+use Rattle.model.specs.declared.instructions.Invocation.TheVariants.{Static}
 use Rattle.model.specs.declared.turns.ClassState.{ClassState}
 use Rattle.model.specs.declared.turns.Fault.{Fault}
 use Rattle.model.specs.declared.turns.Abrupt.{Abrupt}
 use Rattle.model.specs.declared.turns.Abrupt.TheVariants.{Fault as Faulted, Throw as Thrown}
 use Rattle.model.specs.ClassListings.{ClassListing}
 use Rattle.model.specs.CodeListings.{CodeListing}
-use Rattle.model.specs.Frames.{Frame, Moved, int_on}
-use Rattle.model.specs.Programs.{builtin_of, code_at, instruction_of, placed_at}
-use Rattle.model.specs.Printing.{printed}
-use Rattle.model.specs.Worlds.{World}
-use Rattle.model.specs.Effects.{stepped}
+use Rattle.model.specs.Completions.{Completion, Site, completes, prints}
+use Rattle.model.specs.Effects.{effect_of}
 use Rattle.model.specs.Effects.Choice.{NotAsked}
-use Rattle.model.specs.Table.Builtins.{print_on}
-use Rattle.model.specs.Table.Next.{Listed, next, called, invoked, returned_as, by_family, at_instruction}
-use Rattle.model.specs.Turns.{printed_by, printed_by_call, print_of}
+use Rattle.model.specs.Frames.{Frame, Moved, int_on}
+use Rattle.model.specs.Printing.{decimal_line, line_of}
+use Rattle.model.specs.Programs.{builtin_of, code_at, instruction_of, main_in, placed_at}
+use Rattle.model.specs.Served.{is_served, ServedProgram}
+use Rattle.model.specs.Table.Builtins.{prints_on}
+use Rattle.model.specs.Table.Constants.{constant}
+use Rattle.model.specs.Table.Numbers.{number}
+use Rattle.model.specs.Table.Next.{Listed, next, by_family, at_instruction}
+use Rattle.model.specs.Turns.{print_of}
+use Rattle.model.specs.Worlds.{World}
+use Rattle.model.proofs.Served.{ThrowsNothing, constant-throws_nothing, number-throws_nothing, IsInMain, returned_is, printed_is, served_cases, instruction_served, completion-main}
 use Rattle.loader.specs.Steps.{step_of, step_in, step_at, call_of, action_of}
 use Rattle.loader.specs.declared.programs.Step.{Step}
-use Rattle.instructions.specs.Acting.{Parts, moved_in, printed_in, acted, acted_at, printed_at}
+use Rattle.instructions.specs.Acting.{moved_in, printed_in, acted, acted_at, printed_at}
 use Rattle.instructions.specs.Loaded.{world_shown, world_after}
 
-module _ (program : List ClassListing) (f : Frame) (states : List ClassState) (output : List ℕ) (rows : ℕ) where
+module _ (program : List ClassListing) (f : Frame) (states : List ClassState) (output : List ℕ) (fault : Option (Fault × ℕ)) (rows : ℕ) where
   abbrev pub w : World
-  w = world_shown false (f ∷ []) states output None rows
+  w = world_shown false (f ∷ []) states output fault rows
 
-  stepped_shown : (r : Result Moved Abrupt) → (stepped w 0 (f ∷ []) r).after ≡ world_after w (moved_in (f ∷ []) output r)
-  stepped_shown (Ok moved) = refl
-  stepped_shown (Err (Faulted fault)) = refl
-  stepped_shown (Err (Thrown exception)) = refl
+  abbrev site : ℕ → Site
+  site n = record { program = program; world = w; thread = 0; frame = f; next = n }
 
-  print_shown : (n : ℕ) (r : Result ℤ Fault) → (print_on n w 0 (f ∷ []) f r).after ≡ world_after w (printed_in (f ∷ []) output n r)
+  -- the world after what an instruction comes to
+  abbrev left : Completion → World
+  left c = (effect_of program w 0 NotAsked c).after
+
+  -- what the table says of an instruction is what its step does
+  abbrev Shown : ℕ → Listed → Type 0
+  Shown n i = left (by_family (site n) i) ≡ world_after w (acted (f ∷ []) output n (action_of i))
+
+  completes_shown : (n : ℕ) (r : Result Moved Abrupt) → ThrowsNothing r → left (completes (site n) r) ≡ world_after w (moved_in (f ∷ []) output r)
+  completes_shown n (Ok moved) e = refl
+  completes_shown n (Err (Faulted kind)) e = refl
+  completes_shown n (Err (Thrown exception)) e = absurd e
+
+  print_shown : (n : ℕ) (r : Result ℤ Fault) → left (prints_on (site n) decimal_line r) ≡ world_after w (printed_in (f ∷ []) output n r)
   print_shown n (Ok z) = refl
-  print_shown n (Err fault) = refl
+  print_shown n (Err e) = refl
 
-  called_shown : (n : ℕ) (b : Option Builtin) → (called n w 0 (f ∷ []) f b).after ≡ world_after w (acted (f ∷ []) output n (call_of b))
-  called_shown n None = refl
-  called_shown n (Some PrintInt) = print_shown n (int_on f.stack)
+  returned_shown : (n : ℕ) → IsInMain (site n) → Shown n (Return None)
+  returned_shown n main = ap left (returned_is (site n) main)
 
-  invoked_shown : (n : ℕ) (i : Invocation) (m : Member) → (invoked n w 0 (f ∷ []) f i m).after ≡ world_after w (acted (f ∷ []) output n (action_of (Invoke i m)))
-  invoked_shown n Static m = called_shown n (builtin_of m)
-  invoked_shown n Virtual m = refl
-  invoked_shown n Special m = refl
-  invoked_shown n (Interface count) m = refl
+  invoked_shown : (n : ℕ) → IsInMain (site n) → (m : Member) → builtin_of m ≡ Some PrintInt → Shown n (Invoke Static m)
+  invoked_shown n main m named =
+      ap left (printed_is (site n) m named main.unhidden) ∙ print_shown n (int_on f.stack)
+      ∙ sym (ap (λ (b : Option Builtin). world_after w (acted (f ∷ []) output n (call_of b))) named)
 
-  returned_shown : (n : ℕ) (k : Option Kind) → (returned_as program w 0 (f ∷ []) k).after ≡ world_after w (acted (f ∷ []) output n (action_of (Return k)))
-  returned_shown n None = refl
-  returned_shown n (Some k) = refl
+  family_shown : (n : ℕ) → IsInMain (site n) → (i : Listed) → is_served i ≡ true → Shown n i
+  family_shown n main i served =
+      served_cases (Shown n) refl
+      (λ c. completes_shown n (constant n c f) (constant-throws_nothing n c f))
+      (completes_shown n (number n (Binary Ints Add) f) (number-throws_nothing n f))
+      (returned_shown n main) (invoked_shown n main) i served
 
-  family_shown : (n : ℕ) (i : Listed) → (by_family program w 0 (f ∷ []) f n NotAsked i).after ≡ world_after w (acted (f ∷ []) output n (action_of i))
-  family_shown n Nop = refl
-  family_shown n (Constant c) = stepped_shown _
-  family_shown n (Number operation) = stepped_shown _
-  family_shown n (Return k) = returned_shown n k
-  family_shown n (Invoke i m) = invoked_shown n i m
-  family_shown n (Local access) = refl
-  family_shown n (Stack operation) = refl
-  family_shown n (Branch test target) = refl
-  family_shown n (TableSwitch table) = refl
-  family_shown n (LookupSwitch lookup) = refl
-  family_shown n (StaticField access m) = refl
-  family_shown n (Field access m) = refl
-  family_shown n (Array operation) = refl
-  family_shown n (Class operation name) = refl
-  family_shown n Throw = refl
-  family_shown n (Monitor operation) = refl
+  -- and so is what the table says of its print
+  abbrev PrintShown : ℕ → Listed → Type 0
+  PrintShown n i = prints (by_family (site n) i) ≡ printed_at (f ∷ []) (Some (record { next = n; action = action_of i }))
 
-  at_shown : (i : Option Placed) → (at_instruction program w 0 (f ∷ []) f NotAsked i).after ≡ world_after w (acted_at (f ∷ []) output (option_map step_of i))
-  at_shown None = refl
-  at_shown (Some i) = family_shown i.next i.instruction
+  completes_silent : (n : ℕ) (r : Result Moved Abrupt) → ThrowsNothing r → prints (completes (site n) r) ≡ None
+  completes_silent n (Ok moved) e = refl
+  completes_silent n (Err (Faulted kind)) e = refl
+  completes_silent n (Err (Thrown exception)) e = absurd e
 
-  -- a turn by the table is a turn by the step
-  pub next_shown : (next program w 0 NotAsked).after ≡ world_after w (acted_at (f ∷ []) output (option_map step_of (instruction_of program f)))
-  unfolding next
-  next_shown = at_shown (instruction_of program f)
+  print_told : (n : ℕ) (r : Result ℤ Fault) → prints (prints_on (site n) decimal_line r) ≡ line_of decimal_line r
+  print_told n (Ok z) = refl
+  print_told n (Err e) = refl
 
-  print_call_shown : (i : Invocation) (m : Member) (n : ℕ) → printed_by_call f i (builtin_of m) ≡ printed_at (f ∷ []) (Some (record { next = n; action = action_of (Invoke i m) }))
-  print_call_shown Static m n = by_builtin (builtin_of m) where
-    by_builtin : (b : Option Builtin) → printed_by_call f Static b ≡ printed_at (f ∷ []) (Some (record { next = n; action = call_of b }))
-    by_builtin None = refl
-    by_builtin (Some PrintInt) = refl
-  print_call_shown Virtual m n = refl
-  print_call_shown Special m n = refl
-  print_call_shown (Interface count) m n = refl
+  invoked_told : (n : ℕ) → IsInMain (site n) → (m : Member) → builtin_of m ≡ Some PrintInt → PrintShown n (Invoke Static m)
+  invoked_told n main m named =
+      ap prints (printed_is (site n) m named main.unhidden) ∙ print_told n (int_on f.stack)
+      ∙ sym (ap (λ (b : Option Builtin). printed_at (f ∷ []) (Some (record { next = n; action = call_of b }))) named)
 
-  print_return_shown : (n : ℕ) (k : Option Kind) → None ≡ printed_at (f ∷ []) (Some (record { next = n; action = action_of (Return k) }))
-  print_return_shown n None = refl
-  print_return_shown n (Some k) = refl
+  family_told : (n : ℕ) → IsInMain (site n) → (i : Listed) → is_served i ≡ true → PrintShown n i
+  family_told n main i served =
+      served_cases (PrintShown n) refl
+      (λ c. completes_silent n (constant n c f) (constant-throws_nothing n c f))
+      (completes_silent n (number n (Binary Ints Add) f) (number-throws_nothing n f))
+      (ap prints (returned_is (site n) main)) (invoked_told n main) i served
 
-  printed_shown : (n : ℕ) (i : Listed) → printed_by f i ≡ printed_at (f ∷ []) (Some (record { next = n; action = action_of i }))
-  printed_shown n Nop = refl
-  printed_shown n (Constant c) = refl
-  printed_shown n (Number operation) = refl
-  printed_shown n (Return k) = print_return_shown n k
-  printed_shown n (Invoke i m) = print_call_shown i m n
-  printed_shown n (Local access) = refl
-  printed_shown n (Stack operation) = refl
-  printed_shown n (Branch test target) = refl
-  printed_shown n (TableSwitch table) = refl
-  printed_shown n (LookupSwitch lookup) = refl
-  printed_shown n (StaticField access m) = refl
-  printed_shown n (Field access m) = refl
-  printed_shown n (Array operation) = refl
-  printed_shown n (Class operation name) = refl
-  printed_shown n Throw = refl
-  printed_shown n (Monitor operation) = refl
+  module _ (served : ServedProgram program) (main_is : main_in program ≡ Some f.method) (unlocked : f.monitor ≡ None) where
+    in_main : (n : ℕ) → IsInMain (site n)
+    in_main n = record { alone = refl; main_is = main_is; unlocked = unlocked; unhidden = served.unhidden }
 
-  print_at_shown : (i : Option Placed) → option_and_then (λ (p : Placed). printed_by f p.instruction) i ≡ printed_at (f ∷ []) (option_map step_of i)
-  print_at_shown None = refl
-  print_at_shown (Some i) = printed_shown i.next i.instruction
+    at_shown : (i : Option Placed) → instruction_of program f ≡ i → left (at_instruction program w 0 f i) ≡ world_after w (acted_at (f ∷ []) output (option_map step_of i))
+    at_shown None e = refl
+    at_shown (Some i) e = family_shown i.next (in_main i.next) i.instruction (instruction_served program f i served.code e)
 
-  -- what the table says of the next print is what the step says
-  pub print_shown_at : print_of program w 0 ≡ printed_at (f ∷ []) (option_map step_of (instruction_of program f))
-  print_shown_at = print_at_shown (instruction_of program f)
+    -- a turn by the table is a turn by the step
+    pub next_shown : (next program w 0 NotAsked).after ≡ world_after w (acted_at (f ∷ []) output (option_map step_of (instruction_of program f)))
+    unfolding next
+    next_shown = ap left (completion-main program w 0 f refl) ∙ at_shown (instruction_of program f) refl
+
+    at_told : (i : Option Placed) → instruction_of program f ≡ i → prints (at_instruction program w 0 f i) ≡ printed_at (f ∷ []) (option_map step_of i)
+    at_told None e = refl
+    at_told (Some i) e = family_told i.next (in_main i.next) i.instruction (instruction_served program f i served.code e)
+
+    -- what the table says of the next print is what the step says
+    pub print_shown_at : print_of program w 0 ≡ printed_at (f ∷ []) (option_map step_of (instruction_of program f))
+    print_shown_at = ap prints (completion-main program w 0 f refl) ∙ at_told (instruction_of program f) refl
 
 -- the step at a frame's method and pc is that of the instruction at which the frame stands
 step-of_instruction : (o : Option CodeListing) (pc : ℕ) → option_and_then (λ (code : CodeListing). step_in code.instructions pc) o ≡ option_map step_of (option_and_then (λ (code : CodeListing). placed_at code pc) o)

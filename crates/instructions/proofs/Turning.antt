@@ -8,8 +8,6 @@ use Rattle.model.specs.declared.instructions.NumberKind.{NumberKind}
 use Rattle.model.specs.declared.instructions.Operator.{Operator}
 use Rattle.model.specs.declared.instructions.NumberOperation.{NumberOperation}
 use Rattle.model.specs.declared.instructions.NumberOperation.TheVariants.{Binary, Negate, Convert, CompareLongs}
-use Rattle.model.specs.declared.builtins.Builtin.{Builtin}
-use Rattle.model.specs.declared.builtins.Builtin.TheVariants.{PrintInt}
 use Rattle.model.specs.declared.journals.Limits.{Limits}
 use Rattle.model.specs.declared.turns.Actor.TheVariants.{Thread}
 use Rattle.model.specs.declared.turns.ClassState.{ClassState}
@@ -20,6 +18,7 @@ use Rattle.model.specs.declared.values.Value.{Value}
 use Rattle.model.specs.ClassListings.{ClassListing}
 use Rattle.model.specs.Frames.{Frame, Moved, int_on, replaced, replaced_if_room, running_frame, with_running}
 use Rattle.model.specs.Programs.{main_in, instruction_of}
+use Rattle.model.specs.Served.{ServedProgram}
 use Rattle.model.specs.Worlds.{World, lives, is_live, counted}
 use Rattle.model.specs.Turns.{refusal, print_of}
 use Rattle.model.specs.Table.Constants.{constant, constant_value}
@@ -27,7 +26,7 @@ use Rattle.model.specs.Arithmetic.{conversion_result}
 use Rattle.model.specs.Table.Numbers.{number, number_value, target_kind, operated, binary_on, negated_on, converted_on, compared_on, operands_of, operand_of, source_kind}
 use Rattle.loader.specs.Steps.{step_of}
 use Rattle.loader.specs.declared.programs.Action.{Action}
-use Rattle.loader.specs.declared.programs.Action.TheVariants.{Nop, Constant, Number, Return, Call, Unserved}
+use Rattle.loader.specs.declared.programs.Action.TheVariants.{Nop, Constant, Number, Return, Print, Unserved}
 use Rattle.loader.specs.declared.programs.Step.{Step}
 use Rattle.instructions.specs.Acting.{Parts, moved_in, printed_in, acted, acted_at, printed_at, standing, told_parts}
 use Rattle.instructions.specs.Allowed.{IsAllowed}
@@ -46,39 +45,39 @@ first_lives false frames (suc t) e = cc
 
 -- ---- no action leaves the method
 
--- a move keeps the frame's method
-abbrev KeepsMethod : Frame → Result Moved Abrupt → Type 0
-KeepsMethod f (Ok moved) = moved.frame.method ≡ f.method
-KeepsMethod f (Err abrupt) = Unit {0}
+-- a move keeps the frame's method and its monitor
+abbrev KeepsPlace : Frame → Result Moved Abrupt → Type 0
+KeepsPlace f (Ok moved) = (moved.frame.method ≡ f.method) × (moved.frame.monitor ≡ f.monitor)
+KeepsPlace f (Err abrupt) = Unit {0}
 
-room_keeps : (next : ℕ) (f : Frame) (n : ℕ) (vs : List Value) (b : Bool) (e : Abrupt) → KeepsMethod f (if b then Ok (replaced next f n vs) else Err e)
-room_keeps next f n vs true e = refl
+room_keeps : (next : ℕ) (f : Frame) (n : ℕ) (vs : List Value) (b : Bool) (e : Abrupt) → KeepsPlace f (if b then Ok (replaced next f n vs) else Err e)
+room_keeps next f n vs true e = (refl, refl)
 room_keeps next f n vs false e = tt
 
-replaced_keeps : (next : ℕ) (f : Frame) (n : ℕ) (vs : List Value) → KeepsMethod f (replaced_if_room next f n vs)
+replaced_keeps : (next : ℕ) (f : Frame) (n : ℕ) (vs : List Value) → KeepsPlace f (replaced_if_room next f n vs)
 replaced_keeps next f n vs = room_keeps next f n vs _ _
 
-operated_keeps : (next : ℕ) (f : Frame) (kind : NumberKind) (o : Option ℤ) → KeepsMethod f (operated next f kind o)
-operated_keeps next f kind (Some z) = refl
+operated_keeps : (next : ℕ) (f : Frame) (kind : NumberKind) (o : Option ℤ) → KeepsPlace f (operated next f kind o)
+operated_keeps next f kind (Some z) = (refl, refl)
 operated_keeps next f kind None = tt
 
-binary_keeps : (next : ℕ) (f : Frame) (kind : NumberKind) (op : Operator) (r : Result (ℤ × ℤ) Fault) → KeepsMethod f (binary_on next f kind op r)
+binary_keeps : (next : ℕ) (f : Frame) (kind : NumberKind) (op : Operator) (r : Result (ℤ × ℤ) Fault) → KeepsPlace f (binary_on next f kind op r)
 binary_keeps next f kind op (Err e) = tt
 binary_keeps next f kind op (Ok operands) = operated_keeps next f kind _
 
-negated_keeps : (next : ℕ) (f : Frame) (kind : NumberKind) (r : Result ℤ Fault) → KeepsMethod f (negated_on next f kind r)
+negated_keeps : (next : ℕ) (f : Frame) (kind : NumberKind) (r : Result ℤ Fault) → KeepsPlace f (negated_on next f kind r)
 negated_keeps next f kind (Err e) = tt
-negated_keeps next f kind (Ok z) = refl
+negated_keeps next f kind (Ok z) = (refl, refl)
 
-converted_keeps : (next : ℕ) (f : Frame) (c : Conversion) (r : Result ℤ Fault) → KeepsMethod f (converted_on next f c r)
+converted_keeps : (next : ℕ) (f : Frame) (c : Conversion) (r : Result ℤ Fault) → KeepsPlace f (converted_on next f c r)
 converted_keeps next f c (Err e) = tt
 converted_keeps next f c (Ok z) = replaced_keeps next f 1 (number_value (target_kind c) (conversion_result c z) ∷ [])
 
-compared_keeps : (next : ℕ) (f : Frame) (r : Result (ℤ × ℤ) Fault) → KeepsMethod f (compared_on next f r)
+compared_keeps : (next : ℕ) (f : Frame) (r : Result (ℤ × ℤ) Fault) → KeepsPlace f (compared_on next f r)
 compared_keeps next f (Err e) = tt
-compared_keeps next f (Ok operands) = refl
+compared_keeps next f (Ok operands) = (refl, refl)
 
-number_keeps : (next : ℕ) (operation : NumberOperation) (f : Frame) → KeepsMethod f (number next operation f)
+number_keeps : (next : ℕ) (operation : NumberOperation) (f : Frame) → KeepsPlace f (number next operation f)
 number_keeps next (Binary kind op) f = binary_keeps next f kind op (operands_of kind op f.stack)
 number_keeps next (Negate kind) f = negated_keeps next f kind (operand_of kind f.stack)
 number_keeps next (Convert c) f = converted_keeps next f c (operand_of (source_kind c) f.stack)
@@ -89,21 +88,21 @@ abbrev RunsOn : List ClassListing → Result Parts Fault → Type 0
 RunsOn program (Ok parts) = RunsMainUnlessEnded program parts.ended parts.frames
 RunsOn program (Err fault) = Unit {0}
 
-module _ (program : List ClassListing) (f : Frame) (main_is : main_in program ≡ Some f.method) where
-  moved_runs : (output : List ℕ) (r : Result Moved Abrupt) → KeepsMethod f r → RunsOn program (moved_in (f ∷ []) output r)
-  moved_runs output (Ok moved) e = record { frame = moved.frame; alone = refl; main_is = main_is ∙ ap Some (sym e) }
+module _ (program : List ClassListing) (f : Frame) (main_is : main_in program ≡ Some f.method) (unlocked : f.monitor ≡ None) where
+  moved_runs : (output : List ℕ) (r : Result Moved Abrupt) → KeepsPlace f r → RunsOn program (moved_in (f ∷ []) output r)
+  moved_runs output (Ok moved) e = record { frame = moved.frame; alone = refl; main_is = main_is ∙ ap Some (sym e.0); unlocked = e.1 ∙ unlocked }
   moved_runs output (Err abrupt) e = tt
 
   printed_runs : (output : List ℕ) (next : ℕ) (r : Result ℤ Fault) → RunsOn program (printed_in (f ∷ []) output next r)
-  printed_runs output next (Ok z) = record { frame = (replaced next f 1 []).frame; alone = refl; main_is = main_is }
+  printed_runs output next (Ok z) = record { frame = (replaced next f 1 []).frame; alone = refl; main_is = main_is; unlocked = unlocked }
   printed_runs output next (Err fault) = tt
 
   acted_runs : (output : List ℕ) (next : ℕ) (action : Action) → RunsOn program (acted (f ∷ []) output next action)
-  acted_runs output next Nop = moved_runs output (Ok (replaced next f 0 [])) refl
+  acted_runs output next Nop = moved_runs output (Ok (replaced next f 0 [])) (refl, refl)
   acted_runs output next (Constant c) = moved_runs output (constant next c f) (replaced_keeps next f 0 (constant_value c ∷ []))
   acted_runs output next (Number operation) = moved_runs output (number next operation f) (number_keeps next operation f)
   acted_runs output next Return = tt
-  acted_runs output next (Call PrintInt) = printed_runs output next (int_on f.stack)
+  acted_runs output next Print = printed_runs output next (int_on f.stack)
   acted_runs output next Unserved = tt
 
   acted_at_runs : (output : List ℕ) (step : Option Step) → RunsOn program (acted_at (f ∷ []) output step)
@@ -115,27 +114,29 @@ module _ (program : List ClassListing) (limits : Limits) (states : List ClassSta
   state ended frames fault = record { program = program; limits = limits; world = world_shown ended frames states output fault rows }
 
   -- what the table prints is what the step prints
-  printed_alike : (f : Frame) → print_of program (world_shown false (f ∷ []) states output None rows) 0 ≡ printed_at (f ∷ []) (standing program f)
-  printed_alike f = print_shown_at program f states output rows ∙ ap (printed_at (f ∷ [])) (sym (step_stands program f))
+  printed_alike : (f : Frame) → ServedProgram program → main_in program ≡ Some f.method → f.monitor ≡ None → print_of program (world_shown false (f ∷ []) states output None rows) 0 ≡ printed_at (f ∷ []) (standing program f)
+  printed_alike f served main_is unlocked = print_shown_at program f states output None rows served main_is unlocked ∙ ap (printed_at (f ∷ [])) (sym (step_stands program f))
 
-  pub going : (ended : Bool) (frames : List Frame) (fault : Option (Fault × ℕ)) (t : ℕ) → limits.output ≤ capacity → RunsMainUnlessEnded program ended frames → refusal program limits (world_shown ended frames states output fault rows) (Thread t) ≡ None → IsGoing program limits ended frames output fault rows capacity t
-  going true frames fault t room main e =
+  pub going : (ended : Bool) (frames : List Frame) (fault : Option (Fault × ℕ)) (t : ℕ) → ServedProgram program → limits.output ≤ capacity → RunsMainUnlessEnded program ended frames → refusal program limits (world_shown ended frames states output fault rows) (Thread t) ≡ None → IsGoing program limits ended frames output fault rows capacity t
+  going true frames fault t served room main e =
       let may = allowed (state true frames fault) t e in absurd (cc (first_lives true frames t may.live).0)
-  going false frames fault t room main e =
+  going false frames fault t served room main e =
       let may = allowed (state false frames fault) t e in
       let first = first_lives false frames t may.live in
       let fits = subst (λ (k : ℕ). IfSome (print_of program (world_shown false frames states output fault rows) k) (λ line. length output + length line ≤ limits.output)) first.1 may.fits in
       let fits_none = subst (λ (o : Option (Fault × ℕ)). IfSome (print_of program (world_shown false frames states output o rows) 0) (λ line. length output + length line ≤ limits.output)) may.faultless fits in
       let fits_here = subst (λ (fs : List Frame). IfSome (print_of program (world_shown false fs states output None rows) 0) (λ line. length output + length line ≤ limits.output)) main.alone fits_none in
       record {
+        served = served;
         lives = refl;
         first = first.1;
         frame = main.frame;
         alone = main.alone;
         main_is = main.main_is;
+        unlocked = main.unlocked;
         faultless = may.faultless;
         counted = may.counted;
-        fits = within main.frame (subst (λ (o : Option (List ℕ)). IfSome o (λ line. length output + length line ≤ limits.output)) (printed_alike main.frame) fits_here) main.alone;
+        fits = within main.frame (subst (λ (o : Option (List ℕ)). IfSome o (λ line. length output + length line ≤ limits.output)) (printed_alike main.frame served main.main_is main.unlocked) fits_here) main.alone;
       }
     where
       room_for : (o : Option (List ℕ)) → limits.output ≤ capacity → IfSome o (λ line. length output + length line ≤ limits.output) → IfSome o (λ line. length output + length line ≤ capacity)
@@ -150,15 +151,15 @@ module _ (program : List ClassListing) (limits : Limits) (states : List ClassSta
   done_runs frames fault t ended after_ended after_frames after_output g e =
       let here : told_parts (Ok after_ended) after_frames after_output ≡ acted_at (g.frame ∷ []) output (standing program g.frame) =
       e ∙ ap (λ (fs : List Frame). acted_at fs output (standing program (running_frame fs))) g.alone in
-      subst (RunsOn program) (sym here) (acted_at_runs program g.frame g.main_is output (standing program g.frame))
+      subst (RunsOn program) (sym here) (acted_at_runs program g.frame g.main_is g.unlocked output (standing program g.frame))
 
   turned : (f : Frame) → (state false (f ∷ []) None).world ≡ world_shown false (f ∷ []) states output None rows
   turned f = refl
 
-  after_of : (f : Frame) → after_step (state false (f ∷ []) None) 0 ≡ record { program = program; limits = limits; world = counted (world_after (world_shown false (f ∷ []) states output None rows) (acted_at (f ∷ []) output (standing program f))) }
-  after_of f =
+  after_of : (f : Frame) → ServedProgram program → main_in program ≡ Some f.method → f.monitor ≡ None → after_step (state false (f ∷ []) None) 0 ≡ record { program = program; limits = limits; world = counted (world_after (world_shown false (f ∷ []) states output None rows) (acted_at (f ∷ []) output (standing program f))) }
+  after_of f served main_is unlocked =
       ap (λ (after : World). let s : Loaded = record { program = program; limits = limits; world = counted after } in s)
-      (next_shown program f states output rows ∙ ap (λ (step : Option Step). world_after (world_shown false (f ∷ []) states output None rows) (acted_at (f ∷ []) output step)) (sym (step_stands program f)))
+      (next_shown program f states output None rows served main_is unlocked ∙ ap (λ (step : Option Step). world_after (world_shown false (f ∷ []) states output None rows) (acted_at (f ∷ []) output step)) (sym (step_stands program f)))
 
   state_is : (ended : Bool) (frames : List Frame) (fault : Option (Fault × ℕ)) (t : ℕ) → (g : IsGoing program limits ended frames output fault rows capacity t) → after_step (state ended frames fault) t ≡ after_step (state false (g.frame ∷ []) None) 0
   state_is ended frames fault t g = rw (g.lives, g.alone, g.faultless, g.first) refl
@@ -169,7 +170,7 @@ module _ (program : List ClassListing) (limits : Limits) (states : List ClassSta
       e ∙ ap (λ (fs : List Frame). acted_at fs output (standing program (running_frame fs))) g.alone in
       ap (λ (o : Option (Fault × ℕ)). let s : Loaded = record { program = program; limits = limits; world = world_shown after_ended after_frames states after_output o (rows + 1) } in s) g.faultless
       ∙ ap (λ (r : Result Parts Fault). let s : Loaded = record { program = program; limits = limits; world = counted (world_after (world_shown false (g.frame ∷ []) states output None rows) r) } in s) here
-      ∙ sym (after_of g.frame) ∙ sym (state_is ended frames fault t g)
+      ∙ sym (after_of g.frame g.served g.main_is g.unlocked) ∙ sym (state_is ended frames fault t g)
 
   pub fault_shown : (frames : List Frame) (fault : Option (Fault × ℕ)) (t : ℕ) (ended : Bool) (kind : Fault) (after_frames : List Frame) (after_output : List ℕ) → IsGoing program limits ended frames output fault rows capacity t → told_parts (Err kind) after_frames after_output ≡ acted_at frames output (standing program (running_frame frames)) → record { program = program; limits = limits; world = world_shown ended frames states output (Some (kind, t)) (rows + 1) } ≡ after_step (record { program = program; limits = limits; world = world_shown ended frames states output fault rows }) t
   fault_shown frames fault t ended kind after_frames after_output g e =
@@ -178,4 +179,4 @@ module _ (program : List ClassListing) (limits : Limits) (states : List ClassSta
       let parts : world_shown ended frames states output (Some (kind, t)) (rows + 1) ≡ world_shown false (g.frame ∷ []) states output (Some (kind, 0)) (rows + 1) = rw (g.lives, g.alone, g.first) refl in
       ap (λ (w : World). let s : Loaded = record { program = program; limits = limits; world = w } in s) parts
       ∙ ap (λ (r : Result Parts Fault). let s : Loaded = record { program = program; limits = limits; world = counted (world_after (world_shown false (g.frame ∷ []) states output None rows) r) } in s) here
-      ∙ sym (after_of g.frame) ∙ sym (state_is ended frames fault t g)
+      ∙ sym (after_of g.frame g.served g.main_is g.unlocked) ∙ sym (state_is ended frames fault t g)

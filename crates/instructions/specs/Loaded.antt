@@ -8,6 +8,7 @@ use Rattle.model.specs.Programs.{main_in}
 use Rattle.model.specs.Worlds.{World, Thread, counted, opening_objects, opening_world}
 use Rattle.model.specs.Worlds.Thread.{Live, Ended}
 use Rattle.model.specs.Effects.Choice.{NotAsked}
+use Rattle.model.specs.Served.{ServedProgram}
 use Rattle.model.specs.Table.Next.{next}
 use Rattle.instructions.specs.Acting.{Parts}
 
@@ -25,6 +26,10 @@ fresh program limits = record { program = program; limits = limits; world = open
 abbrev pub after_step : Loaded → ℕ → Loaded
 after_step s t = record s { world = counted (next s.program s.world t NotAsked).after }
 
+-- the same after a turn of the collector, which counts a row and changes nothing else of the ideal world
+abbrev pub after_collection : Loaded → Loaded
+after_collection s = record s { world = counted s.world }
+
 -- ---- how the parts of the state show a world: there is one thread, and no object but the first two births
 
 abbrev pub thread_shown : Bool → List Frame → Thread
@@ -41,18 +46,20 @@ world_shown ended frames states output fault rows = record {
   rows = rows;
 }
 
--- the thread runs main
+-- the thread runs main, and gives back no monitor when it leaves it
 pub record RunsMain (program : List ClassListing) (frames : List Frame) : Type 0 where
   pub frame : Frame
   pub alone : frames ≡ frame ∷ []
   pub main_is : main_in program ≡ Some frame.method
+  pub unlocked : frame.monitor ≡ None
 
 abbrev pub RunsMainUnlessEnded : List ClassListing → Bool → List Frame → Type 0
 RunsMainUnlessEnded program true frames = Unit {0}
 RunsMainUnlessEnded program false frames = RunsMain program frames
 
--- what holds of the parts
+-- what holds of the parts: the machine carries out all code of the program, and the thread runs its main or has ended
 pub record IsSound (program : List ClassListing) (limits : Limits) (ended : Bool) (frames : List Frame) (capacity : ℕ) : Type 0 where
+  pub served : ServedProgram program
   pub room : limits.output ≤ capacity
   pub main : RunsMainUnlessEnded program ended frames
 

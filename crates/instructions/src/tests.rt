@@ -1,8 +1,8 @@
 //! Each call once, on small mains. What they come to is worked out by hand from the JVMS (6.5): `iadd` keeps the low 32
 //! bits of the sum.
-ghost use Rattle.std.specs.Prelude.{◌≤◌};
 
 use crate::state::State;
+use loader::accept;
 use loader::programs::Program;
 use model::flags::{ClassFlags, MethodFlags};
 use model::instructions::{
@@ -32,13 +32,7 @@ fn add(code: &mut Vec<Placed>, size: u16, instruction: Listed) -> Result<(), All
 }
 
 /// A program of one class, whose static `main()V` has this code, so much stack and no locals.
-fn program_of(
-    alloc: Global,
-    max_stack: u16,
-    instructions: Vec<Placed>,
-) -> Result<Program, AllocError>
-    requires { max_stack ≤ 4096 }
-{
+fn program_of(alloc: Global, max_stack: u16, instructions: Vec<Placed>) -> Result<Program, Fail> {
     let main = Method {
         flags: MethodFlags::STATIC,
         name: Name::copy_of(alloc, b"main")?,
@@ -62,11 +56,12 @@ fn program_of(
     };
     let mut listings = Vec::new(alloc);
     listings.push(class)?;
-    Program::new(alloc, listings)
+    accept(alloc, listings.as_slice())?;
+    Ok(Program::new(alloc, listings)?)
 }
 
 /// `ldc 2147483647`, `iconst_1`, `iadd`, `invokestatic vm/Sys/print(I)V`, `return`
-fn wrapping_sum(alloc: Global) -> Result<Program, AllocError> {
+fn wrapping_sum(alloc: Global) -> Result<Program, Fail> {
     let print = Member {
         class: Name::copy_of(alloc, b"vm/Sys")?,
         name: Name::copy_of(alloc, b"print")?,
@@ -90,7 +85,7 @@ fn wrapping_sum(alloc: Global) -> Result<Program, AllocError> {
 }
 
 /// `iconst_1`, `iadd`: an operand is missing.
-fn missing_operand(alloc: Global) -> Result<Program, AllocError> {
+fn missing_operand(alloc: Global) -> Result<Program, Fail> {
     let mut code = Vec::new(alloc);
     add(
         &mut code,

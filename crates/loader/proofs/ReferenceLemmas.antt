@@ -26,6 +26,8 @@ use Rattle.model.specs.Classes.Resolution.{method_of, resolved_method}
 use Rattle.model.specs.Accepted.BuiltinNames.{has_builtin_name}
 use Rattle.model.specs.Accepted.References.{finds_static, resolves, catch_resolves, is_unresolved_in, has_unresolved}
 use Rattle.model.specs.Accepted.RefusedMembers.{is_refused, has_refused_member}
+use Rattle.model.proofs.OwnMethods.{print, is_print}
+use Rattle.model.proofs.Served.{served_cases}
 
 -- ---- tests
 
@@ -37,20 +39,16 @@ and-right : (a b : Bool) → (a && b) ≡ true → b ≡ true
 and-right true b h = h
 and-right false b h = cc
 
-or-not : (a b : Bool) → (a || not b) ≡ false → b ≡ true
+pub or-not : (a b : Bool) → (a || not b) ≡ false → b ≡ true
 or-not true b h = cc
 or-not false true h = refl
 or-not false false h = cc
 
-not-some : (b : Bool) → is_some (cond b (Some PrintInt) None) ≡ true → b ≡ true
-not-some true h = refl
-not-some false h = cc
-
-cond-none : (b : Bool) (c : ClassListing) (rest : Option ClassListing) → cond b (Some c) rest ≡ None → b ≡ false
+pub cond-none : (b : Bool) (c : ClassListing) (rest : Option ClassListing) → cond b (Some c) rest ≡ None → b ≡ false
 cond-none true c rest h = cc
 cond-none false c rest h = refl
 
-cond-rest : (b : Bool) (c : ClassListing) (rest : Option ClassListing) → cond b (Some c) rest ≡ None → rest ≡ None
+pub cond-rest : (b : Bool) (c : ClassListing) (rest : Option ClassListing) → cond b (Some c) rest ≡ None → rest ≡ None
 cond-rest true c rest h = cc
 cond-rest false c rest h = h
 
@@ -58,9 +56,6 @@ cond-rest false c rest h = h
 
 abbrev sys : ClassListing
 sys = builtin_class (codes "vm/Sys") (codes "java/lang/Object") print_methods
-
-abbrev print : Member
-print = record { class = codes "vm/Sys"; name = codes "print"; descriptor = codes "(I)V" }
 
 sys_named : (program : List ClassListing) → listed program (codes "vm/Sys") ≡ None → class_named program (codes "vm/Sys") ≡ Some sys
 unfolding builtin_classes
@@ -75,53 +70,20 @@ upwards-first (suc n) program name c some found =
     rw (e) (ap (λ o. with_superclasses name (λ superclass. upwards n program superclass) o) found)
 
 finds_print : (program : List ClassListing) → listed program (codes "vm/Sys") ≡ None → finds_static program print ≡ true
+unfolding print
 finds_print program none =
     let some : 0 < length program + 23 = omega arith in
     rw (upwards-first (length program + 23) program (codes "vm/Sys") sys some (sys_named program none), sys_named program none)
 
-member_made : (class name descriptor : List ℕ) → class ≡ codes "vm/Sys" → name ≡ codes "print" → descriptor ≡ codes "(I)V"
-    → (let m : Member = record { class = class; name = name; descriptor = descriptor } in m ≡ print)
-member_made class name descriptor p q r = rw (p, q, r)
-
-is_print : (m : Member) → (bytes_eq m.class (codes "vm/Sys") && bytes_eq m.name (codes "print") && bytes_eq m.descriptor (codes "(I)V")) ≡ true → m ≡ print
-is_print m h =
-    let first = and-left (bytes_eq m.class (codes "vm/Sys") && bytes_eq m.name (codes "print")) (bytes_eq m.descriptor (codes "(I)V")) h in
-    member_made m.class m.name m.descriptor
-    ((bytes_eq-Decides m.class (codes "vm/Sys")).0 (and-left (bytes_eq m.class (codes "vm/Sys")) (bytes_eq m.name (codes "print")) first))
-    ((bytes_eq-Decides m.name (codes "print")).0 (and-right (bytes_eq m.class (codes "vm/Sys")) (bytes_eq m.name (codes "print")) first))
-    ((bytes_eq-Decides m.descriptor (codes "(I)V")).0
-    (and-right (bytes_eq m.class (codes "vm/Sys") && bytes_eq m.name (codes "print")) (bytes_eq m.descriptor (codes "(I)V")) h))
-
-member_is : (m : Member) → is_some (builtin_of m) ≡ true → m ≡ print
-member_is m h =
-    is_print m (not-some (bytes_eq m.class (codes "vm/Sys") && bytes_eq m.name (codes "print") && bytes_eq m.descriptor (codes "(I)V")) h)
-
 -- ---- what is served resolves
 
-invoke_resolves : (program : List ClassListing) (m : Member) → listed program (codes "vm/Sys") ≡ None → is_some (builtin_of m) ≡ true
+invoke_resolves : (program : List ClassListing) (m : Member) → listed program (codes "vm/Sys") ≡ None → builtin_of m ≡ Some PrintInt
     → finds_static program m ≡ true
-invoke_resolves program m none h = rw (member_is m h) (finds_print program none)
+invoke_resolves program m none h = rw (is_print m h) (finds_print program none)
 
 served_resolves : (program : List ClassListing) (i : Listed) → listed program (codes "vm/Sys") ≡ None → is_served i ≡ true → resolves program i ≡ true
-served_resolves program Nop none h = refl
-served_resolves program (Constant c) none h = refl
-served_resolves program (Local access) none h = refl
-served_resolves program (Stack operation) none h = refl
-served_resolves program (Number operation) none h = refl
-served_resolves program (Branch test target) none h = refl
-served_resolves program (TableSwitch table) none h = refl
-served_resolves program (LookupSwitch lookup) none h = refl
-served_resolves program (Return kind) none h = refl
-served_resolves program (StaticField access m) none h = cc
-served_resolves program (Field access m) none h = cc
-served_resolves program (Array operation) none h = cc
-served_resolves program (Class operation name) none h = cc
-served_resolves program (Invoke Virtual m) none h = cc
-served_resolves program (Invoke Special m) none h = cc
-served_resolves program (Invoke Static m) none h = invoke_resolves program m none h
-served_resolves program (Invoke (Interface count) m) none h = cc
-served_resolves program Throw none h = refl
-served_resolves program (Monitor operation) none h = refl
+served_resolves program i none h =
+    served_cases (λ (i : Listed). resolves program i ≡ true) refl (λ c. refl) refl refl (λ m named. invoke_resolves program m none named) i h
 
 instructions_resolve : (program : List ClassListing) (is : List Placed) → listed program (codes "vm/Sys") ≡ None
     → list_all (λ (i : Placed). is_served i.instruction) is ≡ true
@@ -186,7 +148,7 @@ not_sys c h =
     refuted (bytes_eq c.name (codes "vm/Sys"))
     (λ same. true-false (is_some (builtin c.name)) (sys_builtin c.name ((bytes_eq-Decides c.name (codes "vm/Sys")).0 same)) h)
 
-sys_unlisted : (program : List ClassListing) → find has_builtin_name program ≡ None → listed program (codes "vm/Sys") ≡ None
+pub sys_unlisted : (program : List ClassListing) → find has_builtin_name program ≡ None → listed program (codes "vm/Sys") ≡ None
 sys_unlisted [] h = refl
 sys_unlisted (c ∷ cs) h =
     rw (not_sys c (cond-none (has_builtin_name c) c (find has_builtin_name cs) h))

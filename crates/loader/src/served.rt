@@ -1,12 +1,13 @@
 //! What the machine carries out so far.
-ghost use Rattle.std.specs.Prelude.{◌≡◌, is_some};
+ghost use Rattle.std.specs.Prelude.{◌≡◌};
 ghost use Rattle.std.specs.List.{list_all};
 ghost use Rattle.model.specs.Programs.{builtin_of};
-ghost use Rattle.model.specs.Served.{serves_constant, serves_number, serves_invocation, is_served, serves_rows, serves_code, serves_fields, serves_methods, serves};
+ghost use Rattle.model.specs.Served.{serves_constant, serves_number, serves_call, serves_invocation, is_served, serves_rows, serves_code, serves_fields, serves_methods, serves};
 ghost use Rattle.model.specs.declared.listings.Placed.{Placed as PlacedAt};
 
 use crate::programs::builtin_of;
 use bitflags::Flags;
+use model::builtins::Builtin;
 use model::flags::FieldFlags;
 use model::instructions::{
     Constant, Instruction, Invocation, NumberKind, NumberOperation, Operator,
@@ -37,17 +38,17 @@ fn serves_number(operation: NumberOperation) -> bool
 }
 
 /// Whether a member is one of the machine's own methods that it carries out.
-fn is_builtin_method(member: &Member) -> bool
-    ensures { result ≡ is_some (builtin_of member.now) }
+fn serves_call(member: &Member) -> bool
+    ensures { result ≡ serves_call (builtin_of member.now) }
 {
-    builtin_of(member).is_some()
+    matches!(builtin_of(member), Some(Builtin::PrintInt))
 }
 
 fn serves_invocation(invocation: Invocation, member: &Member) -> bool
     ensures { result ≡ serves_invocation invocation member.now }
 {
     match invocation {
-        Invocation::Static => is_builtin_method(member),
+        Invocation::Static => serves_call(member),
         Invocation::Virtual | Invocation::Special | Invocation::Interface(_) => false,
     }
 }

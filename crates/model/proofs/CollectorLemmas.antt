@@ -1,6 +1,7 @@
 pub mod Bounds
 pub mod Calls
 pub mod Cells
+pub mod Choosing
 pub mod Collecting
 pub mod Fading
 pub mod FadingTurns
@@ -21,6 +22,7 @@ pub mod Recording
 pub mod Running
 pub mod Scanning
 pub mod Shading
+pub mod Showing
 pub mod Spares
 pub mod Stepping
 pub mod Sweeping
@@ -28,5 +30,7 @@ pub mod Table
 pub mod Taking
 pub mod Tracing
 pub mod Turning
+pub mod Unwinding
+pub mod Words
 pub mod WorkedRows
 pub mod WorkedRuns

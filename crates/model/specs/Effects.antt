@@ -1,12 +1,20 @@
-use Rattle.std.specs.Prelude.{ℕ, List, [], Result, Ok, Err, Option, Some, None}
-use Rattle.model.specs.declared.turns.Fault.{Fault}
-use Rattle.model.specs.declared.turns.Fault.TheVariants.{NoInstruction}
+use Rattle.std.specs.Prelude.{ℕ, List, [], ◌∷◌, ◌++◌, Result, Ok, Err, Option, Some, None}
+use Rattle.model.specs.declared.values.Value.TheVariants.{Ref}
+use Rattle.model.specs.declared.turns.Fault.TheVariants.{NoInstruction, StackFull}
 use Rattle.model.specs.declared.turns.Exception.{Exception}
 use Rattle.model.specs.declared.turns.Abrupt.{Abrupt}
-use Rattle.model.specs.declared.turns.Abrupt.TheVariants.{Fault as Faulted, Throw}
-use Rattle.model.specs.Frames.{Frame, Moved, with_running}
-use Rattle.model.specs.Worlds.{World, Thread, with_thread, with_fault}
+use Rattle.model.specs.ClassListings.{ClassListing}
+use Rattle.model.specs.Classes.Exceptions.{exception_class}
+use Rattle.model.specs.Frames.{Frame, Moved, running, with_running, replaced_if_room}
+use Rattle.model.specs.Worlds.{World, Contents, frames_at, next_birth, with_thread, with_output, plain_object}
 use Rattle.model.specs.Worlds.Thread.{Live}
+use Rattle.model.specs.Objects.{made_of, with_new}
+use Rattle.model.specs.Results.{Effect, faulted}
+use Rattle.model.specs.Completions.{Completion}
+use Rattle.model.specs.Completions.Completion.{Goes, Prints, Creates, Throws, Raises, Faults, Waits}
+use Rattle.model.specs.Unwinding.{thrown}
+
+-- What a completion does, once it is chosen whether a cell that it asks for is free.
 
 -- whether a turn asked for a cell, and whether one had room; a choice that isn't asked for counts for nothing
 pub data Choice : Type 0 where
@@ -14,24 +22,34 @@ pub data Choice : Type 0 where
   NewObject : Choice
   NoRoom : Choice
 
--- what a thread's turn comes to: the world after it, and the births that it wrote, in the order of writing
-pub record Effect : Type 0 where
-  pub after : World
-  pub writes : List ℕ
+-- the new object is there, and its reference on the stack; F2 where it has no room
+abbrev pub created_with : World → ℕ → Contents → Result Moved Abrupt → Effect
+created_with w t contents (Ok m) = record {
+  after = with_thread (with_new w (made_of contents)) t (Live (with_running (frames_at w t) m.frame));
+  writes = m.writes;
+}
+created_with w t contents (Err abrupt) = faulted w t StackFull
 
--- a fault changes nothing but the recorded fault
-abbrev pub faulted : World → ℕ → Fault → Effect
-faulted w t fault = record { after = with_fault w t fault; writes = [] }
+abbrev pub created_on : World → ℕ → ℕ → ℕ → Contents → Option Frame → Effect
+created_on w t next taken contents None = faulted w t NoInstruction
+created_on w t next taken contents (Some f) = created_with w t contents (replaced_if_room next f taken (Ref (Some (next_birth w)) ∷ []))
 
--- no exception is thrown yet: a listing that holds an instruction which throws isn't accepted
-abbrev pub thrown : World → ℕ → Exception → Effect
-thrown w t exception = faulted w t NoInstruction
+abbrev pub created : List ClassListing → World → ℕ → ℕ → ℕ → Contents → Choice → Effect
+created program w t next taken contents NotAsked = created_on w t next taken contents (running (frames_at w t))
+created program w t next taken contents NewObject = created_on w t next taken contents (running (frames_at w t))
+created program w t next taken contents NoRoom = thrown program w w t 1
 
-abbrev pub completed_abruptly : World → ℕ → Abrupt → Effect
-completed_abruptly w t (Faulted fault) = faulted w t fault
-completed_abruptly w t (Throw exception) = thrown w t exception
+-- a new exception is thrown, or the OutOfMemoryError that was made before the run
+abbrev pub raised : List ClassListing → World → ℕ → Exception → Choice → Effect
+raised program w t exception NotAsked = thrown program w (with_new w (plain_object (exception_class exception))) t (next_birth w)
+raised program w t exception NewObject = thrown program w (with_new w (plain_object (exception_class exception))) t (next_birth w)
+raised program w t exception NoRoom = thrown program w w t 1
 
--- an instruction that changes the running frame alone
-abbrev pub stepped : World → ℕ → List Frame → Result Moved Abrupt → Effect
-stepped w t frames (Ok moved) = record { after = with_thread w t (Live (with_running frames moved.frame)); writes = moved.writes }
-stepped w t frames (Err abrupt) = completed_abruptly w t abrupt
+abbrev pub effect_of : List ClassListing → World → ℕ → Choice → Completion → Effect
+effect_of program w t choice (Goes after writes) = record { after = after; writes = writes }
+effect_of program w t choice (Prints after bytes) = record { after = with_output after (after.output ++ bytes); writes = [] }
+effect_of program w t choice (Creates next taken contents) = created program w t next taken contents choice
+effect_of program w t choice (Throws birth) = thrown program w w t birth
+effect_of program w t choice (Raises exception) = raised program w t exception choice
+effect_of program w t choice (Faults fault) = faulted w t fault
+effect_of program w t choice Waits = record { after = w; writes = [] }

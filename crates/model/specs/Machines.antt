@@ -12,11 +12,11 @@ use Rattle.model.specs.declared.turns.Turn.TheVariants.{Done as TurnDone, Fault 
 use Rattle.model.specs.ClassListings.{ClassListing}
 use Rattle.model.specs.Journals.{JournalValue, blank, with_row as journal_with_row}
 use Rattle.model.specs.Worlds.{World, opening_world, next_birth}
-use Rattle.model.specs.Effects.{Effect}
 use Rattle.model.specs.Effects.Choice.{NotAsked, NewObject}
 use Rattle.model.specs.Table.Next.{next, asked}
 use Rattle.model.specs.Turns.{refusal, choice_of, ideal_step}
 use Rattle.model.specs.Accounts.{Account, opening_account, has_room, after_turn}
+use Rattle.model.specs.Collector.Table.{collected}
 
 -- a world as contracts see it: a program and a journal, from which all else follows
 pub record Recorded : Type 0 where
@@ -30,31 +30,31 @@ pub record Machine : Type 0 where
 
 -- ---- from the journal to the machine
 
-abbrev pub account_step : List ClassListing → Machine → Actor → Outcome → Account
-account_step program m (Thread t) outcome =
+abbrev pub account_step : List ClassListing → HeapShape → Machine → Actor → Outcome → Account
+account_step program shape m (Thread t) outcome =
     after_turn m.account outcome (next_birth m.world) (asked program m.world t) (next program m.world t (choice_of outcome)).writes
-account_step program m Collector outcome = m.account
+account_step program shape m Collector outcome = collected shape m.world m.account
 
-abbrev pub account_unless_refused : List ClassListing → Machine → Actor → Outcome → Option Turn → Account
-account_unless_refused program m actor outcome (Some refused) = m.account
-account_unless_refused program m actor outcome None = account_step program m actor outcome
+abbrev pub account_unless_refused : List ClassListing → HeapShape → Machine → Actor → Outcome → Option Turn → Account
+account_unless_refused program shape m actor outcome (Some refused) = m.account
+account_unless_refused program shape m actor outcome None = account_step program shape m actor outcome
 
 -- the ideal run's step and the account's, side by side
-abbrev pub advance : List ClassListing → Limits → Machine → Row → Machine
-advance program limits m row = record {
+abbrev pub advance : List ClassListing → HeapShape → Limits → Machine → Row → Machine
+advance program shape limits m row = record {
   world = ideal_step program limits m.world row.actor (choice_of row.outcome);
-  account = account_unless_refused program m row.actor row.outcome (refusal program limits m.world row.actor);
+  account = account_unless_refused program shape m row.actor row.outcome (refusal program limits m.world row.actor);
 }
 
 abbrev pub opening_machine : List ClassListing → HeapShape → Machine
 opening_machine program shape = record { world = opening_world program; account = opening_account shape }
 
-abbrev pub advance_all : List ClassListing → Limits → Machine → List Row → Machine
-advance_all program limits m [] = m
-advance_all program limits m (row ∷ rows) = advance_all program limits (advance program limits m row) rows
+abbrev pub advance_all : List ClassListing → HeapShape → Limits → Machine → List Row → Machine
+advance_all program shape limits m [] = m
+advance_all program shape limits m (row ∷ rows) = advance_all program shape limits (advance program shape limits m row) rows
 
 unfoldable pub machine_of : Recorded → Machine
-machine_of v = advance_all v.program v.journal.limits (opening_machine v.program v.journal.shape) v.journal.rows
+machine_of v = advance_all v.program v.journal.shape v.journal.limits (opening_machine v.program v.journal.shape) v.journal.rows
 
 -- ---- from the machine to the next row
 
@@ -79,13 +79,16 @@ abbrev pub outcome_of : List ClassListing → Machine → Actor → Outcome
 outcome_of program m (Thread t) = outcome_if program m t (asked program m.world t)
 outcome_of program m Collector = Done
 
-abbrev pub row_unless_refused : Recorded → Machine → Actor → ℕ → Option Turn → Option Row
-row_unless_refused v m actor worker (Some refused) = None
-row_unless_refused v m actor worker None = Some (record { actor = actor; outcome = outcome_of v.program m actor; worker = worker })
+abbrev pub row_unless_refused : List ClassListing → Machine → Actor → ℕ → Option Turn → Option Row
+row_unless_refused program m actor worker (Some refused) = None
+row_unless_refused program m actor worker None = Some (record { actor = actor; outcome = outcome_of program m actor; worker = worker })
 
 -- the row that an actor's turn makes, if it makes one
+abbrev pub row_by : List ClassListing → Limits → Machine → Actor → ℕ → Option Row
+row_by program limits m actor worker = row_unless_refused program m actor worker (refusal program limits m.world actor)
+
 abbrev pub row_for : Recorded → Actor → ℕ → Option Row
-row_for v actor worker = row_unless_refused v (machine_of v) actor worker (refusal v.program v.journal.limits (machine_of v).world actor)
+row_for v actor worker = row_by v.program v.journal.limits (machine_of v) actor worker
 
 abbrev pub noted : Recorded → Row → Recorded
 noted v row = record v { journal = journal_with_row v.journal row }
@@ -125,11 +128,11 @@ opened program shape limits = record { program = program; journal = blank shape 
 
 -- ---- laws
 
-pub advance_all-push : (program : List ClassListing) (limits : Limits) (m : Machine) (rows : List Row) (row : Row) → advance_all program limits m (rows ++ row ∷ []) ≡ advance program limits (advance_all program limits m rows) row
-advance_all-push program limits m [] row = refl
-advance_all-push program limits m (r ∷ rows) row = advance_all-push program limits (advance program limits m r) rows row
+pub advance_all-push : (program : List ClassListing) (shape : HeapShape) (limits : Limits) (m : Machine) (rows : List Row) (row : Row) → advance_all program shape limits m (rows ++ row ∷ []) ≡ advance program shape limits (advance_all program shape limits m rows) row
+advance_all-push program shape limits m [] row = refl
+advance_all-push program shape limits m (r ∷ rows) row = advance_all-push program shape limits (advance program shape limits m r) rows row
 
 -- one row more is one step more
-pub machine_of-noted : (v : Recorded) (row : Row) → machine_of (noted v row) ≡ advance v.program v.journal.limits (machine_of v) row
+pub machine_of-noted : (v : Recorded) (row : Row) → machine_of (noted v row) ≡ advance v.program v.journal.shape v.journal.limits (machine_of v) row
 unfolding machine_of
-machine_of-noted v row = advance_all-push v.program v.journal.limits (opening_machine v.program v.journal.shape) v.journal.rows row
+machine_of-noted v row = advance_all-push v.program v.journal.shape v.journal.limits (opening_machine v.program v.journal.shape) v.journal.rows row

@@ -1,16 +1,15 @@
-use Rattle.std.specs.Prelude.{ℕ, List, [], ◌∷◌, slice_get, Option, Some, None, is_some, Bool, true, false, ◌&&◌, ◌==◌, codes, cond, position, bit_and}
+use Rattle.std.specs.Prelude.{ℕ, List, [], ◌∷◌, slice_get, Option, Some, None, is_some, Bool, ◌&&◌, ◌==◌, codes, cond, position, bit_and}
 use Rattle.std.specs.Option.{option_map, option_and_then}
 use Rattle.std.specs.Str.{bytes_eq}
 use Rattle.std.specs.List.{find}
 use Rattle.model.specs.declared.listings.Method.{Method}
-use Rattle.model.specs.declared.listings.Code.{Code}
 use Rattle.model.specs.declared.listings.Placed.{Placed}
-use Rattle.model.specs.declared.flags.MethodFlags.{MethodFlags}
 use Rattle.model.specs.declared.names.Member.{Member}
 use Rattle.model.specs.declared.builtins.Builtin.{Builtin}
-use Rattle.model.specs.declared.builtins.Builtin.TheVariants.{PrintInt}
+use Rattle.model.specs.declared.builtins.Builtin.TheVariants.{PrintInt, PrintLong, PutByte, Initialize, RunThread, StartThread, JoinThread}
 use Rattle.model.specs.CodeListings.{CodeListing}
 use Rattle.model.specs.ClassListings.{ClassListing}
+use Rattle.model.specs.Classes.Named.{builtin}
 use Rattle.model.specs.declared.places.MethodPlace.{MethodPlace}
 use Rattle.model.specs.Frames.{Frame}
 
@@ -46,10 +45,21 @@ abbrev pub main_in : List ClassListing → Option MethodPlace
 main_in [] = None
 main_in (c ∷ cs) = option_map (λ (n : ℕ). record { class = 0; method = n }) (position is_main c.methods)
 
--- ---- the machine's own methods
+-- ---- the machine's own methods, by the class that declares them, name and descriptor
 
 abbrev pub is_member : Member → List ℕ → List ℕ → List ℕ → Bool
 is_member m class name descriptor = bytes_eq m.class class && bytes_eq m.name name && bytes_eq m.descriptor descriptor
 
+-- all of them have an initializer but `vm/Sys`, which declares none
+abbrev pub is_own_initializer : Member → Bool
+is_own_initializer m = is_some (builtin m.class) && bytes_eq m.name (codes "<init>") && bytes_eq m.descriptor (codes "()V")
+
 abbrev pub builtin_of : Member → Option Builtin
-builtin_of m = cond (is_member m (codes "vm/Sys") (codes "print") (codes "(I)V")) (Some PrintInt) None
+builtin_of m =
+    cond (is_member m (codes "vm/Sys") (codes "print") (codes "(I)V")) (Some PrintInt)
+    (cond (is_member m (codes "vm/Sys") (codes "printl") (codes "(J)V")) (Some PrintLong)
+    (cond (is_member m (codes "vm/Sys") (codes "putc") (codes "(I)V")) (Some PutByte)
+    (cond (is_member m (codes "java/lang/Thread") (codes "run") (codes "()V")) (Some RunThread)
+    (cond (is_member m (codes "java/lang/Thread") (codes "start") (codes "()V")) (Some StartThread)
+    (cond (is_member m (codes "java/lang/Thread") (codes "join") (codes "()V")) (Some JoinThread)
+    (cond (is_own_initializer m) (Some Initialize) None))))))

@@ -1,11 +1,13 @@
-use Rattle.std.specs.Prelude.{ℕ, ◌+◌, List, [], ◌∷◌, Bool, true, false, ◌&&◌, not, Option, Some, None, is_none}
+use Rattle.std.specs.Prelude.{ℕ, ◌+◌, List, [], ◌∷◌, Bool, ◌&&◌, not, is_none}
 use Rattle.std.specs.List.{list_any}
 use Rattle.model.specs.ClassListings.{ClassListing}
 use Rattle.model.specs.Worlds.{World, Thread, is_live}
+use Rattle.model.specs.Completions.{waits}
+use Rattle.model.specs.Table.Next.{completion}
 
--- a thread is ready where it was started and lives, and no fault is recorded (no instruction of the table waits yet)
+-- a thread is ready where it was started and lives, no fault is recorded, and its instruction does not wait
 abbrev pub is_ready : List ClassListing → World → ℕ → Bool
-is_ready program w t = is_none w.fault && is_live w t
+is_ready program w t = is_none w.fault && is_live w t && not (waits (completion program w t))
 
 abbrev pub numbers_from : ℕ → List Thread → List ℕ
 numbers_from n [] = []

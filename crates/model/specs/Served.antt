@@ -1,7 +1,9 @@
-use Rattle.std.specs.Prelude.{ℕ, ℤ, List, [], ◌∷◌, Bool, true, false, ◌&&◌, not, is_some, Option, Some, None}
+use Rattle.std.specs.Prelude.{◌≡◌, codes, ℕ, ℤ, List, [], ◌∷◌, Bool, true, false, ◌&&◌, not, Option, Some, None}
 use Rattle.std.specs.List.{list_all}
 use Rattle.model.specs.declared.names.Member.{Member}
 use Rattle.model.specs.declared.values.Kind.{Kind}
+use Rattle.model.specs.declared.builtins.Builtin.{Builtin}
+use Rattle.model.specs.declared.builtins.Builtin.TheVariants.{PrintInt, PrintLong, PutByte, Initialize, RunThread, StartThread, JoinThread}
 use Rattle.model.specs.declared.listings.Field.{Field as FieldListing}
 use Rattle.model.specs.declared.listings.Method.{Method}
 use Rattle.model.specs.declared.listings.Placed.{Placed}
@@ -20,6 +22,7 @@ use Rattle.model.specs.declared.instructions.Instruction.TheVariants.{Nop, Const
 use Rattle.model.specs.CodeListings.{CodeListing}
 use Rattle.model.specs.ClassListings.{ClassListing}
 use Rattle.model.specs.Classes.Flags.{is_static_field}
+use Rattle.model.specs.Classes.Named.{listed}
 use Rattle.model.specs.Programs.{builtin_of}
 use Rattle.model.specs.Table.Next.{Listed}
 
@@ -65,11 +68,25 @@ abbrev pub serves_return : Option Kind → Bool
 serves_return None = true
 serves_return (Some kind) = false
 
--- the machine's own static methods
+-- the print of an int
+abbrev pub serves_builtin : Builtin → Bool
+serves_builtin PrintInt = true
+serves_builtin PrintLong = false
+serves_builtin PutByte = false
+serves_builtin Initialize = false
+serves_builtin RunThread = false
+serves_builtin StartThread = false
+serves_builtin JoinThread = false
+
+abbrev pub serves_call : Option Builtin → Bool
+serves_call None = false
+serves_call (Some builtin) = serves_builtin builtin
+
+-- calls of the machine's own static methods
 abbrev pub serves_invocation : Invocation → Member → Bool
 serves_invocation Virtual member = false
 serves_invocation Special member = false
-serves_invocation Static member = is_some (builtin_of member)
+serves_invocation Static member = serves_call (builtin_of member)
 serves_invocation (Interface count) member = false
 
 abbrev pub is_served : Listed → Bool
@@ -109,3 +126,8 @@ serves_fields fields = list_all (λ (f : FieldListing). not (is_static_field f))
 -- the machine carries out all code of the class, and the class has no static field
 unfoldable pub serves : ClassListing → Bool
 serves c = serves_fields c.fields && serves_methods c.methods
+
+-- the machine can run the program: it carries out all code, and no class of the program has the name of its own that prints
+pub record ServedProgram (program : List ClassListing) : Type 0 where
+  pub code : list_all serves program ≡ true
+  pub unhidden : listed program (codes "vm/Sys") ≡ None

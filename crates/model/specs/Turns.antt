@@ -1,61 +1,24 @@
-use Rattle.std.specs.Prelude.{ℕ, ◌+◌, List, [], ◌∷◌, length, nat_lt, nat_le, Bool, true, false, Option, Some, None, if◌then◌else◌}
-use Rattle.std.specs.Option.{option_and_then}
-use Rattle.model.specs.declared.names.Member.{Member}
-use Rattle.model.specs.declared.builtins.Builtin.{Builtin}
+use Rattle.std.specs.Prelude.{ℕ, ◌+◌, List, [], length, nat_lt, nat_le, Bool, false, Option, Some, None, if◌then◌else◌}
 use Rattle.model.specs.declared.journals.Limits.{Limits}
 use Rattle.model.specs.declared.journals.Outcome.{Outcome}
 use Rattle.model.specs.declared.journals.Outcome.TheVariants.{Done as WasDone, Object as GotObject, NoRoom as FoundNoRoom, Fault as WasFault}
-use Rattle.model.specs.declared.listings.Placed.{Placed}
-use Rattle.model.specs.declared.instructions.Instruction.TheVariants.{Nop, Constant, Local, Stack, Number, Branch, TableSwitch, LookupSwitch, Return, Static as StaticField, Field, Array, Class, Invoke, Throw, Monitor}
-use Rattle.model.specs.declared.instructions.Invocation.{Invocation}
-use Rattle.model.specs.declared.instructions.Invocation.TheVariants.{Virtual, Special, Static, Interface}
 use Rattle.model.specs.declared.turns.Actor.{Actor}
 use Rattle.model.specs.declared.turns.Actor.TheVariants.{Thread, Collector}
 use Rattle.model.specs.declared.turns.Fault.{Fault}
 use Rattle.model.specs.declared.turns.Turn.{Turn}
 use Rattle.model.specs.declared.turns.Turn.TheVariants.{NotReady, Stopped, OutputFull, StepLimit}
 use Rattle.model.specs.ClassListings.{ClassListing}
-use Rattle.model.specs.Frames.{Frame, running}
-use Rattle.model.specs.Programs.{instruction_of, builtin_of}
-use Rattle.model.specs.Printing.{printed}
-use Rattle.model.specs.Worlds.{World, frames_at, counted}
+use Rattle.model.specs.Worlds.{World, counted}
 use Rattle.model.specs.Effects.{Choice}
 use Rattle.model.specs.Effects.Choice.{NotAsked, NewObject, NoRoom}
-use Rattle.model.specs.Table.Next.{Listed, next}
+use Rattle.model.specs.Completions.{prints}
+use Rattle.model.specs.Table.Next.{completion, next}
 use Rattle.model.specs.Ready.{is_ready}
 
 -- ---- what a thread's turn would print
 
-abbrev pub printed_by_call : Frame → Invocation → Option Builtin → Option (List ℕ)
-printed_by_call f Static (Some builtin) = printed builtin f.stack
-printed_by_call f Static None = None
-printed_by_call f Virtual builtin = None
-printed_by_call f Special builtin = None
-printed_by_call f (Interface count) builtin = None
-
-abbrev pub printed_by : Frame → Listed → Option (List ℕ)
-printed_by f (Invoke invocation member) = printed_by_call f invocation (builtin_of member)
-printed_by f Nop = None
-printed_by f (Constant c) = None
-printed_by f (Number operation) = None
-printed_by f (Return kind) = None
-printed_by f (Local access) = None
-printed_by f (Stack operation) = None
-printed_by f (Branch test target) = None
-printed_by f (TableSwitch table) = None
-printed_by f (LookupSwitch lookup) = None
-printed_by f (StaticField access member) = None
-printed_by f (Field access member) = None
-printed_by f (Array operation) = None
-printed_by f (Class operation name) = None
-printed_by f Throw = None
-printed_by f (Monitor operation) = None
-
-abbrev pub printed_in : List ClassListing → Frame → Option (List ℕ)
-printed_in program f = option_and_then (λ (i : Placed). printed_by f i.instruction) (instruction_of program f)
-
 abbrev pub print_of : List ClassListing → World → ℕ → Option (List ℕ)
-print_of program w t = option_and_then (printed_in program) (running (frames_at w t))
+print_of program w t = prints (completion program w t)
 
 abbrev pub passes : ℕ → List ℕ → Option (List ℕ) → Bool
 passes limit output None = false
@@ -73,10 +36,10 @@ thread_refusal program limits w t =
     then (if overflows program limits w t then Some OutputFull else None)
     else Some NotReady
 
--- the collector has no turn yet
+-- the collector is always ready
 abbrev pub actor_refusal : List ClassListing → Limits → World → Actor → Option Turn
 actor_refusal program limits w (Thread t) = thread_refusal program limits w t
-actor_refusal program limits w Collector = Some NotReady
+actor_refusal program limits w Collector = None
 
 abbrev pub refusal_after : List ClassListing → Limits → World → Actor → Option (Fault × ℕ) → Option Turn
 refusal_after program limits w actor (Some fault) = Some Stopped

@@ -1,5 +1,10 @@
-use Rattle.std.specs.Prelude.{ℕ, ◌+◌, List, [], ◌∷◌, length, slice_get, slice_set, Option, Some, None, Bool, true, false, cond, codes}
+use Rattle.std.specs.Prelude.{ℕ, ◌+◌, List, [], ◌∷◌, length, map, filter, slice_get, slice_set, Option, Some, None, Bool, true, false, codes}
+use Rattle.std.specs.List.{flat_map}
+use Rattle.model.specs.declared.listings.Constant.{Constant}
+use Rattle.model.specs.declared.listings.Constant.TheVariants.{Int as IntConstant, Long as LongConstant}
+use Rattle.model.specs.declared.listings.Field.{Field}
 use Rattle.model.specs.declared.values.Value.{Value}
+use Rattle.model.specs.declared.values.Value.TheVariants.{Int, Long}
 use Rattle.model.specs.declared.turns.Fault.{Fault}
 use Rattle.model.specs.declared.turns.ClassState.{ClassState}
 use Rattle.model.specs.declared.turns.ClassState.TheVariants.{Done as Initialised}
@@ -8,6 +13,8 @@ use Rattle.model.specs.ClassListings.{ClassListing}
 use Rattle.model.specs.declared.places.MethodPlace.{MethodPlace}
 use Rattle.model.specs.Frames.{Frame, opening_frame}
 use Rattle.model.specs.Programs.{main_in, code_at}
+use Rattle.model.specs.Classes.Flags.{is_static_field}
+use Rattle.model.specs.Stores.{Storage, default_in, kept, storage_of}
 
 -- The ideal world (JVMS 2.5, 2.6): what threads, statics, output and objects are on a heap where nothing is ever freed.
 
@@ -112,11 +119,32 @@ abbrev pub states_of : List ClassListing → List ClassState
 states_of [] = []
 states_of (c ∷ cs) = Initialised ∷ states_of cs
 
+-- what a static field holds at first (JVMS 4.7.2, 5.5): its constant, as a store keeps it, or else null or 0
+abbrev pub opening_value : Storage → Option Constant → Value
+opening_value storage None = default_in storage
+opening_value storage (Some (IntConstant z)) = kept storage (Int z)
+opening_value storage (Some (LongConstant z)) = kept storage (Long z)
+
+abbrev pub opening_slot : List ℕ → Field → FieldValue
+opening_slot class f = record {
+  class = class;
+  name = f.name;
+  descriptor = f.descriptor;
+  value = opening_value (storage_of f.descriptor) f.constant;
+}
+
+abbrev pub opening_slots_of : ClassListing → List FieldValue
+opening_slots_of c = map (opening_slot c.name) (filter is_static_field c.fields)
+
+-- the static fields, in class and field order
+abbrev pub opening_slots : List ClassListing → List FieldValue
+opening_slots program = flat_map opening_slots_of program
+
 -- thread 0 stands at the start of main
 abbrev pub opening_world : List ClassListing → World
 opening_world program = record {
   threads = Live (opening_frames program (main_in program)) ∷ [];
-  statics = record { fields = []; states = states_of program };
+  statics = record { fields = opening_slots program; states = states_of program };
   output = [];
   objects = opening_objects;
   fault = None;

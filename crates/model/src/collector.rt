@@ -10,11 +10,14 @@ ghost use Rattle.model.specs.Collector.Changes.{Change, Allowed, RoomFor, change
 ghost use Rattle.model.specs.Collector.Paths.{KeepsReachable, ThreeColour};
 ghost use Rattle.model.specs.Collector.Reclaim.{AlwaysReclaims};
 ghost use Rattle.model.specs.Collector.Runs.{Always, Holds};
+ghost use Rattle.model.specs.Shows.{Shows};
+ghost use Rattle.model.specs.Heaps.{heap_of};
 
 /// Whatever threads and collector do, in whatever order: the invariant of three colours holds, with paths and without; a
 /// reachable birth has one cell, and the collector gives back no cell whose birth a path reaches (Dijkstra et al.,
-/// CACM 21(11), 1978); a birth that no path reaches outside Append has no cell once two cycles have ended. The first two
-/// clauses say of a single step that it keeps the invariant.
+/// CACM 21(11), 1978); a birth that no path reaches outside Append has no cell once two cycles have ended; and with each
+/// object in its birth's cell, the cells show the threads, the static fields, the output and the reachable objects of the
+/// ideal world, where nothing is ever freed. The first two clauses say of a single step that it keeps the invariant.
 pub fn no_reachable_object_is_lost()
     ensures collector { (shape : HeapShape) (w : World) (n : ℕ) (a : Account) → Invariant shape w n a → Invariant shape w n (collected shape w a) }
     ensures thread { (shape : HeapShape) (w : World) (a : Account) (c : Change) → RoomFor c.object a → Allowed w c → Invariant shape w (next_birth w) a → Invariant shape c.after (next_birth c.after) (changed w a c) }
@@ -22,4 +25,5 @@ pub fn no_reachable_object_is_lost()
     ensures kept { Always (λ shape m. KeepsReachable shape m.world m.account) }
     ensures coloured { Always (λ shape m. ThreeColour m.world m.account) }
     ensures reclaimed { AlwaysReclaims }
+    ensures shown { Always (λ shape m. Shows (heap_of m.account m.world) m.world) }
 {}

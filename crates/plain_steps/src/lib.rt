@@ -11,7 +11,7 @@
 //! | `plain_step(frames, step)` | the same with `plain_move step.next step.action f`, where that is `Some` |
 //!
 //! `proofs/TableLemmas.antt` says what such an equation comes to in the instruction table: `by_family-plain`, then
-//! `stepped-done` or `stepped-abrupt`.
+//! `completes-done` or `completes-abrupt`.
 #![tactic(auto)]
 
 mod constants;

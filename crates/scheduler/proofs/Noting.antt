@@ -4,23 +4,24 @@ use Rattle.std.specs.Prelude.{if◌then◌else◌}
 use Rattle.model.specs.declared.journals.HeapShape.{HeapShape}
 use Rattle.model.specs.declared.journals.Limits.{Limits}
 use Rattle.model.specs.declared.journals.Outcome.{Outcome}
+use Rattle.model.specs.declared.journals.Outcome.TheVariants.{Done}
 use Rattle.model.specs.declared.journals.Row.{Row}
 use Rattle.model.specs.declared.turns.Actor.TheVariants.{Thread, Collector}
 use Rattle.model.specs.declared.turns.Fault.{Fault}
 use Rattle.model.specs.declared.turns.Turn.{Turn}
 use Rattle.model.specs.declared.turns.Turn.TheVariants.{NotReady, StepLimit}
 use Rattle.model.specs.ClassListings.{ClassListing}
-use Rattle.model.specs.Effects.{Effect}
+use Rattle.model.specs.Results.{Effect}
 use Rattle.model.specs.Effects.Choice.{NotAsked}
 use Rattle.model.specs.Journals.{JournalValue, blank, with_row}
 use Rattle.model.specs.Worlds.{World, counted}
-use Rattle.model.specs.Table.Next.{next}
+use Rattle.model.specs.Table.Next.{asked, next}
 use Rattle.model.specs.Turns.{refusal, refusal_after, choice_of, ideal_step, unless_refused}
 use Rattle.model.specs.Machines.{Recorded, Machine, machine_of, machine_of-noted, noted, advance, told_of}
 use Rattle.model.specs.Observers.{ideal, after_actor, after_last}
 use Rattle.model.proofs.NextKeeps.{next-rows, next-choice}
-use Rattle.instructions.specs.Loaded.{Loaded, after_step, fresh}
-use Rattle.instructions.proofs.Refusing.{allowed}
+use Rattle.instructions.specs.Loaded.{Loaded, after_step, after_collection, fresh}
+use Rattle.instructions.proofs.Refusing.{allowed, collector_counted, collector_faultless}
 use Rattle.scheduler.specs.Worlds.{recorded, IsOf}
 
 after_last-push : (n : ℕ) (rows : List Row) (row : Row) → after_last n (rows ++ row ∷ []) ≡ after_actor (after_last n rows) row.actor
@@ -35,6 +36,9 @@ module _ (s : Loaded) (j : JournalValue) (k : ℕ) (is : IsOf s j k) (t : ℕ) w
   on_state : Unrefused → refusal s.program s.limits s.world (Thread t) ≡ None
   on_state e = ap (λ (l : Limits). refusal s.program l s.world (Thread t)) is.limits_are ∙ ap (λ (w : World). refusal s.program j.limits w (Thread t)) is.world_is ∙ e
 
+  asked_none : asked s.program s.world t ≡ None → asked s.program (ideal (recorded s j)) t ≡ None
+  asked_none none = ap (λ (w : World). asked s.program w t) (sym is.world_is) ∙ none
+
   -- so there is room for a row
   pub row_fits : Unrefused → length j.rows < j.limits.steps
   row_fits e =
@@ -43,21 +47,21 @@ module _ (s : Loaded) (j : JournalValue) (k : ℕ) (is : IsOf s j k) (t : ℕ) w
       let steps = ap (λ (l : Limits). l.steps) is.limits_are in
       omega (arith, h, rows, steps)
 
-  step_world : (o : Outcome) → Unrefused → ideal_step s.program j.limits (ideal (recorded s j)) (Thread t) (choice_of o) ≡ counted (next s.program s.world t NotAsked).after
-  step_world o e =
+  step_world : (o : Outcome) → Unrefused → asked s.program s.world t ≡ None → ideal_step s.program j.limits (ideal (recorded s j)) (Thread t) (choice_of o) ≡ counted (next s.program s.world t NotAsked).after
+  step_world o e none =
       ap (unless_refused s.program (ideal (recorded s j)) (Thread t) (choice_of o)) e
-      ∙ ap (λ (effect : Effect). counted effect.after) (next-choice s.program (ideal (recorded s j)) t (choice_of o) NotAsked)
+      ∙ ap (λ (effect : Effect). counted effect.after) (next-choice s.program (ideal (recorded s j)) t (choice_of o) NotAsked (asked_none none))
       ∙ ap (λ (w : World). counted (next s.program w t NotAsked).after) (sym is.world_is)
 
   -- after the turn and its row the state is again what the journal stands for
-  pub noted_is : (worker : ℕ) (o : Outcome) → Unrefused → IsOf (after_step s t) (with_row j (record { actor = Thread t; outcome = o; worker = worker })) (t + 1)
-  noted_is worker o e =
+  pub noted_is : (worker : ℕ) (o : Outcome) → Unrefused → asked s.program s.world t ≡ None → IsOf (after_step s t) (with_row j (record { actor = Thread t; outcome = o; worker = worker })) (t + 1)
+  noted_is worker o e none =
       let row : Row = record { actor = Thread t; outcome = o; worker = worker } in
       record {
         limits_are = is.limits_are;
         rows_are =
             ap (λ (n : ℕ). n + 1) (next-rows s.program s.world t NotAsked ∙ is.rows_are) ∙ sym (length-append j.rows (row ∷ []));
-        world_is = sym (ap (λ (m : Machine). m.world) (machine_of-noted (recorded s j) row) ∙ step_world o e);
+        world_is = sym (ap (λ (m : Machine). m.world) (machine_of-noted (recorded s j) row) ∙ step_world o e none);
         next_is = sym (after_last-push 0 j.rows row);
       }
 
@@ -65,18 +69,37 @@ module _ (s : Loaded) (j : JournalValue) (k : ℕ) (is : IsOf s j k) (t : ℕ) w
 pub answer_is : (s : Loaded) (j : JournalValue) (k : ℕ) → IsOf s j k → told_of s.world.fault ≡ told_of (ideal (recorded s j)).fault
 answer_is s j k is = ap (λ (w : World). told_of w.fault) is.world_is
 
--- a collector's turn is always refused
-full_or_not_ready : (b : Bool) → (if b then Some StepLimit else Some NotReady) ≡ None → ⊥
-full_or_not_ready true e = cc
-full_or_not_ready false e = cc
+-- ---- a collector's turn
 
-refused_after : (program : List ClassListing) (limits : Limits) (w : World) (fault : Option (Fault × ℕ)) → refusal_after program limits w Collector fault ≡ None → ⊥
-refused_after program limits w (Some fault) e = cc
-refused_after program limits w None e = full_or_not_ready (nat_le limits.steps w.rows) e
+module _ (s : Loaded) (j : JournalValue) (k : ℕ) (is : IsOf s j k) where
+  abbrev pub MayCollect : Type 0
+  MayCollect = refusal s.program j.limits (ideal (recorded s j)) Collector ≡ None
 
-pub collector_refused : (program : List ClassListing) (limits : Limits) (w : World) → refusal program limits w Collector ≡ None → ⊥
-unfolding refusal
-collector_refused program limits w e = refused_after program limits w w.fault e
+  pub may_collect : MayCollect → refusal s.program s.limits s.world Collector ≡ None
+  may_collect e = ap (λ (l : Limits). refusal s.program l s.world Collector) is.limits_are ∙ ap (λ (w : World). refusal s.program j.limits w Collector) is.world_is ∙ e
+
+  pub collector_row_fits : MayCollect → length j.rows < j.limits.steps
+  collector_row_fits e =
+      let h = collector_counted s.program s.limits s.world (may_collect e) in
+      let rows = is.rows_are in
+      let steps = ap (λ (l : Limits). l.steps) is.limits_are in
+      omega (arith, h, rows, steps)
+
+  pub collected_is : (worker : ℕ) → MayCollect → IsOf (after_collection s) (with_row j (record { actor = Collector; outcome = Done; worker = worker })) k
+  collected_is worker e =
+      let row : Row = record { actor = Collector; outcome = Done; worker = worker } in
+      record {
+        limits_are = is.limits_are;
+        rows_are = ap (λ (n : ℕ). n + 1) is.rows_are ∙ sym (length-append j.rows (row ∷ []));
+        world_is = sym (
+            ap (λ (m : Machine). m.world) (machine_of-noted (recorded s j) row)
+            ∙ ap (unless_refused s.program (ideal (recorded s j)) Collector (choice_of Done)) e
+            ∙ ap (λ (w : World). counted w) (sym is.world_is));
+        next_is = is.next_is ∙ sym (after_last-push 0 j.rows row);
+      }
+
+  pub collected_faultless : MayCollect → s.world.fault ≡ None
+  collected_faultless e = collector_faultless s.program s.limits s.world (may_collect e)
 
 -- a new state is what a blank journal stands for
 pub opened_is : (program : List ClassListing) (shape : HeapShape) (limits : Limits) → IsOf (fresh program limits) (blank shape limits 1) 0

@@ -1,7 +1,7 @@
 //! Each call once, on small mains that are run as worlds. What they come to is worked out by hand from the JVMS (6.5).
-ghost use Rattle.std.specs.Prelude.{◌≤◌};
 
 use crate::worlds::{World, WorldError};
+use loader::accept;
 use loader::programs::Program;
 use model::flags::{ClassFlags, MethodFlags};
 use model::instructions::{
@@ -51,13 +51,7 @@ fn add(code: &mut Vec<Placed>, size: u16, instruction: Listed) -> Result<(), All
 }
 
 /// A program of one class, whose static `main()V` has this code, so much stack and no locals.
-fn program_of(
-    alloc: Global,
-    max_stack: u16,
-    instructions: Vec<Placed>,
-) -> Result<Program, AllocError>
-    requires { max_stack ≤ 4096 }
-{
+fn program_of(alloc: Global, max_stack: u16, instructions: Vec<Placed>) -> Result<Program, Fail> {
     let main = Method {
         flags: MethodFlags::STATIC,
         name: Name::copy_of(alloc, b"main")?,
@@ -81,11 +75,12 @@ fn program_of(
     };
     let mut listings = Vec::new(alloc);
     listings.push(class)?;
-    Program::new(alloc, listings)
+    accept(alloc, listings.as_slice())?;
+    Ok(Program::new(alloc, listings)?)
 }
 
 /// `ldc 2147483647`, `iconst_1`, `iadd`, `invokestatic vm/Sys/print(I)V`, `return`
-fn wrapping_sum(alloc: Global) -> Result<Program, AllocError> {
+fn wrapping_sum(alloc: Global) -> Result<Program, Fail> {
     let print = Member {
         class: Name::copy_of(alloc, b"vm/Sys")?,
         name: Name::copy_of(alloc, b"print")?,
@@ -109,7 +104,7 @@ fn wrapping_sum(alloc: Global) -> Result<Program, AllocError> {
 }
 
 /// `iconst_1`, `iadd`: an operand is missing.
-fn missing_operand(alloc: Global) -> Result<Program, AllocError> {
+fn missing_operand(alloc: Global) -> Result<Program, Fail> {
     let mut code = Vec::new(alloc);
     add(
         &mut code,
@@ -121,14 +116,14 @@ fn missing_operand(alloc: Global) -> Result<Program, AllocError> {
 }
 
 /// `nop`, and no return
-fn no_return(alloc: Global) -> Result<Program, AllocError> {
+fn no_return(alloc: Global) -> Result<Program, Fail> {
     let mut code = Vec::new(alloc);
     add(&mut code, 1, Instruction::Nop)?;
     program_of(alloc, 0, code)
 }
 
 /// `iconst_0`, for which the stack has no room, and `return`
-fn no_room(alloc: Global) -> Result<Program, AllocError> {
+fn no_room(alloc: Global) -> Result<Program, Fail> {
     let mut code = Vec::new(alloc);
     add(
         &mut code,
@@ -263,11 +258,30 @@ fn only_main_was_started(rt: HostRuntime) -> Result<(), Fail> {
     let mut world = world_of(rt.alloc(), wrapping_sum(rt.alloc())?, 65_536)?;
     assert_eq!(rt; world.turn(Actor::Thread(1)), Turn::NotReady);
     assert_eq!(rt; world.turn(Actor::Thread(255)), Turn::NotReady);
-    assert_eq!(rt; world.turn(Actor::Collector), Turn::NotReady);
     assert!(rt; world.thread(1)?.is_none());
     assert_eq!(rt; world.journal().rows().len(), 0);
     assert_eq!(rt; world.journal().shape(), TWO_CELLS);
     assert_eq!(rt; world.journal().workers(), 1);
+    Ok(())
+}
+
+/// The collector's turn is done and has its row; the thread that is picked is the one behind the last thread's row.
+#[test]
+fn the_collector_has_a_row(rt: HostRuntime) -> Result<(), Fail> {
+    let mut world = world_of(rt.alloc(), wrapping_sum(rt.alloc())?, 65_536)?;
+    let collected = Row {
+        actor: Actor::Collector,
+        outcome: Outcome::Done,
+        worker: 0,
+    };
+    assert_eq!(rt; world.turn(Actor::Collector), Turn::Done);
+    assert_eq!(rt; world.turn(MAIN), Turn::Done);
+    assert_eq!(rt; world.turn(Actor::Collector), Turn::Done);
+    assert_eq!(rt;
+        world.journal().rows(),
+        [collected, DONE, collected].as_slice()
+    );
+    assert_eq!(rt; world.pick(), Some(0));
     Ok(())
 }
 

@@ -16,7 +16,7 @@ use Rattle.model.proofs.CollectorLemmas.Moving.{AllMay}
 
 -- ---- what a frame holds
 
-ref_may : (Q : ℕ → Type 0) (rs : List (Option ℕ)) → ((i b : ℕ) → ref_at rs i ≡ Some b → Q b) → AllMay Q rs
+pub ref_may : (Q : ℕ → Type 0) (rs : List (Option ℕ)) → ((i b : ℕ) → ref_at rs i ≡ Some b → Q b) → AllMay Q rs
 ref_may Q [] h = tt
 ref_may Q (r ∷ rs) h = (h 0, ref_may Q rs (λ i. h (suc i)))
 

@@ -146,7 +146,7 @@ frames_taken P fs zero = tt
 frames_taken P [] (suc k) = tt
 frames_taken P (f ∷ fs) (suc k) = (refs_same P (frame_refs f), λ b e. inl e, frames_taken P fs k)
 
-frames_from : (P : ℕ → Type 0) (fs hs : List Frame) → FramesMove P [] hs → FramesMove P fs hs
+pub frames_from : (P : ℕ → Type 0) (fs hs : List Frame) → FramesMove P [] hs → FramesMove P fs hs
 frames_from P fs [] k = tt
 frames_from P [] (h ∷ hs) k = k
 frames_from P (f ∷ fs) (h ∷ hs) k = (refs_from P (frame_refs f) (frame_refs h) k.0, ref_from P f.monitor h.monitor k.1, frames_from P fs hs k.2)

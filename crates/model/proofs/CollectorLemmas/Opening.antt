@@ -16,6 +16,7 @@ use Rattle.model.specs.Collector.Places.{Place, ref_at, entry_ref, entries_at, m
 use Rattle.model.specs.Collector.Places.Place.{MemoryError, StackError, Slot, FrameEntry, MethodMonitor}
 use Rattle.model.specs.Collector.Table.{cell_at}
 use Rattle.model.specs.Collector.Invariant.{In, Distinct, Spare, Tidy, Invariant}
+use Rattle.model.proofs.CollectorLemmas.Words.{nowhere_at, opening_nowhere}
 use Rattle.model.proofs.CollectorLemmas.Taking.{relisted, Takes, takes, came_before, came_after, came_here, tidy-came, placed_is, room_for_none}
 
 -- the opening meets the invariant
@@ -175,7 +176,7 @@ opening_roots : (program : List ClassListing) (p : Place) (b : ℕ) → root_at 
 unfolding root_at
 opening_roots program MemoryError b e = inl cc
 opening_roots program StackError b e = inr cc
-opening_roots program (Slot s) b e = absurd (cc)
+opening_roots program (Slot s) b e = absurd (nowhere_at _ s b (opening_nowhere program) e)
 opening_roots program (FrameEntry zero d j) b e = absurd ((opening_rootless program (main_in program)).entries d j b e)
 opening_roots program (FrameEntry (suc t) d j) b e = absurd (no_frame.entries d j b e)
 opening_roots program (MethodMonitor zero d) b e = absurd ((opening_rootless program (main_in program)).monitors d b e)

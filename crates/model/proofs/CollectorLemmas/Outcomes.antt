@@ -6,7 +6,7 @@ use Rattle.model.specs.ClassListings.{ClassListing}
 use Rattle.model.specs.Accounts.{Account, has_room, after_turn}
 use Rattle.model.specs.declared.turns.Fault.{Fault as FaultKind}
 use Rattle.model.specs.Worlds.{World, next_birth, counted, with_fault}
-use Rattle.model.specs.Effects.{Effect}
+use Rattle.model.specs.Results.{Effect}
 use Rattle.model.specs.Effects.Choice.{NotAsked, NewObject, NoRoom as NoneHasRoom}
 use Rattle.model.specs.Turns.{choice_of}
 use Rattle.model.specs.Table.Next.{next, asked}
@@ -19,7 +19,8 @@ use Rattle.model.specs.Collector.Moves.{Lawful, change_of}
 use Rattle.model.specs.Collector.Moves.Lawful.{faults, moves}
 use Rattle.model.proofs.CollectorLemmas.Moving.{allowed_from_moves, refs_same, threads_same, objects_same}
 use Rattle.model.proofs.CollectorLemmas.Turning.{world_keeps, changed_keeps}
-use Rattle.model.proofs.CollectorLemmas.Table.Next.{next_lawful, asked_not}
+use Rattle.model.proofs.CollectorLemmas.Table.Next.{next_lawful}
+use Rattle.model.proofs.NextKeeps.{next-choice}
 
 -- a thread's turn keeps the invariant, whatever its outcome
 
@@ -68,17 +69,17 @@ faulty w e n s f = let k = ap is_some (s ∙ n) in cc
 -- it recorded a fault
 lawful_fault : (w : World) (object : Option ℕ) (e : Effect) → Lawful w object e → w.fault ≡ None → is_fault e.after ≡ true → Allowed w (record { after = e.after; object = None; writes = [] })
 lawful_fault w object e (faults t fault s) n f = rw s (fault_allowed w t fault)
-lawful_fault w object e (moves s m) n f = absurd (faulty w e n s f)
+lawful_fault w object e (moves s r m) n f = absurd (faulty w e n s f)
 
 -- it recorded none
 lawful_done : (w : World) (object : Option ℕ) (e : Effect) → Lawful w object e → is_fault e.after ≡ false → Allowed w (change_of object e)
 lawful_done w object e (faults t fault s) f = let k = ap (λ (x : Effect). is_fault x.after) s in absurd (cc)
-lawful_done w object e (moves s m) f = allowed_from_moves w (change_of object e) m
+lawful_done w object e (moves s r m) f = allowed_from_moves w (change_of object e) m
 
 -- it made no object
 lawful_either : (w : World) (e : Effect) → Lawful w None e → Allowed w (change_of None e)
 lawful_either w e (faults t fault s) = rw s (fault_allowed w t fault)
-lawful_either w e (moves s m) = allowed_from_moves w (change_of None e) m
+lawful_either w e (moves s r m) = allowed_from_moves w (change_of None e) m
 
 -- ---- a thread's turn
 
@@ -97,7 +98,7 @@ pub record Turns (program : List ClassListing) (m : Machine) (t : ℕ) (words : 
 unasked_by : (program : List ClassListing) (m : Machine) (t : ℕ) → m.world.fault ≡ None → asked program m.world t ≡ None → (f : Bool) → is_fault (next program m.world t NotAsked).after ≡ f → Turns program m t None (outcome_by f Done)
 unasked_by program m t n e true f =
     let l : Lawful m.world None (next program m.world t NotAsked) = rw e at (next_lawful program m.world t NotAsked) in
-    record { allowed = rw (asked_not program m.world t e) (lawful_fault m.world None _ l n f); room = tt }
+    record { allowed = rw (next-choice program m.world t NewObject NotAsked e) (lawful_fault m.world None _ l n f); room = tt }
 unasked_by program m t n e false f =
     let l : Lawful m.world None (next program m.world t NotAsked) = rw e at (next_lawful program m.world t NotAsked) in
     record { allowed = lawful_done m.world None _ l f; room = tt }

@@ -1,9 +1,12 @@
 use Rattle.model.specs.Worlds.{next_birth}
+use Rattle.model.specs.Shows.{Shows}
+use Rattle.model.specs.Heaps.{heap_of}
 use Rattle.model.specs.Collector.Paths.{KeepsReachable, ThreeColour}
 use Rattle.model.specs.Collector.Runs.{machine_after, Always, Holds}
 use Rattle.model.proofs.CollectorLemmas.Running.{machine_holds}
 use Rattle.model.proofs.CollectorLemmas.Tracing.{three_colours}
 use Rattle.model.proofs.CollectorLemmas.Holding.{keeps_reachable}
+use Rattle.model.proofs.CollectorLemmas.Showing.{heap_shows}
 
 -- what is promised of every run
 
@@ -21,3 +24,9 @@ unfolding Holds
 always_coloured program shape limits actors fits =
     let m = machine_after program shape limits actors in
     three_colours shape m.world (next_birth m.world) m.account (machine_holds program shape limits actors fits.0)
+
+pub always_shown : Always (λ shape m. Shows (heap_of m.account m.world) m.world)
+unfolding Holds
+always_shown program shape limits actors fits =
+    let m = machine_after program shape limits actors in
+    heap_shows shape m.world m.account (machine_holds program shape limits actors fits.0)

@@ -10,14 +10,14 @@ use Rattle.model.specs.declared.turns.Turn.{Turn}
 use Rattle.model.specs.ClassListings.{ClassListing}
 use Rattle.model.specs.Accounts.Cell.{Taken}
 use Rattle.model.specs.Worlds.{World, next_birth, counted}
-use Rattle.model.specs.Turns.{choice_of}
+use Rattle.model.specs.Turns.{refusal, choice_of}
 use Rattle.model.specs.Table.Next.{next, asked}
-use Rattle.model.specs.Machines.{Machine, outcome_of}
+use Rattle.model.specs.Machines.{Machine, outcome_of, row_unless_refused}
 use Rattle.model.specs.Collector.Places.Reach.{at_root, by_word}
 use Rattle.model.specs.Collector.Table.{cell_at}
 use Rattle.model.specs.Collector.Invariant.{Invariant}
 use Rattle.model.specs.Collector.Changes.{changed}
-use Rattle.model.specs.Collector.Runs.{turn_refusal, row_if, with_row, moved_by, moved_by_all, machine_after, Holds}
+use Rattle.model.specs.Collector.Runs.{advance_if, moved_by, moved_by_all, machine_after, Holds}
 use Rattle.model.specs.Collector.Reclaim.{ended_if, ended, IsAppend, Lost, ReclaimsInTwo, AlwaysReclaims}
 use Rattle.model.proofs.CollectorLemmas.Bounds.{words_made}
 use Rattle.model.proofs.CollectorLemmas.Outcomes.{after_is, counted_root, counted_word, turn_change, Turns, turns_by}
@@ -46,7 +46,7 @@ changed_on L s program shape m t n i f =
       old = λ x l. rw h.allowed.counted (more_births L c.object (next_birth m.world) x (f.old x l));
     }
 
-row_on : (L : ℕ → Type 0) (s : ℕ) (program : List ClassListing) (shape : HeapShape) (limits : Limits) (m : Machine) (actor : Actor) (o : Option Turn) → turn_refusal program limits m.world actor ≡ o → Holds shape m → Fading L s m → Fading L (ended_if s m actor o) (with_row program shape limits m (row_if program m actor 0 o))
+row_on : (L : ℕ → Type 0) (s : ℕ) (program : List ClassListing) (shape : HeapShape) (limits : Limits) (m : Machine) (actor : Actor) (o : Option Turn) → refusal program limits m.world actor ≡ o → Holds shape m → Fading L s m → Fading L (ended_if s m actor o) (advance_if program shape limits m (row_unless_refused program m actor 0 o))
 unfolding Holds
 row_on L s program shape limits m actor (Some refused) e i f = f
 row_on L s program shape limits m (Thread t) None e i f =
@@ -58,14 +58,14 @@ row_on L s program shape limits m Collector None e i f = rw e (record {
   old = f.old;
 })
 
-fading_on : (L : ℕ → Type 0) (s : ℕ) (program : List ClassListing) (shape : HeapShape) (limits : Limits) (m : Machine) (actor : Actor) → Holds shape m → Fading L s m → Fading L (ended_if s m actor (turn_refusal program limits m.world actor)) (moved_by program shape limits m actor)
+fading_on : (L : ℕ → Type 0) (s : ℕ) (program : List ClassListing) (shape : HeapShape) (limits : Limits) (m : Machine) (actor : Actor) → Holds shape m → Fading L s m → Fading L (ended_if s m actor (refusal program limits m.world actor)) (moved_by program shape limits m actor)
 unfolding moved_by
-fading_on L s program shape limits m actor i f = row_on L s program shape limits m actor (turn_refusal program limits m.world actor) refl i f
+fading_on L s program shape limits m actor i f = row_on L s program shape limits m actor (refusal program limits m.world actor) refl i f
 
 fading_all : (L : ℕ → Type 0) (program : List ClassListing) (shape : HeapShape) (limits : Limits) (actors : List Actor) (s : ℕ) (m : Machine) → Holds shape m → Fading L s m → Fading L (ended program shape limits s m actors) (moved_by_all program shape limits m actors)
 fading_all L program shape limits [] s m i f = f
 fading_all L program shape limits (actor ∷ actors) s m i f =
-    fading_all L program shape limits actors (ended_if s m actor (turn_refusal program limits m.world actor)) (moved_by program shape limits m actor) (moved_keeps program shape limits m actor i) (fading_on L s program shape limits m actor i f)
+    fading_all L program shape limits actors (ended_if s m actor (refusal program limits m.world actor)) (moved_by program shape limits m actor) (moved_keeps program shape limits m actor i) (fading_on L s program shape limits m actor i f)
 
 -- ---- from the moment at which it is lost
 

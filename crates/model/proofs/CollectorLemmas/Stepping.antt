@@ -4,17 +4,18 @@ use Rattle.model.specs.declared.values.Value.{Value}
 use Rattle.model.specs.declared.values.Value.TheVariants.{Int, Long, Ref}
 use Rattle.model.specs.declared.turns.Abrupt.{Abrupt}
 use Rattle.model.specs.declared.turns.Abrupt.TheVariants.{Fault as Faulted, Throw}
-use Rattle.model.specs.declared.turns.Fault.TheVariants.{NoInstruction}
+use Rattle.model.specs.declared.turns.Exception.{Exception}
+use Rattle.model.specs.declared.turns.Exception.TheVariants.{Arithmetic, NullPointer, ClassCast, NegativeArraySize, ArrayStore, IllegalMonitorState, ArrayIndexOutOfBounds, IllegalThreadState, StackOverflow}
 use Rattle.model.specs.Values.{births_of, units_of_all}
 use Rattle.model.specs.Frames.{Frame, Moved, running, with_running, push_all, replaced, replaced_if_room}
 use Rattle.model.specs.Worlds.{World, Thread, frames_of, frames_at}
 use Rattle.model.specs.Worlds.Thread.{Live}
-use Rattle.model.specs.Effects.{stepped, completed_abruptly}
+use Rattle.model.specs.Completions.{Site, frames_in, moves_in, raises, completes_abruptly, completes}
 use Rattle.model.specs.Collector.Places.{ref_of, entry_ref, slots_of, Reach}
 use Rattle.model.specs.Collector.Invariant.{In}
-use Rattle.model.specs.Collector.Moves.{RefsMove, FrameMoves, FramesMove, Moves, Lawful, ResultMoves}
-use Rattle.model.specs.Collector.Moves.Lawful.{faults, moves}
+use Rattle.model.specs.Collector.Moves.{RefsMove, FrameMoves, FramesMove, Moves, CompletionMoves, ResultMoves}
 use Rattle.model.proofs.CollectorLemmas.Moving.{AllMay, refs_same, refs_behind, refs_pushed, frames_set, threads_set, objects_same}
+use Rattle.model.proofs.CollectorLemmas.Known.{stack_error_known}
 
 -- an instruction that changes the running frame alone, and what it may write
 
@@ -81,12 +82,31 @@ thread_moves w after t u writes s o e h known = record {
   writes = λ b k. inr (known b k);
 }
 
--- an instruction that completes abruptly
-pub abrupt_lawful : (w : World) (object : Option ℕ) (t : ℕ) (abrupt : Abrupt) → Lawful w object (completed_abruptly w t abrupt)
-abrupt_lawful w object t (Faulted fault) = faults t fault refl
-abrupt_lawful w object t (Throw exception) = faults t NoInstruction refl
+-- an exception that the machine makes asks for a cell, but for StackOverflowError, which is there
+pub raises_moves : (w : World) (exception : Exception) → CompletionMoves w (raises exception)
+raises_moves w Arithmetic = tt
+raises_moves w NullPointer = tt
+raises_moves w ClassCast = tt
+raises_moves w NegativeArraySize = tt
+raises_moves w ArrayStore = tt
+raises_moves w IllegalMonitorState = tt
+raises_moves w ArrayIndexOutOfBounds = tt
+raises_moves w IllegalThreadState = tt
+raises_moves w StackOverflow = stack_error_known w
 
-pub stepped_lawful : (w : World) (t : ℕ) (f : Frame) (r : Result Moved Abrupt) → running (frames_at w t) ≡ Some f → ResultMoves w f r → Lawful w None (stepped w t (frames_at w t) r)
-stepped_lawful w t f (Ok m) e h =
-    moves refl (thread_moves w _ t (Live (with_running (frames_at w t) m.frame)) m.writes refl refl refl (frames_set _ (frames_at w t) _ f m.frame e h.0) h.1)
-stepped_lawful w t f (Err abrupt) e h = abrupt_lawful w None t abrupt
+-- an instruction that completes abruptly
+pub abrupt_moves : (w : World) (abrupt : Abrupt) → CompletionMoves w (completes_abruptly abrupt)
+abrupt_moves w (Faulted fault) = tt
+abrupt_moves w (Throw exception) = raises_moves w exception
+
+-- the running frame alone changes
+pub site_moves : (s : Site) → running (frames_in s) ≡ Some s.frame → (m : Moved) → ResultMoves s.world s.frame (Ok m) → CompletionMoves s.world (moves_in s.world s m)
+site_moves s e m h = record {
+  fault = refl;
+  rows = refl;
+  moves = thread_moves s.world _ s.thread (Live (with_running (frames_in s) m.frame)) m.writes refl refl refl (frames_set _ (frames_in s) _ s.frame m.frame e h.0) h.1;
+}
+
+pub completes_moves : (s : Site) → running (frames_in s) ≡ Some s.frame → (r : Result Moved Abrupt) → ResultMoves s.world s.frame r → CompletionMoves s.world (completes s r)
+completes_moves s e (Ok m) h = site_moves s e m h
+completes_moves s e (Err abrupt) h = abrupt_moves s.world abrupt

@@ -2,9 +2,12 @@ use Rattle.std.specs.Prelude.{◌≡◌, ◌⊎◌, ℕ, List, [], ◌∷◌, Op
 use Rattle.model.specs.declared.turns.Fault.{Fault}
 use Rattle.model.specs.declared.turns.Abrupt.{Abrupt}
 use Rattle.model.specs.Frames.{Frame, Moved}
-use Rattle.model.specs.Effects.{Choice, Effect, faulted}
+use Rattle.model.specs.Results.{Effect, faulted}
+use Rattle.model.specs.Effects.{Choice}
 use Rattle.model.specs.Effects.Choice.{NotAsked, NewObject, NoRoom}
 use Rattle.model.specs.Worlds.{World, Thread, Object, frames_of, next_birth}
+use Rattle.model.specs.Completions.{Completion}
+use Rattle.model.specs.Completions.Completion.{Goes, Prints, Creates, Throws, Raises, Faults, Waits}
 use Rattle.model.specs.Collector.Places.{frame_refs, contents_refs, slots_of, Reach}
 use Rattle.model.specs.Collector.Invariant.{In}
 use Rattle.model.specs.Collector.Changes.{Change, IsNew, births_after, Fresh}
@@ -53,16 +56,40 @@ pub record Moves (w : World) (c : Change) : Type 0 where
 abbrev pub change_of : Option ℕ → Effect → Change
 change_of object e = record { after = e.after; object = object; writes = e.writes }
 
--- how many words the new object has, by what was asked for and chosen
+-- how many words the new object has, by what was chosen and asked for: there is none where none was asked for, and otherwise
+-- unless none had room
 abbrev pub object_of : Choice → Option ℕ → Option ℕ
-object_of NotAsked words = None
+object_of NotAsked words = words
 object_of NewObject words = words
 object_of NoRoom words = None
 
--- a fault, which changes nothing but the recorded fault, or a move of the world, which records none
+-- a fault, which changes nothing but the recorded fault, or a move of the world, which records none; neither counts a row
 pub data Lawful (w : World) (object : Option ℕ) (e : Effect) : Type 0 where
   faults : (t : ℕ) (fault : Fault) → e ≡ faulted w t fault → Lawful w object e
-  moves : e.after.fault ≡ w.fault → Moves w (change_of object e) → Lawful w object e
+  moves : e.after.fault ≡ w.fault → e.after.rows ≡ w.rows → Moves w (change_of object e) → Lawful w object e
+
+-- the same of what an instruction comes to, before it is chosen whether a cell is free: what a family is shown to do
+
+-- a world that an instruction leaves: it records no fault and counts no row
+pub record WorldMoves (w after : World) (writes : List ℕ) : Type 0 where
+  pub fault : after.fault ≡ w.fault
+  pub rows : after.rows ≡ w.rows
+  pub moves : Moves w (record { after = after; object = None; writes = writes })
+
+-- places that lead nowhere
+abbrev pub LeadNowhere : List (Option ℕ) → Type 0
+LeadNowhere [] = Unit {0}
+LeadNowhere (None ∷ refs) = LeadNowhere refs
+LeadNowhere (Some b ∷ refs) = ⊥
+
+abbrev pub CompletionMoves : World → Completion → Type 0
+CompletionMoves w (Goes after writes) = WorldMoves w after writes
+CompletionMoves w (Prints after bytes) = WorldMoves w after []
+CompletionMoves w (Creates next taken contents) = LeadNowhere (contents_refs contents)
+CompletionMoves w (Throws birth) = Reach w birth
+CompletionMoves w (Raises exception) = Unit {0}
+CompletionMoves w (Faults fault) = Unit {0}
+CompletionMoves w Waits = Unit {0}
 
 -- what an instruction that changes the running frame alone makes of it
 abbrev pub ResultMoves : World → Frame → Result Moved Abrupt → Type 0

@@ -14,7 +14,8 @@ use Rattle.model.specs.Worlds.{World, next_birth}
 use Rattle.model.specs.Machines.{Machine}
 use Rattle.model.specs.Collector.Places.{Reach}
 use Rattle.model.specs.Collector.Table.{cell_at}
-use Rattle.model.specs.Collector.Runs.{turn_refusal, moved_by, moved_by_all, machine_after}
+use Rattle.model.specs.Turns.{refusal}
+use Rattle.model.specs.Collector.Runs.{moved_by, moved_by_all, machine_after}
 
 -- Reclaim by count: what no path reaches has no cell once two cycles have ended.
 
@@ -41,7 +42,7 @@ ended_if s m Collector None = ended_in s m.account.phase (length m.account.cells
 abbrev pub ended : List ClassListing → HeapShape → Limits → ℕ → Machine → List Actor → ℕ
 ended program shape limits s m [] = s
 ended program shape limits s m (actor ∷ actors) =
-    ended program shape limits (ended_if s m actor (turn_refusal program limits m.world actor)) (moved_by program shape limits m actor) actors
+    ended program shape limits (ended_if s m actor (refusal program limits m.world actor)) (moved_by program shape limits m actor) actors
 
 -- ---- what is reclaimed
 

@@ -1,4 +1,4 @@
-use Rattle.std.specs.Prelude.{ℕ, ℤ, pos, negsuc, [], ◌∷◌, Option, Some, None, Result}
+use Rattle.std.specs.Prelude.{ℕ, ℤ, pos, negsuc, [], ◌∷◌, None, Result}
 use Rattle.model.specs.declared.instructions.Constant.{Constant}
 use Rattle.model.specs.declared.instructions.Constant.TheVariants.{Null, SmallInt as SmallIntOf, SmallLong as SmallLongOf, Byte, Short, Int as IntOf, Long as LongOf}
 use Rattle.model.specs.declared.instructions.SmallInt.{SmallInt}

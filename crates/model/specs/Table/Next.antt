@@ -1,76 +1,72 @@
-use Rattle.std.specs.Prelude.{ℕ, ℤ, List, [], ◌∷◌, Option, Some, None, Result, Ok, Err}
+use Rattle.std.specs.Prelude.{ℕ, ℤ, List, [], Option, Some, None, Ok}
 use Rattle.model.specs.declared.names.Member.{Member}
-use Rattle.model.specs.declared.values.Kind.{Kind}
-use Rattle.model.specs.declared.builtins.Builtin.{Builtin}
 use Rattle.model.specs.declared.listings.Placed.{Placed}
 use Rattle.model.specs.declared.instructions.Instruction.{Instruction}
 use Rattle.model.specs.declared.instructions.Instruction.TheVariants.{Nop, Constant, Local, Stack, Number, Branch, TableSwitch, LookupSwitch, Return, Static as StaticField, Field, Array, Class, Invoke, Throw, Monitor}
-use Rattle.model.specs.declared.instructions.Invocation.{Invocation}
-use Rattle.model.specs.declared.instructions.Invocation.TheVariants.{Virtual, Special, Static, Interface}
 use Rattle.model.specs.declared.turns.Fault.TheVariants.{NoInstruction}
 use Rattle.model.specs.ClassListings.{ClassListing}
 use Rattle.model.specs.Frames.{Frame, running, replaced}
-use Rattle.model.specs.Programs.{instruction_of, builtin_of}
+use Rattle.model.specs.Programs.{instruction_of}
 use Rattle.model.specs.Worlds.{World, frames_at}
-use Rattle.model.specs.Effects.{Choice, Effect, faulted, stepped}
+use Rattle.model.specs.Results.{Effect}
+use Rattle.model.specs.Effects.{Choice, effect_of}
+use Rattle.model.specs.Completions.{Completion, Site, asks, completes}
+use Rattle.model.specs.Completions.Completion.{Faults}
 use Rattle.model.specs.Table.Constants.{constant}
+use Rattle.model.specs.Table.Locals.{local}
+use Rattle.model.specs.Table.Stacks.{rearranged}
 use Rattle.model.specs.Table.Numbers.{number}
+use Rattle.model.specs.Table.Branches.{branched}
+use Rattle.model.specs.Table.Switches.{table_switched, lookup_switched}
 use Rattle.model.specs.Table.Returns.{returned}
-use Rattle.model.specs.Table.Builtins.{builtin_call}
-
--- The table grows by families. What it doesn't have yet is no instruction to it (F5), and a listing that holds such an
--- instruction isn't accepted.
+use Rattle.model.specs.Table.Statics.{static_accessed}
+use Rattle.model.specs.Table.Fields.{field_accessed}
+use Rattle.model.specs.Table.Arrays.{array_operated}
+use Rattle.model.specs.Table.Objects.{class_operated}
+use Rattle.model.specs.Table.Invokes.{invoked}
+use Rattle.model.specs.Table.Throws.{threw}
+use Rattle.model.specs.Table.Monitors.{monitor_operated}
 
 -- an instruction of a listing: branches name pcs, members and classes go by name
 abbrev pub Listed : Type 0
 Listed = Instruction ℕ ℤ ℤ Member Member (List ℕ)
 
-abbrev pub called : ℕ → World → ℕ → List Frame → Frame → Option Builtin → Effect
-called next w t frames f (Some builtin) = builtin_call next w t frames f builtin
-called next w t frames f None = faulted w t NoInstruction
-
-abbrev pub invoked : ℕ → World → ℕ → List Frame → Frame → Invocation → Member → Effect
-invoked next w t frames f Static member = called next w t frames f (builtin_of member)
-invoked next w t frames f Virtual member = faulted w t NoInstruction
-invoked next w t frames f Special member = faulted w t NoInstruction
-invoked next w t frames f (Interface count) member = faulted w t NoInstruction
-
-abbrev pub returned_as : List ClassListing → World → ℕ → List Frame → Option Kind → Effect
-returned_as program w t frames None = returned program w t frames
-returned_as program w t frames (Some kind) = faulted w t NoInstruction
-
--- each family's case; next is the pc behind the instruction
-abbrev pub by_family : List ClassListing → World → ℕ → List Frame → Frame → ℕ → Choice → Listed → Effect
-by_family program w t frames f next choice Nop = stepped w t frames (Ok (replaced next f 0 []))
-by_family program w t frames f next choice (Constant c) = stepped w t frames (constant next c f)
-by_family program w t frames f next choice (Number operation) = stepped w t frames (number next operation f)
-by_family program w t frames f next choice (Return kind) = returned_as program w t frames kind
-by_family program w t frames f next choice (Invoke invocation member) = invoked next w t frames f invocation member
-by_family program w t frames f next choice (Local access) = faulted w t NoInstruction
-by_family program w t frames f next choice (Stack operation) = faulted w t NoInstruction
-by_family program w t frames f next choice (Branch test target) = faulted w t NoInstruction
-by_family program w t frames f next choice (TableSwitch table) = faulted w t NoInstruction
-by_family program w t frames f next choice (LookupSwitch lookup) = faulted w t NoInstruction
-by_family program w t frames f next choice (StaticField access member) = faulted w t NoInstruction
-by_family program w t frames f next choice (Field access member) = faulted w t NoInstruction
-by_family program w t frames f next choice (Array operation) = faulted w t NoInstruction
-by_family program w t frames f next choice (Class operation name) = faulted w t NoInstruction
-by_family program w t frames f next choice Throw = faulted w t NoInstruction
-by_family program w t frames f next choice (Monitor operation) = faulted w t NoInstruction
+-- each family's case
+abbrev pub by_family : Site → Listed → Completion
+by_family s Nop = completes s (Ok (replaced s.next s.frame 0 []))
+by_family s (Constant c) = completes s (constant s.next c s.frame)
+by_family s (Local access) = completes s (local s.next access s.frame)
+by_family s (Stack operation) = completes s (rearranged s.next operation s.frame)
+by_family s (Number operation) = completes s (number s.next operation s.frame)
+by_family s (Branch test target) = completes s (branched s.next test target s.frame)
+by_family s (TableSwitch table) = completes s (table_switched table s.frame)
+by_family s (LookupSwitch lookup) = completes s (lookup_switched lookup s.frame)
+by_family s (Return kind) = returned s kind
+by_family s (StaticField access member) = static_accessed s access member
+by_family s (Field access member) = field_accessed s access member
+by_family s (Array operation) = array_operated s operation
+by_family s (Class operation name) = class_operated s operation name
+by_family s (Invoke invocation member) = invoked s invocation member
+by_family s Throw = threw s
+by_family s (Monitor operation) = monitor_operated s operation
 
 -- past the last instruction: F5
-abbrev pub at_instruction : List ClassListing → World → ℕ → List Frame → Frame → Choice → Option Placed → Effect
-at_instruction program w t frames f choice None = faulted w t NoInstruction
-at_instruction program w t frames f choice (Some i) = by_family program w t frames f i.next choice i.instruction
+abbrev pub at_instruction : List ClassListing → World → ℕ → Frame → Option Placed → Completion
+at_instruction program w t f None = Faults NoInstruction
+at_instruction program w t f (Some i) = by_family (record { program = program; world = w; thread = t; frame = f; next = i.next }) i.instruction
 
-abbrev pub at_frame : List ClassListing → World → ℕ → List Frame → Choice → Option Frame → Effect
-at_frame program w t frames choice None = faulted w t NoInstruction
-at_frame program w t frames choice (Some f) = at_instruction program w t frames f choice (instruction_of program f)
+abbrev pub at_frame : List ClassListing → World → ℕ → Option Frame → Completion
+at_frame program w t None = Faults NoInstruction
+at_frame program w t (Some f) = at_instruction program w t f (instruction_of program f)
 
--- the turn of a thread that is ready
-unfoldable pub next : List ClassListing → World → ℕ → Choice → Effect
-next program w t choice = at_frame program w t (frames_at w t) choice (running (frames_at w t))
+-- what the instruction of a live thread comes to
+unfoldable pub completion : List ClassListing → World → ℕ → Completion
+completion program w t = at_frame program w t (running (frames_at w t))
 
--- how many words a ready thread's turn asks a cell for: no family of the table asks yet
+-- how many words the turn of a ready thread asks a cell for
 abbrev pub asked : List ClassListing → World → ℕ → Option ℕ
-asked program w t = None
+asked program w t = asks (completion program w t)
+
+-- the turn of a ready thread
+unfoldable pub next : List ClassListing → World → ℕ → Choice → Effect
+next program w t choice = effect_of program w t choice (completion program w t)

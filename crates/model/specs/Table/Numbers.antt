@@ -1,5 +1,4 @@
 use Rattle.std.specs.Prelude.{ℕ, ℤ, [], ◌∷◌, List, Option, Some, None, Result, Ok, Err}
-use Rattle.std.specs.Int.{w32, w64}
 use Rattle.model.specs.declared.instructions.NumberKind.{NumberKind}
 use Rattle.model.specs.declared.instructions.NumberKind.TheVariants.{Int as Ints, Long as Longs}
 use Rattle.model.specs.declared.instructions.Operator.{Operator}

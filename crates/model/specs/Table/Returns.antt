@@ -1,26 +1,79 @@
-use Rattle.std.specs.Prelude.{ℕ, List, [], ◌∷◌, Option, Some, None}
+use Rattle.std.specs.Prelude.{[], ◌∷◌, Bool, true, false, Option, Some, None, Result, Ok, Err}
+use Rattle.model.specs.declared.values.Kind.{Kind}
+use Rattle.model.specs.declared.values.Kind.TheVariants.{Int, Long, Ref}
+use Rattle.model.specs.declared.values.Value.{Value}
+use Rattle.model.specs.declared.listings.Method.{Method}
 use Rattle.model.specs.declared.listings.Placed.{Placed}
-use Rattle.model.specs.ClassListings.{ClassListing}
-use Rattle.model.specs.Frames.{Frame, at_pc, running, with_running, callers}
-use Rattle.model.specs.Programs.{instruction_of}
-use Rattle.model.specs.Worlds.{World, Thread, with_thread}
+use Rattle.model.specs.declared.turns.Fault.{Fault}
+use Rattle.model.specs.declared.turns.Fault.TheVariants.{NoInstruction, WrongReturn}
+use Rattle.model.specs.declared.turns.Abrupt.{Abrupt}
+use Rattle.model.specs.declared.turns.Abrupt.TheVariants.{Fault as Faulted}
+use Rattle.model.specs.Signatures.{result_kind}
+use Rattle.model.specs.Frames.{Frame, Moved, running, with_running, callers, replaced, replaced_if_room}
+use Rattle.model.specs.Locals.{value_on}
+use Rattle.model.specs.Programs.{method_at, instruction_of}
+use Rattle.model.specs.Worlds.{World, with_thread}
 use Rattle.model.specs.Worlds.Thread.{Live, Ended}
-use Rattle.model.specs.Effects.{Effect}
+use Rattle.model.specs.Monitors.{released}
+use Rattle.model.specs.Completions.{Completion, Site, frames_in, completes_abruptly}
+use Rattle.model.specs.Completions.Completion.{Goes, Faults}
 
--- a caller stays at its invoke instruction until the return, and then goes on behind it
-abbrev pub past_invoke : Frame → Option Placed → Frame
-past_invoke f None = f
-past_invoke f (Some invoke) = at_pc invoke.next f
+-- ---- whether the opcode is that of the method's result
 
-abbrev pub resumed : List ClassListing → List Frame → Option Frame → List Frame
-resumed program frames None = frames
-resumed program frames (Some f) = with_running frames (past_invoke f (instruction_of program f))
+abbrev pub same_kind : Kind → Kind → Bool
+same_kind Int Int = true
+same_kind Int Long = false
+same_kind Int Ref = false
+same_kind Long Int = false
+same_kind Long Long = true
+same_kind Long Ref = false
+same_kind Ref Int = false
+same_kind Ref Long = false
+same_kind Ref Ref = true
 
--- the thread whose running frame was left normally
-abbrev pub left_with : List ClassListing → List Frame → Thread
-left_with program [] = Ended None
-left_with program (f ∷ fs) = Live (resumed program (f ∷ fs) (running (f ∷ fs)))
+abbrev pub same_result : Option Kind → Option Kind → Bool
+same_result None None = true
+same_result None (Some kind) = false
+same_result (Some kind) None = false
+same_result (Some kind) (Some other) = same_kind kind other
 
--- return (JVMS 6.5): the frame is left
-abbrev pub returned : List ClassListing → World → ℕ → List Frame → Effect
-returned program w t frames = record { after = with_thread w t (left_with program (callers frames)); writes = [] }
+abbrev pub gives : Option Kind → Option Method → Bool
+gives kind None = false
+gives kind (Some method) = same_result kind (result_kind method.descriptor)
+
+-- ---- the frame is left
+
+-- a caller stays at its invoke instruction until the return, and then goes on behind it with the result, if there is one
+abbrev pub past_invoke : Frame → Option Value → Option Placed → Result Moved Abrupt
+past_invoke f result None = Err (Faulted NoInstruction)
+past_invoke f None (Some invoke) = Ok (replaced invoke.next f 0 [])
+past_invoke f (Some value) (Some invoke) = replaced_if_room invoke.next f 0 (value ∷ [])
+
+-- the world without the frame's hold on its method monitor
+abbrev pub left_world : Site → World
+left_world s = released s.world s.thread s.frame.monitor
+
+abbrev pub resumes : Site → Result Moved Abrupt → Completion
+resumes s (Err abrupt) = completes_abruptly abrupt
+resumes s (Ok m) = Goes (with_thread (left_world s) s.thread (Live (with_running (callers (frames_in s)) m.frame))) m.writes
+
+-- the thread of the outermost frame ends
+abbrev pub leaves_to : Site → Option Value → Option Frame → Completion
+leaves_to s result None = Goes (with_thread (left_world s) s.thread (Ended None)) []
+leaves_to s result (Some caller) = resumes s (past_invoke caller result (instruction_of s.program caller))
+
+abbrev pub leaves_with : Site → Option Value → Completion
+leaves_with s result = leaves_to s result (running (callers (frames_in s)))
+
+abbrev pub leaves_if : Site → Result Value Fault → Completion
+leaves_if s (Err fault) = Faults fault
+leaves_if s (Ok value) = leaves_with s (Some value)
+
+abbrev pub return_if : Site → Option Kind → Bool → Completion
+return_if s kind false = Faults WrongReturn
+return_if s None true = leaves_with s None
+return_if s (Some kind) true = leaves_if s (value_on kind s.frame.stack)
+
+-- returns (JVMS 6.5): F7, then the operand, then the room in the caller
+abbrev pub returned : Site → Option Kind → Completion
+returned s kind = return_if s kind (gives kind (method_at s.program s.frame.method))

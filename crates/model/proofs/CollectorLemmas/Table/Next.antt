@@ -1,86 +1,70 @@
 use Rattle.std.proofs.Common.{◌≡◌, ℕ, [], List, Option, Some, None, Ok, refl}
-use Rattle.model.specs.declared.names.Member.{Member}
-use Rattle.model.specs.declared.values.Kind.{Kind}
-use Rattle.model.specs.declared.builtins.Builtin.{Builtin}
 use Rattle.model.specs.declared.listings.Placed.{Placed}
 use Rattle.model.specs.declared.instructions.Instruction.TheVariants.{Nop, Constant, Local, Stack, Number, Branch, TableSwitch, LookupSwitch, Return, Static as StaticField, Field, Array, Class, Invoke, Throw, Monitor}
-use Rattle.model.specs.declared.instructions.Invocation.{Invocation}
-use Rattle.model.specs.declared.instructions.Invocation.TheVariants.{Virtual, Special, Static, Interface}
-use Rattle.model.specs.declared.turns.Fault.TheVariants.{NoInstruction}
 use Rattle.model.specs.ClassListings.{ClassListing}
 use Rattle.model.specs.Frames.{Frame, running, replaced}
-use Rattle.model.specs.Programs.{instruction_of, builtin_of}
+use Rattle.model.specs.Programs.{instruction_of}
 use Rattle.model.specs.Worlds.{World, frames_at}
+use Rattle.model.specs.Completions.{Site, frames_in}
 use Rattle.model.specs.Effects.{Choice}
-use Rattle.model.specs.Effects.Choice.{NotAsked, NewObject, NoRoom}
 use Rattle.model.specs.Table.Constants.{constant}
+use Rattle.model.specs.Table.Locals.{local}
+use Rattle.model.specs.Table.Stacks.{rearranged}
 use Rattle.model.specs.Table.Numbers.{number}
-use Rattle.model.specs.Table.Next.{Listed, called, invoked, returned_as, by_family, at_instruction, at_frame, next, asked}
-use Rattle.model.specs.Collector.Moves.{Lawful, object_of}
-use Rattle.model.specs.Collector.Moves.Lawful.{faults}
-use Rattle.model.proofs.NextKeeps.{next-choice}
-use Rattle.model.proofs.CollectorLemmas.Stepping.{replaced_lawful, stepped_lawful}
+use Rattle.model.specs.Table.Branches.{branched}
+use Rattle.model.specs.Table.Switches.{table_switched, lookup_switched}
+use Rattle.model.specs.Table.Next.{Listed, by_family, at_instruction, at_frame, completion, next, asked}
+use Rattle.model.specs.Collector.Moves.{CompletionMoves, Lawful, object_of}
+use Rattle.model.proofs.CollectorLemmas.Stepping.{replaced_lawful, completes_moves}
+use Rattle.model.proofs.CollectorLemmas.Choosing.{effect_lawful}
 use Rattle.model.proofs.CollectorLemmas.Table.Constants.{constant_lawful}
+use Rattle.model.proofs.CollectorLemmas.Table.Locals.{local_lawful}
+use Rattle.model.proofs.CollectorLemmas.Table.Stacks.{rearranged_lawful}
 use Rattle.model.proofs.CollectorLemmas.Table.Numbers.{number_lawful}
-use Rattle.model.proofs.CollectorLemmas.Table.Returns.{returned_lawful}
-use Rattle.model.proofs.CollectorLemmas.Table.Builtins.{builtin_lawful}
+use Rattle.model.proofs.CollectorLemmas.Table.Branches.{branched_lawful}
+use Rattle.model.proofs.CollectorLemmas.Table.Switches.{table_switched_lawful, lookup_switched_lawful}
+use Rattle.model.proofs.CollectorLemmas.Table.Returns.{returned_moves}
+use Rattle.model.proofs.CollectorLemmas.Table.Statics.{static_moves}
+use Rattle.model.proofs.CollectorLemmas.Table.Fields.{field_moves}
+use Rattle.model.proofs.CollectorLemmas.Table.Arrays.{array_moves}
+use Rattle.model.proofs.CollectorLemmas.Table.Objects.{class_moves}
+use Rattle.model.proofs.CollectorLemmas.Table.Invokes.{invoked_moves}
+use Rattle.model.proofs.CollectorLemmas.Table.Throws.{threw_moves}
+use Rattle.model.proofs.CollectorLemmas.Table.Monitors.{monitor_moves}
 
--- The table as a whole. A family that comes to it gets a file of its own here and its case of `family_lawful`. One that asks
--- for a cell is lawful with the words that it asks for where `NewObject` was chosen; where it asks for none, both choices
--- come to the same (`asked_not`).
+-- The table as a whole. A family has a file of its own here and its case of `family_moves`.
 
-called_lawful : (w : World) (t next : ℕ) (f : Frame) (builtin : Option Builtin) → running (frames_at w t) ≡ Some f → Lawful w None (called next w t (frames_at w t) f builtin)
-called_lawful w t next f (Some builtin) e = builtin_lawful w t next f builtin e
-called_lawful w t next f None e = faults t NoInstruction refl
+family_moves : (s : Site) → running (frames_in s) ≡ Some s.frame → (i : Listed) → CompletionMoves s.world (by_family s i)
+family_moves s e Nop = completes_moves s e (Ok (replaced s.next s.frame 0 [])) (replaced_lawful s.world s.next s.frame 0 [] tt)
+family_moves s e (Constant c) = completes_moves s e (constant s.next c s.frame) (constant_lawful s.world s.next c s.frame)
+family_moves s e (Local access) = completes_moves s e (local s.next access s.frame) (local_lawful s.world s.thread s.next access s.frame e)
+family_moves s e (Stack operation) = completes_moves s e (rearranged s.next operation s.frame) (rearranged_lawful s.world s.thread s.next operation s.frame e)
+family_moves s e (Number operation) = completes_moves s e (number s.next operation s.frame) (number_lawful s.world s.next operation s.frame)
+family_moves s e (Branch test target) = completes_moves s e (branched s.next test target s.frame) (branched_lawful s.world s.next test target s.frame)
+family_moves s e (TableSwitch table) = completes_moves s e (table_switched table s.frame) (table_switched_lawful s.world table s.frame)
+family_moves s e (LookupSwitch lookup) = completes_moves s e (lookup_switched lookup s.frame) (lookup_switched_lawful s.world lookup s.frame)
+family_moves s e (Return kind) = returned_moves s e kind
+family_moves s e (StaticField access member) = static_moves s e access member
+family_moves s e (Field access member) = field_moves s e access member
+family_moves s e (Array operation) = array_moves s e operation
+family_moves s e (Class operation name) = class_moves s e operation name
+family_moves s e (Invoke invocation member) = invoked_moves s e invocation member
+family_moves s e Throw = threw_moves s e
+family_moves s e (Monitor operation) = monitor_moves s e operation
 
-invoked_lawful : (w : World) (t next : ℕ) (f : Frame) (invocation : Invocation) (member : Member) → running (frames_at w t) ≡ Some f → Lawful w None (invoked next w t (frames_at w t) f invocation member)
-invoked_lawful w t next f Static member e = called_lawful w t next f (builtin_of member) e
-invoked_lawful w t next f Virtual member e = faults t NoInstruction refl
-invoked_lawful w t next f Special member e = faults t NoInstruction refl
-invoked_lawful w t next f (Interface count) member e = faults t NoInstruction refl
+instruction_moves : (program : List ClassListing) (w : World) (t : ℕ) (f : Frame) (i : Option Placed) → running (frames_at w t) ≡ Some f → CompletionMoves w (at_instruction program w t f i)
+instruction_moves program w t f None e = tt
+instruction_moves program w t f (Some i) e = family_moves (record { program = program; world = w; thread = t; frame = f; next = i.next }) e i.instruction
 
-returned_as_lawful : (program : List ClassListing) (w : World) (t : ℕ) (kind : Option Kind) → Lawful w None (returned_as program w t (frames_at w t) kind)
-returned_as_lawful program w t None = returned_lawful program w t
-returned_as_lawful program w t (Some kind) = faults t NoInstruction refl
+frame_moves : (program : List ClassListing) (w : World) (t : ℕ) (o : Option Frame) → running (frames_at w t) ≡ o → CompletionMoves w (at_frame program w t o)
+frame_moves program w t None e = tt
+frame_moves program w t (Some f) e = instruction_moves program w t f (instruction_of program f) e
 
-family_lawful : (program : List ClassListing) (w : World) (t : ℕ) (f : Frame) (next : ℕ) (choice : Choice) (i : Listed) → running (frames_at w t) ≡ Some f → Lawful w None (by_family program w t (frames_at w t) f next choice i)
-family_lawful program w t f next choice Nop e = stepped_lawful w t f (Ok (replaced next f 0 [])) e (replaced_lawful w next f 0 [] tt)
-family_lawful program w t f next choice (Constant c) e = stepped_lawful w t f (constant next c f) e (constant_lawful w next c f)
-family_lawful program w t f next choice (Number operation) e = stepped_lawful w t f (number next operation f) e (number_lawful w next operation f)
-family_lawful program w t f next choice (Return kind) e = returned_as_lawful program w t kind
-family_lawful program w t f next choice (Invoke invocation member) e = invoked_lawful w t next f invocation member e
-family_lawful program w t f next choice (Local access) e = faults t NoInstruction refl
-family_lawful program w t f next choice (Stack operation) e = faults t NoInstruction refl
-family_lawful program w t f next choice (Branch test target) e = faults t NoInstruction refl
-family_lawful program w t f next choice (TableSwitch table) e = faults t NoInstruction refl
-family_lawful program w t f next choice (LookupSwitch lookup) e = faults t NoInstruction refl
-family_lawful program w t f next choice (StaticField access member) e = faults t NoInstruction refl
-family_lawful program w t f next choice (Field access member) e = faults t NoInstruction refl
-family_lawful program w t f next choice (Array operation) e = faults t NoInstruction refl
-family_lawful program w t f next choice (Class operation name) e = faults t NoInstruction refl
-family_lawful program w t f next choice Throw e = faults t NoInstruction refl
-family_lawful program w t f next choice (Monitor operation) e = faults t NoInstruction refl
-
-instruction_lawful : (program : List ClassListing) (w : World) (t : ℕ) (f : Frame) (choice : Choice) (i : Option Placed) → running (frames_at w t) ≡ Some f → Lawful w None (at_instruction program w t (frames_at w t) f choice i)
-instruction_lawful program w t f choice None e = faults t NoInstruction refl
-instruction_lawful program w t f choice (Some i) e = family_lawful program w t f i.next choice i.instruction e
-
-frame_lawful : (program : List ClassListing) (w : World) (t : ℕ) (choice : Choice) (o : Option Frame) → running (frames_at w t) ≡ o → Lawful w None (at_frame program w t (frames_at w t) choice o)
-frame_lawful program w t choice None e = faults t NoInstruction refl
-frame_lawful program w t choice (Some f) e = instruction_lawful program w t f choice (instruction_of program f) e
-
--- no family asks yet
-nothing : (choice : Choice) → object_of choice None ≡ None
-nothing NotAsked = refl
-nothing NewObject = refl
-nothing NoRoom = refl
+pub completion_moves : (program : List ClassListing) (w : World) (t : ℕ) → CompletionMoves w (completion program w t)
+unfolding completion
+completion_moves program w t = frame_moves program w t (running (frames_at w t)) refl
 
 -- each turn of a thread, by what was asked for and what was chosen
 pub next_lawful : (program : List ClassListing) (w : World) (t : ℕ) (choice : Choice) → Lawful w (object_of choice (asked program w t)) (next program w t choice)
 unfolding next
-next_lawful program w t choice = rw (nothing choice) (frame_lawful program w t choice (running (frames_at w t)) refl)
-
--- ---- a choice that isn't asked for counts for nothing
-
-pub asked_not : (program : List ClassListing) (w : World) (t : ℕ) → asked program w t ≡ None → next program w t NewObject ≡ next program w t NotAsked
-asked_not program w t e = next-choice program w t NewObject NotAsked
+next_lawful program w t choice = effect_lawful program w t choice (completion program w t) (completion_moves program w t)

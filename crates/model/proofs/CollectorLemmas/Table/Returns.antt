@@ -1,30 +1,58 @@
-use Rattle.std.proofs.Common.{◌≡◌, ℕ, List, [], ◌∷◌, Option, Some, None, refl}
+use Rattle.std.proofs.Common.{◌≡◌, ℕ, Bool, true, false, [], ◌∷◌, Option, Some, None, Result, Ok, Err, refl}
+use Rattle.model.specs.declared.values.Kind.{Kind}
+use Rattle.model.specs.declared.values.Value.{Value}
 use Rattle.model.specs.declared.listings.Placed.{Placed}
-use Rattle.model.specs.ClassListings.{ClassListing}
-use Rattle.model.specs.Frames.{Frame, running, callers}
-use Rattle.model.specs.Programs.{instruction_of}
-use Rattle.model.specs.Worlds.{World, frames_of, frames_at}
-use Rattle.model.specs.Table.Returns.{past_invoke, resumed, left_with, returned}
-use Rattle.model.specs.Collector.Moves.{FrameMoves, FramesMove, Lawful}
-use Rattle.model.specs.Collector.Moves.Lawful.{moves}
-use Rattle.model.proofs.CollectorLemmas.Moving.{frame_same, frames_set, frames_same, frames_taken, frames_trans}
-use Rattle.model.proofs.CollectorLemmas.Stepping.{thread_moves}
+use Rattle.model.specs.declared.turns.Fault.{Fault}
+use Rattle.model.specs.declared.turns.Abrupt.{Abrupt}
+use Rattle.model.specs.Frames.{Frame, Moved, running, with_running, callers}
+use Rattle.model.specs.Locals.{value_on}
+use Rattle.model.specs.Programs.{method_at, instruction_of}
+use Rattle.model.specs.Worlds.{World, next_birth}
+use Rattle.model.specs.Worlds.Thread.{Live, Ended}
+use Rattle.model.specs.Completions.{Site, frames_in}
+use Rattle.model.specs.Table.Returns.{gives, past_invoke, left_world, resumes, leaves_to, leaves_if, return_if, returned}
+use Rattle.model.specs.Collector.Places.{ref_of, Reach}
+use Rattle.model.specs.Collector.Moves.{CompletionMoves, ResultMoves}
+use Rattle.model.proofs.CollectorLemmas.Moving.{frames_set, frames_taken, frames_trans}
+use Rattle.model.proofs.CollectorLemmas.Stepping.{replaced_lawful, if_room_lawful, abrupt_moves}
+use Rattle.model.proofs.CollectorLemmas.Locals.{value_on_known}
+use Rattle.model.proofs.CollectorLemmas.Unwinding.{Kept, released_keeps}
+use Rattle.model.proofs.CollectorLemmas.Table.Monitors.{kept_same, site_kept}
 
--- a caller goes on behind its invoke instruction
-past_moves : (P : ℕ → Type 0) (f : Frame) (invoke : Option Placed) → FrameMoves P f (past_invoke f invoke)
-past_moves P f None = frame_same P f
-past_moves P f (Some invoke) = frame_same P f
+-- a result was reachable, and no result is nothing
+abbrev ResultKnown : World → Option Value → Type 0
+ResultKnown w None = Unit {0}
+ResultKnown w (Some v) = (b : ℕ) → ref_of v ≡ Some b → Reach w b
 
-resumed_moves : (P : ℕ → Type 0) (program : List ClassListing) (gs : List Frame) (o : Option Frame) → running gs ≡ o → FramesMove P gs (resumed program gs o)
-resumed_moves P program gs None e = frames_same P gs
-resumed_moves P program gs (Some f) e = frames_set P gs _ f _ e (past_moves P f (instruction_of program f))
+past_lawful : (w : World) (caller : Frame) (result : Option Value) (invoke : Option Placed) → ResultKnown w result → ResultMoves w caller (past_invoke caller result invoke)
+past_lawful w caller None None h = tt
+past_lawful w caller (Some v) None h = tt
+past_lawful w caller None (Some invoke) h = replaced_lawful w invoke.next caller 0 [] tt
+past_lawful w caller (Some v) (Some invoke) h = if_room_lawful w invoke.next caller 0 (v ∷ []) (h, tt)
 
-left_moves : (P : ℕ → Type 0) (program : List ClassListing) (gs : List Frame) → FramesMove P gs (frames_of (Some (left_with program gs)))
-left_moves P program [] = tt
-left_moves P program (g ∷ gs) = resumed_moves P program (g ∷ gs) (running (g ∷ gs)) refl
+left_keeps : (P : ℕ → Type 0) (s : Site) → Kept P s.world (next_birth s.world) (left_world s)
+left_keeps P s = released_keeps P s.world s.world (next_birth s.world) s.thread s.frame.monitor (kept_same P s.world)
 
-pub returned_lawful : (program : List ClassListing) (w : World) (t : ℕ) → Lawful w None (returned program w t (frames_at w t))
-returned_lawful program w t =
-    moves refl (thread_moves w _ t (left_with program (callers (frames_at w t))) [] refl refl refl
-    (frames_trans _ (frames_at w t) (callers (frames_at w t)) _ (frames_taken _ (frames_at w t) _) (left_moves _ program (callers (frames_at w t))))
-    (λ b k. absurd k))
+resumes_moves : (s : Site) (caller : Frame) (r : Result Moved Abrupt) → running (callers (frames_in s)) ≡ Some caller → ResultMoves s.world caller r → CompletionMoves s.world (resumes s r)
+resumes_moves s caller (Err abrupt) e h = abrupt_moves s.world abrupt
+resumes_moves s caller (Ok m) e h =
+    let fs = frames_in s in
+    site_kept s (left_world s) (Live (with_running (callers fs) m.frame)) m.writes (left_keeps _ s)
+    (frames_trans _ fs (callers fs) (with_running (callers fs) m.frame) (frames_taken _ fs _) (frames_set _ (callers fs) _ caller m.frame e h.0)) h.1
+
+leaves_to_moves : (s : Site) (result : Option Value) (o : Option Frame) → running (callers (frames_in s)) ≡ o → ResultKnown s.world result → CompletionMoves s.world (leaves_to s result o)
+leaves_to_moves s result None e h = site_kept s (left_world s) (Ended None) [] (left_keeps _ s) tt (λ b k. absurd k)
+leaves_to_moves s result (Some caller) e h =
+    resumes_moves s caller (past_invoke caller result (instruction_of s.program caller)) e (past_lawful s.world caller result (instruction_of s.program caller) h)
+
+leaves_if_moves : (s : Site) (r : Result Value Fault) → ((v : Value) → r ≡ Ok v → ResultKnown s.world (Some v)) → CompletionMoves s.world (leaves_if s r)
+leaves_if_moves s (Err fault) h = tt
+leaves_if_moves s (Ok v) h = leaves_to_moves s (Some v) (running (callers (frames_in s))) refl (h v refl)
+
+return_if_moves : (s : Site) → running (frames_in s) ≡ Some s.frame → (kind : Option Kind) (right : Bool) → CompletionMoves s.world (return_if s kind right)
+return_if_moves s e kind false = tt
+return_if_moves s e None true = leaves_to_moves s None (running (callers (frames_in s))) refl tt
+return_if_moves s e (Some kind) true = leaves_if_moves s (value_on kind s.frame.stack) (λ v h. value_on_known s.world s.thread s.frame kind v e h)
+
+pub returned_moves : (s : Site) → running (frames_in s) ≡ Some s.frame → (kind : Option Kind) → CompletionMoves s.world (returned s kind)
+returned_moves s e kind = return_if_moves s e kind (gives kind (method_at s.program s.frame.method))

@@ -1,0 +1,60 @@
+use Rattle.std.specs.Prelude.{ℕ, [], Bool, true, false, Option, Some, None, Result, Ok, Err, if◌then◌else◌}
+use Rattle.model.specs.declared.turns.Fault.{Fault}
+use Rattle.model.specs.declared.turns.Fault.TheVariants.{MonitorLimit}
+use Rattle.model.specs.declared.turns.Exception.TheVariants.{NullPointer, IllegalMonitorState}
+use Rattle.model.specs.declared.instructions.MonitorOperation.{MonitorOperation}
+use Rattle.model.specs.declared.instructions.MonitorOperation.TheVariants.{Enter, Exit}
+use Rattle.model.specs.Frames.{ref_on, replaced}
+use Rattle.model.specs.Worlds.{World, Object, Monitor, free_monitor}
+use Rattle.model.specs.Objects.{object_at}
+use Rattle.model.specs.Monitors.{is_owner, may_enter, is_full, entered, exited, with_monitor}
+use Rattle.model.specs.Completions.{Completion, Site, moves_in, raises}
+use Rattle.model.specs.Completions.Completion.{Faults, Waits}
+
+-- ---- the monitor of a birth
+
+abbrev pub monitor_if : Option Object → Monitor
+monitor_if None = free_monitor
+monitor_if (Some object) = object.monitor
+
+abbrev pub monitor_of : World → ℕ → Monitor
+monitor_of w birth = monitor_if (object_at w birth)
+
+abbrev pub with_monitor_if : World → ℕ → Monitor → Option Object → World
+with_monitor_if w birth monitor None = w
+with_monitor_if w birth monitor (Some object) = with_monitor w birth object monitor
+
+-- another monitor of this birth
+abbrev pub with_monitor_of : World → ℕ → Monitor → World
+with_monitor_of w birth monitor = with_monitor_if w birth monitor (object_at w birth)
+
+-- ---- the instructions
+
+-- the operand goes, in a world that differs in the monitor alone
+abbrev pub moved_with : Site → World → Completion
+moved_with s w = moves_in w s (replaced s.next s.frame 1 [])
+
+-- whether the thread may enter, and whether the count is at its greatest
+abbrev pub enter_if : Completion → Bool → Bool → Completion
+enter_if entry false full = Waits
+enter_if entry true true = Faults MonitorLimit
+enter_if entry true false = entry
+
+abbrev pub enters : Site → ℕ → Monitor → Completion
+enters s birth m = enter_if (moved_with s (with_monitor_of s.world birth (entered s.thread m))) (may_enter s.thread m.owner) (is_full m)
+
+abbrev pub exits : Site → ℕ → Monitor → Completion
+exits s birth m = if is_owner s.thread m.owner then moved_with s (with_monitor_of s.world birth (exited m)) else raises IllegalMonitorState
+
+abbrev pub operates : Site → MonitorOperation → ℕ → Completion
+operates s Enter birth = enters s birth (monitor_of s.world birth)
+operates s Exit birth = exits s birth (monitor_of s.world birth)
+
+abbrev pub operates_on : Site → MonitorOperation → Result (Option ℕ) Fault → Completion
+operates_on s operation (Err fault) = Faults fault
+operates_on s operation (Ok None) = raises NullPointer
+operates_on s operation (Ok (Some birth)) = operates s operation birth
+
+-- monitorenter and monitorexit (JVMS 6.5): a null, then a monitor of another thread, then F10
+abbrev pub monitor_operated : Site → MonitorOperation → Completion
+monitor_operated s operation = operates_on s operation (ref_on s.frame.stack)
