@@ -1,3 +1,8 @@
+//! Class files by hand, and what users are told of damaged ones.
+
+mod codes;
+mod files;
+
 use super::*;
 use model::class_files::FormatFault;
 use pool::ReadError;
@@ -12,6 +17,78 @@ const E: [u8; 100] = [
     2, 0, 4, 0, 0, 0, 0, 0, 1, 0, 9, 0, 5, 0, 6, 0, 1, 0, 7, 0, 0, 0, 13, 0, 0, 0, 0, 0, 0, 0, 1,
     0xb1, 0, 0, 0, 0, 0, 0,
 ];
+
+/// E with another byte at a place.
+fn e_with(place: usize, byte: u8) -> [u8; 100] {
+    let mut bytes = E;
+    if let Some(old) = bytes.get_mut(place) {
+        *old = byte;
+    }
+    bytes
+}
+
+/// What users are told of these bytes.
+fn told(alloc: Global, bytes: &[u8]) -> Result<String, Fail> {
+    Ok(match read(alloc, bytes) {
+        Ok(_) => String::from_str(alloc, "read")?,
+        Err(error) => error.to_string(alloc)?,
+    })
+}
+
+/// How many bytes there are.
+fn length(bytes: &[u8]) -> Result<u32, Fail> {
+    Ok(u32::try_from(bytes.len()).ok().ok_or("too many bytes")?)
+}
+
+/// What stands in a Code attribute with no room for values: this code, and what is behind it.
+fn info(alloc: Global, code: &[u8], tail: &[u8]) -> Result<Vec<u8>, Fail> {
+    let mut info = Vec::from_slice(alloc, &[0, 0, 0, 0])?;
+    info.extend_from_slice(&length(code)?.to_be_bytes())?;
+    info.extend_from_slice(code)?;
+    info.extend_from_slice(tail)?;
+    Ok(info)
+}
+
+/// E with more entries behind its seven, so that the pool's count is this, and with other methods behind their count.
+fn other_e(alloc: Global, count: u8, entries: &[u8], methods: &[u8]) -> Result<Vec<u8>, Fail> {
+    let mut bytes = Vec::from_slice(alloc, &E[..9])?;
+    bytes.push(count)?;
+    bytes.extend_from_slice(&E[10..59])?;
+    bytes.extend_from_slice(entries)?;
+    bytes.extend_from_slice(&E[59..69])?;
+    bytes.extend_from_slice(methods)?;
+    bytes.extend_from_slice(&[0, 0])?;
+    Ok(bytes)
+}
+
+/// E's method with these flags and attributes behind their count.
+fn method(alloc: Global, flags: u16, attributes: &[u8]) -> Result<Vec<u8>, Fail> {
+    let mut bytes = Vec::from_slice(alloc, &[0, 1])?;
+    bytes.extend_from_slice(&flags.to_be_bytes())?;
+    bytes.extend_from_slice(&[0, 5, 0, 6])?;
+    bytes.extend_from_slice(attributes)?;
+    Ok(bytes)
+}
+
+/// A Code attribute with this in it.
+fn attribute(alloc: Global, info: &[u8]) -> Result<Vec<u8>, Fail> {
+    let mut bytes = Vec::from_slice(alloc, &[0, 7])?;
+    bytes.extend_from_slice(&length(info)?.to_be_bytes())?;
+    bytes.extend_from_slice(info)?;
+    Ok(bytes)
+}
+
+/// E with other entries behind its own, and with this in the Code attribute of its method.
+fn with_info(alloc: Global, count: u8, entries: &[u8], info: &[u8]) -> Result<Vec<u8>, Fail> {
+    let mut attributes = Vec::from_slice(alloc, &[0, 1])?;
+    attributes.extend_from_slice(&attribute(alloc, info)?)?;
+    other_e(alloc, count, entries, &method(alloc, 9, &attributes)?)
+}
+
+/// E with this code.
+fn with_code(alloc: Global, code: &[u8]) -> Result<Vec<u8>, Fail> {
+    with_info(alloc, 8, &[], &info(alloc, code, &[0, 0, 0, 0])?)
+}
 
 fn fault(rt: &impl Alloc<A = Global>, bytes: &[u8]) -> Option<FormatFault> {
     match ClassHead::read(rt.alloc(), bytes) {
@@ -41,13 +118,9 @@ fn heads_that_are_cut(rt: HostRuntime) {
     }
 }
 
-/// E with another byte at a place.
+/// The fault of E's head with another byte at a place.
 fn changed(rt: &impl Alloc<A = Global>, place: usize, byte: u8) -> Option<FormatFault> {
-    let mut bytes = E;
-    if let Some(old) = bytes.get_mut(place) {
-        *old = byte;
-    }
-    fault(rt, &bytes)
+    fault(rt, &e_with(place, byte))
 }
 
 #[test]
