@@ -11,7 +11,7 @@ use pool::Pool;
 use std::alloc::{AllocError, Global};
 
 /// The instructions of a class file's method, with names in place of pool numbers.
-pub fn listed_code(
+pub fn listed_instructions(
     alloc: Global,
     pool: &Pool,
     instructions: &[Located],

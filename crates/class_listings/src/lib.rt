@@ -1,5 +1,11 @@
 //! The listing of a class file: what it declares, with names in place of pool numbers.
 #![tactic(auto)]
 
-pub mod code;
-pub mod members;
+mod code;
+mod listings;
+mod members;
+
+pub use listings::listing;
+
+#[cfg(test)]
+mod tests;

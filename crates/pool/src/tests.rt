@@ -2,6 +2,7 @@ use super::*;
 use crate::descriptors::{argument_units, is_field_descriptor};
 use crate::names::{is_class_name, is_field_name, is_method_name};
 use model::class_files::{Entry, FormatFault};
+use model::listings::Constant;
 use model::names::Name;
 use std::alloc::{AllocError, Global};
 use std::test::*;
@@ -192,5 +193,29 @@ fn entries_that_are_no_pool(rt: HostRuntime) -> Result<(), Fail> {
         Some(FormatFault::Name)
     );
     assert_eq!(rt; refusal(alloc, vec![in alloc; utf8(alloc, "E/")?]?), None);
+    Ok(())
+}
+
+#[test]
+fn what_numbers_name(rt: HostRuntime) -> Result<(), Fail> {
+    let alloc = rt.alloc();
+    let mut builder = PoolBuilder::new(alloc);
+    assert_eq!(rt; builder.add(utf8(alloc, "vm/Sys")?), Ok(1));
+    assert_eq!(rt; builder.add(Entry::Class(1)), Ok(2));
+    assert_eq!(rt; builder.add(utf8(alloc, "print")?), Ok(3));
+    assert_eq!(rt; builder.add(utf8(alloc, "(I)V")?), Ok(4));
+    assert_eq!(rt; builder.add(Entry::NameAndType(3, 4)), Ok(5));
+    assert_eq!(rt; builder.add(Entry::Methodref(2, 5)), Ok(6));
+    assert_eq!(rt; builder.add(Entry::Long(-7)), Ok(7));
+    assert_eq!(rt; builder.add(Entry::Integer(8)), Ok(9));
+    let pool = builder.finish()?;
+    assert!(rt; pool.name(alloc, 3)?.is("print"));
+    assert!(rt; pool.class_name(alloc, 2)?.is("vm/Sys"));
+    let print = pool.member(alloc, 6)?;
+    assert!(rt; print.class.is("vm/Sys") && print.name.is("print") && print.descriptor.is("(I)V"));
+    assert_eq!(rt; (pool.long(7), pool.int(9)), (-7, 8));
+    assert_eq!(rt; pool.value(7), Some(Constant::Long(-7)));
+    assert_eq!(rt; pool.value(9), Some(Constant::Int(8)));
+    assert_eq!(rt; pool.value(2), None);
     Ok(())
 }
