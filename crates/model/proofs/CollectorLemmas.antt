@@ -18,7 +18,6 @@ pub mod Opening
 pub mod Outcomes
 pub mod Promising
 pub mod Reclaiming
-pub mod Recording
 pub mod Running
 pub mod Scanning
 pub mod Shading
@@ -32,5 +31,4 @@ pub mod Tracing
 pub mod Turning
 pub mod Unwinding
 pub mod Words
-pub mod WorkedRows
 pub mod WorkedRuns
