@@ -6,6 +6,7 @@ pub mod Builtins
 pub mod CallPrograms
 pub mod ClimbingRuns
 pub mod DropRuns
+pub mod EntryRuns
 pub mod FieldRuns
 pub mod Fields
 pub mod HeapSites

@@ -1,5 +1,5 @@
 -- Programs of calls, run whole by thread 0: a recursion without end, selection, and the faults of calls and returns.
-use Rattle.std.specs.Prelude.{◌≡◌, ℕ, List, [], ◌∷◌, replicate, Option, Some, None, codes, refl}
+use Rattle.std.specs.Prelude.{◌≡◌, ℕ, List, [], ◌∷◌, replicate, Some, None, codes, refl}
 use Rattle.std.specs.Int.{int_wrap}
 use Rattle.std.specs.Fmt.{digits}
 use Rattle.model.specs.declared.instructions.Constant.TheVariants.{SmallInt}
@@ -7,19 +7,15 @@ use Rattle.model.specs.declared.instructions.SmallInt.{SmallInt as SmallIntOf}
 use Rattle.model.specs.declared.instructions.SmallInt.TheVariants.{One, Two, Three}
 use Rattle.model.specs.declared.instructions.FirstLocal.TheVariants.{Zero as FirstZero}
 use Rattle.model.specs.declared.instructions.Local.TheVariants.{First}
-use Rattle.model.specs.declared.instructions.LocalAccess.TheVariants.{Load, Store}
+use Rattle.model.specs.declared.instructions.LocalAccess.TheVariants.{Load}
 use Rattle.model.specs.declared.instructions.ClassOperation.TheVariants.{New}
-use Rattle.model.specs.declared.instructions.Test.TheVariants.{Always}
-use Rattle.model.specs.declared.instructions.Width.TheVariants.{Narrow}
 use Rattle.model.specs.declared.instructions.Invocation.{Invocation}
 use Rattle.model.specs.declared.instructions.Invocation.TheVariants.{Virtual, Special, Static, Interface}
-use Rattle.model.specs.declared.instructions.MonitorOperation.TheVariants.{Enter}
-use Rattle.model.specs.declared.instructions.Instruction.TheVariants.{Constant, Local, Branch, Class, Invoke, Return, Throw, Monitor}
+use Rattle.model.specs.declared.instructions.Instruction.TheVariants.{Constant, Local, Class, Invoke, Return, Throw}
 use Rattle.model.specs.declared.values.Kind.TheVariants.{Int as IntKind, Ref as RefKind}
 use Rattle.model.specs.declared.values.Value.TheVariants.{Ref}
-use Rattle.model.specs.declared.values.Entry.TheVariants.{Holds}
 use Rattle.model.specs.declared.listings.Method.{Method}
-use Rattle.model.specs.declared.turns.Fault.TheVariants.{WrongClass, WrongReturn, NoMethod, MonitorLimit}
+use Rattle.model.specs.declared.turns.Fault.TheVariants.{WrongClass, WrongReturn, NoMethod}
 use Rattle.model.specs.ClassListings.{ClassListing}
 use Rattle.model.specs.Classes.Builtin.{builtin_classes}
 use Rattle.model.specs.Classes.Search.{upwards, interfaces_from}
@@ -30,7 +26,7 @@ use Rattle.model.specs.Worlds.Thread.{Live, Ended}
 use Rattle.model.specs.Table.Next.{completion, next}
 use Rattle.model.specs.Turns.{refusal}
 use Rattle.model.proofs.TableRows.Listings.{Sized, print, return, after, run, more}
-use Rattle.model.proofs.TableRows.Sites.{class, interface, method, abstract_method, member, place, frame, object, world}
+use Rattle.model.proofs.TableRows.Sites.{class, interface, method, abstract_method, member, place, frame}
 
 -- ---- instructions
 
@@ -192,37 +188,3 @@ wrong_return = main_class (codes "M") 1 0 (ireturn ∷ []) [] ∷ []
 wrong_return-faulted : run 2 wrong_return ≡ record (opening_world wrong_return) { fault = Some (WrongReturn, 0); rows = 1 }
 unfolding refusal next completion builtin_classes upwards interfaces_from is_within is_subtype_within int_wrap digits
 wrong_return-faulted = refl
-
--- ---- main enters the monitor of an Object again and again: F10 at the 65,536th entry. It opens with the object in local 0;
--- from then on each third turn enters
-
-abbrev entries : List ClassListing
-entries = main_class (codes "M") 1 1 (new object_class ∷ (1, Local (Store RefKind (First FirstZero))) ∷ aload_0 ∷ (1, Monitor Enter) ∷ (3, Branch (Always Narrow) 4) ∷ []) [] ∷ []
-
--- before the next aload_0, with so many entries
-abbrev entered : Option ℕ → ℕ → ℕ → World
-entered owner count rows = record (opening_world entries) {
-  threads = Live (frame (place 0 0) 4 (Holds (Ref (Some 3)) ∷ []) [] 1 None ∷ []) ∷ [];
-  objects = (world [] (object object_class owner count None ∷ [])).objects;
-  rows = rows;
-}
-
-entries-first : run 2 entries ≡ entered None 0 2
-unfolding refusal next completion builtin_classes upwards interfaces_from is_within is_subtype_within int_wrap digits
-entries-first = refl
-
-entries-one : run 5 entries ≡ entered (Some 0) 1 5
-unfolding refusal next completion builtin_classes upwards interfaces_from is_within is_subtype_within int_wrap digits
-entries-one = refl
-
-entries-last : after 3 entries (entered (Some 0) 65534 196604) ≡ entered (Some 0) 65535 196607
-unfolding refusal next completion builtin_classes upwards interfaces_from is_within is_subtype_within int_wrap digits
-entries-last = refl
-
-entries-full : (after 2 entries (entered (Some 0) 65535 196607)).fault ≡ Some (MonitorLimit, 0)
-unfolding refusal next completion builtin_classes upwards interfaces_from is_within is_subtype_within int_wrap digits
-entries-full = refl
-
-entries-row : (after 3 entries (entered (Some 0) 65535 196607)).rows ≡ 196609
-unfolding refusal next completion builtin_classes upwards interfaces_from is_within is_subtype_within int_wrap digits
-entries-row = refl

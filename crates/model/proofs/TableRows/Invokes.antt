@@ -181,6 +181,11 @@ special_past_private : calls (three ∷ []) Special a (codes "f") (codes "()I") 
 unfolding upwards interfaces_from is_within is_subtype_within builtin_classes
 special_past_private = refl
 
+-- B's private p isn't found from B on
+special_private_above : calls (three ∷ []) Special b (codes "p") (codes "()V") ≡ Faults NoMethod
+unfolding upwards interfaces_from is_within is_subtype_within builtin_classes
+special_private_above = refl
+
 -- its own is taken as it was resolved
 special_own : calls (Long (pos 2) ∷ three ∷ []) Special c (codes "h") (codes "(J)V") ≡ enters [] (place 2 0) (Holds three ∷ Holds (Long (pos 2)) ∷ UpperHalf ∷ []) 0 (3 ∷ [])
 unfolding upwards interfaces_from is_within is_subtype_within builtin_classes
