@@ -49,6 +49,13 @@ room_for_values old dropped count above taken room vs some first s fits =
     let runs = running_frame-with_running old dropped (without count (running_frame old)) some first in
     rw runs (omega arith)
 
+-- the same where they take no more room than those that were dropped
+pub room_for_no_more : (old dropped : List Frame) (count above : ℕ) (vs : List Value) → 0 < length old → dropped ≡ with_running old (without count (running_frame old)) → above + units_of_all (drop count (running_frame old).stack) ≤ (running_frame old).room → units_of_all vs ≤ above → units_of_all (push_all vs (running_frame dropped).stack) ≤ (running_frame dropped).room
+room_for_no_more old dropped count above vs some first room fits =
+    let all = units_of_all-push_all vs (drop count (running_frame old).stack) in
+    let runs = running_frame-with_running old dropped (without count (running_frame old)) some first in
+    rw runs (omega arith)
+
 -- values are dropped, others are pushed, and then the pc changes
 pub replaces_all : (old dropped pushed after : List Frame) (next count : ℕ) (vs : List Value) → 0 < length old → dropped ≡ with_running old (without count (running_frame old)) → pushed ≡ with_running dropped (with_values vs (running_frame dropped)) → after ≡ with_running pushed (at_pc next (running_frame pushed)) → after ≡ with_running old (replaced next (running_frame old) count vs).frame
 replaces_all old dropped pushed after next count vs some first second third =

@@ -2,7 +2,6 @@
 use Rattle.std.proofs.Common.{◌≡◌, ℕ, zero, suc, ◌+◌, ◌-◌, ◌<◌, ◌≤◌, List, [], ◌∷◌, length, map, reverse, take, drop, get_or, ap, sym, ◌∙◌, arith}
 use Rattle.model.specs.declared.values.Entry.{Entry}
 use Rattle.model.specs.declared.values.Value.{Value}
-use Rattle.model.specs.Frames.{Frame}
 use Rattle.frames.specs.declared.activations.Activation.{Activation}
 use Rattle.frames.specs.Layout.{value_in, stack_of, frame_of, AreLaidOut, IsSound}
 use Rattle.frames.proofs.LayoutLemmas.{values_fit, laid_le}

@@ -21,6 +21,7 @@
 //! | `set_monitor(m)`, `set_mark(m)` | `with_running frames (record f { monitor = m })`, `with_running frames (record f { mark = m })` |
 //! | `discard(next, n)` | under `n ≤ length f.stack`: `with_running frames (replaced next f n []).frame` |
 //! | `replace(next, n, v)` | also under `units_of v ≤ units_of_all (take n f.stack)`: `with_running frames (replaced next f n (v ∷ [])).frame` |
+//! | `replace_all(next, n, vs)` | under `n ≤ length f.stack` and `units_of_all vs ≤ units_of_all (take n f.stack)`: `with_running frames (replaced next f n vs).frame` |
 //! | `replace_if_room(next, n, v)`, `replace_all_if_room(next, n, vs)` | under `n ≤ length f.stack`: `told result after ≡ moved_on frames (replaced_if_room next f n vs)`, and nothing changes on an `Err` |
 //! | `entry(i)` | `slice_get f.locals i` |
 //! | `has_local(kind, i)`, `load(kind, i)`, `local_int(i)` | `has_local kind f.locals i`, `local_at kind f.locals i`, `as_int (local_at Int f.locals i)` |

@@ -45,6 +45,19 @@ impl Frames {
         self.go_to(next);
     }
 
+    /// Goes to this pc, with values, bottom first, in place of so many at the top, which take no less room.
+    pub fn replace_all(&mut self, next: u16, count: u8, values: &[Value])
+        requires some { 0 < length self.old }
+        requires there { count ≤ length (running_frame self.old).stack }
+        requires room { units_of_all values.now ≤ units_of_all (take count (running_frame self.old).stack) }
+        ensures { self.new ≡ with_running self.old (replaced next (running_frame self.old) count values.now).frame }
+    {
+        let units = self.units_above(count);
+        self.drop_values(count, units);
+        self.push_all(values);
+        self.go_to(next);
+    }
+
     /// Goes to this pc, with a value in place of so many at the top; F2 where it has no room, and then nothing changes.
     pub fn replace_if_room(&mut self, next: u16, count: u8, value: Value) -> Result<(), Abrupt>
         requires some { 0 < length self.old }

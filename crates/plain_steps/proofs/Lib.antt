@@ -1,2 +1,4 @@
 pub mod BirthLemmas
+pub mod GroupLemmas
+pub mod KeyLemmas
 pub mod TableLemmas

@@ -8,20 +8,32 @@
 //! |---|---|
 //! | `constant(frames, next, c)` | `told_with result frames.new ≡ moved_with frames.old (constant next c f)` |
 //! | `number(frames, next, operation)` | the same with `number next operation f` |
+//! | `local(frames, next, access)` | the same with `local next access f` |
+//! | `rearranged(frames, next, operation)` | the same with `rearranged next operation f` |
+//! | `branched(frames, next, test, target)` | the same with `branched next test target f` |
+//! | `table_switched(frames, table)`, `lookup_switched(frames, lookup)` | the same with `table_switched table f`, `lookup_switched lookup f` |
 //! | `plain_step(frames, step)` | the same with `plain_move step.next step.action f`, where that is `Some` |
 //!
 //! `proofs/TableLemmas.antt` says what such an equation comes to in the instruction table: `by_family-plain`, then
 //! `completes-done` or `completes-abrupt`.
 #![tactic(auto)]
 
+mod branches;
 mod constants;
+mod locals;
 mod numbers;
+mod stacks;
 mod steps;
+mod switches;
 #[cfg(test)]
 mod tests;
 mod written;
 
+pub use branches::branched;
 pub use constants::constant;
+pub use locals::local;
 pub use numbers::number;
+pub use stacks::rearranged;
 pub use steps::plain_step;
+pub use switches::{lookup_switched, table_switched};
 pub use written::Written;

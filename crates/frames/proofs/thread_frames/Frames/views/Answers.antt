@@ -1,4 +1,3 @@
-use Rattle.std.proofs.Common.{◌<◌, length, arith}
 use Rattle.frames.proofs.ViewLemmas.{sound_within}
 use Rattle.frames.proofs.thread_frames.Frames.views.Goals as goal
 
