@@ -38,7 +38,7 @@ fn told(alloc: Global, bytes: &[u8]) -> Result<String, Fail> {
 /// The bytes that a text gives, two hexadecimal digits each; what is no such digit is passed over.
 fn hex(alloc: Global, text: &str) -> Result<Vec<u8>, Fail> {
     let mut bytes = Vec::new(alloc);
-    let mut high = None;
+    let mut high: Option<u8> = None;
     for letter in text.as_bytes() {
         let Some(digit) = char::from(*letter).to_digit(16) else {
             continue;
@@ -47,7 +47,6 @@ fn hex(alloc: Global, text: &str) -> Result<Vec<u8>, Fail> {
         high = match high {
             None => Some(digit),
             Some(first) => {
-                let first: u8 = first;
                 bytes.push(first.wrapping_mul(16).wrapping_add(digit))?;
                 None
             }
