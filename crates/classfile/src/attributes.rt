@@ -1,6 +1,5 @@
 //! Texts and attributes at the front of bytes.
 
-ghost use Rattle.std.specs.Prelude.{◌≡◌};
 ghost use Rattle.model.specs.Texts.Names.{is_field_name as field_name_test};
 ghost use Rattle.model.specs.Texts.Descriptors.{is_field_descriptor as field_descriptor_test};
 ghost use Rattle.pool.specs.Reading.Steps.{Gives};

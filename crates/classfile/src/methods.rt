@@ -1,7 +1,6 @@
 //! Methods of a class file.
 
-ghost use Rattle.std.specs.Prelude.{◌≡◌, ◌++◌, ◌<◌, ◌^◌, None, OnOk};
-ghost use Rattle.model.specs.Texts.Descriptors.{arguments_of};
+ghost use Rattle.std.specs.Prelude.{◌≡◌, ◌++◌, None, OnOk};
 ghost use Rattle.model.specs.Texts.Names.{is_method_name as method_name_test};
 ghost use Rattle.model.specs.Texts.Flags.{has};
 ghost use Rattle.model.specs.ClassFiles.Attributes.{attributes_bytes};

@@ -35,26 +35,46 @@ fn told(alloc: Global, bytes: &[u8]) -> Result<String, Fail> {
     })
 }
 
+/// The bytes that a text gives, two hexadecimal digits each; what is no such digit is passed over.
+fn hex(alloc: Global, text: &str) -> Result<Vec<u8>, Fail> {
+    let mut bytes = Vec::new(alloc);
+    let mut high: Option<u8> = None;
+    for letter in text.as_bytes() {
+        let Some(digit) = char::from(*letter).to_digit(16) else {
+            continue;
+        };
+        let digit = u8::try_from(digit).unwrap_or(0);
+        high = match high {
+            None => Some(digit),
+            Some(first) => {
+                bytes.push(first.wrapping_mul(16).wrapping_add(digit))?;
+                None
+            }
+        };
+    }
+    Ok(bytes)
+}
+
 /// How many bytes there are.
 fn length(bytes: &[u8]) -> Result<u32, Fail> {
     Ok(u32::try_from(bytes.len()).ok().ok_or("too many bytes")?)
 }
 
 /// What stands in a Code attribute with no room for values: this code, and what is behind it.
-fn info(alloc: Global, code: &[u8], tail: &[u8]) -> Result<Vec<u8>, Fail> {
+fn info(alloc: Global, code: &[u8], tail: &str) -> Result<Vec<u8>, Fail> {
     let mut info = Vec::from_slice(alloc, &[0, 0, 0, 0])?;
     info.extend_from_slice(&length(code)?.to_be_bytes())?;
     info.extend_from_slice(code)?;
-    info.extend_from_slice(tail)?;
+    info.extend_from_slice(&hex(alloc, tail)?)?;
     Ok(info)
 }
 
 /// E with more entries behind its seven, so that the pool's count is this, and with other methods behind their count.
-fn other_e(alloc: Global, count: u8, entries: &[u8], methods: &[u8]) -> Result<Vec<u8>, Fail> {
+fn other_e(alloc: Global, count: u8, entries: &str, methods: &[u8]) -> Result<Vec<u8>, Fail> {
     let mut bytes = Vec::from_slice(alloc, &E[..9])?;
     bytes.push(count)?;
     bytes.extend_from_slice(&E[10..59])?;
-    bytes.extend_from_slice(entries)?;
+    bytes.extend_from_slice(&hex(alloc, entries)?)?;
     bytes.extend_from_slice(&E[59..69])?;
     bytes.extend_from_slice(methods)?;
     bytes.extend_from_slice(&[0, 0])?;
@@ -79,7 +99,7 @@ fn attribute(alloc: Global, info: &[u8]) -> Result<Vec<u8>, Fail> {
 }
 
 /// E with other entries behind its own, and with this in the Code attribute of its method.
-fn with_info(alloc: Global, count: u8, entries: &[u8], info: &[u8]) -> Result<Vec<u8>, Fail> {
+fn with_info(alloc: Global, count: u8, entries: &str, info: &[u8]) -> Result<Vec<u8>, Fail> {
     let mut attributes = Vec::from_slice(alloc, &[0, 1])?;
     attributes.extend_from_slice(&attribute(alloc, info)?)?;
     other_e(alloc, count, entries, &method(alloc, 9, &attributes)?)
@@ -87,7 +107,7 @@ fn with_info(alloc: Global, count: u8, entries: &[u8], info: &[u8]) -> Result<Ve
 
 /// E with this code.
 fn with_code(alloc: Global, code: &[u8]) -> Result<Vec<u8>, Fail> {
-    with_info(alloc, 8, &[], &info(alloc, code, &[0, 0, 0, 0])?)
+    with_info(alloc, 8, "", &info(alloc, code, "0000 0000")?)
 }
 
 fn fault(rt: &impl Alloc<A = Global>, bytes: &[u8]) -> Option<FormatFault> {

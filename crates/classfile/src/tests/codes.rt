@@ -2,84 +2,87 @@
 
 use super::*;
 
-/// What users are told of E with this code.
-fn told_of_code(alloc: Global, code: &[u8]) -> Result<String, Fail> {
-    told(alloc, &with_code(alloc, code)?)
+/// What users are told of E with this code, in hexadecimal.
+fn told_of_code(alloc: Global, code: &str) -> Result<String, Fail> {
+    told(alloc, &with_code(alloc, &hex(alloc, code)?)?)
 }
 
 #[test]
 fn faulty_code(rt: HostRuntime) -> Result<(), Fail> {
     for (code, answer) in [
-        ([].as_slice(), "O5 in method main()V"),
+        ("", "O5 in method main()V"),
         // bipush without its byte
-        ([0x10].as_slice(), "O2 in method main()V"),
-        // goto its own operand
-        ([0xa7, 0, 1, 0xb1].as_slice(), "O3 in method main()V"),
-        ([0xa7, 0, 3, 0xb1].as_slice(), "read"),
-        // lookupswitch of keys 5 and 2, with its count right and then far too great
-        (
-            [
-                3, 0xab, 0, 0, 0, 0, 0, 27, 0, 0, 0, 2, 0, 0, 0, 5, 0, 0, 0, 27, 0, 0, 0, 2, 0, 0,
-                0, 27, 0xb1,
-            ]
-            .as_slice(),
-            "O4 in method main()V",
-        ),
-        (
-            [
-                3, 0xab, 0, 0, 0, 0, 0, 27, 0, 0, 3, 0xe8, 0, 0, 0, 5, 0, 0, 0, 27, 0, 0, 0, 2, 0,
-                0, 0, 27,
-            ]
-            .as_slice(),
-            "O4 in method main()V",
-        ),
-        (
-            [
-                3, 0xab, 0, 0, 0, 0, 0, 27, 0, 0, 0, 2, 0, 0, 0, 2, 0, 0, 0, 27, 0, 0, 0, 5, 0, 0,
-                0, 27, 0xb1,
-            ]
-            .as_slice(),
-            "read",
-        ),
-        // tableswitch from 5 to 4, and then the end; a pad that isn't 0, and then the end
-        (
-            [3, 0xaa, 0, 0, 0, 0, 0, 0, 0, 0, 0, 5, 0, 0, 0, 4].as_slice(),
-            "O4 in method main()V",
-        ),
-        ([3, 0xaa, 0, 1].as_slice(), "O4 in method main()V"),
-        ([3, 0xaa, 0, 0].as_slice(), "O2 in method main()V"),
-        // a field that is none, and before it a fault of the code
-        ([0xb2, 0, 1, 0xb1].as_slice(), "C6"),
-        ([0xb2, 0, 1, 0xff].as_slice(), "O1 in method main()V"),
+        ("10", "O2 in method main()V"),
+        // goto its own operand, and goto the return
+        ("a7 0001 b1", "O3 in method main()V"),
+        ("a7 0003 b1", "read"),
+        // getstatic of what is no field, and behind it a fault of the code
+        ("b2 0001 b1", "C6"),
+        ("b2 0001 ff", "O1 in method main()V"),
     ] {
         assert_eq!(rt; told_of_code(rt.alloc(), code)?.as_str(), answer);
     }
     Ok(())
 }
 
-/// k nops, ldc of the number 2147483646, and a tableswitch from there with two labels behind so many pads; then return.
-fn switch_behind(alloc: Global, nops: u8, pads: u8) -> Result<Vec<u8>, Fail> {
-    let end = pads.wrapping_add(21);
-    let mut code = Vec::new(alloc);
-    for _ in 0..nops {
-        code.push(0)?;
+#[test]
+fn faulty_switches(rt: HostRuntime) -> Result<(), Fail> {
+    for (code, answer) in [
+        // lookupswitch of keys 2 and 5, of 5 and 2, and of these with a count of 1000 and nothing behind them
+        (
+            "03 ab 0000 0000001b 00000002 00000002 0000001b 00000005 0000001b b1",
+            "read",
+        ),
+        (
+            "03 ab 0000 0000001b 00000002 00000005 0000001b 00000002 0000001b b1",
+            "O4 in method main()V",
+        ),
+        (
+            "03 ab 0000 0000001b 000003e8 00000005 0000001b 00000002 0000001b",
+            "O4 in method main()V",
+        ),
+        // tableswitch from 5 to 4, and then the end
+        (
+            "03 aa 0000 00000000 00000005 00000004",
+            "O4 in method main()V",
+        ),
+        // a pad that isn't 0, and then the end; good pads, and then the end
+        ("03 aa 0001", "O4 in method main()V"),
+        ("03 aa 0000", "O2 in method main()V"),
+    ] {
+        assert_eq!(rt; told_of_code(rt.alloc(), code)?.as_str(), answer);
     }
-    code.extend_from_slice(&[0x12, 8, 0xaa])?;
-    for _ in 0..pads {
-        code.push(0)?;
-    }
-    code.extend_from_slice(&[0, 0, 0, end, 0x7f, 0xff, 0xff, 0xfe, 0x7f, 0xff, 0xff, 0xff])?;
-    code.extend_from_slice(&[0, 0, 0, end, 0, 0, 0, end, 0xb1])?;
-    let entry = [3, 0x7f, 0xff, 0xff, 0xfe];
-    with_info(alloc, 9, &entry, &info(alloc, &code, &[0, 0, 0, 0])?)
+    Ok(())
+}
+
+/// An Integer 2147483646.
+const INTEGER: &str = "03 7ffffffe";
+
+/// Some nops, `ldc` of that Integer, and a tableswitch from 2147483646 with two labels behind these pads.
+fn is_read_with(alloc: Global, nops: &str, pads: &str, to_end: &str) -> Result<bool, Fail> {
+    let text = format!(in alloc;
+        "{nops} 12 08 aa {pads} {to_end} 7ffffffe 7fffffff {to_end} {to_end} b1"
+    )?;
+    let code = hex(alloc, text.as_str())?;
+    let bytes = with_info(alloc, 9, INTEGER, &info(alloc, &code, "0000 0000")?)?;
+    Ok(told(alloc, &bytes)?.as_str() == "read")
 }
 
 #[test]
 fn a_switch_has_pads(rt: HostRuntime) -> Result<(), Fail> {
-    for (nops, right) in [(0u8, 1u8), (1, 0), (2, 3), (3, 2)] {
-        for pads in 0..4u8 {
-            let bytes = switch_behind(rt.alloc(), nops, pads)?;
-            let is_read = told(rt.alloc(), &bytes)?.as_str() == "read";
+    for (nops, right) in [
+        ("", "00"),
+        ("00", ""),
+        ("0000", "000000"),
+        ("000000", "0000"),
+    ] {
+        for (pads, to_end) in [
+            ("", "00000015"),
+            ("00", "00000016"),
+            ("0000", "00000017"),
+            ("000000", "00000018"),
+        ] {
+            let is_read = is_read_with(rt.alloc(), nops, pads, to_end)?;
             assert_eq!(rt; is_read, pads == right);
         }
     }
@@ -87,35 +90,34 @@ fn a_switch_has_pads(rt: HostRuntime) -> Result<(), Fail> {
 }
 
 /// An Integer 8, a Long 9, a field `main I` 13, and methods `main()V` of a class 15 and of an interface 16.
-const ENTRIES: [u8; 43] = [
-    3, 0, 0, 0, 7, 5, 0, 0, 0, 0, 0, 0, 0, 7, 1, 0, 1, b'I', 12, 0, 5, 0, 11, 9, 0, 2, 0, 12, 12,
-    0, 5, 0, 6, 10, 0, 2, 0, 14, 11, 0, 2, 0, 14,
-];
+const ENTRIES: &str =
+    "03 00000007 05 0000000000000007 01 0001 49 0c 0005 000b 09 0002 000c 0c 0005 0006 0a 0002 000e 0b 0002 000e";
 
 #[test]
 fn each_operand_has_its_kind(rt: HostRuntime) -> Result<(), Fail> {
-    for (opcode, tail, wanted) in [
-        (0x13u8, [].as_slice(), [8u8].as_slice()),
-        (0x14, [].as_slice(), [9].as_slice()),
-        (0xb2, [].as_slice(), [13].as_slice()),
-        (0xb3, [].as_slice(), [13].as_slice()),
-        (0xb4, [].as_slice(), [13].as_slice()),
-        (0xb5, [].as_slice(), [13].as_slice()),
-        (0xb6, [].as_slice(), [15].as_slice()),
-        (0xb7, [].as_slice(), [15].as_slice()),
-        (0xb8, [].as_slice(), [15].as_slice()),
-        (0xb9, [1, 0].as_slice(), [16].as_slice()),
-        (0xbb, [].as_slice(), [2, 4].as_slice()),
-        (0xbd, [].as_slice(), [2, 4].as_slice()),
-        (0xc0, [].as_slice(), [2, 4].as_slice()),
-        (0xc1, [].as_slice(), [2, 4].as_slice()),
+    for (opcode, tail, one, other) in [
+        ("13", "", 8u8, 8u8),
+        ("14", "", 9, 9),
+        ("b2", "", 13, 13),
+        ("b3", "", 13, 13),
+        ("b4", "", 13, 13),
+        ("b5", "", 13, 13),
+        ("b6", "", 15, 15),
+        ("b7", "", 15, 15),
+        ("b8", "", 15, 15),
+        ("b9", "0100", 16, 16),
+        ("bb", "", 2, 4),
+        ("bd", "", 2, 4),
+        ("c0", "", 2, 4),
+        ("c1", "", 2, 4),
     ] {
         for number in 0u8..18 {
-            let mut code = Vec::from_slice(rt.alloc(), &[opcode, 0, number])?;
-            code.extend_from_slice(tail)?;
-            let info = info(rt.alloc(), &code, &[0, 0, 0, 0])?;
-            let bytes = with_info(rt.alloc(), 17, &ENTRIES, &info)?;
-            let answer = if wanted.contains(&number) {
+            let mut code = hex(rt.alloc(), opcode)?;
+            code.extend_from_slice(&[0, number])?;
+            code.extend_from_slice(&hex(rt.alloc(), tail)?)?;
+            let info = info(rt.alloc(), &code, "0000 0000")?;
+            let bytes = with_info(rt.alloc(), 17, ENTRIES, &info)?;
+            let answer = if number == one || number == other {
                 "read"
             } else {
                 "C6"
@@ -128,15 +130,14 @@ fn each_operand_has_its_kind(rt: HostRuntime) -> Result<(), Fail> {
 
 #[test]
 fn an_array_is_not_made_by_new(rt: HostRuntime) -> Result<(), Fail> {
-    let entries = [1, 0, 2, b'[', b'I', 7, 0, 8];
-    for (opcode, answer) in [
-        (0xbbu8, "C6"),
-        (0xbd, "read"),
-        (0xc0, "read"),
-        (0xc1, "read"),
+    for (code, answer) in [
+        ("bb 0009", "C6"),
+        ("bd 0009", "read"),
+        ("c0 0009", "read"),
+        ("c1 0009", "read"),
     ] {
-        let info = info(rt.alloc(), &[opcode, 0, 9], &[0, 0, 0, 0])?;
-        let bytes = with_info(rt.alloc(), 10, &entries, &info)?;
+        let info = info(rt.alloc(), &hex(rt.alloc(), code)?, "0000 0000")?;
+        let bytes = with_info(rt.alloc(), 10, "01 0002 5b49 07 0008", &info)?;
         assert_eq!(rt; told(rt.alloc(), &bytes)?.as_str(), answer);
     }
     Ok(())
@@ -146,37 +147,21 @@ fn an_array_is_not_made_by_new(rt: HostRuntime) -> Result<(), Fail> {
 fn rows_and_attributes_of_code(rt: HostRuntime) -> Result<(), Fail> {
     for (code, tail, answer) in [
         // a row for any class, for class E, and for what is no class
-        (
-            0xb1u8,
-            [0, 1, 0, 0, 0, 1, 0, 0, 0, 0, 0, 0].as_slice(),
-            "read",
-        ),
-        (
-            0xb1,
-            [0, 1, 0, 0, 0, 1, 0, 0, 0, 2, 0, 0].as_slice(),
-            "read",
-        ),
-        (0xb1, [0, 1, 0, 0, 0, 1, 0, 0, 0, 1, 0, 0].as_slice(), "C6"),
+        ("b1", "0001 0000000100000000 0000", "read"),
+        ("b1", "0001 0000000100000002 0000", "read"),
+        ("b1", "0001 0000000100000001 0000", "C6"),
         // the code's fault is told before
-        (
-            0xff,
-            [0, 1, 0, 0, 0, 1, 0, 0, 0, 1, 0, 0].as_slice(),
-            "O1 in method main()V",
-        ),
-        // an attribute that is skipped, one without a name, one that passes the end, and a byte too many
-        (0xb1, [0, 0, 0, 1, 0, 7, 0, 0, 0, 1, 9].as_slice(), "read"),
-        (0xb1, [0, 0, 0, 1, 0, 2, 0, 0, 0, 1, 9].as_slice(), "C6"),
-        (0xb1, [0, 0, 0, 1, 0, 7, 0, 0, 0, 2, 9].as_slice(), "C8"),
-        (
-            0xb1,
-            [0, 0, 0, 1, 0, 7, 0xff, 0xff, 0xff, 0xff, 9].as_slice(),
-            "C8",
-        ),
-        (0xb1, [0, 0, 0, 0, 0].as_slice(), "C8"),
-        (0xb1, [0, 0].as_slice(), "C8"),
+        ("ff", "0001 0000000100000001 0000", "O1 in method main()V"),
+        // an attribute that is skipped, one without a name, two that pass the end, and a byte too many or too few
+        ("b1", "0000 0001 0007 00000001 09", "read"),
+        ("b1", "0000 0001 0002 00000001 09", "C6"),
+        ("b1", "0000 0001 0007 00000002 09", "C8"),
+        ("b1", "0000 0001 0007 ffffffff 09", "C8"),
+        ("b1", "0000 0000 00", "C8"),
+        ("b1", "0000 00", "C8"),
     ] {
-        let info = info(rt.alloc(), &[code], tail)?;
-        let bytes = with_info(rt.alloc(), 8, &[], &info)?;
+        let info = info(rt.alloc(), &hex(rt.alloc(), code)?, tail)?;
+        let bytes = with_info(rt.alloc(), 8, "", &info)?;
         assert_eq!(rt; told(rt.alloc(), &bytes)?.as_str(), answer);
     }
     Ok(())
@@ -184,8 +169,12 @@ fn rows_and_attributes_of_code(rt: HostRuntime) -> Result<(), Fail> {
 
 #[test]
 fn rows_are_written(rt: HostRuntime) -> Result<(), Fail> {
-    let tail = [0, 2, 0, 0, 0, 1, 0, 0, 0, 2, 0, 0, 0, 1, 0, 0, 0, 0, 0, 0];
-    let bytes = with_info(rt.alloc(), 8, &[], &info(rt.alloc(), &[0xb1], &tail)?)?;
+    let info = info(
+        rt.alloc(),
+        &[0xb1],
+        "0002 0000000100000002 0000000100000000 0000",
+    )?;
+    let bytes = with_info(rt.alloc(), 8, "", &info)?;
     let file = read(rt.alloc(), &bytes)?;
     assert_eq!(rt; write(rt.alloc(), &file)?.as_slice(), bytes.as_slice());
     let [main] = file.methods() else {
@@ -203,24 +192,25 @@ fn rows_are_written(rt: HostRuntime) -> Result<(), Fail> {
         (second.start, second.end, second.handler, second.class),
         (0, 1, 0, 0)
     );
-    // an attribute of the code is left out
-    let tail = [0, 0, 0, 1, 0, 7, 0, 0, 0, 1, 9];
-    let bytes = with_info(rt.alloc(), 8, &[], &info(rt.alloc(), &[0xb1], &tail)?)?;
-    let file = read(rt.alloc(), &bytes)?;
+    Ok(())
+}
+
+#[test]
+fn an_attribute_of_code_is_not_written(rt: HostRuntime) -> Result<(), Fail> {
+    let info = info(rt.alloc(), &[0xb1], "0000 0001 0007 00000001 09")?;
+    let file = read(rt.alloc(), &with_info(rt.alloc(), 8, "", &info)?)?;
     assert_eq!(rt; write(rt.alloc(), &file)?.as_slice(), E.as_slice());
     Ok(())
 }
 
-/// What users are told of E with these flags of its method, and so many Code attributes.
+/// What users are told of E with this flag more of its method, and so many Code attributes.
 fn told_of_codes(alloc: Global, flags: u16, number: u8) -> Result<String, Fail> {
     let mut attributes = Vec::from_slice(alloc, &[0, number])?;
     for _ in 0..number {
-        attributes.extend_from_slice(&attribute(alloc, &info(alloc, &[0xb1], &[0, 0, 0, 0])?)?)?;
+        attributes.extend_from_slice(&attribute(alloc, &info(alloc, &[0xb1], "0000 0000")?)?)?;
     }
-    told(
-        alloc,
-        &other_e(alloc, 8, &[], &method(alloc, flags, &attributes)?)?,
-    )
+    let methods = method(alloc, flags, &attributes)?;
+    told(alloc, &other_e(alloc, 8, "", &methods)?)
 }
 
 #[test]
@@ -251,44 +241,37 @@ fn a_method_has_code_or_none(rt: HostRuntime) -> Result<(), Fail> {
 
 #[test]
 fn what_is_told_first(rt: HostRuntime) -> Result<(), Fail> {
-    // code is missing, and the one attribute that is there has no name
-    let methods = method(rt.alloc(), 9, &[0, 1, 0, 2, 0, 0, 0, 0])?;
-    let bytes = other_e(rt.alloc(), 8, &[], &methods)?;
-    assert_eq!(rt; told(rt.alloc(), &bytes)?.as_str(), "C6");
-    // a native method's code of 4 GiB: its place is told at its name
-    let methods = method(rt.alloc(), 0x0109, &[0, 1, 0, 7, 0xff, 0xff, 0xff, 0xff])?;
-    let bytes = other_e(rt.alloc(), 8, &[], &methods)?;
-    assert_eq!(rt; told(rt.alloc(), &bytes)?.as_str(), "C8");
-    // an attribute of 4 GiB that is skipped
-    let methods = method(rt.alloc(), 0x0109, &[0, 1, 0, 3, 0xff, 0xff, 0xff, 0xff])?;
-    let bytes = other_e(rt.alloc(), 8, &[], &methods)?;
-    assert_eq!(rt; told(rt.alloc(), &bytes)?.as_str(), "C3");
+    for (flags, attributes, answer) in [
+        // code is missing, and the one attribute that is there has no name
+        (0x0009u16, "0001 0002 00000000", "C6"),
+        // a native method's code of 4 GiB: its place is told at its name
+        (0x0109, "0001 0007 ffffffff", "C8"),
+        // an attribute of 4 GiB that is skipped
+        (0x0109, "0001 0003 ffffffff", "C3"),
+    ] {
+        let methods = method(rt.alloc(), flags, &hex(rt.alloc(), attributes)?)?;
+        let bytes = other_e(rt.alloc(), 8, "", &methods)?;
+        assert_eq!(rt; told(rt.alloc(), &bytes)?.as_str(), answer);
+    }
     Ok(())
 }
 
 #[test]
 fn arguments_take_255_units(rt: HostRuntime) -> Result<(), Fail> {
-    for (longs, ints, flags, answer) in [
-        (127u8, 1u8, 0x0109u16, "read"),
-        (127, 2, 0x0109, "C7"),
-        (127, 0, 0x0101, "read"),
-        (127, 1, 0x0101, "C7"),
+    // 127 longs, which take 254 units
+    let longs = "4a".repeat(rt.alloc(), 127)?;
+    for (length, ints, flags, answer) in [
+        ("0083", "49", 0x0109u16, "read"),
+        ("0084", "4949", 0x0109, "C7"),
+        ("0082", "", 0x0101, "read"),
+        ("0083", "49", 0x0101, "C7"),
     ] {
-        let mut entry = Vec::from_slice(
-            rt.alloc(),
-            &[1, 0, longs.wrapping_add(ints).wrapping_add(3), b'('],
-        )?;
-        for _ in 0..longs {
-            entry.push(b'J')?;
+        let entry = format!(in rt.alloc(); "01 {length} 28 {longs} {ints} 29 56")?;
+        let mut methods = method(rt.alloc(), flags, &[0, 0])?;
+        if let Some(descriptor) = methods.get_mut(7) {
+            *descriptor = 8;
         }
-        for _ in 0..ints {
-            entry.push(b'I')?;
-        }
-        entry.extend_from_slice(b")V")?;
-        let mut methods = Vec::from_slice(rt.alloc(), &[0, 1])?;
-        methods.extend_from_slice(&flags.to_be_bytes())?;
-        methods.extend_from_slice(&[0, 5, 0, 8, 0, 0])?;
-        let bytes = other_e(rt.alloc(), 9, &entry, &methods)?;
+        let bytes = other_e(rt.alloc(), 9, entry.as_str(), &methods)?;
         assert_eq!(rt; told(rt.alloc(), &bytes)?.as_str(), answer);
     }
     Ok(())
