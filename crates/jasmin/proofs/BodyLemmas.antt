@@ -1,140 +1,171 @@
 -- What the statements of a body say, one by one.
-use Rattle.std.proofs.Common.{◌≡◌, ℕ, true, false, List, [], ◌∷◌, ◌++◌, refl, ◌∙◌, Some, None, Option, codes, append_assoc, append-nil}
-use Rattle.std.specs.Option.{option_and_then, option_to_list, is_some}
+use Rattle.std.proofs.Common.{◌≡◌, ℕ, true, false, List, [], ◌∷◌, ◌++◌, refl, sym, ◌∙◌, ap, inl, inr, Some, None, Option, codes, append_assoc, append-nil}
+use Rattle.std.specs.Option.{option_and_then, option_map, option_to_list, is_some}
 use Rattle.std.specs.Str.{bytes_eq}
 use Rattle.std.proofs.lemmas.Slice.Eq.{bytes_eq-Decides}
+use Rattle.jasmin_words.proofs.Places.{bool_tells}
 use Rattle.model.specs.declared.trees.CatchRow.{CatchRow}
 use Rattle.model.specs.declared.trees.TextLine.{TextLine}
 use Rattle.model.specs.Texts.Bodies.{Body}
 use Rattle.model.specs.Texts.Classes.{is_end}
 use Rattle.model.specs.Texts.Mnemonics.{mnemonic_of}
-use Rattle.model.specs.Texts.Methods.{Part, stack_limit, locals_limit, code_line, part_of, parts_of, part_before, stack_limits, locals_limits, catch_rows, code_lines, body_with}
+use Rattle.model.specs.Texts.Methods.{Part, Saying, part, opens, stack_limit, locals_limit, catch_row, code_line, saying_of, parts_by, parts_from, parts_of, part_before, stack_limits, locals_limits, catch_rows, code_lines, body_with, body_of_parts, agreeing as kept}
 use Rattle.model.specs.Texts.Statements.{Statement}
+use Rattle.model.specs.Texts.Switches.{Switch, SwitchLine, switch_line}
+use Rattle.model.specs.Texts.Uses.{labels_agree}
 use Rattle.jasmin.specs.declared.bodies.Part.TheVariants as held
-use Rattle.jasmin.specs.Bodies.{Says, SaysNothing, block_of, in_block, behind_block, first_body}
+use Rattle.jasmin.specs.Bodies.{Says, SaysNothing, block_of, in_block, behind_block, first_parts, first_body}
 
 -- a word that is found to be a text is that text
 pub word_is : (word text : List ℕ) → bytes_eq word text ≡ true → word ≡ text
 word_is word text h = (bytes_eq-Decides word text).0 h
 
 -- `.end` begins no part of a body
-pub end_says_nothing : (words : List (List ℕ)) → part_of (Some (codes ".end" ∷ words)) ≡ None
+pub end_says_nothing : (words : List (List ℕ)) → saying_of None (Some (codes ".end" ∷ words)) ≡ None
 unfolding mnemonic_of
 end_says_nothing words = refl
 
 pub ruleset directives = (word_is, end_says_nothing)
 
--- the body of the limits and lines so far and of parts that follow
-limited : Option ℕ → Option ℕ → List TextLine → List Part → Option Body
-limited stack locals lines parts =
-    body_with (option_to_list stack ++ stack_limits parts) (option_to_list locals ++ locals_limits parts) (catch_rows parts) (lines ++ code_lines parts)
+-- a line of a switch has one word or three, and so does not end a body
+pub line_is_no_end : (switch : Switch) (words : List (List ℕ)) (line : SwitchLine) → switch_line switch words ≡ Some line → is_end (Some words) ≡ false
+line_is_no_end switch [] line h = refl
+line_is_no_end switch (word ∷ []) line h = elim (bool_tells (bytes_eq word (codes ".end"))) [ inl t ↦ rw t refl | inr f ↦ rw f refl ]
+line_is_no_end switch (word ∷ colon ∷ []) line h = cc
+line_is_no_end switch (word ∷ colon ∷ label ∷ words) line h = elim (bool_tells (bytes_eq word (codes ".end"))) [ inl t ↦ rw t refl | inr f ↦ rw f refl ]
 
--- the body of the limits and lines so far and of a block that follows
-rest_of : Option ℕ → Option ℕ → List TextLine → Option (List Statement) → Option Body
-rest_of stack locals lines block = option_and_then (λ ss. option_and_then (limited stack locals lines) (parts_of ss)) block
+pub ruleset switches = (line_is_no_end)
 
--- the body of the limits and lines so far and of statements that follow
-pub rest_from : Option ℕ → Option ℕ → List TextLine → List Statement → Option Body
-rest_from stack locals lines ss = rest_of stack locals lines (block_of ss)
+-- what was read of a body so far
+record SoFar : Type 0 where
+  stack : Option ℕ
+  locals : Option ℕ
+  rows : List CatchRow
+  lines : List TextLine
 
-pub rest_start : (ss : List Statement) → rest_from None None [] ss ≡ first_body ss
+-- the body of what was read so far and of parts that follow
+limited : SoFar → List Part → Option Body
+limited f parts =
+    body_with (option_to_list f.stack ++ stack_limits parts) (option_to_list f.locals ++ locals_limits parts) (f.rows ++ catch_rows parts) (f.lines ++ code_lines parts)
+
+-- the body of what was read so far and of a block that follows
+rest_of : SoFar → Option Switch → Option (List Statement) → Option Body
+rest_of f current block = option_and_then (λ ss. option_and_then (limited f) (parts_from ss current)) block
+
+-- the body of what was read so far and of statements that follow, where a switch may be open
+pub rest_from : Option ℕ → Option ℕ → List CatchRow → List TextLine → Option Switch → List Statement → Option Body
+rest_from stack locals rows lines current ss = rest_of (record { stack = stack; locals = locals; rows = rows; lines = lines }) current (block_of ss)
+
+pub rest_start : (ss : List Statement) → rest_from None None [] [] None ss ≡ first_parts ss
 unfolding rest_from rest_of limited
 rest_start ss = refl
 
 -- the text ends in the body
-pub rest_missing : (stack locals : Option ℕ) (lines : List TextLine) (before : List Statement) → before ≡ [] → rest_from stack locals lines before ≡ None
+pub rest_missing : (stack locals : Option ℕ) (rows : List CatchRow) (lines : List TextLine) (current : Option Switch) (before : List Statement) → before ≡ [] → rest_from stack locals rows lines current before ≡ None
 unfolding rest_from rest_of
-rest_missing stack locals lines before e = rw e refl
+rest_missing stack locals rows lines current before e = rw e refl
 
--- a statement before a block that follows
-in_rest : Option ℕ → Option ℕ → List TextLine → Option Part → Option (List Statement) → Option Body
-in_rest stack locals lines part None = None
-in_rest stack locals lines part (Some block) = option_and_then (limited stack locals lines) (part_before part (parts_of block))
+-- what a statement says before a block that follows
+in_rest : SoFar → Option Saying → Option (List Statement) → Option Body
+in_rest f saying None = None
+in_rest f saying (Some block) = option_and_then (limited f) (parts_by saying (parts_from block))
 
-by_block : (stack locals : Option ℕ) (lines : List TextLine) (s : Statement) (block : Option (List Statement)) → rest_of stack locals lines (in_block s block) ≡ in_rest stack locals lines (part_of s) block
+by_block : (f : SoFar) (current : Option Switch) (s : Statement) (block : Option (List Statement)) → rest_of f current (in_block s block) ≡ in_rest f (saying_of current s) block
 unfolding rest_of in_rest
-by_block stack locals lines s None = refl
-by_block stack locals lines s (Some block) = refl
+by_block f current s None = refl
+by_block f current s (Some block) = refl
 
-rest_cons : (stack locals : Option ℕ) (lines : List TextLine) (s : Statement) (ss : List Statement) → is_end s ≡ false → rest_from stack locals lines (s ∷ ss) ≡ in_rest stack locals lines (part_of s) (block_of ss)
-unfolding rest_from
-rest_cons stack locals lines s ss e = rw e (by_block stack locals lines s (block_of ss))
+rest_says : (f : SoFar) (current : Option Switch) (before : List Statement) (s : Statement) (ss : List Statement) (saying : Option Saying) → before ≡ s ∷ ss → is_end s ≡ false → saying_of current s ≡ saying
+    → rest_of f current (block_of before) ≡ in_rest f saying (block_of ss)
+rest_says f current before s ss saying e n h = rw (e, ← h, n) (by_block f current s (block_of ss))
 
-rest_says : (stack locals : Option ℕ) (lines : List TextLine) (before : List Statement) (s : Statement) (ss : List Statement) (part : Option Part) → before ≡ s ∷ ss → is_end s ≡ false → part_of s ≡ part
-    → rest_from stack locals lines before ≡ in_rest stack locals lines part (block_of ss)
-rest_says stack locals lines before s ss part e f p = rw (e, ← p) (rest_cons stack locals lines s ss f)
-
-pub rest_nothing : (stack locals : Option ℕ) (lines : List TextLine) (before : List Statement) (s : Statement) (ss : List Statement) → before ≡ s ∷ ss → SaysNothing s → rest_from stack locals lines before ≡ None
+said_nothing : (f : SoFar) (block : Option (List Statement)) → in_rest f None block ≡ None
 unfolding in_rest
-rest_nothing stack locals lines before s ss e h = rest_says stack locals lines before s ss None e h.0 h.1 ∙ by (block_of ss)
-  where
-    by : (block : Option (List Statement)) → in_rest stack locals lines None block ≡ None
-    by None = refl
-    by (Some block) = refl
+said_nothing f None = refl
+said_nothing f (Some block) = refl
 
-line_step : (stack locals : Option ℕ) (lines : List TextLine) (line : TextLine) (parts : Option (List Part)) → option_and_then (limited stack locals lines) (part_before (Some (code_line line)) parts) ≡ option_and_then (limited stack locals (lines ++ line ∷ [])) parts
-unfolding limited
-line_step stack locals lines line None = refl
-line_step stack locals lines line (Some parts) = rw append_assoc refl
+-- a switch is left open at the end of a body
+left_open : (f : SoFar) (switch : Switch) (s : Statement) (ss : List Statement) → is_end s ≡ true → rest_of f (Some switch) (block_of (s ∷ ss)) ≡ None
+unfolding rest_of
+left_open f switch s ss h = rw h refl
 
-line_block : (stack locals : Option ℕ) (lines : List TextLine) (line : TextLine) (block : Option (List Statement)) → in_rest stack locals lines (Some (code_line line)) block ≡ rest_of stack locals (lines ++ line ∷ []) block
-unfolding in_rest rest_of
-line_block stack locals lines line None = refl
-line_block stack locals lines line (Some block) = line_step stack locals lines line (parts_of block)
-
-pub rest_line : (stack locals : Option ℕ) (lines : List TextLine) (before : List Statement) (s : Statement) (ss : List Statement) (line : TextLine) → before ≡ s ∷ ss → Says s (held.Line line)
-    → rest_from stack locals lines before ≡ rest_from stack locals (lines ++ line ∷ []) ss
+pub rest_nothing : (stack locals : Option ℕ) (rows : List CatchRow) (lines : List TextLine) (current : Option Switch) (before : List Statement) (s : Statement) (ss : List Statement) → before ≡ s ∷ ss → SaysNothing current s
+    → rest_from stack locals rows lines current before ≡ None
 unfolding rest_from
-rest_line stack locals lines before s ss line e h = rest_says stack locals lines before s ss (Some (code_line line)) e h.0 h.1 ∙ line_block stack locals lines line (block_of ss)
+rest_nothing stack locals rows lines None before s ss e h = rest_says _ None before s ss None e h.0 h.1 ∙ said_nothing _ (block_of ss)
+rest_nothing stack locals rows lines (Some switch) before s ss e h =
+    elim (bool_tells (is_end s)) [
+      | inl t ↦ rw e (left_open _ switch s ss t)
+      | inr n ↦ rest_says _ (Some switch) before s ss None e n h ∙ said_nothing _ (block_of ss)
+    ]
 
-stack_step : (locals : Option ℕ) (lines : List TextLine) (n : ℕ) (parts : Option (List Part)) → option_and_then (limited None locals lines) (part_before (Some (stack_limit n)) parts) ≡ option_and_then (limited (Some n) locals lines) parts
-unfolding limited
-stack_step locals lines n None = refl
-stack_step locals lines n (Some parts) = refl
-
-stack_block : (locals : Option ℕ) (lines : List TextLine) (n : ℕ) (block : Option (List Statement)) → in_rest None locals lines (Some (stack_limit n)) block ≡ rest_of (Some n) locals lines block
+-- a switch goes on
+opens_block : (f : SoFar) (switch : Switch) (block : Option (List Statement)) → in_rest f (Some (opens switch)) block ≡ rest_of f (Some switch) block
 unfolding in_rest rest_of
-stack_block locals lines n None = refl
-stack_block locals lines n (Some block) = stack_step locals lines n (parts_of block)
+opens_block f switch None = refl
+opens_block f switch (Some block) = refl
 
-pub rest_stack : (stack locals : Option ℕ) (lines : List TextLine) (before : List Statement) (s : Statement) (ss : List Statement) (n : ℕ) → false ≡ is_some stack → before ≡ s ∷ ss → Says s (held.StackLimit n)
-    → rest_from stack locals lines before ≡ rest_from (Some n) locals lines ss
+pub rest_opens : (stack locals : Option ℕ) (rows : List CatchRow) (lines : List TextLine) (current : Option Switch) (before : List Statement) (s : Statement) (ss : List Statement) (switch : Switch) → before ≡ s ∷ ss
+    → is_end s ≡ false → saying_of current s ≡ Some (opens switch) → rest_from stack locals rows lines current before ≡ rest_from stack locals rows lines (Some switch) ss
 unfolding rest_from
-rest_stack None locals lines before s ss n none e h = rest_says None locals lines before s ss (Some (stack_limit n)) e h.0 h.1 ∙ stack_block locals lines n (block_of ss)
-rest_stack (Some k) locals lines before s ss n none e h = cc
+rest_opens stack locals rows lines current before s ss switch e n h = rest_says _ current before s ss (Some (opens switch)) e n h ∙ opens_block _ switch (block_of ss)
 
-twice_step : (k : ℕ) (locals : Option ℕ) (lines : List TextLine) (n : ℕ) (parts : Option (List Part)) → option_and_then (limited (Some k) locals lines) (part_before (Some (stack_limit n)) parts) ≡ None
-unfolding limited
-twice_step k locals lines n None = refl
-twice_step k locals lines n (Some parts) = refl
+-- a part that is read changes what was read so far
+part_step : (f g : SoFar) (p : Part) → ((parts : List Part) → limited f (p ∷ parts) ≡ limited g parts) → (o : Option (List Part)) → option_and_then (limited f) (part_before p o) ≡ option_and_then (limited g) o
+part_step f g p h None = refl
+part_step f g p h (Some parts) = h parts
 
-twice_block : (k : ℕ) (locals : Option ℕ) (lines : List TextLine) (n : ℕ) (block : Option (List Statement)) → in_rest (Some k) locals lines (Some (stack_limit n)) block ≡ None
+part_block : (f g : SoFar) (p : Part) → ((parts : List Part) → limited f (p ∷ parts) ≡ limited g parts) → (block : Option (List Statement)) → in_rest f (Some (part p)) block ≡ rest_of g None block
+unfolding in_rest rest_of
+part_block f g p h None = refl
+part_block f g p h (Some block) = part_step f g p h (parts_from block None)
+
+rest_part : (f g : SoFar) (current : Option Switch) (before : List Statement) (s : Statement) (ss : List Statement) (p : Part) → before ≡ s ∷ ss → is_end s ≡ false → saying_of current s ≡ Some (part p)
+    → ((parts : List Part) → limited f (p ∷ parts) ≡ limited g parts) → rest_of f current (block_of before) ≡ rest_of g None (block_of ss)
+rest_part f g current before s ss p e n h step = rest_says f current before s ss (Some (part p)) e n h ∙ part_block f g p step (block_of ss)
+
+pub rest_line : (stack locals : Option ℕ) (rows : List CatchRow) (lines : List TextLine) (current : Option Switch) (before : List Statement) (s : Statement) (ss : List Statement) (line : TextLine) → before ≡ s ∷ ss
+    → Says current s (held.Line line) → rest_from stack locals rows lines current before ≡ rest_from stack locals rows (lines ++ line ∷ []) None ss
+unfolding rest_from limited
+rest_line stack locals rows lines current before s ss line e h = rest_part _ _ current before s ss (code_line line) e h.0 h.1 (λ parts. rw append_assoc refl)
+
+pub rest_row : (stack locals : Option ℕ) (rows : List CatchRow) (lines : List TextLine) (current : Option Switch) (before : List Statement) (s : Statement) (ss : List Statement) (row : CatchRow) → before ≡ s ∷ ss
+    → Says current s (held.Row row) → rest_from stack locals rows lines current before ≡ rest_from stack locals (rows ++ row ∷ []) lines None ss
+unfolding rest_from limited
+rest_row stack locals rows lines current before s ss row e h = rest_part _ _ current before s ss (catch_row row) e h.0 h.1 (λ parts. rw append_assoc refl)
+
+pub rest_stack : (stack locals : Option ℕ) (rows : List CatchRow) (lines : List TextLine) (current : Option Switch) (before : List Statement) (s : Statement) (ss : List Statement) (n : ℕ) → false ≡ is_some stack → before ≡ s ∷ ss
+    → Says current s (held.StackLimit n) → rest_from stack locals rows lines current before ≡ rest_from (Some n) locals rows lines None ss
+unfolding rest_from limited
+rest_stack None locals rows lines current before s ss n none e h = rest_part _ _ current before s ss (stack_limit n) e h.0 h.1 (λ parts. refl)
+rest_stack (Some k) locals rows lines current before s ss n none e h = cc
+
+pub rest_locals : (stack locals : Option ℕ) (rows : List CatchRow) (lines : List TextLine) (current : Option Switch) (before : List Statement) (s : Statement) (ss : List Statement) (n : ℕ) → false ≡ is_some locals → before ≡ s ∷ ss
+    → Says current s (held.LocalsLimit n) → rest_from stack locals rows lines current before ≡ rest_from stack (Some n) rows lines None ss
+unfolding rest_from limited
+rest_locals stack None rows lines current before s ss n none e h = rest_part _ _ current before s ss (locals_limit n) e h.0 h.1 (λ parts. refl)
+rest_locals stack (Some k) rows lines current before s ss n none e h = cc
+
+-- a part that no body has any more
+never_step : (f : SoFar) (p : Part) → ((parts : List Part) → limited f (p ∷ parts) ≡ None) → (o : Option (List Part)) → option_and_then (limited f) (part_before p o) ≡ None
+never_step f p h None = refl
+never_step f p h (Some parts) = h parts
+
+never_block : (f : SoFar) (p : Part) → ((parts : List Part) → limited f (p ∷ parts) ≡ None) → (block : Option (List Statement)) → in_rest f (Some (part p)) block ≡ None
 unfolding in_rest
-twice_block k locals lines n None = refl
-twice_block k locals lines n (Some block) = twice_step k locals lines n (parts_of block)
+never_block f p h None = refl
+never_block f p h (Some block) = never_step f p h (parts_from block None)
+
+rest_never : (f : SoFar) (current : Option Switch) (before : List Statement) (s : Statement) (ss : List Statement) (p : Part) → before ≡ s ∷ ss → is_end s ≡ false → saying_of current s ≡ Some (part p)
+    → ((parts : List Part) → limited f (p ∷ parts) ≡ None) → rest_of f current (block_of before) ≡ None
+rest_never f current before s ss p e n h step = rest_says f current before s ss (Some (part p)) e n h ∙ never_block f p step (block_of ss)
 
 -- a limit of the stack that is given again
-pub rest_stack_twice : (stack locals : Option ℕ) (lines : List TextLine) (before : List Statement) (s : Statement) (ss : List Statement) (n : ℕ) → true ≡ is_some stack → before ≡ s ∷ ss → Says s (held.StackLimit n)
-    → rest_from stack locals lines before ≡ None
-rest_stack_twice None locals lines before s ss n some e h = cc
-rest_stack_twice (Some k) locals lines before s ss n some e h =
-    rest_says (Some k) locals lines before s ss (Some (stack_limit n)) e h.0 h.1 ∙ twice_block k locals lines n (block_of ss)
-
-locals_step : (stack : Option ℕ) (lines : List TextLine) (n : ℕ) (parts : Option (List Part)) → option_and_then (limited stack None lines) (part_before (Some (locals_limit n)) parts) ≡ option_and_then (limited stack (Some n) lines) parts
-unfolding limited
-locals_step stack lines n None = refl
-locals_step stack lines n (Some parts) = refl
-
-locals_block : (stack : Option ℕ) (lines : List TextLine) (n : ℕ) (block : Option (List Statement)) → in_rest stack None lines (Some (locals_limit n)) block ≡ rest_of stack (Some n) lines block
-unfolding in_rest rest_of
-locals_block stack lines n None = refl
-locals_block stack lines n (Some block) = locals_step stack lines n (parts_of block)
-
-pub rest_locals : (stack locals : Option ℕ) (lines : List TextLine) (before : List Statement) (s : Statement) (ss : List Statement) (n : ℕ) → false ≡ is_some locals → before ≡ s ∷ ss → Says s (held.LocalsLimit n)
-    → rest_from stack locals lines before ≡ rest_from stack (Some n) lines ss
-unfolding rest_from
-rest_locals stack None lines before s ss n none e h = rest_says stack None lines before s ss (Some (locals_limit n)) e h.0 h.1 ∙ locals_block stack lines n (block_of ss)
-rest_locals stack (Some k) lines before s ss n none e h = cc
+pub rest_stack_twice : (stack locals : Option ℕ) (rows : List CatchRow) (lines : List TextLine) (current : Option Switch) (before : List Statement) (s : Statement) (ss : List Statement) (n : ℕ) → true ≡ is_some stack → before ≡ s ∷ ss
+    → Says current s (held.StackLimit n) → rest_from stack locals rows lines current before ≡ None
+unfolding rest_from limited
+rest_stack_twice None locals rows lines current before s ss n some e h = cc
+rest_stack_twice (Some k) locals rows lines current before s ss n some e h = rest_never _ current before s ss (stack_limit n) e h.0 h.1 (λ parts. refl)
 
 -- no body has two limits of its locals
 two_locals : (stack : List ℕ) (k n : ℕ) (more : List ℕ) (rows : List CatchRow) (lines : List TextLine) → body_with stack (k ∷ n ∷ more) rows lines ≡ None
@@ -142,28 +173,18 @@ two_locals [] k n more rows lines = refl
 two_locals (s ∷ []) k n more rows lines = refl
 two_locals (s ∷ t ∷ ss) k n more rows lines = refl
 
-locals_twice_step : (stack : Option ℕ) (k : ℕ) (lines : List TextLine) (n : ℕ) (parts : Option (List Part)) → option_and_then (limited stack (Some k) lines) (part_before (Some (locals_limit n)) parts) ≡ None
-unfolding limited
-locals_twice_step stack k lines n None = refl
-locals_twice_step stack k lines n (Some parts) = two_locals _ k n _ _ _
-
-locals_twice_block : (stack : Option ℕ) (k : ℕ) (lines : List TextLine) (n : ℕ) (block : Option (List Statement)) → in_rest stack (Some k) lines (Some (locals_limit n)) block ≡ None
-unfolding in_rest
-locals_twice_block stack k lines n None = refl
-locals_twice_block stack k lines n (Some block) = locals_twice_step stack k lines n (parts_of block)
-
 -- a limit of the locals that is given again
-pub rest_locals_twice : (stack locals : Option ℕ) (lines : List TextLine) (before : List Statement) (s : Statement) (ss : List Statement) (n : ℕ) → true ≡ is_some locals → before ≡ s ∷ ss → Says s (held.LocalsLimit n)
-    → rest_from stack locals lines before ≡ None
-rest_locals_twice stack None lines before s ss n some e h = cc
-rest_locals_twice stack (Some k) lines before s ss n some e h =
-    rest_says stack (Some k) lines before s ss (Some (locals_limit n)) e h.0 h.1 ∙ locals_twice_block stack k lines n (block_of ss)
+pub rest_locals_twice : (stack locals : Option ℕ) (rows : List CatchRow) (lines : List TextLine) (current : Option Switch) (before : List Statement) (s : Statement) (ss : List Statement) (n : ℕ) → true ≡ is_some locals → before ≡ s ∷ ss
+    → Says current s (held.LocalsLimit n) → rest_from stack locals rows lines current before ≡ None
+unfolding rest_from limited
+rest_locals_twice stack None rows lines current before s ss n some e h = cc
+rest_locals_twice stack (Some k) rows lines current before s ss n some e h = rest_never _ current before s ss (locals_limit n) e h.0 h.1 (λ parts. two_locals _ k n _ _ _)
 
 -- the end of the body
-pub rest_end : (stack locals : Option ℕ) (lines : List TextLine) (before : List Statement) (s : Statement) (ss : List Statement) → before ≡ s ∷ ss → is_end s ≡ true
-    → rest_from stack locals lines before ≡ body_with (option_to_list stack) (option_to_list locals) [] lines
+pub rest_end : (stack locals : Option ℕ) (rows : List CatchRow) (lines : List TextLine) (current : Option Switch) (before : List Statement) (s : Statement) (ss : List Statement) → before ≡ s ∷ ss → Says current s held.End
+    → rest_from stack locals rows lines current before ≡ body_with (option_to_list stack) (option_to_list locals) rows lines
 unfolding rest_from rest_of limited
-rest_end stack locals lines before s ss e h = rw (e, h) (simp append-nil refl)
+rest_end stack locals rows lines current before s ss e h = rw (h.0, e, h.1) (simp append-nil refl)
 
 pub behind_end : (before : List Statement) (s : Statement) (ss : List Statement) → before ≡ s ∷ ss → is_end s ≡ true → behind_block before ≡ ss
 behind_end before s ss e h = rw (e, h) refl
@@ -171,4 +192,23 @@ behind_end before s ss e h = rw (e, h) refl
 pub behind_other : (before : List Statement) (s : Statement) (ss : List Statement) → before ≡ s ∷ ss → is_end s ≡ false → behind_block before ≡ behind_block ss
 behind_other before s ss e h = rw (e, h) refl
 
-pub ruleset bodies = (rest_start, rest_missing, rest_nothing, rest_line, rest_stack, rest_stack_twice, rest_locals, rest_locals_twice, rest_end, behind_end, behind_other)
+pub ruleset bodies = (rest_start, rest_missing, rest_nothing, rest_line, rest_row, rest_opens, rest_stack, rest_stack_twice, rest_locals, rest_locals_twice, rest_end, behind_end, behind_other)
+
+-- the body whose labels are looked at
+labels_of_parts : (block : Option (List Statement)) → option_and_then (λ b. option_and_then kept (option_and_then body_of_parts (parts_of b))) block ≡ option_and_then kept (option_and_then (λ b. option_and_then body_of_parts (parts_of b)) block)
+labels_of_parts None = refl
+labels_of_parts (Some block) = refl
+
+first_kept : (ss : List Statement) → first_body ss ≡ option_and_then kept (first_parts ss)
+first_kept ss = labels_of_parts (block_of ss)
+
+pub no_parts : (ss : List Statement) → first_parts ss ≡ None → first_body ss ≡ None
+no_parts ss h = first_kept ss ∙ ap (option_and_then kept) h
+
+pub parts_agree : (ss : List Statement) (body : Body) → first_parts ss ≡ Some body → labels_agree body.rows body.lines ≡ true → first_body ss ≡ Some body
+parts_agree ss body h a = first_kept ss ∙ ap (option_and_then kept) h ∙ rw a refl
+
+pub parts_disagree : (ss : List Statement) (body : Body) → first_parts ss ≡ Some body → labels_agree body.rows body.lines ≡ false → first_body ss ≡ None
+parts_disagree ss body h a = first_kept ss ∙ ap (option_and_then kept) h ∙ rw a refl
+
+pub ruleset agreeing = (no_parts, parts_agree, parts_disagree)

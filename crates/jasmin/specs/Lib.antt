@@ -2,3 +2,4 @@ pub mod Bodies
 pub mod Numbers
 pub mod Refusals
 pub mod Rows
+pub mod Switches

@@ -3,14 +3,14 @@ ghost use Rattle.std.specs.Prelude.{◌≡◌, ◌≢◌, ◌∷◌, pos, None, 
 ghost use Rattle.std.specs.Option.{option_and_then};
 ghost use Rattle.model.specs.Texts.Instructions.{instruction_by, wide_by, wide_instruction, operand_of, field_of, interface_call};
 ghost use Rattle.model.specs.Texts.Numbers.{number_in};
-ghost use Rattle.model.specs.Texts.Operands.{only, both, method_named, class_named, type_named, primitives};
+ghost use Rattle.model.specs.Texts.Operands.{only, both, method_named, class_named, type_named, label_named, primitives};
 ghost use Rattle.model.specs.Texts.Tables.{named};
 
 use crate::descriptors::is_array_descriptor;
 use crate::errors::Fault;
 use crate::locals::local_by;
 use crate::mnemonics::mnemonic;
-use crate::names::is_class_name;
+use crate::names::{is_class_name, is_part};
 use crate::numbers::integer;
 use crate::operands::{alone, both, only, only_number};
 use crate::signatures;
@@ -66,6 +66,10 @@ pub fn instruction_by(
         Mnemonic::FirstLocal(access) => alone(Instruction::Local(access), operands),
         Mnemonic::Stack(operation) => alone(Instruction::Stack(operation), operands),
         Mnemonic::Number(operation) => alone(Instruction::Number(operation), operands),
+        Mnemonic::Branch(test) => {
+            let label = label_named(alloc, only(operands)?)?;
+            Ok(Instruction::Branch(test, label))
+        }
         Mnemonic::Return(kind) => alone(Instruction::Return(kind), operands),
         Mnemonic::Static(access) => Ok(Instruction::Static(access, field_of(alloc, operands)?)),
         Mnemonic::Field(access) => Ok(Instruction::Field(access, field_of(alloc, operands)?)),
@@ -170,6 +174,16 @@ pub fn class_named(alloc: Global, word: &[u8]) -> Result<Name, Fault>
     ensures { MatchResult result (λ name. class_named word.now ≡ Some name) (λ e. e ≢ Fault.Memory → class_named word.now ≡ None) }
 {
     if !is_class_name(word) {
+        return Err(Fault::Operand);
+    }
+    Ok(Name::copy_of(alloc, word)?)
+}
+
+/// A label, in a name of its own.
+pub fn label_named(alloc: Global, word: &[u8]) -> Result<Name, Fault>
+    ensures { MatchResult result (λ name. label_named word.now ≡ Some name) (λ e. e ≢ Fault.Memory → label_named word.now ≡ None) }
+{
+    if !is_part(word) {
         return Err(Fault::Operand);
     }
     Ok(Name::copy_of(alloc, word)?)

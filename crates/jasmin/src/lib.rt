@@ -4,12 +4,14 @@
 #![tactic(auto)]
 
 mod bodies;
+mod catches;
 mod copies;
 mod descriptors;
 mod errors;
 mod flags;
 mod heads;
 mod instructions;
+mod labels;
 mod listings;
 mod locals;
 mod mnemonics;
@@ -19,7 +21,10 @@ mod operands;
 mod reader;
 mod signatures;
 mod sizes;
+mod switches;
 mod tables;
+mod telling;
+mod uses;
 mod widths;
 
 pub use errors::{Fault, TextError};

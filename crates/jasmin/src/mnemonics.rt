@@ -4,15 +4,15 @@ ghost use Rattle.model.specs.Texts.Mnemonics.{mnemonic_of};
 
 use crate::tables::named;
 use model::instructions::{
-    Access, ClassOperation, Conversion, ElementKind, FirstLocal, Invocation, Local, LocalAccess,
-    MonitorOperation, NumberKind, NumberOperation, Operator, SmallInt, SmallLong, StackOperation,
-    Width,
+    Access, ClassOperation, Comparison, Conversion, ElementKind, FirstLocal, Identity, Invocation,
+    Local, LocalAccess, MonitorOperation, NumberKind, NumberOperation, Operator, SmallInt,
+    SmallLong, StackOperation, Test, Width,
 };
 use model::mnemonics::{LocalMnemonic, Mnemonic};
 use model::values::Kind;
 
 /// The mnemonics by their families.
-const MNEMONICS: [(&str, Mnemonic); 119] = [
+const MNEMONICS: [(&str, Mnemonic); 137] = [
     // constants
     ("nop", Mnemonic::Nop),
     ("aconst_null", Mnemonic::Null),
@@ -262,6 +262,49 @@ const MNEMONICS: [(&str, Mnemonic); 119] = [
         Mnemonic::Number(NumberOperation::Convert(Conversion::IntToShort)),
     ),
     ("lcmp", Mnemonic::Number(NumberOperation::CompareLongs)),
+    // branches
+    ("ifeq", Mnemonic::Branch(Test::Zero(Comparison::Equal))),
+    ("ifne", Mnemonic::Branch(Test::Zero(Comparison::NotEqual))),
+    ("iflt", Mnemonic::Branch(Test::Zero(Comparison::Less))),
+    (
+        "ifge",
+        Mnemonic::Branch(Test::Zero(Comparison::GreaterOrEqual)),
+    ),
+    ("ifgt", Mnemonic::Branch(Test::Zero(Comparison::Greater))),
+    (
+        "ifle",
+        Mnemonic::Branch(Test::Zero(Comparison::LessOrEqual)),
+    ),
+    ("if_icmpeq", Mnemonic::Branch(Test::Ints(Comparison::Equal))),
+    (
+        "if_icmpne",
+        Mnemonic::Branch(Test::Ints(Comparison::NotEqual)),
+    ),
+    ("if_icmplt", Mnemonic::Branch(Test::Ints(Comparison::Less))),
+    (
+        "if_icmpge",
+        Mnemonic::Branch(Test::Ints(Comparison::GreaterOrEqual)),
+    ),
+    (
+        "if_icmpgt",
+        Mnemonic::Branch(Test::Ints(Comparison::Greater)),
+    ),
+    (
+        "if_icmple",
+        Mnemonic::Branch(Test::Ints(Comparison::LessOrEqual)),
+    ),
+    ("if_acmpeq", Mnemonic::Branch(Test::Refs(Identity::Same))),
+    (
+        "if_acmpne",
+        Mnemonic::Branch(Test::Refs(Identity::Different)),
+    ),
+    ("ifnull", Mnemonic::Branch(Test::Null(Identity::Same))),
+    (
+        "ifnonnull",
+        Mnemonic::Branch(Test::Null(Identity::Different)),
+    ),
+    ("goto", Mnemonic::Branch(Test::Always(Width::Narrow))),
+    ("goto_w", Mnemonic::Branch(Test::Always(Width::Wide))),
     // calls and returns
     ("invokevirtual", Mnemonic::Invoke(Invocation::Virtual)),
     ("invokespecial", Mnemonic::Invoke(Invocation::Special)),

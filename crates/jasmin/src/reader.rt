@@ -6,16 +6,19 @@ ghost use Rattle.model.specs.Texts.Classes.{class_tree, methods_of};
 ghost use Rattle.model.specs.Texts.Flags.{has};
 ghost use Rattle.model.specs.Texts.Heads.{MethodHead as Head};
 ghost use Rattle.model.specs.Texts.Methods.{body_with, method_without};
-ghost use Rattle.jasmin.specs.Bodies.{block_of, behind_block, first_body, first_method};
+ghost use Rattle.jasmin.specs.Bodies.{block_of, behind_block, first_parts, first_body, first_method};
 
 use crate::bodies::{Given, Part, end_of, next_of, part_of};
 use crate::errors::{Fault, TextError};
 use crate::heads::{MethodHead, class_head, method_head, super_name};
+use crate::switches::OpenSwitch;
+use crate::telling::told;
+use crate::uses::labels_agree;
 use bitflags::Flags;
 use jasmin_words::statements::{Statement, Statements};
 use model::flags::ClassFlags;
 use model::names::Name;
-use model::trees::{BodyTree, ClassTree, MethodTree, TextLine};
+use model::trees::{BodyTree, CatchRow, ClassTree, MethodTree, TextLine};
 use std::alloc::Global;
 
 /// Reads a text. It is refused where it spells no tree, with the first fault of the least faulty line, and where memory
@@ -26,10 +29,10 @@ pub fn read(alloc: Global, text: &[u8]) -> Result<ClassTree, TextError>
     let mut statements = Statements::new(text);
     match class_tree(alloc, &mut statements) {
         Ok(tree) => Ok(tree),
-        Err(fault) => Err(TextError {
-            line: statements.line(),
-            fault,
-        }),
+        Err(fault) => {
+            let line = statements.line();
+            Err(told(alloc, text, TextError { line, fault }))
+        }
     }
 }
 
@@ -110,8 +113,8 @@ fn no_body(class: ClassFlags, statements: &mut Statements<'_>) -> Result<(), Fau
     end_of(class, statement)
 }
 
-/// A body, up to its `.end method`.
-#[tactic(auto, using(crate::proofs::BodyLemmas::bodies))]
+/// A body whose labels agree, up to its `.end method`.
+#[tactic(auto, using(crate::proofs::BodyLemmas::agreeing))]
 fn body(
     alloc: Global,
     class: ClassFlags,
@@ -119,12 +122,34 @@ fn body(
 ) -> Result<BodyTree, Fault>
     ensures { MatchResult result (λ body. (first_body statements.old ≡ Some body) × (statements.new ≡ behind_block statements.old)) (λ e. e ≢ Fault.Memory → first_body statements.old ≡ None) }
 {
+    let body = body_parts(alloc, class, statements)?;
+    labels_agree(alloc, body.rows.as_slice(), body.lines.as_slice())?;
+    Ok(body)
+}
+
+/// A body, up to its `.end method`, whether its labels agree or not.
+#[tactic(auto, using(crate::proofs::BodyLemmas::bodies))]
+fn body_parts(
+    alloc: Global,
+    class: ClassFlags,
+    statements: &mut Statements<'_>,
+) -> Result<BodyTree, Fault>
+    ensures { MatchResult result (λ body. (first_parts statements.old ≡ Some body) × (statements.new ≡ behind_block statements.old)) (λ e. e ≢ Fault.Memory → first_parts statements.old ≡ None) }
+{
     let mut stack: Option<u16> = None;
     let mut locals: Option<u16> = None;
+    let mut rows = Vec::new(alloc);
     let mut lines = Vec::new(alloc);
+    let mut open: Option<OpenSwitch> = None;
     'rows: while let Some(statement) = next_of(statements)? {
-        match part_of(alloc, class, given_of(stack, locals), statement)? {
-            Part::End => return whole_body(alloc, stack, locals, lines),
+        match part_of(
+            alloc,
+            class,
+            given_of(stack, locals),
+            open.take(),
+            statement,
+        )? {
+            Part::End => return whole_body(stack, locals, rows, lines),
             Part::StackLimit(n) => {
                 if stack.is_some() {
                     return Err(Fault::Statement);
@@ -137,7 +162,9 @@ fn body(
                 }
                 locals = Some(n);
             }
+            Part::Row(row) => rows.push(row)?,
             Part::Line(line) => lines.push(line)?,
+            Part::Open(switch) => open = Some(switch),
         }
     }
     Err(Fault::End)
@@ -152,18 +179,18 @@ fn given_of(stack: Option<u16>, locals: Option<u16>) -> Given {
 
 /// A body of which all statements were read.
 fn whole_body(
-    alloc: Global,
     stack: Option<u16>,
     locals: Option<u16>,
+    rows: Vec<CatchRow>,
     lines: Vec<TextLine>,
 ) -> Result<BodyTree, Fault>
-    ensures { MatchResult result (λ body. body_with (option_to_list stack) (option_to_list locals) [] lines.items ≡ Some body) (λ _. body_with (option_to_list stack) (option_to_list locals) [] lines.items ≡ None) }
+    ensures { MatchResult result (λ body. body_with (option_to_list stack) (option_to_list locals) rows.items lines.items ≡ Some body) (λ _. body_with (option_to_list stack) (option_to_list locals) rows.items lines.items ≡ None) }
 {
     match (stack, locals) {
         (Some(max_stack), Some(max_locals)) => Ok(BodyTree {
             max_stack,
             max_locals,
-            rows: Vec::new(alloc),
+            rows,
             lines,
         }),
         _ => Err(Fault::Limit),

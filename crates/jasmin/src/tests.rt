@@ -206,7 +206,7 @@ fn a_method_has_its_limits_and_its_end(rt: HostRuntime) -> Result<(), Fail> {
 fn instructions_have_their_operands(rt: HostRuntime) -> Result<(), Fail> {
     for (text, line, fault) in [
         ("nop", 0, Fault::Memory),
-        ("goto X", 6, Fault::Mnemonic),
+        ("goto X", 6, Fault::Label),
         ("wide nop", 6, Fault::Operand),
         ("wide iload_3", 6, Fault::Operand),
         ("wide", 6, Fault::Operand),
@@ -260,19 +260,6 @@ fn instructions_have_their_operands(rt: HostRuntime) -> Result<(), Fail> {
         ("invokestatic vm/Sys/print(I)V", 0, Fault::Memory),
         ("invokestatic print(I)V", 6, Fault::Operand),
         ("invokestatic vm/Sys/print", 6, Fault::Operand),
-    ] {
-        assert_eq!(rt; refusal_of_line(&rt, text)?, (line, fault));
-    }
-    Ok(())
-}
-
-#[test]
-fn labels_are_not_served_yet(rt: HostRuntime) -> Result<(), Fail> {
-    for (text, line, fault) in [
-        ("X:", 6, Fault::Statement),
-        ("X: return", 6, Fault::Operand),
-        ("9X:", 6, Fault::Mnemonic),
-        (".catch all from A to B using C", 6, Fault::Statement),
     ] {
         assert_eq!(rt; refusal_of_line(&rt, text)?, (line, fault));
     }

@@ -74,7 +74,7 @@ impl<'a> Statements<'a> {
 }
 
 /// Whether each byte of a line is a tab or a character that prints.
-fn is_text(line: &[u8]) -> bool
+pub fn is_text(line: &[u8]) -> bool
     ensures { result ≡ is_text_line line.now }
 {
     line.iter()

@@ -29,6 +29,13 @@ impl<'a> Words<'a> {
         Words { rest: line }
     }
 
+    /// The same words, to be read on their own.
+    pub fn again(&self) -> Words<'a>
+        ensures { result ≡ self.now }
+    {
+        Words { rest: self.rest }
+    }
+
     /// The next word, if one is left.
     pub fn next_word(&mut self) -> Option<&'a [u8]>
         ensures { MatchOption result ((self.old ≡ []) × (self.new ≡ [])) (λ word. self.old ≡ word.now ∷ self.new) }

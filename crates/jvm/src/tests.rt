@@ -183,7 +183,7 @@ fn a_refused_text_is_told_with_its_line(rt: HostRuntime) -> Result<(), Fail> {
         b".class public E\n.super java/lang/Object\n.method public static main()V\n.limit stack 0\n.limit locals 0\ngoto X\n.end method\n",
         2,
         b"",
-        b"jvm: a.j: J2 at line 6\n",
+        b"jvm: a.j: J5 at line 6\n",
     )?;
     check(
         &rt,

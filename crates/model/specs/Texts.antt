@@ -21,8 +21,10 @@ pub mod Names
 pub mod Numbers
 pub mod Operands
 pub mod Statements
+pub mod Switches
 pub mod Tables
 pub mod Trees
+pub mod Uses
 pub mod Widths
 pub mod Words
 

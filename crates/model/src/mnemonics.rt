@@ -1,8 +1,8 @@
 //! What a mnemonic of the text says before its operands.
 
 use crate::instructions::{
-    Access, ClassOperation, ElementKind, Invocation, LocalAccess, MonitorOperation, NumberOperation,
-    SmallInt, SmallLong, StackOperation, Width,
+    Access, ClassOperation, ElementKind, Invocation, LocalAccess, MonitorOperation,
+    NumberOperation, SmallInt, SmallLong, StackOperation, Test, Width,
 };
 use crate::values::Kind;
 
@@ -43,6 +43,8 @@ pub enum Mnemonic {
     Stack(StackOperation),
     /// an operation on numbers, as `iadd`
     Number(NumberOperation),
+    /// a branch, as `goto`: a label
+    Branch(Test),
     /// a return of a value of this kind, or of none
     Return(Option<Kind>),
     /// `getstatic`, `putstatic`: a class and a field, and its descriptor

@@ -10,12 +10,12 @@ use Rattle.model.specs.declared.instructions.Instruction.TheVariants as instruct
 use Rattle.model.specs.declared.instructions.Invocation.TheVariants as invocation
 use Rattle.model.specs.declared.instructions.Width.TheVariants as width
 use Rattle.model.specs.declared.mnemonics.Mnemonic.{Mnemonic}
-use Rattle.model.specs.declared.mnemonics.Mnemonic.TheVariants.{Nop, Null, SmallInt, SmallLong, Byte, Short, Int, Long, Local, FirstLocal, Stack, Number, Return, Static, Field, NewArray, NewArrayOf, ArrayLength, ArrayLoad, ArrayStore, Class, Invoke, InvokeInterface, Throw, Monitor}
+use Rattle.model.specs.declared.mnemonics.Mnemonic.TheVariants.{Nop, Null, SmallInt, SmallLong, Byte, Short, Int, Long, Local, FirstLocal, Stack, Number, Branch, Return, Static, Field, NewArray, NewArrayOf, ArrayLength, ArrayLoad, ArrayStore, Class, Invoke, InvokeInterface, Throw, Monitor}
 use Rattle.model.specs.declared.names.Member.{Member}
 use Rattle.model.specs.Texts.Locals.{local_by}
 use Rattle.model.specs.Texts.Mnemonics.{mnemonic_of}
 use Rattle.model.specs.Texts.Numbers.{number_in}
-use Rattle.model.specs.Texts.Operands.{only, both, only_number, method_named, field_named, class_named, type_named, primitives}
+use Rattle.model.specs.Texts.Operands.{only, both, only_number, method_named, field_named, class_named, type_named, label_named, primitives}
 use Rattle.model.specs.Texts.Tables.{named}
 
 -- an instruction of a text: branches name labels, and what the constant pool would hold stands in place
@@ -58,6 +58,7 @@ instruction_by (Local m) words = option_map instruction.Local (local_by width.Na
 instruction_by (FirstLocal access) words = alone (instruction.Local access) words
 instruction_by (Stack operation) words = alone (instruction.Stack operation) words
 instruction_by (Number operation) words = alone (instruction.Number operation) words
+instruction_by (Branch test) words = option_map (λ l. instruction.Branch test l) (option_and_then label_named (only words))
 instruction_by (Return kind) words = alone (instruction.Return kind) words
 instruction_by (Static access) words = option_map (λ m. instruction.Static access m) (field_of words)
 instruction_by (Field access) words = option_map (λ m. instruction.Field access m) (field_of words)

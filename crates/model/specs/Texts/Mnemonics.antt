@@ -1,9 +1,11 @@
 use Rattle.std.specs.Prelude.{ℕ, List, [], ◌∷◌, ◌++◌, codes, Option, None, Some}
 use Rattle.model.specs.declared.instructions.Access.TheVariants as field_access
 use Rattle.model.specs.declared.instructions.ClassOperation.TheVariants as class
+use Rattle.model.specs.declared.instructions.Comparison.TheVariants as comparison
 use Rattle.model.specs.declared.instructions.Conversion.TheVariants as conversion
 use Rattle.model.specs.declared.instructions.ElementKind.TheVariants as element
 use Rattle.model.specs.declared.instructions.FirstLocal.TheVariants as first
+use Rattle.model.specs.declared.instructions.Identity.TheVariants as identity
 use Rattle.model.specs.declared.instructions.Invocation.TheVariants as invocation
 use Rattle.model.specs.declared.values.Kind.TheVariants as kind
 use Rattle.model.specs.declared.instructions.Local.TheVariants as «local»
@@ -16,6 +18,7 @@ use Rattle.model.specs.declared.instructions.Operator.TheVariants as operator
 use Rattle.model.specs.declared.instructions.SmallInt.TheVariants as small_int
 use Rattle.model.specs.declared.instructions.SmallLong.TheVariants as small_long
 use Rattle.model.specs.declared.instructions.StackOperation.TheVariants as stack
+use Rattle.model.specs.declared.instructions.Test.TheVariants as test
 use Rattle.model.specs.declared.instructions.Width.TheVariants as width
 use Rattle.model.specs.declared.mnemonics.Mnemonic.{Mnemonic}
 use Rattle.model.specs.declared.mnemonics.Mnemonic.TheVariants as mnemonic
@@ -100,6 +103,19 @@ number_mnemonics =
     (codes "i2c", mnemonic.Number (number.Convert conversion.IntToChar)) ∷ (codes "i2s", mnemonic.Number (number.Convert conversion.IntToShort)) ∷
     (codes "lcmp", mnemonic.Number number.CompareLongs) ∷ []
 
+-- the mnemonics of branches
+abbrev pub branch_mnemonics : List (List ℕ × Mnemonic)
+branch_mnemonics =
+    (codes "ifeq", mnemonic.Branch (test.Zero comparison.Equal)) ∷ (codes "ifne", mnemonic.Branch (test.Zero comparison.NotEqual)) ∷
+    (codes "iflt", mnemonic.Branch (test.Zero comparison.Less)) ∷ (codes "ifge", mnemonic.Branch (test.Zero comparison.GreaterOrEqual)) ∷
+    (codes "ifgt", mnemonic.Branch (test.Zero comparison.Greater)) ∷ (codes "ifle", mnemonic.Branch (test.Zero comparison.LessOrEqual)) ∷
+    (codes "if_icmpeq", mnemonic.Branch (test.Ints comparison.Equal)) ∷ (codes "if_icmpne", mnemonic.Branch (test.Ints comparison.NotEqual)) ∷
+    (codes "if_icmplt", mnemonic.Branch (test.Ints comparison.Less)) ∷ (codes "if_icmpge", mnemonic.Branch (test.Ints comparison.GreaterOrEqual)) ∷
+    (codes "if_icmpgt", mnemonic.Branch (test.Ints comparison.Greater)) ∷ (codes "if_icmple", mnemonic.Branch (test.Ints comparison.LessOrEqual)) ∷
+    (codes "if_acmpeq", mnemonic.Branch (test.Refs identity.Same)) ∷ (codes "if_acmpne", mnemonic.Branch (test.Refs identity.Different)) ∷
+    (codes "ifnull", mnemonic.Branch (test.Null identity.Same)) ∷ (codes "ifnonnull", mnemonic.Branch (test.Null identity.Different)) ∷
+    (codes "goto", mnemonic.Branch (test.Always width.Narrow)) ∷ (codes "goto_w", mnemonic.Branch (test.Always width.Wide)) ∷ []
+
 -- the mnemonics of calls and returns
 abbrev pub call_mnemonics : List (List ℕ × Mnemonic)
 call_mnemonics =
@@ -130,4 +146,4 @@ array_mnemonics =
 
 -- what a word says as a mnemonic
 unfoldable pub mnemonic_of : List ℕ → Option Mnemonic
-mnemonic_of word = named (constant_mnemonics ++ local_mnemonics ++ stack_mnemonics ++ number_mnemonics ++ call_mnemonics ++ object_mnemonics ++ array_mnemonics) word
+mnemonic_of word = named (constant_mnemonics ++ local_mnemonics ++ stack_mnemonics ++ number_mnemonics ++ branch_mnemonics ++ call_mnemonics ++ object_mnemonics ++ array_mnemonics) word

@@ -5,7 +5,7 @@ use Rattle.model.specs.declared.instructions.Primitive.{Primitive}
 use Rattle.model.specs.declared.instructions.Primitive.TheVariants as primitive
 use Rattle.model.specs.declared.names.Member.{Member}
 use Rattle.model.specs.Texts.Descriptors.{arguments_of, is_field_descriptor, is_array_descriptor}
-use Rattle.model.specs.Texts.Names.{is_class_name, is_field_name, is_method_name}
+use Rattle.model.specs.Texts.Names.{is_part, is_class_name, is_field_name, is_method_name}
 use Rattle.model.specs.Texts.Numbers.{number_in, natural_to}
 
 -- the one operand
@@ -71,6 +71,10 @@ class_named word = if is_class_name word then Some word else None
 
 abbrev pub type_named : List ℕ → Option (List ℕ)
 type_named word = if is_class_name word || is_array_descriptor word then Some word else None
+
+-- a label
+abbrev pub label_named : List ℕ → Option (List ℕ)
+label_named word = if is_part word then Some word else None
 
 -- the primitive types of elements
 abbrev pub primitives : List (List ℕ × Primitive)

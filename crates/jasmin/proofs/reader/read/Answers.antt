@@ -7,4 +7,4 @@ returns-in-Ok c = rw (← c.new-statements.ensures) c.in-Ok.ensures
 
 pub returns-in-Err : goal.returns-in-Err
 unfolding tree_of
-returns-in-Err c = λ h. rw (← c.new-statements.ensures) (c.in-Err.ensures h)
+returns-in-Err c = λ h. rw (← c.new-statements.ensures) (c.in-Err.ensures (λ e. h (c.told.ensures e)))

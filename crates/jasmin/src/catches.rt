@@ -1,0 +1,89 @@
+//! The rows of a method's exception table.
+ghost use Rattle.std.specs.Prelude.{◌≡◌, ◌≢◌, [], ◌∷◌, None, Some, MatchResult};
+ghost use Rattle.std.specs.Prelude.{◌&&◌, codes};
+ghost use Rattle.std.specs.Str.{bytes_eq};
+ghost use Rattle.model.specs.Texts.Methods.{catch_of, catch_class};
+ghost use Rattle.model.specs.Texts.Names.{is_part};
+
+use crate::errors::Fault;
+use crate::instructions::class_named;
+use crate::names::is_part;
+use jasmin_words::words::Words;
+use model::names::Name;
+use model::trees::CatchRow;
+use std::alloc::Global;
+
+/// The words behind a `.catch`.
+#[derive(Clone, Copy)]
+struct CatchWords<'a> {
+    class: &'a [u8],
+    from: &'a [u8],
+    start: &'a [u8],
+    to: &'a [u8],
+    end: &'a [u8],
+    using: &'a [u8],
+    handler: &'a [u8],
+}
+
+/// A row: a class or `all`, and `from`, `to` and `using` with a label each.
+pub fn catch_row(alloc: Global, operands: Words<'_>) -> Result<CatchRow, Fault>
+    ensures { MatchResult result (λ row. catch_of operands.entry ≡ Some row) (λ e. e ≢ Fault.Memory → catch_of operands.entry ≡ None) }
+{
+    let words = catch_words(operands)?;
+    if !has_form(words) {
+        return Err(Fault::Operand);
+    }
+    let class = catch_class(alloc, words.class)?;
+    Ok(CatchRow {
+        class,
+        start: Name::copy_of(alloc, words.start)?,
+        end: Name::copy_of(alloc, words.end)?,
+        handler: Name::copy_of(alloc, words.handler)?,
+    })
+}
+
+fn catch_words<'a>(mut operands: Words<'a>) -> Result<CatchWords<'a>, Fault>
+    ensures { MatchResult result (λ w. operands.entry ≡ w.class.now ∷ w.from.now ∷ w.start.now ∷ w.to.now ∷ w.end.now ∷ w.using.now ∷ w.handler.now ∷ []) (λ _. catch_of operands.entry ≡ None) }
+{
+    let class = operands.next_word().ok_or(Fault::Operand)?;
+    let from = operands.next_word().ok_or(Fault::Operand)?;
+    let start = operands.next_word().ok_or(Fault::Operand)?;
+    let to = operands.next_word().ok_or(Fault::Operand)?;
+    let end = operands.next_word().ok_or(Fault::Operand)?;
+    let using = operands.next_word().ok_or(Fault::Operand)?;
+    let handler = operands.next_word().ok_or(Fault::Operand)?;
+    match operands.next_word() {
+        None => Ok(CatchWords {
+            class,
+            from,
+            start,
+            to,
+            end,
+            using,
+            handler,
+        }),
+        Some(_) => Err(Fault::Operand),
+    }
+}
+
+/// Whether `from`, `to` and `using` stand where they should, each before a label.
+fn has_form(words: CatchWords<'_>) -> bool
+    ensures { result ≡ (bytes_eq words.entry.from.now (codes "from") && bytes_eq words.entry.to.now (codes "to") && bytes_eq words.entry.using.now (codes "using") && is_part words.entry.start.now && is_part words.entry.end.now && is_part words.entry.handler.now) }
+{
+    words.from == b"from".as_slice()
+        && words.to == b"to".as_slice()
+        && words.using == b"using".as_slice()
+        && is_part(words.start)
+        && is_part(words.end)
+        && is_part(words.handler)
+}
+
+/// What a row takes: a class, or anything.
+fn catch_class(alloc: Global, word: &[u8]) -> Result<Option<Name>, Fault>
+    ensures { MatchResult result (λ class. catch_class word.now ≡ Some class) (λ e. e ≢ Fault.Memory → catch_class word.now ≡ None) }
+{
+    if word == b"all".as_slice() {
+        return Ok(None);
+    }
+    Ok(Some(class_named(alloc, word)?))
+}
