@@ -1,4 +1,4 @@
-//! Class files (JVMS 4): read, tested and written.
+//! Class files (JVMS 4): read, tested, written and listed.
 #![tactic(auto)]
 
 mod attributes;
@@ -8,6 +8,9 @@ mod fields;
 mod files;
 mod heads;
 mod instructions;
+mod listed_code;
+mod listed_members;
+mod listings;
 mod methods;
 mod operands;
 mod rows;
@@ -17,6 +20,7 @@ pub use error::ClassError;
 pub use files::{ClassFile, again, one_class_file, read, write};
 pub use heads::{ClassHead, one_head};
 pub use instructions::Instructions;
+pub use listings::listing;
 pub use methods::MethodEntry;
 pub use rows::CodeRow;
 

@@ -2,6 +2,7 @@
 
 mod codes;
 mod files;
+mod listings;
 
 use super::*;
 use model::class_files::FormatFault;

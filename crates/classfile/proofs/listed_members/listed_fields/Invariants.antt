@@ -1,6 +1,6 @@
 use Rattle.std.proofs.Common.{◌≡◌, ◌++◌, drop, map}
 use Rattle.model.specs.ClassFiles.Listing.{listed_field}
-use Rattle.class_listings.proofs.members.listed_fields.Given as goal
+use Rattle.classfile.proofs.listed_members.listed_fields.Given as goal
 
 -- the fields so far, and those that follow
 abbrev pub invariant-loop-field : goal.invariant-loop-field

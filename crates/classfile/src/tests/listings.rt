@@ -1,19 +1,12 @@
+//! Listings of class files by hand.
+
 use super::*;
+use crate::ClassError;
 use bitflags::Flags;
-use classfile::{ClassError, read};
 use model::instructions::{Constant, Instruction, Invocation, Width};
 use model::listings::{Constant as Value, Listing};
 use std::alloc::{AllocError, Global};
 use std::test::*;
-
-/// A class E over java/lang/Object with the method `public static main()V`, whose code is one return.
-const E: [u8; 100] = [
-    0xca, 0xfe, 0xba, 0xbe, 0, 0, 0, b'1', 0, 8, 1, 0, 1, b'E', 7, 0, 1, 1, 0, 16, b'j', b'a',
-    b'v', b'a', b'/', b'l', b'a', b'n', b'g', b'/', b'O', b'b', b'j', b'e', b'c', b't', 7, 0, 3, 1,
-    0, 4, b'm', b'a', b'i', b'n', 1, 0, 3, b'(', b')', b'V', 1, 0, 4, b'C', b'o', b'd', b'e', 0,
-    33, 0, 2, 0, 4, 0, 0, 0, 0, 0, 1, 0, 9, 0, 5, 0, 6, 0, 1, 0, 7, 0, 0, 0, 13, 0, 0, 0, 0, 0, 0,
-    0, 1, 0xb1, 0, 0, 0, 0, 0, 0,
-];
 
 /// A class A with a field `static final J L = -1`, and a method `public static main()V` whose code is `ldc 2147483647`,
 /// `invokestatic vm/Sys/print(I)V` and `return`, of which the first hands Object to the last.

@@ -4,10 +4,10 @@ ghost use Rattle.std.specs.Prelude.{◌≡◌, map, IfOk};
 ghost use Rattle.model.specs.ClassFiles.Listing as listing;
 ghost use Rattle.model.specs.ClassFiles.Listing.{listing_of};
 
-use crate::code::listed_instructions;
-use crate::members::{class_names, listed_fields};
+use crate::listed_code::listed_instructions;
+use crate::listed_members::{class_names, listed_fields};
+use crate::{ClassFile, CodeEntry, CodeRow, MethodEntry};
 use bitflags::Flags;
-use classfile::{ClassFile, CodeEntry, CodeRow, MethodEntry};
 use model::flags::ClassFlags;
 use model::listings::{Code, ExceptionRow, Listing, Method};
 use pool::Pool;

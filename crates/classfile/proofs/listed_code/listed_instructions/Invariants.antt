@@ -1,6 +1,6 @@
 use Rattle.std.proofs.Common.{◌≡◌, ◌++◌, drop, map}
 use Rattle.model.specs.ClassFiles.Listing.{placed}
-use Rattle.class_listings.proofs.code.listed_instructions.Given as goal
+use Rattle.classfile.proofs.listed_code.listed_instructions.Given as goal
 
 -- the instructions so far, and those that follow
 abbrev pub invariant-loop-located : goal.invariant-loop-located

@@ -1,6 +1,6 @@
 use Rattle.std.proofs.Common.{◌≡◌, ◌++◌, drop, map}
 use Rattle.model.specs.ClassFiles.Listing.{class_at}
-use Rattle.class_listings.proofs.members.class_names.Given as goal
+use Rattle.classfile.proofs.listed_members.class_names.Given as goal
 
 -- the names so far, and those that follow
 abbrev pub invariant-loop-number : goal.invariant-loop-number

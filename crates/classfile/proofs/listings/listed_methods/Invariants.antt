@@ -1,6 +1,6 @@
 use Rattle.std.proofs.Common.{◌≡◌, ◌++◌, drop, map}
 use Rattle.model.specs.ClassFiles.Listing.{listed_method}
-use Rattle.class_listings.proofs.listings.listed_methods.Given as goal
+use Rattle.classfile.proofs.listings.listed_methods.Given as goal
 
 -- the methods so far, and those that follow
 abbrev pub invariant-loop-method : goal.invariant-loop-method

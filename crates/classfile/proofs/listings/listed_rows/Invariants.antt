@@ -1,6 +1,6 @@
 use Rattle.std.proofs.Common.{◌≡◌, ◌++◌, drop, map}
 use Rattle.model.specs.ClassFiles.Listing.{listed_row}
-use Rattle.class_listings.proofs.listings.listed_rows.Given as goal
+use Rattle.classfile.proofs.listings.listed_rows.Given as goal
 
 -- the rows so far, and those that follow
 abbrev pub invariant-loop-row : goal.invariant-loop-row
