@@ -21,6 +21,8 @@
 mod branches;
 mod constants;
 mod locals;
+#[cfg(test)]
+mod move_tests;
 mod numbers;
 mod stacks;
 mod steps;
