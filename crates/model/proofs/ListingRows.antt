@@ -16,6 +16,7 @@ use Rattle.model.specs.ClassFiles.Codes.{CodePart}
 use Rattle.model.specs.ClassFiles.Listing.{listing_of}
 use Rattle.model.specs.Texts.{tree_of}
 use Rattle.model.specs.Texts.ListingOfTree as texts
+use Rattle.model.specs.Texts.Mnemonics.{mnemonic_of}
 use Rattle.model.proofs.TextsRows.{listing_spelled}
 
 -- ---- the smallest program
@@ -34,7 +35,7 @@ abbrev empty_class : ClassPart
 empty_class = class_with empty_pool 0x0021 2 4 5 6 (record { name = 7; max_stack = 0; max_locals = 0; instructions = record { pc = 0; next = 1; instruction = instruction.Return None } ∷ []; rows = [] })
 
 pub empty_listing : Some (listing_of empty_class) ≡ listing_spelled (codes ".class public E\n.super java/lang/Object\n.method public static main()V\n.limit stack 0\n.limit locals 0\nreturn\n.end method\n")
-unfolding listing_of tree_of texts.listing_of
+unfolding listing_of tree_of texts.listing_of mnemonic_of
 empty_listing = refl
 
 -- entries that are added twice are kept once
@@ -63,5 +64,5 @@ sum_class = class_with sum_pool 0x0020 3 5 6 7 (record {
 })
 
 pub sum_listing : Some (listing_of sum_class) ≡ listing_spelled (codes ".class A\n.super java/lang/Object\n.method public static main()V\n.limit stack 2\n.limit locals 0\nldc 2147483647\niconst_1\niadd\ninvokestatic vm/Sys/print(I)V\nreturn\n.end method\n")
-unfolding listing_of tree_of texts.listing_of
+unfolding listing_of tree_of texts.listing_of mnemonic_of
 sum_listing = refl
