@@ -26,7 +26,7 @@ use Rattle.model.specs.declared.names.Member.{Member}
 use Rattle.model.specs.declared.values.Kind.TheVariants as kind
 use Rattle.model.specs.ClassListings.{ClassListing}
 use Rattle.model.specs.CodeListings.{CodeListing}
-use Rattle.model.specs.Texts.Disassembling.{Listed, text_of, instruction_text, small_int_name, small_long_name, stack_name, number_name, return_text, access_name, class_name, monitor_name, invocation_name, primitive_name, kind_letter, element_letter}
+use Rattle.model.specs.Texts.Disassembling.{Listed, text_of, interface_line, table_head, default_text, lookup_head, stack_line, locals_line, method_flag_words, method_line, end_line, instruction_text, small_int_name, small_long_name, stack_name, number_name, return_text, access_name, class_name, monitor_name, invocation_name, primitive_name, kind_letter, element_letter}
 use Rattle.model.specs.Texts.Mnemonics.{stack_mnemonics, number_mnemonics, call_mnemonics}
 use Rattle.model.specs.Texts.Operands.{primitives}
 
@@ -78,7 +78,7 @@ pub smallest : text_of (main_with (codes "E") (record {
   rows = [];
   instructions = record { pc = 0; next = 1; instruction = instruction.Return None } ∷ [];
 })) ≡ codes ".class public E\n.super java/lang/Object\n.method public static main()V\n.limit stack 0\n.limit locals 0\nreturn\n.end method\n"
-unfolding text_of digits
+unfolding text_of interface_line table_head default_text lookup_head stack_line locals_line method_flag_words method_line end_line digits
 smallest = refl
 
 abbrev row : ℕ → ℕ → ℕ → Option (List ℕ) → ExceptionRow
@@ -101,7 +101,7 @@ pub labels : text_of (main_with (codes "A") (record {
       ∷ at 59 60 (instruction.Constant constant.Null)
       ∷ at 60 61 instruction.Throw ∷ [];
 })) ≡ codes ".class public A\n.super java/lang/Object\n.method public static main()V\n.limit stack 1\n.limit locals 2\n.catch java/lang/Exception from L0 to L24 using L60\n.catch all from L4 to L61 using L60\nL0:\niload_0\ntableswitch -1\nL24\nL60\ndefault : L56\nL24:\niload_1\nlookupswitch\n-5 : L0\n7 : L60\ndefault : L59\nL56:\nifnonnull L60\nL59:\naconst_null\nL60:\nathrow\nL61:\n.end method\n"
-unfolding text_of digits
+unfolding text_of interface_line table_head default_text lookup_head stack_line locals_line method_flag_words method_line end_line digits
 labels = refl
 
 -- wide forms carry `wide`
@@ -140,5 +140,5 @@ pub interface : text_of (record {
       ∷ record { flags = record { 0 = 0x0019 }; name = codes "c"; descriptor = codes "C"; constant = Some (value.Int (pos 65)) } ∷ [];
   methods = record { flags = record { 0 = 0x0401 }; name = codes "m"; descriptor = codes "(J)I"; code = None } ∷ [];
 }) ≡ codes ".interface public a/I\n.super java/lang/Object\n.implements a/J\n.implements K\n.field public static final least J = -9223372036854775808\n.field public static final transient none La/I;\n.field public static final c C = 65\n.method public abstract m(J)I\n.end method\n"
-unfolding text_of digits
+unfolding text_of interface_line table_head default_text lookup_head stack_line locals_line method_flag_words method_line end_line digits
 interface = refl

@@ -231,11 +231,21 @@ target_line pc = label pc ++ codes "\n"
 abbrev pub pair_line : ℤ × ℕ → List ℕ
 pair_line p = signed_decimal p.0 ++ (codes " : " ++ target_line p.1)
 
+-- a switch's last line
+unfoldable pub default_text : ℕ → List ℕ
+default_text pc = codes "default : " ++ label pc
+
+unfoldable pub table_head : ℤ → List ℕ
+table_head low = codes "tableswitch " ++ (signed_decimal low ++ newline)
+
 abbrev pub table_text : Table ℕ → List ℕ
-table_text t = codes "tableswitch " ++ (signed_decimal t.low ++ (codes "\n" ++ (flat_map target_line t.targets ++ (codes "default : " ++ label t.default))))
+table_text t = table_head t.low ++ (flat_map target_line t.targets ++ default_text t.default)
+
+unfoldable pub lookup_head : List ℕ
+lookup_head = codes "lookupswitch\n"
 
 abbrev pub lookup_text : Lookup ℕ → List ℕ
-lookup_text l = codes "lookupswitch\n" ++ (flat_map pair_line l.pairs ++ (codes "default : " ++ label l.default))
+lookup_text l = lookup_head ++ (flat_map pair_line l.pairs ++ default_text l.default)
 
 abbrev pub return_text : Option Kind → List ℕ
 return_text None = codes "return"
@@ -326,21 +336,39 @@ abbrev pub label_line : Bool → ℕ → List ℕ
 label_line false pc = []
 label_line true pc = label pc ++ codes ":\n"
 
+-- an instruction behind its label
+abbrev pub placed_text : List ℕ → Placed → List ℕ
+placed_text pcs p = label_line (is_named pcs p.pc) p.pc ++ (instruction_text p.instruction ++ newline)
+
 -- instructions behind a pc, each behind its label; the last label may stand at the end
 abbrev pub lines_from : List ℕ → ℕ → List Placed → List ℕ
 lines_from pcs end [] = label_line (is_named pcs end) end
-lines_from pcs end (p ∷ ps) = label_line (is_named pcs p.pc) p.pc ++ (instruction_text p.instruction ++ (newline ++ lines_from pcs p.next ps))
+lines_from pcs end (p ∷ ps) = placed_text pcs p ++ lines_from pcs p.next ps
 
 abbrev pub catch_name : Option (List ℕ) → List ℕ
 catch_name None = codes "all"
 catch_name (Some name) = name
 
+abbrev pub from_text : ℕ → List ℕ
+from_text pc = codes " from " ++ label pc
+
+abbrev pub to_text : ℕ → List ℕ
+to_text pc = codes " to " ++ label pc
+
+abbrev pub using_text : ℕ → List ℕ
+using_text pc = codes " using " ++ label pc
+
 abbrev pub row_text : ExceptionRow → List ℕ
-row_text r =
-    codes ".catch " ++ (catch_name r.class ++ (codes " from " ++ (label r.start ++ (codes " to " ++ (label r.end ++ (codes " using " ++ (label r.handler ++ codes "\n")))))))
+row_text r = codes ".catch " ++ (catch_name r.class ++ (from_text r.start ++ (to_text r.end ++ (using_text r.handler ++ newline))))
+
+unfoldable pub stack_line : ℕ → List ℕ
+stack_line n = codes ".limit stack " ++ (decimal n ++ newline)
+
+unfoldable pub locals_line : ℕ → List ℕ
+locals_line n = codes ".limit locals " ++ (decimal n ++ newline)
 
 abbrev pub limits_text : CodeListing → List ℕ
-limits_text c = codes ".limit stack " ++ (decimal c.max_stack ++ (codes "\n.limit locals " ++ (decimal c.max_locals ++ codes "\n")))
+limits_text c = stack_line c.max_stack ++ locals_line c.max_locals
 
 abbrev pub code_text : CodeListing → List ℕ
 code_text c = limits_text c ++ (flat_map row_text c.rows ++ lines_from (named_pcs c) 0 c.instructions)
@@ -370,7 +398,7 @@ class_line true flags name = codes ".interface " ++ (flags_text interface_flags 
 abbrev pub super_line : List ℕ → List ℕ
 super_line name = codes ".super " ++ (name ++ codes "\n")
 
-abbrev pub interface_line : List ℕ → List ℕ
+unfoldable pub interface_line : List ℕ → List ℕ
 interface_line name = codes ".implements " ++ (name ++ codes "\n")
 
 -- the value that a static field begins with
@@ -390,9 +418,20 @@ abbrev pub body_text : Option CodeListing → List ℕ
 body_text None = []
 body_text (Some c) = code_text c
 
+unfoldable pub method_flag_words : ℕ → List ℕ
+method_flag_words flags = flags_text method_flags flags
+
+abbrev pub method_words : Method → List ℕ
+method_words m = method_flag_words m.flags.0 ++ (m.name ++ (m.descriptor ++ newline))
+
+unfoldable pub method_line : Method → List ℕ
+method_line m = codes ".method " ++ method_words m
+
+unfoldable pub end_line : List ℕ
+end_line = codes ".end method\n"
+
 abbrev pub method_text : Method → List ℕ
-method_text m =
-    codes ".method " ++ (flags_text method_flags m.flags.0 ++ (m.name ++ (m.descriptor ++ (codes "\n" ++ (body_text m.code ++ codes ".end method\n")))))
+method_text m = method_line m ++ (body_text m.code ++ end_line)
 
 -- the text of a class
 unfoldable pub text_of : ClassListing → List ℕ
