@@ -8,6 +8,7 @@ pub mod Assembling
 pub mod Bodies
 pub mod Classes
 pub mod Descriptors
+pub mod Disassembling
 pub mod Flags
 pub mod Heads
 pub mod Instructions

@@ -1,0 +1,10 @@
+//! The disassembler: the text of a class's listing.
+#![tactic(auto)]
+
+mod classes;
+mod code;
+mod instructions;
+mod labels;
+mod words;
+
+pub use classes::text;
