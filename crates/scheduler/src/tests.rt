@@ -286,11 +286,7 @@ fn the_collector_has_a_row(rt: HostRuntime) -> Result<(), Fail> {
 }
 
 /// The error of a world of this shape and with these limits.
-fn refused(
-    alloc: Global,
-    shape: HeapShape,
-    limits: Limits,
-) -> Result<Option<WorldError>, AllocError> {
+fn refused(alloc: Global, shape: HeapShape, limits: Limits) -> Result<Option<WorldError>, Fail> {
     Ok(World::new(alloc, wrapping_sum(alloc)?, shape, limits).err())
 }
 
