@@ -10,3 +10,6 @@ mod words;
 
 pub use classes::text;
 pub use files::disassemble;
+
+#[cfg(test)]
+mod tests;
