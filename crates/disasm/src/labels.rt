@@ -1,6 +1,7 @@
 //! The pcs that a method's rows and instructions name.
-ghost use Rattle.std.specs.Prelude.{◌≡◌, ◌++◌, ℕ, List, IfOk, OnOk, map};
+ghost use Rattle.std.specs.Prelude.{◌≡◌, ◌++◌, ◌==◌, ℕ, true, if◌then◌else◌, IfOk, OnOk, map};
 ghost use Rattle.std.specs.List.{flat_map};
+ghost use Rattle.disasm.specs.Marks.{is_marked, Marks};
 ghost use Rattle.model.specs.Texts.Disassembling as definition;
 
 use model::listings::{Code, ExceptionRow, Listed, Placed};
@@ -77,16 +78,47 @@ fn named_pcs(alloc: Global, code: &Code) -> Result<Vec<u16>, AllocError>
     Ok(pcs)
 }
 
+/// Marks a pc in a table, which grows to hold it.
+#[tactic(auto, using(crate::proofs::MarkLemmas::one_marked))]
+fn mark(table: &mut Vec<bool>, pc: u16) -> Result<(), AllocError>
+    ensures { OnOk result ((k : ℕ) → is_marked table.new.items k ≡ (if pc == k then true else is_marked table.old.items k)) }
+{
+    let pc = usize::from(pc);
+    for _ in table.len()..pc + 1 {
+        table.push(false)?;
+    }
+    table[pc] = true;
+    Ok(())
+}
+
+/// The table that marks these pcs.
+fn marks(alloc: Global, pcs: &[u16]) -> Result<Vec<bool>, AllocError>
+    ensures { IfOk result (λ table. Marks table.items pcs.now) }
+{
+    let mut table = Vec::new(alloc);
+    for pc in pcs {
+        mark(&mut table, *pc)?;
+    }
+    Ok(table)
+}
+
 /// The pcs before which a label stands. A contract sees them in their order.
 #[derive(Drop)]
 pub struct Labels {
     pcs: Vec<u16>,
+    /// whether each pc is among them, up to the highest that is
+    table: Vec<bool>,
 }
 
 impl Model for Labels {
+    ghost use Rattle.std.specs.Prelude.{List, ℕ};
+    ghost use Rattle.disasm.specs.Marks.{Marks};
+
     ghost Value = { List ℕ };
 
     ghost view = { λ a. a.pcs.items };
+
+    ghost invariant = { λ a. Marks a.table.items a.pcs.items };
 }
 
 impl Labels {
@@ -94,15 +126,15 @@ impl Labels {
     pub fn of(alloc: Global, code: &Code) -> Result<Labels, AllocError>
         ensures { IfOk result (λ labels. labels ≡ definition.named_pcs code.now) }
     {
-        Ok(Labels {
-            pcs: named_pcs(alloc, code)?,
-        })
+        let pcs = named_pcs(alloc, code)?;
+        let table = marks(alloc, pcs.as_slice())?;
+        Ok(Labels { pcs, table })
     }
 
     /// Whether a label stands before a pc.
     pub fn has(&self, pc: u16) -> bool
         ensures { result ≡ definition.is_named self.now pc }
     {
-        self.pcs.as_slice().contains(&pc)
+        self.table.get(usize::from(pc)).copied().unwrap_or(false)
     }
 }

@@ -1,0 +1,163 @@
+//! Class files by hand, and their texts by the grammar.
+
+use super::*;
+use bitflags::Flags;
+use classfile::read;
+use model::flags::ClassFlags;
+use model::listings::Listing;
+use model::names::Name;
+use std::alloc::Global;
+use std::test::*;
+
+/// A class E over java/lang/Object with the method `public static main()V`, whose code is one return.
+const E: &str = "cafebabe 0000 0031 0008 01000145 070001
+0100106a6176612f6c616e672f4f626a656374 070003
+0100046d61696e 010003282956 010004436f6465
+0021 0002 0004 0000 0000 0001
+0009 0005 0006 0001 0007 0000000d
+0000 0000 00000001 b1 0000 0000 0000";
+
+const TEXT_OF_E: &str = ".class public E
+.super java/lang/Object
+.method public static main()V
+.limit stack 0
+.limit locals 0
+return
+.end method
+";
+
+/// A class with interfaces, fields, a method with code of many words, and methods without.
+const R: &str =
+    "cafebabe00000031003003000100000380000000010003702f520700030100106a6176612f6c616e672f4f626a656374
+070005010003612f4a0700070100014b07000901000d436f6e7374616e7456616c7565010004436f6465058000000000
+0000000100056c656173740100014a030000004101000163010001430100046e6f6e650100054c612f493b010003612f
+42070016010001660100025b490c00180019090017001a010001670c001c0010090017001d010003612f4907001f0100
+016d010004284a29490c002100220b002000230100063c696e69743e0100032829560c002500260a001700270100065b
+4c612f423b0700290100136a6176612f6c616e672f457863657074696f6e07002b01000372756e010004284929560100
+05285b4a295604210004000600020008000a0003001a000f00100001000b00000002000d0018001200130001000b0000
+0002001100c100140015000000030404002100220000002a002d002e0001000c000000960006012c0000007a1aaa0000
+00000018ffffffff0000000000000017ffffffff1bab00000000001b00000002fffffffbffffffe7000000070000001e
+c7000319c8c43700038401ffc4840100ff7f021080117fff120113000214000d7d745da2ffddc800000000b3001bb400
+1eb900240300b70028c1002abc09bd001754c30001bf0002000000180018002c0019007a00340000000001010025002f
+00000000";
+
+const TEXT_OF_R: &str = ".class public abstract p/R
+.super java/lang/Object
+.implements a/J
+.implements K
+.field private static final least J = -9223372036854775808
+.field static final c C = 65
+.field public volatile transient none La/I;
+.method protected abstract m(J)I
+.end method
+.method private static synchronized run(I)V
+.limit stack 6
+.limit locals 300
+.catch java/lang/Exception from L0 to L24 using L24
+.catch all from L25 to L122 using L52
+L0:
+iload_0
+tableswitch -1
+L24
+L0
+default : L25
+L24:
+iload_1
+L25:
+lookupswitch
+-5 : L0
+7 : L55
+default : L52
+L52:
+ifnonnull L55
+L55:
+aload 200
+wide lstore 3
+iinc 1 -1
+wide iinc 256 -129
+iconst_m1
+bipush -128
+sipush 32767
+ldc 65536
+ldc_w -2147483648
+ldc2_w -9223372036854775808
+lushr
+ineg
+dup2_x1
+if_icmpge L52
+L90:
+goto_w L90
+putstatic a/B/f [I
+getfield a/B/g J
+invokeinterface a/I/m(J)I 3
+invokespecial a/B/<init>()V
+instanceof [La/B;
+newarray short
+anewarray a/B
+bastore
+monitorexit
+nop
+aconst_null
+athrow
+L122:
+.end method
+.method public native <init>([J)V
+.end method
+";
+
+/// The bytes that a text gives, two hexadecimal digits each; what is no such digit is passed over.
+fn hex(alloc: Global, text: &str) -> Result<Vec<u8>, Fail> {
+    let mut bytes = Vec::new(alloc);
+    let mut high: Option<u8> = None;
+    for letter in text.as_bytes() {
+        let Some(digit) = char::from(*letter).to_digit(16) else {
+            continue;
+        };
+        let digit = u8::try_from(digit).unwrap_or(0);
+        high = match high {
+            None => Some(digit),
+            Some(first) => {
+                bytes.push(first.wrapping_mul(16).wrapping_add(digit))?;
+                None
+            }
+        };
+    }
+    Ok(bytes)
+}
+
+/// Whether a class file, given in hexadecimal digits, has this text.
+fn has_text(alloc: Global, file: &str, wanted: &str) -> Result<bool, Fail> {
+    let file = read(alloc, hex(alloc, file)?.as_slice())?;
+    let found = disassemble(alloc, &file)?;
+    Ok(found.as_slice() == wanted.as_bytes())
+}
+
+#[test]
+fn the_smallest_class_has_seven_lines(rt: HostRuntime) -> Result<(), Fail> {
+    let is_so = has_text(rt.alloc(), E, TEXT_OF_E)?;
+    assert!(rt; is_so);
+    Ok(())
+}
+
+#[test]
+fn a_class_of_many_words(rt: HostRuntime) -> Result<(), Fail> {
+    let is_so = has_text(rt.alloc(), R, TEXT_OF_R)?;
+    assert!(rt; is_so);
+    Ok(())
+}
+
+#[test]
+fn an_interface_of_two_lines(rt: HostRuntime) -> Result<(), Fail> {
+    let listing = Listing {
+        name: Name::copy_of(rt.alloc(), b"a/I")?,
+        flags: ClassFlags::from_bits_retain(0x0601),
+        superclass: Name::copy_of(rt.alloc(), b"java/lang/Object")?,
+        interfaces: Vec::new(rt.alloc()),
+        fields: Vec::new(rt.alloc()),
+        methods: Vec::new(rt.alloc()),
+    };
+    let wanted = ".interface public a/I\n.super java/lang/Object\n";
+    let found = text(rt.alloc(), &listing)?;
+    assert_eq!(rt; found.as_slice(), wanted.as_bytes());
+    Ok(())
+}
