@@ -222,7 +222,7 @@ field_takes pool class bytes x fits e =
       };
     })
 
-passed_text : (test : List ℕ → Bool) (o : Option (List ℕ)) → passes test o ≡ true → (text : List ℕ) × (o ≡ Some text) × (test text ≡ true)
+pub passed_text : (test : List ℕ → Bool) (o : Option (List ℕ)) → passes test o ≡ true → (text : List ℕ) × (o ≡ Some text) × (test text ≡ true)
 passed_text test None e = absurd cc
 passed_text test (Some text) e = (text, refl, e)
 
@@ -249,7 +249,7 @@ kept_by true a others c e = let same : a ≡ c = cc in inl (refl, same)
 kept_by false a others c e = inr (refl, e)
 
 -- an attribute that counts was among those that stand there
-was_there : (pool : List Entry) (static : Bool) (attributes : List Attribute) (c : Attribute) → AllByRecursion (AttributeFits pool) attributes → filter (counts pool static) attributes ≡ c ∷ [] → AttributeFits pool c × (counts pool static c ≡ true)
+pub was_there : (pool : List Entry) (static : Bool) (attributes : List Attribute) (c : Attribute) → AllByRecursion (AttributeFits pool) attributes → filter (counts pool static) attributes ≡ c ∷ [] → AttributeFits pool c × (counts pool static c ≡ true)
 was_there pool static [] c fit e = absurd cc
 was_there pool static (a ∷ attributes) c fit e =
     elim (kept_by (counts pool static a) a (filter (counts pool static) attributes) c e) [
@@ -257,7 +257,7 @@ was_there pool static (a ∷ attributes) c fit e =
       | inr later ↦ was_there pool static attributes c fit.1 later.1
     ]
 
-record CanBeWritten (pool : List Entry) (static : Bool) (o : Option ConstantValue) : Type 0 where
+pub record CanBeWritten (pool : List Entry) (static : Bool) (o : Option ConstantValue) : Type 0 where
   pub few : length (constant_attributes o) < 2 ^ 16
   pub fit : AllByRecursion (AttributeFits pool) (constant_attributes o)
   pub counted : filter (counts pool static) (constant_attributes o) ≡ constant_attributes o

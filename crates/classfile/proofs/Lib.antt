@@ -9,3 +9,4 @@ pub mod ListLaws
 pub mod ListLoops
 pub mod MethodLaws
 pub mod SkippedLaws
+pub mod SoundLaws

@@ -20,6 +20,7 @@ use Rattle.classfile.specs.Reading.Methods.{method_flags_from, method_type_test,
 use Rattle.classfile.specs.Writing.{code_info, code_attribute, code_attributes, CodesFit, MethodFits, method_bytes}
 use Rattle.classfile.proofs.AttributeLemmas.{Sized, sized_takes, sized_again, tested_takes, tested_again, RunsBy, Runs, attributes_take, attributes_again}
 use Rattle.classfile.proofs.CodeLaws.{code_is, code_again, info_has, code_written, code_short}
+use Rattle.classfile.proofs.FieldLaws.{passed_text}
 use Rattle.classfile.proofs.ListLaws.{Found}
 
 -- ---- one Code attribute
@@ -200,10 +201,6 @@ flags_again class flags rest small agree = rw (number_again w16 wide16 flags res
 
 -- ---- methods
 
-passed_text : (test : List ℕ → Bool) (o : Option (List ℕ)) → passes test o ≡ true → (text : List ℕ) × (o ≡ Some text) × (test text ≡ true)
-passed_text test None e = absurd cc
-passed_text test (Some text) e = (text, refl, e)
-
 pub method_takes : (pool : List Entry) (class : ℕ) (bytes : List ℕ) (x : MethodPart × List ℕ) → IsBytes bytes → method_from pool class bytes ≡ Ok x → Found (SpellsMethod pool class) bytes x
 unfolding method_from
 method_takes pool class bytes x fits e =
@@ -260,7 +257,7 @@ one_kept : (p : Attribute → Bool) (b : Bool) (a c : Attribute) (others : List 
 one_kept p true a c others e = let same : a ≡ c = cc in inl (refl, same)
 one_kept p false a c others e = inr (refl, e)
 
-was_there : (pool : List Entry) (attributes : List Attribute) (c : Attribute) → AllByRecursion (AttributeFits pool) attributes → filter (is_code pool) attributes ≡ c ∷ [] → AttributeFits pool c × (is_code pool c ≡ true)
+pub was_there : (pool : List Entry) (attributes : List Attribute) (c : Attribute) → AllByRecursion (AttributeFits pool) attributes → filter (is_code pool) attributes ≡ c ∷ [] → AttributeFits pool c × (is_code pool c ≡ true)
 was_there pool [] c fit e = absurd cc
 was_there pool (a ∷ attributes) c fit e =
     elim (one_kept (is_code pool) (is_code pool a) a c (filter (is_code pool) attributes) e) [
@@ -268,12 +265,12 @@ was_there pool (a ∷ attributes) c fit e =
       | inr later ↦ was_there pool attributes c fit.1 later.1
     ]
 
-record CanBeWritten (pool : List Entry) (wanted : Bool) (o : Option CodePart) : Type 0 where
+pub record CanBeWritten (pool : List Entry) (wanted : Bool) (o : Option CodePart) : Type 0 where
   pub few : length (code_attributes o) < 2 ^ 16
   pub fit : AllByRecursion (AttributeFits pool) (code_attributes o)
   pub code : SpellCode pool wanted (filter (is_code pool) (code_attributes o)) o
 
-can_be_written : (pool : List Entry) (wanted : Bool) (attributes : List Attribute) (o : Option CodePart) → AllByRecursion (AttributeFits pool) attributes → SpellCode pool wanted (filter (is_code pool) attributes) o → CanBeWritten pool wanted o
+pub can_be_written : (pool : List Entry) (wanted : Bool) (attributes : List Attribute) (o : Option CodePart) → AllByRecursion (AttributeFits pool) attributes → SpellCode pool wanted (filter (is_code pool) attributes) o → CanBeWritten pool wanted o
 can_be_written pool wanted attributes None fit s = record { few = omega arith; fit = tt; code = (s.0, refl) }
 can_be_written pool wanted attributes (Some c) fit s =
     let w = was_there pool attributes (record { name = c.name; info = s.1 }) fit s.2 in

@@ -22,7 +22,7 @@ const STATIC: u16 = 0x0008;
 const INTERFACE: u16 = 0x0200;
 
 /// Whether a field may have these flags in a class of those.
-fn are_field_flags(class: u16, flags: u16) -> bool
+pub fn are_field_flags(class: u16, flags: u16) -> bool
     ensures { result ≡ definition.are_field_flags class flags }
 {
     flags & 0xff20 == 0 && (class & INTERFACE == 0 || flags & 0x0019 == 0x0019)
@@ -39,7 +39,7 @@ fn is_int_type(text: &[u8]) -> bool
 }
 
 /// Whether an entry may be the value of a field of this type.
-fn is_value_of(text: &[u8], entry: Option<&Entry>) -> bool
+pub fn is_value_of(text: &[u8], entry: Option<&Entry>) -> bool
     ensures { result ≡ definition.is_value_of text.now (option_copied entry.entry) }
 {
     match entry {
@@ -99,7 +99,7 @@ fn field_flags_at(class: u16, bytes: &[u8]) -> Result<(u16, &[u8]), ReadError>
 }
 
 /// Whether an attribute of this name counts: a static field's ConstantValue.
-fn is_constant_value(is_static: bool, text: &[u8]) -> bool
+pub fn is_constant_value(is_static: bool, text: &[u8]) -> bool
     ensures { result ≡ definition.is_constant_value is_static text.now }
 {
     is_static && text == b"ConstantValue".as_slice()

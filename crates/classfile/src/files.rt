@@ -1,8 +1,9 @@
 //! Class files, whole.
 
-ghost use Rattle.std.specs.Prelude.{◌≡◌, ◌++◌, ◌<◌, ◌^◌, ℕ, List, length, IfOk, OnOk, MatchResult};
+ghost use Rattle.std.specs.Prelude.{◌≡◌, ◌↔◌, ◌++◌, ◌<◌, ◌^◌, ℕ, List, length, true, is_ok, IfOk, OnOk, MatchResult};
 ghost use Rattle.std.specs.List.{flat_map, AllByRecursion};
 ghost use Rattle.model.specs.ClassFiles.Classes.{ClassPart, IsClassFile};
+ghost use Rattle.classfile.specs.Classes.{IsClass};
 ghost use Rattle.classfile.specs.declared.error.ClassError.TheVariants as error;
 ghost use Rattle.classfile.specs.Reading.Answers.{Answers};
 ghost use Rattle.classfile.specs.Reading.Lists.{repeated, list_from};
@@ -14,6 +15,8 @@ use crate::attributes::skip_attributes;
 use crate::error::ClassError;
 use crate::heads::ClassHead;
 use crate::methods::{MethodEntry, method_of, put_method};
+use crate::sound_fields::{both, is_count};
+use crate::sound_methods::methods_stand;
 use model::class_files::FormatFault;
 use pool::Pool;
 use pool::fields::u16_at;
@@ -167,7 +170,26 @@ pub fn one_class_file()
     ensures { (bytes : List ℕ) (a b : ClassPart) → IsClassFile bytes a → IsClassFile bytes b → a ≡ b }
 {}
 
+/// Whether a head and methods are those of some class file.
+fn class_stands(head: &ClassHead, methods: &[MethodEntry]) -> bool
+    ensures { (result ≡ true) ↔ IsClass (record { head = head.now; methods = methods.now }) }
+{
+    let stand = methods_stand(head.pool(), head.flags(), methods);
+    both(is_count(methods.len()), stand)
+}
+
 impl ClassFile {
+    /// The class file of a head and methods. C8 where one of them is none of such a class, or they are more than 65,535.
+    pub(crate) fn of(head: ClassHead, methods: Vec<MethodEntry>) -> Result<ClassFile, FormatFault>
+        ensures made { IfOk result (λ file. file ≡ record { head = head; methods = methods.items }) }
+        ensures only { IsClass (record { head = head; methods = methods.items }) → is_ok result ≡ true }
+    {
+        if !class_stands(&head, methods.as_slice()) {
+            return Err(FormatFault::Attribute);
+        }
+        Ok(ClassFile { head, methods })
+    }
+
     /// What stands before the methods.
     pub fn head(&self) -> &ClassHead
         ensures { result.now ≡ self.now.head }

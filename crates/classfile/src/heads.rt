@@ -1,17 +1,21 @@
 //! A class file up to its methods.
 
-ghost use Rattle.std.specs.Prelude.{◌≡◌, ◌++◌, ◌<◌, ◌^◌, ℕ, List, length, Ok, IfOk, OnOk};
-ghost use Rattle.std.specs.List.{flat_map};
+ghost use Rattle.std.specs.Prelude.{◌≡◌, ◌↔◌, ◌++◌, ◌<◌, ◌^◌, ℕ, List, length, true, Ok, IfOk, OnOk, is_ok};
+ghost use Rattle.std.specs.List.{flat_map, AllByRecursion};
 ghost use Rattle.model.specs.ClassFiles.Numbers.{u2};
 ghost use Rattle.model.specs.ClassFiles.Fields.{field_bytes};
-ghost use Rattle.model.specs.ClassFiles.Heads.{HeadPart, SpellsHead, behind_bytes, head_bytes};
+ghost use Rattle.model.specs.ClassFiles.Heads.{HeadPart, IsHead, SpellsHead, behind_bytes, head_bytes};
 ghost use Rattle.model.specs.ClassFiles.Heads as definition;
+ghost use Rattle.model.specs.ClassFiles.Pools.{PoolFits};
+ghost use Rattle.model.specs.ClassFiles.References.{AreSound};
 ghost use Rattle.pool.specs.Reading.Steps.{Gives};
 ghost use Rattle.classfile.specs.Reading.Fields.{field_from};
 ghost use Rattle.classfile.specs.Reading.Lists.{repeated, list_from};
 ghost use Rattle.classfile.specs.Reading.Heads.{opening_from, class_flags_from, class_from, behind_from, head_from};
+ghost use Rattle.classfile.specs.Sound.{ClassStands};
 
 use crate::fields::{field_of, put_field};
+use crate::sound_fields::{both, fields_stand, is_count};
 use bitflags::Flags;
 use model::class_files::{FieldEntry, FormatFault};
 use model::flags::ClassFlags;
@@ -23,13 +27,13 @@ use std::marker::Model;
 
 /// The parts of a class file up to its methods.
 #[derive(Drop)]
-struct Parts {
-    pool: Pool,
-    flags: ClassFlags,
-    class: u16,
-    superclass: u16,
-    interfaces: Vec<u16>,
-    fields: Vec<FieldEntry>,
+pub struct Parts {
+    pub pool: Pool,
+    pub flags: ClassFlags,
+    pub class: u16,
+    pub superclass: u16,
+    pub interfaces: Vec<u16>,
+    pub fields: Vec<FieldEntry>,
 }
 
 impl Model for Parts {
@@ -205,6 +209,72 @@ fn head_of(alloc: Global, bytes: &[u8]) -> Result<(Parts, &[u8]), ReadError>
     behind_pool(alloc, pool, rest)
 }
 
+/// Whether a number is that of a class that is no array.
+fn class_stands(pool: &Pool, number: u16) -> bool
+    ensures { (result ≡ true) ↔ ClassStands pool.now number }
+{
+    is_class(pool, number)
+}
+
+/// Whether numbers are those of classes that are no arrays.
+fn classes_stand(pool: &Pool, numbers: &[u16]) -> bool
+    ensures { (result ≡ true) ↔ AllByRecursion (ClassStands pool.now) numbers.now }
+{
+    for number in numbers {
+        if !class_stands(pool, *number) {
+            return false;
+        }
+    }
+    true
+}
+
+/// Whether a class may have these flags, which have their range.
+fn flags_stand(flags: u16) -> bool
+    ensures is { result ≡ definition.are_class_flags flags }
+    ensures fits { flags < 2 ^ 16 }
+{
+    are_class_flags(flags)
+}
+
+/// Whether parts are those of some class file up to its methods.
+fn head_stands(parts: &Parts) -> bool
+    requires fits { PoolFits parts.now.pool }
+    requires sound { AreSound parts.now.pool }
+    ensures { (result ≡ true) ↔ IsHead parts.now }
+{
+    let flags = parts.flags.bits();
+    let interfaces = parts.interfaces.as_slice();
+    let fields = parts.fields.as_slice();
+    let class = class_stands(&parts.pool, parts.class);
+    let superclass = class_stands(&parts.pool, parts.superclass);
+    let others = both(
+        is_count(interfaces.len()),
+        classes_stand(&parts.pool, interfaces),
+    );
+    let members = both(
+        is_count(fields.len()),
+        fields_stand(&parts.pool, flags, fields),
+    );
+    let itself = both(flags_stand(flags), both(class, superclass));
+    both(itself, both(others, members))
+}
+
+/// Which fault parts have that are those of no class file: C11 where the flags don't go together, C6 where a number isn't
+/// that of a class that is no array, C8 where a list is too long or a field is none.
+fn head_fault(parts: &Parts) -> FormatFault {
+    let pool = &parts.pool;
+    if !are_class_flags(parts.flags.bits()) {
+        FormatFault::Flags
+    } else if class_stands(pool, parts.class)
+        && class_stands(pool, parts.superclass)
+        && classes_stand(pool, parts.interfaces.as_slice())
+    {
+        FormatFault::Attribute
+    } else {
+        FormatFault::Index
+    }
+}
+
 /// A class file up to its methods (JVMS 4.1). A contract sees its parts, which are those of some class file.
 #[derive(Drop)]
 pub struct ClassHead {
@@ -236,9 +306,24 @@ impl ClassHead {
         Ok((ClassHead { parts }, rest))
     }
 
+    /// The head of these parts. C6, C8 or C11 where they aren't those of a class file.
+    pub(crate) fn of(parts: Parts) -> Result<ClassHead, FormatFault>
+        requires fits { PoolFits parts.pool }
+        requires sound { AreSound parts.pool }
+        ensures made { IfOk result (λ head. head ≡ parts) }
+        ensures only { IsHead parts → is_ok result ≡ true }
+    {
+        if !head_stands(&parts) {
+            return Err(head_fault(&parts));
+        }
+        Ok(ClassHead { parts })
+    }
+
     /// The constant pool.
     pub fn pool(&self) -> &Pool
-        ensures { result.now ≡ self.now.pool }
+        ensures is { result.now ≡ self.now.pool }
+        // The parts are those of some class file.
+        ensures head { IsHead self.now }
     {
         &self.parts.pool
     }

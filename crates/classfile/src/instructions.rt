@@ -1,13 +1,16 @@
 //! The code of a method as bytes and as instructions.
 
-ghost use Rattle.std.specs.Prelude.{◌≡◌};
+ghost use Rattle.std.specs.Prelude.{◌≡◌, ℕ, List, IfOk, MatchResult};
+ghost use Rattle.model.specs.Bytecode.{IsCode, instructions_of};
+ghost use Rattle.model.specs.declared.bytecode.Located.{Located as Placed};
+ghost use Rattle.opcodes.specs.declared.error.OpError.TheVariants as op;
 ghost use Rattle.classfile.specs.Reading.Answers.{Answers, Tells};
 ghost use Rattle.classfile.specs.Reading.Instructions.{decoded, as_format};
 ghost use Rattle.classfile.specs.Writing.{code_bytes};
 
 use crate::error::ClassError;
 use model::names::Name;
-use opcodes::{Code, Located, OpError, decode};
+use opcodes::{Code, Instr, Located, OpError, decode, encode};
 use std::alloc::Global;
 use std::marker::Model;
 
@@ -72,6 +75,18 @@ impl Instructions {
         }
     }
 
+    /// The instructions that stand one after another from pc 0 on. Refused as by `opcodes::encode`.
+    pub fn encode(alloc: Global, instructions: &[Instr]) -> Result<Instructions, OpError>
+        // They have their pcs, and are what was given.
+        ensures found { IfOk result (λ code. instructions_of code ≡ instructions.now) }
+        // Where instructions have code, it is given, unless memory runs out.
+        ensures only { (bytes : List ℕ) (items : List Placed) → IsCode bytes items → instructions_of items ≡ instructions.now → MatchResult result (λ code. code ≡ items) (λ e. e ≡ op.Memory) }
+    {
+        let bytes = encode(alloc, instructions)?;
+        let code = decode(alloc, &bytes)?;
+        Ok(Instructions { bytes, code })
+    }
+
     /// The bytes of the instructions.
     pub fn bytes(&self) -> &[u8]
         ensures { result.now ≡ code_bytes self.now }
@@ -81,7 +96,9 @@ impl Instructions {
 
     /// The instructions, in order.
     pub fn as_slice(&self) -> &[Located]
-        ensures { result.now ≡ self.now }
+        ensures same { result.now ≡ self.now }
+        // They are code.
+        ensures code { IsCode (code_bytes self.now) self.now }
     {
         self.code.as_slice()
     }

@@ -2,6 +2,7 @@
 #![tactic(auto)]
 
 mod attributes;
+mod builder;
 mod codes;
 mod error;
 mod fields;
@@ -14,7 +15,10 @@ mod listings;
 mod methods;
 mod operands;
 mod rows;
+mod sound_fields;
+mod sound_methods;
 
+pub use builder::{Body, PoolBuilder};
 pub use codes::CodeEntry;
 pub use error::ClassError;
 pub use files::{ClassFile, again, one_class_file, read, write};

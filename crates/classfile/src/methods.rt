@@ -46,7 +46,7 @@ impl Model for MethodEntry {
 }
 
 /// Whether a method may have these flags in a class of those.
-fn are_method_flags(class: u16, flags: u16) -> bool
+pub fn are_method_flags(class: u16, flags: u16) -> bool
     ensures { result ≡ definition.are_method_flags class flags }
 {
     let is_abstract = flags & 0x0400 != 0;
@@ -69,7 +69,7 @@ fn method_flags_at(class: u16, bytes: &[u8]) -> Result<(u16, &[u8]), ReadError>
 }
 
 /// Whether a method with these flags has code: one that is neither abstract nor native.
-fn wants_code(flags: u16) -> bool
+pub fn wants_code(flags: u16) -> bool
     ensures { result ≡ definition.wants_code flags }
 {
     flags & 0x0400 == 0 && flags & 0x0100 == 0
@@ -77,7 +77,7 @@ fn wants_code(flags: u16) -> bool
 
 /// Whether a text is a method's descriptor whose arguments take 255 units at most, with the object where the method
 /// isn't static.
-fn is_method_type(is_static: bool, text: &[u8]) -> bool
+pub fn is_method_type(is_static: bool, text: &[u8]) -> bool
     ensures { result ≡ method_type_test is_static text.now }
 {
     match argument_units(text) {
@@ -142,7 +142,7 @@ fn found_code<'a>(
 }
 
 /// Whether an attribute of this name is the code.
-fn is_code_name(text: &[u8]) -> bool
+pub fn is_code_name(text: &[u8]) -> bool
     ensures { result ≡ reading.is_code_name text.now }
 {
     text == b"Code".as_slice()

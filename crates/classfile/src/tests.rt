@@ -1,5 +1,6 @@
 //! Class files by hand, and what users are told of damaged ones.
 
+mod builder;
 mod codes;
 mod files;
 mod listings;
