@@ -26,8 +26,8 @@ use Rattle.model.specs.Classes.Named.{listed}
 use Rattle.model.specs.Programs.{builtin_of}
 use Rattle.model.specs.Table.Next.{Listed}
 
--- What the machine carries out so far. A class with anything else is refused, so that no program meets a case that the
--- instruction table hasn't yet.
+-- What the machine carries out so far. A class with anything else is refused, so that no program meets a case of the
+-- instruction table that the code doesn't have yet.
 
 -- constants of ints
 abbrev pub serves_constant : ConstantOf ℤ ℤ → Bool
