@@ -1,7 +1,5 @@
 pub mod BodyLemmas
 pub mod LabelLemmas
 pub mod MethodLemmas
-pub mod NarrowLemmas
 pub mod NumberLemmas
 pub mod SignatureLemmas
-pub mod SizeLemmas

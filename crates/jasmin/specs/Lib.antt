@@ -1,5 +1,3 @@
 pub mod Bodies
-pub mod Numbers
-pub mod Refusals
 pub mod Rows
 pub mod Switches

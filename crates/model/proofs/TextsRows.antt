@@ -13,7 +13,8 @@ use Rattle.model.specs.declared.instructions.Width.TheVariants.{Narrow}
 use Rattle.model.specs.ClassListings.{ClassListing}
 use Rattle.model.specs.Sizes.{pad_at}
 use Rattle.model.specs.Texts.{tree_of}
-use Rattle.model.specs.Texts.Assembling.{assembles}
+use Rattle.model.specs.Texts.Assembling.{assembles, listing_assembles, pool_size}
+use Rattle.model.specs.ClassFiles.Items.{listing_items}
 use Rattle.model.specs.Texts.ListingOfTree.{listing_of}
 use Rattle.model.specs.Texts.Mnemonics.{mnemonic_of}
 use Rattle.model.specs.Texts.Uses.{labels_agree}
@@ -146,11 +147,11 @@ endless = refl
 
 -- code is not empty
 pub empty_code : option_map assembles (tree_of (main_text (codes ".limit stack 0\n.limit locals 0\n.end method\n"))) ≡ Some false
-unfolding tree_of assembles mnemonic_of labels_agree
+unfolding tree_of assembles listing_assembles listing_of pool_size listing_items mnemonic_of labels_agree
 empty_code = refl
 
 pub one_return : option_map assembles (tree_of (main_text (codes ".limit stack 0\n.limit locals 0\nreturn\n.end method\n"))) ≡ Some true
-unfolding tree_of assembles mnemonic_of labels_agree
+unfolding tree_of assembles listing_assembles listing_of pool_size listing_items mnemonic_of labels_agree
 one_return = refl
 
 -- a switch behind `ldc` and 0, 1, 2 or 3 nops

@@ -6,6 +6,7 @@ pub mod Codes
 pub mod Entries
 pub mod Fields
 pub mod Heads
+pub mod Items
 pub mod Listing
 pub mod Lists
 pub mod Methods

@@ -1,0 +1,12 @@
+//! Makes the class file of a text's tree.
+#![tactic(auto)]
+
+mod copies;
+mod listings;
+mod sizes;
+mod widths;
+
+pub use listings::{ListingError, listing};
+
+#[cfg(test)]
+mod tests;
