@@ -1,18 +1,16 @@
 -- Worked rows: which small lists of listings are programs, and what the others are refused for.
-use Rattle.std.specs.Prelude.{◌≡◌, ℕ, List, [], ◌∷◌, replicate, Option, Some, None, codes, refl}
+use Rattle.std.specs.Prelude.{◌≡◌, ℕ, List, [], ◌∷◌, Option, Some, None, codes, refl}
 use Rattle.model.specs.declared.instructions.Constant.TheVariants.{Null}
 use Rattle.model.specs.declared.instructions.Instruction.TheVariants.{Nop, Constant, Return}
-use Rattle.model.specs.declared.listings.Field.{Field}
 use Rattle.model.specs.declared.listings.Method.{Method}
-use Rattle.model.specs.declared.listings.Placed.{Placed}
 use Rattle.model.specs.declared.refusals.LoadRule.{LoadRule}
-use Rattle.model.specs.declared.refusals.LoadRule.TheVariants.{ClassTwice, MissingSuperclass, Cycle, WrongSuperclass, MemberTwice, UnresolvedReference, BadExceptionRow, LimitPassed, NoMain, RefusedMember, BuiltinName}
+use Rattle.model.specs.declared.refusals.LoadRule.TheVariants.{ClassTwice, MissingSuperclass, Cycle, WrongSuperclass, MemberTwice, LimitPassed, NoMain, RefusedMember, BuiltinName}
 use Rattle.model.specs.CodeListings.{CodeListing}
 use Rattle.model.specs.ClassListings.{ClassListing}
 use Rattle.model.specs.Served.{serves}
 use Rattle.model.specs.Table.Next.{Listed}
 use Rattle.model.specs.Classes.Builtin.{builtin_classes}
-use Rattle.model.specs.Classes.Subclasses.{is_within, is_subclass}
+use Rattle.model.specs.Classes.Subclasses.{is_within}
 use Rattle.model.specs.Accepted.BuiltinNames.{has_builtin_name}
 use Rattle.model.specs.Accepted.Superclasses.{is_class_twice, has_missing_parent, has_wrong_parent}
 use Rattle.model.specs.Accepted.Cycles.{is_on_cycle}

@@ -1,10 +1,7 @@
 -- The text of listings, worked, and the words of instructions against the tables that texts are read by.
-use Rattle.std.specs.Prelude.{◌≡◌, ℕ, pos, negsuc, map, List, [], ◌∷◌, ◌++◌, refl, codes, Option, Some, None}
+use Rattle.std.specs.Prelude.{◌≡◌, ℕ, pos, negsuc, map, List, [], ◌∷◌, refl, codes, Option, Some, None}
 use Rattle.std.specs.Fmt.{digits}
-use Rattle.model.specs.declared.flags.MethodFlags.{MethodFlags}
 use Rattle.model.specs.declared.instructions.Access.TheVariants as field_access
-use Rattle.model.specs.declared.instructions.ArrayOperation.TheVariants as array
-use Rattle.model.specs.declared.instructions.ClassOperation.TheVariants as class
 use Rattle.model.specs.declared.instructions.Constant.TheVariants as constant
 use Rattle.model.specs.declared.instructions.FirstLocal.TheVariants as first
 use Rattle.model.specs.declared.instructions.Identity.TheVariants as identity
@@ -13,20 +10,17 @@ use Rattle.model.specs.declared.instructions.Instruction.TheVariants as instruct
 use Rattle.model.specs.declared.instructions.Invocation.TheVariants as invocation
 use Rattle.model.specs.declared.instructions.Local.TheVariants as «local»
 use Rattle.model.specs.declared.instructions.LocalAccess.TheVariants as access
-use Rattle.model.specs.declared.instructions.Primitive.TheVariants as primitive
 use Rattle.model.specs.declared.instructions.Test.TheVariants as test
-use Rattle.model.specs.declared.instructions.Width.TheVariants.{Narrow, Wide}
+use Rattle.model.specs.declared.instructions.Width.TheVariants.{Wide}
 use Rattle.model.specs.declared.listings.Constant.TheVariants as value
 use Rattle.model.specs.declared.listings.ExceptionRow.{ExceptionRow}
 use Rattle.model.specs.declared.listings.Placed.{Placed}
-use Rattle.model.specs.declared.mnemonics.LocalMnemonic.TheVariants as accessed
 use Rattle.model.specs.declared.mnemonics.Mnemonic.{Mnemonic}
 use Rattle.model.specs.declared.mnemonics.Mnemonic.TheVariants as mnemonic
-use Rattle.model.specs.declared.names.Member.{Member}
 use Rattle.model.specs.declared.values.Kind.TheVariants as kind
 use Rattle.model.specs.ClassListings.{ClassListing}
 use Rattle.model.specs.CodeListings.{CodeListing}
-use Rattle.model.specs.Texts.Disassembling.{Listed, text_of, interface_line, table_head, default_text, lookup_head, stack_line, locals_line, method_flag_words, method_line, end_line, instruction_text, small_int_name, small_long_name, stack_name, number_name, return_text, access_name, class_name, monitor_name, invocation_name, primitive_name, kind_letter, element_letter}
+use Rattle.model.specs.Texts.Disassembling.{Listed, text_of, interface_line, table_head, default_text, lookup_head, stack_line, locals_line, method_flag_words, method_line, end_line, instruction_text, stack_name, number_name, return_text, invocation_name, primitive_name}
 use Rattle.model.specs.Texts.Mnemonics.{stack_mnemonics, number_mnemonics, call_mnemonics}
 use Rattle.model.specs.Texts.Operands.{primitives}
 

@@ -1,5 +1,5 @@
 -- Worked rows: which members references are resolved to, which methods are selected for objects, and what is laid out.
-use Rattle.std.specs.Prelude.{◌≡◌, ℕ, List, [], ◌∷◌, ◌++◌, replicate, Bool, true, false, Option, Some, None, codes, refl}
+use Rattle.std.specs.Prelude.{◌≡◌, ℕ, List, [], ◌∷◌, ◌++◌, replicate, true, false, Option, Some, None, codes, refl}
 use Rattle.model.specs.declared.instructions.ArrayOperation.TheVariants.{NewOf}
 use Rattle.model.specs.declared.instructions.ClassOperation.TheVariants.{New}
 use Rattle.model.specs.declared.instructions.Invocation.TheVariants.{Virtual, Special, Static, Interface}
@@ -13,7 +13,7 @@ use Rattle.model.specs.Classes.Layout.{layout}
 use Rattle.model.specs.Classes.Resolution.{resolved_field, resolved_method}
 use Rattle.model.specs.Classes.Search.{Declared, upwards, interfaces_from}
 use Rattle.model.specs.Classes.Selection.{selected}
-use Rattle.model.specs.Classes.Subclasses.{is_within, is_subclass}
+use Rattle.model.specs.Classes.Subclasses.{is_within}
 use Rattle.model.specs.Classes.Types.{is_there_within, is_subtype_within, is_subtype}
 use Rattle.model.specs.Accepted.References.{resolves}
 

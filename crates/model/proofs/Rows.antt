@@ -1,6 +1,6 @@
 -- Worked rows: what small programs come to, computed from the definitions.
 use Rattle.std.proofs.Common.{sym, ◌∙◌, ap}
-use Rattle.std.specs.Prelude.{◌≡◌, ℕ, ◌+◌, ℤ, pos, negsuc, List, [], ◌∷◌, replicate, Option, Some, None, codes, refl, true, false}
+use Rattle.std.specs.Prelude.{◌≡◌, ℕ, ◌+◌, ℤ, pos, List, [], ◌∷◌, replicate, Some, None, codes, refl, true}
 use Rattle.std.specs.Int.{int_wrap}
 use Rattle.std.specs.Fmt.{digits}
 use Rattle.model.specs.declared.colours.Colour.TheVariants.{White}
@@ -16,19 +16,18 @@ use Rattle.model.specs.declared.journals.Outcome.TheVariants.{Done as D, Fault a
 use Rattle.model.specs.declared.journals.Row.{Row}
 use Rattle.model.specs.declared.listings.Placed.{Placed}
 use Rattle.model.specs.declared.turns.Actor.{Actor}
-use Rattle.model.specs.declared.turns.Actor.TheVariants.{Thread, Collector}
+use Rattle.model.specs.declared.turns.Actor.TheVariants.{Thread}
 use Rattle.model.specs.declared.turns.Fault.TheVariants.{StackEmpty, StackFull, NoInstruction}
 use Rattle.model.specs.declared.turns.Status.TheVariants.{Running, Finished, Faulted}
-use Rattle.model.specs.declared.turns.Turn.TheVariants.{Done, NotReady, Stopped, Fault as TurnFault, OutputFull, StepLimit}
-use Rattle.model.specs.CodeListings.{CodeListing}
+use Rattle.model.specs.declared.turns.Turn.TheVariants.{NotReady, Stopped, Fault as TurnFault, OutputFull, StepLimit}
 use Rattle.model.specs.ClassListings.{ClassListing}
 use Rattle.model.specs.Classes.Builtin.{builtin_classes}
 use Rattle.model.specs.Classes.Search.{upwards}
-use Rattle.model.specs.Accounts.{shade, after_turn}
-use Rattle.model.specs.Accounts.Cell.{Free, Taken}
+use Rattle.model.specs.Accounts.{after_turn}
+use Rattle.model.specs.Accounts.Cell.{Taken}
 use Rattle.model.specs.Table.Next.{Listed, completion, next}
 use Rattle.model.specs.Turns.{refusal}
-use Rattle.model.specs.Machines.{Recorded, machine_of, after_turn_by, answer_to, after_turns, opened, row_for}
+use Rattle.model.specs.Machines.{Recorded, machine_of, after_turn_by, answer_to, after_turns, opened}
 use Rattle.model.specs.Observers.{output_of, status_of, fault_of, pick_of, output_full_of}
 
 -- ---- the programs

@@ -5,7 +5,6 @@ use Rattle.std.specs.Prelude.{codes, ◌&&◌, ◌==◌, not, cond, drop, filter
 use Rattle.std.specs.List.{find, list_all}
 use Rattle.std.specs.Option.{option_and_then}
 use Rattle.model.specs.declared.names.Member.{Member}
-use Rattle.model.specs.declared.values.Kind.{Kind}
 use Rattle.model.specs.declared.values.Value.{Value}
 use Rattle.model.specs.declared.builtins.Builtin.{Builtin}
 use Rattle.model.specs.declared.builtins.Builtin.TheVariants.{PrintInt, PrintLong, PutByte, Initialize, RunThread, StartThread, JoinThread}
@@ -34,8 +33,7 @@ use Rattle.model.specs.Programs.{builtin_of, code_at, instruction_of, main_in, m
 use Rattle.model.specs.Worlds.{World, frames_at, is_live, opening_slot, opening_slots, opening_slots_of, with_thread}
 use Rattle.model.specs.Worlds.Thread.{Ended}
 use Rattle.model.specs.Completions.{Completion, Site, asks, waits, frames_in, completes}
-use Rattle.model.specs.Completions.Completion.{Goes, Prints, Creates, Throws, Raises, Faults, Waits}
-use Rattle.model.specs.Effects.{Choice, effect_of}
+use Rattle.model.specs.Completions.Completion.{Goes, Faults}
 use Rattle.model.specs.Printing.{decimal_line}
 use Rattle.model.specs.Table.Builtins.{prints_on}
 use Rattle.model.specs.Table.Constants.{constant, constant_value}
@@ -44,7 +42,7 @@ use Rattle.model.specs.Table.Returns.{returned}
 use Rattle.model.specs.Table.Next.{Listed, by_family, at_instruction, completion, asked}
 use Rattle.model.specs.Ready.{is_ready}
 use Rattle.model.proofs.OwnMethods.{print_called, main_gives}
-use Rattle.model.specs.Served.{serves_constant, serves_number, serves_call, is_served, serves_rows, serves_code, serves_methods, serves_fields, serves, ServedProgram}
+use Rattle.model.specs.Served.{serves_number, serves_call, is_served, serves_rows, serves_code, serves_methods, serves_fields, serves, ServedProgram}
 
 -- ---- the cases of what is served
 

@@ -6,7 +6,7 @@ use Rattle.std.specs.List.{find, list_any}
 use Rattle.std.specs.Str.{bytes_eq}
 use Rattle.model.specs.ClassListings.{ClassListing}
 use Rattle.model.specs.Classes.Builtin.{builtin_classes}
-use Rattle.model.specs.Classes.Named.{is_named, or_else, listed, builtin, class_named, parents_in, parents_named}
+use Rattle.model.specs.Classes.Named.{is_named, or_else, listed, builtin, parents_in, parents_named}
 use Rattle.model.specs.Classes.Subclass.{HasName, Subclass}
 use Rattle.model.specs.Classes.Subclass.Subclass.{same, parent, through}
 use Rattle.model.specs.Classes.Subclasses.{is_within, is_subclass}

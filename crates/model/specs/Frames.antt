@@ -1,4 +1,4 @@
-use Rattle.std.specs.Prelude.{ℕ, ◌+◌, ◌-◌, ℤ, List, [], ◌∷◌, length, drop, take, replicate, slice_get, slice_set, slice_index_or, nat_le, nat_lt, ◌&&◌, Option, Some, None, Result, Ok, Err, Bool, true, false, if◌then◌else◌}
+use Rattle.std.specs.Prelude.{ℕ, ◌+◌, ◌-◌, ℤ, List, [], ◌∷◌, length, drop, take, replicate, slice_get, slice_set, slice_index_or, nat_le, nat_lt, ◌&&◌, Option, None, Result, Ok, Err, Bool, if◌then◌else◌}
 use Rattle.model.specs.declared.values.Value.{Value}
 use Rattle.model.specs.declared.values.Value.TheVariants.{Int, Long, Ref}
 use Rattle.model.specs.declared.values.Entry.{Entry}

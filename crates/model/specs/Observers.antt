@@ -1,4 +1,4 @@
-use Rattle.std.specs.Prelude.{ℕ, zero, suc, ◌+◌, List, [], ◌∷◌, ◌++◌, drop, take, length, slice_get, nat_lt, Bool, true, false, ◌&&◌, Option, Some, None, if◌then◌else◌, is_some}
+use Rattle.std.specs.Prelude.{ℕ, ◌+◌, List, [], ◌∷◌, ◌++◌, drop, take, slice_get, nat_lt, Bool, true, false, ◌&&◌, Option, is_some}
 use Rattle.std.specs.List.{find, list_any}
 use Rattle.model.specs.declared.journals.Limits.{Limits}
 use Rattle.model.specs.declared.journals.Row.{Row}
@@ -8,10 +8,10 @@ use Rattle.model.specs.declared.turns.Fault.{Fault}
 use Rattle.model.specs.declared.turns.Status.{Status}
 use Rattle.model.specs.declared.turns.Status.TheVariants.{Running, Finished, Stuck, Faulted}
 use Rattle.model.specs.ClassListings.{ClassListing}
-use Rattle.model.specs.Worlds.{World, Thread, next_birth}
+use Rattle.model.specs.Worlds.{World, Thread}
 use Rattle.model.specs.Ready.{is_ready, thread_numbers, some_lives, some_is_ready}
 use Rattle.model.specs.Turns.{overflows}
-use Rattle.model.specs.Machines.{Recorded, Machine, machine_of}
+use Rattle.model.specs.Machines.{Recorded, machine_of}
 
 -- What each observer of a world answers: a function of its program and its journal.
 

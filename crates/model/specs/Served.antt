@@ -1,4 +1,4 @@
-use Rattle.std.specs.Prelude.{◌≡◌, codes, ℕ, ℤ, List, [], ◌∷◌, Bool, true, false, ◌&&◌, not, Option, Some, None}
+use Rattle.std.specs.Prelude.{◌≡◌, codes, ℤ, List, [], ◌∷◌, Bool, true, false, ◌&&◌, not, Option, Some, None}
 use Rattle.std.specs.List.{list_all}
 use Rattle.model.specs.declared.names.Member.{Member}
 use Rattle.model.specs.declared.values.Kind.{Kind}

@@ -21,6 +21,7 @@ pub mod Mnemonics
 pub mod Names
 pub mod Numbers
 pub mod Operands
+pub mod Spelled
 pub mod Statements
 pub mod Switches
 pub mod Tables

@@ -14,7 +14,7 @@ use Rattle.model.specs.Worlds.Thread.{Live, Ended}
 use Rattle.model.specs.Worlds.Contents.{Instance, Array}
 use Rattle.model.specs.Objects.{object_at}
 use Rattle.model.specs.Shows.{Held, HeapCell, held_in, birth_in, reference_read, value_read, entry_read, field_read, frame_read, thread_read, all_read, values_in, HasCell, Shows}
-use Rattle.model.specs.Heaps.{holds, home, placed_ref, placed_value, placed_entry, placed_field, placed_frame, placed_thread, placed_object, placed_cell, heap_of}
+use Rattle.model.specs.Heaps.{home, placed_ref, placed_value, placed_entry, placed_field, placed_frame, placed_thread, placed_object, placed_cell, heap_of}
 use Rattle.model.specs.Collector.Places.{ref_of, entry_ref, field_ref, contents_refs, slots_of, root_at, word_at, Reach}
 use Rattle.model.specs.Collector.Places.Place.{Slot}
 use Rattle.model.specs.Collector.Places.Reach.{at_root, by_word}

@@ -1,4 +1,4 @@
-use Rattle.std.specs.Prelude.{ℕ, ◌+◌, ◌==◌, List, [], ◌∷◌, Bool, if◌then◌else◌}
+use Rattle.std.specs.Prelude.{ℕ, ◌+◌, ◌==◌, List, [], ◌∷◌, if◌then◌else◌}
 use Rattle.model.specs.declared.descriptors.ArgumentStand.{ArgumentStand}
 use Rattle.model.specs.declared.descriptors.ArgumentStand.TheVariants.{Start as AtStart, Array as InArray, Name as InName}
 

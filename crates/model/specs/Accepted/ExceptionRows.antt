@@ -1,4 +1,4 @@
-use Rattle.std.specs.Prelude.{ℕ, ◌-◌, List, [], ◌∷◌, length, slice_get, Bool, true, false, ◌&&◌, ◌||◌, not, ◌==◌, nat_lt, codes, Option, Some, None}
+use Rattle.std.specs.Prelude.{ℕ, ◌-◌, List, length, slice_get, Bool, false, ◌&&◌, ◌||◌, not, ◌==◌, nat_lt, codes, Option, Some, None}
 use Rattle.std.specs.List.{list_any}
 use Rattle.model.specs.declared.listings.ExceptionRow.{ExceptionRow}
 use Rattle.model.specs.declared.listings.Method.{Method}

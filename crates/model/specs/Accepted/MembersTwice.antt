@@ -1,4 +1,4 @@
-use Rattle.std.specs.Prelude.{ℕ, List, Bool, ◌&&◌, ◌||◌, nat_lt, count_by}
+use Rattle.std.specs.Prelude.{List, Bool, ◌&&◌, ◌||◌, nat_lt, count_by}
 use Rattle.std.specs.List.{list_any}
 use Rattle.std.specs.Str.{bytes_eq}
 use Rattle.model.specs.declared.listings.Field.{Field}

@@ -1,6 +1,5 @@
-use Rattle.std.specs.Prelude.{ℕ, List, Bool, true, false, ◌||◌, not, nat_lt, count_by, is_none, Option, Some, None}
+use Rattle.std.specs.Prelude.{List, Bool, false, ◌||◌, not, nat_lt, count_by, is_none, Option, Some, None}
 use Rattle.std.specs.List.{list_any}
-use Rattle.std.specs.Str.{bytes_eq}
 use Rattle.model.specs.ClassListings.{ClassListing}
 use Rattle.model.specs.Classes.Flags.{is_interface, is_final}
 use Rattle.model.specs.Classes.Named.{is_named, class_named, parents_of}

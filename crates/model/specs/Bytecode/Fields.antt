@@ -1,5 +1,5 @@
 -- The numbers behind an opcode, highest byte first (JVMS 6.1).
-use Rattle.std.specs.Prelude.{ℕ, ℤ, pos, ◌-ℤ◌, ◌-◌, ◌%◌, List, [], ◌∷◌, replicate}
+use Rattle.std.specs.Prelude.{ℕ, ℤ, pos, ◌-ℤ◌, ◌-◌, ◌%◌, List, replicate}
 use Rattle.std.specs.Int.{Width, w16, cast_unsigned, to_be_bytes}
 
 -- an unsigned number in two bytes

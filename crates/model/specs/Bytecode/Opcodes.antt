@@ -6,31 +6,25 @@ use Rattle.model.specs.declared.instructions.SmallInt.{SmallInt}
 use Rattle.model.specs.declared.instructions.SmallInt.TheVariants.{MinusOne, Zero, One, Two, Three, Four, Five}
 use Rattle.model.specs.declared.instructions.SmallLong.{SmallLong}
 use Rattle.model.specs.declared.instructions.SmallLong.TheVariants as long
-use Rattle.model.specs.declared.instructions.Width.{Width}
 use Rattle.model.specs.declared.instructions.Width.TheVariants.{Narrow, Wide}
 use Rattle.model.specs.declared.instructions.Constant.{Constant}
 use Rattle.model.specs.declared.instructions.Constant.TheVariants as constant
 use Rattle.model.specs.declared.instructions.FirstLocal.{FirstLocal}
 use Rattle.model.specs.declared.instructions.FirstLocal.TheVariants as first
-use Rattle.model.specs.declared.instructions.Local.{Local}
 use Rattle.model.specs.declared.instructions.Local.TheVariants as local
-use Rattle.model.specs.declared.instructions.Increment.{Increment}
 use Rattle.model.specs.declared.instructions.Increment.TheVariants as increment
 use Rattle.model.specs.declared.instructions.LocalAccess.{LocalAccess}
 use Rattle.model.specs.declared.instructions.LocalAccess.TheVariants as access
 use Rattle.model.specs.declared.instructions.StackOperation.{StackOperation}
 use Rattle.model.specs.declared.instructions.StackOperation.TheVariants.{Pop, Pop2, Dup, DupX1, DupX2, Dup2, Dup2X1, Dup2X2, Swap}
-use Rattle.model.specs.declared.instructions.NumberKind.{NumberKind}
 use Rattle.model.specs.declared.instructions.NumberKind.TheVariants as number_kind
 use Rattle.model.specs.declared.instructions.Operator.{Operator}
 use Rattle.model.specs.declared.instructions.Operator.TheVariants.{Add, Sub, Mul, Div, Rem, Shl, Shr, Ushr, And, Or, Xor}
-use Rattle.model.specs.declared.instructions.Conversion.{Conversion}
 use Rattle.model.specs.declared.instructions.Conversion.TheVariants.{IntToLong, LongToInt, IntToByte, IntToChar, IntToShort}
 use Rattle.model.specs.declared.instructions.NumberOperation.{NumberOperation}
 use Rattle.model.specs.declared.instructions.NumberOperation.TheVariants.{Binary, Negate, Convert, CompareLongs}
 use Rattle.model.specs.declared.instructions.Comparison.{Comparison}
 use Rattle.model.specs.declared.instructions.Comparison.TheVariants.{Equal, NotEqual, Less, GreaterOrEqual, Greater, LessOrEqual}
-use Rattle.model.specs.declared.instructions.Identity.{Identity}
 use Rattle.model.specs.declared.instructions.Identity.TheVariants.{Same, Different}
 use Rattle.model.specs.declared.instructions.Test.{Test}
 use Rattle.model.specs.declared.instructions.Test.TheVariants as test

@@ -6,7 +6,6 @@ use Rattle.std.specs.List.{flat_map}
 use Rattle.model.specs.Bytecode.Fields.{u2, signed, offset, pad}
 use Rattle.model.specs.Bytecode.Opcodes.{Instr, load_opcode, store_opcode}
 use Rattle.model.specs.Switches.{Table, Lookup}
-use Rattle.model.specs.declared.instructions.Width.{Width}
 use Rattle.model.specs.declared.instructions.Width.TheVariants.{Narrow, Wide}
 use Rattle.model.specs.declared.instructions.Constant.{Constant}
 use Rattle.model.specs.declared.instructions.Constant.TheVariants as constant

@@ -1,4 +1,4 @@
-use Rattle.std.specs.Prelude.{ℕ, List, Bool, ◌&&◌, ◌||◌, not, Option}
+use Rattle.std.specs.Prelude.{ℕ, List, ◌&&◌, ◌||◌, not, Option}
 use Rattle.std.specs.List.{find}
 use Rattle.std.specs.Str.{bytes_eq}
 use Rattle.model.specs.declared.listings.Method.{Method}

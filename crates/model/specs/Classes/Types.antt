@@ -1,4 +1,4 @@
-use Rattle.std.specs.Prelude.{ℕ, zero, suc, ◌+◌, ◌-◌, ◌==◌, List, [], ◌∷◌, length, take, Bool, true, false, ◌||◌, codes, is_some, Option, Some, None, if◌then◌else◌}
+use Rattle.std.specs.Prelude.{ℕ, zero, suc, ◌+◌, ◌-◌, ◌==◌, List, [], ◌∷◌, length, take, Bool, true, false, codes, is_some, Option, Some, None, if◌then◌else◌}
 use Rattle.std.specs.Str.{bytes_eq}
 use Rattle.model.specs.ClassListings.{ClassListing}
 use Rattle.model.specs.Classes.Named.{class_named}
