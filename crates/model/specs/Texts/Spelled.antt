@@ -156,9 +156,10 @@ is_bound ps n = is_pc ps n || end_from 0 ps == n
 abbrev pub instruction_is_spelled : List Placed → Placed → Bool
 instruction_is_spelled ps p = operands_are_spelled p.instruction && list_all (is_pc ps) (targets p.instruction)
 
+-- `all` stands for anything, and for no class of this name
 abbrev pub catch_is_spelled : Option (List ℕ) → Bool
 catch_is_spelled None = true
-catch_is_spelled (Some name) = is_class_name name
+catch_is_spelled (Some name) = is_class_name name && not (bytes_eq name (codes "all"))
 
 abbrev pub row_is_spelled : List Placed → ExceptionRow → Bool
 row_is_spelled ps r = is_bound ps r.start && is_bound ps r.end && is_pc ps r.handler && catch_is_spelled r.class
