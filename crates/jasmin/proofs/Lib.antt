@@ -3,3 +3,4 @@ pub mod LabelLemmas
 pub mod MethodLemmas
 pub mod NumberLemmas
 pub mod SignatureLemmas
+pub mod Spelled

@@ -1,0 +1,7 @@
+-- Each listing of a text is spelled.
+pub mod Bodies
+pub mod Instructions
+pub mod Labels
+pub mod Operands
+pub mod Switches
+pub mod Tests

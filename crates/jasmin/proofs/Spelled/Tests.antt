@@ -1,0 +1,52 @@
+-- What holds of all that a partial step gives.
+use Rattle.std.proofs.Common.{◌≡◌, Bool, true, false, ◌&&◌, ◌||◌, List, [], ◌∷◌, refl, subst, Some, None, Option}
+use Rattle.std.specs.Prelude.{IfSome, if◌then◌else◌}
+use Rattle.std.specs.List.{list_all}
+use Rattle.std.specs.Option.{option_map, option_and_then}
+
+pub both_true : (a b : Bool) → (a && b) ≡ true → (a ≡ true) × (b ≡ true)
+both_true true b h = (refl, h)
+both_true false b h = absurd cc
+
+pub and_true : (a b : Bool) → a ≡ true → b ≡ true → (a && b) ≡ true
+and_true a b h k = rw (h, k) refl
+
+pub regrouped : (a b c : Bool) → (a && b && c) ≡ true → (a && (b && c)) ≡ true
+regrouped true b c h = h
+regrouped false b c h = h
+
+pub or_left : (a b : Bool) → a ≡ true → (a || b) ≡ true
+or_left a b h = rw h refl
+
+pub or_right : (a b : Bool) → b ≡ true → (a || b) ≡ true
+or_right true b h = refl
+or_right false b h = h
+
+module _ {B : Type 0} (P : B → Type 0) where
+  pub of_each : (o : Option B) → ((y : B) → P y) → IfSome o P
+  of_each None h = tt
+  of_each (Some y) h = h y
+
+  pub of_map : {A : Type 0} (g : A → B) (o : Option A) → IfSome o (λ x. P (g x)) → IfSome (option_map g o) P
+  of_map g None h = tt
+  of_map g (Some x) h = h
+
+  pub of_then : {A : Type 0} (g : A → Option B) (o : Option A) → IfSome o (λ x. IfSome (g x) P) → IfSome (option_and_then g o) P
+  of_then g None h = tt
+  of_then g (Some x) h = h
+
+  pub of_any : {A : Type 0} (g : A → Option B) (o : Option A) → ((x : A) → IfSome (g x) P) → IfSome (option_and_then g o) P
+  of_any g None h = tt
+  of_any g (Some x) h = h x
+
+  pub of_if : (b : Bool) (y : B) → (b ≡ true → P y) → IfSome (if b then Some y else None) P
+  of_if true y h = h refl
+  of_if false y h = tt
+
+  pub of_test : (b : Bool) (o other : Option B) → (b ≡ true → IfSome o P) → (b ≡ false → IfSome other P) → IfSome (if b then o else other) P
+  of_test true o other h k = h refl
+  of_test false o other h k = k refl
+
+  pub given : (o : Option B) (y : B) → o ≡ Some y → IfSome o P → P y
+  given None y e h = absurd cc
+  given (Some x) y e h = subst P (cc) h
