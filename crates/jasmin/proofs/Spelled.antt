@@ -5,3 +5,4 @@ pub mod Labels
 pub mod Operands
 pub mod Switches
 pub mod Tests
+pub mod Widths

@@ -1,5 +1,5 @@
 -- The parts of a method's body have the ranges and forms that a listing asks for.
-use Rattle.std.proofs.Common.{◌≡◌, ℕ, Bool, true, ◌&&◌, List, [], ◌∷◌, length, drop, take, ◌-◌, refl, Some, None, Option, codes}
+use Rattle.std.proofs.Common.{◌≡◌, ℕ, Bool, true, not, ◌&&◌, List, [], ◌∷◌, length, drop, take, ◌-◌, refl, Some, None, Option, codes}
 use Rattle.std.specs.Prelude.{IfSome, nat_le, if◌then◌else◌}
 use Rattle.std.specs.List.{AllByRecursion}
 use Rattle.std.specs.Option.{option_map, option_and_then}
@@ -11,7 +11,7 @@ use Rattle.model.specs.declared.trees.TextLine.TheVariants.{Label, Instruction}
 use Rattle.model.specs.Texts.Bodies.{Body}
 use Rattle.model.specs.Texts.Instructions.{instruction_of}
 use Rattle.model.specs.Texts.Methods.{Part, stack_limit, locals_limit, catch_row, code_line, Saying, part, opens, limit_of, catch_class, row_with, catch_of, label_of, line_of, said_by, said_in, saying_of, part_before, parts_by, parts_from, stack_limits, locals_limits, catch_rows, code_lines, body_with, body_of_parts, agreeing, body_of}
-use Rattle.model.specs.Texts.Names.{is_part}
+use Rattle.model.specs.Texts.Names.{is_part, is_class_name}
 use Rattle.model.specs.Texts.Numbers.{natural_to}
 use Rattle.model.specs.Texts.Operands.{only, class_named}
 use Rattle.model.specs.Texts.Spelled.{is_u2, catch_is_spelled}
@@ -19,9 +19,9 @@ use Rattle.model.specs.Texts.Statements.{Statement}
 use Rattle.model.specs.Texts.Switches.{Switch, SwitchLine, goes_on, ends, table_begins, lookup_begins, switch_line}
 use Rattle.model.specs.Texts.Uses.{labels_agree}
 use Rattle.jasmin.proofs.Spelled.Instructions.{Fits, words_fit}
-use Rattle.jasmin.proofs.Spelled.Operands.{natural_fits, class_fits}
+use Rattle.jasmin.proofs.Spelled.Operands.{natural_fits}
 use Rattle.jasmin.proofs.Spelled.Switches.{SwitchFits, LineFits as SwitchLineFits, table_fits, lookup_fits, line_fits as switch_line_fits}
-use Rattle.jasmin.proofs.Spelled.Tests.{of_each, of_map, of_then, of_any, of_if, of_test}
+use Rattle.jasmin.proofs.Spelled.Tests.{of_each, of_map, of_then, of_any, of_if, of_test, and_true}
 
 abbrev pub LineFits : TextLine → Type 0
 LineFits (Label l) = Unit {0}
@@ -56,7 +56,8 @@ catch_class_fits : (word : List ℕ) → IfSome (catch_class word) (λ c. catch_
 catch_class_fits word =
     of_test (λ c. catch_is_spelled c ≡ true) (bytes_eq word (codes "all")) (Some None) (option_map Some (class_named word))
     (λ t. refl)
-    (λ f. of_map (λ c. catch_is_spelled c ≡ true) Some (class_named word) (class_fits word))
+    (λ f. of_map (λ c. catch_is_spelled c ≡ true) Some (class_named word)
+    (of_if (λ c. catch_is_spelled (Some c) ≡ true) (is_class_name word) word (λ t. and_true (is_class_name word) (not (bytes_eq word (codes "all"))) t (rw f refl))))
 
 catch_fits : (words : List (List ℕ)) → IfSome (catch_of words) RowFits
 catch_fits (class ∷ from ∷ start ∷ to ∷ end ∷ using ∷ handler ∷ []) =
