@@ -1,5 +1,6 @@
 -- Each listing of a text is spelled.
 pub mod Bodies
+pub mod Codes
 pub mod Instructions
 pub mod Labels
 pub mod Operands

@@ -1,7 +1,6 @@
 -- An instruction of a text has the operands that a listing asks for, whatever its labels become.
 use Rattle.std.proofs.Common.{◌≡◌, ℕ, ℤ, Bool, true, false, ◌&&◌, ◌++◌, List, [], ◌∷◌, refl, inl, inr, Some, None, Option, codes}
 use Rattle.std.specs.Prelude.{IfSome, if◌then◌else◌, nat_le, int_le, pos, negsuc}
-use Rattle.std.specs.List.{list_all}
 use Rattle.std.specs.Option.{option_map, option_and_then}
 use Rattle.std.specs.Str.{bytes_eq}
 use Rattle.std.proofs.lemmas.Option.{IfSome_then}
@@ -30,7 +29,7 @@ use Rattle.model.specs.Texts.Spelled.{is_in, is_u2, is_byte, is_short, operands_
 use Rattle.model.specs.Texts.Tables.{named}
 use Rattle.jasmin_words.proofs.Places.{bool_tells}
 use Rattle.jasmin.proofs.Spelled.Operands.{number_fits, natural_fits, only_number_fits, only_natural_fits, class_fits, type_fits, field_fits, method_fits}
-use Rattle.jasmin.proofs.Spelled.Tests.{both_true, and_true, regrouped, of_each, of_map, of_then, of_any, of_if, of_test}
+use Rattle.jasmin.proofs.Spelled.Tests.{and_true, regrouped, in_table, of_each, of_map, of_then, of_any, of_if, of_test}
 
 -- ---- locals
 
@@ -94,12 +93,6 @@ stands (Invoke how) = count_is_spelled how
 stands InvokeInterface = true
 stands Throw = true
 stands (Monitor op) = true
-
-in_table : {A : Type 0} (p : A → Bool) (rows : List (List ℕ × A)) (word : List ℕ) → list_all (λ row. p row.1) rows ≡ true → IfSome (named rows word) (λ a. p a ≡ true)
-in_table p [] word h = tt
-in_table p (row ∷ rows) word h =
-    let parts = both_true (p row.1) (list_all (λ row. p row.1) rows) h in
-    of_test (λ a. p a ≡ true) (bytes_eq word row.0) (Some row.1) (named rows word) (λ t. parts.0) (λ f. in_table p rows word parts.1)
 
 mnemonic_stands : (word : List ℕ) → IfSome (mnemonic_of word) (λ m. stands m ≡ true)
 unfolding mnemonic_of stands

@@ -1,8 +1,10 @@
 -- What holds of all that a partial step gives.
-use Rattle.std.proofs.Common.{◌≡◌, Bool, true, false, ◌&&◌, ◌||◌, List, [], ◌∷◌, refl, subst, Some, None, Option}
+use Rattle.std.proofs.Common.{◌≡◌, ℕ, Bool, true, false, ◌&&◌, ◌||◌, List, [], ◌∷◌, refl, subst, Some, None, Option}
 use Rattle.std.specs.Prelude.{IfSome, if◌then◌else◌}
 use Rattle.std.specs.List.{list_all}
 use Rattle.std.specs.Option.{option_map, option_and_then}
+use Rattle.std.specs.Str.{bytes_eq}
+use Rattle.model.specs.Texts.Tables.{named}
 
 pub both_true : (a b : Bool) → (a && b) ≡ true → (a ≡ true) × (b ≡ true)
 both_true true b h = (refl, h)
@@ -50,3 +52,10 @@ module _ {B : Type 0} (P : B → Type 0) where
   pub given : (o : Option B) (y : B) → o ≡ Some y → IfSome o P → P y
   given None y e h = absurd cc
   given (Some x) y e h = subst P (cc) h
+
+-- what a table has under a word
+pub in_table : {A : Type 0} (p : A → Bool) (rows : List (List ℕ × A)) (word : List ℕ) → list_all (λ row. p row.1) rows ≡ true → IfSome (named rows word) (λ a. p a ≡ true)
+in_table p [] word h = tt
+in_table p (row ∷ rows) word h =
+    let parts = both_true (p row.1) (list_all (λ row. p row.1) rows) h in
+    of_test (λ a. p a ≡ true) (bytes_eq word row.0) (Some row.1) (named rows word) (λ t. parts.0) (λ f. in_table p rows word parts.1)
