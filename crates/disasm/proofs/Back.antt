@@ -1,0 +1,6 @@
+-- The tree of a listing's text has the listing, and is what the listing's statements say.
+pub mod Listings
+pub mod Lists
+pub mod Pcs
+pub mod Uses
+pub mod Widths
