@@ -1,8 +1,10 @@
 -- Each listing of a text is spelled.
 pub mod Bodies
 pub mod Codes
+pub mod Flags
 pub mod Instructions
 pub mod Labels
+pub mod Methods
 pub mod Operands
 pub mod Switches
 pub mod Tests
