@@ -1,5 +1,6 @@
 -- Each listing of a text is spelled.
 pub mod Bodies
+pub mod Classes
 pub mod Codes
 pub mod Flags
 pub mod Instructions

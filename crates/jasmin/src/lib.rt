@@ -11,6 +11,7 @@ mod flags;
 mod heads;
 mod instructions;
 mod labels;
+mod laws;
 mod locals;
 mod mnemonics;
 mod names;
@@ -24,6 +25,7 @@ mod telling;
 mod uses;
 
 pub use errors::{Fault, TextError};
+pub use laws::texts_are_spelled;
 pub use reader::read;
 
 #[cfg(test)]

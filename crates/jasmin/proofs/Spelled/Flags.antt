@@ -15,7 +15,7 @@ use Rattle.jasmin.proofs.Spelled.Tests.{both_true, and_true, of_test, in_table}
 abbrev pub lacks : ℕ → ℕ → Bool
 lacks mask flags = is_u2 flags && bit_and flags mask == 0
 
-same_from : (a b : ℕ) → (a == b) ≡ true → a ≡ b
+pub same_from : (a b : ℕ) → (a == b) ≡ true → a ≡ b
 same_from a b h = elim (eqb_tells a b) [ inl t ↦ t.1 | inr f ↦ absurd (let k : true ≡ false = sym h ∙ f.0 in cc) ]
 
 small_from : (n : ℕ) → is_u2 n ≡ true → n < 2 ^ 16
@@ -53,18 +53,18 @@ module _ (mask : ℕ) (table : List (List ℕ × ℕ)) (rows : list_all (λ row.
 
 -- ---- whether a method has code
 
-has_none : (flags bit : ℕ) → has flags bit ≡ false → bit_and flags bit ≡ 0
+pub has_none : (flags bit : ℕ) → has flags bit ≡ false → bit_and flags bit ≡ 0
 has_none flags bit h = by (bit_and flags bit == 0) refl h
   where
     by : (t : Bool) → (bit_and flags bit == 0) ≡ t → not t ≡ false → bit_and flags bit ≡ 0
     by true e k = same_from (bit_and flags bit) 0 e
     by false e k = absurd cc
 
-none_has : (flags bit : ℕ) → bit_and flags bit ≡ 0 → has flags bit ≡ false
+pub none_has : (flags bit : ℕ) → bit_and flags bit ≡ 0 → has flags bit ≡ false
 none_has flags bit h = ap (λ n. not (n == 0)) h
 
 -- a bit of several that are not set
-part_of_none : (flags all bit : ℕ) → bit_and all bit ≡ bit → bit_and flags all ≡ 0 → bit_and 0 bit ≡ 0 → bit_and flags bit ≡ 0
+pub part_of_none : (flags all bit : ℕ) → bit_and all bit ≡ bit → bit_and flags all ≡ 0 → bit_and 0 bit ≡ 0 → bit_and flags bit ≡ 0
 part_of_none flags all bit e h z = ap (bit_and flags) (sym e) ∙ sym (and_assoc bit flags all) ∙ ap (λ n. bit_and n bit) h ∙ z
 
 both_none : (flags a b : ℕ) → bit_and flags a ≡ 0 → bit_and flags b ≡ 0 → bit_and flags (bit_or a b) ≡ 0
