@@ -1,14 +1,14 @@
 //! Texts and attributes at the front of bytes.
 
+ghost use Rattle.std.specs.Prelude.{◌≡◌, Some, IfOk};
+ghost use Rattle.model.specs.ClassFiles.References.{text_at as held_text};
 ghost use Rattle.model.specs.Texts.Names.{is_field_name as field_name_test};
 ghost use Rattle.model.specs.Texts.Descriptors.{is_field_descriptor as field_descriptor_test};
 ghost use Rattle.pool.specs.Reading.Steps.{Gives};
 ghost use Rattle.classfile.specs.Reading.Attributes.{sized_from, text_from, tested_from, none_wanted, no_step, attribute_from, attributes_from, skipped_from};
 
 use model::class_files::FormatFault;
-use pool::descriptors::is_field_descriptor;
 use pool::fields::{bytes_at, u16_at, u32_at};
-use pool::names::is_field_name;
 use pool::{Pool, ReadError};
 
 /// A text of the pool under its number.
@@ -30,7 +30,8 @@ pub fn sized_at(bytes: &[u8]) -> Result<(&[u8], &[u8]), ReadError>
 /// The text whose number stands at the front of the bytes. C6 where there is none.
 #[tactic(auto, unfolding(crate::specs::Reading::Attributes::text_from))]
 pub fn text_at<'a, 'b>(pool: &'a Pool, bytes: &'b [u8]) -> Result<(Text<'a>, &'b [u8]), ReadError>
-    ensures { Gives (λ x. ((x.0.number, x.0.bytes.now), x.1.now)) result (text_from pool.now bytes.now) }
+    ensures gives { Gives (λ x. ((x.0.number, x.0.bytes.now), x.1.now)) result (text_from pool.now bytes.now) }
+    ensures held { IfOk result (λ x. held_text pool.now x.0.number ≡ Some x.0.bytes.now) }
 {
     let (number, rest) = u16_at(bytes)?;
     match pool.text(number) {
@@ -48,7 +49,7 @@ pub fn field_name_at<'a, 'b>(
     ensures { Gives (λ x. ((x.0.number, x.0.bytes.now), x.1.now)) result (tested_from pool.now field_name_test bytes.now) }
 {
     let (text, rest) = text_at(pool, bytes)?;
-    if is_field_name(text.bytes) {
+    if pool.is_field_name(text.number) {
         Ok((text, rest))
     } else {
         Err(ReadError::Format(FormatFault::Name))
@@ -65,7 +66,7 @@ pub fn field_type_at<'a, 'b>(
     ensures { Gives (λ x. ((x.0.number, x.0.bytes.now), x.1.now)) result (tested_from pool.now field_descriptor_test bytes.now) }
 {
     let (text, rest) = text_at(pool, bytes)?;
-    if is_field_descriptor(text.bytes) {
+    if pool.is_field_descriptor(text.number) {
         Ok((text, rest))
     } else {
         Err(ReadError::Format(FormatFault::Name))

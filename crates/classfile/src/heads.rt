@@ -20,7 +20,6 @@ use bitflags::Flags;
 use model::class_files::{FieldEntry, FormatFault};
 use model::flags::ClassFlags;
 use pool::fields::{u16_at, u32_at};
-use pool::names::is_class_name;
 use pool::{Pool, ReadError};
 use std::alloc::{AllocError, Global};
 use std::marker::Model;
@@ -92,10 +91,7 @@ pub fn is_class(pool: &Pool, number: u16) -> bool
 {
     match pool.class(number) {
         None => false,
-        Some(name) => match pool.text(name) {
-            None => false,
-            Some(text) => is_class_name(text),
-        },
+        Some(name) => pool.is_class_name(name),
     }
 }
 

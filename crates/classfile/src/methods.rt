@@ -3,7 +3,8 @@
 ghost use Rattle.std.specs.Prelude.{◌≡◌, ◌++◌, None, OnOk};
 ghost use Rattle.model.specs.Texts.Names.{is_method_name as method_name_test};
 ghost use Rattle.model.specs.Texts.Flags.{has};
-ghost use Rattle.model.specs.ClassFiles.Attributes.{attributes_bytes};
+ghost use Rattle.model.specs.ClassFiles.Attributes.{attributes_bytes, passes};
+ghost use Rattle.model.specs.ClassFiles.References.{text_at as held_text};
 ghost use Rattle.model.specs.ClassFiles.Methods as definition;
 ghost use Rattle.pool.specs.Reading.Steps.{Gives};
 ghost use Rattle.classfile.specs.Reading.Answers.{Answers};
@@ -20,9 +21,7 @@ use crate::instructions::Signature;
 use bitflags::Flags;
 use model::class_files::FormatFault;
 use model::flags::MethodFlags;
-use pool::descriptors::argument_units;
 use pool::fields::u16_at;
-use pool::names::is_method_name;
 use pool::{Pool, ReadError};
 use std::alloc::{AllocError, Global};
 use std::marker::Model;
@@ -75,12 +74,12 @@ pub fn wants_code(flags: u16) -> bool
     flags & 0x0400 == 0 && flags & 0x0100 == 0
 }
 
-/// Whether a text is a method's descriptor whose arguments take 255 units at most, with the object where the method
-/// isn't static.
-pub fn is_method_type(is_static: bool, text: &[u8]) -> bool
-    ensures { result ≡ method_type_test is_static text.now }
+/// Whether the text under a number is a method's descriptor whose arguments take 255 units at most, with the object where
+/// the method isn't static.
+pub fn is_method_type(pool: &Pool, is_static: bool, number: u16) -> bool
+    ensures { result ≡ passes (method_type_test is_static) (held_text pool.now number) }
 {
-    match argument_units(text) {
+    match pool.argument_units(number) {
         None => false,
         Some(units) => units <= if is_static { 255 } else { 254 },
     }
@@ -95,7 +94,7 @@ fn method_name_at<'a, 'b>(
     ensures { Gives (λ x. ((x.0.number, x.0.bytes.now), x.1.now)) result (tested_from pool.now method_name_test bytes.now) }
 {
     let (text, rest) = text_at(pool, bytes)?;
-    if is_method_name(text.bytes) {
+    if pool.is_method_name(text.number) {
         Ok((text, rest))
     } else {
         Err(ReadError::Format(FormatFault::Name))
@@ -113,7 +112,7 @@ fn method_type_at<'a, 'b>(
     ensures { Gives (λ x. ((x.0.number, x.0.bytes.now), x.1.now)) result (tested_from pool.now (method_type_test is_static) bytes.now) }
 {
     let (text, rest) = text_at(pool, bytes)?;
-    if is_method_type(is_static, text.bytes) {
+    if is_method_type(pool, is_static, text.number) {
         Ok((text, rest))
     } else {
         Err(ReadError::Format(FormatFault::Name))

@@ -2,7 +2,6 @@
 
 ghost use Rattle.std.specs.Prelude.{◌≡◌, ◌↔◌, ◌&&◌, ◌<◌, ◌^◌, nat_le, true};
 ghost use Rattle.std.specs.List.{AllByRecursion};
-ghost use Rattle.model.specs.Texts.Names.{is_field_name as field_name_test};
 ghost use Rattle.model.specs.ClassFiles.Attributes.{passes};
 ghost use Rattle.model.specs.ClassFiles.Pools.{entry_at};
 ghost use Rattle.model.specs.ClassFiles.References.{text_at};
@@ -14,8 +13,6 @@ use crate::fields::{are_field_flags, is_constant_value, is_static, is_value_of};
 use bitflags::Flags;
 use model::class_files::{ConstantValue, FieldEntry};
 use pool::Pool;
-use pool::descriptors::is_field_descriptor;
-use pool::names::is_field_name;
 
 /// Whether both hold.
 pub fn both(a: bool, b: bool) -> bool
@@ -29,16 +26,6 @@ pub fn is_count(length: usize) -> bool
     ensures { result ≡ nat_le length 65535 }
 {
     length <= 65535
-}
-
-/// Whether the text under a number is a field's name.
-fn names_field(pool: &Pool, number: u16) -> bool
-    ensures { result ≡ passes field_name_test (text_at pool.now number) }
-{
-    match pool.text(number) {
-        None => false,
-        Some(text) => is_field_name(text),
-    }
 }
 
 /// Whether the text under a number is the name of an attribute that counts, and the other number that of a value for a
@@ -71,7 +58,9 @@ fn is_typed(pool: &Pool, is_static: bool, descriptor: u16, constant: Option<Cons
 {
     match pool.text(descriptor) {
         None => false,
-        Some(text) => { is_field_descriptor(text) && is_constant(pool, is_static, text, constant) }
+        Some(text) => {
+            pool.is_field_descriptor(descriptor) && is_constant(pool, is_static, text, constant)
+        }
     }
 }
 
@@ -89,7 +78,7 @@ fn is_field(
     ensures constant { result ≡ true → ConstantBounds constant }
 {
     are_field_flags(class, flags)
-        && names_field(pool, name)
+        && pool.is_field_name(name)
         && is_typed(pool, is_static(flags), descriptor, constant)
 }
 

@@ -22,7 +22,6 @@ use crate::sound_fields::{both, is_count};
 use bitflags::Flags;
 use model::bytecode::Located;
 use pool::Pool;
-use pool::names::is_method_name;
 
 /// Whether a row of these numbers may stand in an exception table: its class is one, or 0.
 fn is_row(pool: &Pool, start: u16, end: u16, handler: u16, class: u16) -> bool
@@ -102,34 +101,14 @@ fn codes_stand(pool: &Pool, wanted: bool, code: &Option<CodeEntry>) -> bool
     }
 }
 
-/// Whether the text under a number is a method's name.
-fn names_method(pool: &Pool, number: u16) -> bool
-    ensures { result ≡ passes method_name_test (text_at pool.now number) }
-{
-    match pool.text(number) {
-        None => false,
-        Some(text) => is_method_name(text),
-    }
-}
-
-/// Whether the text under a number is the descriptor of a method with so many arguments as it may have.
-fn types_method(pool: &Pool, is_static: bool, number: u16) -> bool
-    ensures { result ≡ passes (method_type_test is_static) (text_at pool.now number) }
-{
-    match pool.text(number) {
-        None => false,
-        Some(text) => is_method_type(is_static, text),
-    }
-}
-
 /// Whether what a method says beside its code goes together.
 fn is_method(pool: &Pool, class: u16, flags: u16, name: u16, descriptor: u16) -> bool
     ensures is { result ≡ (definition.are_method_flags class flags && passes method_name_test (text_at pool.now name) && passes (method_type_test (has flags 8)) (text_at pool.now descriptor)) }
     ensures fits { (flags < 2 ^ 16) × (name < 2 ^ 16) × (descriptor < 2 ^ 16) }
 {
     are_method_flags(class, flags)
-        && names_method(pool, name)
-        && types_method(pool, is_static(flags), descriptor)
+        && pool.is_method_name(name)
+        && is_method_type(pool, is_static(flags), descriptor)
 }
 
 /// Whether a method may stand in a class of these flags.

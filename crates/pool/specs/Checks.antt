@@ -1,5 +1,5 @@
 -- Tests of what entries name, as their answers are given.
-use Rattle.std.specs.Prelude.{ℕ, Bool, List, Option, Some, None, Result, Ok, Err}
+use Rattle.std.specs.Prelude.{ℕ, Bool, false, List, Option, Some, None, Result, Ok, Err}
 use Rattle.model.specs.declared.class_files.FormatFault.{FormatFault}
 use Rattle.model.specs.ClassFiles.References.{is_field, is_method}
 use Rattle.pool.specs.declared.references.MemberKind.{MemberKind}
@@ -14,3 +14,9 @@ fault_in (Err fault) = Some fault
 abbrev pub member_test : MemberKind → List ℕ → List ℕ → Bool
 member_test Field = is_field
 member_test Method = is_method
+
+-- two texts pass a test together
+abbrev pub both_pass : (List ℕ → List ℕ → Bool) → Option (List ℕ) → Option (List ℕ) → Bool
+both_pass test None descriptor = false
+both_pass test (Some name) None = false
+both_pass test (Some name) (Some descriptor) = test name descriptor

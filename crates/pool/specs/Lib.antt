@@ -1,4 +1,5 @@
 pub mod Checks
+pub mod Kinds
 pub mod Making
 pub mod Numbering
 pub mod Reading

@@ -117,7 +117,7 @@ impl PoolBuilder {
             }
             push_entry(&mut slots, entry)?;
         }
-        Pool::of_slots(slots).checked()
+        Pool::of_slots(slots)?.checked()
     }
 }
 

@@ -6,6 +6,7 @@ pub mod descriptors;
 mod entries;
 mod error;
 pub mod fields;
+mod kinds;
 pub mod names;
 mod naming;
 mod pools;

@@ -2,12 +2,13 @@
 
 ghost use Rattle.std.specs.Prelude.{◌≡◌, ◌-◌, ◌<◌, ◌++◌, ℕ, List, false, None, Ok, IfOk, OnOk};
 ghost use Rattle.std.specs.List.{flat_map, AllByRecursion};
-ghost use Rattle.std.specs.Option.{option_copied};
+ghost use Rattle.std.specs.Option.{option_copied, option_map};
 ghost use Rattle.model.specs.declared.class_files.Entry.{Entry as AnEntry};
 ghost use Rattle.model.specs.ClassFiles.Entries.{entry_bytes, EntryFits};
 ghost use Rattle.model.specs.ClassFiles.Pools.{entry_at, pool_count, pool_bytes, PoolFits};
-ghost use Rattle.model.specs.ClassFiles.References.{first_fault, AreSound};
+ghost use Rattle.model.specs.ClassFiles.References.{text_at, first_fault, AreSound};
 ghost use Rattle.pool.specs.Checks.{fault_in};
+ghost use Rattle.pool.specs.Kinds.{kind_of};
 ghost use Rattle.pool.specs.Slots.{entries_in, AreSlots};
 ghost use Rattle.pool.specs.Reading.Steps.{Gives};
 ghost use Rattle.pool.specs.Reading.Pools.{is_long, slots_from, slots_after, entries_from, unless, pool_from};
@@ -15,6 +16,7 @@ ghost use Rattle.pool.specs.Reading.Pools.{is_long, slots_from, slots_after, ent
 use crate::entries::{entry_of, put_entry};
 use crate::error::ReadError;
 use crate::fields::u16_at;
+use crate::kinds::{TextKind, kinds_of};
 use model::class_files::{Entry, FormatFault};
 use std::alloc::{AllocError, Global};
 use std::marker::Model;
@@ -24,19 +26,22 @@ use std::marker::Model;
 pub struct Pool {
     /// what stands under each number; a long stands under the first of its two
     slots: Vec<Option<Entry>>,
+    /// what the text under each number is good for
+    kinds: Vec<Option<TextKind>>,
 }
 
 impl Model for Pool {
     ghost use Rattle.std.specs.Prelude.{List};
     ghost use Rattle.model.specs.declared.class_files.Entry.{Entry as AnEntry};
     ghost use Rattle.model.specs.ClassFiles.Pools.{PoolFits};
+    ghost use Rattle.pool.specs.Kinds.{AreKinds};
     ghost use Rattle.pool.specs.Slots.{entries_in, AreSlots};
 
     ghost Value = { List AnEntry };
 
     ghost view = { λ a. entries_in a.slots.items };
 
-    ghost invariant = { λ a. AreSlots a.slots.items × PoolFits (entries_in a.slots.items) };
+    ghost invariant = { λ a. AreSlots a.slots.items × PoolFits (entries_in a.slots.items) × AreKinds a.slots.items a.kinds.items };
 }
 
 impl Pool {
@@ -75,13 +80,21 @@ impl Pool {
         put_entries(out, &self.slots)
     }
 
+    /// What the text under a number is good for, if there is one.
+    pub(crate) fn kind(&self, number: u16) -> Option<TextKind>
+        ensures { result ≡ option_map kind_of (text_at self.now number) }
+    {
+        *self.kinds.get(usize::from(number))?
+    }
+
     /// The pool of these slots.
-    pub(crate) fn of_slots(slots: Vec<Option<Entry>>) -> Pool
+    pub(crate) fn of_slots(slots: Vec<Option<Entry>>) -> Result<Pool, AllocError>
         requires slots { AreSlots slots.items }
         requires fits { PoolFits (entries_in slots.items) }
-        ensures { result ≡ entries_in slots.items }
+        ensures { IfOk result (λ pool. pool ≡ entries_in slots.items) }
     {
-        Pool { slots }
+        let kinds = kinds_of(*slots.allocator(), &slots)?;
+        Ok(Pool { slots, kinds })
     }
 
     /// The pool, if each entry names what it should; else the first fault.
@@ -161,7 +174,7 @@ fn entries_of(alloc: Global, bytes: &[u8]) -> Result<(Pool, &[u8]), ReadError>
         return Err(ReadError::Format(FormatFault::Index));
     }
     let (slots, rest) = slots_of(alloc, count, rest)?;
-    Ok((Pool { slots }, rest))
+    Ok((Pool::of_slots(slots)?, rest))
 }
 
 /// The entries at the front of the bytes, where each names what it should.

@@ -3,13 +3,10 @@
 ghost use Rattle.std.specs.Prelude.{◌≡◌};
 ghost use Rattle.std.specs.Option.{option_copied};
 ghost use Rattle.model.specs.ClassFiles.Pools.{entry_at};
-ghost use Rattle.model.specs.Texts.Descriptors.{arguments_of};
 ghost use Rattle.model.specs.ClassFiles.References as references;
 ghost use Rattle.pool.specs.Slots.{entries_in};
-ghost use Rattle.pool.specs.Checks.{fault_in, member_test};
+ghost use Rattle.pool.specs.Checks.{fault_in, member_test, both_pass};
 
-use crate::descriptors::{argument_units, is_field_descriptor};
-use crate::names::{is_class_name, is_field_name, is_method_name};
 use crate::pools::Pool;
 use model::class_files::{Entry, FormatFault};
 
@@ -20,54 +17,13 @@ pub enum MemberKind {
     Method,
 }
 
-/// Whether a text is an array's descriptor.
-fn is_array(text: &[u8]) -> bool
-    ensures { result ≡ references.is_array text.now }
+/// Whether the units of a method's arguments, if its descriptor is one, are 255 at most.
+fn fits_units(units: Option<u32>) -> bool
+    ensures { result ≡ references.fits_units units }
 {
-    match text {
-        [b'[', ..] => is_field_descriptor(text),
-        _ => false,
-    }
-}
-
-/// Whether a text may be a class entry's: a class's name, or an array's descriptor.
-pub fn names_class(text: &[u8]) -> bool
-    ensures { result ≡ references.names_class text.now }
-{
-    is_class_name(text) || is_array(text)
-}
-
-/// Whether a field may have this name and descriptor.
-fn is_field(name: &[u8], descriptor: &[u8]) -> bool
-    ensures { result ≡ references.is_field name.now descriptor.now }
-{
-    is_field_name(name) && is_field_descriptor(descriptor)
-}
-
-/// Whether a descriptor is a method's, and its arguments take 255 units at most.
-fn fits_units(descriptor: &[u8]) -> bool
-    ensures { result ≡ references.fits_units (arguments_of descriptor.now) }
-{
-    match argument_units(descriptor) {
+    match units {
         None => false,
         Some(units) => units <= 255,
-    }
-}
-
-/// Whether a method may be referred to by this name and descriptor.
-fn is_method(name: &[u8], descriptor: &[u8]) -> bool
-    ensures { result ≡ references.is_method name.now descriptor.now }
-{
-    is_method_name(name) && fits_units(descriptor)
-}
-
-/// Whether a member of this kind may have this name and descriptor.
-pub fn is_member_of(kind: MemberKind, name: &[u8], descriptor: &[u8]) -> bool
-    ensures { result ≡ member_test kind name.now descriptor.now }
-{
-    match kind {
-        MemberKind::Field => is_field(name, descriptor),
-        MemberKind::Method => is_method(name, descriptor),
     }
 }
 
@@ -102,14 +58,39 @@ impl Pool {
         }
     }
 
+    /// Whether a field may have the texts under these numbers as its name and descriptor.
+    fn is_field(&self, name: u16, descriptor: u16) -> bool
+        ensures { result ≡ both_pass references.is_field (references.text_at self.now name) (references.text_at self.now descriptor) }
+    {
+        self.is_field_name(name) && self.is_field_descriptor(descriptor)
+    }
+
+    /// Whether a method may be referred to by the texts under these numbers as its name and descriptor: its arguments take
+    /// 255 units at most.
+    fn is_method(&self, name: u16, descriptor: u16) -> bool
+        ensures { result ≡ both_pass references.is_method (references.text_at self.now name) (references.text_at self.now descriptor) }
+    {
+        self.is_method_name(name) && fits_units(self.argument_units(descriptor))
+    }
+
+    /// Whether a member of this kind may have the texts under these numbers as its name and descriptor.
+    fn is_member_of(&self, kind: MemberKind, name: u16, descriptor: u16) -> bool
+        ensures { result ≡ both_pass (member_test kind) (references.text_at self.now name) (references.text_at self.now descriptor) }
+    {
+        match kind {
+            MemberKind::Field => self.is_field(name, descriptor),
+            MemberKind::Method => self.is_method(name, descriptor),
+        }
+    }
+
     /// That a class's name is one, or an array's descriptor. C6 where it is no text, else C7.
     fn check_class(&self, name: u16) -> Result<(), FormatFault>
         ensures { fault_in result ≡ references.class_fault (references.text_at self.now name) }
     {
-        let Some(text) = self.text(name) else {
+        let Some(_) = self.text(name) else {
             return Err(FormatFault::Index);
         };
-        if names_class(text) {
+        if self.names_class(name) {
             Ok(())
         } else {
             Err(FormatFault::Name)
@@ -120,13 +101,13 @@ impl Pool {
     fn check_pair(&self, name: u16, descriptor: u16) -> Result<(), FormatFault>
         ensures { fault_in result ≡ references.pair_fault (references.text_at self.now name) (references.text_at self.now descriptor) }
     {
-        let Some(name) = self.text(name) else {
+        let Some(_) = self.text(name) else {
             return Err(FormatFault::Index);
         };
-        let Some(descriptor) = self.text(descriptor) else {
+        let Some(_) = self.text(descriptor) else {
             return Err(FormatFault::Index);
         };
-        if is_field(name, descriptor) || is_method(name, descriptor) {
+        if self.is_field(name, descriptor) || self.is_method(name, descriptor) {
             Ok(())
         } else {
             Err(FormatFault::Name)
@@ -137,13 +118,13 @@ impl Pool {
     fn check_texts(&self, kind: MemberKind, name: u16, descriptor: u16) -> Result<(), FormatFault>
         ensures { fault_in result ≡ references.texts_fault (member_test kind) (references.text_at self.now name) (references.text_at self.now descriptor) }
     {
-        let Some(name) = self.text(name) else {
+        let Some(_) = self.text(name) else {
             return Ok(());
         };
-        let Some(descriptor) = self.text(descriptor) else {
+        let Some(_) = self.text(descriptor) else {
             return Ok(());
         };
-        if is_member_of(kind, name, descriptor) {
+        if self.is_member_of(kind, name, descriptor) {
             Ok(())
         } else {
             Err(FormatFault::Name)

@@ -22,9 +22,9 @@ returns-clause-made c =
     let all = subst (λ rest. Filling c.loop-entry.slots.items rest c.args.self) c.in-None.ensures.steps.0 c.loop-entry.invariant in
     let same = filled c.loop-entry.slots.items c.args.self all in
     is_made c.args.self c.checked.result (rw (c.self.view_is) at c.self.invariant.2, subst (AllByRecursion EntryFits) same all.2)
-    (subst (Checked c.checked.result) (c.of_slots.ensures ∙ same) c.checked.ensures)
+    (subst (Checked c.checked.result) (c.in_ok-of_slots.ensures ∙ same) c.checked.ensures)
 
 pub returns-clause-only : goal.returns-clause-only
 returns-clause-only c = λ fits sound.
     let all = subst (λ rest. Filling c.loop-entry.slots.items rest c.args.self) c.in-None.ensures.steps.0 c.loop-entry.invariant in
-    only_memory c.args.self c.checked.result sound (subst (Checked c.checked.result) (c.of_slots.ensures ∙ filled c.loop-entry.slots.items c.args.self all) c.checked.ensures)
+    only_memory c.args.self c.checked.result sound (subst (Checked c.checked.result) (c.in_ok-of_slots.ensures ∙ filled c.loop-entry.slots.items c.args.self all) c.checked.ensures)
