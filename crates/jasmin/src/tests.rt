@@ -1,6 +1,7 @@
 //! Texts with the tree or the refusal that the syntax gives them.
 
 use crate::errors::{Fault, TextError};
+use crate::laws::texts_are_spelled;
 use crate::reader::read;
 use bitflags::Flags;
 use model::flags::ClassFlags;
@@ -48,6 +49,7 @@ fn the_smallest_program_is_read(rt: HostRuntime) -> Result<(), Fail> {
     assert_eq!(rt; body.max_stack, 0);
     assert_eq!(rt; body.max_locals, 0);
     assert_eq!(rt; body.lines.len(), 1);
+    texts_are_spelled();
     Ok(())
 }
 

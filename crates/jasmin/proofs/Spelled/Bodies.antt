@@ -1,6 +1,6 @@
 -- The parts of a method's body have the ranges and forms that a listing asks for.
-use Rattle.std.proofs.Common.{◌≡◌, ℕ, Bool, true, not, ◌&&◌, List, [], ◌∷◌, length, drop, take, ◌-◌, refl, Some, None, Option, codes}
-use Rattle.std.specs.Prelude.{IfSome, nat_le, if◌then◌else◌}
+use Rattle.std.proofs.Common.{◌≡◌, ℕ, true, not, ◌&&◌, List, [], ◌∷◌, refl, Some, None, Option, codes}
+use Rattle.std.specs.Prelude.{IfSome, if◌then◌else◌}
 use Rattle.std.specs.List.{AllByRecursion}
 use Rattle.std.specs.Option.{option_map, option_and_then}
 use Rattle.std.specs.Str.{bytes_eq}
@@ -10,7 +10,7 @@ use Rattle.model.specs.declared.trees.TextLine.{TextLine}
 use Rattle.model.specs.declared.trees.TextLine.TheVariants.{Label, Instruction}
 use Rattle.model.specs.Texts.Bodies.{Body}
 use Rattle.model.specs.Texts.Instructions.{instruction_of}
-use Rattle.model.specs.Texts.Methods.{Part, stack_limit, locals_limit, catch_row, code_line, Saying, part, opens, limit_of, catch_class, row_with, catch_of, label_of, line_of, said_by, said_in, saying_of, part_before, parts_by, parts_from, stack_limits, locals_limits, catch_rows, code_lines, body_with, body_of_parts, agreeing, body_of}
+use Rattle.model.specs.Texts.Methods.{Part, stack_limit, locals_limit, catch_row, code_line, Saying, part, opens, limit_of, catch_class, row_with, catch_of, label_of, line_of, said_by, said_in, saying_of, parts_by, parts_from, stack_limits, locals_limits, catch_rows, code_lines, body_with, body_of_parts, agreeing, body_of}
 use Rattle.model.specs.Texts.Names.{is_part, is_class_name}
 use Rattle.model.specs.Texts.Numbers.{natural_to}
 use Rattle.model.specs.Texts.Operands.{only, class_named}
@@ -21,7 +21,7 @@ use Rattle.model.specs.Texts.Uses.{labels_agree}
 use Rattle.jasmin.proofs.Spelled.Instructions.{Fits, words_fit}
 use Rattle.jasmin.proofs.Spelled.Operands.{natural_fits}
 use Rattle.jasmin.proofs.Spelled.Switches.{SwitchFits, LineFits as SwitchLineFits, table_fits, lookup_fits, line_fits as switch_line_fits}
-use Rattle.jasmin.proofs.Spelled.Tests.{of_each, of_map, of_then, of_any, of_if, of_test, and_true}
+use Rattle.jasmin.proofs.Spelled.Tests.{of_map, of_then, of_any, of_if, of_test, and_true}
 
 abbrev pub LineFits : TextLine → Type 0
 LineFits (Label l) = Unit {0}

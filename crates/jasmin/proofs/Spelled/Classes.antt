@@ -1,12 +1,11 @@
 -- The listing of a text's tree is spelled.
-use Rattle.std.proofs.Common.{◌≡◌, ℕ, Bool, true, false, not, ◌&&◌, ◌||◌, ◌==◌, List, [], ◌∷◌, length, map, refl, ap, sym, ◌∙◌, ◌≤◌, arith, inl, inr, Some, None, Option, codes}
+use Rattle.std.proofs.Common.{◌≡◌, ℕ, true, false, not, ◌&&◌, ◌||◌, ◌==◌, List, [], ◌∷◌, length, map, refl, ap, ◌≤◌, arith, inl, inr, Some, None, Option, codes}
 use Rattle.std.specs.Prelude.{IfSome, bit_and, nat_le}
 use Rattle.std.specs.List.{AllByRecursion, list_all}
-use Rattle.std.specs.Option.{option_map, option_and_then}
+use Rattle.std.specs.Option.{option_and_then}
 use Rattle.std.specs.Str.{bytes_eq}
 use Rattle.std.proofs.lemmas.Bool.Decides.{leb_tells}
 use Rattle.std.proofs.lemmas.Option.{IfSome_then}
-use Rattle.model.specs.declared.flags.ClassFlags.{ClassFlags}
 use Rattle.model.specs.declared.trees.MethodTree.{MethodTree}
 use Rattle.model.specs.ClassFiles.Heads.{are_class_flags}
 use Rattle.model.specs.Texts.{tree_of}
@@ -21,10 +20,10 @@ use Rattle.model.specs.Texts.Spelled.{is_u2, head_is_spelled, field_is_spelled, 
 use Rattle.model.specs.Texts.Statements.{Statement, statements_of}
 use Rattle.model.specs.Texts.Trees.{Tree}
 use Rattle.model.specs.Texts.Widths.{different, narrow_numbers}
-use Rattle.jasmin.proofs.Spelled.Flags.{lacks, flags_lack, has_none, none_has, part_of_none, same_from}
+use Rattle.jasmin.proofs.Spelled.Flags.{lacks, flags_lack, none_has, part_of_none, same_from}
 use Rattle.jasmin.proofs.Spelled.Methods.{MethodFits, methods_fit, methods_spelled}
 use Rattle.jasmin.proofs.Spelled.Operands.{class_fits}
-use Rattle.jasmin.proofs.Spelled.Tests.{both_true, and_true, or_left, given, of_map, of_then, of_any, of_if}
+use Rattle.jasmin.proofs.Spelled.Tests.{both_true, and_true, or_left, given, of_map, of_any, of_if}
 use Rattle.jasmin.proofs.Spelled.Widths.{few_numbers}
 
 -- ---- a tree

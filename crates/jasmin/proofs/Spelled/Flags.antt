@@ -1,10 +1,9 @@
 -- Flags of a table have no other bits than the table's.
-use Rattle.std.proofs.Common.{◌≡◌, ℕ, ◌<◌, ◌^◌, ◌≤◌, Bool, true, false, not, ◌&&◌, ◌==◌, List, [], ◌∷◌, refl, sym, ap, ◌∙◌, arith, inl, inr, Some, None, Option}
-use Rattle.std.specs.Prelude.{IfSome, bit_and, bit_or, nat_le, if◌then◌else◌}
+use Rattle.std.proofs.Common.{◌≡◌, ℕ, ◌<◌, ◌^◌, Bool, true, false, not, ◌&&◌, ◌==◌, List, [], ◌∷◌, refl, sym, ap, ◌∙◌, arith, inl, inr, Some, None, Option}
+use Rattle.std.specs.Prelude.{IfSome, bit_and, bit_or, nat_le}
 use Rattle.std.specs.List.{list_all}
 use Rattle.std.proofs.lemmas.Bool.Decides.{eqb_tells, leb_tells}
 use Rattle.std.proofs.lemmas.Nat.{and_assoc, and_comm, and_or_apart, or_of_16}
-use Rattle.std.proofs.lemmas.Option.{IfSome_then}
 use Rattle.model.specs.ClassFiles.Methods.{wants_code}
 use Rattle.model.specs.Texts.Flags.{has, with_flag, flagged, flags_and_word}
 use Rattle.model.specs.Texts.Spelled.{is_u2}

@@ -1,16 +1,14 @@
 -- An instruction of a text has the operands that a listing asks for, whatever its labels become.
-use Rattle.std.proofs.Common.{◌≡◌, ℕ, ℤ, Bool, true, false, ◌&&◌, ◌++◌, List, [], ◌∷◌, refl, inl, inr, Some, None, Option, codes}
-use Rattle.std.specs.Prelude.{IfSome, if◌then◌else◌, nat_le, int_le, pos, negsuc}
-use Rattle.std.specs.Option.{option_map, option_and_then}
+use Rattle.std.proofs.Common.{◌≡◌, ℕ, ℤ, Bool, true, ◌&&◌, ◌++◌, List, [], ◌∷◌, refl, inl, inr, Some, None, Option, codes}
+use Rattle.std.specs.Prelude.{IfSome, nat_le, int_le, pos, negsuc}
+use Rattle.std.specs.Option.{option_and_then}
 use Rattle.std.specs.Str.{bytes_eq}
 use Rattle.std.proofs.lemmas.Option.{IfSome_then}
 use Rattle.model.specs.declared.instructions.ArrayOperation.TheVariants as array
 use Rattle.model.specs.declared.instructions.ClassOperation.{ClassOperation}
 use Rattle.model.specs.declared.instructions.ClassOperation.TheVariants as class
 use Rattle.model.specs.declared.instructions.Constant.TheVariants as constant
-use Rattle.model.specs.declared.instructions.Increment.TheVariants as increment
 use Rattle.model.specs.declared.instructions.Instruction.TheVariants as instruction
-use Rattle.model.specs.declared.instructions.Invocation.TheVariants as invocation
 use Rattle.model.specs.declared.instructions.LocalAccess.TheVariants as access
 use Rattle.model.specs.declared.instructions.Width.{Width}
 use Rattle.model.specs.declared.instructions.Width.TheVariants.{Narrow, Wide}
@@ -24,12 +22,12 @@ use Rattle.model.specs.Texts.Labels.{with_targets}
 use Rattle.model.specs.Texts.Locals.{local_form, increment_form, increment_with, increment_of, local_by}
 use Rattle.model.specs.Texts.Mnemonics.{mnemonic_of, constant_mnemonics, local_mnemonics, stack_mnemonics, number_mnemonics, branch_mnemonics, call_mnemonics, object_mnemonics, array_mnemonics}
 use Rattle.model.specs.Texts.Numbers.{number_in, natural_to}
-use Rattle.model.specs.Texts.Operands.{only, both, only_number, only_natural, label_named, class_named, type_named, field_named, method_named, primitives}
-use Rattle.model.specs.Texts.Spelled.{is_in, is_u2, is_byte, is_short, operands_are_spelled, index_is_spelled, increment_is_spelled, access_is_spelled, class_is_spelled, count_is_spelled, field_is_named, method_is_named}
+use Rattle.model.specs.Texts.Operands.{only, both, only_number, only_natural, label_named, type_named, field_named, method_named, primitives}
+use Rattle.model.specs.Texts.Spelled.{is_in, is_u2, is_short, operands_are_spelled, index_is_spelled, increment_is_spelled, access_is_spelled, class_is_spelled, count_is_spelled, field_is_named, method_is_named}
 use Rattle.model.specs.Texts.Tables.{named}
 use Rattle.jasmin_words.proofs.Places.{bool_tells}
 use Rattle.jasmin.proofs.Spelled.Operands.{number_fits, natural_fits, only_number_fits, only_natural_fits, class_fits, type_fits, field_fits, method_fits}
-use Rattle.jasmin.proofs.Spelled.Tests.{and_true, regrouped, in_table, of_each, of_map, of_then, of_any, of_if, of_test}
+use Rattle.jasmin.proofs.Spelled.Tests.{and_true, regrouped, in_table, of_each, of_map, of_then, of_any, of_test}
 
 -- ---- locals
 

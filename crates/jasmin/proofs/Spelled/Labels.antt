@@ -1,13 +1,11 @@
 -- A label that is given names the pc of an instruction, or the one behind the last.
-use Rattle.std.proofs.Common.{◌≡◌, ℕ, suc, ◌+◌, ◌<◌, Bool, true, false, not, ◌&&◌, ◌||◌, ◌==◌, List, [], ◌∷◌, ◌++◌, length, map, refl, sym, ap, ◌∙◌, arith, inl, inr, Some, None, Option, is_some, subst}
+use Rattle.std.proofs.Common.{◌≡◌, ℕ, suc, ◌+◌, Bool, true, false, ◌&&◌, ◌||◌, ◌==◌, List, [], ◌∷◌, refl, sym, ◌∙◌, arith, inl, inr, is_some}
 use Rattle.std.specs.Prelude.{nat_lt}
-use Rattle.std.specs.List.{list_all, list_any}
 use Rattle.std.specs.Str.{bytes_eq}
 use Rattle.std.proofs.lemmas.Bool.Decides.{eqb_tells, leb_tells}
 use Rattle.std.proofs.lemmas.Slice.Eq.{bytes_eq-Decides}
 use Rattle.std.proofs.lemmas.List.{length-map}
 use Rattle.model.specs.declared.instructions.Instruction.TheVariants.{Nop, Constant, Local, Stack, Number, Branch, TableSwitch, LookupSwitch, Return, Static, Field, Array, Class, Invoke, Throw, Monitor}
-use Rattle.model.specs.declared.listings.Placed.{Placed}
 use Rattle.model.specs.declared.trees.TextLine.{TextLine}
 use Rattle.model.specs.declared.trees.TextLine.TheVariants as line
 use Rattle.model.specs.Sizes.{size_at}
@@ -15,11 +13,11 @@ use Rattle.model.specs.Texts.Assembling.{end_from}
 use Rattle.model.specs.Texts.Instructions.{Written}
 use Rattle.model.specs.Texts.Labels.{pc_of, with_targets}
 use Rattle.model.specs.Texts.ListingOfTree.{placed_from}
-use Rattle.model.specs.Texts.Spelled.{is_pc, is_bound, stand_from}
+use Rattle.model.specs.Texts.Spelled.{is_pc, stand_from}
 use Rattle.model.specs.Texts.Tables.{named}
-use Rattle.model.specs.Texts.Uses.{labels_from, labels_in, count_from, count_in, is_before, is_given, leads_on}
+use Rattle.model.specs.Texts.Uses.{labels_from, count_from, is_before}
 use Rattle.jasmin_words.proofs.Places.{bool_tells}
-use Rattle.jasmin.proofs.Spelled.Tests.{both_true, and_true, or_left, or_right}
+use Rattle.jasmin.proofs.Spelled.Tests.{and_true, or_left, or_right}
 
 -- two tests that follow from one another
 alike : (a b : Bool) → (a ≡ true → b ≡ true) → (b ≡ true → a ≡ true) → a ≡ b

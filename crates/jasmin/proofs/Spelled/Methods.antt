@@ -1,8 +1,8 @@
 -- The methods of a text are spelled, whatever numbers stay with `ldc`.
-use Rattle.std.proofs.Common.{◌≡◌, ℕ, ℤ, Bool, true, false, not, ◌&&◌, ◌==◌, List, [], ◌∷◌, refl, ap, subst, sym, ◌∙◌, Some, None, Option, codes, map}
+use Rattle.std.proofs.Common.{◌≡◌, ℕ, ℤ, true, false, not, ◌&&◌, ◌==◌, List, [], ◌∷◌, refl, ap, subst, sym, ◌∙◌, Some, None, Option, codes, map}
 use Rattle.std.specs.Prelude.{IfSome, bit_and, nat_le}
 use Rattle.std.specs.List.{AllByRecursion, list_all}
-use Rattle.std.specs.Option.{option_map, option_and_then}
+use Rattle.std.specs.Option.{option_map}
 use Rattle.std.proofs.lemmas.Option.{IfSome_then}
 use Rattle.model.specs.declared.flags.ClassFlags.{ClassFlags}
 use Rattle.model.specs.declared.trees.MethodTree.{MethodTree}
@@ -22,7 +22,7 @@ use Rattle.model.specs.Texts.Statements.{Statement}
 use Rattle.jasmin.proofs.Spelled.Bodies.{BodyFits, body_fits}
 use Rattle.jasmin.proofs.Spelled.Codes.{body_is_code}
 use Rattle.jasmin.proofs.Spelled.Flags.{lacks, flags_lack, wants}
-use Rattle.jasmin.proofs.Spelled.Tests.{both_true, and_true, of_map, of_then, of_any, of_if, of_test}
+use Rattle.jasmin.proofs.Spelled.Tests.{both_true, and_true, of_map, of_any, of_if, of_test}
 
 -- ---- heads
 

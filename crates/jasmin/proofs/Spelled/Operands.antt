@@ -1,13 +1,11 @@
 -- Numbers and names have the ranges and forms that a listing asks for.
-use Rattle.std.proofs.Common.{◌≡◌, ℕ, ℤ, Bool, true, false, ◌&&◌, ◌||◌, List, [], ◌∷◌, refl, subst, sym, inl, inr, Some, None, Option}
-use Rattle.std.specs.Prelude.{IfSome, if◌then◌else◌, nat_le, int_le, pos, negsuc}
-use Rattle.std.specs.Option.{option_map, option_and_then}
-use Rattle.model.specs.declared.names.Member.{Member}
+use Rattle.std.proofs.Common.{◌≡◌, ℕ, ℤ, true, ◌&&◌, ◌||◌, List, [], ◌∷◌, refl, subst, sym, Some, None, Option}
+use Rattle.std.specs.Prelude.{IfSome, if◌then◌else◌, nat_le, int_le}
 use Rattle.model.specs.ClassFiles.References.{names_class, is_array, fits_units}
 use Rattle.model.specs.Texts.Descriptors.{arguments_of, is_field_descriptor, is_array_descriptor}
 use Rattle.model.specs.Texts.Names.{is_class_name, is_field_name, is_method_name}
 use Rattle.model.specs.Texts.Numbers.{number_in, number_of, natural_to, natural_of}
-use Rattle.model.specs.Texts.Operands.{only, both, only_number, only_natural, class_named, type_named, field_named, field_spelled, method_named, member_spelled, class_in, name_in, before_parenthesis, from_parenthesis}
+use Rattle.model.specs.Texts.Operands.{only, only_number, only_natural, class_named, type_named, field_named, field_spelled, method_named, member_spelled, class_in, name_in, before_parenthesis, from_parenthesis}
 use Rattle.model.specs.Texts.Spelled.{is_in, field_is_named, method_is_named}
 use Rattle.jasmin.proofs.Spelled.Tests.{of_any, of_if, regrouped}
 

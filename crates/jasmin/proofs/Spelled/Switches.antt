@@ -1,19 +1,17 @@
 -- A switch of a text has keys that are ints, and a table has a target.
-use Rattle.std.proofs.Common.{◌≡◌, ℕ, ℤ, ◌≤◌, Bool, true, ◌&&◌, ◌++◌, List, [], ◌∷◌, length, map, refl, ◌∙◌, arith, inl, inr, Some, None, Option, codes}
+use Rattle.std.proofs.Common.{◌≡◌, ℕ, ℤ, ◌≤◌, true, ◌&&◌, List, [], ◌∷◌, length, map, refl, ◌∙◌, arith, inl, inr, Some, None, Option, codes}
 use Rattle.std.specs.Prelude.{IfSome, nat_le, pos, negsuc}
 use Rattle.std.specs.List.{list_all}
 use Rattle.std.specs.Option.{option_map, option_and_then}
 use Rattle.std.specs.Str.{bytes_eq}
 use Rattle.std.proofs.lemmas.Bool.Decides.{leb_tells}
 use Rattle.std.proofs.lemmas.List.Folds.{list_all-append, list_all-map}
-use Rattle.std.proofs.lemmas.Option.{IfSome_then}
-use Rattle.model.specs.Texts.Instructions.{Written}
 use Rattle.model.specs.Texts.Operands.{label_named, only_number}
 use Rattle.model.specs.Texts.Spelled.{is_int}
 use Rattle.model.specs.Texts.Switches.{Switch, table, lookup, SwitchLine, goes_on, ends, is_int as key_of, table_begins, lookup_begins, with_default, with_target, with_pair, line_before, switch_line}
 use Rattle.jasmin.proofs.Spelled.Instructions.{Fits}
 use Rattle.jasmin.proofs.Spelled.Operands.{number_fits, only_number_fits}
-use Rattle.jasmin.proofs.Spelled.Tests.{and_true, of_each, of_map, of_then, of_any, of_test}
+use Rattle.jasmin.proofs.Spelled.Tests.{and_true, of_map, of_any, of_test}
 
 -- a switch of which lines may follow
 abbrev pub SwitchFits : Switch → Type 0

@@ -1,12 +1,11 @@
 -- Lines whose widths are settled keep what their instructions have, and few numbers stay with `ldc`.
-use Rattle.std.proofs.Common.{◌≡◌, ℕ, suc, ℤ, ◌+◌, ◌≤◌, Bool, true, false, not, ◌&&◌, ◌||◌, List, [], ◌∷◌, ◌++◌, length, map, filter, take, refl, sym, ap, subst, ◌∙◌, arith, inl, inr, Some, None, Option}
-use Rattle.std.specs.Prelude.{if◌then◌else◌}
-use Rattle.std.specs.List.{AllByRecursion, list_all, list_any, flat_map}
+use Rattle.std.proofs.Common.{◌≡◌, ℕ, ℤ, ◌+◌, ◌≤◌, Bool, true, false, not, ◌||◌, List, [], ◌∷◌, ◌++◌, length, map, filter, take, refl, sym, ap, subst, ◌∙◌, arith, inl, inr, Some, None, Option}
+use Rattle.std.specs.List.{AllByRecursion, list_all, flat_map}
 use Rattle.std.specs.Option.{option_map}
 use Rattle.std.specs.Ordering.{int_eq}
 use Rattle.std.proofs.lemmas.Bool.Decides.{Decides-int_eq}
 use Rattle.std.proofs.lemmas.List.{length-take}
-use Rattle.std.proofs.lemmas.List.Folds.{list_all-append, list_all-map}
+use Rattle.std.proofs.lemmas.List.Folds.{list_all-append}
 use Rattle.model.specs.declared.instructions.Constant.{Constant}
 use Rattle.model.specs.declared.instructions.Constant.TheVariants as constant
 use Rattle.model.specs.declared.instructions.Instruction.TheVariants.{Nop, Constant as ConstantOf, Local, Stack, Number, Branch, TableSwitch, LookupSwitch, Return, Static, Field, Array, Class, Invoke, Throw, Monitor}
@@ -22,7 +21,7 @@ use Rattle.model.specs.Texts.Instructions.{Written}
 use Rattle.model.specs.Texts.Labels.{pc_of, with_targets}
 use Rattle.model.specs.Texts.ListingOfTree.{placed_from, code_listing, method_listing}
 use Rattle.model.specs.Texts.Spelled.{narrow_number, narrow_constant, numbers_of_code, ldc_numbers}
-use Rattle.model.specs.Texts.Uses.{labels_from, count_from, labels_in, count_in, targets_of, leads_on, line_agrees, row_agrees, are_different, labels_agree}
+use Rattle.model.specs.Texts.Uses.{labels_from, count_from, labels_in, count_in, targets_of, line_agrees, labels_agree}
 use Rattle.model.specs.Texts.Widths.{is_among, different, widened_constant, widened, widened_line, narrow_numbers, used_in_methods}
 use Rattle.jasmin_words.proofs.Places.{bool_tells}
 use Rattle.jasmin.proofs.Spelled.Bodies.{LineFits}
