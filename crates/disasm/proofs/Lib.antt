@@ -1,2 +1,3 @@
 mod Back
 mod MarkLemmas
+pub mod PlainWords
