@@ -1,3 +1,7 @@
 mod Back
 mod MarkLemmas
+pub mod NameWords
 pub mod PlainWords
+pub mod SpelledWords
+pub mod SpokenText
+pub mod StatementsBack
