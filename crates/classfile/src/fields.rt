@@ -4,6 +4,7 @@ ghost use Rattle.std.specs.Prelude.{◌≡◌, ◌++◌, None, OnOk};
 ghost use Rattle.std.specs.Option.{option_copied};
 ghost use Rattle.model.specs.Texts.Flags.{has};
 ghost use Rattle.model.specs.ClassFiles.Fields as definition;
+ghost use Rattle.model.specs.Texts.Descriptors.{is_int_type};
 ghost use Rattle.model.specs.ClassFiles.Fields.{field_bytes};
 ghost use Rattle.pool.specs.Reading.Steps.{Gives};
 ghost use Rattle.classfile.specs.Reading.Attributes.{attribute_from, attributes_from};
@@ -30,7 +31,7 @@ pub fn are_field_flags(class: u16, flags: u16) -> bool
 
 /// Whether an int holds the values of this type.
 fn is_int_type(text: &[u8]) -> bool
-    ensures { result ≡ definition.is_int_type text.now }
+    ensures { result ≡ is_int_type text.now }
 {
     text == b"B".as_slice()
         || text == b"C".as_slice()

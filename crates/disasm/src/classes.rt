@@ -8,36 +8,12 @@ use crate::code::put_code;
 use crate::instructions::put_name;
 use crate::words::{put, put_line, put_number};
 use bitflags::Flags;
-use model::flags::{ClassFlags, MethodFlags};
+use model::flags::{
+    CLASS_FLAGS, ClassFlags, FIELD_FLAGS, INTERFACE_FLAGS, METHOD_FLAGS, MethodFlags,
+};
 use model::listings::{Code, Constant, Field, Listing, Method};
 use model::names::Name;
 use std::alloc::{AllocError, Global};
-
-/// The flags of a class, of an interface, of a field and of a method, by rising bit (JVMS 4.1, 4.5, 4.6).
-const CLASS_FLAGS: [(&str, u16); 3] = [("public", 0x0001), ("final", 0x0010), ("abstract", 0x0400)];
-
-const INTERFACE_FLAGS: [(&str, u16); 1] = [("public", 0x0001)];
-
-const FIELD_FLAGS: [(&str, u16); 7] = [
-    ("public", 0x0001),
-    ("private", 0x0002),
-    ("protected", 0x0004),
-    ("static", 0x0008),
-    ("final", 0x0010),
-    ("volatile", 0x0040),
-    ("transient", 0x0080),
-];
-
-const METHOD_FLAGS: [(&str, u16); 8] = [
-    ("public", 0x0001),
-    ("private", 0x0002),
-    ("protected", 0x0004),
-    ("static", 0x0008),
-    ("final", 0x0010),
-    ("synchronized", 0x0020),
-    ("native", 0x0100),
-    ("abstract", 0x0400),
-];
 
 /// Writes the word of a flag at the end, where it is set.
 fn put_flag(out: &mut Vec<u8>, word: &str, bit: u16, flags: u16) -> Result<(), AllocError>

@@ -1,6 +1,6 @@
 -- What the statements of a body say, one by one.
-use Rattle.std.proofs.Common.{◌≡◌, ℕ, true, false, List, [], ◌∷◌, ◌++◌, refl, sym, ◌∙◌, ap, inl, inr, Some, None, Option, codes, append_assoc, append-nil}
-use Rattle.std.specs.Option.{option_and_then, option_map, option_to_list, is_some}
+use Rattle.std.proofs.Common.{◌≡◌, ℕ, true, false, List, [], ◌∷◌, ◌++◌, refl, ◌∙◌, ap, inl, inr, Some, None, Option, codes, append_assoc, append-nil}
+use Rattle.std.specs.Option.{option_and_then, option_to_list, is_some}
 use Rattle.std.specs.Str.{bytes_eq}
 use Rattle.std.proofs.lemmas.Slice.Eq.{bytes_eq-Decides}
 use Rattle.jasmin_words.proofs.Places.{bool_tells}

@@ -7,7 +7,7 @@ use Rattle.std.proofs.lemmas.Bool.Decides.{eqb_tells}
 use Rattle.jasmin_words.proofs.Places.{bool_tells}
 use Rattle.model.specs.declared.flags.ClassFlags.{ClassFlags}
 use Rattle.model.specs.declared.trees.MethodTree.{MethodTree}
-use Rattle.model.specs.Texts.Classes.{is_end, in_first_block, blocks_of, trees_of, tree_before, methods_of}
+use Rattle.model.specs.Texts.Classes.{is_end, in_first_block, blocks_of, each, said_before, methods_of}
 use Rattle.model.specs.Texts.Flags.{has}
 use Rattle.model.specs.Texts.Heads.{MethodHead, method_of}
 use Rattle.model.specs.Texts.Methods.{body_of, method_tree, method_under, method_with, method_without}
@@ -62,7 +62,7 @@ with_first : Option MethodTree → Option (List MethodTree) → Option (List Met
 with_first None rest = None
 with_first (Some m) rest = option_map (λ ms. m ∷ ms) rest
 
-before_tree : (m : MethodTree) (o : Option (List MethodTree)) → tree_before (Some m) o ≡ option_map (λ ms. m ∷ ms) o
+before_tree : (m : MethodTree) (o : Option (List MethodTree)) → said_before (Some m) o ≡ option_map (λ ms. m ∷ ms) o
 before_tree m None = refl
 before_tree m (Some ms) = refl
 
@@ -72,12 +72,12 @@ nothing_first o = refl
 
 -- the methods of blocks, the first of which is under a head
 method_first : (class : ClassFlags) (s : Statement) (block : List Statement) (blocks : Option (List (List Statement))) (tree : Option MethodTree) → method_tree class (s ∷ block) ≡ tree
-    → option_and_then (trees_of class) (option_map (λ bs. (s ∷ block) ∷ bs) blocks) ≡ with_first tree (option_and_then (trees_of class) blocks)
+    → option_and_then (each (method_tree class)) (option_map (λ bs. (s ∷ block) ∷ bs) blocks) ≡ with_first tree (option_and_then (each (method_tree class)) blocks)
 unfolding with_first
 method_first class s block None None h = refl
 method_first class s block None (Some m) h = refl
 method_first class s block (Some bs) None h = rw h refl
-method_first class s block (Some bs) (Some m) h = rw h (before_tree m (trees_of class bs))
+method_first class s block (Some bs) (Some m) h = rw h (before_tree m (each (method_tree class) bs))
 
 -- the methods that statements spell, behind those so far
 pub methods_with : ClassFlags → List MethodTree → List Statement → Option (List MethodTree)
@@ -107,11 +107,11 @@ no_head class s ss h =
       | inr f ↦ rw f (headless (blocks_of ss))
     ]
   where
-    empty : (o : Option (List (List Statement))) → option_and_then (trees_of class) (option_map (λ bs. [] ∷ bs) o) ≡ None
+    empty : (o : Option (List (List Statement))) → option_and_then (each (method_tree class)) (option_map (λ bs. [] ∷ bs) o) ≡ None
     empty None = refl
     empty (Some bs) = refl
 
-    headless : (o : Option (List (List Statement))) → option_and_then (trees_of class) (in_first_block s o) ≡ None
+    headless : (o : Option (List (List Statement))) → option_and_then (each (method_tree class)) (in_first_block s o) ≡ None
     headless None = refl
     headless (Some []) = refl
     headless (Some (b ∷ bs)) = rw h refl
@@ -127,7 +127,7 @@ under_head : (class : ClassFlags) (s : Statement) (ss : List Statement) (head : 
     → methods_of class (s ∷ ss) ≡ with_first tree (methods_of class (behind_block ss))
 under_head class s ss head tree h m = rw (head_is_no_end class s head h) (by (block_of ss) refl m)
   where
-    by : (o : Option (List Statement)) → block_of ss ≡ o → option_and_then (method_under (Some head)) o ≡ tree → option_and_then (trees_of class) (in_first_block s (blocks_of ss)) ≡ with_first tree (methods_of class (behind_block ss))
+    by : (o : Option (List Statement)) → block_of ss ≡ o → option_and_then (method_under (Some head)) o ≡ tree → option_and_then (each (method_tree class)) (in_first_block s (blocks_of ss)) ≡ with_first tree (methods_of class (behind_block ss))
     by None e g = rw (blocks_unended ss e s, ← g) (sym (nothing_first (methods_of class (behind_block ss))))
     by (Some block) e g =
         rw (blocks_first ss block e, onto_block s block (blocks_of (behind_block ss)))

@@ -1,3 +1,4 @@
 pub mod Bodies
 pub mod Rows
+pub mod Statements
 pub mod Switches

@@ -1,30 +1,12 @@
 //! Access flags in front of a name.
 ghost use Rattle.std.specs.Prelude.{◌≡◌, ◌==◌, ℕ, List, map, None, Some, MatchResult};
 ghost use Rattle.std.specs.List.{list_all};
-ghost use Rattle.model.specs.Texts.Flags.{class_flags, method_flags, flags_and_word, class_flags_agree, method_flags_agree, has};
+ghost use Rattle.model.specs.Texts.Flags.{with_flag, flags_and_word, class_flags_agree, field_flags_agree, method_flags_agree, has};
+ghost use Rattle.model.specs.Texts.Tables.{named};
 
 use crate::errors::Fault;
 use crate::tables::named;
 use jasmin_words::words::Words;
-
-/// The flags that a class may have (JVMS 4.1).
-pub const CLASS_FLAGS: [(&str, u16); 3] = [
-    ("public", 0x0001),
-    ("final", 0x0010),
-    ("abstract", 0x0400),
-];
-
-/// The flags that a method may have (JVMS 4.6).
-pub const METHOD_FLAGS: [(&str, u16); 8] = [
-    ("public", 0x0001),
-    ("private", 0x0002),
-    ("protected", 0x0004),
-    ("static", 0x0008),
-    ("final", 0x0010),
-    ("synchronized", 0x0020),
-    ("native", 0x0100),
-    ("abstract", 0x0400),
-];
 
 /// The words behind a directive that takes flags and one word more: the flags, which a table lists and of which none
 /// is given twice, and that last word.
@@ -37,14 +19,21 @@ pub fn flags_and_word<'a>(
     let mut flags = 0;
     let mut last = words.next_word().ok_or(Fault::Operand)?;
     while let Some(next) = words.next_word() {
-        let flag = named(table, last).ok_or(Fault::Operand)?;
-        if flags & flag != 0 {
-            return Err(Fault::Operand);
-        }
-        flags |= flag;
+        flags = with_flag(table, flags, last)?;
         last = next;
     }
     Ok((flags, last))
+}
+
+/// Flags with one more, which a table has under its word and which is not given twice.
+pub fn with_flag(table: &[(&str, u16)], flags: u16, word: &[u8]) -> Result<u16, Fault>
+    ensures { MatchResult result (λ more. with_flag flags (named (map (λ row. (row.0.now, row.1)) table.now) word.now) ≡ Some more) (λ _. with_flag flags (named (map (λ row. (row.0.now, row.1)) table.now) word.now) ≡ None) }
+{
+    let flag = named(table, word).ok_or(Fault::Operand)?;
+    if flags & flag != 0 {
+        return Err(Fault::Operand);
+    }
+    Ok(flags | flag)
 }
 
 /// Whether a class may have these flags together.
@@ -52,6 +41,13 @@ pub fn class_flags_agree(flags: u16) -> bool
     ensures { result ≡ class_flags_agree flags }
 {
     !(flags & 0x0010 != 0 && flags & 0x0400 != 0)
+}
+
+/// Whether a field may have these flags together, in a class with those.
+pub fn field_flags_agree(class: u16, flags: u16) -> bool
+    ensures { result ≡ field_flags_agree class flags }
+{
+    class & 0x0200 == 0 || flags & 0x0019 == 0x0019
 }
 
 /// Whether a method may have these flags together, in a class with those.

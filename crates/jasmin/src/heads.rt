@@ -1,35 +1,45 @@
 //! The heads of a class and of its methods.
-ghost use Rattle.std.specs.Prelude.{◌≡◌, ◌∷◌, ◌&&◌, nat_le, None, Some, MatchResult};
-ghost use Rattle.model.specs.Texts.Heads.{class_of, super_of, method_of, method_head, units_with_object};
-ghost use Rattle.model.specs.Texts.Flags.{method_flags_agree};
-ghost use Rattle.model.specs.Texts.Names.{is_method_name};
+ghost use Rattle.std.specs.Prelude.{◌≡◌, ◌∷◌, not, ◌&&◌, ◌||◌, nat_le, codes, None, Some, MatchResult};
+ghost use Rattle.std.specs.Str.{bytes_eq};
+ghost use Rattle.model.specs.Texts.Heads.{class_of, class_head, interface_head, super_of, interface_of, method_of, method_head, units_with_object};
+ghost use Rattle.model.specs.Texts.Flags.{has, method_flags_agree};
+ghost use Rattle.model.specs.Texts.Names.{is_class_name, is_method_name};
 
 use crate::errors::Fault;
-use crate::flags::{
-    CLASS_FLAGS, METHOD_FLAGS, class_flags_agree, flags_and_word, method_flags_agree,
-};
+use crate::flags::{class_flags_agree, flags_and_word, method_flags_agree};
 use crate::names::{is_class_name, is_method_name};
 use crate::operands::only;
 use crate::signatures::{Signature, cut_signature};
 use bitflags::Flags;
 use jasmin_words::statements::Statement;
-use model::flags::{ClassFlags, MethodFlags};
+use model::flags::{CLASS_FLAGS, ClassFlags, INTERFACE_FLAGS, METHOD_FLAGS, MethodFlags};
 
-/// What a `.class` says.
+/// What a `.class` or an `.interface` says.
 #[derive(Clone, Copy)]
 pub struct ClassHead<'a> {
     pub flags: ClassFlags,
     pub name: &'a [u8],
 }
 
-/// A `.class` with its flags and name.
+/// A `.class` or an `.interface` with its flags and name. INTERFACE and ABSTRACT are among those of an interface.
 pub fn class_head(statement: Statement<'_>) -> Result<ClassHead<'_>, Fault>
     ensures { MatchResult result (λ head. class_of (Some (statement.entry.first.now ∷ statement.entry.operands)) ≡ Some (record { flags = head.flags; name = head.name.now })) (λ _. class_of (Some (statement.entry.first.now ∷ statement.entry.operands)) ≡ None) }
 {
-    if statement.first != b".class".as_slice() {
-        return Err(Fault::Statement);
+    if statement.first == b".class".as_slice() {
+        let (flags, name) = flags_and_word(&CLASS_FLAGS, statement.operands)?;
+        return class_with(flags, name);
     }
-    let (flags, name) = flags_and_word(&CLASS_FLAGS, statement.operands)?;
+    if statement.first == b".interface".as_slice() {
+        let (flags, name) = flags_and_word(&INTERFACE_FLAGS, statement.operands)?;
+        return interface_with(flags, name);
+    }
+    Err(Fault::Statement)
+}
+
+/// A class with these flags and this name.
+fn class_with(flags: u16, name: &[u8]) -> Result<ClassHead<'_>, Fault>
+    ensures { MatchResult result (λ head. class_head (Some (flags, name.now)) ≡ Some (record { flags = head.flags; name = head.name.now })) (λ _. class_head (Some (flags, name.now)) ≡ None) }
+{
     if is_class_name(name) && class_flags_agree(flags) {
         Ok(ClassHead {
             flags: ClassFlags::from_bits_retain(flags),
@@ -40,11 +50,47 @@ pub fn class_head(statement: Statement<'_>) -> Result<ClassHead<'_>, Fault>
     }
 }
 
-/// A `.super` with its name.
-pub fn super_name(statement: Statement<'_>) -> Result<&[u8], Fault>
-    ensures { MatchResult result (λ name. super_of (Some (statement.entry.first.now ∷ statement.entry.operands)) ≡ Some name.now) (λ _. super_of (Some (statement.entry.first.now ∷ statement.entry.operands)) ≡ None) }
+/// An interface with these flags besides its own, and this name.
+fn interface_with(flags: u16, name: &[u8]) -> Result<ClassHead<'_>, Fault>
+    ensures { MatchResult result (λ head. interface_head (Some (flags, name.now)) ≡ Some (record { flags = head.flags; name = head.name.now })) (λ _. interface_head (Some (flags, name.now)) ≡ None) }
+{
+    if is_class_name(name) {
+        Ok(ClassHead {
+            flags: ClassFlags::from_bits_retain(flags | 0x0600),
+            name,
+        })
+    } else {
+        Err(Fault::Operand)
+    }
+}
+
+/// A `.super` with its name, in a class with these flags.
+pub fn super_name(class: ClassFlags, statement: Statement<'_>) -> Result<&[u8], Fault>
+    ensures { MatchResult result (λ name. super_of class (Some (statement.entry.first.now ∷ statement.entry.operands)) ≡ Some name.now) (λ _. super_of class (Some (statement.entry.first.now ∷ statement.entry.operands)) ≡ None) }
 {
     if statement.first != b".super".as_slice() {
+        return Err(Fault::Statement);
+    }
+    let name = only(statement.operands)?;
+    if is_superclass(class, name) {
+        Ok(name)
+    } else {
+        Err(Fault::Operand)
+    }
+}
+
+/// Whether a class with these flags may have a superclass of this name: an interface's is Object.
+fn is_superclass(class: ClassFlags, name: &[u8]) -> bool
+    ensures { result ≡ (is_class_name name.now && (not (has class.0 0x0200) || bytes_eq name.now (codes "java/lang/Object"))) }
+{
+    is_class_name(name) && (class.bits() & 0x0200 == 0 || name == b"java/lang/Object".as_slice())
+}
+
+/// The name of an `.implements`.
+pub fn interface_name(statement: Statement<'_>) -> Result<&[u8], Fault>
+    ensures { MatchResult result (λ name. interface_of (Some (statement.entry.first.now ∷ statement.entry.operands)) ≡ Some name.now) (λ _. interface_of (Some (statement.entry.first.now ∷ statement.entry.operands)) ≡ None) }
+{
+    if statement.first != b".implements".as_slice() {
         return Err(Fault::Statement);
     }
     let name = only(statement.operands)?;

@@ -7,6 +7,7 @@ mod bodies;
 mod catches;
 mod descriptors;
 mod errors;
+mod fields;
 mod flags;
 mod heads;
 mod instructions;

@@ -1,22 +1,25 @@
-//! The structure of a text: the class, its methods and their bodies.
-ghost use Rattle.std.specs.Prelude.{◌≡◌, ◌≢◌, [], ◌∷◌, true, None, Some, IfOk, MatchOption, MatchResult};
+//! The structure of a text: the class, its interfaces, fields and methods, and their bodies.
+ghost use Rattle.std.specs.Prelude.{◌≡◌, ◌≢◌, [], ◌∷◌, true, codes, None, Some, IfOk, MatchOption, MatchResult};
 ghost use Rattle.std.specs.Option.{option_and_then, option_to_list};
 ghost use Rattle.model.specs.Texts.{tree_of};
-ghost use Rattle.model.specs.Texts.Classes.{class_tree, methods_of};
+ghost use Rattle.model.specs.Texts.Classes.{class_tree, interfaces_of, fields_of, methods_of, begins_otherwise, behind_led};
 ghost use Rattle.model.specs.Texts.Flags.{has};
 ghost use Rattle.model.specs.Texts.Heads.{MethodHead as Head};
 ghost use Rattle.model.specs.Texts.Methods.{body_with, method_without};
+ghost use Rattle.jasmin.specs.Statements.{ahead};
 ghost use Rattle.jasmin.specs.Bodies.{block_of, behind_block, first_parts, first_body, first_method};
 
 use crate::bodies::{Given, Part, end_of, next_of, part_of};
 use crate::errors::{Fault, TextError};
-use crate::heads::{MethodHead, class_head, method_head, super_name};
+use crate::fields::field;
+use crate::heads::{MethodHead, class_head, interface_name, method_head, super_name};
 use crate::switches::OpenSwitch;
 use crate::telling::told;
 use crate::uses::labels_agree;
 use bitflags::Flags;
 use jasmin_words::statements::{Statement, Statements};
 use model::flags::ClassFlags;
+use model::listings::Field;
 use model::names::Name;
 use model::trees::{BodyTree, CatchRow, ClassTree, MethodTree, TextLine};
 use std::alloc::Global;
@@ -43,32 +46,91 @@ fn class_tree(alloc: Global, statements: &mut Statements<'_>) -> Result<ClassTre
     let first = next_of(statements)?.ok_or(Fault::Statement)?;
     let head = class_head(first)?;
     let second = next_of(statements)?.ok_or(Fault::Statement)?;
-    let superclass = super_name(second)?;
-    let methods = methods_of(alloc, head.flags, statements)?;
+    let superclass = super_name(head.flags, second)?;
+    let third = next_of(statements)?;
+    let (interfaces, behind) = interfaces_of(alloc, third, statements)?;
+    let (fields, behind) = fields_of(alloc, head.flags, behind, statements)?;
+    let methods = methods_of(alloc, head.flags, behind, statements)?;
     Ok(ClassTree {
         flags: head.flags,
         name: Name::copy_of(alloc, head.name)?,
         superclass: Name::copy_of(alloc, superclass)?,
-        interfaces: Vec::new(alloc),
-        fields: Vec::new(alloc),
+        interfaces,
+        fields,
         methods,
     })
 }
 
-/// The methods that statements spell, in a class with these flags.
-#[tactic(auto, using(crate::proofs::MethodLemmas::methods))]
-fn methods_of(
+/// The interfaces that statements begin with, the first of which was read, and the first statement behind them.
+#[tactic(auto, using(crate::proofs::DeclarationLemmas::declarations))]
+fn interfaces_of<'a>(
+    alloc: Global,
+    first: Option<Statement<'a>>,
+    statements: &mut Statements<'a>,
+) -> Result<(Vec<Name>, Option<Statement<'a>>), Fault>
+    ensures { MatchResult result (λ found. (interfaces_of (ahead first.entry statements.old) ≡ Some found.0.items) × (behind_led (codes ".implements") (ahead first.entry statements.old) ≡ ahead found.1 statements.new)) (λ e. e ≢ Fault.Memory → interfaces_of (ahead first.entry statements.old) ≡ None) }
+{
+    let mut interfaces = Vec::new(alloc);
+    let mut next = first;
+    'rows: while let Some(statement) = next {
+        if begins_otherwise(&statement, b".implements") {
+            return Ok((interfaces, Some(statement)));
+        }
+        let name = interface_name(statement)?;
+        interfaces.push(Name::copy_of(alloc, name)?)?;
+        next = next_of(statements)?;
+    }
+    Ok((interfaces, None))
+}
+
+/// The fields that statements begin with, the first of which was read, in a class with these flags, and the first
+/// statement behind them.
+#[tactic(auto, using(crate::proofs::DeclarationLemmas::declarations))]
+fn fields_of<'a>(
     alloc: Global,
     class: ClassFlags,
-    statements: &mut Statements<'_>,
+    first: Option<Statement<'a>>,
+    statements: &mut Statements<'a>,
+) -> Result<(Vec<Field>, Option<Statement<'a>>), Fault>
+    ensures { MatchResult result (λ found. (fields_of class (ahead first.entry statements.old) ≡ Some found.0.items) × (behind_led (codes ".field") (ahead first.entry statements.old) ≡ ahead found.1 statements.new)) (λ e. e ≢ Fault.Memory → fields_of class (ahead first.entry statements.old) ≡ None) }
+{
+    let mut fields = Vec::new(alloc);
+    let mut next = first;
+    'rows: while let Some(statement) = next {
+        if begins_otherwise(&statement, b".field") {
+            return Ok((fields, Some(statement)));
+        }
+        let field = field(alloc, class, statement)?;
+        fields.push(field)?;
+        next = next_of(statements)?;
+    }
+    Ok((fields, None))
+}
+
+/// Whether a statement begins with another word.
+fn begins_otherwise(statement: &Statement<'_>, word: &[u8]) -> bool
+    ensures { result ≡ begins_otherwise word.now (Some (statement.now.first.now ∷ statement.now.operands)) }
+{
+    statement.first != word
+}
+
+/// The methods that statements spell, the first of which was read, in a class with these flags.
+#[tactic(auto, using(crate::proofs::MethodLemmas::methods))]
+fn methods_of<'a>(
+    alloc: Global,
+    class: ClassFlags,
+    first: Option<Statement<'a>>,
+    statements: &mut Statements<'a>,
 ) -> Result<Vec<MethodTree>, Fault>
-    ensures { MatchResult result (λ methods. methods_of class statements.old ≡ Some methods.items) (λ e. e ≢ Fault.Memory → methods_of class statements.old ≡ None) }
+    ensures { MatchResult result (λ methods. methods_of class (ahead first.entry statements.old) ≡ Some methods.items) (λ e. e ≢ Fault.Memory → methods_of class (ahead first.entry statements.old) ≡ None) }
 {
     let mut methods = Vec::new(alloc);
-    'rows: while let Some(statement) = next_of(statements)? {
+    let mut next = first;
+    'rows: while let Some(statement) = next {
         let head = method_head(class, statement)?;
         let method = method_under(alloc, class, head, statements)?;
         methods.push(method)?;
+        next = next_of(statements)?;
     }
     Ok(methods)
 }

@@ -61,7 +61,7 @@ fn a_class_needs_its_statements_in_order(rt: HostRuntime) {
         (b".class E".as_slice(), 2, Fault::Statement),
         (b".class E\n.super A\n".as_slice(), 0, Fault::Memory),
         (b".super A\n.class E\n".as_slice(), 1, Fault::Statement),
-        (b".interface E\n.super A\n".as_slice(), 1, Fault::Statement),
+        (b".interface E\n.super A\n".as_slice(), 2, Fault::Operand),
         (b".class E\nfoo\n".as_slice(), 2, Fault::Statement),
         (
             b".class E\n.super A\n.super A\n".as_slice(),
@@ -69,8 +69,8 @@ fn a_class_needs_its_statements_in_order(rt: HostRuntime) {
             Fault::Statement,
         ),
         (
-            b".class E\n.super A\n.field x I\n".as_slice(),
-            3,
+            b".class E\n.super A\n.field x I\n.implements B\n".as_slice(),
+            4,
             Fault::Statement,
         ),
         (

@@ -1,7 +1,40 @@
-//! Access flags of classes, fields and methods (JVMS 4.1, 4.5, 4.6).
+//! Access flags of classes, fields and methods (JVMS 4.1, 4.5, 4.6), and the words that texts have for them.
 ghost use Rattle.std.specs.Prelude.{⊤, [], ◌∷◌, codes};
 
 use bitflags::{Flag, Flags, bitflag_items};
+
+/// The words of a class's flags in a text, by rising bit.
+pub const CLASS_FLAGS: [(&str, u16); 3] = [
+    ("public", 0x0001),
+    ("final", 0x0010),
+    ("abstract", 0x0400),
+];
+
+/// The words of an interface's flags, besides INTERFACE and ABSTRACT, which its directive stands for.
+pub const INTERFACE_FLAGS: [(&str, u16); 1] = [("public", 0x0001)];
+
+/// The words of a field's flags, by rising bit.
+pub const FIELD_FLAGS: [(&str, u16); 7] = [
+    ("public", 0x0001),
+    ("private", 0x0002),
+    ("protected", 0x0004),
+    ("static", 0x0008),
+    ("final", 0x0010),
+    ("volatile", 0x0040),
+    ("transient", 0x0080),
+];
+
+/// The words of a method's flags, by rising bit.
+pub const METHOD_FLAGS: [(&str, u16); 8] = [
+    ("public", 0x0001),
+    ("private", 0x0002),
+    ("protected", 0x0004),
+    ("static", 0x0008),
+    ("final", 0x0010),
+    ("synchronized", 0x0020),
+    ("native", 0x0100),
+    ("abstract", 0x0400),
+];
 
 /// A class's flags. A listing leaves SUPER out.
 #[derive(Clone, Copy, Debug, PartialEq, Eq)]

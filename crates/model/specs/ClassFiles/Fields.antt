@@ -1,10 +1,10 @@
 -- Fields of a class file (JVMS 4.5, 4.7.2).
-use Rattle.std.specs.Prelude.{◌≡◌, ℕ, ◌^◌, ◌<◌, Bool, true, false, not, ◌&&◌, ◌||◌, ◌==◌, bit_and, List, [], ◌∷◌, ◌++◌, filter, length, codes, Option, Some, None}
+use Rattle.std.specs.Prelude.{◌≡◌, ℕ, ◌^◌, ◌<◌, Bool, true, false, ◌&&◌, ◌==◌, bit_and, List, [], ◌∷◌, ◌++◌, filter, length, codes, Option, Some, None}
 use Rattle.std.specs.List.{AllByRecursion}
 use Rattle.std.specs.Str.{bytes_eq}
 use Rattle.model.specs.Texts.Names.{is_field_name}
-use Rattle.model.specs.Texts.Descriptors.{is_field_descriptor}
-use Rattle.model.specs.Texts.Flags.{has}
+use Rattle.model.specs.Texts.Descriptors.{is_field_descriptor, is_int_type, is_long_type}
+use Rattle.model.specs.Texts.Flags.{has, field_flags_agree}
 use Rattle.model.specs.ClassFiles.Numbers.{u2}
 use Rattle.model.specs.ClassFiles.Pools.{entry_at}
 use Rattle.model.specs.ClassFiles.References.{text_at}
@@ -14,16 +14,9 @@ use Rattle.model.specs.declared.class_files.Entry.TheVariants.{Utf8, Integer, Lo
 use Rattle.model.specs.declared.class_files.ConstantValue.{ConstantValue}
 use Rattle.model.specs.declared.class_files.FieldEntry.{FieldEntry}
 
--- no other bit than those of field flags; an interface's field is public, static and final (JVMS 4.5)
+-- no other bit than those of field flags, and those that agree (JVMS 4.5)
 abbrev pub are_field_flags : ℕ → ℕ → Bool
-are_field_flags class flags = bit_and flags 0xff20 == 0 && (not (has class 0x0200) || bit_and flags 0x0019 == 0x0019)
-
--- the letters of the types that an int holds, and that of a long
-abbrev pub is_int_type : List ℕ → Bool
-is_int_type text = bytes_eq text (codes "B") || bytes_eq text (codes "C") || bytes_eq text (codes "S") || bytes_eq text (codes "I")
-
-abbrev pub is_long_type : List ℕ → Bool
-is_long_type text = bytes_eq text (codes "J")
+are_field_flags class flags = bit_and flags 0xff20 == 0 && field_flags_agree class flags
 
 -- an entry may be the value of a field with this descriptor
 abbrev pub is_value_of : List ℕ → Option Entry → Bool

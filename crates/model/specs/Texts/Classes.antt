@@ -1,9 +1,10 @@
-use Rattle.std.specs.Prelude.{ℕ, Bool, true, false, ◌&&◌, List, [], ◌∷◌, Option, Some, None, codes}
+use Rattle.std.specs.Prelude.{ℕ, Bool, true, false, not, ◌&&◌, List, [], ◌∷◌, Option, Some, None, codes, if◌then◌else◌}
 use Rattle.std.specs.Option.{option_map, option_and_then}
 use Rattle.std.specs.Str.{bytes_eq}
 use Rattle.model.specs.declared.flags.ClassFlags.{ClassFlags}
+use Rattle.model.specs.declared.listings.Field.{Field}
 use Rattle.model.specs.declared.trees.MethodTree.{MethodTree}
-use Rattle.model.specs.Texts.Heads.{ClassHead, class_of, super_of}
+use Rattle.model.specs.Texts.Heads.{ClassHead, class_of, super_of, interface_of, field_of}
 use Rattle.model.specs.Texts.Operands.{only}
 use Rattle.model.specs.Texts.Methods.{method_tree}
 use Rattle.model.specs.Texts.Statements.{Statement}
@@ -37,32 +38,65 @@ abbrev pub blocks_of : List Statement → Option (List (List Statement))
 blocks_of [] = Some []
 blocks_of (s ∷ ss) = block_before (is_end s) s (blocks_of ss)
 
-abbrev pub tree_before : Option MethodTree → Option (List MethodTree) → Option (List MethodTree)
-tree_before None rest = None
-tree_before (Some tree) None = None
-tree_before (Some tree) (Some trees) = Some (tree ∷ trees)
+abbrev pub said_before : {A : Type 0} → Option A → Option (List A) → Option (List A)
+said_before None rest = None
+said_before (Some x) None = None
+said_before (Some x) (Some xs) = Some (x ∷ xs)
 
-abbrev pub trees_of : ClassFlags → List (List Statement) → Option (List MethodTree)
-trees_of class [] = Some []
-trees_of class (block ∷ blocks) = tree_before (method_tree class block) (trees_of class blocks)
+-- what each of them says, if each says something
+abbrev pub each : {A B : Type 0} → (A → Option B) → List A → Option (List B)
+each said [] = Some []
+each said (a ∷ rest) = said_before (said a) (each said rest)
 
 -- the methods that statements spell
 abbrev pub methods_of : ClassFlags → List Statement → Option (List MethodTree)
-methods_of class ss = option_and_then (trees_of class) (blocks_of ss)
+methods_of class ss = option_and_then (each (method_tree class)) (blocks_of ss)
 
-abbrev pub tree_with : ClassHead → List ℕ → List MethodTree → Tree
-tree_with head super methods = record { flags = head.flags; name = head.name; superclass = super; interfaces = []; fields = []; methods = methods }
+-- whether a statement begins with another word
+abbrev pub begins_otherwise : List ℕ → Statement → Bool
+begins_otherwise word None = false
+begins_otherwise word (Some []) = false
+begins_otherwise word (Some (first ∷ words)) = not (bytes_eq first word)
+
+-- the statements before the first that begins with another word, and those from there on
+abbrev pub led_by : List ℕ → List Statement → List Statement
+led_by word [] = []
+led_by word (s ∷ ss) = if begins_otherwise word s then [] else s ∷ led_by word ss
+
+abbrev pub behind_led : List ℕ → List Statement → List Statement
+behind_led word [] = []
+behind_led word (s ∷ ss) = if begins_otherwise word s then s ∷ ss else behind_led word ss
+
+-- the interfaces that statements begin with
+abbrev pub interfaces_of : List Statement → Option (List (List ℕ))
+interfaces_of ss = each interface_of (led_by (codes ".implements") ss)
+
+-- the fields that statements begin with
+abbrev pub fields_of : ClassFlags → List Statement → Option (List Field)
+fields_of class ss = each (field_of class) (led_by (codes ".field") ss)
+
+abbrev pub tree_with : ClassHead → List ℕ → Option (List (List ℕ)) → Option (List Field) → Option (List MethodTree) → Option Tree
+tree_with head super None fields methods = None
+tree_with head super (Some is) None methods = None
+tree_with head super (Some is) (Some fs) None = None
+tree_with head super (Some is) (Some fs) (Some ms) =
+    Some (record { flags = head.flags; name = head.name; superclass = super; interfaces = is; fields = fs; methods = ms })
+
+-- a class by its head, its superclass, and the statements of its fields and methods behind those of its interfaces
+abbrev pub members_behind : ClassHead → List ℕ → Option (List (List ℕ)) → List Statement → Option Tree
+members_behind head super interfaces ss =
+    tree_with head super interfaces (fields_of head.flags ss) (methods_of head.flags (behind_led (codes ".field") ss))
 
 abbrev pub members_under : ClassHead → Option (List ℕ) → List Statement → Option Tree
 members_under head None ss = None
-members_under head (Some super) ss = option_map (tree_with head super) (methods_of head.flags ss)
+members_under head (Some super) ss = members_behind head super (interfaces_of ss) (behind_led (codes ".implements") ss)
 
 abbrev pub super_under : Option ClassHead → List Statement → Option Tree
 super_under None ss = None
 super_under (Some head) [] = None
-super_under (Some head) (s ∷ ss) = members_under head (super_of s) ss
+super_under (Some head) (s ∷ ss) = members_under head (super_of head.flags s) ss
 
--- a class: its head, its superclass and its methods, in this order
+-- a class or an interface: its head, its superclass, its interfaces, its fields and its methods, in this order
 abbrev pub class_tree : List Statement → Option Tree
 class_tree [] = None
 class_tree (s ∷ ss) = super_under (class_of s) ss

@@ -53,6 +53,13 @@ is_one (Some units) = length units == 1
 abbrev pub is_field_descriptor : List ℕ → Bool
 is_field_descriptor word = fits word && is_one (types_of word)
 
+-- the descriptors of the types that an int holds, and that of a long (JVMS 4.3.2)
+abbrev pub is_int_type : List ℕ → Bool
+is_int_type word = bytes_eq word (codes "B") || bytes_eq word (codes "C") || bytes_eq word (codes "S") || bytes_eq word (codes "I")
+
+abbrev pub is_long_type : List ℕ → Bool
+is_long_type word = bytes_eq word (codes "J")
+
 -- an array's descriptor, which names its class (JVMS 4.4.1)
 abbrev pub is_array_descriptor : List ℕ → Bool
 is_array_descriptor [] = false

@@ -61,7 +61,7 @@ use Rattle.model.specs.declared.values.Kind.TheVariants as kind
 use Rattle.model.specs.ClassListings.{ClassListing}
 use Rattle.model.specs.CodeListings.{CodeListing}
 use Rattle.model.specs.Switches.{Table, Lookup}
-use Rattle.model.specs.Texts.Flags.{has, class_flags, method_flags}
+use Rattle.model.specs.Texts.Flags.{has, class_flags, interface_flags, field_flags, method_flags}
 
 -- ---- words
 
@@ -374,15 +374,6 @@ abbrev pub code_text : CodeListing → List ℕ
 code_text c = limits_text c ++ (flat_map row_text c.rows ++ lines_from (named_pcs c) 0 c.instructions)
 
 -- ---- a class
-
--- the flags that an interface may have besides INTERFACE and ABSTRACT, and those of a field (JVMS 4.1, 4.5)
-abbrev pub interface_flags : List (List ℕ × ℕ)
-interface_flags = (codes "public", 0x0001) ∷ []
-
-abbrev pub field_flags : List (List ℕ × ℕ)
-field_flags =
-    (codes "public", 0x0001) ∷ (codes "private", 0x0002) ∷ (codes "protected", 0x0004) ∷ (codes "static", 0x0008) ∷
-    (codes "final", 0x0010) ∷ (codes "volatile", 0x0040) ∷ (codes "transient", 0x0080) ∷ []
 
 -- the words of the flags that are set, in the order of the table, each with a space behind it
 abbrev pub flag_word : ℕ → List ℕ × ℕ → List ℕ

@@ -5,6 +5,16 @@ use Rattle.model.specs.Texts.Tables.{named}
 abbrev pub class_flags : List (List ℕ × ℕ)
 class_flags = (codes "public", 0x0001) ∷ (codes "final", 0x0010) ∷ (codes "abstract", 0x0400) ∷ []
 
+-- the flags that an interface may have besides INTERFACE and ABSTRACT, which its directive stands for (JVMS 4.1)
+abbrev pub interface_flags : List (List ℕ × ℕ)
+interface_flags = (codes "public", 0x0001) ∷ []
+
+-- the flags that a field may have (JVMS 4.5)
+abbrev pub field_flags : List (List ℕ × ℕ)
+field_flags =
+    (codes "public", 0x0001) ∷ (codes "private", 0x0002) ∷ (codes "protected", 0x0004) ∷ (codes "static", 0x0008) ∷
+    (codes "final", 0x0010) ∷ (codes "volatile", 0x0040) ∷ (codes "transient", 0x0080) ∷ []
+
 -- the flags that a method may have (JVMS 4.6)
 abbrev pub method_flags : List (List ℕ × ℕ)
 method_flags =
@@ -34,6 +44,10 @@ flags_and_word table (word ∷ words) = flagged table (Some 0) word words
 -- a class is not final and abstract (JVMS 4.1)
 abbrev pub class_flags_agree : ℕ → Bool
 class_flags_agree flags = not (has flags 0x0010 && has flags 0x0400)
+
+-- an interface's field is public, static and final (JVMS 4.5)
+abbrev pub field_flags_agree : ℕ → ℕ → Bool
+field_flags_agree class flags = not (has class 0x0200) || bit_and flags 0x0019 == 0x0019
 
 -- an abstract method is neither private, static, final, synchronized nor native, and an interface's method is public
 -- and abstract (JVMS 4.6)

@@ -25,7 +25,7 @@ use Rattle.model.specs.declared.listings.Field.{Field}
 use Rattle.model.specs.declared.listings.Method.{Method}
 use Rattle.model.specs.declared.listings.Placed.{Placed}
 use Rattle.model.specs.declared.names.Member.{Member}
-use Rattle.model.specs.ClassFiles.Fields.{are_field_flags, is_int_type, is_long_type}
+use Rattle.model.specs.ClassFiles.Fields.{are_field_flags}
 use Rattle.model.specs.ClassFiles.Heads.{are_class_flags}
 use Rattle.model.specs.ClassFiles.Methods.{are_method_flags, wants_code, units_fit}
 use Rattle.model.specs.ClassFiles.References.{names_class, is_field, is_method}
@@ -35,7 +35,7 @@ use Rattle.model.specs.Sizes.{size_at}
 use Rattle.model.specs.Switches.{Table, Lookup}
 use Rattle.model.specs.Table.Next.{Listed}
 use Rattle.model.specs.Texts.Assembling.{end_from}
-use Rattle.model.specs.Texts.Descriptors.{arguments_of, is_field_descriptor}
+use Rattle.model.specs.Texts.Descriptors.{arguments_of, is_field_descriptor, is_int_type, is_long_type}
 use Rattle.model.specs.Texts.Disassembling.{targets}
 use Rattle.model.specs.Texts.Flags.{has}
 use Rattle.model.specs.Texts.Names.{is_class_name, is_field_name, is_method_name}

@@ -1,6 +1,5 @@
 use Rattle.std.proofs.Common.{sym, ◌∙◌}
 use Rattle.std.proofs.lemmas.Result.{err_from_is_err_and, MatchResult-weaker}
-use Rattle.jasmin.specs.Bodies.{opened}
 use Rattle.jasmin.proofs.BodyLemmas.{rest_nothing, rest_line, rest_row, rest_opens, rest_stack, rest_stack_twice, rest_locals, rest_locals_twice, rest_end, behind_end, behind_other}
 use Rattle.jasmin.proofs.reader.body_parts.Goals as goal
 
