@@ -1,11 +1,12 @@
 -- Numbers in place of what they name: the entries of a pool made of items, and the parts of a class with the numbers that
 -- the pool has for them (JVMS 4.4).
-use Rattle.std.specs.Prelude.{◌≡◌, ℕ, ◌+◌, ℤ, Bool, true, false, ◌&&◌, List, [], ◌∷◌, ◌++◌, map, codes, Option, Some, None, if◌then◌else◌}
+use Rattle.std.specs.Prelude.{◌≡◌, ℕ, ◌+◌, ◌^◌, ◌<◌, ℤ, Bool, true, false, ◌&&◌, List, [], ◌∷◌, ◌++◌, map, codes, Option, Some, None, if◌then◌else◌}
 use Rattle.std.specs.Option.{option_map}
 use Rattle.model.specs.Bytecode.Opcodes.{Instr}
 use Rattle.model.specs.ClassFiles.Codes.{CodeRow}
-use Rattle.model.specs.ClassFiles.Items.{Item, is_same_item, is_item_of, numbers_taken, value_item}
+use Rattle.model.specs.ClassFiles.Items.{Item, is_same_item, is_item_of, numbers_taken, items_count, class_items, name_items, value_item}
 use Rattle.model.specs.ClassFiles.Items.Item.{text_item, int_item, long_item, class_item, name_item, field_item, method_item, interface_item}
+use Rattle.model.specs.ClassFiles.Listing.{name_at, referred}
 use Rattle.model.specs.Table.Next.{Listed}
 use Rattle.model.specs.declared.bytecode.Located.{Located}
 use Rattle.model.specs.declared.class_files.ConstantValue.{ConstantValue}
@@ -53,6 +54,22 @@ entry_of items (interface_item m) = InterfaceMethodref (number_of items (class_i
 abbrev pub entries_of : List Item → List Entry
 entries_of items = map (entry_of items) items
 
+-- ---- and back
+
+-- what an entry says
+abbrev pub item_of : List Entry → Entry → Item
+item_of pool (Utf8 text) = text_item text
+item_of pool (Integer z) = int_item z
+item_of pool (Long z) = long_item z
+item_of pool (Class name) = class_item (name_at pool name)
+item_of pool (Fieldref class member) = field_item (referred pool (class, member))
+item_of pool (Methodref class member) = method_item (referred pool (class, member))
+item_of pool (InterfaceMethodref class member) = interface_item (referred pool (class, member))
+item_of pool (NameAndType name descriptor) = name_item (name_at pool name) (name_at pool descriptor)
+
+abbrev pub items_of : List Entry → List Item
+items_of pool = map (item_of pool) pool
+
 -- ---- items that can be a pool
 
 -- the items that an item names
@@ -80,6 +97,24 @@ AreClosedBehind before (x ∷ xs) =
 -- each item follows those that it names, and stands once
 abbrev pub AreClosed : List Item → Type 0
 AreClosed items = AreClosedBehind [] items
+
+-- items that can be a pool: its count is at most 65,535
+pub record IsPool (items : List Item) : Type 0 where
+  pub closed : AreClosed items
+  pub fits : items_count items < 2 ^ 16
+
+-- what an entry says in the pool of the items
+unfoldable pub said : List Item → Entry → Item
+said items entry = item_of (entries_of items) entry
+
+-- an entry is that of an item, and what it names is there
+pub record IsEntry (items : List Item) (entry : Entry) : Type 0 where
+  pub entry_is : entry ≡ entry_of items (said items entry)
+  pub named : are_items_of items (named_by (said items entry)) ≡ true
+
+-- what a reference to a member names, each behind what it names itself
+abbrev pub reference_items : Member → List Item
+reference_items m = class_items m.class ++ name_items m.name m.descriptor
 
 -- ---- the parts of a class, with numbers for names
 
