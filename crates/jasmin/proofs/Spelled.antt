@@ -2,6 +2,7 @@
 pub mod Bodies
 pub mod Classes
 pub mod Codes
+pub mod Fields
 pub mod Flags
 pub mod Instructions
 pub mod Labels

@@ -17,13 +17,13 @@ lacks mask flags = is_u2 flags && bit_and flags mask == 0
 pub same_from : (a b : ℕ) → (a == b) ≡ true → a ≡ b
 same_from a b h = elim (eqb_tells a b) [ inl t ↦ t.1 | inr f ↦ absurd (let k : true ≡ false = sym h ∙ f.0 in cc) ]
 
-small_from : (n : ℕ) → is_u2 n ≡ true → n < 2 ^ 16
+pub small_from : (n : ℕ) → is_u2 n ≡ true → n < 2 ^ 16
 small_from n h = elim (leb_tells n 65535) [ inl t ↦ omega arith | inr f ↦ absurd (let k : true ≡ false = sym h ∙ f.0 in cc) ]
 
-small_is : (n : ℕ) → n < 2 ^ 16 → is_u2 n ≡ true
+pub small_is : (n : ℕ) → n < 2 ^ 16 → is_u2 n ≡ true
 small_is n h = elim (leb_tells n 65535) [ inl t ↦ t.0 | inr f ↦ absurd (omega arith) ]
 
-with_bit_lacks : (mask flags bit : ℕ) → lacks mask flags ≡ true → lacks mask bit ≡ true → lacks mask (bit_or flags bit) ≡ true
+pub with_bit_lacks : (mask flags bit : ℕ) → lacks mask flags ≡ true → lacks mask bit ≡ true → lacks mask (bit_or flags bit) ≡ true
 with_bit_lacks mask flags bit h k =
     let parts = both_true (is_u2 flags) (bit_and flags mask == 0) h in
     let of_bit = both_true (is_u2 bit) (bit_and bit mask == 0) k in
@@ -32,7 +32,7 @@ with_bit_lacks mask flags bit h k =
     (small_is (bit_or flags bit) (or_of_16 flags bit (small_from flags parts.0) (small_from bit of_bit.0)))
     (ap (λ n. n == 0) same ∙ parts.1)
 
-with_flag_lacks : (mask flags : ℕ) (bit : Option ℕ) → lacks mask flags ≡ true → IfSome bit (λ b. lacks mask b ≡ true) → IfSome (with_flag flags bit) (λ n. lacks mask n ≡ true)
+pub with_flag_lacks : (mask flags : ℕ) (bit : Option ℕ) → lacks mask flags ≡ true → IfSome bit (λ b. lacks mask b ≡ true) → IfSome (with_flag flags bit) (λ n. lacks mask n ≡ true)
 with_flag_lacks mask flags None h k = tt
 with_flag_lacks mask flags (Some bit) h k = of_test (λ n. lacks mask n ≡ true) (has flags bit) None (Some (bit_or flags bit)) (λ t. tt) (λ f. with_bit_lacks mask flags bit h k)
 

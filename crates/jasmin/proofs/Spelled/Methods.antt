@@ -9,7 +9,7 @@ use Rattle.model.specs.declared.trees.MethodTree.{MethodTree}
 use Rattle.model.specs.CodeListings.{CodeListing}
 use Rattle.model.specs.ClassFiles.Methods.{are_method_flags, wants_code, units_fit}
 use Rattle.model.specs.Texts.Bodies.{Body}
-use Rattle.model.specs.Texts.Classes.{tree_before, trees_of, blocks_of, methods_of}
+use Rattle.model.specs.Texts.Classes.{each, blocks_of, methods_of}
 use Rattle.model.specs.Texts.Descriptors.{arguments_of}
 use Rattle.model.specs.Texts.Flags.{method_flags, flags_and_word, has, method_flags_agree}
 use Rattle.model.specs.Texts.Heads.{behind, MethodHead, units_with_object, method_spelled, method_head, method_of}
@@ -22,7 +22,7 @@ use Rattle.model.specs.Texts.Statements.{Statement}
 use Rattle.jasmin.proofs.Spelled.Bodies.{BodyFits, body_fits}
 use Rattle.jasmin.proofs.Spelled.Codes.{body_is_code}
 use Rattle.jasmin.proofs.Spelled.Flags.{lacks, flags_lack, wants}
-use Rattle.jasmin.proofs.Spelled.Tests.{both_true, and_true, of_map, of_any, of_if, of_test}
+use Rattle.jasmin.proofs.Spelled.Tests.{both_true, and_true, of_map, of_any, of_if, of_test, of_all}
 
 -- ---- heads
 
@@ -96,18 +96,10 @@ method_fits : (class : ClassFlags) (ss : List Statement) → IfSome (method_tree
 method_fits class [] = tt
 method_fits class (s ∷ ss) = under_fits class.0 (method_of class s) ss (head_fits class s)
 
-before_fits : (class : ℕ) (tree : Option MethodTree) (rest : Option (List MethodTree)) → IfSome tree (MethodFits class) → IfSome rest (AllByRecursion (MethodFits class))
-    → IfSome (tree_before tree rest) (AllByRecursion (MethodFits class))
-before_fits class None rest h k = tt
-before_fits class (Some tree) None h k = tt
-before_fits class (Some tree) (Some trees) h k = (h, k)
-
-trees_fit : (class : ClassFlags) (blocks : List (List Statement)) → IfSome (trees_of class blocks) (AllByRecursion (MethodFits class.0))
-trees_fit class [] = tt
-trees_fit class (block ∷ blocks) = before_fits class.0 (method_tree class block) (trees_of class blocks) (method_fits class block) (trees_fit class blocks)
-
 pub methods_fit : (class : ClassFlags) (ss : List Statement) → IfSome (methods_of class ss) (AllByRecursion (MethodFits class.0))
-methods_fit class ss = of_any (AllByRecursion (MethodFits class.0)) (trees_of class) (blocks_of ss) (trees_fit class)
+methods_fit class ss =
+    of_any (AllByRecursion (MethodFits class.0)) (each (method_tree class)) (blocks_of ss)
+    (λ blocks. of_all (MethodFits class.0) (method_tree class) blocks (method_fits class))
 
 pub methods_spelled : (class : ℕ) (narrow : List ℤ) (ms : List MethodTree) → AllByRecursion (MethodFits class) ms → list_all (method_is_spelled class) (map (method_listing narrow) ms) ≡ true
 methods_spelled class narrow [] all = refl

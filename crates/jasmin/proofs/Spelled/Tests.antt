@@ -1,9 +1,10 @@
 -- What holds of all that a partial step gives.
 use Rattle.std.proofs.Common.{◌≡◌, ℕ, Bool, true, false, ◌&&◌, ◌||◌, List, [], ◌∷◌, refl, subst, Some, None, Option}
 use Rattle.std.specs.Prelude.{IfSome, if◌then◌else◌}
-use Rattle.std.specs.List.{list_all}
+use Rattle.std.specs.List.{AllByRecursion, list_all}
 use Rattle.std.specs.Option.{option_map, option_and_then}
 use Rattle.std.specs.Str.{bytes_eq}
+use Rattle.model.specs.Texts.Classes.{said_before, each}
 use Rattle.model.specs.Texts.Tables.{named}
 
 pub both_true : (a b : Bool) → (a && b) ≡ true → (a ≡ true) × (b ≡ true)
@@ -59,3 +60,17 @@ in_table p [] word h = tt
 in_table p (row ∷ rows) word h =
     let parts = both_true (p row.1) (list_all (λ row. p row.1) rows) h in
     of_test (λ a. p a ≡ true) (bytes_eq word row.0) (Some row.1) (named rows word) (λ t. parts.0) (λ f. in_table p rows word parts.1)
+
+-- what each of a list says
+pub of_all : {A B : Type 0} (P : B → Type 0) (said : A → Option B) (xs : List A) → ((x : A) → IfSome (said x) P) → IfSome (each said xs) (AllByRecursion P)
+of_all {A} {B} P said [] h = tt
+of_all {A} {B} P said (x ∷ xs) h = by (said x) (each said xs) (h x) (of_all P said xs h)
+  where
+    by : (o : Option B) (rest : Option (List B)) → IfSome o P → IfSome rest (AllByRecursion P) → IfSome (said_before o rest) (AllByRecursion P)
+    by None rest h k = tt
+    by (Some y) None h k = tt
+    by (Some y) (Some ys) h k = (h, k)
+
+pub all_true : {A : Type 0} (p : A → Bool) (xs : List A) → AllByRecursion (λ x. p x ≡ true) xs → list_all p xs ≡ true
+all_true p [] h = refl
+all_true p (x ∷ xs) h = and_true (p x) (list_all p xs) h.0 (all_true p xs h.1)
