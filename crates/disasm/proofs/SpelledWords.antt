@@ -1,7 +1,8 @@
 -- The statements of a listing that some text has are said by plain words.
-use Rattle.std.proofs.Common.{◌≡◌, ℕ, ℤ, Bool, true, false, ◌&&◌, List, [], ◌∷◌, ◌++◌, length, map, Option, Some, None, refl}
+use Rattle.std.proofs.Common.{◌≡◌, ℕ, ℤ, Bool, true, false, not, ◌&&◌, List, [], ◌∷◌, ◌++◌, length, map, Option, Some, None, refl}
 use Rattle.std.specs.Prelude.{nat_le, codes, if◌then◌else◌}
 use Rattle.std.specs.List.{AllByRecursion, flat_map, list_all}
+use Rattle.std.specs.Str.{bytes_eq}
 use Rattle.std.proofs.lemmas.Bool.{and_parts}
 use Rattle.model.specs.declared.instructions.Access.{Access}
 use Rattle.model.specs.declared.instructions.Access.TheVariants as field_access
@@ -339,7 +340,7 @@ instructions_said among pcs end (p ∷ ps) h =
 
 catch_plain : (c : Option (List ℕ)) → spelled.catch_is_spelled c ≡ true → IsPlain (text.catch_name c)
 catch_plain None h = refl
-catch_plain (Some name) h = class_name_plain name h
+catch_plain (Some name) h = class_name_plain name (and_parts (is_class_name name) (not (bytes_eq name (codes "all"))) h).0
 
 row_said : (among : List Placed) (r : ExceptionRow) → spelled.row_is_spelled among r ≡ true → IsSaid (said.row_words r)
 row_said among r h =
