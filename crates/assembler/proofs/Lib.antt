@@ -1,2 +1,6 @@
 pub mod NarrowLemmas
 pub mod SizeLemmas
+pub mod NumberingBuilding
+pub mod NumberingEntries
+pub mod NumberingItems
+pub mod NumberingNames

@@ -3,6 +3,7 @@
 
 mod copies;
 mod listings;
+mod numbers;
 mod sizes;
 mod widths;
 
@@ -10,3 +11,6 @@ pub use listings::{ListingError, listing};
 
 #[cfg(test)]
 mod tests;
+
+#[cfg(test)]
+mod numbers_tests;
