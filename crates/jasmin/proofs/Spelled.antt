@@ -8,6 +8,6 @@ pub mod Instructions
 pub mod Labels
 pub mod Methods
 pub mod Operands
+pub mod Partial
 pub mod Switches
-pub mod Tests
 pub mod Widths

@@ -21,7 +21,7 @@ use Rattle.model.specs.Texts.Uses.{labels_agree}
 use Rattle.jasmin.proofs.Spelled.Instructions.{Fits, words_fit}
 use Rattle.jasmin.proofs.Spelled.Operands.{natural_fits}
 use Rattle.jasmin.proofs.Spelled.Switches.{SwitchFits, LineFits as SwitchLineFits, table_fits, lookup_fits, line_fits as switch_line_fits}
-use Rattle.jasmin.proofs.Spelled.Tests.{of_map, of_then, of_any, of_if, of_test, and_true}
+use Rattle.jasmin.proofs.Spelled.Partial.{of_map, of_then, of_any, of_if, of_test, and_true}
 
 abbrev pub LineFits : TextLine → Type 0
 LineFits (Label l) = Unit {0}

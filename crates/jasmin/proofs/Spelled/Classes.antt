@@ -26,7 +26,7 @@ use Rattle.jasmin.proofs.Spelled.Fields.{FieldFits, fields_fit}
 use Rattle.jasmin.proofs.Spelled.Flags.{lacks, flags_lack, none_has, part_of_none, same_from, small_from, small_is}
 use Rattle.jasmin.proofs.Spelled.Methods.{MethodFits, methods_fit, methods_spelled}
 use Rattle.jasmin.proofs.Spelled.Operands.{class_fits}
-use Rattle.jasmin.proofs.Spelled.Tests.{both_true, and_true, or_left, or_right, given, of_any, of_if, of_test, of_all, all_true}
+use Rattle.jasmin.proofs.Spelled.Partial.{both_true, and_true, or_left, or_right, given, of_any, of_if, of_test, of_all, all_true}
 use Rattle.jasmin.proofs.Spelled.Widths.{few_numbers}
 
 -- ---- a tree

@@ -18,7 +18,7 @@ use Rattle.model.specs.Texts.Uses.{labels_in, count_in, targets_of, is_given, le
 use Rattle.model.specs.Texts.Widths.{widened_line}
 use Rattle.jasmin.proofs.Spelled.Bodies.{LineFits, RowFits, PartsFit, BodyFits}
 use Rattle.jasmin.proofs.Spelled.Labels.{placed_stand, at_pc, at_bound}
-use Rattle.jasmin.proofs.Spelled.Tests.{both_true, and_true}
+use Rattle.jasmin.proofs.Spelled.Partial.{both_true, and_true}
 use Rattle.jasmin.proofs.Spelled.Widths.{lines_kept, agree_kept}
 
 -- labels that lead on become pcs, and those that are given become bounds

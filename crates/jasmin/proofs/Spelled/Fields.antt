@@ -20,7 +20,7 @@ use Rattle.model.specs.Texts.Statements.{Statement}
 use Rattle.model.specs.Texts.Tables.{named}
 use Rattle.jasmin.proofs.Spelled.Flags.{lacks, with_flag_lacks}
 use Rattle.jasmin.proofs.Spelled.Operands.{only_number_fits}
-use Rattle.jasmin.proofs.Spelled.Tests.{both_true, and_true, of_map, of_then, of_any, of_test, of_all, in_table}
+use Rattle.jasmin.proofs.Spelled.Partial.{both_true, and_true, of_map, of_then, of_any, of_test, of_all, in_table}
 
 -- ---- words
 

@@ -8,7 +8,7 @@ use Rattle.model.specs.ClassFiles.Methods.{wants_code}
 use Rattle.model.specs.Texts.Flags.{has, with_flag, flagged, flags_and_word}
 use Rattle.model.specs.Texts.Spelled.{is_u2}
 use Rattle.model.specs.Texts.Tables.{named}
-use Rattle.jasmin.proofs.Spelled.Tests.{both_true, and_true, of_test, in_table}
+use Rattle.jasmin.proofs.Spelled.Partial.{both_true, and_true, of_test, in_table}
 
 -- flags of two bytes without the bits of a mask
 abbrev pub lacks : ℕ → ℕ → Bool

@@ -27,7 +27,7 @@ use Rattle.model.specs.Texts.Spelled.{is_in, is_u2, is_short, operands_are_spell
 use Rattle.model.specs.Texts.Tables.{named}
 use Rattle.jasmin_words.proofs.Places.{bool_tells}
 use Rattle.jasmin.proofs.Spelled.Operands.{number_fits, natural_fits, only_number_fits, only_natural_fits, class_fits, type_fits, field_fits, method_fits}
-use Rattle.jasmin.proofs.Spelled.Tests.{and_true, regrouped, in_table, of_each, of_map, of_then, of_any, of_test}
+use Rattle.jasmin.proofs.Spelled.Partial.{and_true, regrouped, in_table, of_each, of_map, of_then, of_any, of_test}
 
 -- ---- locals
 

@@ -17,7 +17,7 @@ use Rattle.model.specs.Texts.Spelled.{is_pc, stand_from}
 use Rattle.model.specs.Texts.Tables.{named}
 use Rattle.model.specs.Texts.Uses.{labels_from, count_from, is_before}
 use Rattle.jasmin_words.proofs.Places.{bool_tells}
-use Rattle.jasmin.proofs.Spelled.Tests.{and_true, or_left, or_right}
+use Rattle.jasmin.proofs.Spelled.Partial.{and_true, or_left, or_right}
 
 -- two tests that follow from one another
 alike : (a b : Bool) → (a ≡ true → b ≡ true) → (b ≡ true → a ≡ true) → a ≡ b

@@ -22,7 +22,7 @@ use Rattle.model.specs.Texts.Statements.{Statement}
 use Rattle.jasmin.proofs.Spelled.Bodies.{BodyFits, body_fits}
 use Rattle.jasmin.proofs.Spelled.Codes.{body_is_code}
 use Rattle.jasmin.proofs.Spelled.Flags.{lacks, flags_lack, wants}
-use Rattle.jasmin.proofs.Spelled.Tests.{both_true, and_true, of_map, of_any, of_if, of_test, of_all}
+use Rattle.jasmin.proofs.Spelled.Partial.{both_true, and_true, of_map, of_any, of_if, of_test, of_all}
 
 -- ---- heads
 

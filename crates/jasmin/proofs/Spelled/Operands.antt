@@ -7,7 +7,7 @@ use Rattle.model.specs.Texts.Names.{is_class_name, is_field_name, is_method_name
 use Rattle.model.specs.Texts.Numbers.{number_in, number_of, natural_to, natural_of}
 use Rattle.model.specs.Texts.Operands.{only, only_number, only_natural, class_named, type_named, field_named, field_spelled, method_named, member_spelled, class_in, name_in, before_parenthesis, from_parenthesis}
 use Rattle.model.specs.Texts.Spelled.{is_in, field_is_named, method_is_named}
-use Rattle.jasmin.proofs.Spelled.Tests.{of_any, of_if, regrouped}
+use Rattle.jasmin.proofs.Spelled.Partial.{of_any, of_if, regrouped}
 
 pub number_fits : (low high : ℤ) (word : List ℕ) → IfSome (number_in low high word) (λ z. is_in low high z ≡ true)
 number_fits low high word =

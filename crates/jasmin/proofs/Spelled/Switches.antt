@@ -11,7 +11,7 @@ use Rattle.model.specs.Texts.Spelled.{is_int}
 use Rattle.model.specs.Texts.Switches.{Switch, table, lookup, SwitchLine, goes_on, ends, is_int as key_of, table_begins, lookup_begins, with_default, with_target, with_pair, line_before, switch_line}
 use Rattle.jasmin.proofs.Spelled.Instructions.{Fits}
 use Rattle.jasmin.proofs.Spelled.Operands.{number_fits, only_number_fits}
-use Rattle.jasmin.proofs.Spelled.Tests.{and_true, of_map, of_any, of_test}
+use Rattle.jasmin.proofs.Spelled.Partial.{and_true, of_map, of_any, of_test}
 
 -- a switch of which lines may follow
 abbrev pub SwitchFits : Switch → Type 0

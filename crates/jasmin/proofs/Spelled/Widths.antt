@@ -26,7 +26,7 @@ use Rattle.model.specs.Texts.Widths.{is_among, different, widened_constant, wide
 use Rattle.jasmin_words.proofs.Places.{bool_tells}
 use Rattle.jasmin.proofs.Spelled.Bodies.{LineFits}
 use Rattle.jasmin.proofs.Spelled.Instructions.{Fits}
-use Rattle.jasmin.proofs.Spelled.Tests.{both_true, and_true}
+use Rattle.jasmin.proofs.Spelled.Partial.{both_true, and_true}
 
 -- ---- what is kept
 
