@@ -67,7 +67,7 @@ use Rattle.model.specs.Switches.{Table, Lookup}
 use Rattle.model.specs.Texts.Descriptors.{arguments_of, is_field_descriptor}
 use Rattle.model.specs.Texts.Disassembling as text
 use Rattle.model.specs.Texts.Disassembling.{Listed, label, targets}
-use Rattle.model.specs.Texts.Flags.{has, class_flags, method_flags}
+use Rattle.model.specs.Texts.Flags.{has, class_flags, interface_flags, field_flags, method_flags}
 use Rattle.model.specs.Texts.Names.{is_class_name, is_field_name, is_method_name}
 use Rattle.model.specs.Texts.Spelled as spelled
 use Rattle.model.specs.Texts.Widths.{different}
@@ -373,7 +373,7 @@ flags_plain flags table h = all_parts_if IsPlain (said.flag_words flags) (λ row
 
 class_said : (interface : Bool) (flags : ℕ) (name : List ℕ) → IsPlain name → IsSaid (said.class_words interface flags name)
 class_said false flags name plain = (refl, all_append IsPlain (said.flags_words class_flags flags) (name ∷ []) (flags_plain flags class_flags refl) (plain, tt))
-class_said true flags name plain = (refl, all_append IsPlain (said.flags_words text.interface_flags flags) (name ∷ []) (flags_plain flags text.interface_flags refl) (plain, tt))
+class_said true flags name plain = (refl, all_append IsPlain (said.flags_words interface_flags flags) (name ∷ []) (flags_plain flags interface_flags refl) (plain, tt))
 
 value_plain : (v : Option FieldValue) → ArePlain (said.value_words v)
 value_plain None = tt
@@ -386,7 +386,7 @@ field_said class f h =
     let q = and_parts (flags && is_field_name f.name) (is_field_descriptor f.descriptor) p.0 in
     let r = and_parts flags (is_field_name f.name) q.0 in (
       refl,
-      all_append IsPlain (said.flags_words text.field_flags f.flags.0) (f.name ∷ f.descriptor ∷ said.value_words f.constant) (flags_plain f.flags.0 text.field_flags refl)
+      all_append IsPlain (said.flags_words field_flags f.flags.0) (f.name ∷ f.descriptor ∷ said.value_words f.constant) (flags_plain f.flags.0 field_flags refl)
           (field_name_plain f.name r.1, (field_descriptor_plain f.descriptor q.1, value_plain f.constant)),
     )
 

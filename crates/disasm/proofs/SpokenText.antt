@@ -28,7 +28,7 @@ use Rattle.model.specs.CodeListings.{CodeListing}
 use Rattle.model.specs.Switches.{Table, Lookup}
 use Rattle.model.specs.Texts.Disassembling as text
 use Rattle.model.specs.Texts.Disassembling.{Listed, newline, label}
-use Rattle.model.specs.Texts.Flags.{has, class_flags, method_flags}
+use Rattle.model.specs.Texts.Flags.{has, class_flags, interface_flags, field_flags, method_flags}
 use Rattle.disasm.specs.Statements as said
 use Rattle.disasm.proofs.PlainWords.{line, behind}
 
@@ -208,7 +208,7 @@ flags_line flags (row ∷ rows) w ws =
 
 class_line_is : (interface : Bool) (flags : ℕ) (name : List ℕ) → text.class_line interface flags name ≡ line (said.class_words interface flags name)
 class_line_is false flags name = ap (λ (bs : List ℕ). codes ".class" ++ bs) (sym (flags_line flags class_flags name []))
-class_line_is true flags name = ap (λ (bs : List ℕ). codes ".interface" ++ bs) (sym (flags_line flags text.interface_flags name []))
+class_line_is true flags name = ap (λ (bs : List ℕ). codes ".interface" ++ bs) (sym (flags_line flags interface_flags name []))
 
 interface_line_is : (name : List ℕ) → text.interface_line name ≡ line (said.interface_words name)
 unfolding text.interface_line
@@ -220,8 +220,8 @@ value_line (Some v) = refl
 
 field_line_is : (f : FieldOf) → text.field_line f ≡ line (said.field_words f)
 field_line_is f =
-    ap (λ (bs : List ℕ). codes ".field " ++ (text.flags_text text.field_flags f.flags.0 ++ (f.name ++ (codes " " ++ (f.descriptor ++ bs))))) (value_line f.constant)
-    ∙ ap (λ (bs : List ℕ). codes ".field" ++ bs) (sym (flags_line f.flags.0 text.field_flags f.name (f.descriptor ∷ said.value_words f.constant)))
+    ap (λ (bs : List ℕ). codes ".field " ++ (text.flags_text field_flags f.flags.0 ++ (f.name ++ (codes " " ++ (f.descriptor ++ bs))))) (value_line f.constant)
+    ∙ ap (λ (bs : List ℕ). codes ".field" ++ bs) (sym (flags_line f.flags.0 field_flags f.name (f.descriptor ∷ said.value_words f.constant)))
 
 method_line_is : (m : Method) → text.method_line m ≡ line (said.method_words m)
 unfolding text.method_line text.method_flag_words

@@ -25,8 +25,8 @@ use Rattle.model.specs.declared.names.Member.{Member}
 use Rattle.model.specs.ClassListings.{ClassListing}
 use Rattle.model.specs.CodeListings.{CodeListing}
 use Rattle.model.specs.Switches.{Table, Lookup}
-use Rattle.model.specs.Texts.Disassembling.{Listed, small_int_name, small_long_name, first_name, kind_letter, element_letter, stack_name, number_name, test_name, access_name, class_name, monitor_name, invocation_name, primitive_name, label, return_text, method_word, named_pcs, is_named, catch_name, interface_flags, field_flags, number_of_value}
-use Rattle.model.specs.Texts.Flags.{has, class_flags, method_flags}
+use Rattle.model.specs.Texts.Disassembling.{Listed, small_int_name, small_long_name, first_name, kind_letter, element_letter, stack_name, number_name, test_name, access_name, class_name, monitor_name, invocation_name, primitive_name, label, return_text, method_word, named_pcs, is_named, catch_name, number_of_value}
+use Rattle.model.specs.Texts.Flags.{has, class_flags, interface_flags, field_flags, method_flags}
 use Rattle.model.specs.Texts.Statements.{Statement}
 
 -- ---- instructions
