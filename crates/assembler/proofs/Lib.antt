@@ -4,3 +4,5 @@ pub mod NumberingBuilding
 pub mod NumberingEntries
 pub mod NumberingItems
 pub mod NumberingNames
+pub mod NumberingCounts
+pub mod NumberingListed

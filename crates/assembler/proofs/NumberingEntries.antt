@@ -1,7 +1,7 @@
 -- What stands under the numbers of items.
-use Rattle.std.proofs.Common.{◌≡◌, ℕ, zero, suc, ◌+◌, true, false, ◌⊎◌, List, [], ◌∷◌, ◌++◌, map, slice_get, Option, Some, None, refl, sym, ◌∙◌, ap, inl, inr, arith}
+use Rattle.std.proofs.Common.{◌≡◌, ℕ, eqb, zero, suc, ◌+◌, true, false, ◌⊎◌, List, [], ◌∷◌, ◌++◌, map, slice_get, Option, Some, None, refl, sym, ◌∙◌, ap, inl, inr, arith}
 use Rattle.std.specs.Prelude.{sum_by}
-use Rattle.std.proofs.lemmas.Bool.{cases_Bool, or_right, false_from_ne_true, true≢false}
+use Rattle.std.proofs.lemmas.Bool.{cases_Bool, or_right, false_from_ne_true, true≢false, ne_eqb}
 use Rattle.std.proofs.lemmas.List.Sums.{sum_by-cons}
 use Rattle.model.specs.ClassFiles.Entries.{numbers_of}
 use Rattle.model.specs.ClassFiles.Pools.{under, slots_of, held, entry_at, pool_count}
@@ -119,6 +119,10 @@ pub entry_under : (items : List Item) (x : Item) → is_item_of items x ≡ true
 entry_under items x h =
     let s = stands items 1 items x h in
     ap (λ (k : ℕ). held (slice_get (None ∷ slots_of (entries_of items)) k)) s.1 ∙ ap held (next_get (slots_of (entries_of items)) s.0 ∙ s.2)
+
+-- no item has the number 0
+pub number_of_positive : (items : List Item) (x : Item) → is_item_of items x ≡ true → eqb (number_of items x) 0 ≡ false
+number_of_positive items x h = let s = stands items 1 items x h in ne_eqb (number_of items x) 0 (λ e. absurd (omega (arith, e, s.1)))
 
 -- ---- and no other number has it
 
