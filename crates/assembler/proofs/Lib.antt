@@ -6,3 +6,4 @@ pub mod NumberingItems
 pub mod NumberingNames
 pub mod NumberingCounts
 pub mod NumberingListed
+pub mod NumberingSound

@@ -22,7 +22,7 @@ class_named items name closed h =
     ∙ text_named items name (one_of items (text_item name ∷ []) (text_item name) (named_are items (class_item name) closed h) (among_first (text_item name) []))
 
 -- the names that a name-and-type has
-name_texts : (items : List Item) (name descriptor : List ℕ) → AreClosed items → is_item_of items (name_item name descriptor) ≡ true
+pub name_texts : (items : List Item) (name descriptor : List ℕ) → AreClosed items → is_item_of items (name_item name descriptor) ≡ true
     → (is_item_of items (text_item name) ≡ true) × (is_item_of items (text_item descriptor) ≡ true)
 name_texts items name descriptor closed h =
     let both = and_parts (is_item_of items (text_item name)) (are_items_of items (text_item descriptor ∷ [])) (named_are items (name_item name descriptor) closed h) in

@@ -1,9 +1,13 @@
 -- Numbers in place of what they name: the entries of a pool made of items, and the parts of a class with the numbers that
 -- the pool has for them (JVMS 4.4).
-use Rattle.std.specs.Prelude.{◌≡◌, ℕ, ◌+◌, ◌^◌, ◌<◌, ℤ, Bool, true, false, ◌&&◌, List, [], ◌∷◌, ◌++◌, map, codes, Option, Some, None, if◌then◌else◌}
+use Rattle.std.specs.Prelude.{◌≡◌, ℕ, ◌+◌, ◌^◌, ◌<◌, ℤ, Bool, true, false, ◌&&◌, List, [], ◌∷◌, ◌++◌, map, length, nat_le, codes, Option, Some, None, if◌then◌else◌}
+use Rattle.std.specs.List.{list_all}
 use Rattle.std.specs.Option.{option_map}
 use Rattle.model.specs.Bytecode.Opcodes.{Instr}
 use Rattle.model.specs.ClassFiles.Codes.{CodeRow}
+use Rattle.model.specs.ClassFiles.Entries.{is_text_byte}
+use Rattle.model.specs.ClassFiles.References.{names_class, is_field, is_method, is_member}
+use Rattle.model.specs.Texts.Spelled.{is_int, is_long}
 use Rattle.model.specs.ClassFiles.Items.{Item, is_same_item, is_item_of, numbers_taken, items_count, class_items, name_items, value_item}
 use Rattle.model.specs.ClassFiles.Items.Item.{text_item, int_item, long_item, class_item, name_item, field_item, method_item, interface_item}
 use Rattle.model.specs.ClassFiles.Listing.{name_at, referred}
@@ -102,6 +106,17 @@ AreClosed items = AreClosedBehind [] items
 pub record IsPool (items : List Item) : Type 0 where
   pub closed : AreClosed items
   pub fits : items_count items < 2 ^ 16
+
+-- whether an item can be written, and what a class file may say: texts are of the ASCII characters but NUL
+abbrev pub is_well_formed : Item → Bool
+is_well_formed (text_item text) = nat_le (length text) 65535 && list_all is_text_byte text
+is_well_formed (int_item z) = is_int z
+is_well_formed (long_item z) = is_long z
+is_well_formed (class_item name) = names_class name
+is_well_formed (name_item name descriptor) = is_member name descriptor
+is_well_formed (field_item m) = is_field m.name m.descriptor
+is_well_formed (method_item m) = is_method m.name m.descriptor
+is_well_formed (interface_item m) = is_method m.name m.descriptor
 
 -- what an entry says in the pool of the items
 unfoldable pub said : List Item → Entry → Item
