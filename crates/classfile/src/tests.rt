@@ -11,22 +11,32 @@ use pool::ReadError;
 use std::alloc::Global;
 use std::test::*;
 
-/// A class E over java/lang/Object with the method `public static main()V`, whose code is one return.
-const E: [u8; 100] = [
-    0xca, 0xfe, 0xba, 0xbe, 0, 0, 0, 49, 0, 8, 1, 0, 1, b'E', 7, 0, 1, 1, 0, 16, b'j', b'a', b'v',
-    b'a', b'/', b'l', b'a', b'n', b'g', b'/', b'O', b'b', b'j', b'e', b'c', b't', 7, 0, 3, 1, 0, 4,
-    b'm', b'a', b'i', b'n', 1, 0, 3, b'(', b')', b'V', 1, 0, 4, b'C', b'o', b'd', b'e', 0, 0x21, 0,
-    2, 0, 4, 0, 0, 0, 0, 0, 1, 0, 9, 0, 5, 0, 6, 0, 1, 0, 7, 0, 0, 0, 13, 0, 0, 0, 0, 0, 0, 0, 1,
-    0xb1, 0, 0, 0, 0, 0, 0,
-];
+/// A class E over java/lang/Object with the method `public static main()V`, whose code is one return: 100 bytes.
+const E: &str =
+    "cafebabe 0000 0031 0008 01000145 070001 0100106a6176612f6c616e672f4f626a656374 070003
+    0100046d61696e 010003282956 010004436f6465 0021 0002 0004 0000 0000 0001
+    0009 0005 0006 0001 0007 0000000d 0000 0000 00000001 b1 0000 0000 0000";
+
+/// What stands in E before the count of its pool, its entries, and what stands behind them and before its methods.
+const OPENING: &str = "cafebabe 0000 0031";
+
+const E_ENTRIES: &str =
+    "01000145 070001 0100106a6176612f6c616e672f4f626a656374 070003 0100046d61696e 010003282956 010004436f6465";
+
+const E_CLASS: &str = "0021 0002 0004 0000 0000";
+
+/// E's bytes.
+fn e(alloc: Global) -> Result<Vec<u8>, Fail> {
+    hex(alloc, E)
+}
 
 /// E with another byte at a place.
-fn e_with(place: usize, byte: u8) -> [u8; 100] {
-    let mut bytes = E;
+fn e_with(alloc: Global, place: usize, byte: u8) -> Result<Vec<u8>, Fail> {
+    let mut bytes = e(alloc)?;
     if let Some(old) = bytes.get_mut(place) {
         *old = byte;
     }
-    bytes
+    Ok(bytes)
 }
 
 /// What users are told of these bytes.
@@ -73,11 +83,11 @@ fn info(alloc: Global, code: &[u8], tail: &str) -> Result<Vec<u8>, Fail> {
 
 /// E with more entries behind its seven, so that the pool's count is this, and with other methods behind their count.
 fn other_e(alloc: Global, count: u8, entries: &str, methods: &[u8]) -> Result<Vec<u8>, Fail> {
-    let mut bytes = Vec::from_slice(alloc, &E[..9])?;
-    bytes.push(count)?;
-    bytes.extend_from_slice(&E[10..59])?;
+    let mut bytes = hex(alloc, OPENING)?;
+    bytes.extend_from_slice(&[0, count])?;
+    bytes.extend_from_slice(&hex(alloc, E_ENTRIES)?)?;
     bytes.extend_from_slice(&hex(alloc, entries)?)?;
-    bytes.extend_from_slice(&E[59..69])?;
+    bytes.extend_from_slice(&hex(alloc, E_CLASS)?)?;
     bytes.extend_from_slice(methods)?;
     bytes.extend_from_slice(&[0, 0])?;
     Ok(bytes)
@@ -121,79 +131,85 @@ fn fault(rt: &impl Alloc<A = Global>, bytes: &[u8]) -> Option<FormatFault> {
 
 #[test]
 fn the_head_of_e(rt: HostRuntime) -> Result<(), Fail> {
-    let (head, rest) = ClassHead::read(rt.alloc(), &E)?;
-    assert_eq!(rt; E.get(69..), Some(rest));
+    let bytes = e(rt.alloc())?;
+    let (head, rest) = ClassHead::read(rt.alloc(), &bytes)?;
+    assert_eq!(rt; bytes.get(69..), Some(rest));
     let mut written = Vec::new(rt.alloc());
     head.write(&mut written)?;
-    assert_eq!(rt; E.get(..69), Some(written.as_slice()));
+    assert_eq!(rt; bytes.get(..69), Some(written.as_slice()));
     one_head();
     Ok(())
 }
 
 #[test]
-fn heads_that_are_cut(rt: HostRuntime) {
+fn heads_that_are_cut(rt: HostRuntime) -> Result<(), Fail> {
+    let bytes = e(rt.alloc())?;
     for len in 0..69usize {
-        let Some(front) = E.get(..len) else {
-            return;
-        };
+        let front = bytes.get(..len).ok_or("no front")?;
         assert_eq!(rt; fault(&rt, front), Some(FormatFault::Short));
     }
-}
-
-/// The fault of E's head with another byte at a place.
-fn changed(rt: &impl Alloc<A = Global>, place: usize, byte: u8) -> Option<FormatFault> {
-    fault(rt, &e_with(place, byte))
+    Ok(())
 }
 
 #[test]
-fn changed_bytes(rt: HostRuntime) {
-    assert_eq!(rt; changed(&rt, 0, 0), Some(FormatFault::Magic));
-    assert_eq!(rt; changed(&rt, 5, 1), Some(FormatFault::Version));
-    assert_eq!(rt; changed(&rt, 7, 0), Some(FormatFault::Version));
-    assert_eq!(rt; changed(&rt, 9, 0), Some(FormatFault::Index));
-    assert_eq!(rt; changed(&rt, 9, 0xff), Some(FormatFault::Tag));
-    // final and abstract, an interface that isn't abstract, and a bit that no class has
-    assert_eq!(rt; changed(&rt, 59, 0x04), None);
-    assert_eq!(rt; changed(&rt, 59, 0x02), Some(FormatFault::Flags));
-    assert_eq!(rt; changed(&rt, 60, 0x02), Some(FormatFault::Flags));
-    // no superclass, and one that is a text
-    assert_eq!(rt; changed(&rt, 64, 0), Some(FormatFault::Index));
-    assert_eq!(rt; changed(&rt, 64, 3), Some(FormatFault::Index));
+fn changed_bytes(rt: HostRuntime) -> Result<(), Fail> {
+    for (place, byte, answer) in [
+        (0usize, 0u8, Some(FormatFault::Magic)),
+        (5, 1, Some(FormatFault::Version)),
+        (7, 0, Some(FormatFault::Version)),
+        (9, 0, Some(FormatFault::Index)),
+        (9, 0xff, Some(FormatFault::Tag)),
+        // final and abstract, an interface that isn't abstract, and a bit that no class has
+        (59, 0x04, None),
+        (59, 0x02, Some(FormatFault::Flags)),
+        (60, 0x02, Some(FormatFault::Flags)),
+        // no superclass, and one that is a text
+        (64, 0, Some(FormatFault::Index)),
+        (64, 3, Some(FormatFault::Index)),
+    ] {
+        assert_eq!(rt; fault(&rt, &e_with(rt.alloc(), place, byte)?), answer);
+    }
+    Ok(())
 }
 
-/// A class A over Object with one field `x I`, static or not, which is deprecated and has a value.
-fn one_field(flags: u8, length: u8, value: u8) -> [u8; 112] {
-    [
-        0xca, 0xfe, 0xba, 0xbe, 0, 0, 0, 49, 0, 10, 1, 0, 1, b'A', 7, 0, 1, 1, 0, 1, b'O', 7, 0, 3,
-        1, 0, 1, b'x', 1, 0, 1, b'I', 1, 0, 13, b'C', b'o', b'n', b's', b't', b'a', b'n', b't',
-        b'V', b'a', b'l', b'u', b'e', 3, 0, 0, 0, 7, 1, 0, 10, b'D', b'e', b'p', b'r', b'e', b'c',
-        b'a', b't', b'e', b'd', 0, 0x21, 0, 2, 0, 4, 0, 0, 0, 1, 0, flags, 0, 5, 0, 6, 0, 2, 0, 9,
-        0, 0, 0, 0, 0, 7, 0, 0, 0, length, 0, value, 0, 0, 0, 0, 0, 0, 0, 0, 0, 0, 0, 0, 0, 0,
-    ]
+/// What stands in a class A over O before the flags of its one field `x I`.
+const A_FRONT: &str = "cafebabe 0000 0031 000a 01000141 070001 0100014f 070003 01000178 01000149
+    01000d436f6e7374616e7456616c7565 0300000007 01000a44657072656361746564 0021 0002 0004 0000 0001";
+
+/// The class A whose field is static or not, deprecated, and has a value.
+fn one_field(alloc: Global, flags: &str, length: &str, value: &str) -> Result<Vec<u8>, Fail> {
+    let mut bytes = hex(alloc, A_FRONT)?;
+    let field = format!(in alloc;
+        "{flags} 0005 0006 0002 0009 00000000 0007 {length} {value} 0000 0000 00000000 00000000 0000"
+    )?;
+    bytes.extend_from_slice(&hex(alloc, field.as_str())?)?;
+    Ok(bytes)
 }
 
 #[test]
-fn fields(rt: HostRuntime) -> Result<(), Fail> {
-    let bytes = one_field(8, 2, 8);
+fn a_field_is_written(rt: HostRuntime) -> Result<(), Fail> {
+    let bytes = one_field(rt.alloc(), "0008", "00000002", "0008")?;
     let (head, rest) = ClassHead::read(rt.alloc(), &bytes)?;
     assert_eq!(rt; rest.len(), 14);
     let mut written = Vec::new(rt.alloc());
     head.write(&mut written)?;
     // the attribute Deprecated is left out, and the count of attributes is one less
-    assert_eq!(rt; written.len(), 92);
-    assert_eq!(rt; written.get(83).copied(), Some(1));
-    let (_, nothing) = ClassHead::read(rt.alloc(), &written)?;
-    assert!(rt; nothing.is_empty());
-    // another length, a value that is a class, a field that isn't static, and a bit that no field has
-    assert_eq!(rt;
-        fault(&rt, &one_field(8, 3, 8)),
-        Some(FormatFault::Attribute)
-    );
-    assert_eq!(rt; fault(&rt, &one_field(8, 2, 2)), Some(FormatFault::Index));
-    assert_eq!(rt; fault(&rt, &one_field(0, 2, 2)), None);
-    assert_eq!(rt;
-        fault(&rt, &one_field(0x28, 2, 8)),
-        Some(FormatFault::Flags)
-    );
+    assert_eq!(rt; (written.len(), written.get(83).copied()), (92, Some(1)));
+    Ok(())
+}
+
+#[test]
+fn fields(rt: HostRuntime) -> Result<(), Fail> {
+    for (flags, length, value, answer) in [
+        ("0008", "00000002", "0008", None),
+        // another length, a value that is a class, a field that isn't static, and a bit that no field has
+        ("0008", "00000003", "0008", Some(FormatFault::Attribute)),
+        ("0008", "00000002", "0002", Some(FormatFault::Index)),
+        ("0000", "00000002", "0002", None),
+        ("0028", "00000002", "0008", Some(FormatFault::Flags)),
+    ] {
+        let bytes = one_field(rt.alloc(), flags, length, value)?;
+        assert_eq!(rt; fault(&rt, &bytes), answer);
+    }
     Ok(())
 }

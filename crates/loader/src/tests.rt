@@ -3,7 +3,7 @@
 use super::*;
 use bitflags::Flags;
 use model::flags::{ClassFlags, FieldFlags, MethodFlags};
-use model::instructions::{Constant, Instruction, Invocation, SmallInt};
+use model::instructions::{Instruction, Invocation};
 use model::listings::{Code, Field, Listed, Listing, Method, Placed};
 use model::names::{Member, Name};
 use std::alloc::{AllocError, Global};
@@ -24,11 +24,6 @@ fn class(alloc: Global, class: &str, superclass: &str, flags: u16) -> Result<Lis
         fields: Vec::new(alloc),
         methods: Vec::new(alloc),
     })
-}
-
-/// A class over Object.
-fn plain(alloc: Global, name: &str) -> Result<Listing, AllocError> {
-    class(alloc, name, "java/lang/Object", 1)
 }
 
 fn field(alloc: Global, text: &str, flags: u16) -> Result<Field, AllocError> {
@@ -93,11 +88,75 @@ fn main(alloc: Global) -> Result<Method, AllocError> {
     empty(alloc, "main", "()V", PUBLIC_STATIC, (0, 0))
 }
 
+/// A class in a few words: a main is one that does nothing, fields are f0, f1 and so on.
+#[derive(Clone, Copy)]
+struct Plan<'a> {
+    name: &'a str,
+    superclass: &'a str,
+    flags: u16,
+    interface: Option<&'a str>,
+    has_main: bool,
+    fields: u16,
+}
+
+/// A public class with nothing in it.
+fn below<'a>(name: &'a str, superclass: &'a str) -> Plan<'a> {
+    Plan {
+        name,
+        superclass,
+        flags: 1,
+        interface: None,
+        has_main: false,
+        fields: 0,
+    }
+}
+
+/// A class over Object.
+fn plain(name: &str) -> Plan<'_> {
+    below(name, "java/lang/Object")
+}
+
 /// A class over Object with a main, which is a program by itself.
-fn program(alloc: Global, name: &str) -> Result<Listing, AllocError> {
-    let mut class = plain(alloc, name)?;
-    class.methods.push(main(alloc)?)?;
+fn program(name: &str) -> Plan<'_> {
+    Plan {
+        has_main: true,
+        ..plain(name)
+    }
+}
+
+/// An interface over Object with a superinterface.
+fn interface<'a>(name: &'a str, above: Option<&'a str>) -> Plan<'a> {
+    Plan {
+        flags: 0x0600,
+        interface: above,
+        ..plain(name)
+    }
+}
+
+/// The class that a plan is of.
+fn listed(alloc: Global, plan: Plan<'_>) -> Result<Listing, Fail> {
+    let mut class = class(alloc, plan.name, plan.superclass, plan.flags)?;
+    if let Some(interface) = plan.interface {
+        class.interfaces.push(name(alloc, interface)?)?;
+    }
+    if plan.has_main {
+        class.methods.push(main(alloc)?)?;
+    }
+    for number in 0..plan.fields {
+        class
+            .fields
+            .push(field(alloc, format!(in alloc; "f{number}")?.as_str(), 1)?)?;
+    }
     Ok(class)
+}
+
+/// What users are told of the classes of these plans.
+fn told_of(alloc: Global, plans: &[Plan<'_>]) -> Result<String, Fail> {
+    let mut classes = Vec::new(alloc);
+    for plan in plans {
+        classes.push(listed(alloc, *plan)?)?;
+    }
+    Ok(told(alloc, &classes)?)
 }
 
 /// What users are told of these classes.
@@ -109,169 +168,84 @@ fn told(alloc: Global, program: &[Listing]) -> Result<String, AllocError> {
 }
 
 /// What users are told of a class with main and this method beside it.
-fn told_with(alloc: Global, method: Method) -> Result<String, AllocError> {
-    let mut class = program(alloc, "X")?;
+fn told_with(alloc: Global, method: Method) -> Result<String, Fail> {
+    let mut class = listed(alloc, program("X"))?;
     class.methods.push(method)?;
-    told(alloc, &[class])
+    Ok(told(alloc, &[class])?)
 }
 
 /// What users are told of a class with main and a method of this instruction beside it.
-fn told_at(alloc: Global, instruction: Listed) -> Result<String, AllocError> {
-    told_with(
-        alloc,
-        method(
-            alloc,
-            "f",
-            "()V",
-            PUBLIC_STATIC,
-            code(alloc, (1, 0), instruction)?,
-        )?,
-    )
-}
-
-/// An interface over Object with this superinterface.
-fn interface(alloc: Global, text: &str, above: &str) -> Result<Listing, AllocError> {
-    let mut interface = class(alloc, text, "java/lang/Object", 0x0600)?;
-    interface.interfaces.push(name(alloc, above)?)?;
-    Ok(interface)
-}
-
-/// A class over Object with main and this superinterface.
-fn implementing(alloc: Global, above: &str) -> Result<Listing, AllocError> {
-    let mut class = program(alloc, "X")?;
-    class.interfaces.push(name(alloc, above)?)?;
-    Ok(class)
-}
-
-/// A class with so many fields.
-fn with_fields(
-    alloc: Global,
-    name: &str,
-    superclass: &str,
-    count: u16,
-) -> Result<Listing, AllocError> {
-    let mut class = class(alloc, name, superclass, 1)?;
-    for number in 0..count {
-        class
-            .fields
-            .push(field(alloc, format!(in alloc; "f{number}")?.as_str(), 1)?)?;
-    }
-    Ok(class)
+fn told_at(alloc: Global, instruction: Listed) -> Result<String, Fail> {
+    let code = code(alloc, (1, 0), instruction)?;
+    let method = method(alloc, "f", "()V", PUBLIC_STATIC, code)?;
+    told_with(alloc, method)
 }
 
 /// A program of so many classes: main's class, C1, C2 and so on.
-fn classes(alloc: Global, count: u16) -> Result<Vec<Listing>, AllocError> {
+fn classes(alloc: Global, count: u16) -> Result<Vec<Listing>, Fail> {
     let mut classes = Vec::new(alloc);
-    classes.push(program(alloc, "C0")?)?;
+    classes.push(listed(alloc, program("C0"))?)?;
     for number in 1..count {
-        classes.push(plain(alloc, format!(in alloc; "C{number}")?.as_str())?)?;
+        let name = format!(in alloc; "C{number}")?;
+        classes.push(listed(alloc, plain(name.as_str()))?)?;
     }
     Ok(classes)
 }
 
 #[test]
-fn one_class(rt: HostRuntime) -> Result<(), Fail> {
+fn good_programs(rt: HostRuntime) -> Result<(), Fail> {
     let alloc = rt.alloc();
-    assert_eq!(rt; told(alloc, &[program(alloc, "E")?])?.as_str(), "accepted");
-    Ok(())
-}
-
-#[test]
-fn classes_below(rt: HostRuntime) -> Result<(), Fail> {
-    let alloc = rt.alloc();
-    let below = class(alloc, "F", "E", 1)?;
-    let thread = class(alloc, "T", "java/lang/Thread", 1)?;
+    let e = program("E");
+    let answer = "accepted";
+    assert_eq!(rt; told_of(alloc, &[e])?.as_str(), answer);
+    let thread = below("T", "java/lang/Thread");
     assert_eq!(rt;
-        told(alloc, &[program(alloc, "E")?, below, thread])?.as_str(),
-        "accepted"
+        told_of(alloc, &[e, below("F", "E"), thread])?.as_str(),
+        answer
     );
     Ok(())
 }
 
 #[test]
-fn name_of_a_builtin_class(rt: HostRuntime) -> Result<(), Fail> {
+fn names_of_classes(rt: HostRuntime) -> Result<(), Fail> {
     let alloc = rt.alloc();
+    let builtin = [program("java/lang/Thread")];
     assert_eq!(rt;
-        told(alloc, &[program(alloc, "java/lang/Thread")?])?.as_str(),
+        told_of(alloc, &builtin)?.as_str(),
         "L11 in class java/lang/Thread"
     );
+    let (x, y) = (plain("X"), plain("Y"));
+    let twice = [program("E"), x, y, y, x];
+    assert_eq!(rt; told_of(alloc, &twice)?.as_str(), "L1 in class X");
     Ok(())
 }
 
 #[test]
-fn class_twice(rt: HostRuntime) -> Result<(), Fail> {
+fn superclasses_and_interfaces(rt: HostRuntime) -> Result<(), Fail> {
     let alloc = rt.alloc();
-    let (x, y) = (plain(alloc, "X")?, plain(alloc, "Y")?);
-    assert_eq!(rt;
-        told(
-            alloc,
-            &[
-                program(alloc, "E")?,
-                x,
-                y,
-                plain(alloc, "Y")?,
-                plain(alloc, "X")?
-            ]
-        )?
-        .as_str(),
-        "L1 in class X"
-    );
-    Ok(())
-}
-
-#[test]
-fn missing_superclass(rt: HostRuntime) -> Result<(), Fail> {
-    let alloc = rt.alloc();
-    assert_eq!(rt;
-        told(alloc, &[class(alloc, "X", "Y", 1)?])?.as_str(),
-        "L2 in class X"
-    );
-    Ok(())
-}
-
-#[test]
-fn cycle_of_interfaces(rt: HostRuntime) -> Result<(), Fail> {
-    let alloc = rt.alloc();
-    let lower = implementing(alloc, "J")?;
-    assert_eq!(rt;
-        told(
-            alloc,
-            &[
-                lower,
-                interface(alloc, "J", "K")?,
-                interface(alloc, "K", "J")?
-            ]
-        )?
-        .as_str(),
-        "L3 in class J"
-    );
-    Ok(())
-}
-
-#[test]
-fn interface_extended(rt: HostRuntime) -> Result<(), Fail> {
-    let alloc = rt.alloc();
-    assert_eq!(rt;
-        told(
-            alloc,
-            &[
-                class(alloc, "X", "J", 1)?,
-                class(alloc, "J", "java/lang/Object", 0x0600)?
-            ]
-        )?
-        .as_str(),
-        "L4 in class X"
-    );
+    // no superclass
+    let missing = [below("X", "Y")];
+    assert_eq!(rt; told_of(alloc, &missing)?.as_str(), "L2 in class X");
+    // a class below two interfaces that extend each other
+    let x = Plan {
+        interface: Some("J"),
+        ..program("X")
+    };
+    let cycle = [x, interface("J", Some("K")), interface("K", Some("J"))];
+    assert_eq!(rt; told_of(alloc, &cycle)?.as_str(), "L3 in class J");
+    // a superclass that is an interface
+    let extended = [below("X", "J"), interface("J", None)];
+    assert_eq!(rt; told_of(alloc, &extended)?.as_str(), "L4 in class X");
     Ok(())
 }
 
 #[test]
 fn field_twice(rt: HostRuntime) -> Result<(), Fail> {
     let alloc = rt.alloc();
-    let mut class = program(alloc, "X")?;
-    class.fields.push(field(alloc, "x", 1)?)?;
-    class.fields.push(field(alloc, "y", 1)?)?;
-    class.fields.push(field(alloc, "x", 2)?)?;
+    let mut class = listed(alloc, program("X"))?;
+    for (name, flags) in [("x", 1u16), ("y", 1), ("x", 2)] {
+        class.fields.push(field(alloc, name, flags)?)?;
+    }
     assert_eq!(rt; told(alloc, &[class])?.as_str(), "L5 in class X");
     Ok(())
 }
@@ -279,15 +253,19 @@ fn field_twice(rt: HostRuntime) -> Result<(), Fail> {
 #[test]
 fn synchronized_run_of_a_thread(rt: HostRuntime) -> Result<(), Fail> {
     let alloc = rt.alloc();
-    let mut thread = class(alloc, "T", "X", 1)?;
-    thread
-        .methods
-        .push(empty(alloc, "run", "()V", 0x0021, (0, 1))?)?;
-    let between = class(alloc, "X", "java/lang/Thread", 1)?;
-    assert_eq!(rt;
-        told(alloc, &[program(alloc, "E")?, between, thread])?.as_str(),
-        "L10 in class T"
-    );
+    let mut classes = Vec::new(alloc);
+    for plan in [
+        program("E"),
+        below("X", "java/lang/Thread"),
+        below("T", "X"),
+    ] {
+        classes.push(listed(alloc, plan)?)?;
+    }
+    if let Some(thread) = classes.get_mut(2) {
+        let run = empty(alloc, "run", "()V", 0x0021, (0, 1))?;
+        thread.methods.push(run)?;
+    }
+    assert_eq!(rt; told(alloc, &classes)?.as_str(), "L10 in class T");
     Ok(())
 }
 
@@ -299,36 +277,31 @@ fn call_of_print(rt: HostRuntime) -> Result<(), Fail> {
         name: name(alloc, "print")?,
         descriptor: name(alloc, "(I)V")?,
     };
-    assert_eq!(rt;
-        told_at(alloc, Instruction::Invoke(Invocation::Static, member))?.as_str(),
-        "accepted"
-    );
+    let print = Instruction::Invoke(Invocation::Static, member);
+    assert_eq!(rt; told_at(alloc, print)?.as_str(), "accepted");
     Ok(())
 }
 
 #[test]
 fn frame_of_4097_units(rt: HostRuntime) -> Result<(), Fail> {
     let alloc = rt.alloc();
-    assert_eq!(rt;
-        told_with(alloc, empty(alloc, "f", "()V", PUBLIC_STATIC, (97, 4000))?)?.as_str(),
-        "L8 in class X"
-    );
+    let method = empty(alloc, "f", "()V", PUBLIC_STATIC, (97, 4000))?;
+    assert_eq!(rt; told_with(alloc, method)?.as_str(), "L8 in class X");
     Ok(())
 }
 
 #[test]
 fn object_of_257_fields(rt: HostRuntime) -> Result<(), Fail> {
-    let alloc = rt.alloc();
+    let y = Plan {
+        fields: 1,
+        ..below("Y", "X")
+    };
+    let x = Plan {
+        fields: 256,
+        ..plain("X")
+    };
     assert_eq!(rt;
-        told(
-            alloc,
-            &[
-                program(alloc, "E")?,
-                with_fields(alloc, "Y", "X", 1)?,
-                with_fields(alloc, "X", "java/lang/Object", 256)?
-            ]
-        )?
-        .as_str(),
+        told_of(rt.alloc(), &[program("E"), y, x])?.as_str(),
         "L8 in class Y"
     );
     Ok(())
@@ -336,25 +309,21 @@ fn object_of_257_fields(rt: HostRuntime) -> Result<(), Fail> {
 
 #[test]
 fn program_of_258_classes(rt: HostRuntime) -> Result<(), Fail> {
-    let alloc = rt.alloc();
-    assert_eq!(rt;
-        told(alloc, &classes(alloc, 258)?)?.as_str(),
-        "L8 in class C256"
-    );
+    let classes = classes(rt.alloc(), 258)?;
+    assert_eq!(rt; told(rt.alloc(), &classes)?.as_str(), "L8 in class C256");
     Ok(())
 }
 
 #[test]
 fn no_class(rt: HostRuntime) -> Result<(), Fail> {
-    let alloc = rt.alloc();
-    assert_eq!(rt; told(alloc, &[])?.as_str(), "L9");
+    assert_eq!(rt; told(rt.alloc(), &[])?.as_str(), "L9");
     Ok(())
 }
 
 #[test]
 fn instance_main(rt: HostRuntime) -> Result<(), Fail> {
     let alloc = rt.alloc();
-    let mut class = plain(alloc, "X")?;
+    let mut class = listed(alloc, plain("X"))?;
     class.methods.push(empty(alloc, "main", "()V", 1, (0, 1))?)?;
     assert_eq!(rt; told(alloc, &[class])?.as_str(), "L9 in class X");
     Ok(())

@@ -1,10 +1,11 @@
 //! Class files that are made part by part.
 
 use super::*;
+use crate::instructions::Signature;
 use bitflags::Flags;
 use model::class_files::{ConstantValue, Entry, FieldEntry};
 use model::flags::{ClassFlags, FieldFlags, MethodFlags};
-use model::instructions::{ClassOperation, Instruction, Test, Width};
+use model::instructions::{Instruction, Test, Width};
 use model::names::Name;
 use opcodes::OpError;
 use std::alloc::AllocError;
@@ -16,21 +17,19 @@ fn text(alloc: Global, text: &str) -> Result<Entry, AllocError> {
 /// E's seven entries.
 fn entries(alloc: Global) -> Result<PoolBuilder, Fail> {
     let mut pool = PoolBuilder::new(alloc);
-    let mut numbers = Vec::new(alloc);
-    numbers.push(pool.add(text(alloc, "E")?)?)?;
-    numbers.push(pool.add(Entry::Class(1))?)?;
-    numbers.push(pool.add(text(alloc, "java/lang/Object")?)?)?;
-    numbers.push(pool.add(Entry::Class(3))?)?;
-    numbers.push(pool.add(text(alloc, "main")?)?)?;
-    numbers.push(pool.add(text(alloc, "()V")?)?)?;
-    numbers.push(pool.add(text(alloc, "Code")?)?)?;
-    // one that is there
-    numbers.push(pool.add(Entry::Class(3))?)?;
-    if numbers.as_slice() == [1, 2, 3, 4, 5, 6, 7, 4].as_slice() {
-        Ok(pool)
-    } else {
-        Err("other numbers".into())
+    for (word, class) in [
+        ("E", Some(1u16)),
+        ("java/lang/Object", Some(3)),
+        ("main", None),
+        ("()V", None),
+        ("Code", None),
+    ] {
+        pool.add(text(alloc, word)?)?;
+        if let Some(name) = class {
+            pool.add(Entry::Class(name))?;
+        }
     }
+    Ok(pool)
 }
 
 /// E's class with these fields and methods.
@@ -45,17 +44,17 @@ fn body(alloc: Global, fields: Vec<FieldEntry>, methods: Vec<MethodEntry>) -> Bo
     }
 }
 
-/// E's code with these instructions and rows.
-fn code(
-    alloc: Global,
-    instructions: &[opcodes::Instr],
-    rows: Vec<CodeRow>,
-) -> Result<CodeEntry, OpError> {
+/// E's code under this name, with these bytes and rows.
+fn code(alloc: Global, name: u16, code: &str, rows: Vec<CodeRow>) -> Result<CodeEntry, Fail> {
+    let method = Signature {
+        name: b"main".as_slice(),
+        descriptor: b"()V".as_slice(),
+    };
     Ok(CodeEntry {
-        name: 7,
+        name,
         max_stack: 0,
         max_locals: 0,
-        instructions: Instructions::encode(alloc, instructions)?,
+        instructions: Instructions::read(alloc, method, &hex(alloc, code)?)?,
         rows,
     })
 }
@@ -70,12 +69,16 @@ fn main(flags: u16, code: Option<CodeEntry>) -> MethodEntry {
     }
 }
 
-/// E's method as it is.
-fn e_main(alloc: Global) -> Result<Vec<MethodEntry>, Fail> {
-    let code = code(alloc, &[Instruction::Return(None)], Vec::new(alloc))?;
-    let mut methods = Vec::new(alloc);
-    methods.push(main(9, Some(code)))?;
-    Ok(methods)
+/// E's method as it is, from its one instruction.
+fn e_main(alloc: Global) -> Result<MethodEntry, Fail> {
+    let code = CodeEntry {
+        name: 7,
+        max_stack: 0,
+        max_locals: 0,
+        instructions: Instructions::encode(alloc, &[Instruction::Return(None)])?,
+        rows: Vec::new(alloc),
+    };
+    Ok(main(9, Some(code)))
 }
 
 /// Why E's entries and this body are no class file.
@@ -97,73 +100,104 @@ fn method_refusal(alloc: Global, method: MethodEntry) -> Result<Option<FormatFau
 #[test]
 fn e_is_made(rt: HostRuntime) -> Result<(), Fail> {
     let alloc = rt.alloc();
-    let file = entries(alloc)?.finish(body(alloc, Vec::new(alloc), e_main(alloc)?))?;
-    assert_eq!(rt; write(alloc, &file)?.as_slice(), E.as_slice());
+    let mut methods = Vec::new(alloc);
+    methods.push(e_main(alloc)?)?;
+    let file = entries(alloc)?.finish(body(alloc, Vec::new(alloc), methods))?;
+    assert_eq!(rt; write(alloc, &file)?.as_slice(), e(alloc)?.as_slice());
+    Ok(())
+}
+
+#[test]
+fn an_entry_is_kept_once(rt: HostRuntime) -> Result<(), Fail> {
+    let mut pool = entries(rt.alloc())?;
+    assert_eq!(rt; pool.add(Entry::Class(3)).ok(), Some(4));
+    assert_eq!(rt; pool.add(Entry::Class(5)).ok(), Some(8));
+    Ok(())
+}
+
+#[test]
+fn a_pool_that_is_full(rt: HostRuntime) -> Result<(), Fail> {
+    let mut pool = PoolBuilder::new(rt.alloc());
+    for value in 1..65535i32 {
+        pool.add(Entry::Integer(value))?;
+    }
+    let full = pool.add(Entry::Integer(0)).err().ok_or("there was room")?;
+    assert_eq!(rt; full.to_string(rt.alloc())?.as_str(), "C9");
+    assert_eq!(rt; pool.add(Entry::Integer(65534)).ok(), Some(65534));
     Ok(())
 }
 
 #[test]
 fn classes_that_are_none(rt: HostRuntime) -> Result<(), Fail> {
     let alloc = rt.alloc();
-    let e = body(alloc, Vec::new(alloc), Vec::new(alloc));
-    assert_eq!(rt; refusal(alloc, e)?, None);
-    // final and abstract
-    let mut e = body(alloc, Vec::new(alloc), Vec::new(alloc));
-    e.flags = ClassFlags::from_bits_retain(0x0410);
-    assert_eq!(rt; refusal(alloc, e)?, Some(FormatFault::Flags));
-    // a superclass that is a text, and an interface with no number
-    let mut e = body(alloc, Vec::new(alloc), Vec::new(alloc));
-    e.superclass = 3;
-    assert_eq!(rt; refusal(alloc, e)?, Some(FormatFault::Index));
-    let mut e = body(alloc, Vec::new(alloc), Vec::new(alloc));
-    e.interfaces.push(4)?;
-    e.interfaces.push(0)?;
-    assert_eq!(rt; refusal(alloc, e)?, Some(FormatFault::Index));
+    for (flags, superclass, interface, answer) in [
+        (0x0021u16, 4u16, 4u16, None),
+        // final and abstract, a superclass that is a text, and an interface with no number
+        (0x0410, 4, 4, Some(FormatFault::Flags)),
+        (0x0021, 3, 4, Some(FormatFault::Index)),
+        (0x0021, 4, 0, Some(FormatFault::Index)),
+    ] {
+        let mut class = body(alloc, Vec::new(alloc), Vec::new(alloc));
+        class.flags = ClassFlags::from_bits_retain(flags);
+        class.superclass = superclass;
+        class.interfaces.push(interface)?;
+        assert_eq!(rt; refusal(alloc, class)?, answer);
+    }
     Ok(())
 }
 
 #[test]
-fn methods_that_are_none(rt: HostRuntime) -> Result<(), Fail> {
+fn methods_without_code(rt: HostRuntime) -> Result<(), Fail> {
+    // native, and neither native nor abstract
+    for (flags, answer) in [(0x0109u16, None), (9, Some(FormatFault::Attribute))] {
+        assert_eq!(rt; method_refusal(rt.alloc(), main(flags, None))?, answer);
+    }
+    Ok(())
+}
+
+#[test]
+fn methods_with_code(rt: HostRuntime) -> Result<(), Fail> {
     let alloc = rt.alloc();
-    let end = &[Instruction::Return(None)];
-    let attribute = Some(FormatFault::Attribute);
-    // native and with no code, abstract and with code, neither and with no code
-    assert_eq!(rt; method_refusal(alloc, main(0x0109, None))?, None);
-    let some = code(alloc, end, Vec::new(alloc))?;
-    assert_eq!(rt; method_refusal(alloc, main(0x0401, Some(some)))?, attribute);
-    assert_eq!(rt; method_refusal(alloc, main(9, None))?, attribute);
-    // a Code attribute with another name
-    let mut named = code(alloc, end, Vec::new(alloc))?;
-    named.name = 5;
-    assert_eq!(rt; method_refusal(alloc, main(9, Some(named)))?, attribute);
-    // new of a text
-    let new = &[Instruction::Class(ClassOperation::New, 3)];
-    let wrong = code(alloc, new, Vec::new(alloc))?;
-    assert_eq!(rt; method_refusal(alloc, main(9, Some(wrong)))?, attribute);
-    let right = code(
-        alloc,
-        &[Instruction::Class(ClassOperation::New, 4)],
-        Vec::new(alloc),
-    )?;
-    assert_eq!(rt; method_refusal(alloc, main(9, Some(right)))?, None);
+    for (flags, name, bytes, answer) in [
+        (9u16, 7u16, "b1", None),
+        // abstract, and an attribute of another name
+        (0x0401, 7, "b1", Some(FormatFault::Attribute)),
+        (9, 5, "b1", Some(FormatFault::Attribute)),
+        // new of a class, and of a text
+        (9, 7, "bb0004", None),
+        (9, 7, "bb0003", Some(FormatFault::Attribute)),
+    ] {
+        let code = code(alloc, name, bytes, Vec::new(alloc))?;
+        assert_eq!(rt; method_refusal(alloc, main(flags, Some(code)))?, answer);
+    }
     Ok(())
 }
 
+/// A row for the classes under this number.
+fn row(alloc: Global, class: u16) -> Result<Vec<CodeRow>, Fail> {
+    let mut rows = Vec::new(alloc);
+    rows.push(CodeRow {
+        start: 0,
+        end: 1,
+        handler: 0,
+        class,
+    })?;
+    Ok(rows)
+}
+
 #[test]
-fn rows_and_fields_that_are_none(rt: HostRuntime) -> Result<(), Fail> {
+fn rows_that_are_none(rt: HostRuntime) -> Result<(), Fail> {
     let alloc = rt.alloc();
     for (class, answer) in [(0u16, None), (4, None), (3, Some(FormatFault::Attribute))] {
-        let mut rows = Vec::new(alloc);
-        rows.push(CodeRow {
-            start: 0,
-            end: 1,
-            handler: 0,
-            class,
-        })?;
-        let entry = code(alloc, &[Instruction::Return(None)], rows)?;
+        let entry = code(alloc, 7, "b1", row(alloc, class)?)?;
         assert_eq!(rt; method_refusal(alloc, main(9, Some(entry)))?, answer);
     }
-    // a field's descriptor that is a method's
+    Ok(())
+}
+
+#[test]
+fn a_field_with_a_methods_descriptor(rt: HostRuntime) -> Result<(), Fail> {
+    let alloc = rt.alloc();
     let mut fields = Vec::new(alloc);
     fields.push(FieldEntry {
         flags: FieldFlags::from_bits_retain(8),
@@ -178,38 +212,39 @@ fn rows_and_fields_that_are_none(rt: HostRuntime) -> Result<(), Fail> {
     Ok(())
 }
 
+/// A static or other field of type I whose ConstantValue has this number, in E's pool with an Integer behind its entries.
+fn with_value(alloc: Global, flags: u16, value: u16) -> Result<bool, Fail> {
+    let mut pool = entries(alloc)?;
+    let name = pool.add(text(alloc, "ConstantValue")?)?;
+    pool.add(Entry::Integer(7))?;
+    let descriptor = pool.add(text(alloc, "I")?)?;
+    let mut fields = Vec::new(alloc);
+    fields.push(FieldEntry {
+        flags: FieldFlags::from_bits_retain(flags),
+        name: 5,
+        descriptor,
+        constant: Some(ConstantValue { name, value }),
+    })?;
+    Ok(pool.finish(body(alloc, fields, Vec::new(alloc))).is_ok())
+}
+
 #[test]
 fn a_field_with_a_value(rt: HostRuntime) -> Result<(), Fail> {
-    let alloc = rt.alloc();
+    // the Integer, a field that isn't static, and a text
     for (flags, value, is_made) in [(8u16, 9u16, true), (0, 9, false), (8, 5, false)] {
-        let mut pool = entries(alloc)?;
-        let name = pool.add(text(alloc, "ConstantValue")?)?;
-        assert_eq!(rt; (name, pool.add(Entry::Integer(7))?), (8, 9));
-        let descriptor = pool.add(text(alloc, "I")?)?;
-        let mut fields = Vec::new(alloc);
-        fields.push(FieldEntry {
-            flags: FieldFlags::from_bits_retain(flags),
-            name: 5,
-            descriptor,
-            constant: Some(ConstantValue { name, value }),
-        })?;
-        let file = pool.finish(body(alloc, fields, Vec::new(alloc)));
-        assert_eq!(rt; file.is_ok(), is_made);
+        assert_eq!(rt; with_value(rt.alloc(), flags, value)?, is_made);
     }
     Ok(())
 }
 
 #[test]
 fn instructions_that_are_no_code(rt: HostRuntime) {
-    let alloc = rt.alloc();
-    let fault = |instructions: &[opcodes::Instr]| Instructions::encode(alloc, instructions).err();
-    assert_eq!(rt; fault(&[]), Some(OpError::Length));
+    for (offset, answer) in [(1u16, Some(OpError::Branch)), (0, None)] {
+        let goto = [Instruction::Branch(Test::Always(Width::Narrow), offset)];
+        assert_eq!(rt; Instructions::encode(rt.alloc(), &goto).err(), answer);
+    }
     assert_eq!(rt;
-        fault(&[Instruction::Branch(Test::Always(Width::Narrow), 1)]),
-        Some(OpError::Branch)
-    );
-    assert_eq!(rt;
-        fault(&[Instruction::Branch(Test::Always(Width::Narrow), 0)]),
-        None
+        Instructions::encode(rt.alloc(), &[]).err(),
+        Some(OpError::Length)
     );
 }

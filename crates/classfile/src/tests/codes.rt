@@ -26,6 +26,16 @@ fn faulty_code(rt: HostRuntime) -> Result<(), Fail> {
 }
 
 #[test]
+fn code_has_65535_bytes_at_most(rt: HostRuntime) -> Result<(), Fail> {
+    for (length, answer) in [(65535usize, "read"), (65536, "O5 in method main()V")] {
+        let code = vec![in rt.alloc(); 0u8; length]?;
+        let bytes = with_code(rt.alloc(), &code)?;
+        assert_eq!(rt; told(rt.alloc(), &bytes)?.as_str(), answer);
+    }
+    Ok(())
+}
+
+#[test]
 fn faulty_switches(rt: HostRuntime) -> Result<(), Fail> {
     for (code, answer) in [
         // lookupswitch of keys 2 and 5, of 5 and 2, and of these with a count of 1000 and nothing behind them
@@ -167,31 +177,33 @@ fn rows_and_attributes_of_code(rt: HostRuntime) -> Result<(), Fail> {
     Ok(())
 }
 
+/// E with a row for class E and one for any class.
+fn with_rows(alloc: Global) -> Result<Vec<u8>, Fail> {
+    let tail = "0002 0000000100000002 0000000100000000 0000";
+    with_info(alloc, 8, "", &info(alloc, &[0xb1], tail)?)
+}
+
 #[test]
-fn rows_are_written(rt: HostRuntime) -> Result<(), Fail> {
-    let info = info(
-        rt.alloc(),
-        &[0xb1],
-        "0002 0000000100000002 0000000100000000 0000",
-    )?;
-    let bytes = with_info(rt.alloc(), 8, "", &info)?;
-    let file = read(rt.alloc(), &bytes)?;
-    assert_eq!(rt; write(rt.alloc(), &file)?.as_slice(), bytes.as_slice());
+fn rows_are_read(rt: HostRuntime) -> Result<(), Fail> {
+    let file = read(rt.alloc(), &with_rows(rt.alloc())?)?;
     let [main] = file.methods() else {
         return Err("not one method".into());
     };
     let code = main.code.as_ref().ok_or("no code")?;
-    let [first, second] = code.rows.as_slice() else {
-        return Err("not two rows".into());
-    };
-    assert_eq!(rt;
-        (first.start, first.end, first.handler, first.class),
-        (0, 1, 0, 2)
-    );
-    assert_eq!(rt;
-        (second.start, second.end, second.handler, second.class),
-        (0, 1, 0, 0)
-    );
+    let mut classes = Vec::new(rt.alloc());
+    for row in &code.rows {
+        assert_eq!(rt; (row.start, row.end, row.handler), (0, 1, 0));
+        classes.push(row.class)?;
+    }
+    assert_eq!(rt; classes.as_slice(), [2, 0].as_slice());
+    Ok(())
+}
+
+#[test]
+fn rows_are_written(rt: HostRuntime) -> Result<(), Fail> {
+    let bytes = with_rows(rt.alloc())?;
+    let file = read(rt.alloc(), &bytes)?;
+    assert_eq!(rt; write(rt.alloc(), &file)?.as_slice(), bytes.as_slice());
     Ok(())
 }
 
@@ -199,7 +211,10 @@ fn rows_are_written(rt: HostRuntime) -> Result<(), Fail> {
 fn an_attribute_of_code_is_not_written(rt: HostRuntime) -> Result<(), Fail> {
     let info = info(rt.alloc(), &[0xb1], "0000 0001 0007 00000001 09")?;
     let file = read(rt.alloc(), &with_info(rt.alloc(), 8, "", &info)?)?;
-    assert_eq!(rt; write(rt.alloc(), &file)?.as_slice(), E.as_slice());
+    assert_eq!(rt;
+        write(rt.alloc(), &file)?.as_slice(),
+        e(rt.alloc())?.as_slice()
+    );
     Ok(())
 }
 

@@ -2,40 +2,68 @@
 
 use super::*;
 use model::instructions::Instruction;
-use opcodes::OpError;
 
 #[test]
-fn e_is_read_and_written(rt: HostRuntime) -> Result<(), Fail> {
-    let file = read(rt.alloc(), &E)?;
-    assert_eq!(rt; file.head().class(), 2);
-    assert_eq!(rt; file.head().superclass(), 4);
-    assert_eq!(rt; file.head().flags(), 0x0021);
-    assert!(rt; file.head().interfaces().is_empty());
-    assert!(rt; file.head().fields().is_empty());
+fn the_head_of_a_file(rt: HostRuntime) -> Result<(), Fail> {
+    let file = read(rt.alloc(), &e(rt.alloc())?)?;
+    let head = file.head();
+    assert_eq!(rt;
+        (head.class(), head.superclass(), head.flags()),
+        (2, 4, 0x0021)
+    );
+    assert_eq!(rt; (head.interfaces().len(), head.fields().len()), (0, 0));
+    Ok(())
+}
+
+#[test]
+fn the_method_of_a_file(rt: HostRuntime) -> Result<(), Fail> {
+    let file = read(rt.alloc(), &e(rt.alloc())?)?;
     let [main] = file.methods() else {
         return Err("not one method".into());
     };
-    assert_eq!(rt; (main.name, main.descriptor), (5, 6));
     let code = main.code.as_ref().ok_or("no code")?;
-    assert_eq!(rt; (code.max_stack, code.max_locals), (0, 0));
+    assert_eq!(rt;
+        (main.name, main.descriptor, code.max_stack, code.max_locals),
+        (5, 6, 0, 0)
+    );
     let [end] = code.instructions.as_slice() else {
         return Err("not one instruction".into());
     };
     assert_eq!(rt; (end.pc, end.next), (0, 1));
     assert!(rt; matches!(&end.instruction, Instruction::Return(None)));
-    assert_eq!(rt; write(rt.alloc(), &file)?.as_slice(), E.as_slice());
-    let copy = again(rt.alloc(), &file)?;
-    assert_eq!(rt; write(rt.alloc(), &copy)?.as_slice(), E.as_slice());
+    Ok(())
+}
+
+#[test]
+fn e_is_written(rt: HostRuntime) -> Result<(), Fail> {
+    let bytes = e(rt.alloc())?;
+    let file = read(rt.alloc(), &bytes)?;
+    assert_eq!(rt; write(rt.alloc(), &file)?.as_slice(), bytes.as_slice());
     one_class_file();
     Ok(())
 }
 
 #[test]
-fn cut_files_and_longer_ones(rt: HostRuntime) -> Result<(), Fail> {
+fn e_is_read_again(rt: HostRuntime) -> Result<(), Fail> {
+    let bytes = e(rt.alloc())?;
+    let copy = again(rt.alloc(), &read(rt.alloc(), &bytes)?)?;
+    assert_eq!(rt; write(rt.alloc(), &copy)?.as_slice(), bytes.as_slice());
+    Ok(())
+}
+
+#[test]
+fn cut_files(rt: HostRuntime) -> Result<(), Fail> {
+    let bytes = e(rt.alloc())?;
     for len in 0..100usize {
-        assert_eq!(rt; told(rt.alloc(), &E[..len])?.as_str(), "C3");
+        let front = bytes.get(..len).ok_or("no front")?;
+        assert_eq!(rt; told(rt.alloc(), front)?.as_str(), "C3");
     }
-    let mut longer = Vec::from_slice(rt.alloc(), &E)?;
+    Ok(())
+}
+
+#[test]
+fn one_byte_more(rt: HostRuntime) -> Result<(), Fail> {
+    let mut longer = e(rt.alloc())?;
     longer.push(0)?;
     assert_eq!(rt; told(rt.alloc(), &longer)?.as_str(), "C4");
     Ok(())
@@ -77,7 +105,7 @@ fn one_byte_is_another(rt: HostRuntime) -> Result<(), Fail> {
         (97, 1, "C8"),
         (99, 0xff, "C3"),
     ] {
-        let bytes = e_with(place, byte);
+        let bytes = e_with(rt.alloc(), place, byte)?;
         assert_eq!(rt; told(rt.alloc(), &bytes)?.as_str(), answer);
     }
     Ok(())
@@ -85,15 +113,16 @@ fn one_byte_is_another(rt: HostRuntime) -> Result<(), Fail> {
 
 #[test]
 fn every_byte_is_another(rt: HostRuntime) -> Result<(), Fail> {
+    let e = e(rt.alloc())?;
     let mut places = Vec::new(rt.alloc());
     for place in 0..100usize {
         for byte in [0u8, 0xff] {
-            let bytes = e_with(place, byte);
+            let bytes = e_with(rt.alloc(), place, byte)?;
             let Ok(file) = read(rt.alloc(), &bytes) else {
                 continue;
             };
             assert_eq!(rt; write(rt.alloc(), &file)?.as_slice(), bytes.as_slice());
-            if bytes != E {
+            if bytes.get(place) != e.get(place) {
                 places.push(place)?;
             }
         }
@@ -105,10 +134,13 @@ fn every_byte_is_another(rt: HostRuntime) -> Result<(), Fail> {
 
 #[test]
 fn what_users_are_told(rt: HostRuntime) -> Result<(), Fail> {
-    assert_eq!(rt; ClassError::PoolFull.to_string(rt.alloc())?.as_str(), "C9");
-    assert_eq!(rt; ClassError::Memory.to_string(rt.alloc())?.as_str(), "C10");
-    let short = ClassError::Format(FormatFault::Short);
-    assert_eq!(rt; short.to_string(rt.alloc())?.as_str(), "C3");
-    assert_eq!(rt; OpError::Switch.to_string(rt.alloc())?.as_str(), "O4");
+    for (error, answer) in [
+        (ClassError::PoolFull, "C9"),
+        (ClassError::Memory, "C10"),
+        (ClassError::Format(FormatFault::Short), "C3"),
+        (ClassError::Format(FormatFault::Flags), "C11"),
+    ] {
+        assert_eq!(rt; error.to_string(rt.alloc())?.as_str(), answer);
+    }
     Ok(())
 }
