@@ -1,9 +1,12 @@
 //! What the program does at a command.
 
 use crate::files::{Files, ReadError};
-use crate::launching::{LaunchError, SourceError, launch};
-use crate::options::{Command, RunOptions};
-use jasmin::{Fault as TextFault, ListingError};
+use crate::launching::{LaunchError, launch};
+use crate::options::{AssembleOptions, Command, RunOptions};
+use crate::sources::{SourceError, assembled};
+use assembler::AsmError;
+use classfile::ClassError;
+use jasmin::Fault as TextFault;
 use loader::LoadError;
 use model::journals::{HeapShape, Limits};
 use model::turns::{Actor, Status, Turn};
@@ -56,6 +59,15 @@ fn shape_of(options: &RunOptions) -> HeapShape {
     }
 }
 
+/// A file's bytes.
+fn read_one<F: Files>(alloc: Global, files: &mut F, name: &String) -> Result<Vec<u8>, Ending> {
+    match files.read(alloc, name.as_str()) {
+        Ok(bytes) => Ok(bytes),
+        Err(ReadError::Memory) => Err(Ending::memory()),
+        Err(ReadError::Failed) => Err(Ending::told(6, format!(in alloc; "cannot read {name}"))),
+    }
+}
+
 /// The files' bytes, in order.
 fn read_all<F: Files>(
     alloc: Global,
@@ -64,37 +76,36 @@ fn read_all<F: Files>(
 ) -> Result<Vec<Vec<u8>>, Ending> {
     let mut sources = Vec::new(alloc);
     for name in names {
-        match files.read(alloc, name.as_str()) {
-            Ok(bytes) => match sources.push(bytes) {
-                Ok(()) => {}
-                Err(_) => return Err(Ending::memory()),
-            },
-            Err(ReadError::Memory) => return Err(Ending::memory()),
-            Err(ReadError::Failed) => {
-                return Err(Ending::told(6, format!(in alloc; "cannot read {name}")));
-            }
+        match sources.push(read_one(alloc, files, name)?) {
+            Ok(()) => {}
+            Err(_) => return Err(Ending::memory()),
         }
     }
     Ok(sources)
 }
 
-/// The end of a command whose source at a place was refused.
-fn source_refused(alloc: Global, names: &[String], place: usize, error: &SourceError) -> Ending {
+/// The end of a command whose source of this name was refused.
+fn source_refused(alloc: Global, name: &String, error: &SourceError) -> Ending {
     let lacks_memory = match error {
         SourceError::Text(error) => error.fault == TextFault::Memory,
-        SourceError::Assembly(ListingError::Memory) => true,
-        SourceError::Assembly(_) => false,
+        SourceError::Assembly(error) => matches!(error, AsmError::Memory),
+        SourceError::Class(error) => matches!(error, ClassError::Memory),
+        SourceError::Memory => true,
     };
-    match names.get(place) {
-        Some(name) if !lacks_memory => Ending::told(2, format!(in alloc; "{name}: {error}")),
-        _ => Ending::memory(),
+    if lacks_memory {
+        Ending::memory()
+    } else {
+        Ending::told(2, format!(in alloc; "{name}: {error}"))
     }
 }
 
 /// The end of a command that has no world.
 fn refused(alloc: Global, names: &[String], error: &LaunchError) -> Ending {
     match error {
-        LaunchError::Source { place, error } => source_refused(alloc, names, *place, error),
+        LaunchError::Source { place, error } => match names.get(*place) {
+            Some(name) => source_refused(alloc, name, error),
+            None => Ending::memory(),
+        },
         LaunchError::Load(LoadError::Memory(_)) => Ending::memory(),
         LaunchError::Load(error) => Ending::told(2, format!(in alloc; "load: {error}")),
         LaunchError::World(WorldError::Memory) => Ending::memory(),
@@ -186,6 +197,67 @@ fn run<F: Files, W: Write>(
     }
 }
 
+/// The class file of a text, as bytes.
+fn class_bytes(alloc: Global, name: &String, text: &[u8]) -> Result<Vec<u8>, Ending> {
+    let file = match assembled(alloc, text) {
+        Ok(file) => file,
+        Err(error) => return Err(source_refused(alloc, name, &error)),
+    };
+    match classfile::write(alloc, &file) {
+        Ok(bytes) => Ok(bytes),
+        Err(_) => Err(Ending::memory()),
+    }
+}
+
+/// Assembles a text into a class file.
+fn assemble<F: Files>(
+    alloc: Global,
+    options: &AssembleOptions,
+    files: &mut F,
+) -> Result<Ending, Ending> {
+    let text = read_one(alloc, files, &options.file)?;
+    let bytes = class_bytes(alloc, &options.file, text.as_slice())?;
+    let out = &options.out;
+    match files.write(out.as_str(), bytes.as_slice()) {
+        Ok(()) => Ok(Ending::good()),
+        Err(_) => Err(Ending::told(6, format!(in alloc; "cannot write {out}"))),
+    }
+}
+
+/// The text of a class file.
+fn class_text(alloc: Global, name: &String, bytes: &[u8]) -> Result<Vec<u8>, Ending> {
+    let file = match classfile::read(alloc, bytes) {
+        Ok(file) => file,
+        Err(error) => return Err(source_refused(alloc, name, &SourceError::Class(error))),
+    };
+    match disasm::disassemble(alloc, &file) {
+        Ok(text) => Ok(text),
+        Err(_) => Err(Ending::memory()),
+    }
+}
+
+/// Writes the text of a class file.
+fn disassemble<F: Files, W: Write>(
+    alloc: Global,
+    name: &String,
+    files: &mut F,
+    output: &mut W,
+) -> Result<Ending, Ending> {
+    let bytes = read_one(alloc, files, name)?;
+    let text = class_text(alloc, name, bytes.as_slice())?;
+    match output.write_all(text.as_slice()) {
+        Ok(()) => Ok(Ending::good()),
+        Err(_) => Err(Ending::told(6, format!(in alloc; "cannot write -"))),
+    }
+}
+
+/// How a command ended, in either way.
+fn either(ending: Result<Ending, Ending>) -> Ending {
+    match ending {
+        Ok(ending) | Err(ending) => ending,
+    }
+}
+
 /// Writes the line of an ending, if it has one. What can't be written is let go.
 fn tell<E: Write>(errors: &mut E, ending: &Ending) {
     let line = match (&ending.line, ending.status) {
@@ -199,7 +271,7 @@ fn tell<E: Write>(errors: &mut E, ending: &Ending) {
 }
 
 /// Does what a command says with files, standard input, output and error, and answers the exit status: 0 where all threads
-/// ended, 2 refused input, 3 a fault, 4 a limit, 5 stuck, 6 memory or a file that can't be read or written.
+/// ended or a file was written, 2 refused input, 3 a fault, 4 a limit, 5 stuck, 6 memory or a file that can't be read or written.
 pub fn execute<F: Files, R: Read, W: Write, E: Write>(
     alloc: Global,
     command: &Command,
@@ -210,6 +282,8 @@ pub fn execute<F: Files, R: Read, W: Write, E: Write>(
 ) -> u8 {
     let ending = match command {
         Command::Run(options) => run(alloc, options, files, output),
+        Command::Assemble(options) => either(assemble(alloc, options, files)),
+        Command::Disassemble(name) => either(disassemble(alloc, name, files, output)),
     };
     tell(errors, &ending);
     ending.status

@@ -13,10 +13,17 @@ pub enum ReadError {
     Failed,
 }
 
-/// Reads whole files by name.
+/// A file was not written.
+#[derive(Clone, Copy, Debug, PartialEq, Eq)]
+pub struct WriteError;
+
+/// Reads and writes whole files by name.
 pub trait Files {
     /// The bytes of a file.
     fn read(&mut self, alloc: Global, name: &str) -> Result<Vec<u8>, ReadError>;
+
+    /// Writes a file with these bytes, in the place of one that is there.
+    fn write(&mut self, name: &str, bytes: &[u8]) -> Result<(), WriteError>;
 }
 
 /// The files of the system.
@@ -36,6 +43,13 @@ impl<R: rt::Files + AllocGlobal> Files for SystemFiles<'_, R> {
                     Err(ReadError::Failed)
                 }
             }
+        }
+    }
+
+    fn write(&mut self, name: &str, bytes: &[u8]) -> Result<(), WriteError> {
+        match fs::write(self.runtime, name, bytes) {
+            Ok(()) => Ok(()),
+            Err(_) => Err(WriteError),
         }
     }
 }

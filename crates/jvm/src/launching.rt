@@ -1,10 +1,10 @@
 //! From the bytes of sources to a world.
-ghost use Rattle.std.specs.Prelude.{◌≡◌, IfOk, IfErr, MatchResult, Some, None};
+ghost use Rattle.std.specs.Prelude.{IfOk, IfErr, MatchResult};
 ghost use Rattle.model.specs.declared.journals.HeapShape.{HeapShape};
 ghost use Rattle.model.specs.declared.journals.Limits.{Limits};
-ghost use Rattle.jvm.specs.Launching.{Excuses, IsLaunched, LacksMemory, listings_of, text_listing, texts_of};
+ghost use Rattle.jvm.specs.Launching.{AreListings, Excuses, IsLaunched, bytes_of};
 
-use jasmin::{ListingError, TextError, listing};
+use crate::sources::{SourceError, source_listing};
 use loader::programs::Program;
 use loader::{LoadError, accept};
 use model::journals::{HeapShape, Limits};
@@ -13,17 +13,6 @@ use model::turns::Actor;
 use scheduler::worlds::{World, WorldError};
 use std::alloc::Global;
 use thiserror::Error;
-
-/// Why a source has no listing.
-#[derive(Debug, Drop, Error)]
-pub enum SourceError {
-    /// It is no text of the syntax: `J5 at line 6`.
-    #[error("{0}")]
-    Text(TextError),
-    /// It doesn't assemble: `A1 in method main()V`.
-    #[error("{0}")]
-    Assembly(ListingError),
-}
 
 /// Why there is no world of some sources.
 #[derive(Debug, Drop, Error)]
@@ -39,27 +28,13 @@ pub enum LaunchError {
     World(WorldError),
 }
 
-/// The listing of a text.
-fn read_source(alloc: Global, text: &[u8]) -> Result<Listing, SourceError>
-    ensures { MatchResult result (λ listing. text_listing text.now ≡ Some listing) (λ e. (LacksMemory e → ⊥) → text_listing text.now ≡ None) }
-{
-    let tree = match jasmin::read(alloc, text) {
-        Ok(tree) => tree,
-        Err(error) => return Err(SourceError::Text(error)),
-    };
-    match listing(alloc, &tree) {
-        Ok(listing) => Ok(listing),
-        Err(error) => Err(SourceError::Assembly(error)),
-    }
-}
-
-/// The listings of some texts, in order; the first that has none is told with its place.
+/// The listings of some sources, in order; the first that has none is told with its place.
 fn read_sources(alloc: Global, sources: &[Vec<u8>]) -> Result<Vec<Listing>, LaunchError>
-    ensures { MatchResult result (λ listings. listings_of (texts_of sources.now) ≡ Some listings.items) (λ e. (shape : HeapShape) (limits : Limits) → Excuses (texts_of sources.now) shape limits e) }
+    ensures { MatchResult result (λ listings. AreListings (bytes_of sources.now) listings.items) (λ e. (shape : HeapShape) (limits : Limits) → Excuses (bytes_of sources.now) shape limits e) }
 {
     let mut listings = Vec::new(alloc);
     for (place, source) in sources.iter().enumerate() {
-        match read_source(alloc, source.as_slice()) {
+        match source_listing(alloc, source.as_slice()) {
             Ok(listing) => match listings.push(listing) {
                 Ok(()) => {}
                 Err(_) => return Err(LaunchError::World(WorldError::Memory)),
@@ -70,10 +45,12 @@ fn read_sources(alloc: Global, sources: &[Vec<u8>]) -> Result<Vec<Listing>, Laun
     Ok(listings)
 }
 
-/// Reads texts, makes a world of their classes, and lets the actors take their turns in it, one each.
+/// Reads class files and texts, makes a world of their classes, and lets the actors take their turns in it, one each. A
+/// source that begins with cafebabe is a class file, every other one a text.
 ///
-/// The first of these refusals that is met is told: a source that isn't in the text relation or doesn't assemble, by its
-/// place; the first rule that the listings break; P1 and P2. Want of memory may come in place of any.
+/// The first of these refusals that is met is told: a source that is no class file, or isn't in the text relation or
+/// doesn't assemble, by its place; the first rule that the listings break; P1 and P2. Want of memory may come in place of
+/// any.
 pub fn launch(
     alloc: Global,
     sources: Vec<Vec<u8>>,
@@ -81,8 +58,8 @@ pub fn launch(
     limits: Limits,
     actors: &[Actor],
 ) -> Result<World, LaunchError>
-    ensures launched { IfOk result (IsLaunched (texts_of sources.items) shape limits actors.now) }
-    ensures refused { IfErr result (Excuses (texts_of sources.items) shape limits) }
+    ensures launched { IfOk result (IsLaunched (bytes_of sources.items) shape limits actors.now) }
+    ensures refused { IfErr result (Excuses (bytes_of sources.items) shape limits) }
 {
     let listings = match read_sources(alloc, sources.as_slice()) {
         Ok(listings) => listings,

@@ -1,10 +1,11 @@
-//! `jvm`: runs Jasmin texts on a small Java virtual machine.
+//! `jvm`: assembles Jasmin texts, writes class files as texts, and runs both on a small Java virtual machine.
 #![tactic(auto)]
 
 mod executing;
 mod files;
 mod launching;
 mod options;
+mod sources;
 #[cfg(test)]
 mod tests;
 

@@ -12,6 +12,19 @@ use thiserror::Error;
 pub enum Command {
     /// Runs the program of these files.
     Run(RunOptions),
+    /// Writes the class file of a text.
+    Assemble(AssembleOptions),
+    /// Writes the text of this class file.
+    Disassemble(String),
+}
+
+/// What `jvm asm` reads and writes.
+#[derive(Drop)]
+pub struct AssembleOptions {
+    /// the text
+    pub file: String,
+    /// the class file
+    pub out: String,
 }
 
 /// How `jvm run` runs.
@@ -70,13 +83,18 @@ fn number<'a>(
     )
 }
 
-/// The words that clap reads: `jvm run` and its options.
-fn line<'a>(alloc: Global) -> Result<Line<'a>, AllocError> {
+/// The file that a command must name at this place.
+fn file<'a>(alloc: Global, name: &'a str, help: &'a str) -> Arg<'a> {
+    Arg::new(alloc, name).required(true).help(help)
+}
+
+/// The words of `jvm run`.
+fn run_line<'a>(alloc: Global) -> Result<Line<'a>, AllocError> {
     let files = Arg::new(alloc, "FILE")
         .action(ArgAction::Append)
         .num_args(1..)
-        .help("Jasmin texts, one class each; the first has main");
-    let run = Line::new(alloc, "run")
+        .help("Jasmin texts and class files, one class each; the first has main");
+    Line::new(alloc, "run")
         .about("Runs the main of the first file's class")
         .arg(number(alloc, "small", "64", "cells of 4 words")?)?
         .arg(number(alloc, "medium", "16", "cells of 32 words")?)?
@@ -95,12 +113,33 @@ fn line<'a>(alloc: Global) -> Result<Line<'a>, AllocError> {
             "1",
             "threads that carry turns (1 so far)",
         )?)?
-        .arg(files)?;
+        .arg(files)
+}
+
+/// The words that clap reads: the commands and what stands behind them.
+fn line<'a>(alloc: Global) -> Result<Line<'a>, AllocError> {
+    let asm = Line::new(alloc, "asm")
+        .about("Writes the class file of a Jasmin text")
+        .arg(file(alloc, "FILE", "the text"))?
+        .arg(file(alloc, "OUT", "the class file to write"))?;
+    let dis = Line::new(alloc, "dis")
+        .about("Writes the Jasmin text of a class file")
+        .arg(file(alloc, "FILE", "the class file"))?;
     Line::new(alloc, "jvm")
         .about("A small Java virtual machine with an on-the-fly collector")
         .version("0.1.0")
         .subcommand_required(true)
-        .subcommand(run)
+        .subcommand(run_line(alloc)?)?
+        .subcommand(asm)?
+        .subcommand(dis)
+}
+
+/// The file name under a name of the line, copied. `Options` where there is none, which clap rules out.
+fn one_file(alloc: Global, matches: &ArgMatches<'_>, name: &str) -> Result<String, LineError> {
+    match matches.get_str(name) {
+        Some(file) => Ok(String::from_str(alloc, file)?),
+        None => Err(LineError::Options),
+    }
 }
 
 /// The file names, copied. `Options` where there is none.
@@ -162,6 +201,11 @@ pub fn options(alloc: Global, words: &[&str]) -> Result<Command, LineError>
     let line = line(alloc)?;
     match line.try_get_matches_from(words) {
         Ok(matches) => match matches.subcommand() {
+            Some(("asm", asm)) => Ok(Command::Assemble(AssembleOptions {
+                file: one_file(alloc, asm, "FILE")?,
+                out: one_file(alloc, asm, "OUT")?,
+            })),
+            Some(("dis", dis)) => Ok(Command::Disassemble(one_file(alloc, dis, "FILE")?)),
             Some((_, run)) => Ok(Command::Run(run_options(alloc, run)?)),
             None => Err(LineError::Options),
         },

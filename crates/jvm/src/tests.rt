@@ -1,19 +1,21 @@
 //! The program's answers over files in memory.
 use crate::executing::execute;
-use crate::files::{Files, ReadError};
+use crate::files::{Files, ReadError, WriteError};
 use crate::options::{LineError, options};
 use std::alloc::{AllocError, Global};
 use std::process::Abort;
 use std::test::Fail;
 
-/// One file.
+/// One file that is there, and one that can be written.
 #[derive(Drop)]
-struct OneFile<'a> {
+struct TwoFiles<'a> {
     name: &'a str,
     text: &'a [u8],
+    out: &'a str,
+    written: Vec<u8>,
 }
 
-impl Files for OneFile<'_> {
+impl Files for TwoFiles<'_> {
     fn read(&mut self, alloc: Global, name: &str) -> Result<Vec<u8>, ReadError> {
         if name != self.name {
             return Err(ReadError::Failed);
@@ -23,9 +25,64 @@ impl Files for OneFile<'_> {
             Err(_) => Err(ReadError::Memory),
         }
     }
+
+    fn write(&mut self, name: &str, bytes: &[u8]) -> Result<(), WriteError> {
+        if name != self.out {
+            return Err(WriteError);
+        }
+        match self.written.extend_from_slice(bytes) {
+            Ok(()) => Ok(()),
+            Err(_) => Err(WriteError),
+        }
+    }
 }
 
-/// Runs `jvm` with these words behind its name on one file `a.j`, and compares the status and what is written.
+/// What `jvm` is to answer: its status, what it writes to standard output and error, and into a file `a.class`.
+#[derive(Clone, Copy)]
+struct Answer<'a> {
+    status: u8,
+    output: &'a [u8],
+    errors: &'a [u8],
+    file: &'a [u8],
+}
+
+/// Runs `jvm` with these words behind its name on one file `a.j`, and compares what it answers.
+fn compare(
+    rt: &impl Abort,
+    alloc: Global,
+    words: &[&str],
+    text: &[u8],
+    wanted: Answer<'_>,
+) -> Result<(), Fail> {
+    let mut files = TwoFiles {
+        name: "a.j",
+        text,
+        out: "a.class",
+        written: Vec::new(alloc),
+    };
+    let mut line = Vec::new(alloc);
+    line.push("jvm")?;
+    line.extend_from_slice(words)?;
+    let command = options(alloc, line.as_slice())?;
+    let mut written = Vec::new(alloc);
+    let mut told = Vec::new(alloc);
+    let mut input = b"".as_slice();
+    let status = execute(
+        alloc,
+        &command,
+        &mut files,
+        &mut input,
+        &mut written,
+        &mut told,
+    );
+    assert_eq!(rt; told.as_slice(), wanted.errors);
+    assert_eq!(rt; written.as_slice(), wanted.output);
+    assert_eq!(rt; files.written.as_slice(), wanted.file);
+    assert_eq!(rt; status, wanted.status);
+    Ok(())
+}
+
+/// The same where no file is written.
 fn check(
     rt: &impl Abort,
     alloc: Global,
@@ -35,26 +92,13 @@ fn check(
     output: &[u8],
     errors: &[u8],
 ) -> Result<(), Fail> {
-    let mut files = OneFile { name: "a.j", text };
-    let mut line = Vec::new(alloc);
-    line.push("jvm")?;
-    line.extend_from_slice(words)?;
-    let command = options(alloc, line.as_slice())?;
-    let mut written = Vec::new(alloc);
-    let mut told = Vec::new(alloc);
-    let mut input = b"".as_slice();
-    let answer = execute(
-        alloc,
-        &command,
-        &mut files,
-        &mut input,
-        &mut written,
-        &mut told,
-    );
-    assert_eq!(rt; told.as_slice(), errors);
-    assert_eq!(rt; written.as_slice(), output);
-    assert_eq!(rt; answer, status);
-    Ok(())
+    let wanted = Answer {
+        status,
+        output,
+        errors,
+        file: b"",
+    };
+    compare(rt, alloc, words, text, wanted)
 }
 
 const EMPTY_MAIN: &[u8] =
@@ -198,10 +242,123 @@ fn a_refused_text_is_told_with_its_line(rt: HostRuntime) -> Result<(), Fail> {
         &rt,
         rt.alloc(),
         words.as_slice(),
-        b"\xca\xfe\xba\xbe\x00\x00\x00\x31",
+        b".class E\n.super java/lang/Object\n.method static main()V\n.limit stack 1\n.limit locals 0\niconst_0\nlookupswitch\n5 : L\n2 : L\ndefault : L\nL:\nreturn\n.end method\n",
+        2,
+        b"",
+        b"jvm: a.j: A4 in method main()V\n",
+    )
+}
+
+/// The class file of the empty main: 100 bytes.
+const EMPTY_CLASS: &[u8] =
+    b"\xca\xfe\xba\xbe\0\0\0\x31\0\x08\x01\0\x01E\x07\0\x01\x01\0\x10java/lang/Object\x07\0\x03\x01\0\x04main\x01\0\x03()V\x01\0\x04Code\0\x21\0\x02\0\x04\0\0\0\0\0\x01\0\x09\0\x05\0\x06\0\x01\0\x07\0\0\0\x0d\0\0\0\0\0\0\0\x01\xb1\0\0\0\0\0\0";
+
+#[test]
+fn a_class_file_is_written_as_a_text(rt: HostRuntime) -> Result<(), Fail> {
+    let words = ["dis", "a.j"];
+    check(
+        &rt,
+        rt.alloc(),
+        words.as_slice(),
+        EMPTY_CLASS,
+        0,
+        EMPTY_MAIN,
+        b"",
+    )?;
+    check(
+        &rt,
+        rt.alloc(),
+        words.as_slice(),
+        &EMPTY_CLASS[..99],
+        2,
+        b"",
+        b"jvm: a.j: C3\n",
+    )?;
+    check(
+        &rt,
+        rt.alloc(),
+        words.as_slice(),
+        EMPTY_MAIN,
+        2,
+        b"",
+        b"jvm: a.j: C1\n",
+    )
+}
+
+#[test]
+fn a_text_is_assembled(rt: HostRuntime) -> Result<(), Fail> {
+    let wanted = Answer {
+        status: 0,
+        output: b"",
+        errors: b"",
+        file: EMPTY_CLASS,
+    };
+    let words = ["asm", "a.j", "a.class"];
+    compare(&rt, rt.alloc(), words.as_slice(), EMPTY_MAIN, wanted)?;
+    // a class file is no text
+    check(
+        &rt,
+        rt.alloc(),
+        words.as_slice(),
+        EMPTY_CLASS,
         2,
         b"",
         b"jvm: a.j: J8 at line 1\n",
+    )?;
+    check(
+        &rt,
+        rt.alloc(),
+        ["asm", "a.j", "b.class"].as_slice(),
+        EMPTY_MAIN,
+        6,
+        b"",
+        b"jvm: cannot write b.class\n",
+    )?;
+    check(
+        &rt,
+        rt.alloc(),
+        ["asm", "b.j", "a.class"].as_slice(),
+        EMPTY_MAIN,
+        6,
+        b"",
+        b"jvm: cannot read b.j\n",
+    )
+}
+
+#[test]
+fn a_class_file_is_run(rt: HostRuntime) -> Result<(), Fail> {
+    let words = ["run", "--small", "2", "a.j"];
+    check(&rt, rt.alloc(), words.as_slice(), EMPTY_CLASS, 0, b"", b"")?;
+    check(
+        &rt,
+        rt.alloc(),
+        words.as_slice(),
+        &EMPTY_CLASS[..8],
+        2,
+        b"",
+        b"jvm: a.j: C3\n",
+    )?;
+    // the last instruction is no instruction, then one that doesn't end the code
+    let mut changed = Vec::from_slice(rt.alloc(), EMPTY_CLASS)?;
+    changed[93] = 0xff;
+    check(
+        &rt,
+        rt.alloc(),
+        words.as_slice(),
+        changed.as_slice(),
+        2,
+        b"",
+        b"jvm: a.j: O1 in method main()V\n",
+    )?;
+    changed[93] = 0;
+    check(
+        &rt,
+        rt.alloc(),
+        words.as_slice(),
+        changed.as_slice(),
+        3,
+        b"",
+        b"jvm: fault F5 in thread 0\n",
     )
 }
 
@@ -294,6 +451,17 @@ fn command_lines_are_taken_or_refused(rt: HostRuntime) -> Result<(), Fail> {
     let alloc = rt.alloc();
     assert_eq!(rt; line_status(alloc, ["run", "a.j", "b.j"].as_slice())?, 1);
     assert_eq!(rt; line_status(alloc, ["run"].as_slice())?, 7);
+    assert_eq!(rt;
+        line_status(alloc, ["asm", "a.j", "a.class"].as_slice())?,
+        1
+    );
+    assert_eq!(rt; line_status(alloc, ["asm", "a.j"].as_slice())?, 8);
+    assert_eq!(rt; line_status(alloc, ["dis", "a.class"].as_slice())?, 1);
+    assert_eq!(rt; line_status(alloc, ["dis"].as_slice())?, 8);
+    assert_eq!(rt;
+        line_status(alloc, ["dis", "a.class", "b.class"].as_slice())?,
+        8
+    );
     assert_eq!(rt;
         line_status(alloc, ["run", "--gc", "1000", "a.j"].as_slice())?,
         1

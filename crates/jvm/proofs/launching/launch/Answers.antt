@@ -1,8 +1,8 @@
 use Rattle.std.proofs.Common.{ℕ, List, subst, Vec}
 use Rattle.std.specs.Global.{Global}
-use Rattle.jvm.specs.Launching.{Excuses, texts_of}
+use Rattle.jvm.specs.Launching.{Excuses, bytes_of}
 use Rattle.jvm.proofs.launching.launch.Goals as goal
 
 pub returns-in-Err-clause-refused : goal.returns-in-Err-clause-refused
 returns-in-Err-clause-refused c =
-    subst (λ (ss : List (Vec ℕ Global)). Excuses (texts_of ss) c.args.shape c.args.limits c.in-Err.error) c.as_slice.ensures.value (c.in-Err.ensures c.args.shape c.args.limits)
+    subst (λ (ss : List (Vec ℕ Global)). Excuses (bytes_of ss) c.args.shape c.args.limits c.in-Err.error) c.as_slice.ensures.value (c.in-Err.ensures c.args.shape c.args.limits)

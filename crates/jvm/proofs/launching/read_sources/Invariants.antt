@@ -1,7 +1,7 @@
-use Rattle.std.proofs.Common.{◌≡◌, drop}
-use Rattle.jvm.specs.Launching.{listings_after, listings_of, texts_of}
+use Rattle.std.proofs.Common.{take}
+use Rattle.jvm.specs.Launching.{AreListings, bytes_of}
 use Rattle.jvm.proofs.launching.read_sources.Given as goal
 
--- the listings so far and those of the other sources are those of all
+-- the listings so far are those of the sources so far
 abbrev pub invariant-loop-place : goal.invariant-loop-place
-invariant-loop-place l = listings_after l.listings.items (listings_of (texts_of (drop l.place l.sources))) ≡ listings_of (texts_of l.sources)
+invariant-loop-place l = AreListings (bytes_of (take l.place l.sources)) l.listings.items

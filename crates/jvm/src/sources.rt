@@ -1,0 +1,77 @@
+//! Sources: class files, and texts that are assembled.
+ghost use Rattle.std.specs.Prelude.{◌≡◌, IfOk, IfErr};
+ghost use Rattle.model.specs.ClassFiles.Listing.{listing_of};
+ghost use Rattle.model.specs.ClassListings.{ClassListing};
+ghost use Rattle.jvm.specs.Launching.{IsListing, IsTextListing, LacksMemory, begins_as_class};
+
+use assembler::{AsmError, assemble};
+use classfile::{ClassError, ClassFile};
+use jasmin::TextError;
+use model::listings::Listing;
+use std::alloc::Global;
+use thiserror::Error;
+
+/// Why a source has no listing.
+#[derive(Debug, Drop, Error)]
+pub enum SourceError {
+    /// It is no text of the syntax: `J5 at line 6`.
+    #[error("{0}")]
+    Text(TextError),
+    /// It doesn't assemble: `A1 in method main()V`.
+    #[error("{0}")]
+    Assembly(AsmError),
+    /// It is no class file: `C3`, `O4 in method main()V`.
+    #[error("{0}")]
+    Class(ClassError),
+    /// Memory ran out.
+    #[error("memory")]
+    Memory,
+}
+
+/// Whether a source is to be a class file, which begins with these bytes (JVMS 4.1).
+fn begins_as_class(source: &[u8]) -> bool
+    ensures { result ≡ begins_as_class source.now }
+{
+    source.starts_with(&[0xca, 0xfe, 0xba, 0xbe])
+}
+
+/// The class file that a text assembles to. A refusal of the text or of the assembler, or for memory.
+pub fn assembled(alloc: Global, text: &[u8]) -> Result<ClassFile, SourceError>
+    ensures found { IfOk result (λ file. IsTextListing text.now (listing_of file)) }
+    ensures refused { IfErr result (λ e. (LacksMemory e → ⊥) → (listing : ClassListing) → IsTextListing text.now listing → ⊥) }
+{
+    let tree = match jasmin::read(alloc, text) {
+        Ok(tree) => tree,
+        Err(error) => return Err(SourceError::Text(error)),
+    };
+    match assemble(alloc, &tree) {
+        Ok(file) => Ok(file),
+        Err(error) => Err(SourceError::Assembly(error)),
+    }
+}
+
+/// The class file of a source: read, or assembled from its text.
+fn class_file(alloc: Global, source: &[u8]) -> Result<ClassFile, SourceError>
+    ensures found { IfOk result (λ file. IsListing source.now (listing_of file)) }
+    ensures refused { IfErr result (λ e. (LacksMemory e → ⊥) → (listing : ClassListing) → IsListing source.now listing → ⊥) }
+{
+    if !begins_as_class(source) {
+        return assembled(alloc, source);
+    }
+    match classfile::read(alloc, source) {
+        Ok(file) => Ok(file),
+        Err(error) => Err(SourceError::Class(error)),
+    }
+}
+
+/// The listing of a source.
+pub fn source_listing(alloc: Global, source: &[u8]) -> Result<Listing, SourceError>
+    ensures found { IfOk result (λ listing. IsListing source.now listing) }
+    ensures refused { IfErr result (λ e. (LacksMemory e → ⊥) → (listing : ClassListing) → IsListing source.now listing → ⊥) }
+{
+    let file = class_file(alloc, source)?;
+    match classfile::listing(alloc, &file) {
+        Ok(listing) => Ok(listing),
+        Err(_) => Err(SourceError::Memory),
+    }
+}
