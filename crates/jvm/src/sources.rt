@@ -44,6 +44,7 @@ pub fn assembled(alloc: Global, text: &[u8]) -> Result<ClassFile, SourceError>
         Ok(tree) => tree,
         Err(error) => return Err(SourceError::Text(error)),
     };
+    jasmin::texts_are_spelled();
     match assemble(alloc, &tree) {
         Ok(file) => Ok(file),
         Err(error) => Err(SourceError::Assembly(error)),
