@@ -5,287 +5,384 @@ use crate::laws::texts_are_spelled;
 use crate::reader::read;
 use bitflags::Flags;
 use model::flags::ClassFlags;
+use model::listings::Constant;
+use std::alloc::Global;
+use std::process::Abort;
 use std::test::Fail;
 
-const SMALLEST: &str =
-    ".class public E\n.super java/lang/Object\n.method public static main()V\n.limit stack 0\n.limit locals 0\nreturn\n.end method\n";
+/// What `H`, `I`, `M` and `Z` stand for in a row: a class, an interface, the class with a method up to its code, which
+/// begins at line 6, and the end of a method.
+const HEAD: &str = ".class E\n.super java/lang/Object";
 
-/// The refusal of a text, as line and fault, or line 0 where it is read.
-fn refusal(rt: &HostRuntime, text: &[u8]) -> (usize, Fault) {
-    match read(rt.alloc(), text) {
-        Ok(_) => (0, Fault::Memory),
-        Err(TextError { line, fault }) => (line, fault),
+const INTERFACE: &str = ".interface E\n.super java/lang/Object";
+
+const METHOD: &str =
+    ".class E\n.super java/lang/Object\n.method static main()V\n.limit stack 1\n.limit locals 0";
+
+const END: &str = "return\n.end method\n";
+
+// In each row a text, of which a bar ends a line, and what becomes of it.
+
+/// Classes, interfaces and the order of statements.
+const CLASSES: &str = " => J1 at line 1
+; no class| => J1 at line 2
+.class E => J1 at line 2
+.class E|| => J1 at line 3
+H| => read
+.class E|.super A => read
+.super A|.class E| => J1 at line 1
+.class E|foo| => J1 at line 2
+.class E|.implements A|.super A| => J1 at line 2
+H|.super A| => J1 at line 3
+H|return| => J1 at line 3
+H|X:| => J1 at line 3
+H|.end foo| => J1 at line 3
+H|.limit foo 1| => J1 at line 3
+H|.field x I|.implements A| => J1 at line 4
+H|.method abstract f()V|.end method|.field x I| => J1 at line 5
+H|.method abstract f()V|.end method|.implements 9| => J1 at line 5
+.class| => J3 at line 1
+.class public|.super A| => read
+.class public public E| => J3 at line 1
+.class private E| => J3 at line 1
+.class final abstract E| => J3 at line 1
+.class a//b| => J3 at line 1
+.class 9| => J3 at line 1
+.class E|.super A B| => J3 at line 2
+.interface final E| => J3 at line 1
+.interface| => J3 at line 1
+.interface E|.super A| => J3 at line 2
+.interface public E|.super java/lang/Object| => read
+I|.method public f()V| => J3 at line 3
+I|.method abstract f()V| => J3 at line 3
+I|.method public abstract f()V|.end method| => read
+H|.implements A|.implements a/b|.field x I|.method abstract f()V|.end method| => read
+H|.implements| => J3 at line 3
+H|.implements A B| => J3 at line 3
+H|.implements [A| => J3 at line 3
+";
+
+/// Fields.
+const FIELDS: &str = "H|.field public I| => read
+H|.field private static final x J = -9223372036854775808| => read
+H|.field static x B = 2147483647| => read
+H|.field volatile transient protected x [[La/B;| => read
+H|.field| => J3 at line 3
+H|.field x| => J3 at line 3
+H|.field x V| => J3 at line 3
+H|.field x F| => J3 at line 3
+H|.field <init> I| => J3 at line 3
+H|.field a/x I| => J3 at line 3
+H|.field static static x I| => J3 at line 3
+H|.field abstract x I| => J3 at line 3
+H|.field x I I| => J3 at line 3
+H|.field x I = 1| => J3 at line 3
+H|.field static x [I = 1| => J3 at line 3
+H|.field static x La/B; = 1| => J3 at line 3
+H|.field static x I = | => J3 at line 3
+H|.field static x I =1| => J3 at line 3
+H|.field static x I = 1 2| => J3 at line 3
+H|.field static x I = 01| => J3 at line 3
+H|.field static x I = x| => J3 at line 3
+H|.field x I = 2147483648| => J3 at line 3
+H|.field static 9 I = 2147483648| => J3 at line 3
+H|.field static x I = 2147483648| => J4 at line 3
+H|.field static x S = -2147483649| => J4 at line 3
+H|.field static x J = 9223372036854775808| => J4 at line 3
+I|.field x I| => J3 at line 3
+I|.field public static x I| => J3 at line 3
+I|.field public static final x I = 1| => read
+";
+
+/// Methods, their limits and their ends.
+const METHODS: &str = "H|.method abstract static f()V| => J3 at line 3
+H|.method f| => J3 at line 3
+H|.method f(F)V| => J3 at line 3
+H|.method f([V)V| => J3 at line 3
+H|.method a/f()V| => J3 at line 3
+H|.method f([J[[La/B;)[I| => J6 at line 4
+H|.method <init>()V| => J6 at line 4
+H|.method native f()V| => J6 at line 4
+H|.method native f()V|.method f()V| => J6 at line 4
+H|.method native f()V|.method f| => J3 at line 4
+H|.method native f()V|.end foo| => J3 at line 4
+H|.method native f()V|return|.end method| => J1 at line 4
+H|.method abstract f()V|.end method => read
+M| => J6 at line 6
+M|return| => J6 at line 7
+M|.method f()V| => J6 at line 6
+M|.method f| => J3 at line 6
+M|.end foo| => J3 at line 6
+M|.end| => J3 at line 6
+H|.method f()V|.end method| => J7 at line 4
+H|.method f()V|.limit stack 1|.end method| => J7 at line 5
+H|.method f()V|.limit locals 1|.end method| => J7 at line 5
+M|.limit stack 1| => J1 at line 6
+M|.limit locals x| => J1 at line 6
+M|.limit foo 1| => J3 at line 6
+H|.method f()V|.limit stack 65536| => J4 at line 4
+H|.method f()V|.limit stack 99999999999999999999999| => J4 at line 4
+H|.method f()V|.limit stack -1| => J4 at line 4
+H|.method f()V|.limit stack 01| => J3 at line 4
+H|.method f()V|.limit stack 65535|.limit locals 0|.end method| => read
+H|.method f()V|X:|nop|.limit stack 1|Y:|return|.catch all from X to Y using X|.limit locals 0|.end method| => read
+M|.class E| => J1 at line 6
+M|.foo| => J1 at line 6
+M|.field x I| => J1 at line 6
+";
+
+/// Instructions and their operands.
+const INSTRUCTIONS: &str = "M|fadd|Z => J2 at line 6
+M|iload_4|Z => J2 at line 6
+M|wide foo|Z => J2 at line 6
+M|wide wide iload 3|Z => J2 at line 6
+M|wide|Z => J3 at line 6
+M|wide nop|Z => J3 at line 6
+M|wide iload_3|Z => J3 at line 6
+M|wide iload 65536|Z => J4 at line 6
+M|iload|Z => J3 at line 6
+M|iload -1|Z => J4 at line 6
+M|iload x|Z => J3 at line 6
+M|iinc 70000 x|Z => J3 at line 6
+M|iinc 70000 1|Z => J4 at line 6
+M|iinc 1 32768|Z => J4 at line 6
+M|iinc 1|Z => J3 at line 6
+M|iinc 1 2 3|Z => J3 at line 6
+M|nop nop|Z => J3 at line 6
+M|bipush|Z => J3 at line 6
+M|bipush 05|Z => J3 at line 6
+M|bipush -0|Z => J3 at line 6
+M|bipush +5|Z => J3 at line 6
+M|bipush -129|Z => J4 at line 6
+M|bipush 128|Z => J4 at line 6
+M|sipush 32768|Z => J4 at line 6
+M|ldc 2147483648|Z => J4 at line 6
+M|ldc -9999999999999999999|Z => J4 at line 6
+M|ldc_w 2147483648|Z => J4 at line 6
+M|ldc2_w 9223372036854775808|Z => J4 at line 6
+M|getstatic A/x|Z => J3 at line 6
+M|getstatic x I|Z => J3 at line 6
+M|getstatic A/x F|Z => J3 at line 6
+M|getstatic A/x II|Z => J3 at line 6
+M|getfield A/<init> I|Z => J3 at line 6
+M|newarray|Z => J3 at line 6
+M|newarray boolean|Z => J3 at line 6
+M|anewarray [F|Z => J3 at line 6
+M|new [I|Z => J3 at line 6
+M|new A B|Z => J3 at line 6
+M|checkcast [A|Z => J3 at line 6
+M|invokestatic print(I)V|Z => J3 at line 6
+M|invokestatic vm/Sys/print|Z => J3 at line 6
+M|invokeinterface A/f()V|Z => J3 at line 6
+M|invokeinterface A/f()V 0|Z => J4 at line 6
+M|invokeinterface A/f()V 256|Z => J4 at line 6
+M|invokeinterface A/f()V -1|Z => J4 at line 6
+M|invokeinterface A/f 256|Z => J3 at line 6
+M|anewarray I|Z => read
+";
+
+/// Labels, rows and switches, and which of two faults is told.
+const LABELS: &str = "M|goto X|Z => J5 at line 6
+M|A:|A:|Z => J5 at line 7
+M|9X:|Z => J2 at line 6
+M|X: return|Z => J3 at line 6
+M|goto X|foo|Z => J5 at line 6
+M|goto X|foo|X:|Z => J2 at line 7
+M|goto X|X: foo|Z => J5 at line 6
+M|goto X|X: ;\x7f|Z => J8 at line 7
+M|goto X|X:|foo|.end method => J2 at line 8
+M|goto X|X:| => J3 at line 6
+M|goto X|X:|.end method| => J3 at line 6
+M|.catch all from A to A using A|A:|.end method| => J3 at line 6
+M|goto X|.method f()V|X:| => J5 at line 6
+M|goto X|.end method|.method f()V|.limit stack 0|.limit locals 0|X:|Z => J5 at line 6
+M|X:|nop|Y:|.catch all from X to Y using X|.end method| => read
+M|.catch all from A to B|Z => J3 at line 6
+M|.catch [A from A to B using A|Z => J3 at line 6
+M|iconst_0|tableswitch 0| => J6 at line 8
+M|iconst_0|tableswitch 0|X| => J5 at line 8
+M|iconst_0|tableswitch 0|default : X| => J3 at line 8
+M|iconst_0|tableswitch 2147483648| => J4 at line 7
+M|iconst_0|lookupswitch 1| => J3 at line 7
+M|iconst_0|lookupswitch|2147483648 : X|X:|Z => J4 at line 8
+M|iconst_0|lookupswitch|nop|X:|Z => J3 at line 8
+M|iconst_0|lookupswitch|foo| => J3 at line 8
+M|iconst_0|lookupswitch|X:| => J3 at line 8
+M|iconst_0|lookupswitch|.end method| => J3 at line 8
+M|goto X|lookupswitch|X:|Z => J3 at line 8
+M|iconst_0|lookupswitch|.foo| => J1 at line 8
+M|iconst_0|lookupswitch|.field x I| => J1 at line 8
+M|iconst_0|lookupswitch|.limit stack x| => J1 at line 8
+M|iconst_0|lookupswitch|.limit foo x| => J3 at line 8
+M|X:|iconst_0|tableswitch 5|X|default : X|Z => read
+M|X:|iconst_0|lookupswitch|default : X|Z => read
+";
+
+/// Bytes that may not stand in a text.
+const BYTES: &str = "\u{ca}\u{fe} => J8 at line 1
+.class E|.super A\r => J8 at line 2
+.class E\r|.super A\r| => read
+.class E|.super\rA| => J8 at line 2
+H|\u{e9}|.foo| => J8 at line 3
+M|foo ;\x7f|Z => J8 at line 6
+M|\x01|Z => J8 at line 6
+M|foo|bar\x01|Z => J2 at line 6
+M|nop\t; all right|; nothing|\t|Z => read
+";
+
+/// Adds a line of a row to a text.
+fn add(text: &mut String, line: &str) -> Result<(), Fail> {
+    if line == "H" {
+        text.push_str(HEAD)?;
+    } else if line == "I" {
+        text.push_str(INTERFACE)?;
+    } else if line == "M" {
+        text.push_str(METHOD)?;
+    } else if line == "Z" {
+        text.push_str(END)?;
+    } else {
+        text.push_str(line)?;
+    }
+    Ok(())
+}
+
+/// The text of a row.
+fn text_of(alloc: Global, row: &str) -> Result<String, Fail> {
+    let mut text = String::new(alloc);
+    let mut rest = row;
+    for _ in 0..row.len() {
+        let Some((line, behind)) = rest.split_once("|") else {
+            break;
+        };
+        add(&mut text, line)?;
+        text.push_str("\n")?;
+        rest = behind;
+    }
+    add(&mut text, rest)?;
+    Ok(text)
+}
+
+/// What becomes of a text: it is read, or refused.
+fn outcome(alloc: Global, text: &str) -> Result<String, Fail> {
+    match read(alloc, text.as_bytes()) {
+        Ok(_) => Ok(format!(in alloc; "read")?),
+        Err(error) => Ok(format!(in alloc; "{error}")?),
     }
 }
 
-/// The refusal of a method's body, which begins at line 4.
-fn refusal_of_body(rt: &HostRuntime, body: &str) -> Result<(usize, Fault), Fail> {
-    let text = format!(in rt.alloc(); ".class E\n.super A\n.method static main()V\n{body}")?;
-    Ok(refusal(rt, text.as_str().as_bytes()))
+/// Reads the text of each row.
+fn compare(rt: &impl Abort, alloc: Global, rows: &str) -> Result<(), Fail> {
+    let mut rest = rows;
+    for _ in 0..rows.len() {
+        let Some((row, behind)) = rest.split_once("\n") else {
+            break;
+        };
+        let (text, expected) = row.split_once(" => ").ok_or("no row")?;
+        let found = outcome(alloc, text_of(alloc, text)?.as_str())?;
+        assert_eq!(rt; (text, found.as_str()), (text, expected));
+        rest = behind;
+    }
+    assert_eq!(rt; rest, "");
+    Ok(())
 }
 
-/// The refusal of an instruction at line 6 of a method.
-fn refusal_of_line(rt: &HostRuntime, line: &str) -> Result<(usize, Fault), Fail> {
-    let body = format!(in rt.alloc();
-        ".limit stack 1\n.limit locals 0\n{line}\nreturn\n.end method\n"
-    )?;
-    refusal_of_body(rt, body.as_str())
+#[test]
+fn texts_are_read_or_refused(rt: HostRuntime) -> Result<(), Fail> {
+    for rows in [CLASSES, FIELDS, METHODS, INSTRUCTIONS, LABELS, BYTES] {
+        compare(&rt, rt.alloc(), rows)?;
+    }
+    Ok(())
 }
 
 #[test]
 fn the_smallest_program_is_read(rt: HostRuntime) -> Result<(), Fail> {
-    let tree = read(rt.alloc(), SMALLEST.as_bytes())?;
+    let text =
+        ".class public E\n.super java/lang/Object\n.method public static main()V\n.limit stack 0\n.limit locals 0\nreturn\n.end method\n";
+    let tree = read(rt.alloc(), text.as_bytes())?;
     assert_eq!(rt; tree.flags, ClassFlags::PUBLIC);
     assert_eq!(rt; tree.name.as_bytes(), b"E".as_slice());
     assert_eq!(rt; tree.superclass.as_bytes(), b"java/lang/Object".as_slice());
     assert_eq!(rt; tree.interfaces.len(), 0);
     assert_eq!(rt; tree.fields.len(), 0);
-    assert_eq!(rt; tree.methods.len(), 1);
-    let main = &tree.methods[0];
+    let main = tree.methods.first().ok_or("no method")?;
     assert_eq!(rt; main.name.as_bytes(), b"main".as_slice());
     assert_eq!(rt; main.descriptor.as_bytes(), b"()V".as_slice());
     assert_eq!(rt; main.flags.bits(), 0x0009);
     let body = main.body.as_ref().ok_or("no body")?;
-    assert_eq!(rt; body.max_stack, 0);
-    assert_eq!(rt; body.max_locals, 0);
-    assert_eq!(rt; body.lines.len(), 1);
+    assert_eq!(rt;
+        (body.max_stack, body.max_locals, body.lines.len()),
+        (0, 0, 1)
+    );
     texts_are_spelled();
     Ok(())
 }
 
 #[test]
-fn a_class_needs_its_statements_in_order(rt: HostRuntime) {
-    for (text, line, fault) in [
-        (b"".as_slice(), 1, Fault::Statement),
-        (b"; no class\n".as_slice(), 2, Fault::Statement),
-        (b".class E".as_slice(), 2, Fault::Statement),
-        (b".class E\n.super A\n".as_slice(), 0, Fault::Memory),
-        (b".super A\n.class E\n".as_slice(), 1, Fault::Statement),
-        (b".interface E\n.super A\n".as_slice(), 2, Fault::Operand),
-        (b".class E\nfoo\n".as_slice(), 2, Fault::Statement),
-        (
-            b".class E\n.super A\n.super A\n".as_slice(),
-            3,
-            Fault::Statement,
-        ),
-        (
-            b".class E\n.super A\n.field x I\n.implements B\n".as_slice(),
-            4,
-            Fault::Statement,
-        ),
-        (
-            b".class E\n.super A\nreturn\n".as_slice(),
-            3,
-            Fault::Statement,
-        ),
-        (
-            b".class E\n.super A\n.limit foo 1\n".as_slice(),
-            3,
-            Fault::Statement,
-        ),
-    ] {
-        assert_eq!(rt; refusal(&rt, text), (line, fault));
-    }
+fn an_interface_has_superinterfaces_and_values(rt: HostRuntime) -> Result<(), Fail> {
+    let text =
+        ".interface public a/I\n.super java/lang/Object\n.implements a/J\n.implements K\n.field public static final least J = -9223372036854775808\n.field public static final transient none La/I;\n.method public abstract m(J)I\n.end method\n";
+    let tree = read(rt.alloc(), text.as_bytes())?;
+    assert_eq!(rt; tree.flags.bits(), 0x0601);
+    assert_eq!(rt;
+        (tree.interfaces.len(), tree.fields.len(), tree.methods.len()),
+        (2, 2, 1)
+    );
+    let first = tree.interfaces.first().ok_or("no interface")?;
+    assert_eq!(rt; first.as_bytes(), b"a/J".as_slice());
+    let least = tree.fields.first().ok_or("no field")?;
+    assert_eq!(rt; least.flags.bits(), 0x0019);
+    assert_eq!(rt; least.name.as_bytes(), b"least".as_slice());
+    assert_eq!(rt; least.descriptor.as_bytes(), b"J".as_slice());
+    assert_eq!(rt;
+        least.constant,
+        Some(Constant::Long(-9_223_372_036_854_775_808))
+    );
+    let none = tree.fields.last().ok_or("no field")?;
+    assert_eq!(rt; none.flags.bits(), 0x0099);
+    assert_eq!(rt; none.constant, None);
+    Ok(())
 }
 
-#[test]
-fn heads_have_flags_and_names(rt: HostRuntime) {
-    for (text, line, fault) in [
-        (b".class\n".as_slice(), 1, Fault::Operand),
-        (b".class public\n.super A\n".as_slice(), 0, Fault::Memory),
-        (b".class public public E\n".as_slice(), 1, Fault::Operand),
-        (b".class private E\n".as_slice(), 1, Fault::Operand),
-        (b".class final abstract E\n".as_slice(), 1, Fault::Operand),
-        (b".class a//b\n".as_slice(), 1, Fault::Operand),
-        (b".class 9\n".as_slice(), 1, Fault::Operand),
-        (b".class E\n.super A B\n".as_slice(), 2, Fault::Operand),
-    ] {
-        assert_eq!(rt; refusal(&rt, text), (line, fault));
+/// A piece, so many times.
+fn repeated(alloc: Global, piece: &str, count: usize) -> Result<String, Fail> {
+    let mut text = String::new(alloc);
+    for _ in 0..count {
+        text.push_str(piece)?;
     }
-    assert_eq!(rt;
-        refusal(
-            &rt,
-            b".class E\n.super A\n.method abstract f()V\n.end method"
-        ),
-        (0, Fault::Memory)
-    );
-    for (text, line, fault) in [
-        (
-            b".class E\n.super A\n.method abstract static f()V\n".as_slice(),
-            3,
-            Fault::Operand,
-        ),
-        (
-            b".class E\n.super A\n.method f\n".as_slice(),
-            3,
-            Fault::Operand,
-        ),
-        (
-            b".class E\n.super A\n.method f(F)V\n".as_slice(),
-            3,
-            Fault::Operand,
-        ),
-        (
-            b".class E\n.super A\n.method f([J[[La/B;)[I\n".as_slice(),
-            4,
-            Fault::End,
-        ),
-        (
-            b".class E\n.super A\n.method f([V)V\n".as_slice(),
-            3,
-            Fault::Operand,
-        ),
-        (
-            b".class E\n.super A\n.method a/f()V\n".as_slice(),
-            3,
-            Fault::Operand,
-        ),
-        (
-            b".class E\n.super A\n.method <init>()V\n".as_slice(),
-            4,
-            Fault::End,
-        ),
-    ] {
-        assert_eq!(rt; refusal(&rt, text), (line, fault));
-    }
+    Ok(text)
 }
 
 #[test]
 fn arguments_have_255_units_with_the_object(rt: HostRuntime) -> Result<(), Fail> {
-    let longs =
-        "JJJJJJJJJJJJJJJJJJJJJJJJJJJJJJJJJJJJJJJJJJJJJJJJJJJJJJJJJJJJJJJJJJJJJJJJJJJJJJJJJJJJJJJJJJJJJJJJJJJJJJJJJJJJJJJJJJJJJJJJJJJJJJJ";
-    let most = format!(in rt.alloc(); ".class E\n.super A\n.method f({longs})V\n")?;
-    assert_eq!(rt; refusal(&rt, most.as_str().as_bytes()), (4, Fault::End));
-    let over = format!(in rt.alloc(); ".class E\n.super A\n.method f({longs}I)V\n")?;
-    assert_eq!(rt; refusal(&rt, over.as_str().as_bytes()), (3, Fault::Operand));
-    let shared = format!(in rt.alloc(); ".class E\n.super A\n.method static f({longs}I)V\n")?;
-    assert_eq!(rt; refusal(&rt, shared.as_str().as_bytes()), (4, Fault::End));
+    let longs = repeated(rt.alloc(), "J", 127)?;
+    for (flags, more, expected) in [
+        ("", "", "J6 at line 4"),
+        ("", "I", "J3 at line 3"),
+        ("static ", "I", "J6 at line 4"),
+        ("static ", "J", "J3 at line 3"),
+    ] {
+        let text = format!(in rt.alloc(); "{HEAD}\n.method {flags}f({longs}{more})V\n")?;
+        assert_eq!(rt; outcome(rt.alloc(), text.as_str())?.as_str(), expected);
+    }
+    let text = format!(in rt.alloc(); "{METHOD}\ninvokevirtual E/f({longs}I)V\n{END}")?;
+    assert_eq!(rt; outcome(rt.alloc(), text.as_str())?.as_str(), "read");
     Ok(())
 }
 
 #[test]
-fn a_method_has_its_limits_and_its_end(rt: HostRuntime) -> Result<(), Fail> {
-    for (text, line, fault) in [
-        ("", 4, Fault::End),
-        ("return\n", 5, Fault::End),
-        (".method f()V\n", 4, Fault::End),
-        (".method f\n", 4, Fault::Operand),
-        (".end method\n", 4, Fault::Limit),
-        (".limit stack 1\nreturn\n.end method\n", 6, Fault::Limit),
-        (".limit stack 1\n.limit stack 1\n", 5, Fault::Statement),
-        (".limit locals 1\n.limit locals 2\n", 5, Fault::Statement),
-        (
-            ".limit stack 65535\n.limit locals 0\n.end method\n",
-            0,
-            Fault::Memory,
-        ),
-        (".limit stack 1\n.limit stack x\n", 5, Fault::Statement),
-        (".limit stack 65536\n", 4, Fault::Range),
-        (".limit stack 99999999999999999999999\n", 4, Fault::Range),
-        (".limit stack -1\n", 4, Fault::Range),
-        (".limit stack 01\n", 4, Fault::Operand),
-        (".limit foo 1\n", 4, Fault::Operand),
-        (".end foo\n", 4, Fault::Operand),
-        (".end\n", 4, Fault::Operand),
-        (".class E\n", 4, Fault::Statement),
-        (".foo\n", 4, Fault::Statement),
-    ] {
-        assert_eq!(rt; refusal_of_body(&rt, text)?, (line, fault));
-    }
-    let text = b".class E\n.super A\n.method native f()V\nreturn\n.end method\n";
-    assert_eq!(rt; refusal(&rt, text), (4, Fault::Statement));
-    let text = b".class E\n.super A\n.method native f()V\n.end foo\n";
-    assert_eq!(rt; refusal(&rt, text), (4, Fault::Operand));
-    let text = b".class E\n.super A\n.method native f()V\n.method f()V\n";
-    assert_eq!(rt; refusal(&rt, text), (4, Fault::End));
-    let text = b".class E\n.super A\n.method native f()V\n";
-    assert_eq!(rt; refusal(&rt, text), (4, Fault::End));
-    Ok(())
-}
-
-#[test]
-fn instructions_have_their_operands(rt: HostRuntime) -> Result<(), Fail> {
-    for (text, line, fault) in [
-        ("nop", 0, Fault::Memory),
-        ("goto X", 6, Fault::Label),
-        ("wide nop", 6, Fault::Operand),
-        ("wide iload_3", 6, Fault::Operand),
-        ("wide", 6, Fault::Operand),
-        ("wide foo", 6, Fault::Mnemonic),
-        ("wide wide iload 3", 6, Fault::Mnemonic),
-        ("wide iload 65536", 6, Fault::Range),
-        ("iload", 6, Fault::Operand),
-        ("iload -1", 6, Fault::Range),
-        ("iload x", 6, Fault::Operand),
-        ("iload_4", 6, Fault::Mnemonic),
-        ("iinc 70000 x", 6, Fault::Operand),
-        ("iinc 70000 1", 6, Fault::Range),
-        ("iinc 1 32768", 6, Fault::Range),
-        ("iinc 1", 6, Fault::Operand),
-        ("iinc 1 2 3", 6, Fault::Operand),
-        ("ldc2_w 9223372036854775808", 6, Fault::Range),
-        ("ldc_w 2147483648", 6, Fault::Range),
-        ("getstatic A/x I", 0, Fault::Memory),
-        ("getstatic A/x", 6, Fault::Operand),
-        ("getstatic x I", 6, Fault::Operand),
-        ("getstatic A/x F", 6, Fault::Operand),
-        ("getstatic A/x II", 6, Fault::Operand),
-        ("getfield A/<init> I", 6, Fault::Operand),
-        ("newarray boolean", 6, Fault::Operand),
-        ("newarray", 6, Fault::Operand),
-        ("anewarray I", 0, Fault::Memory),
-        ("anewarray [F", 6, Fault::Operand),
-        ("new [I", 6, Fault::Operand),
-        ("new A B", 6, Fault::Operand),
-        ("checkcast [A", 6, Fault::Operand),
-        ("invokeinterface A/f()V", 6, Fault::Operand),
-        ("invokeinterface A/f()V 0", 6, Fault::Range),
-        ("invokeinterface A/f()V 256", 6, Fault::Range),
-        ("invokeinterface A/f()V -1", 6, Fault::Range),
-        ("invokeinterface A/f 256", 6, Fault::Operand),
-        ("fadd", 6, Fault::Mnemonic),
-        ("nop nop", 6, Fault::Operand),
-        ("bipush -128", 0, Fault::Memory),
-        ("bipush -129", 6, Fault::Range),
-        ("bipush 128", 6, Fault::Range),
-        ("bipush 05", 6, Fault::Operand),
-        ("bipush -0", 6, Fault::Operand),
-        ("bipush +5", 6, Fault::Operand),
-        ("bipush", 6, Fault::Operand),
-        ("sipush 32767 ; all right", 0, Fault::Memory),
-        ("sipush 32768", 6, Fault::Range),
-        ("ldc -2147483648", 0, Fault::Memory),
-        ("ldc 2147483648", 6, Fault::Range),
-        ("ldc -9223372036854775808", 6, Fault::Range),
-        ("ldc -9999999999999999999", 6, Fault::Range),
-        ("invokestatic vm/Sys/print(I)V", 0, Fault::Memory),
-        ("invokestatic print(I)V", 6, Fault::Operand),
-        ("invokestatic vm/Sys/print", 6, Fault::Operand),
-    ] {
-        assert_eq!(rt; refusal_of_line(&rt, text)?, (line, fault));
-    }
-    Ok(())
-}
-
-#[test]
-fn the_least_faulty_line_is_told(rt: HostRuntime) -> Result<(), Fail> {
-    for (text, line, fault) in [
-        ("foo ;\x7f", 6, Fault::Byte),
-        ("foo\nbar\x01", 6, Fault::Mnemonic),
-    ] {
-        assert_eq!(rt; refusal_of_line(&rt, text)?, (line, fault));
-    }
-    for (text, line, fault) in [
-        (b".class E\r\n.super A\r".as_slice(), 2, Fault::Byte),
-        (b".class E\n.super A\n\xff\n.foo".as_slice(), 3, Fault::Byte),
-        (
-            b"\xca\xfe\xba\xbe\x00\x00\x00\x31".as_slice(),
-            1,
-            Fault::Byte,
-        ),
-    ] {
-        assert_eq!(rt; refusal(&rt, text), (line, fault));
-    }
+fn names_have_65535_bytes_and_labels_more(rt: HostRuntime) -> Result<(), Fail> {
+    let alloc = rt.alloc();
+    let name = repeated(alloc, "aaaaaaaaaaaaaaa", 4369)?;
+    let line = format!(in alloc; ".implements {name}\n")?;
+    let lines = repeated(alloc, line.as_str(), 40)?;
+    let text = format!(in alloc; "{HEAD}\n{lines}")?;
+    assert_eq!(rt; outcome(alloc, text.as_str())?.as_str(), "read");
+    let text = format!(in alloc; "{HEAD}\n{lines}.implements {name}a\n")?;
+    assert_eq!(rt; outcome(alloc, text.as_str())?.as_str(), "J3 at line 43");
+    let text = format!(in alloc; "{HEAD}\n.field {name} I\n.field {name}a I\n")?;
+    assert_eq!(rt; outcome(alloc, text.as_str())?.as_str(), "J3 at line 4");
+    let text = format!(in alloc; "{METHOD}\n{name}a:\n{END}")?;
+    assert_eq!(rt; outcome(alloc, text.as_str())?.as_str(), "read");
     Ok(())
 }
 
