@@ -379,19 +379,20 @@ fn opcode_alone(instruction: &Written) -> u16 {
 /// Reads rows as a method's body, and compares each instruction with its comment.
 fn compare(rt: &impl Abort, alloc: Global, rows: &str) -> Result<(), Fail> {
     let text = format!(in alloc;
-        ".class E\n.super A\n.method static main()V\n.limit stack 1\n.limit locals 0\nX:\n{rows}.end method\n"
+        ".class E\n.super A\n.method static main()V\n.limit stack 1\n.limit locals 0\n{rows}X:\nreturn\n.end method\n"
     )?;
     let tree = read(alloc, text.as_str().as_bytes())?;
     let method = tree.methods.first().ok_or("no method")?;
     let body = method.body.as_ref().ok_or("no body")?;
     let mut rest = rows;
     for line in body.lines.as_slice() {
-        if let TextLine::Instruction(instruction) = line {
-            let (row, behind) = rest.split_once("\n").ok_or("no row is left")?;
-            let (_, expected) = row.split_once(" ; ").ok_or("no comment")?;
-            assert_eq!(rt; said(alloc, instruction)?.as_str(), expected);
-            rest = behind;
-        }
+        let TextLine::Instruction(instruction) = line else {
+            break;
+        };
+        let (row, behind) = rest.split_once("\n").ok_or("no row is left")?;
+        let (_, expected) = row.split_once(" ; ").ok_or("no comment")?;
+        assert_eq!(rt; said(alloc, instruction)?.as_str(), expected);
+        rest = behind;
     }
     assert_eq!(rt; rest, "");
     Ok(())
