@@ -1,6 +1,7 @@
 pub mod BuiltinLemmas
 pub mod LimitLemmas
+pub mod ParentLemmas
+pub mod ReachedLemmas
 pub mod ReferenceLemmas
 pub mod RunLemmas
 pub mod StepTables
-pub mod SubclassLemmas

@@ -1,15 +1,10 @@
 -- What the machine carries out so far refers to nothing but its own methods, which are found.
-use Rattle.std.proofs.Common.{◌≡◌, ℕ, zero, suc, ◌+◌, ◌-◌, ◌<◌, length, List, [], ◌∷◌, ◌++◌, Bool, true, false, cond, not, ◌&&◌, ◌||◌, Option, Some, None, is_some, refl, arith, ap, sym, ◌∙◌}
+use Rattle.std.proofs.Common.{◌≡◌, ℕ, zero, suc, ◌+◌, ◌-◌, ◌<◌, length, List, [], ◌∷◌, Bool, true, false, cond, not, ◌&&◌, ◌||◌, Option, Some, None, is_some, refl, arith, ap}
 use Rattle.std.proofs.lemmas.Slice.Eq.{bytes_eq-Decides}
 use Rattle.std.specs.Prelude.{codes}
 use Rattle.std.specs.List.{find, list_all, list_any}
 use Rattle.std.specs.Str.{bytes_eq}
-use Rattle.model.specs.declared.builtins.Builtin.{Builtin}
 use Rattle.model.specs.declared.builtins.Builtin.TheVariants.{PrintInt}
-use Rattle.model.specs.declared.instructions.Constant.{Constant as ConstantOf}
-use Rattle.model.specs.declared.instructions.Invocation.{Invocation}
-use Rattle.model.specs.declared.instructions.Invocation.TheVariants.{Virtual, Special, Static, Interface}
-use Rattle.model.specs.declared.instructions.Instruction.TheVariants.{Nop, Constant, Local, Stack, Number, Branch, TableSwitch, LookupSwitch, Return, Static as StaticField, Field, Array, Class, Invoke, Throw, Monitor}
 use Rattle.model.specs.declared.listings.ExceptionRow.{ExceptionRow}
 use Rattle.model.specs.declared.listings.Method.{Method}
 use Rattle.model.specs.declared.listings.Placed.{Placed}
@@ -21,8 +16,7 @@ use Rattle.model.specs.Served.{is_served, serves_rows, serves_code, serves_field
 use Rattle.model.specs.Table.Next.{Listed}
 use Rattle.model.specs.Classes.Builtin.{builtin_class, builtin_classes, print_methods}
 use Rattle.model.specs.Classes.Named.{listed, builtin, class_named}
-use Rattle.model.specs.Classes.Search.{with_superclasses, upwards, superclasses, superinterfaces, first_declared}
-use Rattle.model.specs.Classes.Resolution.{method_of, resolved_method}
+use Rattle.model.specs.Classes.Search.{with_superclasses, upwards}
 use Rattle.model.specs.Accepted.BuiltinNames.{has_builtin_name}
 use Rattle.model.specs.Accepted.References.{finds_static, resolves, catch_resolves, is_unresolved_in, has_unresolved}
 use Rattle.model.specs.Accepted.RefusedMembers.{is_refused, has_refused_member}

@@ -1,4 +1,4 @@
-use Rattle.std.specs.Prelude.{◌≡◌, ℕ, List, Some, None, Option}
+use Rattle.std.specs.Prelude.{◌≡◌, List, Some, None}
 use Rattle.model.specs.ClassListings.{ClassListing}
 use Rattle.model.specs.Accepted.Refusals.{LoadRefusal, refusal_of}
 use Rattle.loader.specs.declared.errors.LoadError.{LoadError}

@@ -1,4 +1,4 @@
-use Rattle.std.specs.Prelude.{ℕ, List, Option, Some, None, Result, Ok, Err}
+use Rattle.std.specs.Prelude.{Option, Some, None, Result, Ok, Err}
 use Rattle.std.specs.Option.{option_map, option_copied}
 use Rattle.model.specs.ClassListings.{ClassListing}
 use Rattle.model.specs.Accepted.Refusals.{LoadRefusal}

@@ -6,7 +6,7 @@ ghost use Rattle.loader.specs.Errors.{Tells, IsRefusedBy};
 ghost use Rattle.loader.specs.Steps.{CanRun};
 
 use crate::errors::LoadError;
-use crate::rules::{Refusal, obeys_rules};
+use crate::rules::{Refusal, first_refusal};
 use model::listings::Listing;
 use model::names::Name;
 use std::alloc::Global;
@@ -25,16 +25,17 @@ fn told(alloc: Global, refusal: Refusal<'_>) -> LoadError
 }
 
 /// Tests whether these listings, in order, are a program: the rules are tried in their order, each over all classes.
-/// An error names the first rule that is broken and the first class that breaks it; `Memory` comes only where its name
-/// can't be copied. It searches by names, so it takes some time at hundreds of classes (JVMS 5.3).
+/// An error names the first rule that is broken and the first class that breaks it; `Memory` comes where memory runs out.
+/// It searches by names, so it takes some time at thousands of classes (JVMS 5.3).
 #[tactic(auto, using(crate::proofs::RunLemmas::accepted_runs))]
 pub fn accept(alloc: Global, program: &[Listing]) -> Result<(), LoadError>
     ensures accepted { OnOk result (refusal_of program.now ≡ None) }
     ensures runs { OnOk result (CanRun program.now) }
     ensures refused { IfErr result (IsRefusedBy program.now) }
 {
-    match obeys_rules(program) {
-        Ok(()) => Ok(()),
-        Err(refusal) => Err(told(alloc, refusal)),
+    match first_refusal(alloc, program) {
+        Ok(Ok(())) => Ok(()),
+        Ok(Err(refusal)) => Err(told(alloc, refusal)),
+        Err(error) => Err(LoadError::Memory(error)),
     }
 }

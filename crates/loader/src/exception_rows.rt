@@ -1,11 +1,11 @@
 //! What is asked of exception rows (JVMS 4.7.3).
-ghost use Rattle.std.specs.Prelude.{◌≡◌, ◌==◌, ◌||◌};
+ghost use Rattle.std.specs.Prelude.{◌≡◌, ◌==◌, ◌&&◌, ◌||◌, nat_lt, IfOk};
 ghost use Rattle.std.specs.List.{list_any};
 ghost use Rattle.model.specs.Accepted.ExceptionRows.{is_instruction, code_length, is_bad_row, is_no_throwable, has_bad_row_in, has_bad_row};
-ghost use Rattle.model.specs.declared.listings.Method.{Method as MethodListing};
 
 use crate::subclasses::is_subclass;
 use model::listings::{Code, ExceptionRow, Listing, Method};
+use std::alloc::{AllocError, Global};
 
 /// Whether an instruction of the code begins at this pc.
 fn is_instruction(code: &Code, pc: u16) -> bool
@@ -25,51 +25,76 @@ fn is_end(code: &Code, pc: u16) -> bool
         }
 }
 
-fn is_no_throwable(program: &[Listing], row: &ExceptionRow) -> bool
-    ensures { result ≡ is_no_throwable program.now row.now.class }
+fn is_no_throwable(
+    alloc: Global,
+    program: &[Listing],
+    row: &ExceptionRow,
+) -> Result<bool, AllocError>
+    ensures { IfOk result (λ found. found ≡ is_no_throwable program.now row.now.class) }
 {
     match &row.class {
-        Some(name) => !is_subclass(program, name.as_bytes(), b"java/lang/Throwable"),
-        None => false,
+        Some(name) => Ok(!is_subclass(alloc, program, name.as_bytes(), b"java/lang/Throwable")?),
+        None => Ok(false),
     }
 }
 
-fn is_bad_row(program: &[Listing], code: &Code, row: &ExceptionRow) -> bool
-    ensures { result ≡ is_bad_row program.now code.now row.now }
+/// Whether the bounds and the handler of a row are right.
+fn is_placed(code: &Code, row: &ExceptionRow) -> bool
+    ensures { result ≡ (nat_lt row.now.start row.now.end && is_instruction code.now row.now.start && is_instruction code.now row.now.handler
+        && (is_instruction code.now row.now.end || row.now.end == code_length code.now)) }
 {
-    !(row.start < row.end
+    row.start < row.end
         && is_instruction(code, row.start)
         && is_instruction(code, row.handler)
-        && is_end(code, row.end))
-        || is_no_throwable(program, row)
+        && is_end(code, row.end)
 }
 
-fn has_bad_row_in(program: &[Listing], method: &Method) -> bool
-    ensures { result ≡ has_bad_row_in program.now method.now.code }
+fn is_bad_row(
+    alloc: Global,
+    program: &[Listing],
+    code: &Code,
+    row: &ExceptionRow,
+) -> Result<bool, AllocError>
+    ensures { IfOk result (λ found. found ≡ is_bad_row program.now code.now row.now) }
+{
+    Ok(!is_placed(code, row) || is_no_throwable(alloc, program, row)?)
+}
+
+fn is_one_bad(
+    alloc: Global,
+    program: &[Listing],
+    code: &Code,
+    rows: &[ExceptionRow],
+) -> Result<bool, AllocError>
+    ensures { IfOk result (λ found. found ≡ list_any (is_bad_row program.now code.now) rows.now) }
+{
+    for row in rows {
+        if is_bad_row(alloc, program, code, row)? {
+            return Ok(true);
+        }
+    }
+    Ok(false)
+}
+
+fn has_bad_row_in(alloc: Global, program: &[Listing], method: &Method) -> Result<bool, AllocError>
+    ensures { IfOk result (λ found. found ≡ has_bad_row_in program.now method.now.code) }
 {
     match &method.code {
-        Some(code) => is_one_bad(program, code, &code.rows),
-        None => false,
+        Some(code) => is_one_bad(alloc, program, code, &code.rows),
+        None => Ok(false),
     }
-}
-
-fn is_one_bad(program: &[Listing], code: &Code, rows: &[ExceptionRow]) -> bool
-    ensures { result ≡ list_any (is_bad_row program.now code.now) rows.now }
-{
-    rows.iter().any(|row| is_bad_row(program, code, row))
-}
-
-fn is_one_with_bad_row(program: &[Listing], methods: &[Method]) -> bool
-    ensures { result ≡ list_any (λ (m : MethodListing). has_bad_row_in program.now m.code) methods.now }
-{
-    methods.iter().any(|method| has_bad_row_in(program, method))
 }
 
 /// Whether an exception row of the class doesn't begin below its end, has a bound or handler that is no instruction,
-/// where its end may be the code's length, or has a class that is no Throwable.
+/// where its end may be the code's length, or has a class that is no Throwable. `AllocError` where memory runs out.
 #[tactic(auto, unfolding(model::specs::Accepted::ExceptionRows::has_bad_row))]
-pub fn has_bad_row(program: &[Listing], class: &Listing) -> bool
-    ensures { result ≡ has_bad_row program.now class.now }
+pub fn has_bad_row(alloc: Global, program: &[Listing], class: &Listing) -> Result<bool, AllocError>
+    ensures { IfOk result (λ found. found ≡ has_bad_row program.now class.now) }
 {
-    is_one_with_bad_row(program, &class.methods)
+    for method in &class.methods {
+        if has_bad_row_in(alloc, program, method)? {
+            return Ok(true);
+        }
+    }
+    Ok(false)
 }

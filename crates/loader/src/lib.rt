@@ -12,6 +12,7 @@ mod exception_rows;
 mod limits;
 mod members;
 pub mod programs;
+mod reached;
 mod rules;
 mod served;
 mod subclasses;

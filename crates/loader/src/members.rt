@@ -1,5 +1,5 @@
 //! What is asked of the members of a class.
-ghost use Rattle.std.specs.Prelude.{◌≡◌, count_by};
+ghost use Rattle.std.specs.Prelude.{◌≡◌, count_by, IfOk};
 ghost use Rattle.std.specs.List.{list_any};
 ghost use Rattle.model.specs.Accepted.MembersTwice.{is_same_field, is_same_method, has_field_twice, has_method_twice, has_member_twice};
 ghost use Rattle.model.specs.Accepted.RefusedMembers.{is_run, is_refused, has_refused_member};
@@ -9,6 +9,7 @@ use crate::subclasses::is_subclass;
 use bitflags::Flags;
 use model::flags::MethodFlags;
 use model::listings::{Field, Listing, Method};
+use std::alloc::{AllocError, Global};
 
 fn count_field(fields: &[Field], field: &Field) -> usize
     ensures { result ≡ count_by (is_same_field field.now) fields.now }
@@ -61,30 +62,51 @@ fn is_run(method: &Method) -> bool
 }
 
 /// Whether a method of the class is refused: a class initializer, a native method, a static synchronized one, or a
-/// thread's synchronized `run()V`.
-fn is_refused(program: &[Listing], class: &[u8], method: &Method) -> bool
-    ensures { result ≡ is_refused program.now class.now method.now }
+/// thread's synchronized `run()V`. `AllocError` where memory runs out.
+fn is_refused(
+    alloc: Global,
+    program: &[Listing],
+    class: &[u8],
+    method: &Method,
+) -> Result<bool, AllocError>
+    ensures { IfOk result (λ found. found ≡ is_refused program.now class.now method.now) }
 {
     let flags = method.flags;
-    method.name.as_bytes() == b"<clinit>".as_slice()
-        || flags.contains(MethodFlags::NATIVE)
-        || flags.contains(MethodFlags::SYNCHRONIZED)
-            && (flags.contains(MethodFlags::STATIC)
-                || is_run(method) && is_subclass(program, class, b"java/lang/Thread"))
+    Ok(
+        method.name.as_bytes() == b"<clinit>".as_slice()
+            || flags.contains(MethodFlags::NATIVE)
+            || flags.contains(MethodFlags::SYNCHRONIZED)
+                && (flags.contains(MethodFlags::STATIC)
+                    || is_run(method) && is_subclass(alloc, program, class, b"java/lang/Thread")?),
+    )
 }
 
-fn is_one_refused(program: &[Listing], class: &[u8], methods: &[Method]) -> bool
-    ensures { result ≡ list_any (is_refused program.now class.now) methods.now }
+fn is_one_refused(
+    alloc: Global,
+    program: &[Listing],
+    class: &[u8],
+    methods: &[Method],
+) -> Result<bool, AllocError>
+    ensures { IfOk result (λ found. found ≡ list_any (is_refused program.now class.now) methods.now) }
 {
-    methods
-        .iter()
-        .any(|method| is_refused(program, class, method))
+    for method in methods {
+        if is_refused(alloc, program, class, method)? {
+            return Ok(true);
+        }
+    }
+    Ok(false)
 }
 
-/// Whether a member of the class is refused, or the machine doesn't carry out all of its code yet.
+/// Whether a member of the class is refused, or the machine doesn't carry out all of its code yet. `AllocError` where
+/// memory runs out.
 #[tactic(auto, unfolding(model::specs::Accepted::RefusedMembers::has_refused_member))]
-pub fn has_refused_member(program: &[Listing], class: &Listing) -> bool
-    ensures { result ≡ has_refused_member program.now class.now }
+pub fn has_refused_member(
+    alloc: Global,
+    program: &[Listing],
+    class: &Listing,
+) -> Result<bool, AllocError>
+    ensures { IfOk result (λ found. found ≡ has_refused_member program.now class.now) }
 {
-    is_one_refused(program, class.name.as_bytes(), &class.methods) || !serves(class)
+    let refused = is_one_refused(alloc, program, class.name.as_bytes(), &class.methods)?;
+    Ok(refused || !serves(class))
 }

@@ -1,5 +1,5 @@
 //! The rules in their order, and the first that a list of listings breaks.
-ghost use Rattle.std.specs.Prelude.{◌≡◌};
+ghost use Rattle.std.specs.Prelude.{◌≡◌, IfOk};
 ghost use Rattle.std.specs.Option.{option_copied};
 ghost use Rattle.std.specs.List.{find, list_any};
 ghost use Rattle.model.specs.Programs.{is_main};
@@ -20,6 +20,7 @@ use crate::programs::is_main;
 use crate::superclasses::{has_missing_parent, has_wrong_parent, is_class_twice, is_on_cycle};
 use model::listings::{Listing, Method};
 use model::refusals::LoadRule;
+use std::alloc::{AllocError, Global};
 
 /// A rule that is broken, and the first class in order that breaks it. Only the rule on main can be broken by none.
 #[derive(Clone, Copy)]
@@ -55,10 +56,16 @@ fn first_with_missing_parent(program: &[Listing]) -> Option<&Listing>
         .find(|class| has_missing_parent(program, class))
 }
 
-fn first_on_cycle(program: &[Listing]) -> Option<&Listing>
-    ensures { option_copied result ≡ find (is_on_cycle program.now) program.now }
+/// The first class on a cycle. `AllocError` where memory runs out, here and below.
+fn first_on_cycle(alloc: Global, program: &[Listing]) -> Result<Option<&Listing>, AllocError>
+    ensures { IfOk result (λ found. option_copied found ≡ find (is_on_cycle program.now) program.now) }
 {
-    program.iter().find(|class| is_on_cycle(program, class))
+    for class in program {
+        if is_on_cycle(alloc, program, class)? {
+            return Ok(Some(class));
+        }
+    }
+    Ok(None)
 }
 
 fn first_with_wrong_parent(program: &[Listing]) -> Option<&Listing>
@@ -75,18 +82,39 @@ fn first_with_member_twice(program: &[Listing]) -> Option<&Listing>
     program.iter().find(|class| has_member_twice(class))
 }
 
-fn first_with_refused_member(program: &[Listing]) -> Option<&Listing>
-    ensures { option_copied result ≡ find (has_refused_member program.now) program.now }
+/// The first class with a refused member.
+fn first_with_refused_member(
+    alloc: Global,
+    program: &[Listing],
+) -> Result<Option<&Listing>, AllocError>
+    ensures { IfOk result (λ found. option_copied found ≡ find (has_refused_member program.now) program.now) }
 {
-    program
-        .iter()
-        .find(|class| has_refused_member(program, class))
+    for class in program {
+        if has_refused_member(alloc, program, class)? {
+            return Ok(Some(class));
+        }
+    }
+    Ok(None)
 }
 
-fn first_with_bad_row(program: &[Listing]) -> Option<&Listing>
-    ensures { option_copied result ≡ find (has_bad_row program.now) program.now }
+/// The first class with a bad exception row.
+fn first_with_bad_row(alloc: Global, program: &[Listing]) -> Result<Option<&Listing>, AllocError>
+    ensures { IfOk result (λ found. option_copied found ≡ find (has_bad_row program.now) program.now) }
 {
-    program.iter().find(|class| has_bad_row(program, class))
+    for class in program {
+        if has_bad_row(alloc, program, class)? {
+            return Ok(Some(class));
+        }
+    }
+    Ok(None)
+}
+
+/// The classes that break the rules which ask for subclasses.
+#[derive(Clone, Copy)]
+struct Found<'a> {
+    on_cycle: Option<&'a Listing>,
+    with_refused_member: Option<&'a Listing>,
+    with_bad_row: Option<&'a Listing>,
 }
 
 /// `Err` with the rule and the class that breaks it, where one does.
@@ -129,7 +157,10 @@ fn begins_with_main(program: &[Listing]) -> Result<(), Refusal<'_>>
 
 /// `Err` with the first rule, in order, that some class breaks, and the first class that does; else `Ok`.
 #[tactic(auto, using(crate::proofs::ReferenceLemmas::none_unresolved), unfolding(model::specs::Accepted::Refusals::refusal_of))]
-pub fn obeys_rules(program: &[Listing]) -> Result<(), Refusal<'_>>
+fn obeys_rules<'a>(program: &'a [Listing], found: Found<'a>) -> Result<(), Refusal<'a>>
+    requires on_cycle { option_copied found.on_cycle ≡ find (is_on_cycle program.now) program.now }
+    requires with_refused_member { option_copied found.with_refused_member ≡ find (has_refused_member program.now) program.now }
+    requires with_bad_row { option_copied found.with_bad_row ≡ find (has_bad_row program.now) program.now }
     ensures { refusal_in result ≡ refusal_of program.now }
 {
     keeps(LoadRule::BuiltinName, first_with_builtin_name(program))?;
@@ -138,11 +169,27 @@ pub fn obeys_rules(program: &[Listing]) -> Result<(), Refusal<'_>>
         LoadRule::MissingSuperclass,
         first_with_missing_parent(program),
     )?;
-    keeps(LoadRule::Cycle, first_on_cycle(program))?;
+    keeps(LoadRule::Cycle, found.on_cycle)?;
     keeps(LoadRule::WrongSuperclass, first_with_wrong_parent(program))?;
     keeps(LoadRule::MemberTwice, first_with_member_twice(program))?;
-    keeps(LoadRule::RefusedMember, first_with_refused_member(program))?;
-    keeps(LoadRule::BadExceptionRow, first_with_bad_row(program))?;
+    keeps(LoadRule::RefusedMember, found.with_refused_member)?;
+    keeps(LoadRule::BadExceptionRow, found.with_bad_row)?;
     keeps(LoadRule::LimitPassed, first_past_limits(program))?;
     begins_with_main(program)
+}
+
+/// The refusal of a program, if it is refused: the first rule, in order, that some class breaks, and the first class that
+/// does. `AllocError` where memory runs out.
+pub fn first_refusal(
+    alloc: Global,
+    program: &[Listing],
+) -> Result<Result<(), Refusal<'_>>, AllocError>
+    ensures { IfOk result (λ answer. refusal_in answer ≡ refusal_of program.now) }
+{
+    let found = Found {
+        on_cycle: first_on_cycle(alloc, program)?,
+        with_refused_member: first_with_refused_member(alloc, program)?,
+        with_bad_row: first_with_bad_row(alloc, program)?,
+    };
+    Ok(obeys_rules(program, found))
 }

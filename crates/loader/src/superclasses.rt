@@ -1,17 +1,17 @@
 //! What is asked of the superclass and the superinterfaces of a class.
-ghost use Rattle.std.specs.Prelude.{◌≡◌, is_none};
+ghost use Rattle.std.specs.Prelude.{◌≡◌, is_none, IfOk};
 ghost use Rattle.std.specs.List.{list_any};
 ghost use Rattle.model.specs.Classes.Named.{class_named};
-ghost use Rattle.model.specs.Classes.Subclasses.{is_subclass};
 ghost use Rattle.model.specs.Accepted.Superclasses.{is_class_twice, has_missing_parent, has_wrong_parent, is_no_superclass, is_no_superinterface};
 ghost use Rattle.model.specs.Accepted.Cycles.{is_on_cycle};
 
 use crate::classes::{is_builtin, is_there, listed};
-use crate::subclasses::is_subclass;
+use crate::reached::Reached;
 use bitflags::Flags;
 use model::flags::ClassFlags;
 use model::listings::Listing;
 use model::names::Name;
+use std::alloc::{AllocError, Global};
 
 /// Whether two classes of the program have this class's name.
 #[tactic(auto, unfolding(model::specs::Accepted::Superclasses::is_class_twice))]
@@ -40,22 +40,15 @@ pub fn has_missing_parent(program: &[Listing], class: &Listing) -> bool
     !is_there(program, class.superclass.as_bytes()) || is_one_missing(program, &class.interfaces)
 }
 
-fn is_one_below(program: &[Listing], names: &[Name], above: &[u8]) -> bool
-    ensures { result ≡ list_any (λ name. is_subclass program.now name above.now) names.now }
+/// Whether a superclass or superinterface of the class is the class itself or below it. Each class above it is looked at
+/// once. `AllocError` where memory runs out.
+pub fn is_on_cycle(alloc: Global, program: &[Listing], class: &Listing) -> Result<bool, AllocError>
+    ensures { IfOk result (λ found. found ≡ is_on_cycle program.now class.now) }
 {
-    names
-        .iter()
-        .any(|name| is_subclass(program, name.as_bytes(), above))
-}
-
-/// Whether a superclass or superinterface of the class is the class itself or below it.
-#[tactic(auto, unfolding(model::specs::Accepted::Cycles::is_on_cycle))]
-pub fn is_on_cycle(program: &[Listing], class: &Listing) -> bool
-    ensures { result ≡ is_on_cycle program.now class.now }
-{
-    let name = class.name.as_bytes();
-    is_subclass(program, class.superclass.as_bytes(), name)
-        || is_one_below(program, &class.interfaces, name)
+    let mut reached = Reached::new(alloc);
+    reached.add_parents(class)?;
+    reached.close(program)?;
+    Ok(reached.has(class.name.as_bytes()))
 }
 
 /// Whether a class of this name is there that can't be extended.

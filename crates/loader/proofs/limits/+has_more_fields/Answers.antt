@@ -1,4 +1,4 @@
-use Rattle.std.proofs.Common.{◌≡◌, ◌∙◌, sym, ap, arith}
+use Rattle.std.proofs.Common.{◌∙◌, ap, arith}
 use Rattle.model.specs.ClassListings.{ClassListing}
 use Rattle.loader.proofs.LimitLemmas.{own_fields-too_many, no_steps-fields, inherited-fields, no_inherited-fields}
 use Rattle.loader.proofs.limits.+has_more_fields.Goals as goal

@@ -1,6 +1,6 @@
-use Rattle.std.proofs.Common.{◌≡◌, ◌∙◌, ◌≤◌, length, sym, ap, arith}
+use Rattle.std.proofs.Common.{◌∙◌, sym, arith}
 use Rattle.std.proofs.lemmas.List.{length-take-le}
-use Rattle.loader.proofs.LimitLemmas.{first_past_limits-few, first_past_limits-found, first_past_limits-last}
+use Rattle.loader.proofs.LimitLemmas.{first_past_limits-few, first_past_limits-last}
 use Rattle.loader.proofs.limits.first_past_limits.Goals as goal
 
 pub returns-then-program-le256 : goal.returns-then-program-le256

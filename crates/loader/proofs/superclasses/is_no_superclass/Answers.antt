@@ -1,4 +1,4 @@
-use Rattle.std.proofs.Common.{◌≡◌, sym}
+use Rattle.std.proofs.Common.{sym}
 use Rattle.loader.proofs.BuiltinLemmas.{is_no_superclass-builtin}
 use Rattle.loader.proofs.superclasses.is_no_superclass.Goals as goal
 
