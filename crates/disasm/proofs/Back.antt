@@ -1,6 +1,7 @@
 -- The tree of a listing's text has the listing, and is what the listing's statements say.
 pub mod Listings
 pub mod Lists
+pub mod Mnemonics
 pub mod Numbers
 pub mod Pcs
 pub mod Uses

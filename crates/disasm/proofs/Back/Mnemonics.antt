@@ -1,0 +1,311 @@
+-- The mnemonics that a text spells are those that are meant.
+use Rattle.std.proofs.Common.{◌≡◌, ℕ, Bool, true, not, ◌||◌, List, ◌++◌, codes, bytes_eq, is_some, Option, Some, None, refl}
+use Rattle.model.specs.declared.instructions.Access.{Access}
+use Rattle.model.specs.declared.instructions.Access.TheVariants as field_access
+use Rattle.model.specs.declared.instructions.ClassOperation.{ClassOperation}
+use Rattle.model.specs.declared.instructions.ClassOperation.TheVariants as class
+use Rattle.model.specs.declared.instructions.Comparison.{Comparison}
+use Rattle.model.specs.declared.instructions.Comparison.TheVariants as comparison
+use Rattle.model.specs.declared.instructions.Conversion.{Conversion}
+use Rattle.model.specs.declared.instructions.Conversion.TheVariants as conversion
+use Rattle.model.specs.declared.instructions.ElementKind.{ElementKind}
+use Rattle.model.specs.declared.instructions.ElementKind.TheVariants as element
+use Rattle.model.specs.declared.instructions.FirstLocal.{FirstLocal}
+use Rattle.model.specs.declared.instructions.FirstLocal.TheVariants as first
+use Rattle.model.specs.declared.instructions.Identity.{Identity}
+use Rattle.model.specs.declared.instructions.Identity.TheVariants as identity
+use Rattle.model.specs.declared.instructions.Invocation.TheVariants as invocation
+use Rattle.model.specs.declared.instructions.Local.TheVariants as «local»
+use Rattle.model.specs.declared.instructions.LocalAccess.TheVariants as access
+use Rattle.model.specs.declared.instructions.MonitorOperation.{MonitorOperation}
+use Rattle.model.specs.declared.instructions.MonitorOperation.TheVariants as monitor
+use Rattle.model.specs.declared.instructions.NumberKind.{NumberKind}
+use Rattle.model.specs.declared.instructions.NumberKind.TheVariants as number_kind
+use Rattle.model.specs.declared.instructions.NumberOperation.{NumberOperation}
+use Rattle.model.specs.declared.instructions.NumberOperation.TheVariants as number
+use Rattle.model.specs.declared.instructions.Operator.{Operator}
+use Rattle.model.specs.declared.instructions.Operator.TheVariants as operator
+use Rattle.model.specs.declared.instructions.SmallInt.{SmallInt}
+use Rattle.model.specs.declared.instructions.SmallInt.TheVariants as small_int
+use Rattle.model.specs.declared.instructions.SmallLong.{SmallLong}
+use Rattle.model.specs.declared.instructions.SmallLong.TheVariants as small_long
+use Rattle.model.specs.declared.instructions.StackOperation.{StackOperation}
+use Rattle.model.specs.declared.instructions.StackOperation.TheVariants as stack
+use Rattle.model.specs.declared.instructions.Test.{Test}
+use Rattle.model.specs.declared.instructions.Test.TheVariants as test
+use Rattle.model.specs.declared.instructions.Width.TheVariants as width
+use Rattle.model.specs.declared.mnemonics.LocalMnemonic.TheVariants as accessed
+use Rattle.model.specs.declared.mnemonics.Mnemonic.{Mnemonic}
+use Rattle.model.specs.declared.mnemonics.Mnemonic.TheVariants as mnemonic
+use Rattle.model.specs.declared.values.Kind.{Kind}
+use Rattle.model.specs.declared.values.Kind.TheVariants as kind
+use Rattle.model.specs.Texts.Disassembling.{small_int_name, small_long_name, first_name, kind_letter, element_letter, number_letter, operator_name, conversion_name, number_name, stack_name, comparison_name, references_name, null_name, test_name, access_name, class_name, monitor_name, return_text}
+use Rattle.model.specs.Texts.Methods.{label_of}
+use Rattle.model.specs.Texts.Mnemonics.{mnemonic_of}
+
+-- no word of a body but a mnemonic
+abbrev pub is_other : List ℕ → Bool
+is_other word =
+    bytes_eq word (codes ".limit") || bytes_eq word (codes ".catch") || bytes_eq word (codes "tableswitch") || bytes_eq word (codes "lookupswitch") || bytes_eq word (codes "wide")
+
+-- a word that begins an instruction, by its mnemonic
+pub record Begins (word : List ℕ) (m : Mnemonic) : Type 0 where
+  pub plain : not (is_other word) ≡ true
+  pub unlabelled : label_of word ≡ None
+  pub means : mnemonic_of word ≡ Some m
+
+pub nop_begins : Begins (codes "nop") mnemonic.Nop
+unfolding mnemonic_of
+nop_begins = record { plain = refl; unlabelled = refl; means = refl }
+
+pub null_begins : Begins (codes "aconst_null") mnemonic.Null
+unfolding mnemonic_of
+null_begins = record { plain = refl; unlabelled = refl; means = refl }
+
+pub small_int_begins : (n : SmallInt) → Begins (small_int_name n) (mnemonic.SmallInt n)
+unfolding mnemonic_of
+small_int_begins small_int.MinusOne = record { plain = refl; unlabelled = refl; means = refl }
+small_int_begins small_int.Zero = record { plain = refl; unlabelled = refl; means = refl }
+small_int_begins small_int.One = record { plain = refl; unlabelled = refl; means = refl }
+small_int_begins small_int.Two = record { plain = refl; unlabelled = refl; means = refl }
+small_int_begins small_int.Three = record { plain = refl; unlabelled = refl; means = refl }
+small_int_begins small_int.Four = record { plain = refl; unlabelled = refl; means = refl }
+small_int_begins small_int.Five = record { plain = refl; unlabelled = refl; means = refl }
+
+pub small_long_begins : (n : SmallLong) → Begins (small_long_name n) (mnemonic.SmallLong n)
+unfolding mnemonic_of
+small_long_begins small_long.Zero = record { plain = refl; unlabelled = refl; means = refl }
+small_long_begins small_long.One = record { plain = refl; unlabelled = refl; means = refl }
+
+pub byte_begins : Begins (codes "bipush") mnemonic.Byte
+unfolding mnemonic_of
+byte_begins = record { plain = refl; unlabelled = refl; means = refl }
+
+pub short_begins : Begins (codes "sipush") mnemonic.Short
+unfolding mnemonic_of
+short_begins = record { plain = refl; unlabelled = refl; means = refl }
+
+pub narrow_begins : Begins (codes "ldc") (mnemonic.Int width.Narrow)
+unfolding mnemonic_of
+narrow_begins = record { plain = refl; unlabelled = refl; means = refl }
+
+pub wide_begins : Begins (codes "ldc_w") (mnemonic.Int width.Wide)
+unfolding mnemonic_of
+wide_begins = record { plain = refl; unlabelled = refl; means = refl }
+
+pub long_begins : Begins (codes "ldc2_w") mnemonic.Long
+unfolding mnemonic_of
+long_begins = record { plain = refl; unlabelled = refl; means = refl }
+
+pub load_begins : (k : Kind) → Begins (kind_letter k ++ codes "load") (mnemonic.Local (accessed.Load k))
+unfolding mnemonic_of
+load_begins kind.Int = record { plain = refl; unlabelled = refl; means = refl }
+load_begins kind.Long = record { plain = refl; unlabelled = refl; means = refl }
+load_begins kind.Ref = record { plain = refl; unlabelled = refl; means = refl }
+
+pub first_load_begins : (k : Kind) (n : FirstLocal) → Begins ((kind_letter k ++ codes "load") ++ first_name n) (mnemonic.FirstLocal (access.Load k («local».First n)))
+unfolding mnemonic_of
+first_load_begins kind.Int first.Zero = record { plain = refl; unlabelled = refl; means = refl }
+first_load_begins kind.Int first.One = record { plain = refl; unlabelled = refl; means = refl }
+first_load_begins kind.Int first.Two = record { plain = refl; unlabelled = refl; means = refl }
+first_load_begins kind.Int first.Three = record { plain = refl; unlabelled = refl; means = refl }
+first_load_begins kind.Long first.Zero = record { plain = refl; unlabelled = refl; means = refl }
+first_load_begins kind.Long first.One = record { plain = refl; unlabelled = refl; means = refl }
+first_load_begins kind.Long first.Two = record { plain = refl; unlabelled = refl; means = refl }
+first_load_begins kind.Long first.Three = record { plain = refl; unlabelled = refl; means = refl }
+first_load_begins kind.Ref first.Zero = record { plain = refl; unlabelled = refl; means = refl }
+first_load_begins kind.Ref first.One = record { plain = refl; unlabelled = refl; means = refl }
+first_load_begins kind.Ref first.Two = record { plain = refl; unlabelled = refl; means = refl }
+first_load_begins kind.Ref first.Three = record { plain = refl; unlabelled = refl; means = refl }
+
+pub store_begins : (k : Kind) → Begins (kind_letter k ++ codes "store") (mnemonic.Local (accessed.Store k))
+unfolding mnemonic_of
+store_begins kind.Int = record { plain = refl; unlabelled = refl; means = refl }
+store_begins kind.Long = record { plain = refl; unlabelled = refl; means = refl }
+store_begins kind.Ref = record { plain = refl; unlabelled = refl; means = refl }
+
+pub first_store_begins : (k : Kind) (n : FirstLocal) → Begins ((kind_letter k ++ codes "store") ++ first_name n) (mnemonic.FirstLocal (access.Store k («local».First n)))
+unfolding mnemonic_of
+first_store_begins kind.Int first.Zero = record { plain = refl; unlabelled = refl; means = refl }
+first_store_begins kind.Int first.One = record { plain = refl; unlabelled = refl; means = refl }
+first_store_begins kind.Int first.Two = record { plain = refl; unlabelled = refl; means = refl }
+first_store_begins kind.Int first.Three = record { plain = refl; unlabelled = refl; means = refl }
+first_store_begins kind.Long first.Zero = record { plain = refl; unlabelled = refl; means = refl }
+first_store_begins kind.Long first.One = record { plain = refl; unlabelled = refl; means = refl }
+first_store_begins kind.Long first.Two = record { plain = refl; unlabelled = refl; means = refl }
+first_store_begins kind.Long first.Three = record { plain = refl; unlabelled = refl; means = refl }
+first_store_begins kind.Ref first.Zero = record { plain = refl; unlabelled = refl; means = refl }
+first_store_begins kind.Ref first.One = record { plain = refl; unlabelled = refl; means = refl }
+first_store_begins kind.Ref first.Two = record { plain = refl; unlabelled = refl; means = refl }
+first_store_begins kind.Ref first.Three = record { plain = refl; unlabelled = refl; means = refl }
+
+pub increment_begins : Begins (codes "iinc") (mnemonic.Local accessed.Increment)
+unfolding mnemonic_of
+increment_begins = record { plain = refl; unlabelled = refl; means = refl }
+
+pub stack_begins : (o : StackOperation) → Begins (stack_name o) (mnemonic.Stack o)
+unfolding mnemonic_of
+stack_begins stack.Pop = record { plain = refl; unlabelled = refl; means = refl }
+stack_begins stack.Pop2 = record { plain = refl; unlabelled = refl; means = refl }
+stack_begins stack.Dup = record { plain = refl; unlabelled = refl; means = refl }
+stack_begins stack.DupX1 = record { plain = refl; unlabelled = refl; means = refl }
+stack_begins stack.DupX2 = record { plain = refl; unlabelled = refl; means = refl }
+stack_begins stack.Dup2 = record { plain = refl; unlabelled = refl; means = refl }
+stack_begins stack.Dup2X1 = record { plain = refl; unlabelled = refl; means = refl }
+stack_begins stack.Dup2X2 = record { plain = refl; unlabelled = refl; means = refl }
+stack_begins stack.Swap = record { plain = refl; unlabelled = refl; means = refl }
+
+pub binary_begins : (k : NumberKind) (o : Operator) → Begins (number_letter k ++ operator_name o) (mnemonic.Number (number.Binary k o))
+unfolding mnemonic_of
+binary_begins number_kind.Int operator.Add = record { plain = refl; unlabelled = refl; means = refl }
+binary_begins number_kind.Int operator.Sub = record { plain = refl; unlabelled = refl; means = refl }
+binary_begins number_kind.Int operator.Mul = record { plain = refl; unlabelled = refl; means = refl }
+binary_begins number_kind.Int operator.Div = record { plain = refl; unlabelled = refl; means = refl }
+binary_begins number_kind.Int operator.Rem = record { plain = refl; unlabelled = refl; means = refl }
+binary_begins number_kind.Int operator.Shl = record { plain = refl; unlabelled = refl; means = refl }
+binary_begins number_kind.Int operator.Shr = record { plain = refl; unlabelled = refl; means = refl }
+binary_begins number_kind.Int operator.Ushr = record { plain = refl; unlabelled = refl; means = refl }
+binary_begins number_kind.Int operator.And = record { plain = refl; unlabelled = refl; means = refl }
+binary_begins number_kind.Int operator.Or = record { plain = refl; unlabelled = refl; means = refl }
+binary_begins number_kind.Int operator.Xor = record { plain = refl; unlabelled = refl; means = refl }
+binary_begins number_kind.Long operator.Add = record { plain = refl; unlabelled = refl; means = refl }
+binary_begins number_kind.Long operator.Sub = record { plain = refl; unlabelled = refl; means = refl }
+binary_begins number_kind.Long operator.Mul = record { plain = refl; unlabelled = refl; means = refl }
+binary_begins number_kind.Long operator.Div = record { plain = refl; unlabelled = refl; means = refl }
+binary_begins number_kind.Long operator.Rem = record { plain = refl; unlabelled = refl; means = refl }
+binary_begins number_kind.Long operator.Shl = record { plain = refl; unlabelled = refl; means = refl }
+binary_begins number_kind.Long operator.Shr = record { plain = refl; unlabelled = refl; means = refl }
+binary_begins number_kind.Long operator.Ushr = record { plain = refl; unlabelled = refl; means = refl }
+binary_begins number_kind.Long operator.And = record { plain = refl; unlabelled = refl; means = refl }
+binary_begins number_kind.Long operator.Or = record { plain = refl; unlabelled = refl; means = refl }
+binary_begins number_kind.Long operator.Xor = record { plain = refl; unlabelled = refl; means = refl }
+
+pub negate_begins : (k : NumberKind) → Begins (number_letter k ++ codes "neg") (mnemonic.Number (number.Negate k))
+unfolding mnemonic_of
+negate_begins number_kind.Int = record { plain = refl; unlabelled = refl; means = refl }
+negate_begins number_kind.Long = record { plain = refl; unlabelled = refl; means = refl }
+
+pub convert_begins : (c : Conversion) → Begins (conversion_name c) (mnemonic.Number (number.Convert c))
+unfolding mnemonic_of
+convert_begins conversion.IntToLong = record { plain = refl; unlabelled = refl; means = refl }
+convert_begins conversion.LongToInt = record { plain = refl; unlabelled = refl; means = refl }
+convert_begins conversion.IntToByte = record { plain = refl; unlabelled = refl; means = refl }
+convert_begins conversion.IntToChar = record { plain = refl; unlabelled = refl; means = refl }
+convert_begins conversion.IntToShort = record { plain = refl; unlabelled = refl; means = refl }
+
+pub compare_begins : Begins (codes "lcmp") (mnemonic.Number number.CompareLongs)
+unfolding mnemonic_of
+compare_begins = record { plain = refl; unlabelled = refl; means = refl }
+
+pub number_begins : (o : NumberOperation) → Begins (number_name o) (mnemonic.Number o)
+number_begins (number.Binary k o) = binary_begins k o
+number_begins (number.Negate k) = negate_begins k
+number_begins (number.Convert c) = convert_begins c
+number_begins number.CompareLongs = compare_begins
+
+pub zero_begins : (c : Comparison) → Begins (codes "if" ++ comparison_name c) (mnemonic.Branch (test.Zero c))
+unfolding mnemonic_of
+zero_begins comparison.Equal = record { plain = refl; unlabelled = refl; means = refl }
+zero_begins comparison.NotEqual = record { plain = refl; unlabelled = refl; means = refl }
+zero_begins comparison.Less = record { plain = refl; unlabelled = refl; means = refl }
+zero_begins comparison.GreaterOrEqual = record { plain = refl; unlabelled = refl; means = refl }
+zero_begins comparison.Greater = record { plain = refl; unlabelled = refl; means = refl }
+zero_begins comparison.LessOrEqual = record { plain = refl; unlabelled = refl; means = refl }
+
+pub ints_begins : (c : Comparison) → Begins (codes "if_icmp" ++ comparison_name c) (mnemonic.Branch (test.Ints c))
+unfolding mnemonic_of
+ints_begins comparison.Equal = record { plain = refl; unlabelled = refl; means = refl }
+ints_begins comparison.NotEqual = record { plain = refl; unlabelled = refl; means = refl }
+ints_begins comparison.Less = record { plain = refl; unlabelled = refl; means = refl }
+ints_begins comparison.GreaterOrEqual = record { plain = refl; unlabelled = refl; means = refl }
+ints_begins comparison.Greater = record { plain = refl; unlabelled = refl; means = refl }
+ints_begins comparison.LessOrEqual = record { plain = refl; unlabelled = refl; means = refl }
+
+pub test_begins : (t : Test) → Begins (test_name t) (mnemonic.Branch t)
+unfolding mnemonic_of
+test_begins (test.Always width.Narrow) = record { plain = refl; unlabelled = refl; means = refl }
+test_begins (test.Always width.Wide) = record { plain = refl; unlabelled = refl; means = refl }
+test_begins (test.Zero c) = zero_begins c
+test_begins (test.Ints c) = ints_begins c
+test_begins (test.Refs identity.Same) = record { plain = refl; unlabelled = refl; means = refl }
+test_begins (test.Refs identity.Different) = record { plain = refl; unlabelled = refl; means = refl }
+test_begins (test.Null identity.Same) = record { plain = refl; unlabelled = refl; means = refl }
+test_begins (test.Null identity.Different) = record { plain = refl; unlabelled = refl; means = refl }
+
+pub return_begins : (k : Option Kind) → Begins (return_text k) (mnemonic.Return k)
+unfolding mnemonic_of
+return_begins None = record { plain = refl; unlabelled = refl; means = refl }
+return_begins (Some kind.Int) = record { plain = refl; unlabelled = refl; means = refl }
+return_begins (Some kind.Long) = record { plain = refl; unlabelled = refl; means = refl }
+return_begins (Some kind.Ref) = record { plain = refl; unlabelled = refl; means = refl }
+
+pub static_begins : (a : Access) → Begins (access_name a ++ codes "static") (mnemonic.Static a)
+unfolding mnemonic_of
+static_begins field_access.Get = record { plain = refl; unlabelled = refl; means = refl }
+static_begins field_access.Put = record { plain = refl; unlabelled = refl; means = refl }
+
+pub field_begins : (a : Access) → Begins (access_name a ++ codes "field") (mnemonic.Field a)
+unfolding mnemonic_of
+field_begins field_access.Get = record { plain = refl; unlabelled = refl; means = refl }
+field_begins field_access.Put = record { plain = refl; unlabelled = refl; means = refl }
+
+pub new_array_begins : Begins (codes "newarray") mnemonic.NewArray
+unfolding mnemonic_of
+new_array_begins = record { plain = refl; unlabelled = refl; means = refl }
+
+pub new_array_of_begins : Begins (codes "anewarray") mnemonic.NewArrayOf
+unfolding mnemonic_of
+new_array_of_begins = record { plain = refl; unlabelled = refl; means = refl }
+
+pub array_length_begins : Begins (codes "arraylength") mnemonic.ArrayLength
+unfolding mnemonic_of
+array_length_begins = record { plain = refl; unlabelled = refl; means = refl }
+
+pub array_load_begins : (k : ElementKind) → Begins (element_letter k ++ codes "aload") (mnemonic.ArrayLoad k)
+unfolding mnemonic_of
+array_load_begins element.Int = record { plain = refl; unlabelled = refl; means = refl }
+array_load_begins element.Long = record { plain = refl; unlabelled = refl; means = refl }
+array_load_begins element.Ref = record { plain = refl; unlabelled = refl; means = refl }
+array_load_begins element.Byte = record { plain = refl; unlabelled = refl; means = refl }
+array_load_begins element.Char = record { plain = refl; unlabelled = refl; means = refl }
+array_load_begins element.Short = record { plain = refl; unlabelled = refl; means = refl }
+
+pub array_store_begins : (k : ElementKind) → Begins (element_letter k ++ codes "astore") (mnemonic.ArrayStore k)
+unfolding mnemonic_of
+array_store_begins element.Int = record { plain = refl; unlabelled = refl; means = refl }
+array_store_begins element.Long = record { plain = refl; unlabelled = refl; means = refl }
+array_store_begins element.Ref = record { plain = refl; unlabelled = refl; means = refl }
+array_store_begins element.Byte = record { plain = refl; unlabelled = refl; means = refl }
+array_store_begins element.Char = record { plain = refl; unlabelled = refl; means = refl }
+array_store_begins element.Short = record { plain = refl; unlabelled = refl; means = refl }
+
+pub class_begins : (o : ClassOperation) → Begins (class_name o) (mnemonic.Class o)
+unfolding mnemonic_of
+class_begins class.New = record { plain = refl; unlabelled = refl; means = refl }
+class_begins class.CheckCast = record { plain = refl; unlabelled = refl; means = refl }
+class_begins class.InstanceOf = record { plain = refl; unlabelled = refl; means = refl }
+
+pub virtual_begins : Begins (codes "invokevirtual") (mnemonic.Invoke invocation.Virtual)
+unfolding mnemonic_of
+virtual_begins = record { plain = refl; unlabelled = refl; means = refl }
+
+pub special_begins : Begins (codes "invokespecial") (mnemonic.Invoke invocation.Special)
+unfolding mnemonic_of
+special_begins = record { plain = refl; unlabelled = refl; means = refl }
+
+pub static_call_begins : Begins (codes "invokestatic") (mnemonic.Invoke invocation.Static)
+unfolding mnemonic_of
+static_call_begins = record { plain = refl; unlabelled = refl; means = refl }
+
+pub interface_begins : Begins (codes "invokeinterface") mnemonic.InvokeInterface
+unfolding mnemonic_of
+interface_begins = record { plain = refl; unlabelled = refl; means = refl }
+
+pub throw_begins : Begins (codes "athrow") mnemonic.Throw
+unfolding mnemonic_of
+throw_begins = record { plain = refl; unlabelled = refl; means = refl }
+
+pub monitor_begins : (o : MonitorOperation) → Begins (monitor_name o) (mnemonic.Monitor o)
+unfolding mnemonic_of
+monitor_begins monitor.Enter = record { plain = refl; unlabelled = refl; means = refl }
+monitor_begins monitor.Exit = record { plain = refl; unlabelled = refl; means = refl }
