@@ -1,4 +1,6 @@
 -- The tree of a listing's text has the listing, and is what the listing's statements say.
+pub mod Flags
+pub mod Instructions
 pub mod Listings
 pub mod Lists
 pub mod Mnemonics
