@@ -1,4 +1,5 @@
 -- The tree of a listing's text has the listing, and is what the listing's statements say.
+pub mod Bodies
 pub mod Flags
 pub mod Instructions
 pub mod Listings
@@ -6,6 +7,7 @@ pub mod Lists
 pub mod Mnemonics
 pub mod Numbers
 pub mod Pcs
+pub mod Switches
 pub mod Uses
 pub mod Widths
 pub mod Words

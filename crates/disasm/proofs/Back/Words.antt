@@ -124,7 +124,7 @@ none_in_field k word f g e = none_in_part k word f g (and_parts (fits word) (is_
 spelled_so : (P : List ℕ → Type 0) (word text : List ℕ) → bytes_eq word text ≡ true → P text → P word
 spelled_so P word text e p = subst P (sym ((bytes_eq-Decides word text).0 e)) p
 
-none_in_method : (k : ℕ) (word : List ℕ) → continues_part k ≡ false → begins_part k ≡ false → none_is (λ b. b == k) (codes "<init>") ≡ true → none_is (λ b. b == k) (codes "<clinit>") ≡ true → is_method_name word ≡ true
+pub none_in_method : (k : ℕ) (word : List ℕ) → continues_part k ≡ false → begins_part k ≡ false → none_is (λ b. b == k) (codes "<init>") ≡ true → none_is (λ b. b == k) (codes "<clinit>") ≡ true → is_method_name word ≡ true
     → none_is (λ b. b == k) word ≡ true
 none_in_method k word f g init clinit e = elim (or_cases (bytes_eq word (codes "<init>") || bytes_eq word (codes "<clinit>")) (is_field_name word) e) [
   | inl special ↦ elim (or_cases (bytes_eq word (codes "<init>")) (bytes_eq word (codes "<clinit>")) special) [
