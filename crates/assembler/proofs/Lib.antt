@@ -7,3 +7,6 @@ pub mod NumberingNames
 pub mod NumberingCounts
 pub mod NumberingListed
 pub mod NumberingSound
+pub mod NumberingClasses
+pub mod NumberingSpelled
+pub mod NumberingTexts

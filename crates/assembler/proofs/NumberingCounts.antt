@@ -1,8 +1,8 @@
 -- The pool of a listing: it can be one, its count doesn't hang on the order, and the ints put first have small numbers.
-use Rattle.std.proofs.Common.{◌≡◌, ℕ, ℤ, ◌+◌, ◌^◌, ◌≤◌, ◌<◌, true, false, List, [], ◌∷◌, ◌++◌, map, length, Option, Some, None, refl, sym, ◌∙◌, ap, subst, inl, inr, arith}
+use Rattle.std.proofs.Common.{◌≡◌, ℕ, ℤ, ◌+◌, ◌^◌, ◌≤◌, ◌<◌, true, false, List, [], ◌∷◌, ◌++◌, map, length, Option, Some, None, refl, sym, ◌∙◌, ap, subst, inl, inr, arith, append_assoc, append-nil}
 use Rattle.std.specs.Prelude.{sum_by, codes, if◌then◌else◌}
 use Rattle.std.specs.List.{flat_map}
-use Rattle.std.proofs.lemmas.Bool.{cases_Bool, or_cases, or_parts, or_left, or_right, false_from_ne_true, true≢false}
+use Rattle.std.proofs.lemmas.Bool.{or_from, cases_Bool, or_cases, or_parts, or_left, or_right, false_from_ne_true, true≢false}
 use Rattle.std.proofs.lemmas.List.Sums.{sum_by-cons, sum_by-append}
 use Rattle.model.specs.ClassListings.{ClassListing}
 use Rattle.model.specs.CodeListings.{CodeListing}
@@ -23,7 +23,7 @@ use Rattle.model.specs.declared.listings.Field.{Field}
 use Rattle.model.specs.declared.listings.Method.{Method}
 use Rattle.model.specs.declared.names.Member.{Member}
 use Rattle.assembler.specs.Numbering.{number_from, number_of, named_by, are_items_of, AreClosed, IsPool}
-use Rattle.assembler.proofs.NumberingItems.{same_is, same_turned, AreDifferent, one_of, all_from, among_left, among_right, among_first, among_cases, item_new, item_known, with_items_have, with_items_only, with_items-append, closed_grows}
+use Rattle.assembler.proofs.NumberingItems.{same_self, same_is, same_turned, AreDifferent, one_of, all_from, among_left, among_right, among_first, among_cases, item_new, item_known, with_items_have, with_items_only, with_items-append, closed_grows}
 use Rattle.assembler.proofs.NumberingEntries.{number_here, number_behind, still_numbers}
 
 -- ---- a listing's items can be a pool
@@ -302,3 +302,46 @@ int_number zs xs z h =
     let same : number_of (with_items [] (map int_item zs ++ xs)) (int_item z) ≡ number_of ints (int_item z) =
     ap (λ items. number_of items (int_item z)) (with_items-append [] (map int_item zs) xs) ∙ still_numbers ints xs (int_item z) there in
     omega (arith, same, number_under_count ints (int_item z) there, count_ints [] zs)
+
+-- ---- the numbers of different ints
+
+not_before : (xs ys : List Item) (y : Item) → AreDifferent (xs ++ y ∷ ys) → is_item_of xs y ≡ false
+not_before [] ys y different = refl
+not_before (x ∷ xs) ys y different =
+    let apart : is_same_item x y ≡ false = (or_parts (is_same_item x y) (is_item_of ys x) (or_behind xs different.0)).0 in
+    or_from (is_same_item y x) (is_item_of xs y) (same_turned x y apart) (not_before xs ys y different.1)
+  where
+    or_behind : (zs : List Item) → is_item_of (zs ++ y ∷ ys) x ≡ false → is_item_of (y ∷ ys) x ≡ false
+    or_behind zs h = false_from_ne_true (is_item_of (y ∷ ys) x) (λ t. true≢false (sym (among_right zs (y ∷ ys) x t) ∙ h))
+
+all_new : (items xs : List Item) → AreDifferent (items ++ xs) → with_items items xs ≡ items ++ xs
+all_new items [] different = sym (append-nil items)
+all_new items (x ∷ xs) different =
+    let pushed : with_item items x ≡ items ++ x ∷ [] = item_new items x (not_before items xs x different) in
+    ap (λ ys. with_items ys xs) pushed
+    ∙ all_new (items ++ x ∷ []) xs (subst AreDifferent (sym (append_assoc items (x ∷ []) xs)) different)
+    ∙ append_assoc items (x ∷ []) xs
+
+number_past : (n : ℕ) (xs ys : List Item) (y : Item) → is_item_of xs y ≡ false → number_from n (xs ++ ys) y ≡ number_from (n + sum_by numbers_taken xs) ys y
+number_past n [] ys y h = ap (λ k. number_from k ys y) (omega arith)
+number_past n (x ∷ xs) ys y h =
+    let parts = or_parts (is_same_item y x) (is_item_of xs y) h in
+    let sums : n + numbers_taken x + sum_by numbers_taken xs ≡ n + sum_by numbers_taken (x ∷ xs) = omega (arith, sum_by-cons numbers_taken x xs) in
+    number_behind n x y (xs ++ ys) parts.0 ∙ number_past (n + numbers_taken x) xs ys y parts.1 ∙ ap (λ k. number_from k ys y) sums
+
+ints_take : (zs : List ℤ) → sum_by numbers_taken (map int_item zs) ≡ length zs
+ints_take [] = refl
+ints_take (z ∷ zs) = omega (arith, sum_by-cons numbers_taken (int_item z) (map int_item zs), ints_take zs)
+
+-- in a pool that begins with different ints each has its place among them as its number
+pub int_place : (before : List ℤ) (z : ℤ) (after : List Item) → AreDifferent (map int_item before ++ int_item z ∷ []) → number_of (with_items [] (map int_item before ++ int_item z ∷ after)) (int_item z) ≡ 1 + length before
+int_place before z after different =
+    let first = map int_item before in
+    let begun = first ++ int_item z ∷ [] in
+    let there : is_item_of begun (int_item z) ≡ true = among_right first (int_item z ∷ []) (int_item z) (among_first (int_item z) []) in
+    let pool : with_items [] (first ++ int_item z ∷ after) ≡ with_items begun after =
+    ap (with_items []) (sym (append_assoc first (int_item z ∷ []) after)) ∙ with_items-append [] begun after ∙ ap (λ items. with_items items after) (all_new [] begun different) in
+    ap (λ items. number_of items (int_item z)) pool ∙ still_numbers begun after (int_item z) there
+    ∙ number_past 1 first (int_item z ∷ []) (int_item z) (not_before first [] (int_item z) different)
+    ∙ number_here (1 + sum_by numbers_taken first) (int_item z) (int_item z) [] (same_self (int_item z))
+    ∙ ap (λ k. 1 + k) (ints_take before)
