@@ -10,3 +10,4 @@ pub mod NumberingSound
 pub mod NumberingClasses
 pub mod NumberingSpelled
 pub mod NumberingTexts
+pub mod NumberingFlags

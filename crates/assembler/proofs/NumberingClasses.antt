@@ -5,17 +5,20 @@ use Rattle.std.specs.List.{flat_map}
 use Rattle.std.specs.Option.{option_map}
 use Rattle.model.specs.ClassListings.{ClassListing}
 use Rattle.model.specs.CodeListings.{CodeListing}
+use Rattle.model.specs.ClassFiles.Classes.{ClassPart}
 use Rattle.model.specs.ClassFiles.Codes.{CodePart}
 use Rattle.model.specs.ClassFiles.Items.{Item, class_items, placed_items, row_items, code_items, method_items, field_items, listing_items}
-use Rattle.model.specs.ClassFiles.Items.Item.{text_item}
-use Rattle.model.specs.ClassFiles.Listing.{name_at, listed_code, listed_method}
+use Rattle.model.specs.ClassFiles.Items.Item.{text_item, class_item}
+use Rattle.model.specs.ClassFiles.Listing.{name_at, class_at, listed_code, listed_field, listed_flags, listed_method, listing_of}
 use Rattle.model.specs.ClassFiles.Methods.{MethodPart}
+use Rattle.model.specs.declared.flags.ClassFlags.{ClassFlags}
 use Rattle.model.specs.declared.listings.ExceptionRow.{ExceptionRow}
+use Rattle.model.specs.declared.listings.Field.{Field}
 use Rattle.model.specs.declared.listings.Method.{Method}
 use Rattle.model.specs.declared.listings.Placed.{Placed}
-use Rattle.assembler.specs.Numbering.{number_of, entries_of, are_items_of, AreClosed, numbered_placed, numbered_row}
-use Rattle.assembler.proofs.NumberingNames.{text_named}
-use Rattle.assembler.proofs.NumberingListed.{only_there, all_parts, all_again, all_placed, all_rows}
+use Rattle.assembler.specs.Numbering.{number_of, entries_of, are_items_of, AreClosed, numbered_placed, numbered_row, numbered_field}
+use Rattle.assembler.proofs.NumberingNames.{text_named, class_named}
+use Rattle.assembler.proofs.NumberingListed.{only_there, class_there, all_parts, all_again, all_placed, all_rows, all_fields, all_classes}
 
 -- code with numbers for names
 abbrev pub code_of : List Item → CodeListing → CodePart
@@ -74,3 +77,36 @@ listing_parts items l all =
     let c = all_parts items (flat_map class_items l.interfaces) members b.1 in
     let d = all_parts items (flat_map field_items l.fields) (flat_map method_items l.methods) c.1 in
     record { name = a.0; superclass = b.0; interfaces = c.0; fields = d.0; methods = d.1 }
+
+-- ---- a class
+
+-- a class file with the numbers of the items, and some flags
+abbrev pub class_of : List Item → ClassFlags → ClassListing → ClassPart
+class_of items flags l = record {
+  head = record {
+    pool = entries_of items;
+    flags = flags;
+    class = number_of items (class_item l.name);
+    superclass = number_of items (class_item l.superclass);
+    interfaces = map (λ name. number_of items (class_item name)) l.interfaces;
+    fields = map (numbered_field items) l.fields;
+  };
+  methods = map (method_of items) l.methods;
+}
+
+-- the class file is listed as the listing that it was made of
+pub class_listed : (items : List Item) (flags : ClassFlags) (l : ClassListing) → AreClosed items → are_items_of items (listing_items l) ≡ true → listed_flags flags ≡ l.flags → listing_of (class_of items flags l) ≡ l
+unfolding listing_of
+class_listed items flags l closed all kept =
+    let parts = listing_parts items l all in
+    let pool = entries_of items in
+    let interfaces = map (class_at pool) (map (λ name. number_of items (class_item name)) l.interfaces) in
+    let fields = map (listed_field pool) (map (numbered_field items) l.fields) in
+    let methods = map (listed_method pool) (map (method_of items) l.methods) in
+    let superclass = class_at pool (number_of items (class_item l.superclass)) in
+    ap (λ (n : List ℕ). record { name = n; flags = listed_flags flags; superclass = superclass; interfaces = interfaces; fields = fields; methods = methods }) (class_named items l.name closed (class_there items l.name parts.name))
+    ∙ ap (λ (f : ClassFlags). record { name = l.name; flags = f; superclass = superclass; interfaces = interfaces; fields = fields; methods = methods }) kept
+    ∙ ap (λ (n : List ℕ). record { name = l.name; flags = l.flags; superclass = n; interfaces = interfaces; fields = fields; methods = methods }) (class_named items l.superclass closed (class_there items l.superclass parts.superclass))
+    ∙ ap (λ (ns : List (List ℕ)). record { name = l.name; flags = l.flags; superclass = l.superclass; interfaces = ns; fields = fields; methods = methods }) (all_classes items l.interfaces closed parts.interfaces)
+    ∙ ap (λ (fs : List Field). record { name = l.name; flags = l.flags; superclass = l.superclass; interfaces = l.interfaces; fields = fs; methods = methods }) (all_fields items l.fields closed parts.fields)
+    ∙ ap (λ (ms : List Method). record { name = l.name; flags = l.flags; superclass = l.superclass; interfaces = l.interfaces; fields = l.fields; methods = ms }) (all_methods items l.methods closed parts.methods)
