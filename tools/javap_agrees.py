@@ -4,7 +4,7 @@ Usage: javap_agrees.py JVM [FILE.class ..]
 
 JVM is the command of the built program, as "./jvm". With no class file named, those of the Java sources in examples/java
 are taken: `javac` compiles them into a temporary folder, and their version is set to 49.0, which changes nothing else that
-is compared. For each file these are compared: superclass, interfaces, flags; of fields name, descriptor, flags and value; of
+is compared. So are the texts in examples, which `jvm asm` assembles. For each file these are compared: superclass, interfaces, flags; of fields name, descriptor, flags and value; of
 methods name, descriptor, flags, limits, exception rows, and each instruction with its operands, by name. Ends with status 1
 where something differs.
 """
@@ -225,8 +225,19 @@ def differences(ours, theirs):
                 yield "instruction %d of %s: %r and %r" % (n, mine["name"], i, k)
 
 
+EXAMPLES = os.path.join(os.path.dirname(os.path.abspath(__file__)), "..", "examples")
+
+
+def assembled(jvm, folder):
+    files = []
+    for text in sorted(glob.glob(os.path.join(EXAMPLES, "*.j"))):
+        files.append(os.path.join(folder, os.path.basename(text)[:-2] + ".class"))
+        output_of(shlex.split(jvm) + ["asm", text, files[-1]])
+    return files
+
+
 def compiled(folder):
-    sources = glob.glob(os.path.join(os.path.dirname(os.path.abspath(__file__)), "..", "examples", "java", "*.java"))
+    sources = glob.glob(os.path.join(EXAMPLES, "java", "*.java"))
     output_of(["javac", "--release", "8", "-g:none", "-Xlint:-options", "-d", folder] + sources)
     files = sorted(glob.glob(os.path.join(folder, "**", "*.class"), recursive=True))
     for path in files:
@@ -240,7 +251,7 @@ def main():
     if len(sys.argv) < 2:
         sys.exit(__doc__)
     with tempfile.TemporaryDirectory() as folder:
-        files = sys.argv[2:] or compiled(folder)
+        files = sys.argv[2:] or compiled(folder) + assembled(sys.argv[1], folder)
         wrong = 0
         for path in files:
             ours, theirs = by_jvm(sys.argv[1], path), by_javap(path)
