@@ -4,7 +4,7 @@ use super::*;
 use bitflags::Flags;
 use model::flags::{ClassFlags, FieldFlags, MethodFlags};
 use model::instructions::{Instruction, Invocation};
-use model::listings::{Code, Field, Listed, Listing, Method, Placed};
+use model::listings::{Code, ExceptionRow, Field, Listed, Listing, Method, Placed};
 use model::names::{Member, Name};
 use std::alloc::{AllocError, Global};
 use std::test::Fail;
@@ -233,9 +233,208 @@ fn superclasses_and_interfaces(rt: HostRuntime) -> Result<(), Fail> {
     };
     let cycle = [x, interface("J", Some("K")), interface("K", Some("J"))];
     assert_eq!(rt; told_of(alloc, &cycle)?.as_str(), "L3 in class J");
+    // no superinterface
+    let missing = [x, interface("J", Some("K"))];
+    assert_eq!(rt; told_of(alloc, &missing)?.as_str(), "L2 in class J");
     // a superclass that is an interface
     let extended = [below("X", "J"), interface("J", None)];
     assert_eq!(rt; told_of(alloc, &extended)?.as_str(), "L4 in class X");
+    Ok(())
+}
+
+#[test]
+fn final_classes_and_superinterfaces(rt: HostRuntime) -> Result<(), Fail> {
+    let alloc = rt.alloc();
+    // a final superclass
+    let last = Plan {
+        flags: 0x0010,
+        ..plain("F")
+    };
+    let extended = [below("X", "F"), last];
+    assert_eq!(rt; told_of(alloc, &extended)?.as_str(), "L4 in class X");
+    // superinterfaces that are no interfaces
+    for above in ["F", "java/lang/Thread"] {
+        let x = Plan {
+            interface: Some(above),
+            ..program("X")
+        };
+        let implemented = [x, plain("F")];
+        assert_eq!(rt; told_of(alloc, &implemented)?.as_str(), "L4 in class X");
+    }
+    Ok(())
+}
+
+/// The rules in the order in which they are tried, but for those that no program shows, since none has exception rows yet.
+const RULES: [u8; 9] = [11, 1, 2, 3, 4, 5, 10, 8, 9];
+
+/// Makes a class break a rule: a missing superinterface, the class itself as one, two fields of one name, a native method,
+/// a frame of 4,097 units, no main.
+fn breaks(alloc: Global, class: &mut Listing, rule: u8) -> Result<(), AllocError> {
+    match rule {
+        2 => class.interfaces.push(name(alloc, "Missing")?)?,
+        3 => {
+            let itself = Name::copy_of(alloc, class.name.as_bytes())?;
+            class.interfaces.push(itself)?;
+        }
+        5 => {
+            for flags in [1u16, 2] {
+                class.fields.push(field(alloc, "x", flags)?)?;
+            }
+        }
+        10 => class
+            .methods
+            .push(empty(alloc, "n", "()V", 0x0101, (0, 1))?)?,
+        8 => class
+            .methods
+            .push(empty(alloc, "f", "()V", PUBLIC_STATIC, (97, 4000))?)?,
+        _ => {}
+    }
+    Ok(())
+}
+
+/// What users are told where the first class breaks these rules; it has a name of the machine's own for the first of all,
+/// its name twice for the next, and extends a final class for the fourth.
+fn told_breaking(alloc: Global, rules: &[u8]) -> Result<String, Fail> {
+    let called = if rules.contains(&11) {
+        "java/lang/Error"
+    } else {
+        "X"
+    };
+    let superclass = if rules.contains(&4) {
+        "F"
+    } else {
+        "java/lang/Object"
+    };
+    let first = Plan {
+        has_main: !rules.contains(&9),
+        ..below(called, superclass)
+    };
+    let mut classes = Vec::new(alloc);
+    let mut class = listed(alloc, first)?;
+    for rule in rules {
+        breaks(alloc, &mut class, *rule)?;
+    }
+    classes.push(class)?;
+    if rules.contains(&1) {
+        classes.push(listed(alloc, plain(called))?)?;
+    }
+    let last = Plan {
+        flags: 0x0010,
+        ..plain("F")
+    };
+    classes.push(listed(alloc, last)?)?;
+    Ok(told(alloc, &classes)?)
+}
+
+/// A class that breaks a rule and all that come behind it is refused by that rule.
+#[test]
+fn rules_in_order(rt: HostRuntime) -> Result<(), Fail> {
+    let alloc = rt.alloc();
+    for place in 0..RULES.len() {
+        let rules = &RULES[place..];
+        let rule = RULES[place];
+        let class = if rule == 11 { "java/lang/Error" } else { "X" };
+        let wanted = format!(in alloc; "L{rule} in class {class}")?;
+        assert_eq!(rt; told_breaking(alloc, rules)?.as_str(), wanted.as_str());
+    }
+    Ok(())
+}
+
+/// Both interfaces of a layer become superinterfaces.
+fn add_layer(alloc: Global, class: &mut Listing, layer: u16) -> Result<(), AllocError> {
+    for side in ["A", "B"] {
+        let above = format!(in alloc; "{side}{layer}")?;
+        class.interfaces.push(name(alloc, above.as_str())?)?;
+    }
+    Ok(())
+}
+
+/// What users are told of main's class below so many layers of two interfaces, each of them below both of the next layer.
+fn told_of_layers(alloc: Global, layers: u16) -> Result<String, Fail> {
+    let mut classes = Vec::new(alloc);
+    let mut first = listed(alloc, program("X"))?;
+    add_layer(alloc, &mut first, 1)?;
+    classes.push(first)?;
+    for layer in 1..layers {
+        for side in ["A", "B"] {
+            let name = format!(in alloc; "{side}{layer}")?;
+            let mut class = listed(alloc, interface(name.as_str(), None))?;
+            add_layer(alloc, &mut class, layer + 1)?;
+            classes.push(class)?;
+        }
+    }
+    for side in ["A", "B"] {
+        let name = format!(in alloc; "{side}{layers}")?;
+        classes.push(listed(alloc, interface(name.as_str(), None))?)?;
+    }
+    Ok(told(alloc, &classes)?)
+}
+
+/// There are as many ways upwards as numbers of so many bits, and each class is looked at once.
+#[test]
+fn layers_of_interfaces(rt: HostRuntime) -> Result<(), Fail> {
+    let alloc = rt.alloc();
+    assert_eq!(rt; told_of_layers(alloc, 120)?.as_str(), "accepted");
+    // the 257th of 401 classes
+    assert_eq!(rt; told_of_layers(alloc, 200)?.as_str(), "L8 in class B128");
+    Ok(())
+}
+
+/// A row over the first of two instructions of one byte each, with its handler at the second.
+fn row(alloc: Global, class: &str) -> Result<ExceptionRow, AllocError> {
+    Ok(ExceptionRow {
+        start: 0,
+        end: 1,
+        handler: 1,
+        class: Some(name(alloc, class)?),
+    })
+}
+
+/// Whether a class with such a row is at fault.
+fn is_bad(alloc: Global, row: ExceptionRow) -> Result<bool, Fail> {
+    let mut code = code(alloc, (1, 0), Instruction::Nop)?;
+    code.rows.push(row)?;
+    let mut class = listed(alloc, below("X", "java/lang/Exception"))?;
+    class
+        .methods
+        .push(method(alloc, "f", "()V", PUBLIC_STATIC, code)?)?;
+    let classes = [class];
+    Ok(exception_rows::has_bad_row(alloc, &classes, &classes[0])?)
+}
+
+/// Programs with exception rows aren't run yet, so the rule is called by itself.
+#[test]
+fn bad_rows(rt: HostRuntime) -> Result<(), Fail> {
+    let alloc = rt.alloc();
+    for (class, bad) in [
+        ("X", false),
+        ("java/lang/Error", false),
+        ("java/lang/Thread", true),
+    ] {
+        assert_eq!(rt; is_bad(alloc, row(alloc, class)?)?, bad);
+    }
+    for (start, end, handler, bad) in [
+        (0u16, 2u16, 0u16, false),
+        (1, 1, 0, true),
+        (0, 3, 0, true),
+        (0, 1, 2, true),
+    ] {
+        let row = ExceptionRow {
+            start,
+            end,
+            handler,
+            class: None,
+        };
+        assert_eq!(rt; is_bad(alloc, row)?, bad);
+    }
+    Ok(())
+}
+
+#[test]
+fn method_twice(rt: HostRuntime) -> Result<(), Fail> {
+    let alloc = rt.alloc();
+    let method = main(alloc)?;
+    assert_eq!(rt; told_with(alloc, method)?.as_str(), "L5 in class X");
     Ok(())
 }
 
