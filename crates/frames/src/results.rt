@@ -54,7 +54,7 @@ impl Frames {
     {
         let units = self.units_above(count);
         self.drop_values(count, units);
-        self.push_all(values);
+        self.push_all(values); // they fit
         self.go_to(next);
     }
 

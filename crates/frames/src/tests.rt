@@ -191,3 +191,19 @@ fn rearranges(rt: HostRuntime) -> Result<(), Fail> {
     assert!(rt; frames.count_and_long() == Err(Fault::WrongKind));
     Ok(())
 }
+
+/// `swap` of 7 and 5.
+#[test]
+fn swaps(rt: HostRuntime) -> Result<(), Fail> {
+    let mut frames = Frames::new(rt.alloc())?;
+    assert!(rt; frames.has_room_for(0, 2));
+    frames.enter(MAIN, 0, 2);
+    assert!(rt; frames.replace_if_room(2, 0, Value::Int(7)).is_ok());
+    assert!(rt; frames.replace_if_room(4, 0, Value::Int(5)).is_ok());
+    if let Ok((right, left)) = frames.two_ints() {
+        frames.replace_all(5, 2, [Value::Int(right), Value::Int(left)].as_slice());
+    }
+    assert!(rt; frames.two_ints() == Ok((7, 5)));
+    assert_eq!(rt; frames.pc(), 5);
+    Ok(())
+}
