@@ -11,3 +11,4 @@ pub mod NumberingClasses
 pub mod NumberingSpelled
 pub mod NumberingTexts
 pub mod NumberingFlags
+pub mod NumberingStands
