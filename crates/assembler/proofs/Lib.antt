@@ -12,3 +12,5 @@ pub mod NumberingSpelled
 pub mod NumberingTexts
 pub mod NumberingFlags
 pub mod NumberingStands
+pub mod NumberingCode
+pub mod NumberingFits
