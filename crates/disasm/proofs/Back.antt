@@ -5,6 +5,7 @@ pub mod Flags
 pub mod Instructions
 pub mod Listings
 pub mod Lists
+pub mod Methods
 pub mod Mnemonics
 pub mod Numbers
 pub mod Pcs
