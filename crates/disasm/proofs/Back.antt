@@ -1,6 +1,7 @@
 -- The tree of a listing's text has the listing, and is what the listing's statements say.
 pub mod Blocks
 pub mod Bodies
+pub mod Classes
 pub mod Fields
 pub mod Flags
 pub mod Instructions
