@@ -2,6 +2,7 @@ mod Back
 mod MarkLemmas
 pub mod NameWords
 pub mod PlainWords
+pub mod RoundTrip
 pub mod SpelledWords
 pub mod SpokenText
 pub mod StatementsBack

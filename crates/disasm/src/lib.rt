@@ -6,10 +6,12 @@ mod code;
 mod files;
 mod instructions;
 mod labels;
+mod laws;
 mod words;
 
 pub use classes::text;
 pub use files::disassemble;
+pub use laws::texts_come_back;
 
 #[cfg(test)]
 mod tests;

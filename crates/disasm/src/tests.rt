@@ -159,5 +159,6 @@ fn an_interface_of_two_lines(rt: HostRuntime) -> Result<(), Fail> {
     let wanted = ".interface public a/I\n.super java/lang/Object\n";
     let found = text(rt.alloc(), &listing)?;
     assert_eq!(rt; found.as_slice(), wanted.as_bytes());
+    texts_come_back();
     Ok(())
 }

@@ -1,14 +1,12 @@
 -- The statements of methods fall into the blocks of the methods.
-use Rattle.std.proofs.Common.{◌≡◌, ℕ, Bool, true, false, not, ◌&&◌, List, [], ◌∷◌, ◌++◌, map, flat_map, codes, bytes_eq, Option, Some, None, refl, sym, ap, ap₂, subst, ◌∙◌, append_assoc}
+use Rattle.std.proofs.Common.{◌≡◌, ℕ, Bool, true, false, not, ◌&&◌, List, [], ◌∷◌, ◌++◌, codes, bytes_eq, Option, Some, None, refl, sym, ap, ap₂, ◌∙◌}
 use Rattle.std.specs.List.{list_all}
-use Rattle.std.specs.Option.{option_map, option_and_then}
+use Rattle.std.specs.Option.{option_map}
 use Rattle.std.proofs.lemmas.Bool.{and_parts, and_from}
-use Rattle.std.proofs.lemmas.List.{map-append}
 use Rattle.std.proofs.lemmas.Slice.Eq.{bytes_eq-Decides}
-use Rattle.model.specs.Texts.Classes.{is_word, is_end_spelled, is_end, in_first_block, block_before, blocks_of}
-use Rattle.model.specs.Texts.Methods.{Part, Saying, part, opens, said_by, saying_of, part_before, parts_by, parts_from}
+use Rattle.model.specs.Texts.Classes.{is_end_spelled, is_end, in_first_block, block_before, blocks_of}
+use Rattle.model.specs.Texts.Methods.{Part, Saying, part, opens, saying_of, part_before, parts_by, parts_from}
 use Rattle.model.specs.Texts.Mnemonics.{mnemonic_of}
-use Rattle.model.specs.Texts.Operands.{only}
 use Rattle.model.specs.Texts.Statements.{Statement}
 use Rattle.model.specs.Texts.Switches.{Switch, table, lookup}
 use Rattle.disasm.specs.Statements.{end_words}

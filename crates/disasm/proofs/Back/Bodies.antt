@@ -1,28 +1,25 @@
 -- The body of a method is read back from its statements.
-use Rattle.std.proofs.Common.{◌≡◌, ℕ, ◌+◌, ◌^◌, ◌<◌, ◌≤◌, Bool, true, false, not, ◌&&◌, ◌==◌, nat_le, List, [], ◌∷◌, ◌++◌, map, codes, decimal, bytes_eq, Option, Some, None, refl, sym, ap, ap₂, ◌∙◌, arith, leb-true, le-leb, append_assoc, append-nil}
+use Rattle.std.proofs.Common.{◌≡◌, ℕ, ◌^◌, ◌<◌, ◌≤◌, Bool, true, false, not, ◌&&◌, List, [], ◌∷◌, ◌++◌, map, codes, bytes_eq, Option, Some, None, refl, sym, ap, ap₂, ◌∙◌, arith, le-leb, append_assoc, append-nil}
 use Rattle.std.specs.List.{list_all}
 use Rattle.std.specs.Option.{option_map, option_and_then}
-use Rattle.std.specs.Prelude.{if◌then◌else◌}
 use Rattle.std.proofs.lemmas.Bool.{and_parts, and_from}
 use Rattle.std.proofs.lemmas.List.{map-append}
 use Rattle.model.specs.declared.listings.ExceptionRow.{ExceptionRow}
 use Rattle.model.specs.declared.listings.Placed.{Placed}
-use Rattle.model.specs.declared.trees.CatchRow.{CatchRow}
 use Rattle.model.specs.declared.trees.TextLine.{TextLine}
 use Rattle.model.specs.declared.trees.TextLine.TheVariants.{Label, Instruction}
 use Rattle.model.specs.CodeListings.{CodeListing}
 use Rattle.model.specs.Texts.Assembling.{end_from}
-use Rattle.model.specs.Texts.Bodies.{Body}
 use Rattle.model.specs.Texts.Disassembling.{label, is_named, named_pcs, catch_name, targets}
 use Rattle.model.specs.Texts.Labels.{with_targets}
-use Rattle.model.specs.Texts.Methods.{Part, stack_limit, locals_limit, catch_row, code_line, Saying, part, said_by, line_of, row_with, catch_class, part_before, parts_by, parts_from, parts_of, stack_limits, locals_limits, catch_rows, code_lines, body_with, body_of_parts, agreeing, body_of}
-use Rattle.model.specs.Texts.Names.{is_part, is_class_name}
-use Rattle.model.specs.Texts.Spelled.{is_u2, is_pc, is_bound, stand_from, operands_are_spelled, instruction_is_spelled, catch_is_spelled, row_is_spelled, code_is_spelled}
+use Rattle.model.specs.Texts.Methods.{Part, stack_limit, locals_limit, catch_row, code_line, part, said_by, line_of, row_with, catch_class, part_before, parts_by, parts_from, parts_of, stack_limits, locals_limits, catch_rows, code_lines, body_with, body_of_parts, agreeing, body_of}
+use Rattle.model.specs.Texts.Names.{is_class_name}
+use Rattle.model.specs.Texts.Spelled.{is_u2, is_pc, stand_from, operands_are_spelled, instruction_is_spelled, catch_is_spelled, row_is_spelled}
 use Rattle.model.specs.Texts.Statements.{Statement}
 use Rattle.disasm.specs.Back.{label_back, lines_back, row_back, body_back}
-use Rattle.disasm.specs.Statements.{instruction_statements, label_statements, placed_statements, statements_from, row_words, stack_words, locals_words, code_statements}
-use Rattle.disasm.proofs.Back.Instructions.{fits_label, ReadBack, instruction_back}
-use Rattle.disasm.proofs.Back.Listings.{SpelledCode, spelled_code, SpelledRow, spelled_row, labels_agree_back}
+use Rattle.disasm.specs.Statements.{instruction_statements, label_statements, statements_from, row_words, stack_words, locals_words, code_statements}
+use Rattle.disasm.proofs.Back.Instructions.{fits_label, instruction_back}
+use Rattle.disasm.proofs.Back.Listings.{SpelledCode, spelled_row, labels_agree_back}
 use Rattle.disasm.proofs.Back.Lists.{all_from}
 use Rattle.disasm.proofs.Back.Numbers.{natural_to_back}
 use Rattle.disasm.proofs.Back.Pcs.{first_of, rises, pc_inside, bound_inside}
@@ -64,7 +61,7 @@ lines_read pcs pc (p ∷ ps) s small e =
     let rest = statements_from pcs p.next ps in
     let line = Instruction (with_targets label p.instruction) in
     let behind : parts_from (map Some instruction ++ map Some rest) None ≡ Some (code_line line ∷ map code_line (lines_back pcs p.next ps)) =
-        instruction_back table_back lookup_back p.instruction (map Some rest) one.0 one.1 ∙ ap (part_before (code_line line)) (lines_read pcs p.next ps h.others small parts.1) in
+    instruction_back table_back lookup_back p.instruction (map Some rest) one.0 one.1 ∙ ap (part_before (code_line line)) (lines_read pcs p.next ps h.others small parts.1) in
     ap (λ xs. parts_from xs None) (map-append Some (given ++ instruction) rest ∙ ap (λ xs. xs ++ map Some rest) (map-append Some given instruction) ∙ append_assoc (map Some given) (map Some instruction) (map Some rest))
     ∙ labels_read (is_named pcs p.pc) p.pc (map Some instruction ++ map Some rest) (code_line line ∷ map code_line (lines_back pcs p.next ps)) (omega (arith, at, risen, small)) behind
     ∙ ap Some (sym (map-append code_line (label_back (is_named pcs p.pc) p.pc) (line ∷ lines_back pcs p.next ps)))

@@ -1,9 +1,8 @@
 -- A class is read back from its statements.
-use Rattle.std.proofs.Common.{◌≡◌, ℕ, ◌^◌, Bool, true, false, not, ◌&&◌, ◌||◌, ◌==◌, nat_le, List, [], ◌∷◌, ◌++◌, map, flat_map, codes, bytes_eq, Option, Some, None, refl, sym, ap, ap₂, ◌∙◌, eqb-true}
-use Rattle.std.specs.Prelude.{bit_and, bit_or, if◌then◌else◌}
+use Rattle.std.proofs.Common.{◌≡◌, ℕ, Bool, true, false, not, ◌&&◌, ◌||◌, ◌==◌, List, [], ◌∷◌, ◌++◌, map, flat_map, codes, bytes_eq, Some, refl, sym, ap, ap₂, ◌∙◌, eqb-true}
+use Rattle.std.specs.Prelude.{bit_and, bit_or}
 use Rattle.std.specs.List.{list_all}
-use Rattle.std.specs.Option.{option_map, option_and_then}
-use Rattle.std.proofs.lemmas.Bool.{and_parts, and_from}
+use Rattle.std.proofs.lemmas.Bool.{and_parts}
 use Rattle.std.proofs.lemmas.List.{map-append}
 use Rattle.model.specs.declared.flags.ClassFlags.{ClassFlags}
 use Rattle.model.specs.declared.listings.Field.{Field}
@@ -16,11 +15,11 @@ use Rattle.model.specs.Texts.Heads.{ClassHead, class_head, interface_head, class
 use Rattle.model.specs.Texts.Names.{is_class_name}
 use Rattle.model.specs.Texts.Spelled.{is_spelled, is_u2, head_is_spelled}
 use Rattle.model.specs.Texts.Statements.{Statement}
-use Rattle.disasm.specs.Back.{method_back, tree_back, code_fits, pcs_fit}
-use Rattle.disasm.specs.Statements.{flags_words, class_words, super_words, interface_words, field_words, method_statements, class_statements, statements_back}
+use Rattle.disasm.specs.Back.{method_back, tree_back, pcs_fit}
+use Rattle.disasm.specs.Statements.{class_words, super_words, interface_words, field_words, method_statements, statements_back}
 use Rattle.disasm.proofs.Back.Fields.{fields_read}
 use Rattle.disasm.proofs.Back.Flags.{and_over_or, bit_clear, bit_kept, kept_whole, flags_read}
-use Rattle.disasm.proofs.Back.Listings.{SpelledClass, spelled_class}
+use Rattle.disasm.proofs.Back.Listings.{spelled_class}
 use Rattle.disasm.proofs.Back.Methods.{methods_read}
 
 -- ---- heads
@@ -80,7 +79,7 @@ interface_read flags name superclass s good set =
     let none = lacks_more flags.0 0xf9ee 0x0010 one no_final in
     let both : bit_and flags.0 0x0600 ≡ 0x0600 = and_over_or flags.0 0x0200 0x0400 ∙ ap₂ bit_or (bit_kept flags.0 9 set) (bit_kept flags.0 10 abstract_too) in
     let whole : bit_or (bit_and flags.0 0x0001) 0x0600 ≡ flags.0 =
-        ap (bit_or (bit_and flags.0 0x0001)) (sym both) ∙ sym (and_over_or flags.0 0x0001 0x0600) ∙ kept_whole flags.0 0x0601 0xf9fe s.small refl none in
+    ap (bit_or (bit_and flags.0 0x0001)) (sym both) ∙ sym (and_over_or flags.0 0x0001 0x0600) ∙ kept_whole flags.0 0x0601 0xf9fe s.small refl none in
     ap interface_head (flags_read interface_flags flags.0 name (0, refl, refl, refl, tt) refl)
     ∙ rw good (ap (λ n. let f : ClassFlags = record { 0 = n } in Some (head_with f name)) whole)
 
@@ -149,14 +148,14 @@ class_back l e small =
     let fs = map Some (map field_words l.fields) in
     let ms = map Some (flat_map method_statements l.methods) in
     let statements : map Some (map interface_words l.interfaces ++ (map field_words l.fields ++ flat_map method_statements l.methods)) ≡ is ++ (fs ++ ms) =
-        map-append Some (map interface_words l.interfaces) (map field_words l.fields ++ flat_map method_statements l.methods)
-        ∙ ap (λ xs. is ++ xs) (map-append Some (map field_words l.fields) (flat_map method_statements l.methods)) in
+    map-append Some (map interface_words l.interfaces) (map field_words l.fields ++ flat_map method_statements l.methods)
+    ∙ ap (λ xs. is ++ xs) (map-append Some (map field_words l.fields) (flat_map method_statements l.methods)) in
     let stop = interfaces_stop l.fields l.methods in
     let lead = interfaces_lead l.interfaces in
     let interfaces : interfaces_of (is ++ (fs ++ ms)) ≡ Some l.interfaces = ap (each interface_of) (led_all (codes ".implements") is (fs ++ ms) lead stop) ∙ interfaces_read l.interfaces s.interfaces in
     let fields : fields_of l.flags (fs ++ ms) ≡ Some l.fields = ap (each (field_of l.flags)) (led_all (codes ".field") fs ms (fields_lead l.fields) (fields_stop l.methods)) ∙ fields_read l.flags l.fields s.fields in
     let methods : methods_of l.flags (behind_led (codes ".field") (fs ++ ms)) ≡ Some (map method_back l.methods) =
-        ap (methods_of l.flags) (behind_all (codes ".field") fs ms (fields_lead l.fields) (fields_stop l.methods)) ∙ methods_read l.flags l.methods s.methods small in
+    ap (methods_of l.flags) (behind_all (codes ".field") fs ms (fields_lead l.fields) (fields_stop l.methods)) ∙ methods_read l.flags l.methods s.methods small in
     ap (λ xs. class_tree (Some (class_words (has l.flags.0 0x0200) l.flags.0 l.name) ∷ Some (super_words l.superclass) ∷ xs)) statements
     ∙ ap (λ o. super_under o (Some (super_words l.superclass) ∷ is ++ (fs ++ ms))) (head_read l.flags l.name l.superclass (has l.flags.0 0x0200) h s.name refl)
     ∙ ap (λ o. members_under head o (is ++ (fs ++ ms))) (super_read l.flags l.superclass h s.superclass)

@@ -1,11 +1,11 @@
 -- Fields are read back from their statements.
-use Rattle.std.proofs.Common.{◌≡◌, ℕ, ℤ, pos, negsuc, ◌+◌, ◌^◌, ◌<◌, Bool, true, false, not, ◌&&◌, ◌==◌, nat_le, int_le, List, [], ◌∷◌, ◌++◌, map, codes, bytes_eq, Option, Some, None, refl, sym, ap, ap₂, ◌∙◌, arith}
+use Rattle.std.proofs.Common.{◌≡◌, ℕ, Bool, true, false, not, ◌&&◌, ◌==◌, List, [], ◌∷◌, ◌++◌, map, codes, bytes_eq, Option, Some, None, refl, sym, ap, ap₂, ◌∙◌, arith}
 use Rattle.std.specs.Prelude.{bit_and, if◌then◌else◌}
 use Rattle.std.specs.Int.Bits.{and_zero_r}
 use Rattle.std.specs.Fmt.{signed_decimal}
 use Rattle.std.specs.List.{list_all}
 use Rattle.std.specs.Option.{option_map, option_and_then}
-use Rattle.std.proofs.lemmas.Bool.{and_parts, and_from}
+use Rattle.std.proofs.lemmas.Bool.{and_parts}
 use Rattle.std.proofs.lemmas.Slice.Eq.{bytes_eq-Decides}
 use Rattle.model.specs.declared.flags.ClassFlags.{ClassFlags}
 use Rattle.model.specs.declared.listings.Constant.{Constant}
@@ -19,12 +19,10 @@ use Rattle.model.specs.Texts.Flags.{has, with_flag, field_flags, field_flags_agr
 use Rattle.model.specs.Texts.Heads.{FieldWords, declared, value_of, field_with, constant_of, field_spelled, field_of}
 use Rattle.model.specs.Texts.Heads as heads
 use Rattle.model.specs.Texts.Names.{is_field_name}
-use Rattle.model.specs.Texts.Numbers.{number_in}
 use Rattle.model.specs.Texts.Spelled.{is_u2, is_int, is_long, value_is_spelled, field_is_spelled}
-use Rattle.model.specs.Texts.Statements.{Statement}
 use Rattle.model.specs.Texts.Tables.{named}
 use Rattle.disasm.specs.Statements.{flags_words, value_words, field_words}
-use Rattle.disasm.proofs.Back.Flags.{bits_of, kept_whole, rows_read}
+use Rattle.disasm.proofs.Back.Flags.{kept_whole, rows_read}
 use Rattle.disasm.proofs.Back.Numbers.{signed_back}
 
 -- ---- words
@@ -37,6 +35,7 @@ other_by test word f e = by (bytes_eq word (codes "=")) refl
   where
     both : true ≡ false → ⊥
     both e = cc
+
     by : (b : Bool) → bytes_eq word (codes "=") ≡ b → not b ≡ true
     by false s = refl
     by true s = absurd (both (sym e ∙ ap test ((bytes_eq-Decides word (codes "=")).0 s) ∙ f))

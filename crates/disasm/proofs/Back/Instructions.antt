@@ -1,22 +1,19 @@
 -- Each instruction but a switch is read back from its words.
-use Rattle.std.proofs.Common.{◌≡◌, ℕ, ℤ, pos, negsuc, ◌+◌, ◌^◌, ◌<◌, ◌≤◌, Bool, true, false, not, ◌&&◌, ◌||◌, ◌==◌, nat_le, int_le, List, [], ◌∷◌, ◌++◌, map, codes, decimal, bytes_eq, Option, Some, None, refl, sym, ap, ap₂, ◌∙◌, inl, inr, arith, leb-true, le-leb}
-use Rattle.std.specs.Prelude.{if◌then◌else◌}
+use Rattle.std.proofs.Common.{◌≡◌, ℕ, ℤ, pos, negsuc, Bool, true, false, not, ◌||◌, nat_le, int_le, List, [], ◌∷◌, ◌++◌, map, codes, decimal, bytes_eq, Option, Some, None, refl, ap, ap₂, ◌∙◌, arith, leb-true, le-leb}
 use Rattle.std.specs.Fmt.{signed_decimal}
 use Rattle.std.specs.List.{list_all}
 use Rattle.std.specs.Option.{option_map, option_and_then}
-use Rattle.std.proofs.lemmas.Bool.{and_parts, and_from, or_cases, not_from_true}
+use Rattle.std.proofs.lemmas.Bool.{and_parts, and_from}
 use Rattle.model.specs.declared.instructions.ArrayOperation.{ArrayOperation}
 use Rattle.model.specs.declared.instructions.ArrayOperation.TheVariants as array
 use Rattle.model.specs.declared.instructions.ClassOperation.{ClassOperation}
 use Rattle.model.specs.declared.instructions.ClassOperation.TheVariants as class
 use Rattle.model.specs.declared.instructions.Constant.{Constant}
 use Rattle.model.specs.declared.instructions.Constant.TheVariants as constant
-use Rattle.model.specs.declared.instructions.Increment.{Increment}
 use Rattle.model.specs.declared.instructions.Increment.TheVariants as increment
 use Rattle.model.specs.declared.instructions.Instruction.TheVariants as instruction
 use Rattle.model.specs.declared.instructions.Invocation.{Invocation}
 use Rattle.model.specs.declared.instructions.Invocation.TheVariants as invocation
-use Rattle.model.specs.declared.instructions.Local.{Local}
 use Rattle.model.specs.declared.instructions.Local.TheVariants as «local»
 use Rattle.model.specs.declared.instructions.LocalAccess.{LocalAccess}
 use Rattle.model.specs.declared.instructions.LocalAccess.TheVariants as access
@@ -24,29 +21,25 @@ use Rattle.model.specs.declared.instructions.Primitive.{Primitive}
 use Rattle.model.specs.declared.instructions.Primitive.TheVariants as primitive
 use Rattle.model.specs.declared.instructions.Test.{Test}
 use Rattle.model.specs.declared.instructions.Width.TheVariants as width
-use Rattle.model.specs.declared.mnemonics.LocalMnemonic.{LocalMnemonic}
 use Rattle.model.specs.declared.mnemonics.LocalMnemonic.TheVariants as accessed
 use Rattle.model.specs.declared.mnemonics.Mnemonic.{Mnemonic}
 use Rattle.model.specs.declared.mnemonics.Mnemonic.TheVariants as mnemonic
 use Rattle.model.specs.declared.names.Member.{Member}
-use Rattle.model.specs.declared.trees.TextLine.TheVariants.{Label, Instruction}
+use Rattle.model.specs.declared.trees.TextLine.TheVariants.{Instruction}
 use Rattle.model.specs.Switches.{Table, Lookup}
 use Rattle.model.specs.Table.Next.{Listed}
-use Rattle.model.specs.ClassFiles.References.{names_class, is_array}
-use Rattle.model.specs.Texts.Descriptors.{is_array_descriptor}
-use Rattle.model.specs.Texts.Disassembling.{label, method_word, primitive_name, kind_letter, targets, test_name, stack_name, number_name, return_text, access_name, class_name, monitor_name}
-use Rattle.model.specs.Texts.Instructions.{Written, instruction_by, instruction_of, wide_by, wide_instruction, operand_of, field_of, interface_call}
+use Rattle.model.specs.ClassFiles.References.{names_class}
+use Rattle.model.specs.Texts.Disassembling.{label, method_word, primitive_name, targets, test_name, stack_name, number_name, return_text, access_name, class_name, monitor_name}
+use Rattle.model.specs.Texts.Instructions.{Written, instruction_by, wide_by, operand_of, interface_call}
 use Rattle.model.specs.Texts.Labels.{with_targets}
-use Rattle.model.specs.Texts.Locals.{local_by, local_form, increment_of, increment_with}
+use Rattle.model.specs.Texts.Locals.{local_form, increment_with}
 use Rattle.model.specs.Texts.Methods.{part, code_line, said_by, part_before, parts_by, parts_from}
-use Rattle.model.specs.Texts.Mnemonics.{mnemonic_of}
-use Rattle.model.specs.Texts.Names.{is_class_name}
-use Rattle.model.specs.Texts.Numbers.{number_in, natural_to}
-use Rattle.model.specs.Texts.Operands.{class_named, type_named, method_named, primitives}
-use Rattle.model.specs.Texts.Spelled.{operands_are_spelled, class_is_spelled, method_is_named, field_is_named, count_is_spelled, is_u2, is_short, is_byte, table_is_spelled, lookup_is_spelled}
+use Rattle.model.specs.Texts.Numbers.{natural_to}
+use Rattle.model.specs.Texts.Operands.{type_named, primitives}
+use Rattle.model.specs.Texts.Spelled.{operands_are_spelled, class_is_spelled, method_is_named, count_is_spelled, is_u2, is_short, is_byte, table_is_spelled, lookup_is_spelled}
 use Rattle.model.specs.Texts.Statements.{Statement}
 use Rattle.model.specs.Texts.Tables.{named}
-use Rattle.disasm.specs.Statements.{instruction_statements, constant_words, local_words, increment_words, field_path, static_words, object_words, array_words, call_words}
+use Rattle.disasm.specs.Statements.{instruction_statements, constant_words, local_words, field_path, static_words, object_words, array_words, call_words}
 use Rattle.disasm.proofs.Back.Mnemonics as begin
 use Rattle.disasm.proofs.Back.Mnemonics.{Begins, is_other}
 use Rattle.disasm.proofs.Back.Numbers.{natural_to_back, signed_back, count_back}

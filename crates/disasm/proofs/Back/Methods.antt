@@ -1,9 +1,9 @@
 -- Methods are read back from their statements.
-use Rattle.std.proofs.Common.{◌≡◌, ℕ, zero, suc, ◌+◌, ◌≤◌, Bool, true, false, not, ◌&&◌, ◌||◌, ◌==◌, nat_le, List, [], ◌∷◌, ◌++◌, map, flat_map, codes, bytes_eq, Option, Some, None, refl, sym, ap, ap₂, ◌∙◌, inl, inr, arith, leb-true, le-leb, eqb-true, ne_eqb, append_assoc}
+use Rattle.std.proofs.Common.{◌≡◌, ℕ, zero, suc, ◌+◌, ◌≤◌, Bool, true, false, not, ◌&&◌, ◌||◌, ◌==◌, List, [], ◌∷◌, ◌++◌, map, flat_map, Option, Some, None, refl, ap, ap₂, ◌∙◌, arith, leb-true, le-leb, ne_eqb, append_assoc}
 use Rattle.std.specs.Prelude.{bit_and, bit_or, if◌then◌else◌}
 use Rattle.std.specs.List.{list_all}
 use Rattle.std.specs.Option.{option_map, option_and_then}
-use Rattle.std.proofs.lemmas.Bool.{and_parts, and_from, cases_eq}
+use Rattle.std.proofs.lemmas.Bool.{and_parts}
 use Rattle.std.proofs.lemmas.List.{map-append}
 use Rattle.std.proofs.lemmas.Nat.{le_or_l, le_or_r}
 use Rattle.model.specs.declared.flags.ClassFlags.{ClassFlags}
@@ -16,10 +16,9 @@ use Rattle.model.specs.Texts.Assembling.{end_from}
 use Rattle.model.specs.Texts.Classes.{is_end, blocks_of, said_before, each, methods_of}
 use Rattle.model.specs.Texts.Descriptors.{arguments_of}
 use Rattle.model.specs.Texts.Flags.{has, method_flags, flags_and_word, method_flags_agree}
-use Rattle.model.specs.Texts.Heads.{MethodHead, units_with_object, method_spelled, method_head, method_of}
-use Rattle.model.specs.Texts.Methods.{Part, parts_of, body_of, method_without, method_with, method_under, method_tree}
+use Rattle.model.specs.Texts.Heads.{MethodHead, method_spelled, method_head, method_of}
+use Rattle.model.specs.Texts.Methods.{body_of, method_without, method_with, method_under, method_tree}
 use Rattle.model.specs.Texts.Names.{is_method_name}
-use Rattle.model.specs.Texts.Operands.{before_parenthesis, from_parenthesis}
 use Rattle.model.specs.Texts.Spelled.{is_u2, code_is_spelled, body_is_spelled, method_is_spelled}
 use Rattle.model.specs.Texts.Statements.{Statement}
 use Rattle.disasm.specs.Back.{body_back, method_back, code_fits}
@@ -27,7 +26,7 @@ use Rattle.disasm.specs.Statements.{flags_words, code_statements, body_statement
 use Rattle.disasm.proofs.Back.Blocks.{none_ends, block_read}
 use Rattle.disasm.proofs.Back.Bodies.{parts_back, parts_read, body_again}
 use Rattle.disasm.proofs.Back.Flags.{and_over_or, bit_clear, bit_none, kept_whole, flags_read}
-use Rattle.disasm.proofs.Back.Listings.{SpelledCode, spelled_code, SpelledMethod, spelled_method}
+use Rattle.disasm.proofs.Back.Listings.{spelled_code, SpelledMethod, spelled_method}
 use Rattle.disasm.proofs.Back.Words.{none_in_method, before_back, from_back}
 
 -- ---- heads
@@ -68,17 +67,19 @@ has_both flags a b = by (has flags a) (has flags b) refl refl
     is_positive : (n : ℕ) → not (n == 0) ≡ true → 1 ≤ n
     is_positive zero e = absurd cc
     is_positive (suc n) e = omega arith
+
     positive_is : (n : ℕ) → 1 ≤ n → not (n == 0) ≡ true
     positive_is n some = ap not (ne_eqb n 0 (λ e. absurd (omega (arith, e, some))))
+
     by : (x y : Bool) → has flags a ≡ x → has flags b ≡ y → has flags (bit_or a b) ≡ (x || y)
     by true y e f =
-      let some = is_positive (bit_and flags a) e in
-      let more = le_or_l (bit_and flags a) (bit_and flags b) in
-      ap (λ n. not (n == 0)) (and_over_or flags a b) ∙ positive_is (bit_or (bit_and flags a) (bit_and flags b)) (omega (arith, some, more))
+        let some = is_positive (bit_and flags a) e in
+        let more = le_or_l (bit_and flags a) (bit_and flags b) in
+        ap (λ n. not (n == 0)) (and_over_or flags a b) ∙ positive_is (bit_or (bit_and flags a) (bit_and flags b)) (omega (arith, some, more))
     by false true e f =
-      let some = is_positive (bit_and flags b) f in
-      let more = le_or_r (bit_and flags a) (bit_and flags b) in
-      ap (λ n. not (n == 0)) (and_over_or flags a b) ∙ positive_is (bit_or (bit_and flags a) (bit_and flags b)) (omega (arith, some, more))
+        let some = is_positive (bit_and flags b) f in
+        let more = le_or_r (bit_and flags a) (bit_and flags b) in
+        ap (λ n. not (n == 0)) (and_over_or flags a b) ∙ positive_is (bit_or (bit_and flags a) (bit_and flags b)) (omega (arith, some, more))
     by false false e f = bit_none flags (bit_or a b) (and_over_or flags a b ∙ ap₂ bit_or (bit_clear flags a e) (bit_clear flags b f))
 
 neither : (a b : Bool) → (a || b) ≡ not (not a && not b)

@@ -1,5 +1,5 @@
 -- The mnemonics that a text spells are those that are meant.
-use Rattle.std.proofs.Common.{◌≡◌, ℕ, Bool, true, not, ◌||◌, List, ◌++◌, codes, bytes_eq, is_some, Option, Some, None, refl}
+use Rattle.std.proofs.Common.{◌≡◌, ℕ, Bool, true, not, ◌||◌, List, ◌++◌, codes, bytes_eq, Option, Some, None, refl}
 use Rattle.model.specs.declared.instructions.Access.{Access}
 use Rattle.model.specs.declared.instructions.Access.TheVariants as field_access
 use Rattle.model.specs.declared.instructions.ClassOperation.{ClassOperation}
@@ -12,7 +12,6 @@ use Rattle.model.specs.declared.instructions.ElementKind.{ElementKind}
 use Rattle.model.specs.declared.instructions.ElementKind.TheVariants as element
 use Rattle.model.specs.declared.instructions.FirstLocal.{FirstLocal}
 use Rattle.model.specs.declared.instructions.FirstLocal.TheVariants as first
-use Rattle.model.specs.declared.instructions.Identity.{Identity}
 use Rattle.model.specs.declared.instructions.Identity.TheVariants as identity
 use Rattle.model.specs.declared.instructions.Invocation.TheVariants as invocation
 use Rattle.model.specs.declared.instructions.Local.TheVariants as «local»
@@ -39,7 +38,7 @@ use Rattle.model.specs.declared.mnemonics.Mnemonic.{Mnemonic}
 use Rattle.model.specs.declared.mnemonics.Mnemonic.TheVariants as mnemonic
 use Rattle.model.specs.declared.values.Kind.{Kind}
 use Rattle.model.specs.declared.values.Kind.TheVariants as kind
-use Rattle.model.specs.Texts.Disassembling.{small_int_name, small_long_name, first_name, kind_letter, element_letter, number_letter, operator_name, conversion_name, number_name, stack_name, comparison_name, references_name, null_name, test_name, access_name, class_name, monitor_name, return_text}
+use Rattle.model.specs.Texts.Disassembling.{small_int_name, small_long_name, first_name, kind_letter, element_letter, number_letter, operator_name, conversion_name, number_name, stack_name, comparison_name, test_name, access_name, class_name, monitor_name, return_text}
 use Rattle.model.specs.Texts.Methods.{label_of}
 use Rattle.model.specs.Texts.Mnemonics.{mnemonic_of}
 

@@ -1,12 +1,12 @@
 -- Switches are read back from their lines.
-use Rattle.std.proofs.Common.{◌≡◌, ℕ, ℤ, pos, negsuc, ◌+◌, ◌^◌, ◌<◌, ◌≤◌, Bool, true, false, ◌&&◌, nat_le, int_le, List, [], ◌∷◌, ◌++◌, map, length, codes, bytes_eq, Option, Some, None, refl, sym, ap, ap₂, ◌∙◌, arith, leb-true, append_assoc, append-nil}
+use Rattle.std.proofs.Common.{◌≡◌, ℕ, ℤ, pos, negsuc, Bool, true, nat_le, List, [], ◌∷◌, ◌++◌, map, length, codes, Some, None, refl, sym, ap, ◌∙◌, arith, leb-true, append_assoc, append-nil}
 use Rattle.std.specs.Prelude.{if◌then◌else◌}
 use Rattle.std.specs.Fmt.{signed_decimal}
 use Rattle.std.specs.List.{list_all}
 use Rattle.std.specs.Option.{option_map, option_and_then}
-use Rattle.std.proofs.lemmas.Bool.{and_parts, and_from}
+use Rattle.std.proofs.lemmas.Bool.{and_parts}
 use Rattle.model.specs.declared.instructions.Instruction.TheVariants as instruction
-use Rattle.model.specs.declared.trees.TextLine.TheVariants.{Label, Instruction}
+use Rattle.model.specs.declared.trees.TextLine.TheVariants.{Instruction}
 use Rattle.model.specs.Switches.{Table, Lookup}
 use Rattle.model.specs.Texts.Disassembling.{label, targets}
 use Rattle.model.specs.Texts.Instructions.{Written}
@@ -15,8 +15,8 @@ use Rattle.model.specs.Texts.Numbers.{number_in}
 use Rattle.model.specs.Texts.Operands.{label_named}
 use Rattle.model.specs.Texts.Spelled.{table_is_spelled, lookup_is_spelled, is_int}
 use Rattle.model.specs.Texts.Statements.{Statement}
-use Rattle.model.specs.Texts.Switches.{Switch, table, lookup, SwitchLine, goes_on, ends, with_default, with_target, with_pair, line_before, switch_line}
-use Rattle.disasm.specs.Statements.{table_words, lookup_words, target_words, pair_words, default_words}
+use Rattle.model.specs.Texts.Switches.{Switch, table, lookup, goes_on, ends, with_default, with_target, with_pair, line_before}
+use Rattle.disasm.specs.Statements.{table_words, target_words, pair_words, default_words}
 use Rattle.disasm.proofs.Back.Instructions.{fits_label, ReadBack}
 use Rattle.disasm.proofs.Back.Lists.{all_parts}
 use Rattle.disasm.proofs.Back.Numbers.{signed_back, number_other}
