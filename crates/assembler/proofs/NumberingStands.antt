@@ -18,11 +18,12 @@ use Rattle.model.specs.ClassFiles.Methods.{are_method_flags, wants_code, units_f
 use Rattle.model.specs.ClassFiles.Pools.{entry_at}
 use Rattle.model.specs.ClassFiles.References.{text_at}
 use Rattle.model.specs.Sizes.{size_at}
-use Rattle.model.specs.Texts.Assembling.{end_from, size_is_right, method_assembles, is_countable, listing_assembles, body_assembles}
+use Rattle.model.specs.Texts.Assembling.{end_from, size_is_right, switch_agrees, reaches, method_assembles, is_countable, listing_assembles, body_assembles}
+use Rattle.model.specs.Texts.Disassembling.{targets as goals}
 use Rattle.model.specs.Texts.Descriptors.{is_field_descriptor, arguments_of}
 use Rattle.model.specs.Texts.Flags.{has}
 use Rattle.model.specs.Texts.Names.{is_class_name, is_field_name, is_method_name}
-use Rattle.model.specs.Texts.Spelled.{is_u2, operands_are_spelled, stand_from, is_pc, is_bound, instruction_is_spelled, catch_is_spelled, row_is_spelled, code_is_spelled, body_is_spelled, method_is_spelled, value_is_spelled, field_is_spelled, head_is_spelled, is_spelled}
+use Rattle.model.specs.Texts.Spelled.{narrow_number, is_u2, operands_are_spelled, stand_from, is_pc, is_bound, instruction_is_spelled, catch_is_spelled, row_is_spelled, code_is_spelled, body_is_spelled, method_is_spelled, value_is_spelled, field_is_spelled, head_is_spelled, is_spelled}
 use Rattle.model.specs.declared.flags.ClassFlags.{ClassFlags}
 use Rattle.model.specs.declared.listings.Constant.{Constant}
 use Rattle.model.specs.declared.listings.Constant.TheVariants as constant
@@ -37,6 +38,8 @@ use Rattle.classfile.specs.Sound.{ConstantBounds, is_constant, is_type, FieldSta
 use Rattle.classfile.specs.Writing.{code_bytes}
 use Rattle.classfile.proofs.SoundLaws.{field_stands, code_stands, method_stands, head_stands, class_stands}
 use Rattle.assembler.specs.Numbering.{number_of, entries_of, are_items_of, AreClosed, IsPool, is_well_formed, numbered_placed, numbered_row, numbered_value, numbered_field}
+use Rattle.assembler.proofs.NumberingFits.{AreSmall}
+use Rattle.assembler.proofs.NumberingCode.{IsReady, code_is_code}
 use Rattle.assembler.proofs.NumberingListed.{only_there, class_there, all_parts}
 use Rattle.assembler.proofs.NumberingCounts.{number_fits}
 use Rattle.assembler.proofs.NumberingSound.{text_under, pool_is_sound, pool_fits, class_is, numbered_is_sound, row_fits, values_fit}
@@ -256,3 +259,41 @@ spelled_flags l spelled =
     without : (t : Bool) → not t ≡ true → t ≡ false
     without true e = absurd (false≢true e)
     without false e = refl
+
+-- ---- code of a text's listing has bytes
+
+all_ready : (items : List Item) (of ps : List Placed) → are_items_of items (flat_map placed_items ps) ≡ true → list_all (instruction_is_spelled of) ps ≡ true → list_all (λ p. switch_agrees p.instruction) ps ≡ true
+    → list_all (λ p. reaches p.pc p.instruction) ps ≡ true → AllByRecursion (λ p. AreSmall items (narrow_number p.instruction)) ps → AllByRecursion (IsReady items of) ps
+all_ready items of [] all h agrees ways small = tt
+all_ready items of (p ∷ ps) all h agrees ways small =
+    let parts = all_parts items (placed_items p) (flat_map placed_items ps) all in
+    let a = and_parts (instruction_is_spelled of p) (list_all (instruction_is_spelled of) ps) h in
+    let b = and_parts (operands_are_spelled p.instruction) (list_all (is_pc of) (goals p.instruction)) a.0 in
+    let c = and_parts (switch_agrees p.instruction) (list_all (λ q. switch_agrees q.instruction) ps) agrees in
+    let d = and_parts (reaches p.pc p.instruction) (list_all (λ q. reaches q.pc q.instruction) ps) ways in (
+      record { there = parts.0; operands = b.0; lands = b.1; agrees = c.0; way = d.0; small = small.0 },
+      all_ready items of ps parts.1 a.1 c.1 d.1 small.1,
+    )
+
+-- the ints of each `ldc` have numbers of one byte
+abbrev pub HasSmall : List Item → Option CodeListing → Type 0
+HasSmall items None = Unit {0}
+HasSmall items (Some c) = AllByRecursion (λ p. AreSmall items (narrow_number p.instruction)) c.instructions
+
+pub body_has_bytes : (items : List Item) (wanted : Bool) (code : Option CodeListing) → IsPool items → are_items_of items (code_items code) ≡ true → body_is_spelled wanted code ≡ true → body_assembles code ≡ true → HasSmall items code → HasBytes items code
+body_has_bytes items wanted None pool all h fits small = tt
+body_has_bytes items wanted (Some c) pool all h fits small =
+    let top = and_parts wanted (code_is_spelled c) h in
+    let first = all_parts items (text_item (codes "Code") ∷ []) (flat_map placed_items c.instructions ++ flat_map row_items c.rows) all in
+    let parts = all_parts items (flat_map placed_items c.instructions) (flat_map row_items c.rows) first.1 in
+    let p = and_parts _ (list_all (row_is_spelled c.instructions) c.rows) top.1 in
+    let q = and_parts _ (list_all (instruction_is_spelled c.instructions) c.instructions) p.0 in
+    let r = and_parts _ (stand_from 0 c.instructions) q.0 in
+    let t = and_parts _ (is_countable (length c.rows)) fits in
+    let u = and_parts _ (list_all (λ x. reaches x.pc x.instruction) c.instructions) t.0 in
+    let size = and_parts (list_all (λ x. switch_agrees x.instruction) c.instructions) (size_is_right (end_from 0 c.instructions)) u.0 in
+    let sized = and_parts (nat_le 1 (end_from 0 c.instructions)) (nat_le (end_from 0 c.instructions) 65535) size.1 in
+    let some : 1 ≤ end_from 0 c.instructions = leb-true 1 (end_from 0 c.instructions) sized.0 in
+    let end : end_from 0 c.instructions ≤ 65535 = leb-true (end_from 0 c.instructions) 65535 sized.1 in
+    code_is_code items c.instructions pool (λ n is. omega (arith, pc_before_end 0 c.instructions n r.1 is, end)) r.1 some end
+    (all_ready items c.instructions c.instructions parts.0 q.1 size.0 u.1 small)
