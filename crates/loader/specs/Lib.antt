@@ -1,5 +1,6 @@
 pub mod Builtins
 pub mod Errors
+pub mod Indexed
 pub mod Prepared
 pub mod Reached
 pub mod Steps

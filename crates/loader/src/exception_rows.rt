@@ -3,6 +3,7 @@ ghost use Rattle.std.specs.Prelude.{◌≡◌, ◌==◌, ◌&&◌, ◌||◌, nat
 ghost use Rattle.std.specs.List.{list_any};
 ghost use Rattle.model.specs.Accepted.ExceptionRows.{is_instruction, code_length, is_bad_row, is_no_throwable, has_bad_row_in, has_bad_row};
 
+use crate::index::Index;
 use crate::subclasses::is_subclass;
 use model::listings::{Code, ExceptionRow, Listing, Method};
 use std::alloc::{AllocError, Global};
@@ -25,15 +26,11 @@ fn is_end(code: &Code, pc: u16) -> bool
         }
 }
 
-fn is_no_throwable(
-    alloc: Global,
-    program: &[Listing],
-    row: &ExceptionRow,
-) -> Result<bool, AllocError>
-    ensures { IfOk result (λ found. found ≡ is_no_throwable program.now row.now.class) }
+fn is_no_throwable(alloc: Global, index: &Index<'_>, row: &ExceptionRow) -> Result<bool, AllocError>
+    ensures { IfOk result (λ found. found ≡ is_no_throwable index.now row.now.class) }
 {
     match &row.class {
-        Some(name) => Ok(!is_subclass(alloc, program, name.as_bytes(), b"java/lang/Throwable")?),
+        Some(name) => Ok(!is_subclass(alloc, index, name.as_bytes(), b"java/lang/Throwable")?),
         None => Ok(false),
     }
 }
@@ -51,36 +48,36 @@ fn is_placed(code: &Code, row: &ExceptionRow) -> bool
 
 fn is_bad_row(
     alloc: Global,
-    program: &[Listing],
+    index: &Index<'_>,
     code: &Code,
     row: &ExceptionRow,
 ) -> Result<bool, AllocError>
-    ensures { IfOk result (λ found. found ≡ is_bad_row program.now code.now row.now) }
+    ensures { IfOk result (λ found. found ≡ is_bad_row index.now code.now row.now) }
 {
-    Ok(!is_placed(code, row) || is_no_throwable(alloc, program, row)?)
+    Ok(!is_placed(code, row) || is_no_throwable(alloc, index, row)?)
 }
 
 fn is_one_bad(
     alloc: Global,
-    program: &[Listing],
+    index: &Index<'_>,
     code: &Code,
     rows: &[ExceptionRow],
 ) -> Result<bool, AllocError>
-    ensures { IfOk result (λ found. found ≡ list_any (is_bad_row program.now code.now) rows.now) }
+    ensures { IfOk result (λ found. found ≡ list_any (is_bad_row index.now code.now) rows.now) }
 {
     for row in rows {
-        if is_bad_row(alloc, program, code, row)? {
+        if is_bad_row(alloc, index, code, row)? {
             return Ok(true);
         }
     }
     Ok(false)
 }
 
-fn has_bad_row_in(alloc: Global, program: &[Listing], method: &Method) -> Result<bool, AllocError>
-    ensures { IfOk result (λ found. found ≡ has_bad_row_in program.now method.now.code) }
+fn has_bad_row_in(alloc: Global, index: &Index<'_>, method: &Method) -> Result<bool, AllocError>
+    ensures { IfOk result (λ found. found ≡ has_bad_row_in index.now method.now.code) }
 {
     match &method.code {
-        Some(code) => is_one_bad(alloc, program, code, &code.rows),
+        Some(code) => is_one_bad(alloc, index, code, &code.rows),
         None => Ok(false),
     }
 }
@@ -88,11 +85,11 @@ fn has_bad_row_in(alloc: Global, program: &[Listing], method: &Method) -> Result
 /// Whether an exception row of the class doesn't begin below its end, has a bound or handler that is no instruction,
 /// where its end may be the code's length, or has a class that is no Throwable. `AllocError` where memory runs out.
 #[tactic(auto, unfolding(model::specs::Accepted::ExceptionRows::has_bad_row))]
-pub fn has_bad_row(alloc: Global, program: &[Listing], class: &Listing) -> Result<bool, AllocError>
-    ensures { IfOk result (λ found. found ≡ has_bad_row program.now class.now) }
+pub fn has_bad_row(alloc: Global, index: &Index<'_>, class: &Listing) -> Result<bool, AllocError>
+    ensures { IfOk result (λ found. found ≡ has_bad_row index.now class.now) }
 {
     for method in &class.methods {
-        if has_bad_row_in(alloc, program, method)? {
+        if has_bad_row_in(alloc, index, method)? {
             return Ok(true);
         }
     }

@@ -9,6 +9,7 @@ mod builtins;
 mod classes;
 pub mod errors;
 mod exception_rows;
+mod index;
 mod limits;
 mod members;
 pub mod programs;

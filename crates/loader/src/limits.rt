@@ -7,7 +7,7 @@ ghost use Rattle.model.specs.declared.listings.Method.{Method as MethodListing};
 ghost use Rattle.model.specs.Accepted.ArgumentUnits.{stand_after, units_begun, units_from, argument_units};
 ghost use Rattle.model.specs.Accepted.LimitsOfClasses.{own_fields, fields_within, has_too_many_fields, passes_limits, is_too_large, first_past_limits};
 
-use crate::classes::listed;
+use crate::index::Index;
 use bitflags::Flags;
 use model::descriptors::ArgumentStand;
 use model::flags::{FieldFlags, MethodFlags};
@@ -104,8 +104,8 @@ fn own_fields(class: &Listing) -> usize
 }
 
 /// Whether an object of the class, with the fields of so many superclasses, has more fields than `room`.
-fn has_more_fields(steps: usize, program: &[Listing], class: &Listing, room: usize) -> bool
-    ensures { result ≡ nat_lt room (fields_within steps program.now (Some class.now)) }
+fn has_more_fields(steps: usize, index: &Index<'_>, class: &Listing, room: usize) -> bool
+    ensures { result ≡ nat_lt room (fields_within steps index.now (Some class.now)) }
 {
     let own = own_fields(class);
     if own > room {
@@ -114,8 +114,8 @@ fn has_more_fields(steps: usize, program: &[Listing], class: &Listing, room: usi
     if steps == 0 {
         return false;
     }
-    match listed(program, class.superclass.as_bytes()) {
-        Some(superclass) => has_more_fields(steps - 1, program, superclass, room - own),
+    match index.listed(class.superclass.as_bytes()) {
+        Some(superclass) => has_more_fields(steps - 1, index, superclass, room - own),
         None => false,
     }
 }
@@ -128,27 +128,28 @@ fn is_one_past_limits(methods: &[Method]) -> bool
 
 /// Whether an object of the class has more than 256 fields, or a method of it passes the limits.
 #[tactic(auto, unfolding(model::specs::Accepted::LimitsOfClasses::is_too_large))]
-fn is_too_large(program: &[Listing], class: &Listing) -> bool
-    ensures { result ≡ is_too_large program.now class.now }
+fn is_too_large(index: &Index<'_>, class: &Listing) -> bool
+    ensures { result ≡ is_too_large index.now class.now }
 {
-    has_more_fields(program.len(), program, class, 256) || is_one_past_limits(&class.methods)
+    has_more_fields(index.program().len(), index, class, 256) || is_one_past_limits(&class.methods)
 }
 
-fn first_too_large<'a>(program: &[Listing], classes: &'a [Listing]) -> Option<&'a Listing>
-    ensures { option_copied result ≡ find (is_too_large program.now) classes.now }
+fn first_too_large<'a>(index: &Index<'_>, classes: &'a [Listing]) -> Option<&'a Listing>
+    ensures { option_copied result ≡ find (is_too_large index.now) classes.now }
 {
-    classes.iter().find(|class| is_too_large(program, class))
+    classes.iter().find(|class| is_too_large(index, class))
 }
 
 /// The first class past a limit; the 257th is past that of the number of classes.
 #[tactic(auto, unfolding(model::specs::Accepted::LimitsOfClasses::first_past_limits))]
-pub fn first_past_limits(program: &[Listing]) -> Option<&Listing>
+pub fn first_past_limits<'a>(index: &Index<'_>, program: &'a [Listing]) -> Option<&'a Listing>
+    requires { index.now ≡ program.now }
     ensures { option_copied result ≡ first_past_limits program.now }
 {
     if program.len() <= 256 {
-        return first_too_large(program, program);
+        return first_too_large(index, program);
     }
-    match first_too_large(program, &program[..256]) {
+    match first_too_large(index, &program[..256]) {
         Some(class) => Some(class),
         None => Some(&program[256]),
     }

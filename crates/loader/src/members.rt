@@ -4,6 +4,7 @@ ghost use Rattle.std.specs.List.{list_any};
 ghost use Rattle.model.specs.Accepted.MembersTwice.{is_same_field, is_same_method, has_field_twice, has_method_twice, has_member_twice};
 ghost use Rattle.model.specs.Accepted.RefusedMembers.{is_run, is_refused, has_refused_member};
 
+use crate::index::Index;
 use crate::served::serves;
 use crate::subclasses::is_subclass;
 use bitflags::Flags;
@@ -65,11 +66,11 @@ fn is_run(method: &Method) -> bool
 /// thread's synchronized `run()V`. `AllocError` where memory runs out.
 fn is_refused(
     alloc: Global,
-    program: &[Listing],
+    index: &Index<'_>,
     class: &[u8],
     method: &Method,
 ) -> Result<bool, AllocError>
-    ensures { IfOk result (λ found. found ≡ is_refused program.now class.now method.now) }
+    ensures { IfOk result (λ found. found ≡ is_refused index.now class.now method.now) }
 {
     let flags = method.flags;
     Ok(
@@ -77,20 +78,20 @@ fn is_refused(
             || flags.contains(MethodFlags::NATIVE)
             || flags.contains(MethodFlags::SYNCHRONIZED)
                 && (flags.contains(MethodFlags::STATIC)
-                    || is_run(method) && is_subclass(alloc, program, class, b"java/lang/Thread")?),
+                    || is_run(method) && is_subclass(alloc, index, class, b"java/lang/Thread")?),
     )
 }
 
 fn is_one_refused(
     alloc: Global,
-    program: &[Listing],
+    index: &Index<'_>,
     class: &[u8],
     methods: &[Method],
 ) -> Result<bool, AllocError>
-    ensures { IfOk result (λ found. found ≡ list_any (is_refused program.now class.now) methods.now) }
+    ensures { IfOk result (λ found. found ≡ list_any (is_refused index.now class.now) methods.now) }
 {
     for method in methods {
-        if is_refused(alloc, program, class, method)? {
+        if is_refused(alloc, index, class, method)? {
             return Ok(true);
         }
     }
@@ -102,11 +103,11 @@ fn is_one_refused(
 #[tactic(auto, unfolding(model::specs::Accepted::RefusedMembers::has_refused_member))]
 pub fn has_refused_member(
     alloc: Global,
-    program: &[Listing],
+    index: &Index<'_>,
     class: &Listing,
 ) -> Result<bool, AllocError>
-    ensures { IfOk result (λ found. found ≡ has_refused_member program.now class.now) }
+    ensures { IfOk result (λ found. found ≡ has_refused_member index.now class.now) }
 {
-    let refused = is_one_refused(alloc, program, class.name.as_bytes(), &class.methods)?;
+    let refused = is_one_refused(alloc, index, class.name.as_bytes(), &class.methods)?;
     Ok(refused || !serves(class))
 }

@@ -4,7 +4,7 @@ ghost use Rattle.model.specs.Classes.Named.{parents_named, parents_of};
 ghost use Rattle.loader.specs.Reached.{has_name, with_name, with_names, is_one_below};
 
 use crate::builtins::builtin_superclass;
-use crate::classes::listed;
+use crate::index::Index;
 use indexmap::IndexSet;
 use model::listings::Listing;
 use std::alloc::{AllocError, Global};
@@ -56,10 +56,10 @@ impl<'a> Reached<'a> {
     }
 
     /// Adds the parents of the class of a name, where there is one.
-    fn add_parents_named(&mut self, program: &'a [Listing], name: &[u8]) -> Result<(), AllocError>
-        ensures { OnOk result (self.new ≡ with_names self.old (parents_named program.now name.now)) }
+    fn add_parents_named(&mut self, index: &Index<'a>, name: &[u8]) -> Result<(), AllocError>
+        ensures { OnOk result (self.new ≡ with_names self.old (parents_named index.now name.now)) }
     {
-        match listed(program, name) {
+        match index.listed(name) {
             Some(class) => self.add_parents(class),
             None => match builtin_superclass(name) {
                 Some(superclass) => self.add(superclass),
@@ -83,13 +83,13 @@ impl<'a> Reached<'a> {
     }
 
     /// Adds all that is above the names, each name's parents once.
-    pub fn close(&mut self, program: &'a [Listing]) -> Result<(), AllocError>
-        ensures { OnOk result ((above : List ℕ) → has_name self.new above ≡ is_one_below program.now self.old above) }
+    pub fn close(&mut self, index: &Index<'a>) -> Result<(), AllocError>
+        ensures { OnOk result ((above : List ℕ) → has_name self.new above ≡ is_one_below index.now self.old above) }
     {
         let mut next = 0;
         while next < self.len() {
             let name = self.get(next);
-            self.add_parents_named(program, name)?;
+            self.add_parents_named(index, name)?;
             next += 1;
         }
         Ok(())

@@ -14,6 +14,7 @@ ghost use Rattle.loader.specs.Told.{refusal_in};
 
 use crate::classes::is_builtin;
 use crate::exception_rows::has_bad_row;
+use crate::index::Index;
 use crate::limits::first_past_limits;
 use crate::members::{has_member_twice, has_refused_member};
 use crate::programs::is_main;
@@ -48,32 +49,34 @@ fn first_twice(program: &[Listing]) -> Option<&Listing>
     program.iter().find(|class| is_class_twice(program, class))
 }
 
-fn first_with_missing_parent(program: &[Listing]) -> Option<&Listing>
-    ensures { option_copied result ≡ find (has_missing_parent program.now) program.now }
+fn first_with_missing_parent<'a>(index: &Index<'_>, program: &'a [Listing]) -> Option<&'a Listing>
+    ensures { option_copied result ≡ find (has_missing_parent index.now) program.now }
 {
     program
         .iter()
-        .find(|class| has_missing_parent(program, class))
+        .find(|class| has_missing_parent(index, class))
 }
 
 /// The first class on a cycle. `AllocError` where memory runs out, here and below.
-fn first_on_cycle(alloc: Global, program: &[Listing]) -> Result<Option<&Listing>, AllocError>
-    ensures { IfOk result (λ found. option_copied found ≡ find (is_on_cycle program.now) program.now) }
+fn first_on_cycle<'a>(
+    alloc: Global,
+    index: &Index<'a>,
+    program: &'a [Listing],
+) -> Result<Option<&'a Listing>, AllocError>
+    ensures { IfOk result (λ found. option_copied found ≡ find (is_on_cycle index.now) program.now) }
 {
     for class in program {
-        if is_on_cycle(alloc, program, class)? {
+        if is_on_cycle(alloc, index, class)? {
             return Ok(Some(class));
         }
     }
     Ok(None)
 }
 
-fn first_with_wrong_parent(program: &[Listing]) -> Option<&Listing>
-    ensures { option_copied result ≡ find (has_wrong_parent program.now) program.now }
+fn first_with_wrong_parent<'a>(index: &Index<'_>, program: &'a [Listing]) -> Option<&'a Listing>
+    ensures { option_copied result ≡ find (has_wrong_parent index.now) program.now }
 {
-    program
-        .iter()
-        .find(|class| has_wrong_parent(program, class))
+    program.iter().find(|class| has_wrong_parent(index, class))
 }
 
 fn first_with_member_twice(program: &[Listing]) -> Option<&Listing>
@@ -83,14 +86,15 @@ fn first_with_member_twice(program: &[Listing]) -> Option<&Listing>
 }
 
 /// The first class with a refused member.
-fn first_with_refused_member(
+fn first_with_refused_member<'a>(
     alloc: Global,
-    program: &[Listing],
-) -> Result<Option<&Listing>, AllocError>
-    ensures { IfOk result (λ found. option_copied found ≡ find (has_refused_member program.now) program.now) }
+    index: &Index<'_>,
+    program: &'a [Listing],
+) -> Result<Option<&'a Listing>, AllocError>
+    ensures { IfOk result (λ found. option_copied found ≡ find (has_refused_member index.now) program.now) }
 {
     for class in program {
-        if has_refused_member(alloc, program, class)? {
+        if has_refused_member(alloc, index, class)? {
             return Ok(Some(class));
         }
     }
@@ -98,11 +102,15 @@ fn first_with_refused_member(
 }
 
 /// The first class with a bad exception row.
-fn first_with_bad_row(alloc: Global, program: &[Listing]) -> Result<Option<&Listing>, AllocError>
-    ensures { IfOk result (λ found. option_copied found ≡ find (has_bad_row program.now) program.now) }
+fn first_with_bad_row<'a>(
+    alloc: Global,
+    index: &Index<'_>,
+    program: &'a [Listing],
+) -> Result<Option<&'a Listing>, AllocError>
+    ensures { IfOk result (λ found. option_copied found ≡ find (has_bad_row index.now) program.now) }
 {
     for class in program {
-        if has_bad_row(alloc, program, class)? {
+        if has_bad_row(alloc, index, class)? {
             return Ok(Some(class));
         }
     }
@@ -157,7 +165,12 @@ fn begins_with_main(program: &[Listing]) -> Result<(), Refusal<'_>>
 
 /// `Err` with the first rule, in order, that some class breaks, and the first class that does; else `Ok`.
 #[tactic(auto, using(crate::proofs::ReferenceLemmas::none_unresolved), unfolding(model::specs::Accepted::Refusals::refusal_of))]
-fn obeys_rules<'a>(program: &'a [Listing], found: Found<'a>) -> Result<(), Refusal<'a>>
+fn obeys_rules<'a>(
+    index: &Index<'a>,
+    program: &'a [Listing],
+    found: Found<'a>,
+) -> Result<(), Refusal<'a>>
+    requires index { index.now ≡ program.now }
     requires on_cycle { option_copied found.on_cycle ≡ find (is_on_cycle program.now) program.now }
     requires with_refused_member { option_copied found.with_refused_member ≡ find (has_refused_member program.now) program.now }
     requires with_bad_row { option_copied found.with_bad_row ≡ find (has_bad_row program.now) program.now }
@@ -167,14 +180,17 @@ fn obeys_rules<'a>(program: &'a [Listing], found: Found<'a>) -> Result<(), Refus
     keeps(LoadRule::ClassTwice, first_twice(program))?;
     keeps(
         LoadRule::MissingSuperclass,
-        first_with_missing_parent(program),
+        first_with_missing_parent(index, program),
     )?;
     keeps(LoadRule::Cycle, found.on_cycle)?;
-    keeps(LoadRule::WrongSuperclass, first_with_wrong_parent(program))?;
+    keeps(
+        LoadRule::WrongSuperclass,
+        first_with_wrong_parent(index, program),
+    )?;
     keeps(LoadRule::MemberTwice, first_with_member_twice(program))?;
     keeps(LoadRule::RefusedMember, found.with_refused_member)?;
     keeps(LoadRule::BadExceptionRow, found.with_bad_row)?;
-    keeps(LoadRule::LimitPassed, first_past_limits(program))?;
+    keeps(LoadRule::LimitPassed, first_past_limits(index, program))?;
     begins_with_main(program)
 }
 
@@ -186,10 +202,11 @@ pub fn first_refusal(
 ) -> Result<Result<(), Refusal<'_>>, AllocError>
     ensures { IfOk result (λ answer. refusal_in answer ≡ refusal_of program.now) }
 {
+    let index = Index::new(alloc, program)?;
     let found = Found {
-        on_cycle: first_on_cycle(alloc, program)?,
-        with_refused_member: first_with_refused_member(alloc, program)?,
-        with_bad_row: first_with_bad_row(alloc, program)?,
+        on_cycle: first_on_cycle(alloc, &index, program)?,
+        with_refused_member: first_with_refused_member(alloc, &index, program)?,
+        with_bad_row: first_with_bad_row(alloc, &index, program)?,
     };
-    Ok(obeys_rules(program, found))
+    Ok(obeys_rules(&index, program, found))
 }

@@ -5,7 +5,8 @@ ghost use Rattle.model.specs.Classes.Named.{class_named};
 ghost use Rattle.model.specs.Accepted.Superclasses.{is_class_twice, has_missing_parent, has_wrong_parent, is_no_superclass, is_no_superinterface};
 ghost use Rattle.model.specs.Accepted.Cycles.{is_on_cycle};
 
-use crate::classes::{is_builtin, is_there, listed};
+use crate::classes::{is_builtin, is_there};
+use crate::index::Index;
 use crate::reached::Reached;
 use bitflags::Flags;
 use model::flags::ClassFlags;
@@ -26,36 +27,40 @@ pub fn is_class_twice(program: &[Listing], class: &Listing) -> bool
         > 1
 }
 
-fn is_one_missing(program: &[Listing], names: &[Name]) -> bool
-    ensures { result ≡ list_any (λ name. is_none (class_named program.now name)) names.now }
+fn is_one_missing(index: &Index<'_>, names: &[Name]) -> bool
+    ensures { result ≡ list_any (λ name. is_none (class_named index.now name)) names.now }
 {
-    names.iter().any(|name| !is_there(program, name.as_bytes()))
+    names.iter().any(|name| !is_there(index, name.as_bytes()))
 }
 
 /// Whether a superclass or superinterface of the class isn't there.
 #[tactic(auto, unfolding(model::specs::Accepted::Superclasses::has_missing_parent))]
-pub fn has_missing_parent(program: &[Listing], class: &Listing) -> bool
-    ensures { result ≡ has_missing_parent program.now class.now }
+pub fn has_missing_parent(index: &Index<'_>, class: &Listing) -> bool
+    ensures { result ≡ has_missing_parent index.now class.now }
 {
-    !is_there(program, class.superclass.as_bytes()) || is_one_missing(program, &class.interfaces)
+    !is_there(index, class.superclass.as_bytes()) || is_one_missing(index, &class.interfaces)
 }
 
 /// Whether a superclass or superinterface of the class is the class itself or below it. Each class above it is looked at
 /// once. `AllocError` where memory runs out.
-pub fn is_on_cycle(alloc: Global, program: &[Listing], class: &Listing) -> Result<bool, AllocError>
-    ensures { IfOk result (λ found. found ≡ is_on_cycle program.now class.now) }
+pub fn is_on_cycle<'a>(
+    alloc: Global,
+    index: &Index<'a>,
+    class: &'a Listing,
+) -> Result<bool, AllocError>
+    ensures { IfOk result (λ found. found ≡ is_on_cycle index.now class.now) }
 {
     let mut reached = Reached::new(alloc);
     reached.add_parents(class)?;
-    reached.close(program)?;
+    reached.close(index)?;
     Ok(reached.has(class.name.as_bytes()))
 }
 
 /// Whether a class of this name is there that can't be extended.
-fn is_no_superclass(program: &[Listing], name: &[u8]) -> bool
-    ensures { result ≡ is_no_superclass (class_named program.now name.now) }
+fn is_no_superclass(index: &Index<'_>, name: &[u8]) -> bool
+    ensures { result ≡ is_no_superclass (class_named index.now name.now) }
 {
-    match listed(program, name) {
+    match index.listed(name) {
         Some(class) => class.flags.contains(ClassFlags::INTERFACE)
             || class.flags.contains(ClassFlags::FINAL),
         None => false,
@@ -63,28 +68,28 @@ fn is_no_superclass(program: &[Listing], name: &[u8]) -> bool
 }
 
 /// Whether a class of this name is there that can't be implemented.
-fn is_no_superinterface(program: &[Listing], name: &[u8]) -> bool
-    ensures { result ≡ is_no_superinterface (class_named program.now name.now) }
+fn is_no_superinterface(index: &Index<'_>, name: &[u8]) -> bool
+    ensures { result ≡ is_no_superinterface (class_named index.now name.now) }
 {
-    match listed(program, name) {
+    match index.listed(name) {
         Some(class) => !class.flags.contains(ClassFlags::INTERFACE),
         None => is_builtin(name),
     }
 }
 
-fn is_one_no_superinterface(program: &[Listing], names: &[Name]) -> bool
-    ensures { result ≡ list_any (λ name. is_no_superinterface (class_named program.now name)) names.now }
+fn is_one_no_superinterface(index: &Index<'_>, names: &[Name]) -> bool
+    ensures { result ≡ list_any (λ name. is_no_superinterface (class_named index.now name)) names.now }
 {
     names
         .iter()
-        .any(|name| is_no_superinterface(program, name.as_bytes()))
+        .any(|name| is_no_superinterface(index, name.as_bytes()))
 }
 
 /// Whether the superclass is an interface or final, or a superinterface is no interface.
 #[tactic(auto, unfolding(model::specs::Accepted::Superclasses::has_wrong_parent))]
-pub fn has_wrong_parent(program: &[Listing], class: &Listing) -> bool
-    ensures { result ≡ has_wrong_parent program.now class.now }
+pub fn has_wrong_parent(index: &Index<'_>, class: &Listing) -> bool
+    ensures { result ≡ has_wrong_parent index.now class.now }
 {
-    is_no_superclass(program, class.superclass.as_bytes())
-        || is_one_no_superinterface(program, &class.interfaces)
+    is_no_superclass(index, class.superclass.as_bytes())
+        || is_one_no_superinterface(index, &class.interfaces)
 }

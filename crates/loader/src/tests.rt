@@ -399,7 +399,8 @@ fn is_bad(alloc: Global, row: ExceptionRow) -> Result<bool, Fail> {
         .methods
         .push(method(alloc, "f", "()V", PUBLIC_STATIC, code)?)?;
     let classes = [class];
-    Ok(exception_rows::has_bad_row(alloc, &classes, &classes[0])?)
+    let index = index::Index::new(alloc, &classes)?;
+    Ok(exception_rows::has_bad_row(alloc, &index, &classes[0])?)
 }
 
 /// Programs with exception rows aren't run yet, so the rule is called by itself.

@@ -6,5 +6,5 @@ use Rattle.loader.proofs.exception_rows.has_bad_row.Given as goal
 
 abbrev pub invariant-loop-method : goal.invariant-loop-method
 invariant-loop-method l =
-    list_any (λ (m : Method). has_bad_row_in l.program m.code) (drop l.method-index l.method-items)
-    ≡ list_any (λ (m : Method). has_bad_row_in l.program m.code) l.class.methods
+    list_any (λ (m : Method). has_bad_row_in l.index m.code) (drop l.method-index l.method-items)
+    ≡ list_any (λ (m : Method). has_bad_row_in l.index m.code) l.class.methods

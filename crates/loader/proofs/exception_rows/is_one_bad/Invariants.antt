@@ -5,4 +5,4 @@ use Rattle.loader.proofs.exception_rows.is_one_bad.Given as goal
 
 abbrev pub invariant-loop-row : goal.invariant-loop-row
 invariant-loop-row l =
-    list_any (is_bad_row l.program l.code) (drop l.row-index l.rows) ≡ list_any (is_bad_row l.program l.code) l.rows
+    list_any (is_bad_row l.index l.code) (drop l.row-index l.rows) ≡ list_any (is_bad_row l.index l.code) l.rows

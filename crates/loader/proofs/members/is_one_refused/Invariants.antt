@@ -5,4 +5,4 @@ use Rattle.loader.proofs.members.is_one_refused.Given as goal
 
 abbrev pub invariant-loop-method : goal.invariant-loop-method
 invariant-loop-method l =
-    list_any (is_refused l.program l.class) (drop l.method-index l.methods) ≡ list_any (is_refused l.program l.class) l.methods
+    list_any (is_refused l.index l.class) (drop l.method-index l.methods) ≡ list_any (is_refused l.index l.class) l.methods

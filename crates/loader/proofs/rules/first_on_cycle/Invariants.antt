@@ -4,4 +4,4 @@ use Rattle.model.specs.Accepted.Cycles.{is_on_cycle}
 use Rattle.loader.proofs.rules.first_on_cycle.Given as goal
 
 abbrev pub invariant-loop-class : goal.invariant-loop-class
-invariant-loop-class l = find (is_on_cycle l.program) (drop l.class-index l.program) ≡ find (is_on_cycle l.program) l.program
+invariant-loop-class l = find (is_on_cycle l.index) (drop l.class-index l.program) ≡ find (is_on_cycle l.index) l.program

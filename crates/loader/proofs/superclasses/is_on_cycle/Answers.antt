@@ -12,8 +12,8 @@ returns c =
     let above : List ℕ = c.as_bytes.result.now in
     c.has.ensures
     ∙ c.in_ok-close.ensures above
-    ∙ ap (λ (names : List (List ℕ)). is_one_below c.args.program.now names above) c.in_ok-add_parents.ensures
-    ∙ ap (λ (names : List (List ℕ)). is_one_below c.args.program.now (with_names names (parents_of c.args.class.now)) above) c.new-reached.ensures
-    ∙ parents_below c.args.program.now (parents_of c.args.class.now) above
-    ∙ ap (λ (name : List ℕ). is_one_below c.args.program.now (parents_of c.args.class.now) name)
+    ∙ ap (λ (names : List (List ℕ)). is_one_below c.args.index.now names above) c.in_ok-add_parents.ensures
+    ∙ ap (λ (names : List (List ℕ)). is_one_below c.args.index.now (with_names names (parents_of c.args.class.now)) above) c.new-reached.ensures
+    ∙ parents_below c.args.index.now (parents_of c.args.class.now) above
+    ∙ ap (λ (name : List ℕ). is_one_below c.args.index.now (parents_of c.args.class.now) name)
     (c.as_bytes.ensures ∙ ap (λ (x : ClassListing). x.name) c.class.view_is)
