@@ -26,6 +26,7 @@ mod telling;
 mod uses;
 
 pub use errors::{Fault, TextError};
+pub use labels::Labels;
 pub use laws::texts_are_spelled;
 pub use reader::read;
 
