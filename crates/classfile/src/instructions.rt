@@ -79,6 +79,8 @@ impl Instructions {
     pub fn encode(alloc: Global, instructions: &[Instr]) -> Result<Instructions, OpError>
         // They have their pcs, and are what was given.
         ensures found { IfOk result (λ code. instructions_of code ≡ instructions.now) }
+        // They are the code of some bytes.
+        ensures code { IfOk result (λ code. (bytes : List ℕ) × IsCode bytes code) }
         // Where instructions have code, it is given, unless memory runs out.
         ensures only { (bytes : List ℕ) (items : List Placed) → IsCode bytes items → instructions_of items ≡ instructions.now → MatchResult result (λ code. code ≡ items) (λ e. e ≡ op.Memory) }
     {
