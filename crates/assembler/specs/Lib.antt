@@ -1,3 +1,5 @@
+pub mod Assembled
+pub mod Checks
 pub mod Numbering
 pub mod Numbers
-pub mod Refusals
+pub mod Told

@@ -1,16 +1,18 @@
 //! A text's instructions with pcs for labels and settled widths.
-ghost use Rattle.std.specs.Prelude.{◌≡◌, ◌≤◌, map, IfOk};
-ghost use Rattle.model.specs.Texts.Labels.{pc_behind, pc_of, with_targets};
-ghost use Rattle.model.specs.Texts.Widths.{widened, widened_constant, widened_line};
+ghost use Rattle.std.specs.Prelude.{◌≡◌, map, IfOk};
+ghost use Rattle.model.specs.Texts.Labels.{with_targets};
+ghost use Rattle.model.specs.Texts.Widths.{widened, widened_constant};
+ghost use Rattle.assembler.specs.Checks.{pc_in};
 
-use crate::sizes::label_pc;
+use crate::labels::label_pc;
 use crate::widths::among;
+use jasmin::Labels;
 use model::instructions::{
     ArrayOperation, Constant, Instruction, LookupSwitch, TableSwitch, Width,
 };
 use model::listings::Listed;
 use model::names::{Member, Name};
-use model::trees::{TextLine, Written};
+use model::trees::Written;
 use std::alloc::{AllocError, Global};
 
 /// A name of one's own.
@@ -30,16 +32,14 @@ fn copied_member(alloc: Global, member: &Member) -> Result<Member, AllocError>
     })
 }
 
-/// An instruction of the lines that hold a method's code, with pcs for labels. `narrow` are the numbers that go with
-/// `ldc`.
+/// An instruction of a method's code, with pcs for labels. `narrow` are the numbers that go with `ldc`.
 pub fn listed(
     alloc: Global,
     narrow: &[i32],
-    lines: &[TextLine],
+    pcs: &Labels<'_, u16>,
     instruction: &Written,
 ) -> Result<Listed, AllocError>
-    requires { pc_behind 0 (map (widened_line narrow.now) lines.now) ≤ 65535 }
-    ensures { IfOk result (λ listed. listed ≡ with_targets (pc_of 0 (map (widened_line narrow.now) lines.now)) (widened narrow.now instruction.now)) }
+    ensures { IfOk result (λ listed. listed ≡ with_targets (pc_in pcs.now) (widened narrow.now instruction.now)) }
 {
     Ok(match instruction {
         Instruction::Nop => Instruction::Nop,
@@ -49,15 +49,12 @@ pub fn listed(
         Instruction::Local(access) => Instruction::Local(*access),
         Instruction::Stack(operation) => Instruction::Stack(*operation),
         Instruction::Number(operation) => Instruction::Number(*operation),
-        Instruction::Branch(test, target) => Instruction::Branch(
-            *test,
-            label_pc(narrow, lines, target),
-        ),
+        Instruction::Branch(test, target) => Instruction::Branch(*test, label_pc(pcs, target)),
         Instruction::TableSwitch(table) => Instruction::TableSwitch(listed_table(
-            alloc, narrow, lines, table,
+            alloc, pcs, table,
         )?),
         Instruction::LookupSwitch(lookup) => Instruction::LookupSwitch(listed_lookup(
-            alloc, narrow, lines, lookup,
+            alloc, pcs, lookup,
         )?),
         Instruction::Return(kind) => Instruction::Return(*kind),
         Instruction::Static(access, field) => Instruction::Static(
@@ -114,66 +111,57 @@ fn copied_array(
 
 fn listed_table(
     alloc: Global,
-    narrow: &[i32],
-    lines: &[TextLine],
+    pcs: &Labels<'_, u16>,
     table: &TableSwitch<Name>,
 ) -> Result<TableSwitch<u16>, AllocError>
-    requires { pc_behind 0 (map (widened_line narrow.now) lines.now) ≤ 65535 }
-    ensures { IfOk result (λ listed. listed ≡ record { low = table.now.low; targets = map (pc_of 0 (map (widened_line narrow.now) lines.now)) table.now.targets; default = pc_of 0 (map (widened_line narrow.now) lines.now) table.now.default }) }
+    ensures { IfOk result (λ listed. listed ≡ record { low = table.now.low; targets = map (pc_in pcs.now) table.now.targets; default = pc_in pcs.now table.now.default }) }
 {
-    let targets = listed_targets(alloc, narrow, lines, table.targets.as_slice())?;
+    let targets = listed_targets(alloc, pcs, table.targets.as_slice())?;
     Ok(TableSwitch {
         low: table.low,
         targets,
-        default: label_pc(narrow, lines, &table.default),
+        default: label_pc(pcs, &table.default),
     })
 }
 
 fn listed_lookup(
     alloc: Global,
-    narrow: &[i32],
-    lines: &[TextLine],
+    pcs: &Labels<'_, u16>,
     lookup: &LookupSwitch<Name>,
 ) -> Result<LookupSwitch<u16>, AllocError>
-    requires { pc_behind 0 (map (widened_line narrow.now) lines.now) ≤ 65535 }
-    ensures { IfOk result (λ listed. listed ≡ record { pairs = map (λ p. (p.0, pc_of 0 (map (widened_line narrow.now) lines.now) p.1)) lookup.now.pairs; default = pc_of 0 (map (widened_line narrow.now) lines.now) lookup.now.default }) }
+    ensures { IfOk result (λ listed. listed ≡ record { pairs = map (λ p. (p.0, pc_in pcs.now p.1)) lookup.now.pairs; default = pc_in pcs.now lookup.now.default }) }
 {
-    let pairs = listed_pairs(alloc, narrow, lines, lookup.pairs.as_slice())?;
+    let pairs = listed_pairs(alloc, pcs, lookup.pairs.as_slice())?;
     Ok(LookupSwitch {
         pairs,
-        default: label_pc(narrow, lines, &lookup.default),
+        default: label_pc(pcs, &lookup.default),
     })
 }
 
 fn listed_targets(
     alloc: Global,
-    narrow: &[i32],
-    lines: &[TextLine],
+    pcs: &Labels<'_, u16>,
     labels: &[Name],
 ) -> Result<Vec<u16>, AllocError>
-    requires { pc_behind 0 (map (widened_line narrow.now) lines.now) ≤ 65535 }
-    ensures { IfOk result (λ pcs. pcs.items ≡ map (pc_of 0 (map (widened_line narrow.now) lines.now)) labels.now) }
+    ensures { IfOk result (λ targets. targets.items ≡ map (pc_in pcs.now) labels.now) }
 {
-    let mut pcs = Vec::new(alloc);
+    let mut targets = Vec::new(alloc);
     for label in labels {
-        let pc = label_pc(narrow, lines, label);
-        pcs.push(pc)?;
+        targets.push(label_pc(pcs, label))?;
     }
-    Ok(pcs)
+    Ok(targets)
 }
 
 fn listed_pairs(
     alloc: Global,
-    narrow: &[i32],
-    lines: &[TextLine],
+    pcs: &Labels<'_, u16>,
     pairs: &[(i32, Name)],
 ) -> Result<Vec<(i32, u16)>, AllocError>
-    requires { pc_behind 0 (map (widened_line narrow.now) lines.now) ≤ 65535 }
-    ensures { IfOk result (λ listed. listed.items ≡ map (λ p. (p.0, pc_of 0 (map (widened_line narrow.now) lines.now) p.1)) pairs.now) }
+    ensures { IfOk result (λ listed. listed.items ≡ map (λ p. (p.0, pc_in pcs.now p.1)) pairs.now) }
 {
     let mut listed = Vec::new(alloc);
     for (key, label) in pairs {
-        let pc = label_pc(narrow, lines, label);
+        let pc = label_pc(pcs, label);
         listed.push((*key, pc))?;
     }
     Ok(listed)

@@ -1,16 +1,24 @@
 //! Makes the class file of a text's tree.
 #![tactic(auto)]
 
+mod assembling;
+mod checks;
 mod copies;
+mod error;
+mod labels;
+mod lasting;
 mod listings;
+mod numbered_class;
+mod numbered_code;
 mod numbers;
 mod sizes;
 mod widths;
 
-pub use listings::{ListingError, listing};
-
-#[cfg(test)]
-mod tests;
+pub use assembling::assemble;
+pub use error::AsmError;
+pub use listings::listing;
 
 #[cfg(test)]
 mod numbers_tests;
+#[cfg(test)]
+mod tests;

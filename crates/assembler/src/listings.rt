@@ -1,79 +1,52 @@
 //! The listing of a text's tree.
-ghost use Rattle.std.specs.Prelude.{◌≡◌, ◌≤◌, true, false, map, List, ℕ, IfOk, MatchOption, MatchResult};
+ghost use Rattle.std.specs.Prelude.{◌≡◌, ◌≤◌, true, map, IfOk, IfErr};
 ghost use Rattle.std.specs.List.{list_all};
-ghost use Rattle.model.specs.Texts.Assembling.{size_is_right, body_size, method_assembles, assembles};
-ghost use Rattle.model.specs.Texts.Labels.{pc_behind, pc_of};
+ghost use Rattle.model.specs.Texts.Assembling.{assembles, method_assembles};
+ghost use Rattle.model.specs.Texts.Labels.{pc_behind};
 ghost use Rattle.model.specs.Texts.ListingOfTree.{placed_from, row_with, code_listing, method_listing, listing_of};
 ghost use Rattle.model.specs.Texts.Widths.{widened_line};
-ghost use Rattle.assembler.specs.Refusals.{IsSize};
+ghost use Rattle.assembler.specs.Checks.{pc_in, code_is_right, method_is_right};
+ghost use Rattle.assembler.specs.declared.error.AsmError.TheVariants as error;
+ghost use Rattle.assembler.specs.declared.listings.CodeFault.TheVariants as fault;
 
+use crate::checks::{all_reach, lines_agree};
 use crate::copies::{copied, listed};
-use crate::sizes::{code_size, label_pc, pc_after};
+use crate::error::AsmError;
+use crate::labels::{label_pc, label_pcs};
+use crate::sizes::{has_right_size, pc_after};
 use crate::widths::narrow_numbers;
+use jasmin::Labels;
 use model::listings::{Code, ExceptionRow, Field, Listing, Method, Placed};
 use model::names::Name;
 use model::trees::{BodyTree, CatchRow, ClassTree, MethodTree, TextLine};
-use std::alloc::{AllocError, AllocFailed, Global};
-use std::error::Error;
-use std::fmt;
-use std::fmt::Write;
+use std::alloc::{AllocError, Global};
 
-/// Why a tree has no listing.
-#[derive(Debug, Drop)]
-pub enum ListingError {
-    /// A1: the code of the method with this name and descriptor is empty or has more than 65,535 bytes.
-    Size { name: Name, descriptor: Name },
-    /// A5: memory ran out.
+/// What is wrong with a method's code.
+#[derive(Clone, Copy, Debug)]
+enum CodeFault {
+    Switch,
+    Size,
+    Branch,
     Memory,
 }
 
-impl fmt::Display for ListingError {
-    fn fmt<W: fmt::Write>(&self, f: &mut fmt::Formatter<W>) -> fmt::Result {
-        match self {
-            ListingError::Size { name, descriptor } => {
-                write!(f, "A1 in method ")?;
-                for b in name.as_bytes() {
-                    f.write_char(char::from(*b))?;
-                }
-                for b in descriptor.as_bytes() {
-                    f.write_char(char::from(*b))?;
-                }
-                Ok(())
-            }
-            ListingError::Memory => write!(f, "A5"),
-        }
-    }
-}
-
-impl Error for ListingError {}
-
-impl From<AllocError> for ListingError {
+impl From<AllocError> for CodeFault {
     ghost use Rattle.std.specs.Prelude.{◌≡◌};
-    ghost use Rattle.assembler.specs.declared.listings.ListingError.TheVariants.{Memory};
+    ghost use Rattle.assembler.specs.declared.listings.CodeFault.TheVariants.{Memory};
 
     ghost from_gives = { λ _ e. e ≡ Memory };
 
-    fn from(_e: AllocError) -> ListingError {
-        ListingError::Memory
+    fn from(_e: AllocError) -> CodeFault {
+        CodeFault::Memory
     }
 }
 
-impl<T: Drop> From<AllocFailed<T>> for ListingError {
-    ghost use Rattle.std.specs.Prelude.{◌≡◌};
-    ghost use Rattle.assembler.specs.declared.listings.ListingError.TheVariants.{Memory};
-
-    ghost from_gives = { λ _ e. e ≡ Memory };
-
-    fn from(_e: AllocFailed<T>) -> ListingError {
-        ListingError::Memory
-    }
-}
-
-/// The listing of a tree. It is refused where the code of a method is empty or too long, the first in order, and where
-/// memory runs out.
-#[tactic(auto, unfolding(model::specs::Texts::ListingOfTree::listing_of, model::specs::Texts::Assembling::assembles))]
-pub fn listing(alloc: Global, tree: &ClassTree) -> Result<Listing, ListingError>
-    ensures { MatchResult result (λ listing. (listing ≡ listing_of tree.now) × (assembles tree.now ≡ true)) (λ e. IsSize e → assembles tree.now ≡ false) }
+/// The listing of a tree. A method's switches, size and branches are tested, in this order, and the first fault of the
+/// first method that has one is told: A4, A1 or A2, and A5 where memory runs out.
+#[tactic(auto, unfolding(model::specs::Texts::ListingOfTree::listing_of, model::specs::Texts::Assembling::assembles, model::specs::Texts::Assembling::listing_assembles))]
+pub fn listing(alloc: Global, tree: &ClassTree) -> Result<Listing, AsmError>
+    ensures found { IfOk result (λ listing. (listing ≡ listing_of tree.now) × (list_all method_is_right listing.methods ≡ true)) }
+    ensures only { IfErr result (λ e. assembles tree.now ≡ true → e ≡ error.Memory) }
 {
     let narrow = narrow_numbers(alloc, tree.methods.as_slice())?;
     let methods = method_listings(alloc, narrow.as_slice(), tree.methods.as_slice())?;
@@ -123,8 +96,9 @@ fn method_listings(
     alloc: Global,
     narrow: &[i32],
     methods: &[MethodTree],
-) -> Result<Vec<Method>, ListingError>
-    ensures { MatchResult result (λ listings. (listings.items ≡ map (method_listing narrow.now) methods.now) × (list_all (method_assembles narrow.now) methods.now ≡ true)) (λ e. IsSize e → list_all (method_assembles narrow.now) methods.now ≡ false) }
+) -> Result<Vec<Method>, AsmError>
+    ensures found { IfOk result (λ listings. (listings.items ≡ map (method_listing narrow.now) methods.now) × (list_all method_is_right (map (method_listing narrow.now) methods.now) ≡ true)) }
+    ensures only { IfErr result (λ e. list_all method_assembles (map (method_listing narrow.now) methods.now) ≡ true → e ≡ error.Memory) }
 {
     let mut listings = Vec::new(alloc);
     for method in methods {
@@ -134,81 +108,99 @@ fn method_listings(
     Ok(listings)
 }
 
-fn method_listing(
-    alloc: Global,
-    narrow: &[i32],
-    method: &MethodTree,
-) -> Result<Method, ListingError>
-    ensures { MatchResult result (λ listing. (listing ≡ method_listing narrow.now method.now) × (method_assembles narrow.now method.now ≡ true)) (λ e. IsSize e → method_assembles narrow.now method.now ≡ false) }
+fn method_listing(alloc: Global, narrow: &[i32], method: &MethodTree) -> Result<Method, AsmError>
+    ensures found { IfOk result (λ listing. (listing ≡ method_listing narrow.now method.now) × (method_is_right (method_listing narrow.now method.now) ≡ true)) }
+    ensures only { IfErr result (λ e. method_assembles (method_listing narrow.now method.now) ≡ true → e ≡ error.Memory) }
 {
     let name = copied(alloc, &method.name)?;
     let descriptor = copied(alloc, &method.descriptor)?;
-    let flags = method.flags;
-    let Some(body) = &method.body else {
-        return Ok(Method {
-            flags,
-            name,
-            descriptor,
-            code: None,
-        });
+    let code = match &method.body {
+        None => None,
+        Some(body) => match code_listing(alloc, narrow, body) {
+            Ok(code) => Some(code),
+            Err(fault) => return Err(told(fault, name, descriptor)),
+        },
     };
-    match code_listing(alloc, narrow, body)? {
-        Some(code) => Ok(Method {
-            flags,
-            name,
-            descriptor,
-            code: Some(code),
-        }),
-        None => Err(ListingError::Size { name, descriptor }),
+    Ok(Method {
+        flags: method.flags,
+        name,
+        descriptor,
+        code,
+    })
+}
+
+/// A fault with the method that has it.
+fn told(what: CodeFault, name: Name, descriptor: Name) -> AsmError
+    ensures { what ≡ fault.Memory → result ≡ error.Memory }
+{
+    match what {
+        CodeFault::Switch => AsmError::Switch { name, descriptor },
+        CodeFault::Size => AsmError::Size { name, descriptor },
+        CodeFault::Branch => AsmError::Branch { name, descriptor },
+        CodeFault::Memory => AsmError::Memory,
     }
 }
 
-/// The code of a body, if it has 1 to 65,535 bytes.
-fn code_listing(alloc: Global, narrow: &[i32], body: &BodyTree) -> Result<Option<Code>, AllocError>
-    ensures { IfOk result (λ code. MatchOption code (size_is_right (body_size narrow.now body.now) ≡ false) (λ code. (code ≡ code_listing narrow.now body.now) × (size_is_right (body_size narrow.now body.now) ≡ true))) }
+/// The code of a body.
+fn code_listing(alloc: Global, narrow: &[i32], body: &BodyTree) -> Result<Code, CodeFault>
+    ensures found { IfOk result (λ code. (code ≡ code_listing narrow.now body.now) × (code_is_right (code_listing narrow.now body.now) ≡ true)) }
+    ensures only { IfErr result (λ e. code_is_right (code_listing narrow.now body.now) ≡ true → e ≡ fault.Memory) }
 {
     let lines = body.lines.as_slice();
-    match code_size(narrow, lines) {
-        None | Some(0) => Ok(None),
-        Some(_) => Ok(Some(Code {
-            max_stack: body.max_stack,
-            max_locals: body.max_locals,
-            rows: listed_rows(alloc, narrow, lines, body.rows.as_slice())?,
-            instructions: placed(alloc, narrow, lines)?,
-        })),
+    if !lines_agree(lines) {
+        return Err(CodeFault::Switch);
     }
+    if !has_right_size(narrow, lines) {
+        return Err(CodeFault::Size);
+    }
+    let code = settled(alloc, narrow, body)?;
+    if !all_reach(code.instructions.as_slice()) {
+        return Err(CodeFault::Branch);
+    }
+    Ok(code)
 }
 
-/// The exception rows of the lines that hold a method's code.
+/// The code of a body of 65,535 bytes at most.
+fn settled(alloc: Global, narrow: &[i32], body: &BodyTree) -> Result<Code, AllocError>
+    requires { pc_behind 0 (map (widened_line narrow.now) body.now.lines) ≤ 65535 }
+    ensures { IfOk result (λ code. code ≡ code_listing narrow.now body.now) }
+{
+    let lines = body.lines.as_slice();
+    let pcs = label_pcs(alloc, narrow, lines)?;
+    Ok(Code {
+        max_stack: body.max_stack,
+        max_locals: body.max_locals,
+        rows: listed_rows(alloc, &pcs, body.rows.as_slice())?,
+        instructions: placed(alloc, narrow, &pcs, lines)?,
+    })
+}
+
+/// The exception rows of a method.
 fn listed_rows(
     alloc: Global,
-    narrow: &[i32],
-    lines: &[TextLine],
+    pcs: &Labels<'_, u16>,
     rows: &[CatchRow],
 ) -> Result<Vec<ExceptionRow>, AllocError>
-    requires { pc_behind 0 (map (widened_line narrow.now) lines.now) ≤ 65535 }
-    ensures { IfOk result (λ listed. listed.items ≡ map (row_with (pc_of 0 (map (widened_line narrow.now) lines.now))) rows.now) }
+    ensures { IfOk result (λ listed. listed.items ≡ map (row_with (pc_in pcs.now)) rows.now) }
 {
     let mut listed = Vec::new(alloc);
     for row in rows {
-        listed.push(listed_row(alloc, narrow, lines, row)?)?;
+        listed.push(listed_row(alloc, pcs, row)?)?;
     }
     Ok(listed)
 }
 
 fn listed_row(
     alloc: Global,
-    narrow: &[i32],
-    lines: &[TextLine],
+    pcs: &Labels<'_, u16>,
     row: &CatchRow,
 ) -> Result<ExceptionRow, AllocError>
-    requires { pc_behind 0 (map (widened_line narrow.now) lines.now) ≤ 65535 }
-    ensures { IfOk result (λ listed. listed ≡ row_with (pc_of 0 (map (widened_line narrow.now) lines.now)) row.now) }
+    ensures { IfOk result (λ listed. listed ≡ row_with (pc_in pcs.now) row.now) }
 {
     Ok(ExceptionRow {
-        start: label_pc(narrow, lines, &row.start),
-        end: label_pc(narrow, lines, &row.end),
-        handler: label_pc(narrow, lines, &row.handler),
+        start: label_pc(pcs, &row.start),
+        end: label_pc(pcs, &row.end),
+        handler: label_pc(pcs, &row.handler),
         class: copied_class(alloc, &row.class)?,
     })
 }
@@ -223,9 +215,14 @@ fn copied_class(alloc: Global, class: &Option<Name>) -> Result<Option<Name>, All
 }
 
 /// The instructions of the lines that hold a method's code, one behind the other.
-fn placed(alloc: Global, narrow: &[i32], lines: &[TextLine]) -> Result<Vec<Placed>, AllocError>
+fn placed(
+    alloc: Global,
+    narrow: &[i32],
+    pcs: &Labels<'_, u16>,
+    lines: &[TextLine],
+) -> Result<Vec<Placed>, AllocError>
     requires { pc_behind 0 (map (widened_line narrow.now) lines.now) ≤ 65535 }
-    ensures { IfOk result (λ placed. placed.items ≡ placed_from (pc_of 0 (map (widened_line narrow.now) lines.now)) 0 (map (widened_line narrow.now) lines.now)) }
+    ensures { IfOk result (λ placed. placed.items ≡ placed_from (pc_in pcs.now) 0 (map (widened_line narrow.now) lines.now)) }
 {
     let mut placed = Vec::new(alloc);
     let mut pc = 0u16;
@@ -234,7 +231,7 @@ fn placed(alloc: Global, narrow: &[i32], lines: &[TextLine]) -> Result<Vec<Place
             TextLine::Label(_) => {}
             TextLine::Instruction(instruction) => match pc_after(narrow, pc, instruction) {
                 Some(next) => {
-                    let listed = listed(alloc, narrow, lines, instruction)?;
+                    let listed = listed(alloc, narrow, pcs, instruction)?;
                     placed.push(Placed {
                         pc,
                         next,

@@ -146,6 +146,7 @@ impl Numbers {
     pub(crate) fn finish(self, body: Body) -> Result<ClassFile, ClassError>
         ensures made { IfOk result (λ file. file ≡ made (entries_of self) body) }
         ensures only { IsClass (made (entries_of self) body) → MatchResult result (λ file. file ≡ made (entries_of self) body) (λ e. e ≡ class_error.Memory) }
+        ensures pool { IsPool self }
     {
         let Numbers { pool, alloc: _ } = self;
         pool.finish(body)

@@ -1,7 +1,8 @@
-//! The sizes of a text's instructions, and the pcs of its labels.
+//! The sizes of a text's instructions.
 ghost use Rattle.std.specs.Prelude.{◌≡◌, ◌≤◌, ◌<◌, ◌+◌, ◌*◌, map, MatchOption};
 ghost use Rattle.model.specs.Sizes.{constant_size, index_size, local_size, branch_size, array_size, invoke_size, pad_at, size_at};
-ghost use Rattle.model.specs.Texts.Labels.{pc_behind, pc_of};
+ghost use Rattle.model.specs.Texts.Assembling.{size_is_right};
+ghost use Rattle.model.specs.Texts.Labels.{pc_behind};
 ghost use Rattle.model.specs.Texts.Widths.{widened, widened_constant, widened_line};
 
 use crate::widths::among;
@@ -12,7 +13,7 @@ use model::names::Name;
 use model::trees::{TextLine, Written};
 
 /// The size of lines that hold code, if it is 65,535 at most. `narrow` are the numbers that go with `ldc`.
-pub fn code_size(narrow: &[i32], lines: &[TextLine]) -> Option<u16>
+fn code_size(narrow: &[i32], lines: &[TextLine]) -> Option<u16>
     ensures { MatchOption result (65535 < pc_behind 0 (map (widened_line narrow.now) lines.now)) (λ size. size ≡ pc_behind 0 (map (widened_line narrow.now) lines.now)) }
 {
     let mut pc = 0u16;
@@ -28,26 +29,14 @@ pub fn code_size(narrow: &[i32], lines: &[TextLine]) -> Option<u16>
     Some(pc)
 }
 
-/// The pc of a label among lines that hold code, and 0 of a label that is not given.
-pub fn label_pc(narrow: &[i32], lines: &[TextLine], name: &Name) -> u16
-    requires { pc_behind 0 (map (widened_line narrow.now) lines.now) ≤ 65535 }
-    ensures { result ≡ pc_of 0 (map (widened_line narrow.now) lines.now) name.now }
+/// Whether lines hold 1 to 65,535 bytes of code.
+pub fn has_right_size(narrow: &[i32], lines: &[TextLine]) -> bool
+    ensures { result ≡ size_is_right (pc_behind 0 (map (widened_line narrow.now) lines.now)) }
 {
-    let mut pc = 0u16;
-    for line in lines {
-        match line {
-            TextLine::Label(label) => {
-                if label.as_bytes() == name.as_bytes() {
-                    return pc;
-                }
-            }
-            TextLine::Instruction(instruction) => match pc_after(narrow, pc, instruction) {
-                Some(next) => pc = next,
-                None => unreachable!(),
-            },
-        }
+    match code_size(narrow, lines) {
+        Some(size) => size >= 1,
+        None => false,
     }
-    0
 }
 
 /// The pc behind an instruction, if it is 65,535 at most.

@@ -1,6 +1,7 @@
 //! Trees with the class file or the refusal that they have.
 
-use crate::listings::{ListingError, listing};
+use crate::error::AsmError;
+use crate::listings::listing;
 use jasmin::read;
 use std::test::Fail;
 
@@ -54,7 +55,7 @@ fn code_is_not_empty(rt: HostRuntime) -> Result<(), Fail> {
     let tree = read(rt.alloc(), text)?;
     match listing(rt.alloc(), &tree) {
         Err(error) => {
-            assert!(rt; matches!(&error, ListingError::Size { .. }));
+            assert!(rt; matches!(&error, AsmError::Size { .. }));
             let printed = format!(in rt.alloc(); "{error}")?;
             assert_eq!(rt; printed.as_str(), "A1 in method main()V");
         }

@@ -4,6 +4,7 @@ use Rattle.classfile.specs.Classes.{IsClass}
 use Rattle.classfile.specs.Made.{made}
 use Rattle.classfile.specs.declared.error.ClassError.TheVariants as class_error
 use Rattle.model.specs.declared.class_files.Entry.{Entry}
+use Rattle.assembler.specs.Numbering.{IsPool}
 use Rattle.assembler.proofs.NumberingBuilding.{builder_entries}
 use Rattle.assembler.proofs.numbers.Numbers.finish.Goals as goal
 
@@ -14,3 +15,6 @@ returns-clause-made c =
 pub returns-clause-only : goal.returns-clause-only
 returns-clause-only c =
     subst (λ (es : List Entry). IsClass (made es c.args.body) → MatchResult c.finish.result (λ file. file ≡ made es c.args.body) (λ e. e ≡ class_error.Memory)) (builder_entries c.self.inside.pool c.args.self c.self.view_is c.self.invariant.0) c.finish.ensures.only
+
+pub returns-clause-pool : goal.returns-clause-pool
+returns-clause-pool c = subst IsPool c.self.view_is c.self.invariant.1

@@ -1,6 +1,6 @@
 use Rattle.std.proofs.Common.{arith}
 use Rattle.assembler.proofs.SizeLemmas.{goes_past}
-use Rattle.assembler.proofs.sizes.label_pc.Goals as goal
+use Rattle.assembler.proofs.labels.label_pcs.Goals as goal
 
 pub unreachable-requires : goal.unreachable-requires
 unreachable-requires c =

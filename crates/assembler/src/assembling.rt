@@ -1,0 +1,145 @@
+//! The class file of a text's tree.
+ghost use Rattle.std.specs.Prelude.{◌≡◌, ◌∷◌, ◌++◌, ◌<◌, ◌^◌, ℤ, List, true, IfOk, IfErr, OnOk};
+ghost use Rattle.std.specs.List.{list_all};
+ghost use Rattle.classfile.specs.Classes.{IsClass};
+ghost use Rattle.model.specs.ClassFiles.Items.{Item};
+ghost use Rattle.model.specs.ClassFiles.Listing.{listing_of as file_listing};
+ghost use Rattle.model.specs.Texts.Assembling.{is_countable, assembles};
+ghost use Rattle.model.specs.Texts.Flags.{has};
+ghost use Rattle.model.specs.Texts.ListingOfTree.{listing_of};
+ghost use Rattle.model.specs.Texts.Spelled.{is_spelled};
+ghost use Rattle.model.specs.Texts.Widths.{used_before, used_in, used_in_body, used_in_methods};
+ghost use Rattle.assembler.specs.Assembled.{HasRoom, with_ints, assembled_tree};
+ghost use Rattle.assembler.specs.Checks.{has_few_rows, has_short_lists};
+ghost use Rattle.assembler.specs.declared.error.AsmError.TheVariants as error;
+
+use crate::error::AsmError;
+use crate::lasting::int;
+use crate::listings::listing;
+use crate::numbered_class::class_file;
+use crate::numbers::Numbers;
+use bitflags::Flags;
+use classfile::ClassFile;
+use model::instructions::{Constant, Instruction, Width};
+use model::listings::{Listing, Method};
+use model::trees::{BodyTree, ClassTree, MethodTree, TextLine, Written};
+use std::alloc::Global;
+
+const SUPER: u16 = 0x0020;
+
+/// The class file of a tree (JVMS 4).
+///
+/// A1 where a method's code is empty or has more than 65,535 bytes, A2 where a branch's way is longer than two bytes have
+/// room for, A4 where the keys of a switch don't rise or a table ends past the greatest int: of the first method in order
+/// that has a fault, A4 before A1 before A2. Then A3 where the pool or a list has more than 65,535. A5 where memory runs
+/// out. A tree that no text spells, as one with SUPER, may be refused with A3.
+pub fn assemble(alloc: Global, tree: &ClassTree) -> Result<ClassFile, AsmError>
+    // The class file has the tree's listing, and the tree is one that can be assembled.
+    ensures found { IfOk result (λ file. (file_listing file ≡ listing_of tree.now) × (assembles tree.now ≡ true)) }
+    // Its pool is that of the listing, behind the numbers of `ldc`.
+    ensures made { IfOk result (λ file. file ≡ assembled_tree tree.now) }
+    // Where the format has such a class file, it is given, unless memory runs out.
+    ensures only { IfErr result (λ e. is_spelled (listing_of tree.now) ≡ true → assembles tree.now ≡ true → IsClass (assembled_tree tree.now) → e ≡ error.Memory) }
+{
+    let listing = listing(alloc, tree)?;
+    if has_super(&listing) || !has_short_lists(&listing) {
+        return Err(AsmError::Full);
+    }
+    let mut numbers = Numbers::new(alloc);
+    note_methods(&mut numbers, tree.methods.as_slice())?;
+    class_file(alloc, numbers, &listing)
+}
+
+fn has_super(listing: &Listing) -> bool
+    ensures is { result ≡ has listing.now.flags.0 0x0020 }
+    ensures fits { listing.now.flags.0 < 2 ^ 16 }
+{
+    listing.flags.bits() & SUPER != 0
+}
+
+/// Whether a class file can count each list of a listing.
+fn has_short_lists(listing: &Listing) -> bool
+    ensures { result ≡ has_short_lists listing.now }
+{
+    let interfaces = is_countable(listing.interfaces.len());
+    let fields = is_countable(listing.fields.len());
+    let methods = is_countable(listing.methods.len());
+    let rows = have_few_rows(listing.methods.as_slice());
+    interfaces && fields && methods && rows
+}
+
+fn is_countable(count: usize) -> bool
+    ensures { result ≡ is_countable count }
+{
+    count <= 65535
+}
+
+fn have_few_rows(methods: &[Method]) -> bool
+    ensures { result ≡ list_all has_few_rows methods.now }
+{
+    methods.iter().all(|method| has_few_rows(method))
+}
+
+fn has_few_rows(method: &Method) -> bool
+    ensures { result ≡ has_few_rows method.now }
+{
+    match &method.code {
+        None => true,
+        Some(code) => code.rows.len() <= 65535,
+    }
+}
+
+/// Gives the numbers that `ldc` uses in methods their places in the pool.
+fn note_methods(numbers: &mut Numbers, methods: &[MethodTree]) -> Result<(), AsmError>
+    ensures noted { OnOk result ((zs : List ℤ) (later : List Item) → with_ints numbers.old (used_in_methods methods.now ++ zs) later ≡ with_ints numbers.new zs later) }
+    ensures only { IfErr result (λ e. (zs : List ℤ) (later : List Item) → HasRoom (with_ints numbers.old (used_in_methods methods.now ++ zs) later) → e ≡ error.Memory) }
+{
+    for method in methods {
+        note_body(numbers, &method.body)?;
+    }
+    Ok(())
+}
+
+fn note_body(numbers: &mut Numbers, body: &Option<BodyTree>) -> Result<(), AsmError>
+    ensures noted { OnOk result ((zs : List ℤ) (later : List Item) → with_ints numbers.old (used_in_body body.now ++ zs) later ≡ with_ints numbers.new zs later) }
+    ensures only { IfErr result (λ e. (zs : List ℤ) (later : List Item) → HasRoom (with_ints numbers.old (used_in_body body.now ++ zs) later) → e ≡ error.Memory) }
+{
+    match body {
+        None => Ok(()),
+        Some(body) => {
+            let lines = &body.lines;
+            note_lines(numbers, lines)
+        }
+    }
+}
+
+fn note_lines(numbers: &mut Numbers, lines: &[TextLine]) -> Result<(), AsmError>
+    ensures noted { OnOk result ((zs : List ℤ) (later : List Item) → with_ints numbers.old (used_in lines.now ++ zs) later ≡ with_ints numbers.new zs later) }
+    ensures only { IfErr result (λ e. (zs : List ℤ) (later : List Item) → HasRoom (with_ints numbers.old (used_in lines.now ++ zs) later) → e ≡ error.Memory) }
+{
+    for line in lines {
+        match line {
+            TextLine::Label(_) => {}
+            TextLine::Instruction(instruction) => note_instruction(numbers, instruction)?,
+        }
+    }
+    Ok(())
+}
+
+fn note_instruction(numbers: &mut Numbers, instruction: &Written) -> Result<(), AsmError>
+    ensures noted { OnOk result ((xs zs : List ℤ) (later : List Item) → with_ints numbers.old (used_before instruction.now xs ++ zs) later ≡ with_ints numbers.new (xs ++ zs) later) }
+    ensures only { IfErr result (λ e. (xs zs : List ℤ) (later : List Item) → HasRoom (with_ints numbers.old (used_before instruction.now xs ++ zs) later) → e ≡ error.Memory) }
+{
+    match instruction {
+        Instruction::Constant(Constant::Int(Width::Narrow, z)) => note_int(numbers, *z),
+        _ => Ok(()),
+    }
+}
+
+fn note_int(numbers: &mut Numbers, z: i32) -> Result<(), AsmError>
+    ensures noted { OnOk result ((zs : List ℤ) (later : List Item) → with_ints numbers.old (z ∷ zs) later ≡ with_ints numbers.new zs later) }
+    ensures only { IfErr result (λ e. (zs : List ℤ) (later : List Item) → HasRoom (with_ints numbers.old (z ∷ zs) later) → e ≡ error.Memory) }
+{
+    int(numbers, z)?;
+    Ok(())
+}
