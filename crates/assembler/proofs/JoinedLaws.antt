@@ -1,14 +1,13 @@
 -- The class file of a tree has its listing, and a tree that has one can be assembled.
 use Rattle.std.specs.Prelude.{IfOk, Result, Ok, Err, ◌⊎◌}
-use Rattle.std.proofs.Common.{◌≡◌, ℕ, ℤ, ◌≤◌, ◌<◌, ◌^◌, Bool, true, false, ◌&&◌, bit_and, bit_or, List, [], ◌∷◌, ◌++◌, length, map, refl, sym, ◌∙◌, ap, subst, arith, inl, inr, Option, Some, None, codes, ◌+◌}
+use Rattle.std.proofs.Common.{◌≡◌, ℕ, ℤ, ◌<◌, ◌^◌, true, false, ◌&&◌, List, [], ◌∷◌, ◌++◌, length, map, refl, ◌∙◌, ap, subst, arith, inl, inr, Option, Some, None, codes, ◌+◌}
 use Rattle.std.specs.List.{flat_map, list_all}
 use Rattle.std.specs.Option.{option_map}
 use Rattle.std.proofs.lemmas.Bool.{le-leb}
 use Rattle.model.specs.ClassFiles.Classes.{ClassPart}
-use Rattle.model.specs.ClassFiles.Items.{Item, is_item_of, with_items, items_count, instruction_items, placed_items, row_items, code_items, method_items, listing_items, class_items, field_items}
+use Rattle.model.specs.ClassFiles.Items.{Item, is_item_of, with_items, instruction_items, placed_items, row_items, code_items, method_items, listing_items, class_items, field_items}
 use Rattle.model.specs.ClassFiles.Items.Item.{text_item, int_item}
 use Rattle.model.specs.ClassFiles.Listing.{listing_of as file_listing, listed_flags}
-use Rattle.model.specs.ClassListings.{ClassListing}
 use Rattle.model.specs.CodeListings.{CodeListing}
 use Rattle.model.specs.Sizes.{size_at}
 use Rattle.model.specs.Texts.Assembling.{is_countable, method_assembles, body_assembles, pool_size, listing_assembles, assembles}
@@ -29,7 +28,7 @@ use Rattle.model.specs.declared.trees.TextLine.{TextLine}
 use Rattle.model.specs.declared.trees.TextLine.TheVariants.{Label, Instruction}
 use Rattle.assembler.specs.declared.error.AsmError.{AsmError}
 use Rattle.assembler.specs.Assembled.{file_flags, assembled, tree_items, assembled_tree}
-use Rattle.assembler.specs.Checks.{few_rows, has_few_rows, has_short_lists, code_is_right, body_is_right, method_is_right}
+use Rattle.assembler.specs.Checks.{few_rows, has_few_rows, has_short_lists, body_is_right, method_is_right}
 use Rattle.assembler.specs.Numbering.{IsPool, are_items_of}
 use Rattle.assembler.proofs.NumberingClasses.{class_listed}
 use Rattle.assembler.proofs.NumberingCounts.{listing_there, listing_count}
@@ -105,9 +104,9 @@ ints_there t =
     let fields = flat_map field_items l.fields in
     let interfaces = flat_map class_items l.interfaces in
     all_from (listing_items l) (map int_item (used_in_methods t.methods)) (λ x h.
-        among_right (class_items l.name) (class_items l.superclass ++ (interfaces ++ (fields ++ methods))) x
-        (among_right (class_items l.superclass) (interfaces ++ (fields ++ methods)) x
-        (among_right interfaces (fields ++ methods) x (among_right fields methods x (methods_there (narrow_numbers t.methods) t.methods x h)))))
+    among_right (class_items l.name) (class_items l.superclass ++ (interfaces ++ (fields ++ methods))) x
+    (among_right (class_items l.superclass) (interfaces ++ (fields ++ methods)) x
+    (among_right interfaces (fields ++ methods) x (among_right fields methods x (methods_there (narrow_numbers t.methods) t.methods x h)))))
 
 -- ---- a tree that has a class file can be assembled
 
