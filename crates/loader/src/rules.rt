@@ -1,5 +1,5 @@
 //! The rules in their order, and the first that a list of listings breaks.
-ghost use Rattle.std.specs.Prelude.{◌≡◌, IfOk};
+ghost use Rattle.std.specs.Prelude.{◌≡◌, None, IfOk};
 ghost use Rattle.std.specs.Option.{option_copied};
 ghost use Rattle.std.specs.List.{find, list_any};
 ghost use Rattle.model.specs.Programs.{is_main};
@@ -117,10 +117,11 @@ fn first_with_bad_row<'a>(
     Ok(None)
 }
 
-/// The classes that break the rules which ask for subclasses.
+/// The first classes that break some rules; of the last three, one is sought where those before it aren't there.
 #[derive(Clone, Copy)]
 struct Found<'a> {
     on_cycle: Option<&'a Listing>,
+    with_member_twice: Option<&'a Listing>,
     with_refused_member: Option<&'a Listing>,
     with_bad_row: Option<&'a Listing>,
 }
@@ -172,8 +173,9 @@ fn obeys_rules<'a>(
 ) -> Result<(), Refusal<'a>>
     requires index { index.now ≡ program.now }
     requires on_cycle { option_copied found.on_cycle ≡ find (is_on_cycle program.now) program.now }
-    requires with_refused_member { option_copied found.with_refused_member ≡ find (has_refused_member program.now) program.now }
-    requires with_bad_row { option_copied found.with_bad_row ≡ find (has_bad_row program.now) program.now }
+    requires with_member_twice { option_copied found.with_member_twice ≡ find has_member_twice program.now }
+    requires with_refused_member { found.with_member_twice ≡ None → option_copied found.with_refused_member ≡ find (has_refused_member program.now) program.now }
+    requires with_bad_row { found.with_member_twice ≡ None → found.with_refused_member ≡ None → option_copied found.with_bad_row ≡ find (has_bad_row program.now) program.now }
     ensures { refusal_in result ≡ refusal_of program.now }
 {
     keeps(LoadRule::BuiltinName, first_with_builtin_name(program))?;
@@ -187,8 +189,12 @@ fn obeys_rules<'a>(
         LoadRule::WrongSuperclass,
         first_with_wrong_parent(index, program),
     )?;
-    keeps(LoadRule::MemberTwice, first_with_member_twice(program))?;
-    keeps(LoadRule::RefusedMember, found.with_refused_member)?;
+    if let Some(class) = found.with_member_twice {
+        return keeps(LoadRule::MemberTwice, Some(class));
+    }
+    if let Some(class) = found.with_refused_member {
+        return keeps(LoadRule::RefusedMember, Some(class));
+    }
     keeps(LoadRule::BadExceptionRow, found.with_bad_row)?;
     keeps(LoadRule::LimitPassed, first_past_limits(index, program))?;
     begins_with_main(program)
@@ -203,10 +209,21 @@ pub fn first_refusal(
     ensures { IfOk result (λ answer. refusal_in answer ≡ refusal_of program.now) }
 {
     let index = Index::new(alloc, program)?;
+    let on_cycle = first_on_cycle(alloc, &index, program)?;
+    let with_member_twice = first_with_member_twice(program);
+    let with_refused_member = match with_member_twice {
+        Some(_) => None,
+        None => first_with_refused_member(alloc, &index, program)?,
+    };
+    let with_bad_row = match (with_member_twice, with_refused_member) {
+        (None, None) => first_with_bad_row(alloc, &index, program)?,
+        _ => None,
+    };
     let found = Found {
-        on_cycle: first_on_cycle(alloc, &index, program)?,
-        with_refused_member: first_with_refused_member(alloc, &index, program)?,
-        with_bad_row: first_with_bad_row(alloc, &index, program)?,
+        on_cycle,
+        with_member_twice,
+        with_refused_member,
+        with_bad_row,
     };
     Ok(obeys_rules(&index, program, found))
 }
