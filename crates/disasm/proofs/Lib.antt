@@ -6,3 +6,4 @@ pub mod RoundTrip
 pub mod SpelledWords
 pub mod SpokenText
 pub mod StatementsBack
+pub mod TextAgain

@@ -1,3 +1,4 @@
 pub mod Back
 pub mod Marks
+pub mod Rereading
 pub mod Statements

@@ -7,11 +7,13 @@ mod files;
 mod instructions;
 mod labels;
 mod laws;
+mod rereading;
 mod words;
 
 pub use classes::text;
 pub use files::disassemble;
 pub use laws::texts_come_back;
+pub use rereading::{TreeError, tree};
 
 #[cfg(test)]
 mod tests;

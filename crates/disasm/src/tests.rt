@@ -147,6 +147,17 @@ fn a_class_of_many_words(rt: HostRuntime) -> Result<(), Fail> {
 }
 
 #[test]
+fn a_class_file_has_the_tree_of_its_text(rt: HostRuntime) -> Result<(), Fail> {
+    let file = read(rt.alloc(), hex(rt.alloc(), R)?.as_slice())?;
+    let found = tree(rt.alloc(), &file)?;
+    assert_eq!(rt; found.name.as_bytes(), "p/R".as_bytes());
+    assert_eq!(rt; found.interfaces.len(), 2);
+    assert_eq!(rt; found.fields.len(), 3);
+    assert_eq!(rt; found.methods.len(), 3);
+    Ok(())
+}
+
+#[test]
 fn an_interface_of_two_lines(rt: HostRuntime) -> Result<(), Fail> {
     let listing = Listing {
         name: Name::copy_of(rt.alloc(), b"a/I")?,

@@ -1,0 +1,45 @@
+//! The text of a class file, read again.
+ghost use Rattle.std.specs.Prelude.{◌≡◌, ℕ, List, Some, true, MatchResult};
+ghost use Rattle.disasm.specs.Rereading.{LacksMemory};
+ghost use Rattle.model.specs.ClassFiles.Listing.{listing_of};
+ghost use Rattle.model.specs.Texts.{tree_of};
+ghost use Rattle.model.specs.Texts.Assembling.{assembles};
+ghost use Rattle.model.specs.Texts.ListingOfTree as texts;
+ghost use Rattle.model.specs.Texts.Trees.{Tree};
+
+use crate::files::disassemble;
+use crate::laws::texts_come_back;
+use classfile::ClassFile;
+use jasmin::TextError;
+use model::trees::ClassTree;
+use std::alloc::Global;
+use thiserror::Error;
+
+/// Why the text of a class file has no tree.
+#[derive(Debug, Drop, Error)]
+pub enum TreeError {
+    /// The text is refused: `J5 at line 6`.
+    #[error("{0}")]
+    Text(TextError),
+    /// Memory ran out.
+    #[error("memory")]
+    Memory,
+}
+
+/// The tree of a class file's text. Where the file's listing is that of a text that assembles, the tree has this listing
+/// and assembles too, and memory alone is an error.
+pub fn tree(alloc: Global, file: &ClassFile) -> Result<ClassTree, TreeError>
+    ensures { (text : List ℕ) (t : Tree) → tree_of text ≡ Some t → assembles t ≡ true → texts.listing_of t ≡ listing_of file.now
+        → MatchResult result (λ tree. (texts.listing_of tree ≡ listing_of file.now) × (assembles tree ≡ true)) LacksMemory }
+{
+    jasmin::texts_are_spelled();
+    texts_come_back();
+    let text = match disassemble(alloc, file) {
+        Ok(text) => text,
+        Err(_) => return Err(TreeError::Memory),
+    };
+    match jasmin::read(alloc, text.as_slice()) {
+        Ok(tree) => Ok(tree),
+        Err(error) => Err(TreeError::Text(error)),
+    }
+}
