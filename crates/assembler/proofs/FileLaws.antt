@@ -48,6 +48,6 @@ pub made_of : (P : Type 0) (r : Result ClassPart AsmError) (a b : ClassPart) →
 made_of P (Ok file) a b e h = h.0 ∙ e
 made_of P (Err fault) a b e h = h
 
-pub only_of : (A B : Type 0) (r : Result ClassPart AsmError) (a b : ClassPart) → a ≡ b → IfErr r (λ e. IsClass a → e ≡ error.Memory) → IfErr r (λ e. A → B → IsClass b → e ≡ error.Memory)
-only_of A B (Ok file) a b e h = h
-only_of A B (Err fault) a b e h = λ spelled whole is. h (subst IsClass (sym e) is)
+pub only_of : (r : Result ClassPart AsmError) (a b : ClassPart) → a ≡ b → IfErr r (λ e. IsClass a → e ≡ error.Memory) → IsClass b → IfErr r (λ e. e ≡ error.Memory)
+only_of (Ok file) a b e h is = h
+only_of (Err fault) a b e h is = h (subst IsClass (sym e) is)

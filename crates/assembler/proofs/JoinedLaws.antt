@@ -83,7 +83,7 @@ body_there narrow (Some b) x h =
     among_right (text_item (codes "Code") ∷ []) (flat_map placed_items c.instructions ++ flat_map row_items c.rows) x
     (among_left (flat_map placed_items c.instructions) (flat_map row_items c.rows) x (used_there (pc_of 0 lines) narrow 0 b.lines x h))
 
-ints_append : (xs ys : List ℤ) → map int_item (xs ++ ys) ≡ map int_item xs ++ map int_item ys
+pub ints_append : (xs ys : List ℤ) → map int_item (xs ++ ys) ≡ map int_item xs ++ map int_item ys
 ints_append [] ys = refl
 ints_append (x ∷ xs) ys = ap (λ zs. int_item x ∷ zs) (ints_append xs ys)
 

@@ -17,6 +17,7 @@ pub mod NumberingSpelled
 pub mod NumberingStands
 pub mod NumberingTexts
 pub mod SizeLemmas
+pub mod SmallLaws
 pub mod StandingLaws
 pub mod StayingLaws
 pub mod Tests

@@ -27,7 +27,7 @@ filter_twice p q r (z ∷ zs) h =
     ]
 
 -- what is not among numbers
-others : List ℤ → ℤ → Bool
+pub others : List ℤ → ℤ → Bool
 others noted z = not (is_among noted z)
 
 among_push : (noted : List ℤ) (z y : ℤ) → is_among (noted ++ z ∷ []) y ≡ (is_among noted y || int_eq z y)
@@ -52,13 +52,18 @@ among_but noted z y h =
       | inr f ↦ rw f refl
     ]
 
+-- the numbers that are left where one of them is noted already
+pub known_rest : (noted : List ℤ) (z : ℤ) (zs : List ℤ) → is_among noted z ≡ true → filter (others noted) (different (z ∷ zs)) ≡ filter (others noted) (different zs)
+unfolding others
+known_rest noted z zs h =
+    left_out (others noted) z (filter (λ y. not (int_eq z y)) (different zs)) (rw h refl)
+    ∙ filter_twice (others noted) (λ y. not (int_eq z y)) (others noted) (different zs) (λ y. among_but noted z y h)
+
 -- a number that is noted already
 pub noted_known : (noted : List ℤ) (z : ℤ) (zs : List ℤ) → is_among noted z ≡ true → numbers_with noted (z ∷ zs) ≡ numbers_with noted zs
 unfolding numbers_with others
 noted_known noted z zs h =
-    ap (λ ys. take 255 (noted ++ ys))
-    (left_out (others noted) z (filter (λ y. not (int_eq z y)) (different zs)) (rw h refl)
-    ∙ filter_twice (others noted) (λ y. not (int_eq z y)) (others noted) (different zs) (λ y. among_but noted z y h))
+    ap (λ ys. take 255 (noted ++ ys)) (known_rest noted z zs h)
 
 -- where 255 are noted, no other is
 pub noted_full : (noted : List ℤ) (z : ℤ) (zs : List ℤ) → 255 ≤ length noted → numbers_with noted (z ∷ zs) ≡ numbers_with noted zs
@@ -68,19 +73,27 @@ noted_full noted z zs h = full noted _ h ∙ sym (full noted _ h)
     full : (xs ys : List ℤ) → 255 ≤ length xs → take 255 (xs ++ ys) ≡ take 255 xs
     full xs ys g = take-append-le 255 xs ys g
 
+-- the numbers that are left behind a new one
+pub new_rest : (noted : List ℤ) (z : ℤ) (zs : List ℤ) → is_among noted z ≡ false → filter (others noted) (different (z ∷ zs)) ≡ z ∷ filter (others (noted ++ z ∷ [])) (different zs)
+unfolding others
+new_rest noted z zs h =
+    kept (others noted) z (filter (λ y. not (int_eq z y)) (different zs)) (rw h refl)
+    ∙ ap (λ ys. z ∷ ys) (filter_twice (others noted) (λ y. not (int_eq z y)) (others (noted ++ z ∷ [])) (different zs) (λ y. ap not (among_push noted z y) ∙ not_or (is_among noted y) (int_eq z y)))
+
 -- a number that is noted
 pub noted_new : (noted : List ℤ) (z : ℤ) (zs : List ℤ) → is_among noted z ≡ false → numbers_with noted (z ∷ zs) ≡ numbers_with (noted ++ z ∷ []) zs
 unfolding numbers_with others
 noted_new noted z zs h =
-    ap (take 255)
-    (ap (λ ys. noted ++ ys)
-    (kept (others noted) z (filter (λ y. not (int_eq z y)) (different zs)) (rw h refl)
-    ∙ ap (λ ys. z ∷ ys) (filter_twice (others noted) (λ y. not (int_eq z y)) (others (noted ++ z ∷ [])) (different zs) (λ y. ap not (among_push noted z y) ∙ not_or (is_among noted y) (int_eq z y))))
-    ∙ sym (append_assoc noted (z ∷ []) _))
+    ap (take 255) (ap (λ ys. noted ++ ys) (new_rest noted z zs h) ∙ sym (append_assoc noted (z ∷ []) _))
 
 filter_all : (zs : List ℤ) → filter (λ z. true) zs ≡ zs
 filter_all [] = refl
 filter_all (z ∷ zs) = ap (λ ys. z ∷ ys) (filter_all zs)
+
+-- where none is noted, all are left
+pub all_left : (zs : List ℤ) → filter (others []) zs ≡ zs
+unfolding others
+all_left zs = filter_all zs
 
 pub noted_start : (zs : List ℤ) → numbers_with [] zs ≡ take 255 (different zs)
 unfolding numbers_with

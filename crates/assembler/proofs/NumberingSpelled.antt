@@ -47,7 +47,7 @@ one_good x h = and_from (is_well_formed x) true h refl
 more_good : (x : Item) (xs : List Item) → is_well_formed x ≡ true → Good xs → Good (x ∷ xs)
 more_good x xs h g = and_from (is_well_formed x) (list_all is_well_formed xs) h g
 
-both_good : (xs ys : List Item) → Good xs → Good ys → Good (xs ++ ys)
+pub both_good : (xs ys : List Item) → Good xs → Good ys → Good (xs ++ ys)
 both_good xs ys left right = list_all-append is_well_formed xs ys ∙ and_from (list_all is_well_formed xs) (list_all is_well_formed ys) left right
 
 -- the items of things that pass a test
@@ -55,13 +55,13 @@ all_good : {A : Type 0} (test : A → Bool) (f : A → List Item) (xs : List A) 
 all_good test f [] each h = refl
 all_good test f (x ∷ xs) each h = let p = and_parts (test x) (list_all test xs) h in both_good (f x) (flat_map f xs) (each x p.0) (all_good test f xs each p.1)
 
-good_one : (xs : List Item) (x : Item) → Good xs → is_item_of xs x ≡ true → is_well_formed x ≡ true
+pub good_one : (xs : List Item) (x : Item) → Good xs → is_item_of xs x ≡ true → is_well_formed x ≡ true
 good_one [] x good h = absurd (true≢false (sym h))
 good_one (y ∷ xs) x good h =
     let p = and_parts (is_well_formed y) (list_all is_well_formed xs) good in
     elim (or_cases (is_same_item x y) (is_item_of xs x) h) [ inl s ↦ ap is_well_formed (same_is x y s) ∙ p.0 | inr r ↦ good_one xs x p.1 r ]
 
-good_from : (xs : List Item) → ((x : Item) → is_item_of xs x ≡ true → is_well_formed x ≡ true) → Good xs
+pub good_from : (xs : List Item) → ((x : Item) → is_item_of xs x ≡ true → is_well_formed x ≡ true) → Good xs
 good_from [] each = refl
 good_from (x ∷ xs) each = more_good x xs (each x (among_first x xs)) (good_from xs (λ y h. each y (or_right (is_same_item y x) (is_item_of xs y) h)))
 

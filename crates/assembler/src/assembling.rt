@@ -1,7 +1,6 @@
 //! The class file of a text's tree.
-ghost use Rattle.std.specs.Prelude.{◌≡◌, ◌∷◌, ◌++◌, ◌<◌, ◌^◌, ℤ, List, true, IfOk, IfErr, OnOk};
+ghost use Rattle.std.specs.Prelude.{◌≡◌, ◌∷◌, ◌++◌, ◌<◌, ◌^◌, ℤ, List, true, IfOk, IfErr, OnOk, MatchResult, ⊤};
 ghost use Rattle.std.specs.List.{list_all};
-ghost use Rattle.classfile.specs.Classes.{IsClass};
 ghost use Rattle.model.specs.ClassFiles.Items.{Item};
 ghost use Rattle.model.specs.ClassFiles.Listing.{listing_of as file_listing};
 ghost use Rattle.model.specs.Texts.Assembling.{is_countable, assembles};
@@ -38,8 +37,8 @@ pub fn assemble(alloc: Global, tree: &ClassTree) -> Result<ClassFile, AsmError>
     ensures found { IfOk result (λ file. (file_listing file ≡ listing_of tree.now) × (assembles tree.now ≡ true)) }
     // Its pool is that of the listing, behind the numbers of `ldc`.
     ensures made { IfOk result (λ file. file ≡ assembled_tree tree.now) }
-    // Where the format has such a class file, it is given, unless memory runs out.
-    ensures only { IfErr result (λ e. is_spelled (listing_of tree.now) ≡ true → assembles tree.now ≡ true → IsClass (assembled_tree tree.now) → e ≡ error.Memory) }
+    // A tree that some text spells and that can be assembled has one, unless memory runs out.
+    ensures only { is_spelled (listing_of tree.now) ≡ true → assembles tree.now ≡ true → MatchResult result (λ _. ⊤) (λ e. e ≡ error.Memory) }
 {
     let listing = listing(alloc, tree)?;
     if has_super(&listing) || !has_short_lists(&listing) {

@@ -1,17 +1,16 @@
 use Rattle.std.proofs.Common.{◌<◌, ◌^◌, ◌≡◌, [], true, sym, ◌∙◌, ap, subst}
 use Rattle.std.specs.List.{list_all}
-use Rattle.classfile.specs.Classes.{IsClass}
 use Rattle.model.specs.ClassFiles.Items.{with_items, listing_items}
 use Rattle.model.specs.ClassListings.{ClassListing}
 use Rattle.model.specs.Texts.Assembling.{assembles}
 use Rattle.model.specs.Texts.Flags.{has}
 use Rattle.model.specs.Texts.ListingOfTree.{listing_of}
-use Rattle.model.specs.Texts.Spelled.{is_spelled}
 use Rattle.assembler.specs.Assembled.{code_stands, assembled, assembled_tree}
 use Rattle.assembler.specs.Checks.{has_short_lists, method_is_right}
 use Rattle.assembler.specs.declared.error.AsmError.TheVariants as error
 use Rattle.assembler.specs.Numbering.{IsPool}
 use Rattle.assembler.proofs.FileLaws.{made_of, only_of}
+use Rattle.assembler.proofs.SmallLaws.{has_class}
 use Rattle.assembler.proofs.StayingLaws.{given_on}
 use Rattle.assembler.proofs.JoinedLaws as joined
 use Rattle.assembler.proofs.TreeLaws as laws
@@ -20,7 +19,7 @@ use Rattle.assembler.proofs.assembling.assemble.Goals.{then-has_super-via-then-h
 
 pub returns-then-has_super-clause-only : goal.returns-then-has_super-clause-only
 unfolding assembles
-returns-then-has_super-clause-only c spelled whole is =
+returns-then-has_super-clause-only c spelled whole =
     let l = c.in_ok-listing.ensures.found.0 in
     elim c.then-has_super.branch [
       | then-has_super-via-then-has_super w ↦
@@ -32,11 +31,11 @@ returns-then-has_super-clause-only c spelled whole is =
     ]
 
 pub returns-in_err-note_methods-clause-only : goal.returns-in_err-note_methods-clause-only
-returns-in_err-note_methods-clause-only c =
+returns-in_err-note_methods-clause-only c spelled whole =
     let t = c.args.tree.now in
     let same = c.as_slice.ensures.value ∙ ap (λ t. t.methods) c.tree.view_is in
-    given_on c.from_residual-in_err-note_methods.result c.in_err-note_methods.field-0.0 (λ e. is_spelled (listing_of t) ≡ true → assembles t ≡ true → IsClass (assembled_tree t) → e ≡ error.Memory) c.from_residual-in_err-note_methods.ensures.1
-    (λ spelled whole is. c.in_err-note_methods.ensures.only [] (listing_items (listing_of t)) (laws.tree_room t c.new-numbers.result [] c.as_slice.result.now c.new-numbers.ensures same is))
+    given_on c.from_residual-in_err-note_methods.result c.in_err-note_methods.field-0.0 (λ e. e ≡ error.Memory) c.from_residual-in_err-note_methods.ensures.1
+    (c.in_err-note_methods.ensures.only [] (listing_items (listing_of t)) (laws.tree_room t c.new-numbers.result [] c.as_slice.result.now c.new-numbers.ensures same (has_class t spelled whole)))
 
 pub class_file-requires : goal.class_file-requires
 class_file-requires c = subst (λ (l : ClassListing). list_all (λ m. code_stands m.code) l.methods ≡ true) (sym c.in_ok-listing.ensures.found.0) (laws.listing_stands c.args.tree.now)
@@ -48,10 +47,10 @@ returns-clause-made c =
     made_of (IsPool (with_items c.note_methods.new.numbers (listing_items c.in_ok-listing.listing))) c.class_file.result (assembled (with_items c.note_methods.new.numbers (listing_items c.in_ok-listing.listing)) c.in_ok-listing.listing) (assembled_tree c.args.tree.now) pool c.class_file.ensures.found
 
 pub returns-clause-only : goal.returns-clause-only
-returns-clause-only c =
+returns-clause-only c spelled whole =
     let same = c.as_slice.ensures.value ∙ ap (λ t. t.methods) c.tree.view_is in
     let pool = laws.tree_pool c.args.tree.now c.new-numbers.result c.note_methods.new.numbers c.as_slice.result.now c.new-numbers.ensures same c.in_ok-note_methods.ensures.noted c.in_ok-listing.listing c.in_ok-listing.ensures.found.0 in
-    only_of (is_spelled (listing_of c.args.tree.now) ≡ true) (assembles c.args.tree.now ≡ true) c.class_file.result (assembled (with_items c.note_methods.new.numbers (listing_items c.in_ok-listing.listing)) c.in_ok-listing.listing) (assembled_tree c.args.tree.now) pool c.class_file.ensures.only
+    only_of c.class_file.result (assembled (with_items c.note_methods.new.numbers (listing_items c.in_ok-listing.listing)) c.in_ok-listing.listing) (assembled_tree c.args.tree.now) pool c.class_file.ensures.only (has_class c.args.tree.now spelled whole)
 
 pub returns-clause-found : goal.returns-clause-found
 returns-clause-found c =
