@@ -13,7 +13,7 @@ mod words;
 pub use classes::text;
 pub use files::disassemble;
 pub use laws::texts_come_back;
-pub use rereading::{TreeError, tree};
+pub use rereading::{AgainError, TreeError, again, tree};
 
 #[cfg(test)]
 mod tests;

@@ -1,6 +1,6 @@
 //! The text of a class file, read again.
 ghost use Rattle.std.specs.Prelude.{◌≡◌, ℕ, List, Some, true, MatchResult};
-ghost use Rattle.disasm.specs.Rereading.{LacksMemory};
+ghost use Rattle.disasm.specs.Rereading.{LacksMemory, IsAssemblersOrMemory};
 ghost use Rattle.model.specs.ClassFiles.Listing.{listing_of};
 ghost use Rattle.model.specs.Texts.{tree_of};
 ghost use Rattle.model.specs.Texts.Assembling.{assembles};
@@ -9,6 +9,7 @@ ghost use Rattle.model.specs.Texts.Trees.{Tree};
 
 use crate::files::disassemble;
 use crate::laws::texts_come_back;
+use assembler::{AsmError, assemble};
 use classfile::ClassFile;
 use jasmin::TextError;
 use model::trees::ClassTree;
@@ -41,5 +42,32 @@ pub fn tree(alloc: Global, file: &ClassFile) -> Result<ClassTree, TreeError>
     match jasmin::read(alloc, text.as_slice()) {
         Ok(tree) => Ok(tree),
         Err(error) => Err(TreeError::Text(error)),
+    }
+}
+
+/// Why the text of a class file gives no class file.
+#[derive(Debug, Drop, Error)]
+pub enum AgainError {
+    /// The text has no tree.
+    #[error("{0}")]
+    Tree(TreeError),
+    /// The tree doesn't assemble: `A1 in method main()V`.
+    #[error("{0}")]
+    Assembly(AsmError),
+}
+
+/// The class file that the text of a class file assembles to. Where the file's listing is that of a text that assembles, it
+/// has this listing, and the error is want of memory or the assembler's.
+pub fn again(alloc: Global, file: &ClassFile) -> Result<ClassFile, AgainError>
+    ensures { (text : List ℕ) (t : Tree) → tree_of text ≡ Some t → assembles t ≡ true → texts.listing_of t ≡ listing_of file.now
+        → MatchResult result (λ made. listing_of made ≡ listing_of file.now) IsAssemblersOrMemory }
+{
+    let tree = match tree(alloc, file) {
+        Ok(tree) => tree,
+        Err(error) => return Err(AgainError::Tree(error)),
+    };
+    match assemble(alloc, &tree) {
+        Ok(made) => Ok(made),
+        Err(error) => Err(AgainError::Assembly(error)),
     }
 }

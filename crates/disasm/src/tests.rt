@@ -158,6 +158,15 @@ fn a_class_file_has_the_tree_of_its_text(rt: HostRuntime) -> Result<(), Fail> {
 }
 
 #[test]
+fn a_class_file_is_assembled_again(rt: HostRuntime) -> Result<(), Fail> {
+    let file = read(rt.alloc(), hex(rt.alloc(), R)?.as_slice())?;
+    let made = again(rt.alloc(), &file)?;
+    let found = disassemble(rt.alloc(), &made)?;
+    assert_eq!(rt; found.as_slice(), TEXT_OF_R.as_bytes());
+    Ok(())
+}
+
+#[test]
 fn an_interface_of_two_lines(rt: HostRuntime) -> Result<(), Fail> {
     let listing = Listing {
         name: Name::copy_of(rt.alloc(), b"a/I")?,
