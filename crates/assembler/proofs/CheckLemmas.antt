@@ -21,7 +21,7 @@ use Rattle.model.specs.Texts.ListingOfTree.{placed_from, row_with, code_listing}
 use Rattle.model.specs.Texts.Tables.{named}
 use Rattle.model.specs.Texts.Widths.{widened, widened_line}
 use Rattle.assembler.specs.Checks.{pc_in, line_agrees, code_is_right}
-use Rattle.assembler.proofs.Tests.{bool_tells, and_tells}
+use Rattle.assembler.proofs.Bools.{bool_tells, and_tells}
 
 pub agree_together : (narrow : List ℤ) (f : List ℕ → ℕ) (pc : ℕ) (lines : List TextLine) → list_all (λ p. switch_agrees p.instruction) (placed_from f pc (map (widened_line narrow) lines)) ≡ list_all (line_agrees narrow f) lines
 agree_together narrow f pc [] = refl

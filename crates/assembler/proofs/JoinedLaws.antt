@@ -34,7 +34,7 @@ use Rattle.assembler.proofs.NumberingClasses.{class_listed}
 use Rattle.assembler.proofs.NumberingCounts.{listing_there, listing_count}
 use Rattle.assembler.proofs.NumberingFlags.{left_out, again}
 use Rattle.assembler.proofs.NumberingItems.{among_left, among_right, among_cases, all_from}
-use Rattle.assembler.proofs.Tests.{bool_tells, and_tells}
+use Rattle.assembler.proofs.Bools.{bool_tells, and_tells}
 
 -- ---- numbers of `ldc` are items of the listing
 

@@ -1,3 +1,4 @@
+pub mod Bools
 pub mod CheckLemmas
 pub mod FileLaws
 pub mod JoinedLaws
@@ -20,5 +21,4 @@ pub mod SizeLemmas
 pub mod SmallLaws
 pub mod StandingLaws
 pub mod StayingLaws
-pub mod Tests
 pub mod TreeLaws

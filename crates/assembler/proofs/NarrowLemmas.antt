@@ -3,7 +3,7 @@ use Rattle.std.proofs.Common.{◌≡◌, ℤ, ◌≤◌, Bool, true, false, not,
 use Rattle.std.specs.Ordering.{int_eq}
 use Rattle.std.proofs.lemmas.List.{take-append-le, take_all}
 use Rattle.std.proofs.lemmas.Bool.Decides.{Decides-int_eq}
-use Rattle.assembler.proofs.Tests.{bool_tells}
+use Rattle.assembler.proofs.Bools.{bool_tells}
 use Rattle.model.specs.Texts.Widths.{is_among, different}
 use Rattle.assembler.specs.Numbers.{numbers_with}
 

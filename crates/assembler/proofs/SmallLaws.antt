@@ -42,7 +42,7 @@ use Rattle.assembler.proofs.NumberingItems.{item_known, item_new, among_left, on
 use Rattle.assembler.proofs.NumberingListed.{all_parts}
 use Rattle.assembler.proofs.NumberingSpelled.{good_one, good_from, both_good, listing_good, pool_is_good}
 use Rattle.assembler.proofs.NumberingStands.{HasBytes, HasSmall, AreLike, body_has_bytes, class_file_stands, spelled_flags}
-use Rattle.assembler.proofs.Tests.{bool_tells, and_tells}
+use Rattle.assembler.proofs.Bools.{bool_tells, and_tells}
 
 -- ---- numbers that stand first
 

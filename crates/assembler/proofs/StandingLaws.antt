@@ -22,7 +22,7 @@ use Rattle.model.proofs.SizeLaws.{spelled}
 use Rattle.assembler.specs.Numbering.{number_of, numbered, numbered_placed, numbered_row}
 use Rattle.assembler.specs.Assembled.{Stays, assembled_code}
 use Rattle.assembler.proofs.StayingLaws.{stays_then}
-use Rattle.assembler.proofs.Tests.{and_tells}
+use Rattle.assembler.proofs.Bools.{and_tells}
 
 -- a pool number in place of a name changes no size
 pub numbered_size : (items : List Item) (pc : ℕ) (i : Listed) → size_at pc (numbered items i) ≡ size_at pc i

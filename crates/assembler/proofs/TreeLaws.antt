@@ -30,7 +30,7 @@ use Rattle.model.specs.declared.trees.TextLine.TheVariants.{Label, Instruction}
 use Rattle.assembler.specs.Assembled.{HasRoom, code_stands, with_ints, tree_items, assembled, assembled_tree}
 use Rattle.assembler.specs.Checks.{few_rows, has_few_rows, has_short_lists, code_is_right}
 use Rattle.assembler.proofs.FileLaws.{has_room}
-use Rattle.assembler.proofs.Tests.{and_tells}
+use Rattle.assembler.proofs.Bools.{and_tells}
 
 -- ---- instructions stand one behind the other
 
