@@ -19,6 +19,8 @@ pub use error::AsmError;
 pub use listings::listing;
 
 #[cfg(test)]
+mod byte_tests;
+#[cfg(test)]
 mod numbers_tests;
 #[cfg(test)]
 mod tests;
