@@ -1,4 +1,5 @@
 use Rattle.std.specs.Prelude.{◌≡◌}
+use Rattle.assembler.specs.declared.error.AsmError.TheVariants.{Memory as AsmMemory}
 use Rattle.disasm.specs.declared.rereading.AgainError.{AgainError}
 use Rattle.disasm.specs.declared.rereading.AgainError.TheVariants.{Tree as OfTree, Assembly}
 use Rattle.disasm.specs.declared.rereading.TreeError.{TreeError}
@@ -10,7 +11,7 @@ abbrev pub LacksMemory : TreeError → Type 0
 LacksMemory (Text e) = e.fault ≡ TextMemory
 LacksMemory Memory = Unit {0}
 
--- the error is want of memory, or the assembler's
-abbrev pub IsAssemblersOrMemory : AgainError → Type 0
-IsAssemblersOrMemory (OfTree e) = LacksMemory e
-IsAssemblersOrMemory (Assembly e) = Unit {0}
+-- the error is want of memory
+abbrev pub IsForMemory : AgainError → Type 0
+IsForMemory (OfTree e) = LacksMemory e
+IsForMemory (Assembly e) = e ≡ AsmMemory

@@ -1,6 +1,6 @@
 //! The text of a class file, read again.
 ghost use Rattle.std.specs.Prelude.{◌≡◌, ℕ, List, Some, true, MatchResult};
-ghost use Rattle.disasm.specs.Rereading.{LacksMemory, IsAssemblersOrMemory};
+ghost use Rattle.disasm.specs.Rereading.{LacksMemory, IsForMemory};
 ghost use Rattle.model.specs.ClassFiles.Listing.{listing_of};
 ghost use Rattle.model.specs.Texts.{tree_of};
 ghost use Rattle.model.specs.Texts.Assembling.{assembles};
@@ -57,11 +57,12 @@ pub enum AgainError {
 }
 
 /// The class file that the text of a class file assembles to. Where the file's listing is that of a text that assembles, it
-/// has this listing, and the error is want of memory or the assembler's.
+/// has this listing, and memory alone is an error.
 pub fn again(alloc: Global, file: &ClassFile) -> Result<ClassFile, AgainError>
     ensures { (text : List ℕ) (t : Tree) → tree_of text ≡ Some t → assembles t ≡ true → texts.listing_of t ≡ listing_of file.now
-        → MatchResult result (λ made. listing_of made ≡ listing_of file.now) IsAssemblersOrMemory }
+        → MatchResult result (λ made. listing_of made ≡ listing_of file.now) IsForMemory }
 {
+    jasmin::texts_are_spelled();
     let tree = match tree(alloc, file) {
         Ok(tree) => tree,
         Err(error) => return Err(AgainError::Tree(error)),

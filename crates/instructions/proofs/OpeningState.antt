@@ -1,5 +1,5 @@
 -- The parts of a new state show the opening world.
-use Rattle.std.proofs.Common.{◌≡◌, ℕ, suc, List, [], ◌∷◌, ◌++◌, length, replicate, Option, Some, None, true, false, refl, ap, sym, ◌∙◌}
+use Rattle.std.proofs.Common.{◌≡◌, ℕ, List, [], ◌∷◌, ◌++◌, length, replicate, Some, None, false, refl, ap, sym, ◌∙◌}
 use Rattle.model.specs.declared.journals.Limits.{Limits}
 use Rattle.model.specs.declared.places.MethodPlace.{MethodPlace}
 use Rattle.model.specs.declared.turns.ClassState.{ClassState}
@@ -8,11 +8,11 @@ use Rattle.model.specs.ClassListings.{ClassListing}
 use Rattle.model.specs.CodeListings.{CodeListing}
 use Rattle.model.specs.Frames.{Frame, opening_frame}
 use Rattle.model.specs.Programs.{main_in, code_at}
-use Rattle.model.specs.Worlds.{opening_frames, states_of, opening_world}
+use Rattle.model.specs.Worlds.{opening_frames, states_of}
 use Rattle.model.specs.Served.{ServedProgram}
 use Rattle.model.proofs.Served.{opening_slots-none}
 use Rattle.loader.specs.Steps.{IsMain}
-use Rattle.instructions.specs.Loaded.{Loaded, fresh, world_shown}
+use Rattle.instructions.specs.Loaded.{fresh, world_shown}
 
 states-replicate : (program : List ClassListing) → replicate (length program) Done ≡ states_of program
 states-replicate [] = refl

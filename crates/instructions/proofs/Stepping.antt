@@ -1,5 +1,5 @@
 -- A turn of the one thread, by its resolved step, is the turn that the instruction table gives.
-use Rattle.std.proofs.Common.{◌≡◌, ℕ, ℤ, List, [], ◌∷◌, Option, Some, None, Result, Ok, Err, Bool, true, false, refl, ap, sym, ◌∙◌}
+use Rattle.std.proofs.Common.{◌≡◌, ℕ, ℤ, List, [], ◌∷◌, Option, Some, None, Result, Ok, Err, true, false, refl, ap, sym, ◌∙◌}
 use Rattle.std.specs.Option.{option_map, option_and_then}
 use Rattle.model.specs.declared.names.Member.{Member}
 use Rattle.model.specs.declared.builtins.Builtin.{Builtin}
@@ -31,7 +31,6 @@ use Rattle.model.specs.Turns.{print_of}
 use Rattle.model.specs.Worlds.{World}
 use Rattle.model.proofs.Served.{ThrowsNothing, constant-throws_nothing, number-throws_nothing, IsInMain, returned_is, printed_is, served_cases, instruction_served, completion-main}
 use Rattle.loader.specs.Steps.{step_of, step_in, step_at, call_of, action_of}
-use Rattle.loader.specs.declared.programs.Step.{Step}
 use Rattle.instructions.specs.Acting.{moved_in, printed_in, acted, acted_at, printed_at}
 use Rattle.instructions.specs.Loaded.{world_shown, world_after}
 

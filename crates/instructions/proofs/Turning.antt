@@ -1,8 +1,6 @@
 -- A turn on the parts of the state.
-use Rattle.std.proofs.Common.{◌≡◌, ◌<◌, ◌≤◌, ◌+◌, ℕ, zero, suc, ℤ, List, [], ◌∷◌, length, Option, Some, None, IfSome, Result, Ok, Err, IfOk, Bool, true, false, nat_le, refl, ap, sym, ◌∙◌, arith, subst}
+use Rattle.std.proofs.Common.{◌≡◌, ◌≤◌, ◌+◌, ℕ, zero, suc, ℤ, List, [], ◌∷◌, length, Option, Some, None, IfSome, Result, Ok, Err, Bool, true, false, refl, ap, sym, ◌∙◌, arith, subst}
 use Rattle.std.specs.Prelude.{if◌then◌else◌, slice_get}
-use Rattle.std.specs.Option.{option_map}
-use Rattle.model.specs.declared.instructions.Constant.{Constant as ConstantOperand}
 use Rattle.model.specs.declared.instructions.Conversion.{Conversion}
 use Rattle.model.specs.declared.instructions.NumberKind.{NumberKind}
 use Rattle.model.specs.declared.instructions.Operator.{Operator}
@@ -13,27 +11,24 @@ use Rattle.model.specs.declared.turns.Actor.TheVariants.{Thread}
 use Rattle.model.specs.declared.turns.ClassState.{ClassState}
 use Rattle.model.specs.declared.turns.Fault.{Fault}
 use Rattle.model.specs.declared.turns.Abrupt.{Abrupt}
-use Rattle.model.specs.declared.turns.Abrupt.TheVariants.{Fault as Faulted, Throw as Thrown}
 use Rattle.model.specs.declared.values.Value.{Value}
 use Rattle.model.specs.ClassListings.{ClassListing}
-use Rattle.model.specs.Frames.{Frame, Moved, int_on, replaced, replaced_if_room, running_frame, with_running}
-use Rattle.model.specs.Programs.{main_in, instruction_of}
+use Rattle.model.specs.Frames.{Frame, Moved, int_on, replaced, replaced_if_room, running_frame}
+use Rattle.model.specs.Programs.{main_in}
 use Rattle.model.specs.Served.{ServedProgram}
-use Rattle.model.specs.Worlds.{World, lives, is_live, counted}
+use Rattle.model.specs.Worlds.{World, lives, counted}
 use Rattle.model.specs.Turns.{refusal, print_of}
 use Rattle.model.specs.Table.Constants.{constant, constant_value}
 use Rattle.model.specs.Arithmetic.{conversion_result}
 use Rattle.model.specs.Table.Numbers.{number, number_value, target_kind, operated, binary_on, negated_on, converted_on, compared_on, operands_of, operand_of, source_kind}
-use Rattle.loader.specs.Steps.{step_of}
 use Rattle.loader.specs.declared.programs.Action.{Action}
 use Rattle.loader.specs.declared.programs.Action.TheVariants.{Nop, Constant, Number, Return, Print, Unserved}
 use Rattle.loader.specs.declared.programs.Step.{Step}
 use Rattle.instructions.specs.Acting.{Parts, moved_in, printed_in, acted, acted_at, printed_at, standing, told_parts}
-use Rattle.instructions.specs.Allowed.{IsAllowed}
 use Rattle.instructions.specs.Going.{IsGoing}
-use Rattle.instructions.specs.Loaded.{Loaded, RunsMain, RunsMainUnlessEnded, thread_shown, world_shown, world_after, after_step}
+use Rattle.instructions.specs.Loaded.{Loaded, RunsMainUnlessEnded, thread_shown, world_shown, world_after, after_step}
 use Rattle.instructions.proofs.Refusing.{allowed}
-use Rattle.instructions.proofs.Stepping.{w, next_shown, print_shown_at, step_stands}
+use Rattle.instructions.proofs.Stepping.{next_shown, print_shown_at, step_stands}
 
 -- ---- a thread that nothing refuses is the first, and lives
 

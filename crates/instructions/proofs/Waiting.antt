@@ -1,5 +1,5 @@
 -- No thread of a state waits or asks for a cell: it has ended, or runs main, all of whose code is carried out.
-use Rattle.std.proofs.Common.{◌≡◌, ◌≤◌, ℕ, zero, suc, List, [], ◌∷◌, Option, Some, None, Bool, true, false, is_none, refl, ap, sym, ◌∙◌, ◌+◌, subst}
+use Rattle.std.proofs.Common.{◌≡◌, ℕ, zero, suc, List, [], ◌∷◌, Option, Some, None, Bool, true, false, is_none, refl, ap, sym, ◌∙◌, ◌+◌, subst}
 use Rattle.std.specs.Prelude.{◌&&◌, ◌||◌, ◌++◌, drop, take, length, nat_lt, not}
 use Rattle.std.specs.List.{find, list_any}
 use Rattle.std.specs.Option.{option_map}

@@ -1,5 +1,5 @@
-use Rattle.std.specs.Prelude.{◌≡◌, ◌<◌, ◌≤◌, ◌+◌, ℕ, List, length, Option, Some, None, IfSome, true}
-use Rattle.model.specs.Worlds.{World, is_live}
+use Rattle.std.specs.Prelude.{◌≡◌, ◌<◌, ◌≤◌, ◌+◌, ℕ, length, None, IfSome, true}
+use Rattle.model.specs.Worlds.{is_live}
 use Rattle.model.specs.Turns.{print_of}
 use Rattle.instructions.specs.Loaded.{Loaded}
 

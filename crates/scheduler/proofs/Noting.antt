@@ -1,23 +1,19 @@
 -- A thread's turn on the state, and its row in the journal.
-use Rattle.std.proofs.Common.{◌≡◌, ◌<◌, ◌+◌, ℕ, List, [], ◌∷◌, ◌++◌, length, Option, Some, None, refl, ap, sym, ◌∙◌, arith, length-append, Bool, true, false, nat_le}
-use Rattle.std.specs.Prelude.{if◌then◌else◌}
+use Rattle.std.proofs.Common.{◌≡◌, ◌<◌, ◌+◌, ℕ, List, [], ◌∷◌, ◌++◌, length, None, refl, ap, sym, ◌∙◌, arith, length-append}
 use Rattle.model.specs.declared.journals.HeapShape.{HeapShape}
 use Rattle.model.specs.declared.journals.Limits.{Limits}
 use Rattle.model.specs.declared.journals.Outcome.{Outcome}
 use Rattle.model.specs.declared.journals.Outcome.TheVariants.{Done}
 use Rattle.model.specs.declared.journals.Row.{Row}
 use Rattle.model.specs.declared.turns.Actor.TheVariants.{Thread, Collector}
-use Rattle.model.specs.declared.turns.Fault.{Fault}
-use Rattle.model.specs.declared.turns.Turn.{Turn}
-use Rattle.model.specs.declared.turns.Turn.TheVariants.{NotReady, StepLimit}
 use Rattle.model.specs.ClassListings.{ClassListing}
 use Rattle.model.specs.Results.{Effect}
 use Rattle.model.specs.Effects.Choice.{NotAsked}
 use Rattle.model.specs.Journals.{JournalValue, blank, with_row}
 use Rattle.model.specs.Worlds.{World, counted}
 use Rattle.model.specs.Table.Next.{asked, next}
-use Rattle.model.specs.Turns.{refusal, refusal_after, choice_of, ideal_step, unless_refused}
-use Rattle.model.specs.Machines.{Recorded, Machine, machine_of, machine_of-noted, noted, advance, told_of}
+use Rattle.model.specs.Turns.{refusal, choice_of, ideal_step, unless_refused}
+use Rattle.model.specs.Machines.{Machine, machine_of, machine_of-noted, told_of}
 use Rattle.model.specs.Observers.{ideal, after_actor, after_last}
 use Rattle.model.proofs.NextKeeps.{next-rows, next-choice}
 use Rattle.instructions.specs.Loaded.{Loaded, after_step, after_collection, fresh}

@@ -1,4 +1,4 @@
-use Rattle.std.specs.Prelude.{◌≡◌, ℕ, List, length}
+use Rattle.std.specs.Prelude.{◌≡◌, ℕ, length}
 use Rattle.model.specs.Journals.{JournalValue}
 use Rattle.model.specs.Machines.{Recorded, machine_of}
 use Rattle.model.specs.Observers.{after_last}

@@ -1,5 +1,5 @@
 -- A row more than there were is no more than the limit.
-use Rattle.std.proofs.Common.{◌≡◌, ◌+◌, ◌<◌, arith, vec_capacity}
+use Rattle.std.proofs.Common.{◌<◌, arith}
 use Rattle.instructions.specs.Loaded.{world_shown}
 use Rattle.instructions.proofs.Refusing.{collector_counted}
 use Rattle.instructions.proofs.state.State.collect.Goals as goal

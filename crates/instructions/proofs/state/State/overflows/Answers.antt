@@ -1,4 +1,4 @@
-use Rattle.std.proofs.Common.{vec_capacity, Some, None, ◌∙◌}
+use Rattle.std.proofs.Common.{vec_capacity, Some, None}
 use Rattle.instructions.proofs.Waiting.{lives_alone, lives_in_main, overflows_shown}
 use Rattle.instructions.proofs.state.State.overflows.Goals as goal
 

@@ -1,4 +1,4 @@
-use Rattle.std.proofs.Common.{vec_capacity, Option, Some, None, Bool, true, false, ◌≡◌, is_some, refl, sym, ◌∙◌}
+use Rattle.std.proofs.Common.{vec_capacity, Option, Some, None, false, ◌≡◌, is_some, refl, sym}
 use Rattle.instructions.proofs.Waiting.{is_running}
 use Rattle.instructions.proofs.state.State.status.Goals as goal
 

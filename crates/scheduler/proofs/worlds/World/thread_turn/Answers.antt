@@ -1,5 +1,5 @@
 -- The state takes the turn, the journal its row: again the state is what the journal stands for.
-use Rattle.std.proofs.Common.{◌≡◌, ◌+◌, ap, ◌∙◌, sym}
+use Rattle.std.proofs.Common.{◌+◌, ap, ◌∙◌}
 use Rattle.model.specs.declared.journals.Outcome.TheVariants.{Done, Fault}
 use Rattle.model.specs.Machines.{told_of}
 use Rattle.scheduler.specs.Worlds.{IsOf}
