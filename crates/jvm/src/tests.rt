@@ -285,6 +285,111 @@ fn a_class_file_is_written_as_a_text(rt: HostRuntime) -> Result<(), Fail> {
     )
 }
 
+/// A lookupswitch whose keys, 5 and 2, don't rise.
+const FALLING_KEYS: &[u8] =
+    b"\xca\xfe\xba\xbe\0\0\01\0\x08\x01\0\x01E\x07\0\x01\x01\0\x10java/lang/Object\x07\0\x03\x01\0\x04main\x01\0\x03()V\x01\0\x04Code\0 \0\x02\0\x04\0\0\0\0\0\x01\0\x08\0\x05\0\x06\0\x01\0\x07\0\0\0)\0\x01\0\0\0\0\0\x1d\x03\xab\0\0\0\0\0\x1b\0\0\0\x02\0\0\0\x05\0\0\0\x1b\0\0\0\x02\0\0\0\x1b\xb1\0\0\0\0\0\0";
+
+#[test]
+fn damaged_class_files_are_told(rt: HostRuntime) -> Result<(), Fail> {
+    let dis = ["dis", "a.j"];
+    for length in 0..100 {
+        let cut = &EMPTY_CLASS[..length];
+        check(
+            &rt,
+            rt.alloc(),
+            dis.as_slice(),
+            cut,
+            2,
+            b"",
+            b"jvm: a.j: C3\n",
+        )?;
+    }
+    let mut longer = Vec::from_slice(rt.alloc(), EMPTY_CLASS)?;
+    longer.push(0)?;
+    let answer = b"jvm: a.j: C4\n".as_slice();
+    check(
+        &rt,
+        rt.alloc(),
+        dis.as_slice(),
+        longer.as_slice(),
+        2,
+        b"",
+        answer,
+    )?;
+    let answer = b"jvm: a.j: O4 in method main()V\n".as_slice();
+    check(
+        &rt,
+        rt.alloc(),
+        dis.as_slice(),
+        FALLING_KEYS,
+        2,
+        b"",
+        answer,
+    )?;
+    let run = ["run", "a.j"];
+    check(
+        &rt,
+        rt.alloc(),
+        run.as_slice(),
+        FALLING_KEYS,
+        2,
+        b"",
+        answer,
+    )
+}
+
+/// A text whose branch leads over 40,000 instructions: `goto` has no room for its way, `goto_w` has.
+fn far_branch(alloc: Global, branch: &str) -> Result<String, Fail> {
+    let mut text = format!(in alloc;
+        ".class E\n.super java/lang/Object\n.method static main()V\n.limit stack 0\n.limit locals 0\n{branch} X\n"
+    )?;
+    for _ in 0..40_000 {
+        text.push_str("nop\n")?;
+    }
+    text.push_str("X:\nreturn\n.end method\n")?;
+    Ok(text)
+}
+
+#[test]
+fn texts_that_do_not_assemble_are_told(rt: HostRuntime) -> Result<(), Fail> {
+    let asm = ["asm", "a.j", "a.class"];
+    let far = far_branch(rt.alloc(), "goto")?;
+    let answer = b"jvm: a.j: A2 in method main()V\n".as_slice();
+    let text = far.as_str().as_bytes();
+    check(&rt, rt.alloc(), asm.as_slice(), text, 2, b"", answer)?;
+    check(
+        &rt,
+        rt.alloc(),
+        ["run", "a.j"].as_slice(),
+        text,
+        2,
+        b"",
+        answer,
+    )?;
+    check(
+        &rt,
+        rt.alloc(),
+        asm.as_slice(),
+        b"",
+        2,
+        b"",
+        b"jvm: a.j: J1 at line 1\n",
+    )?;
+    // the machine doesn't carry out branches yet
+    let farther = far_branch(rt.alloc(), "goto_w")?;
+    let text = farther.as_str().as_bytes();
+    let answer = b"jvm: load: L10 in class E\n".as_slice();
+    check(
+        &rt,
+        rt.alloc(),
+        ["run", "a.j"].as_slice(),
+        text,
+        2,
+        b"",
+        answer,
+    )
+}
+
 #[test]
 fn a_text_is_assembled(rt: HostRuntime) -> Result<(), Fail> {
     let wanted = Answer {
