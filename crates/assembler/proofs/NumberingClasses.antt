@@ -5,60 +5,40 @@ use Rattle.std.specs.List.{flat_map}
 use Rattle.std.specs.Option.{option_map}
 use Rattle.model.specs.ClassListings.{ClassListing}
 use Rattle.model.specs.CodeListings.{CodeListing}
-use Rattle.model.specs.ClassFiles.Classes.{ClassPart}
-use Rattle.model.specs.ClassFiles.Codes.{CodePart}
 use Rattle.model.specs.ClassFiles.Items.{Item, class_items, placed_items, row_items, code_items, method_items, field_items, listing_items}
 use Rattle.model.specs.ClassFiles.Items.Item.{text_item, class_item}
 use Rattle.model.specs.ClassFiles.Listing.{name_at, class_at, listed_code, listed_field, listed_flags, listed_method, listing_of}
-use Rattle.model.specs.ClassFiles.Methods.{MethodPart}
 use Rattle.model.specs.declared.flags.ClassFlags.{ClassFlags}
 use Rattle.model.specs.declared.listings.ExceptionRow.{ExceptionRow}
 use Rattle.model.specs.declared.listings.Field.{Field}
 use Rattle.model.specs.declared.listings.Method.{Method}
 use Rattle.model.specs.declared.listings.Placed.{Placed}
-use Rattle.assembler.specs.Numbering.{number_of, entries_of, are_items_of, AreClosed, numbered_placed, numbered_row, numbered_field}
+use Rattle.assembler.specs.Numbering.{number_of, entries_of, are_items_of, AreClosed, numbered_field}
+use Rattle.assembler.specs.Assembled.{assembled_code, assembled_method, class_with}
 use Rattle.assembler.proofs.NumberingNames.{text_named, class_named}
 use Rattle.assembler.proofs.NumberingListed.{only_there, class_there, all_parts, all_again, all_placed, all_rows, all_fields, all_classes}
 
--- code with numbers for names
-abbrev pub code_of : List Item → CodeListing → CodePart
-code_of items c = record {
-  name = number_of items (text_item (codes "Code"));
-  max_stack = c.max_stack;
-  max_locals = c.max_locals;
-  instructions = map (numbered_placed items) c.instructions;
-  rows = map (numbered_row items) c.rows;
-}
-
-abbrev pub method_of : List Item → Method → MethodPart
-method_of items m = record {
-  flags = m.flags;
-  name = number_of items (text_item m.name);
-  descriptor = number_of items (text_item m.descriptor);
-  code = option_map (code_of items) m.code;
-}
-
-pub code_listed : (items : List Item) (c : CodeListing) → AreClosed items → are_items_of items (code_items (Some c)) ≡ true → listed_code (entries_of items) (code_of items c) ≡ c
+pub code_listed : (items : List Item) (c : CodeListing) → AreClosed items → are_items_of items (code_items (Some c)) ≡ true → listed_code (entries_of items) (assembled_code items c) ≡ c
 code_listed items c closed all =
     let parts = all_parts items (flat_map placed_items c.instructions) (flat_map row_items c.rows) (all_parts items (text_item (codes "Code") ∷ []) (flat_map placed_items c.instructions ++ flat_map row_items c.rows) all).1 in
-    ap (λ (rs : List ExceptionRow). record { max_stack = c.max_stack; max_locals = c.max_locals; rows = rs; instructions = (listed_code (entries_of items) (code_of items c)).instructions }) (all_rows items c.rows closed parts.1)
+    ap (λ (rs : List ExceptionRow). record { max_stack = c.max_stack; max_locals = c.max_locals; rows = rs; instructions = (listed_code (entries_of items) (assembled_code items c)).instructions }) (all_rows items c.rows closed parts.1)
     ∙ ap (λ (ps : List Placed). record { max_stack = c.max_stack; max_locals = c.max_locals; rows = c.rows; instructions = ps }) (all_placed items c.instructions closed parts.0)
 
-body_listed : (items : List Item) (code : Option CodeListing) → AreClosed items → are_items_of items (code_items code) ≡ true → option_map (listed_code (entries_of items)) (option_map (code_of items) code) ≡ code
+body_listed : (items : List Item) (code : Option CodeListing) → AreClosed items → are_items_of items (code_items code) ≡ true → option_map (listed_code (entries_of items)) (option_map (assembled_code items) code) ≡ code
 body_listed items None closed all = refl
 body_listed items (Some c) closed all = ap Some (code_listed items c closed all)
 
-pub method_listed : (items : List Item) (m : Method) → AreClosed items → are_items_of items (method_items m) ≡ true → listed_method (entries_of items) (method_of items m) ≡ m
+pub method_listed : (items : List Item) (m : Method) → AreClosed items → are_items_of items (method_items m) ≡ true → listed_method (entries_of items) (assembled_method items m) ≡ m
 method_listed items m closed all =
     let first = all_parts items (text_item m.name ∷ []) (text_item m.descriptor ∷ code_items m.code) all in
     let second = all_parts items (text_item m.descriptor ∷ []) (code_items m.code) first.1 in
-    let body = option_map (listed_code (entries_of items)) (option_map (code_of items) m.code) in
+    let body = option_map (listed_code (entries_of items)) (option_map (assembled_code items) m.code) in
     ap (λ (n : List ℕ). record { flags = m.flags; name = n; descriptor = name_at (entries_of items) (number_of items (text_item m.descriptor)); code = body }) (text_named items m.name (only_there items (text_item m.name) first.0))
     ∙ ap (λ (d : List ℕ). record { flags = m.flags; name = m.name; descriptor = d; code = body }) (text_named items m.descriptor (only_there items (text_item m.descriptor) second.0))
     ∙ ap (λ (c : Option CodeListing). record { flags = m.flags; name = m.name; descriptor = m.descriptor; code = c }) (body_listed items m.code closed second.1)
 
-pub all_methods : (items : List Item) (ms : List Method) → AreClosed items → are_items_of items (flat_map method_items ms) ≡ true → map (listed_method (entries_of items)) (map (method_of items) ms) ≡ ms
-all_methods items ms closed all = all_again (listed_method (entries_of items)) (method_of items) method_items items ms (λ m h. method_listed items m closed h) all
+pub all_methods : (items : List Item) (ms : List Method) → AreClosed items → are_items_of items (flat_map method_items ms) ≡ true → map (listed_method (entries_of items)) (map (assembled_method items) ms) ≡ ms
+all_methods items ms closed all = all_again (listed_method (entries_of items)) (assembled_method items) method_items items ms (λ m h. method_listed items m closed h) all
 
 -- the parts of a listing's items
 pub record ListingParts (items : List Item) (l : ClassListing) : Type 0 where
@@ -80,29 +60,15 @@ listing_parts items l all =
 
 -- ---- a class
 
--- a class file with the numbers of the items, and some flags
-abbrev pub class_of : List Item → ClassFlags → ClassListing → ClassPart
-class_of items flags l = record {
-  head = record {
-    pool = entries_of items;
-    flags = flags;
-    class = number_of items (class_item l.name);
-    superclass = number_of items (class_item l.superclass);
-    interfaces = map (λ name. number_of items (class_item name)) l.interfaces;
-    fields = map (numbered_field items) l.fields;
-  };
-  methods = map (method_of items) l.methods;
-}
-
 -- the class file is listed as the listing that it was made of
-pub class_listed : (items : List Item) (flags : ClassFlags) (l : ClassListing) → AreClosed items → are_items_of items (listing_items l) ≡ true → listed_flags flags ≡ l.flags → listing_of (class_of items flags l) ≡ l
+pub class_listed : (items : List Item) (flags : ClassFlags) (l : ClassListing) → AreClosed items → are_items_of items (listing_items l) ≡ true → listed_flags flags ≡ l.flags → listing_of (class_with items flags l) ≡ l
 unfolding listing_of
 class_listed items flags l closed all kept =
     let parts = listing_parts items l all in
     let pool = entries_of items in
     let interfaces = map (class_at pool) (map (λ name. number_of items (class_item name)) l.interfaces) in
     let fields = map (listed_field pool) (map (numbered_field items) l.fields) in
-    let methods = map (listed_method pool) (map (method_of items) l.methods) in
+    let methods = map (listed_method pool) (map (assembled_method items) l.methods) in
     let superclass = class_at pool (number_of items (class_item l.superclass)) in
     ap (λ (n : List ℕ). record { name = n; flags = listed_flags flags; superclass = superclass; interfaces = interfaces; fields = fields; methods = methods }) (class_named items l.name closed (class_there items l.name parts.name))
     ∙ ap (λ (f : ClassFlags). record { name = l.name; flags = f; superclass = superclass; interfaces = interfaces; fields = fields; methods = methods }) kept

@@ -43,7 +43,8 @@ use Rattle.assembler.proofs.NumberingCode.{IsReady, code_is_code}
 use Rattle.assembler.proofs.NumberingListed.{only_there, class_there, all_parts}
 use Rattle.assembler.proofs.NumberingCounts.{number_fits}
 use Rattle.assembler.proofs.NumberingSound.{text_under, pool_is_sound, pool_fits, class_is, numbered_is_sound, row_fits, values_fit}
-use Rattle.assembler.proofs.NumberingClasses.{code_of, method_of, class_of, listing_parts}
+use Rattle.assembler.proofs.NumberingClasses.{listing_parts}
+use Rattle.assembler.specs.Assembled.{assembled_code, assembled_method, class_with}
 
 short : (n : ℕ) → is_u2 n ≡ true → n < 2 ^ 16
 short n h = omega (arith, leb-true n 65535 h)
@@ -150,7 +151,7 @@ HasBytes items None = Unit {0}
 HasBytes items (Some c) = IsCode (code_bytes (map (numbered_placed items) c.instructions)) (map (numbered_placed items) c.instructions)
 
 body_stands : (items : List Item) (wanted : Bool) (code : Option CodeListing) → IsPool items → are_items_of items (code_items code) ≡ true → body_is_spelled wanted code ≡ true → body_assembles code ≡ true → HasBytes items code
-    → CodesStand (entries_of items) wanted (option_map (code_of items) code)
+    → CodesStand (entries_of items) wanted (option_map (assembled_code items) code)
 body_stands items true None pool all h fits bytes = absurd (false≢true h)
 body_stands items false None pool all h fits bytes = refl
 body_stands items wanted (Some c) pool all h fits bytes =
@@ -168,7 +169,7 @@ body_stands items wanted (Some c) pool all h fits bytes =
     let end : end_from 0 c.instructions ≤ 65535 = leb-true (end_from 0 c.instructions) 65535 sized.1 in
     let few : length c.rows ≤ 65535 = leb-true (length c.rows) 65535 t.1 in (
       top.0,
-      code_stands (entries_of items) (code_of items c) (text_short items (codes "Code") pool first.0) (short c.max_stack s.0) (short c.max_locals s.1) bytes
+      code_stands (entries_of items) (assembled_code items c) (text_short items (codes "Code") pool first.0) (short c.max_stack s.0) (short c.max_locals s.1) bytes
           (text_passes is_code_name items (codes "Code") first.0 refl) (all_sound items c.instructions c.instructions pool.closed parts.0 q.1)
           (omega (arith, few, length-map c.rows (numbered_row items))) (rows_fit items c.instructions c.rows pool r.1 end parts.1 p.1),
     )
@@ -176,7 +177,7 @@ body_stands items wanted (Some c) pool all h fits bytes =
 -- ---- methods
 
 method_number_stands : (items : List Item) (file class : ℕ) (m : Method) → IsPool items → AreLike file class → are_items_of items (method_items m) ≡ true → method_is_spelled class m ≡ true → method_assembles m ≡ true → HasBytes items m.code
-    → MethodStands (entries_of items) file (method_of items m)
+    → MethodStands (entries_of items) file (assembled_method items m)
 method_number_stands items file class m pool like all h fits bytes =
     let static = has m.flags.0 0x0008 in
     let first = all_parts items (text_item m.name ∷ []) (text_item m.descriptor ∷ code_items m.code) all in
@@ -186,7 +187,7 @@ method_number_stands items file class m pool like all h fits bytes =
     let r = and_parts _ (is_method_name m.name) q.0 in
     let s = and_parts (is_u2 m.flags.0) (are_method_flags class m.flags.0) r.0 in
     let agree : are_method_flags file m.flags.0 ≡ true = rw like s.1 in
-    method_stands (entries_of items) file (method_of items m) (short m.flags.0 s.0) (text_short items m.name pool first.0) (text_short items m.descriptor pool second.0) agree
+    method_stands (entries_of items) file (assembled_method items m) (short m.flags.0 s.0) (text_short items m.name pool first.0) (text_short items m.descriptor pool second.0) agree
     (text_passes is_method_name items m.name first.0 r.1) (text_passes (method_type_test static) items m.descriptor second.0 q.1)
     (body_stands items (wants_code m.flags.0) m.code pool second.1 p.1 fits bytes)
 
@@ -201,7 +202,7 @@ all_stand P there test named items (x ∷ xs) each all h =
     (each x parts.0 p.0, all_stand P there test named items xs each parts.1 p.1)
 
 methods_stand : (items : List Item) (file class : ℕ) (ms : List Method) → IsPool items → AreLike file class → are_items_of items (flat_map method_items ms) ≡ true → list_all (method_is_spelled class) ms ≡ true → list_all method_assembles ms ≡ true
-    → AllByRecursion (λ m. HasBytes items m.code) ms → AllByRecursion (MethodStands (entries_of items) file) (map (method_of items) ms)
+    → AllByRecursion (λ m. HasBytes items m.code) ms → AllByRecursion (MethodStands (entries_of items) file) (map (assembled_method items) ms)
 methods_stand items file class [] pool like all h fits bytes = tt
 methods_stand items file class (m ∷ ms) pool like all h fits bytes =
     let parts = all_parts items (method_items m) (flat_map method_items ms) all in
@@ -215,7 +216,7 @@ class_number_stands items name pool all h =
 
 -- a listing of a text, whose sizes a class file has room for and whose code has bytes, has a class file
 pub class_file_stands : (items : List Item) (flags : ClassFlags) (l : ClassListing) → IsPool items → list_all is_well_formed items ≡ true → are_items_of items (listing_items l) ≡ true → is_spelled l ≡ true → listing_assembles l ≡ true
-    → flags.0 < 2 ^ 16 → are_class_flags flags.0 ≡ true → AreLike flags.0 l.flags.0 → AllByRecursion (λ m. HasBytes items m.code) l.methods → IsClass (class_of items flags l)
+    → flags.0 < 2 ^ 16 → are_class_flags flags.0 ≡ true → AreLike flags.0 l.flags.0 → AllByRecursion (λ m. HasBytes items m.code) l.methods → IsClass (class_with items flags l)
 unfolding is_spelled listing_assembles
 class_file_stands items flags l pool good all spelled fits small agree like bytes =
     let parts = listing_parts items l all in
@@ -232,14 +233,14 @@ class_file_stands items flags l pool good all spelled fits small agree like byte
     let m : length l.methods ≤ 65535 = leb-true (length l.methods) 65535 few_methods.1 in
     let f : length l.fields ≤ 65535 = leb-true (length l.fields) 65535 few_fields.1 in
     let i : length l.interfaces ≤ 65535 = leb-true (length l.interfaces) 65535 few_interfaces.1 in
-    let c = class_of items flags l in
+    let c = class_with items flags l in
     let head =
     head_stands c.head (pool_fits items pool good) (pool_is_sound items pool.closed good) small agree (class_number_stands items l.name pool parts.name name.1) (class_number_stands items l.superclass pool parts.superclass superclass.1)
     (omega (arith, i, length-map l.interfaces (λ n. number_of items (class_item n))))
     (all_stand (ClassStands (entries_of items)) (λ n. number_of items (class_item n)) is_class_name class_items items l.interfaces (λ n h g. class_number_stands items n pool h g) parts.interfaces interfaces.1)
     (omega (arith, f, length-map l.fields (numbered_field items)))
     (all_stand (FieldStands (entries_of items) flags.0) (numbered_field items) (field_is_spelled l.flags.0) field_items items l.fields (λ x h g. field_number_stands items flags.0 l.flags.0 x pool like h g) parts.fields fields.1) in
-    class_stands c head (omega (arith, m, length-map l.methods (method_of items))) (methods_stand items flags.0 l.flags.0 l.methods pool like parts.methods methods.1 few_interfaces.0 bytes)
+    class_stands c head (omega (arith, m, length-map l.methods (assembled_method items))) (methods_stand items flags.0 l.flags.0 l.methods pool like parts.methods methods.1 few_interfaces.0 bytes)
 
 -- what the flags of a text's listing are
 pub spelled_flags : (l : ClassListing) → is_spelled l ≡ true → (l.flags.0 < 2 ^ 16) × (are_class_flags l.flags.0 ≡ true) × (has l.flags.0 0x0020 ≡ false)

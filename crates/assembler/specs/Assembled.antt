@@ -43,10 +43,10 @@ assembled_method items m = record {
 abbrev pub file_flags : ClassFlags → ClassFlags
 file_flags flags = if has flags.0 0x0200 then flags else (record { 0 = bit_or flags.0 0x0020 })
 
--- a class file but its pool
-abbrev pub assembled_body : List Item → ClassListing → BodyPart
-assembled_body items l = record {
-  flags = file_flags l.flags;
+-- a class file but its pool, with these flags
+abbrev pub body_with : List Item → ClassFlags → ClassListing → BodyPart
+body_with items flags l = record {
+  flags = flags;
   class = class_number items l.name;
   superclass = class_number items l.superclass;
   interfaces = map (class_number items) l.interfaces;
@@ -54,9 +54,15 @@ assembled_body items l = record {
   methods = map (assembled_method items) l.methods;
 }
 
+abbrev pub class_with : List Item → ClassFlags → ClassListing → ClassPart
+class_with items flags l = made (entries_of items) (body_with items flags l)
+
+abbrev pub assembled_body : List Item → ClassListing → BodyPart
+assembled_body items l = body_with items (file_flags l.flags) l
+
 -- the class file of a listing
 abbrev pub assembled : List Item → ClassListing → ClassPart
-assembled items l = made (entries_of items) (assembled_body items l)
+assembled items l = class_with items (file_flags l.flags) l
 
 -- ---- a pool that grows
 
