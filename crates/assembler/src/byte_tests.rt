@@ -292,7 +292,8 @@ fn a_switch_has_10000_labels(rt: HostRuntime) -> Result<(), Fail> {
     text.push_str(".end method\n")?;
     let tree = read(alloc, text.as_str().as_bytes())?;
     let file = assemble(alloc, &tree)?;
-    let code = file.methods()[0].code.as_ref().ok_or("no code")?;
+    let method = file.methods().first().ok_or("no method")?;
+    let code = method.code.as_ref().ok_or("no code")?;
     // an int, pads of 2, the default, two bounds, 10,000 ways and as many instructions
     assert_eq!(rt;
         code.instructions.bytes().len(),
