@@ -12,7 +12,7 @@ mod tests;
 use crate::executing::execute;
 use crate::files::SystemFiles;
 use crate::options::{LineError, options};
-use std::io::Write;
+use std::io::{ErrorKind, Write};
 use std::process::ExitCode;
 use std::{env, io};
 
@@ -66,6 +66,21 @@ fn perform(rt: &HostRuntime) -> io::Result<u8> {
     }
 }
 
-fn main(rt: HostRuntime) -> io::Result<ExitCode> {
-    Ok(ExitCode::from(perform(&rt)?))
+/// The status where the words of the command line couldn't be had, for want of memory, or what is to say of them
+/// couldn't be written.
+fn failed(rt: &HostRuntime, error: &io::Error) -> u8 {
+    let line = match error.kind() {
+        ErrorKind::OutOfMemory => "memory",
+        _ => "cannot write -",
+    };
+    let _ = eprintln!(rt; "jvm: {line}");
+    6
+}
+
+fn main(rt: HostRuntime) -> ExitCode {
+    let status = match perform(&rt) {
+        Ok(status) => status,
+        Err(error) => failed(&rt, &error),
+    };
+    ExitCode::from(status)
 }
