@@ -116,8 +116,8 @@ method_twice : refusal_of (program_with (codes "X") (main ∷ []) ∷ []) ≡ na
 unfolding serves builtin_classes is_within has_builtin_name is_class_twice has_missing_parent has_wrong_parent is_on_cycle has_member_twice has_refused_member has_unresolved has_bad_row fields_within is_too_large first_past_limits refusal_of
 method_twice = refl
 
--- a class initializer
-class_initializer : refusal_of (program_with (codes "X") (method 8 (codes "<clinit>") (codes "()V") (code_of 0 0 Nop) ∷ []) ∷ []) ≡ names_class RefusedMember (codes "X")
+-- a class initializer that is no static one
+class_initializer : refusal_of (program_with (codes "X") (method 0 (codes "<clinit>") (codes "()V") (code_of 0 1 Nop) ∷ []) ∷ []) ≡ names_class RefusedMember (codes "X")
 unfolding serves builtin_classes is_within has_builtin_name is_class_twice has_missing_parent has_wrong_parent is_on_cycle has_member_twice has_refused_member has_unresolved has_bad_row fields_within is_too_large first_past_limits refusal_of
 class_initializer = refl
 

@@ -21,6 +21,7 @@ use Rattle.model.specs.Classes.Search.{Declared, upwards, with_superclasses, sup
 use Rattle.model.specs.Classes.Resolution.{method_of, resolved_method}
 use Rattle.model.specs.Callees.{callee_of}
 use Rattle.model.specs.Callees.Callee.{Own}
+use Rattle.model.specs.Initialisation.{is_initializer_if}
 use Rattle.model.specs.Programs.{is_member, builtin_of, method_at, is_static, is_main, main_in}
 use Rattle.model.specs.Frames.{int_on}
 use Rattle.model.specs.Printing.{decimal_line}
@@ -81,14 +82,17 @@ declared_there more o e = rw e refl
 found_there : (program : List ClassListing) (names more : List (List ℕ)) → names ≡ codes "vm/Sys" ∷ more → class_named program (codes "vm/Sys") ≡ Some sys → first_declared program (λ c. method_of (codes "print") (codes "(I)V") c) names ≡ Some (record { class = codes "vm/Sys"; member = static_method (codes "print") (codes "(I)V") })
 found_there program names more e named = rw e (declared_there (first_declared program (λ c. method_of (codes "print") (codes "(I)V") c) more) (class_named program (codes "vm/Sys")) named)
 
-pub print_callee : (program : List ClassListing) → listed program (codes "vm/Sys") ≡ None → callee_of program (resolved_method program print) ≡ Own PrintInt
+pub print_resolved : (program : List ClassListing) → listed program (codes "vm/Sys") ≡ None → resolved_method program print ≡ Some (record { class = codes "vm/Sys"; member = static_method (codes "print") (codes "(I)V") })
 unfolding print
-print_callee program none =
+print_resolved program none =
     let named = sys_named program none in
     let s : length program + 23 ≡ suc (length program + 22) = omega arith in
     let first : superclasses program (codes "vm/Sys") ≡ codes "vm/Sys" ∷ upwards (length program + 22) program sys.superclass = rw s (sys_first (length program + 22) program named) in
     let all = ap (λ (names : List (List ℕ)). names ++ flat_map (superinterfaces program) (superclasses program (codes "vm/Sys"))) first in
-    rw (found_there program (method_order program (codes "vm/Sys")) _ all named) refl
+    found_there program (method_order program (codes "vm/Sys")) _ all named
+
+print_callee : (program : List ClassListing) → listed program (codes "vm/Sys") ≡ None → callee_of program (resolved_method program print) ≡ Own PrintInt
+print_callee program none = ap (callee_of program) (print_resolved program none)
 
 -- the operand is tested when it is popped
 popped : (stack : List Value) (s : Site) (further : Completion) → further ≡ prints_on s decimal_line (int_on stack) → after_pops (fault_in_pops (IntKind ∷ []) stack) further ≡ prints_on s decimal_line (int_on stack)
@@ -127,13 +131,26 @@ passes_at : (p : Method → Bool) (ms : List Method) → position_or_len p ms < 
 passes_at p [] h = absurd (omega (arith, h))
 passes_at p (m ∷ ms) h = passes_on p m ms (p m) refl h (passes_at p ms)
 
-pub main_gives : (program : List ClassListing) (place : MethodPlace) → main_in program ≡ Some place → gives None (method_at program place) ≡ true
-main_gives [] place h = absurd (cc)
-main_gives (c ∷ cs) place h = go (nat_lt (position_or_len is_main c.methods) (length c.methods)) refl h
+-- what holds of every main method holds of the one at the place of main
+pub main_has : (P : Option Method → Type 0) → ((m : Method) → is_main m ≡ true → P (Some m)) → (program : List ClassListing) (place : MethodPlace) → main_in program ≡ Some place → P (method_at program place)
+main_has P all [] place h = absurd (cc)
+main_has P all (c ∷ cs) place h = go (nat_lt (position_or_len is_main c.methods) (length c.methods)) refl h
   where
-    go : (b : Bool) → nat_lt (position_or_len is_main c.methods) (length c.methods) ≡ b → option_map (λ (n : ℕ). let place : MethodPlace = record { class = 0; method = n } in place) (cond b (Some (position_or_len is_main c.methods)) None) ≡ Some place → gives None (method_at (c ∷ cs) place) ≡ true
+    go : (b : Bool) → nat_lt (position_or_len is_main c.methods) (length c.methods) ≡ b → option_map (λ (n : ℕ). let place : MethodPlace = record { class = 0; method = n } in place) (cond b (Some (position_or_len is_main c.methods)) None) ≡ Some place → P (method_at (c ∷ cs) place)
     go false e k = absurd (cc)
     go true e k =
         let there = passes_at is_main c.methods (ltb-true (position_or_len is_main c.methods) (length c.methods) e) in
         let at : place ≡ record { class = 0; method = position_or_len is_main c.methods } = cc in
-        rw (at, there.1) (main_gives_nothing there.0 there.2)
+        rw (at, there.1) (all there.0 there.2)
+
+pub main_gives : (program : List ClassListing) (place : MethodPlace) → main_in program ≡ Some place → gives None (method_at program place) ≡ true
+main_gives = main_has (λ (m : Option Method). gives None m ≡ true) main_gives_nothing
+
+-- main is no class initialiser
+main_initializes_nothing : (m : Method) → is_main m ≡ true → is_initializer_if (Some m) ≡ false
+main_initializes_nothing m h =
+    let named = (both (is_static m && is_some m.code) (bytes_eq m.name (codes "main")) (both (is_static m && is_some m.code && bytes_eq m.name (codes "main")) (bytes_eq m.descriptor (codes "()V")) h).0).1 in
+    ap (λ (name : List ℕ). bytes_eq name (codes "<clinit>")) ((bytes_eq-Decides m.name (codes "main")).0 named)
+
+pub main_initializes : (program : List ClassListing) (place : MethodPlace) → main_in program ≡ Some place → is_initializer_if (method_at program place) ≡ false
+main_initializes = main_has (λ (m : Option Method). is_initializer_if m ≡ false) main_initializes_nothing

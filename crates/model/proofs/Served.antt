@@ -1,8 +1,9 @@
 -- What the machine carries out so far, in the words of the instruction table: no such instruction asks for a cell, waits or
 -- throws, and main's return ends its thread.
-use Rattle.std.proofs.Common.{◌≡◌, ℕ, zero, suc, ℤ, List, [], ◌∷◌, Option, Some, None, Result, Ok, Err, Bool, true, false, is_none, nat_le, refl, ap, sym, ◌∙◌, subst}
-use Rattle.std.specs.Prelude.{codes, ◌&&◌, ◌==◌, not, cond, drop, filter, map, slice_get, if◌then◌else◌}
-use Rattle.std.specs.List.{find, list_all}
+use Rattle.std.proofs.Common.{◌≡◌, ℕ, zero, suc, ℤ, List, [], ◌∷◌, Option, Some, None, Result, Ok, Err, Bool, true, false, is_none, nat_le, refl, arith, le-ltb, ap, sym, ◌∙◌, subst}
+use Rattle.std.specs.Prelude.{codes, ◌+◌, ◌++◌, ◌&&◌, ◌==◌, not, cond, drop, filter, length, map, position, replicate, slice_get, slice_index_or, if◌then◌else◌}
+use Rattle.std.specs.List.{find, list_all, list_any, position_or_len}
+use Rattle.std.specs.Str.{bytes_eq}
 use Rattle.std.specs.Option.{option_and_then}
 use Rattle.model.specs.declared.names.Member.{Member}
 use Rattle.model.specs.declared.values.Value.{Value}
@@ -22,14 +23,21 @@ use Rattle.model.specs.declared.instructions.Instruction.TheVariants.{Nop, Const
 use Rattle.model.specs.declared.turns.Fault.{Fault}
 use Rattle.model.specs.declared.turns.Fault.TheVariants.{NoInstruction, StackFull}
 use Rattle.model.specs.declared.turns.Abrupt.{Abrupt}
+use Rattle.model.specs.declared.turns.ClassState.{ClassState}
+use Rattle.model.specs.declared.turns.ClassState.TheVariants.{Done}
+use Rattle.model.specs.declared.turns.Mark.TheVariants.{Unmarked}
 use Rattle.model.specs.declared.turns.Abrupt.TheVariants.{Fault as Faulted, Throw as Thrown}
 use Rattle.model.specs.ClassListings.{ClassListing}
-use Rattle.model.specs.Classes.Named.{listed}
 use Rattle.model.specs.CodeListings.{CodeListing}
-use Rattle.model.specs.Frames.{Frame, Moved, int_on, two_ints_on, push_all, replaced}
+use Rattle.model.specs.Frames.{Frame, Moved, running, int_on, two_ints_on, push_all, replaced}
 use Rattle.model.specs.Values.{units_of_all}
 use Rattle.model.specs.Classes.Flags.{is_static_field}
-use Rattle.model.specs.Programs.{builtin_of, code_at, instruction_of, main_in, method_at, placed_at}
+use Rattle.model.specs.Initialisation.{Chain, chain_if, chain_from, chain_of, declares_initializer, wants_initialising, state_if, first_claim, claimed_states, callers_waiting, main_frames, opening_frames}
+use Rattle.model.specs.Classes.Named.{is_named, listed, class_named, superclass_in, or_else}
+use Rattle.model.specs.Classes.Search.{Declared, superclasses}
+use Rattle.model.specs.Classes.Resolution.{resolved_method}
+use Rattle.model.specs.Table.Initialisation.{declarer, after_initialising}
+use Rattle.model.specs.Programs.{is_class_initializer, empty_initializer, method_in, builtin_of, code_at, instruction_of, main_in, method_at, placed_at}
 use Rattle.model.specs.Worlds.{World, frames_at, is_live, opening_slot, opening_slots, opening_slots_of, with_thread}
 use Rattle.model.specs.Worlds.Thread.{Ended}
 use Rattle.model.specs.Completions.{Completion, Site, asks, waits, frames_in, completes}
@@ -38,10 +46,11 @@ use Rattle.model.specs.Printing.{decimal_line}
 use Rattle.model.specs.Table.Builtins.{prints_on}
 use Rattle.model.specs.Table.Constants.{constant, constant_value}
 use Rattle.model.specs.Table.Numbers.{number, binary_on}
-use Rattle.model.specs.Table.Returns.{returned}
-use Rattle.model.specs.Table.Next.{Listed, by_family, at_instruction, completion, asked}
+use Rattle.model.specs.Monitors.{released}
+use Rattle.model.specs.Table.Returns.{initialised_if, left_world, returned}
+use Rattle.model.specs.Table.Next.{Listed, by_family, at_site, at_instruction, at_mark, at_frame, completion, asked}
 use Rattle.model.specs.Ready.{is_ready}
-use Rattle.model.proofs.OwnMethods.{print_called, main_gives}
+use Rattle.model.proofs.OwnMethods.{is_print, print_resolved, print_called, main_gives, main_initializes}
 use Rattle.model.specs.Served.{serves_number, serves_call, is_served, serves_rows, serves_code, serves_methods, serves_fields, serves, ServedProgram}
 
 -- ---- the cases of what is served
@@ -125,15 +134,49 @@ pub record IsInMain (s : Site) : Type 0 where
   pub alone : frames_in s ≡ s.frame ∷ []
   pub main_is : main_in s.program ≡ Some s.frame.method
   pub unlocked : s.frame.monitor ≡ None
+  pub unmarked : s.frame.mark ≡ Unmarked
   pub unhidden : listed s.program (codes "vm/Sys") ≡ None
+
+main_leaves : (s : Site) → IsInMain s → left_world s ≡ s.world
+main_leaves s main =
+    ap (initialised_if (released s.world s.thread s.frame.monitor) s.frame.method.class) (main_initializes s.program s.frame.method main.main_is)
+    ∙ ap (released s.world s.thread) main.unlocked
 
 -- main's return ends the thread
 pub returned_is : (s : Site) → IsInMain s → returned s None ≡ Goes (with_thread s.world s.thread (Ended None)) []
-returned_is s main = rw (main_gives s.program s.frame.method main.main_is, main.alone, main.unlocked) refl
+returned_is s main =
+    rw (main_gives s.program s.frame.method main.main_is, main.alone)
+    (ap (λ (w : World). Goes (with_thread w s.thread (Ended None)) []) (main_leaves s main))
 
 -- a call of the machine's print prints
 pub printed_is : (s : Site) (m : Member) → builtin_of m ≡ Some PrintInt → listed s.program (codes "vm/Sys") ≡ None → by_family s (Invoke Static m) ≡ prints_on s decimal_line (int_on s.frame.stack)
 printed_is s m e none = print_called s m e none
+
+-- a class that isn't of the program needs no initialisation, and neither does any other instruction that is served
+find-position : {A : Type 0} (p : A → Bool) (xs : List A) → find p xs ≡ None → position_or_len p xs ≡ length xs
+find-position p [] e = refl
+find-position p (x ∷ xs) e = go (find-position p xs) (p x) refl e
+  where
+    go : (find p xs ≡ None → position_or_len p xs ≡ length xs) → (b : Bool) → p x ≡ b → cond b (Some x) (find p xs) ≡ None → position_or_len p (x ∷ xs) ≡ suc (length xs)
+    go later true s k = absurd (cc)
+    go later false s k = ap (λ (b : Bool). cond (not b) (1 + position_or_len p xs) 0) s ∙ ap (λ (n : ℕ). 1 + n) (later k) ∙ omega arith
+
+unplaced : (program : List ClassListing) (name : List ℕ) → listed program name ≡ None → position (is_named name) program ≡ None
+unplaced program name e = rw (find-position (is_named name) program e, le-ltb (length program) (length program) (omega arith)) refl
+
+unlisted_used : (s : Site) (name : List ℕ) (own : Completion) → listed s.program name ≡ None → after_initialising s (Some name) own ≡ own
+unlisted_used s name own e = rw (unplaced s.program name e) refl
+
+print_used : (program : List ClassListing) (m : Member) → builtin_of m ≡ Some PrintInt → listed program (codes "vm/Sys") ≡ None → declarer (resolved_method program m) ≡ Some (codes "vm/Sys")
+print_used program m named none =
+    ap (λ (m : Member). declarer (resolved_method program m)) (is_print m named)
+    ∙ ap (λ (found : Option (Declared Method)). declarer found) (print_resolved program none)
+
+pub at_site_is : (s : Site) → listed s.program (codes "vm/Sys") ≡ None → (i : Listed) → is_served i ≡ true → at_site s i ≡ by_family s i
+at_site_is s none i e =
+    served_cases (λ (i : Listed). at_site s i ≡ by_family s i) refl (λ c. refl) refl refl
+    (λ m named. ap (λ (class : Option (List ℕ)). after_initialising s class (by_family s (Invoke Static m))) (print_used s.program m named none)
+    ∙ unlisted_used s (codes "vm/Sys") (by_family s (Invoke Static m)) none) i e
 
 -- neither asks for a cell nor waits
 abbrev pub IsQuiet : Completion → Type 0
@@ -186,12 +229,22 @@ methods_served : (c : ClassListing) → serves c ≡ true → serves_methods c.m
 unfolding serves
 methods_served c e = (both (serves_fields c.fields) (serves_methods c.methods) e).1
 
+-- so is the initialiser of a class that declares none
+empty_served : (b : Bool) (m : Method) → cond b (Some empty_initializer) None ≡ Some m → serves_code m.code ≡ true
+empty_served true m e = let s : empty_initializer ≡ m = cc in ap (λ (m : Method). serves_code m.code) (sym s)
+empty_served false m e = absurd (cc)
+
+method_served : (c : ClassListing) (n : ℕ) (m : Method) → serves c ≡ true → (o : Option Method) → slice_get c.methods n ≡ o → or_else o (cond (n == length c.methods) (Some empty_initializer) None) ≡ Some m → serves_code m.code ≡ true
+method_served c n m served None at e = empty_served (n == length c.methods) m e
+method_served c n m served (Some x) at e =
+    let s : x ≡ m = cc in
+    (both (not (is_class_initializer m)) (serves_code m.code) (all-at (λ (m : Method). not (is_class_initializer m) && serves_code m.code) c.methods n m (methods_served c served) (at ∙ ap Some s))).1
+
 code_served : (program : List ClassListing) (place : MethodPlace) (code : CodeListing) → list_all serves program ≡ true → code_at program place ≡ Some code → serves_code (Some code) ≡ true
 code_served program place code served there =
     let m = and_then-some (λ (m : Method). m.code) (method_at program place) code there in
-    let c = and_then-some (λ (c : ClassListing). slice_get c.methods place.method) (slice_get program place.class) m.0 m.1 in
-    ap serves_code (sym m.2)
-    ∙ all-at (λ (m : Method). serves_code m.code) c.0.methods place.method m.0 (methods_served c.0 (all-at serves program place.class c.0 served c.1)) c.2
+    let c = and_then-some (λ (c : ClassListing). method_in c place.method) (slice_get program place.class) m.0 m.1 in
+    ap serves_code (sym m.2) ∙ method_served c.0 place.method m.0 (all-at serves program place.class c.0 served c.1) (slice_get c.0.methods place.method) refl c.2
 
 pub instruction_served : (program : List ClassListing) (f : Frame) (i : Placed) → list_all serves program ≡ true → instruction_of program f ≡ Some i → is_served i.instruction ≡ true
 instruction_served program f i served there =
@@ -207,27 +260,31 @@ pub record IsAtMain (program : List ClassListing) (w : World) (t : ℕ) (f : Fra
   pub alone : frames_at w t ≡ f ∷ []
   pub main_is : main_in program ≡ Some f.method
   pub unlocked : f.monitor ≡ None
+  pub unmarked : f.mark ≡ Unmarked
 
 abbrev site_at : List ClassListing → World → ℕ → Frame → ℕ → Site
 site_at program w t f n = record { program = program; world = w; thread = t; frame = f; next = n }
 
 in_main : (program : List ClassListing) (w : World) (t : ℕ) (f : Frame) (n : ℕ) → IsAtMain program w t f → IsInMain (site_at program w t f n)
-in_main program w t f n at = record { alone = at.alone; main_is = at.main_is; unlocked = at.unlocked; unhidden = at.served.unhidden }
+in_main program w t f n at = record { alone = at.alone; main_is = at.main_is; unlocked = at.unlocked; unmarked = at.unmarked; unhidden = at.served.unhidden }
 
 -- what it comes to
-pub completion-main : (program : List ClassListing) (w : World) (t : ℕ) (f : Frame) → frames_at w t ≡ f ∷ [] → completion program w t ≡ at_instruction program w t f (instruction_of program f)
+pub completion-main : (program : List ClassListing) (w : World) (t : ℕ) (f : Frame) → frames_at w t ≡ f ∷ [] → f.mark ≡ Unmarked → completion program w t ≡ at_instruction program w t f (instruction_of program f)
 unfolding completion
-completion-main program w t f e = rw e
+completion-main program w t f e unmarked = ap (λ (frames : List Frame). at_frame program w t (running frames)) e ∙ ap (at_mark program w t f) unmarked
 
 completion-none : (program : List ClassListing) (w : World) (t : ℕ) → frames_at w t ≡ [] → completion program w t ≡ Faults NoInstruction
 unfolding completion
 completion-none program w t e = rw e
 
 pub main-quiet : (program : List ClassListing) (w : World) (t : ℕ) (f : Frame) → IsAtMain program w t f → IsQuiet (completion program w t)
-main-quiet program w t f at = subst IsQuiet (sym (completion-main program w t f at.alone)) (by_instruction (instruction_of program f) refl) where
+main-quiet program w t f at = subst IsQuiet (sym (completion-main program w t f at.alone at.unmarked)) (by_instruction (instruction_of program f) refl) where
   by_instruction : (i : Option Placed) → instruction_of program f ≡ i → IsQuiet (at_instruction program w t f i)
   by_instruction None e = (refl, refl)
-  by_instruction (Some i) e = family-quiet (site_at program w t f i.next) (in_main program w t f i.next at) i.instruction (instruction_served program f i at.served.code e)
+  by_instruction (Some i) e =
+      let s = site_at program w t f i.next in
+      let served = instruction_served program f i at.served.code e in
+      subst IsQuiet (sym (at_site_is s at.served.unhidden i.instruction served)) (family-quiet s (in_main program w t f i.next at) i.instruction served)
 
 pub none-quiet : (program : List ClassListing) (w : World) (t : ℕ) → frames_at w t ≡ [] → IsQuiet (completion program w t)
 none-quiet program w t e = subst IsQuiet (sym (completion-none program w t e)) (refl, refl)
@@ -267,3 +324,47 @@ opening_slots-none [] e = refl
 opening_slots-none (c ∷ cs) e =
     let one = both (serves c) (list_all serves cs) e in
     rw (slots-none c one.0) (opening_slots-none cs one.1)
+
+-- ---- a program that is served has no class to initialise
+
+declares_none : (methods : List Method) → serves_methods methods ≡ true → list_any is_class_initializer methods ≡ false
+declares_none [] e = refl
+declares_none (m ∷ ms) e =
+    let parts = both (not (is_class_initializer m) && serves_code m.code) (serves_methods ms) e in
+    let one = both (not (is_class_initializer m)) (serves_code m.code) parts.0 in
+    rw (not-false (is_class_initializer m) one.0) (declares_none ms parts.1)
+
+wants_none : (program cs : List ClassListing) (c : ClassListing) → list_all serves cs ≡ true → list_any (λ (above : ClassListing). declares_initializer above && list_any (bytes_eq above.name) (superclasses program c.name)) cs ≡ false
+wants_none program [] c e = refl
+wants_none program (x ∷ xs) c e =
+    let parts = both (serves x) (list_all serves xs) e in rw (declares_none x.methods (methods_served x parts.0)) (wants_none program xs c parts.1)
+
+states-done : (program cs : List ClassListing) → list_all serves program ≡ true → map (λ c. state_if (wants_initialising program c)) cs ≡ replicate (length cs) Done
+states-done program [] e = refl
+states-done program (c ∷ cs) e = rw (wants_none program program c e) (ap (λ (states : List ClassState). Done ∷ states) (states-done program cs e))
+
+done-at : (n k : ℕ) → slice_index_or (replicate n Done) k Done ≡ Done
+done-at zero k = refl
+done-at (suc n) zero = refl
+done-at (suc n) (suc k) = done-at n k
+
+-- no class is unused
+chain-ends : (n : ℕ) (class : Option ℕ) (further : Chain) → (chain_if (replicate n Done) class further).unused ≡ []
+chain-ends n None further = refl
+chain-ends n (Some class) further = rw (done-at n class) refl
+
+first_claim-none : (program : List ClassListing) → list_all serves program ≡ true → first_claim program ≡ []
+first_claim-none [] e = refl
+first_claim-none (c ∷ cs) e =
+    ap (λ (states : List ClassState). (chain_of (c ∷ cs) states c.name).unused) (states-done (c ∷ cs) (c ∷ cs) e)
+    ∙ chain-ends (suc (length cs)) (position (is_named c.name) (c ∷ cs)) (chain_from (c ∷ cs) (replicate (suc (length cs)) Done) (superclasses (c ∷ cs) (superclass_in (class_named (c ∷ cs) c.name))))
+
+pub claimed-done : (program : List ClassListing) → list_all serves program ≡ true → claimed_states program ≡ replicate (length program) Done
+claimed-done program e = rw (first_claim-none program e) (states-done program program e)
+
+one-alone : (main : List Frame) (f : Frame) → main ≡ f ∷ [] → callers_waiting (main ++ []) ≡ f ∷ []
+one-alone main f e = rw e refl
+
+-- main's frame alone
+pub main-alone : (program : List ClassListing) (f : Frame) → list_all serves program ≡ true → main_frames program (main_in program) ≡ f ∷ [] → opening_frames program ≡ f ∷ []
+main-alone program f e main = rw (first_claim-none program e) (one-alone (main_frames program (main_in program)) f main)

@@ -1,7 +1,8 @@
 use Rattle.std.specs.Prelude.{ℕ, List, Bool, true, false, Option, Some, None, Result, Ok, Err}
+use Rattle.model.specs.declared.turns.ClassState.{ClassState}
 use Rattle.model.specs.declared.turns.Fault.{Fault}
 use Rattle.model.specs.declared.turns.Exception.{Exception}
-use Rattle.model.specs.declared.turns.Exception.TheVariants.{Arithmetic, NullPointer, ClassCast, NegativeArraySize, ArrayStore, IllegalMonitorState, ArrayIndexOutOfBounds, IllegalThreadState, StackOverflow}
+use Rattle.model.specs.declared.turns.Exception.TheVariants.{Arithmetic, NullPointer, ClassCast, NegativeArraySize, ArrayStore, IllegalMonitorState, ArrayIndexOutOfBounds, IllegalThreadState, StackOverflow, ExceptionInInitializer, NoClassDefFound}
 use Rattle.model.specs.declared.turns.Abrupt.{Abrupt}
 use Rattle.model.specs.declared.turns.Abrupt.TheVariants.{Fault as Faulted, Throw}
 use Rattle.model.specs.ClassListings.{ClassListing}
@@ -22,6 +23,9 @@ pub data Completion : Type 0 where
   Throws : (birth : ℕ) → Completion
   -- an exception that the machine makes, and for which it asks for a cell
   Raises : (exception : Exception) → Completion
+  -- a class that can't be used, as its initialisation failed: a NoClassDefFoundError, for which the machine asks for a cell,
+  -- and the class states with it
+  Denies : (states : List ClassState) → Completion
   Faults : (fault : Fault) → Completion
   -- the thread waits, for a monitor or for a thread's end
   Waits : Completion
@@ -35,6 +39,7 @@ asks (Prints after bytes) = None
 asks (Creates next taken contents) = Some (words_in contents)
 asks (Throws birth) = None
 asks (Raises exception) = Some 0
+asks (Denies states) = Some 0
 asks (Faults fault) = None
 asks Waits = None
 
@@ -44,6 +49,7 @@ prints (Prints after bytes) = Some bytes
 prints (Creates next taken contents) = None
 prints (Throws birth) = None
 prints (Raises exception) = None
+prints (Denies states) = None
 prints (Faults fault) = None
 prints Waits = None
 
@@ -53,6 +59,7 @@ waits (Prints after bytes) = false
 waits (Creates next taken contents) = false
 waits (Throws birth) = false
 waits (Raises exception) = false
+waits (Denies states) = false
 waits (Faults fault) = false
 waits Waits = true
 
@@ -89,6 +96,8 @@ raises IllegalMonitorState = Raises IllegalMonitorState
 raises ArrayIndexOutOfBounds = Raises ArrayIndexOutOfBounds
 raises IllegalThreadState = Raises IllegalThreadState
 raises StackOverflow = Throws 2
+raises ExceptionInInitializer = Raises ExceptionInInitializer
+raises NoClassDefFound = Raises NoClassDefFound
 
 abbrev pub completes_abruptly : Abrupt → Completion
 completes_abruptly (Faulted fault) = Faults fault

@@ -55,6 +55,10 @@ units_of_frames (f ∷ fs) = length f.locals + f.room + units_of_frames fs
 abbrev pub has_room_for : List Frame → ℕ → ℕ → Bool
 has_room_for frames max_locals max_stack = nat_lt (length frames) 256 && nat_le (units_of_frames frames + max_locals + max_stack) 4096
 
+-- the same of all of a thread's frames
+abbrev pub within_limits : List Frame → Bool
+within_limits frames = nat_le (length frames) 256 && nat_le (units_of_frames frames) 4096
+
 -- ---- what an instruction finds on a stack: the operands from the top, each tested when it is popped
 
 abbrev pub top_of : List Value → Result Value Fault

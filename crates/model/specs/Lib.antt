@@ -13,6 +13,7 @@ pub mod Effects
 pub mod Faults
 pub mod Frames
 pub mod Heaps
+pub mod Initialisation
 pub mod Journals
 pub mod Limits
 pub mod Locals

@@ -1,4 +1,4 @@
-use Rattle.std.specs.Prelude.{ℕ, List, [], ◌∷◌, slice_get, Option, Some, None, is_some, Bool, ◌&&◌, ◌==◌, codes, cond, position, bit_and}
+use Rattle.std.specs.Prelude.{ℕ, List, [], ◌∷◌, length, slice_get, Option, Some, None, is_some, Bool, ◌&&◌, ◌==◌, codes, cond, position, bit_and}
 use Rattle.std.specs.Option.{option_map, option_and_then}
 use Rattle.std.specs.Str.{bytes_eq}
 use Rattle.std.specs.List.{find}
@@ -9,7 +9,8 @@ use Rattle.model.specs.declared.builtins.Builtin.{Builtin}
 use Rattle.model.specs.declared.builtins.Builtin.TheVariants.{PrintInt, PrintLong, PutByte, Initialize, RunThread, StartThread, JoinThread}
 use Rattle.model.specs.CodeListings.{CodeListing}
 use Rattle.model.specs.ClassListings.{ClassListing}
-use Rattle.model.specs.Classes.Named.{builtin}
+use Rattle.model.specs.declared.instructions.Instruction.TheVariants.{Return}
+use Rattle.model.specs.Classes.Named.{builtin, or_else}
 use Rattle.model.specs.declared.places.MethodPlace.{MethodPlace}
 use Rattle.model.specs.Frames.{Frame}
 
@@ -17,8 +18,25 @@ use Rattle.model.specs.Frames.{Frame}
 
 -- ---- methods by their places
 
+-- a class initialiser (JVMS 2.9)
+abbrev pub is_class_initializer : Method → Bool
+is_class_initializer m = bytes_eq m.name (codes "<clinit>")
+
+-- the initialiser of a class that declares none: a `return`, with limits 0
+abbrev pub empty_initializer : Method
+empty_initializer = record {
+  flags = record { 0 = 8 };
+  name = codes "<clinit>";
+  descriptor = codes "()V";
+  code = Some (record { max_stack = 0; max_locals = 0; rows = []; instructions = record { pc = 0; next = 1; instruction = Return None } ∷ [] });
+}
+
+-- past the last method of a class stands its empty initialiser
+abbrev pub method_in : ClassListing → ℕ → Option Method
+method_in c n = or_else (slice_get c.methods n) (cond (n == length c.methods) (Some empty_initializer) None)
+
 abbrev pub method_at : List ClassListing → MethodPlace → Option Method
-method_at program place = option_and_then (λ (c : ClassListing). slice_get c.methods place.method) (slice_get program place.class)
+method_at program place = option_and_then (λ (c : ClassListing). method_in c place.method) (slice_get program place.class)
 
 abbrev pub code_at : List ClassListing → MethodPlace → Option CodeListing
 code_at program place = option_and_then (λ (m : Method). m.code) (method_at program place)

@@ -23,7 +23,7 @@ use Rattle.model.specs.CodeListings.{CodeListing}
 use Rattle.model.specs.ClassListings.{ClassListing}
 use Rattle.model.specs.Classes.Flags.{is_static_field}
 use Rattle.model.specs.Classes.Named.{listed}
-use Rattle.model.specs.Programs.{builtin_of}
+use Rattle.model.specs.Programs.{builtin_of, is_class_initializer}
 use Rattle.model.specs.Table.Next.{Listed}
 
 -- What the machine carries out so far. A class with anything else is refused, so that no program meets a case of the
@@ -116,14 +116,15 @@ abbrev pub serves_code : Option CodeListing → Bool
 serves_code None = true
 serves_code (Some code) = serves_rows code.rows && list_all (λ (i : Placed). is_served i.instruction) code.instructions
 
+-- no class is initialised
 abbrev pub serves_methods : List Method → Bool
-serves_methods methods = list_all (λ (m : Method). serves_code m.code) methods
+serves_methods methods = list_all (λ (m : Method). not (is_class_initializer m) && serves_code m.code) methods
 
 -- no static fields
 abbrev pub serves_fields : List FieldListing → Bool
 serves_fields fields = list_all (λ (f : FieldListing). not (is_static_field f)) fields
 
--- the machine carries out all code of the class, and the class has no static field
+-- the machine carries out all code of the class, and the class has no static field and no initialiser
 unfoldable pub serves : ClassListing → Bool
 serves c = serves_fields c.fields && serves_methods c.methods
 

@@ -4,6 +4,7 @@ pub mod Branches
 pub mod Builtins
 pub mod Constants
 pub mod Fields
+pub mod Initialisation
 pub mod Invokes
 pub mod Locals
 pub mod Monitors

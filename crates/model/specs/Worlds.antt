@@ -7,12 +7,9 @@ use Rattle.model.specs.declared.values.Value.{Value}
 use Rattle.model.specs.declared.values.Value.TheVariants.{Int, Long}
 use Rattle.model.specs.declared.turns.Fault.{Fault}
 use Rattle.model.specs.declared.turns.ClassState.{ClassState}
-use Rattle.model.specs.declared.turns.ClassState.TheVariants.{Done as Initialised}
-use Rattle.model.specs.CodeListings.{CodeListing}
 use Rattle.model.specs.ClassListings.{ClassListing}
-use Rattle.model.specs.declared.places.MethodPlace.{MethodPlace}
-use Rattle.model.specs.Frames.{Frame, opening_frame}
-use Rattle.model.specs.Programs.{main_in, code_at}
+use Rattle.model.specs.Frames.{Frame, within_limits}
+use Rattle.model.specs.Initialisation.{opening_frames, claimed_states}
 use Rattle.model.specs.Classes.Flags.{is_static_field}
 use Rattle.model.specs.Stores.{Storage, default_in, kept, storage_of}
 
@@ -89,6 +86,9 @@ with_thread w t thread = record w { threads = slice_set w.threads t thread }
 abbrev pub with_fault : World → ℕ → Fault → World
 with_fault w t fault = record w { fault = Some (fault, t) }
 
+abbrev pub with_class_states : World → List ClassState → World
+with_class_states w states = record w { statics = record { fields = w.statics.fields; states = states } }
+
 abbrev pub with_output : World → List ℕ → World
 with_output w output = record w { output = output }
 
@@ -106,18 +106,6 @@ plain_object class = record { contents = Instance class []; monitor = free_monit
 -- birth 1 is thrown where no cell has room, birth 2 where no frame has
 abbrev pub opening_objects : List Object
 opening_objects = plain_object [] ∷ plain_object (codes "java/lang/OutOfMemoryError") ∷ plain_object (codes "java/lang/StackOverflowError") ∷ []
-
--- main runs, in a frame at its start
-abbrev pub opening_frames : List ClassListing → Option MethodPlace → List Frame
-opening_frames program None = []
-opening_frames program (Some place) = framed place (code_at program place) where
-  framed : MethodPlace → Option CodeListing → List Frame
-  framed place None = []
-  framed place (Some code) = opening_frame place code.max_locals code.max_stack ∷ []
-
-abbrev pub states_of : List ClassListing → List ClassState
-states_of [] = []
-states_of (c ∷ cs) = Initialised ∷ states_of cs
 
 -- what a static field holds at first (JVMS 4.7.2, 5.5): its constant, as a store keeps it, or else null or 0
 abbrev pub opening_value : Storage → Option Constant → Value
@@ -140,13 +128,17 @@ opening_slots_of c = map (opening_slot c.name) (filter is_static_field c.fields)
 abbrev pub opening_slots : List ClassListing → List FieldValue
 opening_slots program = flat_map opening_slots_of program
 
--- thread 0 stands at the start of main
+-- thread 0 stands at the start of main, or of the initialiser that main's class wants first
 abbrev pub opening_world : List ClassListing → World
 opening_world program = record {
-  threads = Live (opening_frames program (main_in program)) ∷ [];
-  statics = record { fields = opening_slots program; states = states_of program };
+  threads = Live (opening_frames program) ∷ [];
+  statics = record { fields = opening_slots program; states = claimed_states program };
   output = [];
   objects = opening_objects;
   fault = None;
   rows = 0;
 }
+
+-- the frames with which thread 0 opens lie within a thread's limits, else the world is refused: P4
+abbrev pub opening_fits : List ClassListing → Bool
+opening_fits program = within_limits (opening_frames program)

@@ -113,6 +113,8 @@ pub enum Exception {
     ArrayIndexOutOfBounds,
     IllegalThreadState,
     StackOverflow,
+    ExceptionInInitializer,
+    NoClassDefFound,
 }
 
 /// Why an instruction completes abruptly (JVMS 2.6.5): a fault, or an exception that the machine makes.

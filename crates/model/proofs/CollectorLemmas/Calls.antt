@@ -41,7 +41,7 @@ arguments_may P (Int z ∷ vs) h = (h.0, arguments_may P vs h.1)
 arguments_may P (Long z ∷ vs) h = (h.0, (λ b e. absurd (cc), arguments_may P vs h.1))
 arguments_may P (Ref r ∷ vs) h = (h.0, arguments_may P vs h.1)
 
-unset_may : (P : ℕ → Type 0) (n : ℕ) → AllMay P (map entry_ref (replicate n Unset))
+pub unset_may : (P : ℕ → Type 0) (n : ℕ) → AllMay P (map entry_ref (replicate n Unset))
 unset_may P zero = tt
 unset_may P (suc n) = (λ b e. absurd (cc), unset_may P n)
 

@@ -2,16 +2,18 @@ use Rattle.std.proofs.Common.{◌≡◌, ◌⊎◌, inl, inr, ℕ, ◌+◌, Bool
 use Rattle.std.proofs.lemmas.List.{length-append}
 use Rattle.model.specs.declared.values.Value.TheVariants.{Ref}
 use Rattle.model.specs.declared.turns.Fault.TheVariants.{NoInstruction, StackFull}
+use Rattle.model.specs.declared.turns.ClassState.{ClassState}
 use Rattle.model.specs.declared.turns.Exception.{Exception}
+use Rattle.model.specs.declared.turns.Exception.TheVariants.{NoClassDefFound}
 use Rattle.model.specs.ClassListings.{ClassListing}
 use Rattle.model.specs.Classes.Exceptions.{exception_class}
 use Rattle.model.specs.Values.{units_of_all}
 use Rattle.model.specs.Frames.{Frame, running, with_running, push_all, replaced, replaced_if_room}
-use Rattle.model.specs.Worlds.{World, Contents, frames_at, next_birth, plain_object}
+use Rattle.model.specs.Worlds.{World, Contents, frames_at, next_birth, with_class_states, plain_object}
 use Rattle.model.specs.Worlds.Thread.{Live}
 use Rattle.model.specs.Objects.{made_of, with_new, words_in}
 use Rattle.model.specs.Completions.{Completion, asks}
-use Rattle.model.specs.Completions.Completion.{Goes, Prints, Creates, Throws, Raises, Faults, Waits}
+use Rattle.model.specs.Completions.Completion.{Goes, Prints, Creates, Throws, Raises, Denies, Faults, Waits}
 use Rattle.model.specs.Effects.{Choice, created_with, created_on, created, raised, effect_of}
 use Rattle.model.specs.Effects.Choice.{NewObject, NoRoom}
 use Rattle.model.specs.Collector.Places.{contents_refs, slots_of}
@@ -21,7 +23,7 @@ use Rattle.model.specs.Collector.Moves.Lawful.{faults, moves}
 use Rattle.model.proofs.CollectorLemmas.Moving.{AllMay, refs_same, frames_set, threads_same, threads_set, objects_same, objects_more}
 use Rattle.model.proofs.CollectorLemmas.Known.{memory_error_known}
 use Rattle.model.proofs.CollectorLemmas.Stepping.{replaced_moves}
-use Rattle.model.proofs.CollectorLemmas.Unwinding.{Kept, thrown_lawful}
+use Rattle.model.proofs.CollectorLemmas.Unwinding.{Kept, states_keep, thrown_lawful}
 
 -- what an instruction comes to is lawful, whatever is chosen
 
@@ -59,7 +61,7 @@ created_on_lawful w t next taken contents (Some f) e h = created_if_room w t nex
 -- ---- something is thrown that is there
 
 there : (w : World) (P : ℕ → Type 0) → Kept P w (next_birth w) w
-there w P = record { fault = refl; rows = refl; threads = refl; statics = refl; made = refl; objects = objects_same P w.objects }
+there w P = record { fault = refl; rows = refl; threads = refl; fields = refl; made = refl; objects = objects_same P w.objects }
 
 no_room_lawful : (program : List ClassListing) (w : World) (t : ℕ) → Lawful w None (effect_of program w t NewObject (Throws 1))
 no_room_lawful program w t = thrown_lawful program w w None t 1 refl (inr (memory_error_known w)) (there w)
@@ -70,19 +72,22 @@ created_lawful program w t next taken contents NoRoom h = no_room_lawful program
 
 -- ---- an exception is made and thrown
 
-one_more : (w : World) (class : List ℕ) (P : ℕ → Type 0) → Kept P w (next_birth w + 1) (with_new w (plain_object class))
-one_more w class P = record {
+-- the class states may differ
+one_more : (w : World) (states : List ClassState) (class : List ℕ) (P : ℕ → Type 0) → Kept P w (next_birth w + 1) (with_new (with_class_states w states) (plain_object class))
+one_more w states class P = record {
   fault = refl;
   rows = refl;
   threads = refl;
-  statics = refl;
+  fields = refl;
   made = length-append w.objects (plain_object class ∷ []);
   objects = objects_more P w.objects (plain_object class) tt;
 }
 
-raised_lawful : (program : List ClassListing) (w : World) (t : ℕ) (exception : Exception) (choice : Choice) → Lawful w (object_of choice (Some 0)) (raised program w t exception choice)
-raised_lawful program w t exception NewObject = thrown_lawful program w (with_new w (plain_object (exception_class exception))) (Some 0) t (next_birth w) refl (inl refl) (one_more w (exception_class exception))
-raised_lawful program w t exception NoRoom = no_room_lawful program w t
+raised_lawful : (program : List ClassListing) (w : World) (states : List ClassState) (t : ℕ) (exception : Exception) (choice : Choice) → Lawful w (object_of choice (Some 0)) (raised program w (with_class_states w states) t exception choice)
+raised_lawful program w states t exception NewObject =
+    thrown_lawful program w (with_new (with_class_states w states) (plain_object (exception_class exception))) (Some 0) t (next_birth w) refl (inl refl) (one_more w states (exception_class exception))
+raised_lawful program w states t exception NoRoom =
+    thrown_lawful program w (with_class_states w states) None t 1 refl (inr (memory_error_known w)) (λ P. states_keep P w w (next_birth w) states (there w P))
 
 -- ---- whatever an instruction comes to
 
@@ -103,7 +108,8 @@ effect_lawful program w t choice (Goes after writes) h = rw (none_made choice) (
 effect_lawful program w t choice (Prints after bytes) h = rw (none_made choice) (moves h.fault h.rows (printed_moves w after (after.output ++ bytes) h.moves))
 effect_lawful program w t choice (Creates next taken contents) h = created_lawful program w t next taken contents choice h
 effect_lawful program w t choice (Throws birth) h = rw (none_made choice) (thrown_lawful program w w None t birth refl (inr h) (there w))
-effect_lawful program w t choice (Raises exception) h = raised_lawful program w t exception choice
+effect_lawful program w t choice (Raises exception) h = raised_lawful program w w.statics.states t exception choice
+effect_lawful program w t choice (Denies states) h = raised_lawful program w states t NoClassDefFound choice
 effect_lawful program w t choice (Faults fault) h = faults t fault refl
 effect_lawful program w t choice Waits h = rw (none_made choice) (moves refl refl (nothing_moves w))
 
@@ -115,5 +121,6 @@ effect-choice program w t a b (Prints after bytes) e = refl
 effect-choice program w t a b (Creates next taken contents) e = absurd (cc)
 effect-choice program w t a b (Throws birth) e = refl
 effect-choice program w t a b (Raises exception) e = absurd (cc)
+effect-choice program w t a b (Denies states) e = absurd (cc)
 effect-choice program w t a b (Faults fault) e = refl
 effect-choice program w t a b Waits e = refl

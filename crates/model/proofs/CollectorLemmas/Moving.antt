@@ -10,21 +10,21 @@ use Rattle.model.specs.Collector.Moves.{RefMoves, RefsMove, FrameMoves, FramesMo
 
 -- ---- from recursion to places
 
-refs-at : (P : ℕ → Type 0) (rs ss : List (Option ℕ)) (k b : ℕ) → RefsMove P rs ss → ref_at ss k ≡ Some b → (ref_at rs k ≡ Some b) ⊎ P b
+pub refs-at : (P : ℕ → Type 0) (rs ss : List (Option ℕ)) (k b : ℕ) → RefsMove P rs ss → ref_at ss k ≡ Some b → (ref_at rs k ≡ Some b) ⊎ P b
 refs-at P rs [] k b h e = absurd (cc)
 refs-at P [] (s ∷ ss) zero b h e = h.0 b e
 refs-at P [] (s ∷ ss) (suc k) b h e = refs-at P [] ss k b h.1 e
 refs-at P (r ∷ rs) (s ∷ ss) zero b h e = h.0 b e
 refs-at P (r ∷ rs) (s ∷ ss) (suc k) b h e = refs-at P rs ss k b h.1 e
 
-entries-at : (P : ℕ → Type 0) (fs gs : List Frame) (d : ℕ) → FramesMove P fs gs → RefsMove P (entries_at fs d) (entries_at gs d)
+pub entries-at : (P : ℕ → Type 0) (fs gs : List Frame) (d : ℕ) → FramesMove P fs gs → RefsMove P (entries_at fs d) (entries_at gs d)
 entries-at P fs [] d h = tt
 entries-at P [] (g ∷ gs) zero h = h.0
 entries-at P [] (g ∷ gs) (suc d) h = entries-at P [] gs d h.2
 entries-at P (f ∷ fs) (g ∷ gs) zero h = h.0
 entries-at P (f ∷ fs) (g ∷ gs) (suc d) h = entries-at P fs gs d h.2
 
-monitor-at : (P : ℕ → Type 0) (fs gs : List Frame) (d : ℕ) → FramesMove P fs gs → RefMoves P (monitor_at fs d) (monitor_at gs d)
+pub monitor-at : (P : ℕ → Type 0) (fs gs : List Frame) (d : ℕ) → FramesMove P fs gs → RefMoves P (monitor_at fs d) (monitor_at gs d)
 monitor-at P fs [] d h = λ b e. absurd (cc)
 monitor-at P [] (g ∷ gs) zero h = h.1
 monitor-at P [] (g ∷ gs) (suc d) h = monitor-at P [] gs d h.2

@@ -1,18 +1,19 @@
-use Rattle.std.proofs.Common.{◌≡◌, ◌⊎◌, inl, inr, ℕ, zero, suc, ◌+◌, ◌<◌, ◌≤◌, List, [], ◌∷◌, ◌++◌, length, map, set, replicate, Option, Some, None, refl, ap, arith}
+use Rattle.std.proofs.Common.{◌≡◌, ◌⊎◌, inl, inr, ℕ, zero, suc, ◌+◌, ◌<◌, ◌≤◌, List, [], ◌++◌, length, set, replicate, Some, refl, ap, arith}
 use Rattle.model.specs.declared.colours.Colour.{Colour}
 use Rattle.model.specs.declared.colours.Colour.TheVariants.{White, Grey, Black}
 use Rattle.model.specs.declared.colours.Phase.TheVariants.{Idle}
 use Rattle.model.specs.declared.journals.HeapShape.{HeapShape}
-use Rattle.model.specs.declared.values.Entry.TheVariants.{Unset}
 use Rattle.model.specs.Accounts.{Cell, Account, numbers_up, empty_account, opening_account, placed, take_cell}
 use Rattle.model.specs.Accounts.Cell.{Free, Taken}
 use Rattle.model.specs.ClassListings.{ClassListing}
-use Rattle.model.specs.CodeListings.{CodeListing}
-use Rattle.model.specs.declared.places.MethodPlace.{MethodPlace}
-use Rattle.model.specs.Frames.{Frame, opening_frame}
-use Rattle.model.specs.Programs.{main_in, code_at}
-use Rattle.model.specs.Worlds.{opening_world, opening_objects, opening_frames}
-use Rattle.model.specs.Collector.Places.{Place, ref_at, entry_ref, entries_at, monitor_at, words_of, root_at, word_at}
+use Rattle.model.specs.Frames.{Frame}
+use Rattle.model.specs.Programs.{main_in}
+use Rattle.model.specs.Initialisation.{main_frames, initializer_frames, first_claim, opening_frames}
+use Rattle.model.specs.Worlds.{opening_world, opening_objects}
+use Rattle.model.specs.Collector.Moves.{FramesMove}
+use Rattle.model.proofs.CollectorLemmas.Moving.{refs-at, entries-at, monitor-at}
+use Rattle.model.proofs.CollectorLemmas.Table.Initialisation.{both_move, waiting_move, main_moves, initializers_move}
+use Rattle.model.specs.Collector.Places.{Place, ref_at, entries_at, monitor_at, words_of, root_at, word_at}
 use Rattle.model.specs.Collector.Places.Place.{MemoryError, StackError, Slot, FrameEntry, MethodMonitor}
 use Rattle.model.specs.Collector.Table.{cell_at}
 use Rattle.model.specs.Collector.Invariant.{In, Distinct, Spare, Tidy, Invariant}
@@ -143,44 +144,32 @@ opens shape two =
 
 -- ---- the opening world leads to no other birth
 
-no_entry : (n k b : ℕ) → ref_at (map entry_ref (replicate n Unset) ++ []) k ≡ Some b → ⊥
-no_entry zero k b e = cc
-no_entry (suc n) zero b e = cc
-no_entry (suc n) (suc k) b e = no_entry n k b e
+-- frames at their starts lead nowhere
+abbrev Nowhere : ℕ → Type 0
+Nowhere b = ⊥
 
--- frames that lead nowhere
-record Rootless (frames : List Frame) : Type 0 where
-  entries : (d j b : ℕ) → ref_at (entries_at frames d) j ≡ Some b → ⊥
-  monitors : (d b : ℕ) → monitor_at frames d ≡ Some b → ⊥
+opening_nowhere_led : (program : List ClassListing) → FramesMove Nowhere [] (opening_frames program)
+opening_nowhere_led program =
+    let main = main_frames program (main_in program) in
+    let initializers = initializer_frames program (first_claim program) in
+    waiting_move Nowhere (main ++ initializers)
+    (both_move Nowhere main initializers (main_moves Nowhere program (main_in program)) (initializers_move Nowhere program (first_claim program)))
 
-no_frame : Rootless []
-no_frame = record { entries = λ d j b e. cc; monitors = λ d b e. cc }
+no_entry : (frames : List Frame) (d j b : ℕ) → FramesMove Nowhere [] frames → ref_at (entries_at frames d) j ≡ Some b → ⊥
+no_entry frames d j b h e = elim (refs-at Nowhere [] (entries_at frames d) j b (entries-at Nowhere [] frames d h) e) [ inl l ↦ cc | inr n ↦ n ]
 
-framed_rootless : (program : List ClassListing) (place : MethodPlace) (o : Option CodeListing) → code_at program place ≡ o → Rootless (opening_frames program (Some place))
-framed_rootless program place None e = rw e no_frame
-framed_rootless program place (Some code) e = rw e (record { entries = entries; monitors = monitors })
-  where
-    entries : (d j b : ℕ) → ref_at (entries_at (opening_frame place code.max_locals code.max_stack ∷ []) d) j ≡ Some b → ⊥
-    entries zero j b e = no_entry code.max_locals j b e
-    entries (suc d) j b e = cc
-
-    monitors : (d b : ℕ) → monitor_at (opening_frame place code.max_locals code.max_stack ∷ []) d ≡ Some b → ⊥
-    monitors zero b e = cc
-    monitors (suc d) b e = cc
-
-opening_rootless : (program : List ClassListing) (main : Option MethodPlace) → Rootless (opening_frames program main)
-opening_rootless program None = no_frame
-opening_rootless program (Some place) = framed_rootless program place (code_at program place) refl
+no_monitor : (frames : List Frame) (d b : ℕ) → FramesMove Nowhere [] frames → monitor_at frames d ≡ Some b → ⊥
+no_monitor frames d b h e = elim (monitor-at Nowhere [] frames d h b e) [ inl l ↦ cc | inr n ↦ n ]
 
 opening_roots : (program : List ClassListing) (p : Place) (b : ℕ) → root_at (opening_world program) p ≡ Some b → (b ≡ 1) ⊎ (b ≡ 2)
 unfolding root_at
 opening_roots program MemoryError b e = inl cc
 opening_roots program StackError b e = inr cc
 opening_roots program (Slot s) b e = absurd (nowhere_at _ s b (opening_nowhere program) e)
-opening_roots program (FrameEntry zero d j) b e = absurd ((opening_rootless program (main_in program)).entries d j b e)
-opening_roots program (FrameEntry (suc t) d j) b e = absurd (no_frame.entries d j b e)
-opening_roots program (MethodMonitor zero d) b e = absurd ((opening_rootless program (main_in program)).monitors d b e)
-opening_roots program (MethodMonitor (suc t) d) b e = absurd (no_frame.monitors d b e)
+opening_roots program (FrameEntry zero d j) b e = absurd (no_entry (opening_frames program) d j b (opening_nowhere_led program) e)
+opening_roots program (FrameEntry (suc t) d j) b e = absurd (no_entry [] d j b tt e)
+opening_roots program (MethodMonitor zero d) b e = absurd (no_monitor (opening_frames program) d b (opening_nowhere_led program) e)
+opening_roots program (MethodMonitor (suc t) d) b e = absurd (no_monitor [] d b tt e)
 
 no_word : (x k b : ℕ) → ref_at (words_of opening_objects x) k ≡ Some b → ⊥
 no_word zero k b e = cc

@@ -5,7 +5,7 @@ use Rattle.model.specs.declared.values.Value.TheVariants.{Int, Long, Ref}
 use Rattle.model.specs.declared.turns.Abrupt.{Abrupt}
 use Rattle.model.specs.declared.turns.Abrupt.TheVariants.{Fault as Faulted, Throw}
 use Rattle.model.specs.declared.turns.Exception.{Exception}
-use Rattle.model.specs.declared.turns.Exception.TheVariants.{Arithmetic, NullPointer, ClassCast, NegativeArraySize, ArrayStore, IllegalMonitorState, ArrayIndexOutOfBounds, IllegalThreadState, StackOverflow}
+use Rattle.model.specs.declared.turns.Exception.TheVariants.{Arithmetic, NullPointer, ClassCast, NegativeArraySize, ArrayStore, IllegalMonitorState, ArrayIndexOutOfBounds, IllegalThreadState, StackOverflow, ExceptionInInitializer, NoClassDefFound}
 use Rattle.model.specs.Values.{births_of, units_of_all}
 use Rattle.model.specs.Frames.{Frame, Moved, running, with_running, push_all, replaced, replaced_if_room}
 use Rattle.model.specs.Worlds.{World, Thread, frames_of, frames_at}
@@ -93,6 +93,8 @@ raises_moves w IllegalMonitorState = tt
 raises_moves w ArrayIndexOutOfBounds = tt
 raises_moves w IllegalThreadState = tt
 raises_moves w StackOverflow = stack_error_known w
+raises_moves w ExceptionInInitializer = tt
+raises_moves w NoClassDefFound = tt
 
 -- an instruction that completes abruptly
 pub abrupt_moves : (w : World) (abrupt : Abrupt) → CompletionMoves w (completes_abruptly abrupt)

@@ -4,7 +4,8 @@ pub mod Branches
 pub mod Builtins
 pub mod Constants
 pub mod Fields
-pub mod Invokes
+pub mod Initialisation
+mod Invokes
 pub mod Locals
 pub mod Monitors
 pub mod Next

@@ -1,14 +1,18 @@
 use Rattle.std.proofs.Common.{◌≡◌, ◌⊎◌, inl, inr, ℕ, zero, suc, Bool, true, false, List, [], ◌∷◌, ◌++◌, map, reverse, set, slice_get, Option, Some, None, nat_le, refl, ◌∙◌, ap, length-set}
 use Rattle.std.proofs.lemmas.List.{reverse-append}
+use Rattle.model.specs.declared.turns.ClassState.{ClassState}
+use Rattle.model.specs.declared.turns.ClassState.TheVariants.{Failed}
 use Rattle.model.specs.declared.turns.Fault.TheVariants.{StackFull}
 use Rattle.model.specs.ClassListings.{ClassListing}
 use Rattle.model.specs.Frames.{Frame}
-use Rattle.model.specs.Worlds.{World, Object, frames_of, frames_at, next_birth}
+use Rattle.model.specs.Worlds.{World, Object, frames_of, frames_at, next_birth, with_class_states}
 use Rattle.model.specs.Worlds.Thread.{Live, Ended}
 use Rattle.model.specs.Objects.{object_at, class_at}
 use Rattle.model.specs.Monitors.{is_owner, exited, released, released_object, released_all}
-use Rattle.model.specs.Unwinding.{Landing, handler_of, lands_at, landing, left_monitors, handling, landed, thrown}
-use Rattle.model.specs.Unwinding.Landing.{Handled, Unhandled}
+use Rattle.model.specs.Initialisation.{with_states}
+use Rattle.model.specs.Unwinding.{Response, response_of, Landing, Way, way_from, way_of, handling, failing, landed, initialised_by, without, thrown}
+use Rattle.model.specs.Unwinding.Response.{Handles, Fails, Leaves}
+use Rattle.model.specs.Unwinding.Landing.{Handled, Stopped, Unhandled}
 use Rattle.model.specs.Collector.Places.{ref_of, entry_ref, slots_of, Reach}
 use Rattle.model.specs.Collector.Invariant.{In}
 use Rattle.model.specs.Collector.Changes.{IsNew, births_after}
@@ -33,7 +37,7 @@ pub record Kept (P : ℕ → Type 0) (w : World) (n : ℕ) (v : World) : Type 0 
   pub fault : v.fault ≡ w.fault
   pub rows : v.rows ≡ w.rows
   pub threads : v.threads ≡ w.threads
-  pub statics : v.statics ≡ w.statics
+  pub fields : v.statics.fields ≡ w.statics.fields
   pub made : next_birth v ≡ n
   pub objects : ObjectsMove P w.objects v.objects
 
@@ -44,7 +48,7 @@ released_if P w v n t birth o true e s k = rw s (record {
   fault = k.fault;
   rows = k.rows;
   threads = k.threads;
-  statics = k.statics;
+  fields = k.fields;
   made = length-set v.objects birth (record o { monitor = exited o.monitor }) ∙ k.made;
   objects = objects_touched P w.objects v.objects birth o (record o { monitor = exited o.monitor }) e refl k.objects;
 })
@@ -61,6 +65,10 @@ all_keep : (P : ℕ → Type 0) (w v : World) (n t : ℕ) (monitors : List (Opti
 all_keep P w v n t [] k = k
 all_keep P w v n t (monitor ∷ monitors) k = all_keep P w (released v t monitor) n t monitors (released_keeps P w v n t monitor k)
 
+-- class states are no places
+pub states_keep : (P : ℕ → Type 0) (w v : World) (n : ℕ) (states : List ClassState) → Kept P w n v → Kept P w n (with_class_states v states)
+states_keep P w v n states k = record { fault = k.fault; rows = k.rows; threads = k.threads; fields = k.fields; made = k.made; objects = k.objects }
+
 -- ---- frames are left
 
 handling_moves : (P : ℕ → Type 0) (birth handler : ℕ) (f : Frame) → P birth → FrameMoves P f (handling birth handler f)
@@ -68,31 +76,38 @@ handling_moves P birth handler f h =
     let may : AllMay P (Some birth ∷ []) = (λ b e. (let s : b ≡ birth = cc in rw s h), tt) in
     (refs_behind P (map entry_ref f.locals) (reverse (map ref_of f.stack)) (Some birth ∷ []) (refs_new P _ (Some birth ∷ []) may), λ b e. inl e)
 
+failing_moves : (P : ℕ → Type 0) (f : Frame) → FrameMoves P f (failing f)
+failing_moves P f = (refs_behind P (map entry_ref f.locals) (reverse (map ref_of f.stack)) [] tt, λ b e. inl e)
+
 -- frames above are left
 frames_left : (P : ℕ → Type 0) (fs above gs : List Frame) → FramesMove P fs gs → FramesMove P (fs ++ above) gs
 frames_left P fs above [] h = tt
 frames_left P [] above (g ∷ gs) h = frames_from P above (g ∷ gs) h
 frames_left P (f ∷ fs) above (g ∷ gs) h = (h.0, h.1, frames_left P fs above gs h.2)
 
--- where a throwable lands in these frames
-abbrev LandsIn : (ℕ → Type 0) → ℕ → List Frame → Landing → Type 0
-LandsIn P birth frames Unhandled = Unit {0}
-LandsIn P birth frames (Handled handler f callers) = FramesMove P frames (reverse callers ++ handling birth handler f ∷ [])
+-- where a throwable lands in these frames: a handler finds it on its stack, an initialiser that fails finds nothing
+abbrev LandsIn : (ℕ → Type 0) → (ℕ → Type 0) → ℕ → List Frame → Landing → Type 0
+LandsIn P Q birth frames Unhandled = Unit {0}
+LandsIn P Q birth frames (Stopped f callers) = FramesMove Q frames (reverse callers ++ failing f ∷ [])
+LandsIn P Q birth frames (Handled handler f callers) = FramesMove P frames (reverse callers ++ handling birth handler f ∷ [])
 
-lands_below : (P : ℕ → Type 0) (birth : ℕ) (frames above : List Frame) (l : Landing) → LandsIn P birth frames l → LandsIn P birth (frames ++ above) l
-lands_below P birth frames above Unhandled h = tt
-lands_below P birth frames above (Handled handler f callers) h = frames_left P frames above _ h
+lands_below : (P Q : ℕ → Type 0) (birth : ℕ) (frames above : List Frame) (l : Landing) → LandsIn P Q birth frames l → LandsIn P Q birth (frames ++ above) l
+lands_below P Q birth frames above Unhandled h = tt
+lands_below P Q birth frames above (Stopped f callers) h = frames_left Q frames above _ h
+lands_below P Q birth frames above (Handled handler f callers) h = frames_left P frames above _ h
 
-lands_here : (P : ℕ → Type 0) (birth : ℕ) (f : Frame) (fs : List Frame) (handler : Option ℕ) (l : Landing) → P birth → LandsIn P birth (reverse fs) l → LandsIn P birth (reverse fs ++ f ∷ []) (lands_at f fs handler l)
-lands_here P birth f fs None l p h = lands_below P birth (reverse fs) (f ∷ []) l h
-lands_here P birth f fs (Some handler) l p h =
+lands_here : (P Q : ℕ → Type 0) (birth : ℕ) (f : Frame) (fs : List Frame) (r : Response) (way : Way) → P birth → LandsIn P Q birth (reverse fs) way.landing → LandsIn P Q birth (reverse fs ++ f ∷ []) (way_from f fs r way).landing
+lands_here P Q birth f fs Leaves way p h = lands_below P Q birth (reverse fs) (f ∷ []) way.landing h
+lands_here P Q birth f fs Fails way p h =
+    let m = failing_moves Q f in frames_above Q (reverse fs) (f ∷ []) (failing f ∷ []) (m.0, m.1, tt)
+lands_here P Q birth f fs (Handles handler) way p h =
     let m = handling_moves P birth handler f p in frames_above P (reverse fs) (f ∷ []) (handling birth handler f ∷ []) (m.0, m.1, tt)
 
 -- frames stand innermost first
-lands : (P : ℕ → Type 0) (program : List ClassListing) (class : List ℕ) (birth : ℕ) (fs : List Frame) → P birth → LandsIn P birth (reverse fs) (landing program class fs)
-lands P program class birth [] p = tt
-lands P program class birth (f ∷ fs) p =
-    rw (reverse-append (f ∷ []) fs) (lands_here P birth f fs (handler_of program class f) (landing program class fs) p (lands P program class birth fs p))
+lands : (P Q : ℕ → Type 0) (program : List ClassListing) (class : List ℕ) (birth : ℕ) (fs : List Frame) → P birth → LandsIn P Q birth (reverse fs) (way_of program class fs).landing
+lands P Q program class birth [] p = tt
+lands P Q program class birth (f ∷ fs) p =
+    rw (reverse-append (f ∷ []) fs) (lands_here P Q birth f fs (response_of program class f) (way_of program class fs) p (lands P Q program class birth fs p))
 
 reverse-twice : (fs : List Frame) → reverse (reverse fs) ≡ fs
 reverse-twice [] = refl
@@ -103,7 +118,7 @@ reverse-twice (f ∷ fs) = ap reverse (reverse-append (f ∷ []) fs) ∙ reverse
 ends : (w v : World) (object : Option ℕ) (t : ℕ) (class : Option (List ℕ)) → Kept (λ b. IsNew object (next_birth w) b ⊎ ⊥) w (births_after object (next_birth w)) v → Lawful w object (record { after = record v { threads = set v.threads t (Ended class) }; writes = [] })
 ends w v object t class k = moves k.fault k.rows (record {
   counted = k.made;
-  statics = rw k.statics (refs_same _ (slots_of w));
+  statics = rw k.fields (refs_same _ (slots_of w));
   threads = rw k.threads (threads_set _ w.threads t (Ended class) tt);
   objects = k.objects;
   writes = λ b h. absurd h;
@@ -112,26 +127,47 @@ ends w v object t class k = moves k.fault k.rows (record {
 handled : (w v : World) (object : Option ℕ) (t birth : ℕ) (frames : List Frame) → IsNew object (next_birth w) birth ⊎ Reach w birth → FramesMove (λ b. IsNew object (next_birth w) b ⊎ In b (birth ∷ [])) (frames_at w t) frames → Kept (λ b. IsNew object (next_birth w) b ⊎ In b (birth ∷ [])) w (births_after object (next_birth w)) v → Lawful w object (record { after = record v { threads = set v.threads t (Live frames) }; writes = birth ∷ [] })
 handled w v object t birth frames known m k = moves k.fault k.rows (record {
   counted = k.made;
-  statics = rw k.statics (refs_same _ (slots_of w));
+  statics = rw k.fields (refs_same _ (slots_of w));
   threads = rw k.threads (threads_set _ w.threads t (Live frames) m);
   objects = k.objects;
   writes = λ b h. elim h [ inl e ↦ rw e known | inr n ↦ absurd n ];
 })
 
-landed_lawful : (w v : World) (object : Option ℕ) (t birth : ℕ) (class : List ℕ) (l : Landing) → IsNew object (next_birth w) birth ⊎ Reach w birth → LandsIn (λ b. IsNew object (next_birth w) b ⊎ In b (birth ∷ [])) birth (frames_at w t) l → ((P : ℕ → Type 0) → Kept P w (births_after object (next_birth w)) v) → Lawful w object (landed w v t birth class l)
+-- the births to which a place may lead that it didn't lead to: the new one, and in a handler the throwable
+abbrev NewOr : World → Option ℕ → (ℕ → Type 0) → ℕ → Type 0
+NewOr w object written b = IsNew object (next_birth w) b ⊎ written b
+
+stopped : (w v : World) (object : Option ℕ) (t : ℕ) (frames : List Frame) → FramesMove (NewOr w object (λ b. ⊥)) (frames_at w t) frames → Kept (NewOr w object (λ b. ⊥)) w (births_after object (next_birth w)) v → Lawful w object (record { after = record v { threads = set v.threads t (Live frames) }; writes = [] })
+stopped w v object t frames m k = moves k.fault k.rows (record {
+  counted = k.made;
+  statics = rw k.fields (refs_same _ (slots_of w));
+  threads = rw k.threads (threads_set _ w.threads t (Live frames) m);
+  objects = k.objects;
+  writes = λ b h. absurd h;
+})
+
+landed_lawful : (w v : World) (object : Option ℕ) (t birth : ℕ) (class : List ℕ) (l : Landing) → IsNew object (next_birth w) birth ⊎ Reach w birth → LandsIn (NewOr w object (λ b. In b (birth ∷ []))) (NewOr w object (λ b. ⊥)) birth (frames_at w t) l → ((P : ℕ → Type 0) → Kept P w (births_after object (next_birth w)) v) → Lawful w object (landed w v t birth class l)
 landed_lawful w v object t birth class Unhandled known h k = ends w v object t (Some class) (k _)
+landed_lawful w v object t birth class (Stopped f callers) known h k = stopped w v object t (reverse callers ++ failing f ∷ []) h (k _)
 landed_lawful w v object t birth class (Handled handler f callers) known h k = go (nat_le 1 f.room) refl
   where
     go : (room : Bool) → nat_le 1 f.room ≡ room → Lawful w object (landed w v t birth class (Handled handler f callers))
     go true e = rw e (handled w v object t birth (reverse callers ++ handling birth handler f ∷ []) known h (k _))
     go false e = rw e (faults t StackFull refl)
 
+without_keeps : (P : ℕ → Type 0) (program : List ClassListing) (w v : World) (n t : ℕ) (left : List Frame) → Kept P w n v → Kept P w n (without program v t left)
+without_keeps P program w v n t left k =
+    let monitors = map (λ (f : Frame). f.monitor) left in
+    states_keep P w (released_all v t monitors) n (with_states Failed (initialised_by program left) v.statics.states) (all_keep P w v n t monitors k)
+
 -- the throwable was reachable, or it is the new object; the threads are those of the world before
 pub thrown_lawful : (program : List ClassListing) (w v : World) (object : Option ℕ) (t birth : ℕ) → v.threads ≡ w.threads → IsNew object (next_birth w) birth ⊎ Reach w birth → ((P : ℕ → Type 0) → Kept P w (births_after object (next_birth w)) v) → Lawful w object (thrown program w v t birth)
 thrown_lawful program w v object t birth e known k =
-    let P : ℕ → Type 0 = λ b. IsNew object (next_birth w) b ⊎ In b (birth ∷ []) in
+    let P : ℕ → Type 0 = NewOr w object (λ b. In b (birth ∷ [])) in
+    let Q : ℕ → Type 0 = NewOr w object (λ b. ⊥) in
     let fs = reverse (frames_at v t) in
     let class = class_at v birth in
+    let way = way_of program class fs in
     let same : reverse fs ≡ frames_at w t = reverse-twice (frames_at v t) ∙ ap (λ ts. frames_of (slice_get ts t)) e in
-    let l : LandsIn P birth (frames_at w t) (landing program class fs) = rw (← same) (lands P program class birth fs (inr (inl refl))) in
-    landed_lawful w (released_all v t (left_monitors program class fs)) object t birth class (landing program class fs) known l (λ Q. all_keep Q w v (births_after object (next_birth w)) t (left_monitors program class fs) (k Q))
+    let l : LandsIn P Q birth (frames_at w t) way.landing = rw (← same) (lands P Q program class birth fs (inr (inl refl))) in
+    landed_lawful w (without program v t way.left) object t birth class way.landing known l (λ R. without_keeps R program w v (births_after object (next_birth w)) t way.left (k R))

@@ -14,7 +14,7 @@ use Rattle.model.specs.Worlds.Contents.{Instance, Array}
 use Rattle.model.specs.Worlds.Thread.{Live}
 use Rattle.model.specs.Objects.{made_of}
 use Rattle.model.specs.Completions.{Completion, Site}
-use Rattle.model.specs.Completions.Completion.{Goes, Prints, Creates, Throws, Raises, Faults, Waits}
+use Rattle.model.specs.Completions.Completion.{Goes, Prints, Creates, Throws, Raises, Denies, Faults, Waits}
 
 -- ---- the classes: K over P, and K implements I
 
@@ -109,6 +109,7 @@ after_of (Prints after bytes) = after
 after_of (Creates next taken contents) = world 0 []
 after_of (Throws birth) = world 0 []
 after_of (Raises exception) = world 0 []
+after_of (Denies states) = world 0 []
 after_of (Faults fault) = world 0 []
 after_of Waits = world 0 []
 
@@ -125,5 +126,6 @@ writes_of (Prints after bytes) = []
 writes_of (Creates next taken contents) = []
 writes_of (Throws birth) = []
 writes_of (Raises exception) = []
+writes_of (Denies states) = []
 writes_of (Faults fault) = []
 writes_of Waits = []

@@ -1,6 +1,6 @@
 use Rattle.std.specs.Prelude.{ℕ, List, codes}
 use Rattle.model.specs.declared.turns.Exception.{Exception}
-use Rattle.model.specs.declared.turns.Exception.TheVariants.{Arithmetic, NullPointer, ClassCast, NegativeArraySize, ArrayStore, IllegalMonitorState, ArrayIndexOutOfBounds, IllegalThreadState, StackOverflow}
+use Rattle.model.specs.declared.turns.Exception.TheVariants.{Arithmetic, NullPointer, ClassCast, NegativeArraySize, ArrayStore, IllegalMonitorState, ArrayIndexOutOfBounds, IllegalThreadState, StackOverflow, ExceptionInInitializer, NoClassDefFound}
 
 -- the class of an exception that the machine makes
 abbrev pub exception_class : Exception → List ℕ
@@ -13,3 +13,5 @@ exception_class IllegalMonitorState = codes "java/lang/IllegalMonitorStateExcept
 exception_class ArrayIndexOutOfBounds = codes "java/lang/ArrayIndexOutOfBoundsException"
 exception_class IllegalThreadState = codes "java/lang/IllegalThreadStateException"
 exception_class StackOverflow = codes "java/lang/StackOverflowError"
+exception_class ExceptionInInitializer = codes "java/lang/ExceptionInInitializerError"
+exception_class NoClassDefFound = codes "java/lang/NoClassDefFoundError"

@@ -31,6 +31,10 @@ abbrev pub parents_in : Option ClassListing → List (List ℕ)
 parents_in None = []
 parents_in (Some c) = parents_of c
 
+abbrev pub superclass_in : Option ClassListing → List ℕ
+superclass_in None = []
+superclass_in (Some c) = c.superclass
+
 -- the parents of the class of a name
 abbrev pub parents_named : List ClassListing → List ℕ → List (List ℕ)
 parents_named program name = parents_in (class_named program name)

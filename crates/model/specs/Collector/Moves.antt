@@ -7,7 +7,7 @@ use Rattle.model.specs.Effects.{Choice}
 use Rattle.model.specs.Effects.Choice.{NewObject, NoRoom}
 use Rattle.model.specs.Worlds.{World, Thread, Object, frames_of, next_birth}
 use Rattle.model.specs.Completions.{Completion}
-use Rattle.model.specs.Completions.Completion.{Goes, Prints, Creates, Throws, Raises, Faults, Waits}
+use Rattle.model.specs.Completions.Completion.{Goes, Prints, Creates, Throws, Raises, Denies, Faults, Waits}
 use Rattle.model.specs.Collector.Places.{frame_refs, contents_refs, slots_of, Reach}
 use Rattle.model.specs.Collector.Invariant.{In}
 use Rattle.model.specs.Collector.Changes.{Change, IsNew, births_after, Fresh}
@@ -87,6 +87,7 @@ CompletionMoves w (Prints after bytes) = WorldMoves w after []
 CompletionMoves w (Creates next taken contents) = LeadNowhere (contents_refs contents)
 CompletionMoves w (Throws birth) = Reach w birth
 CompletionMoves w (Raises exception) = Unit {0}
+CompletionMoves w (Denies states) = Unit {0}
 CompletionMoves w (Faults fault) = Unit {0}
 CompletionMoves w Waits = Unit {0}
 

@@ -3,15 +3,24 @@ use Rattle.model.specs.declared.names.Member.{Member}
 use Rattle.model.specs.declared.listings.Placed.{Placed}
 use Rattle.model.specs.declared.instructions.Instruction.{Instruction}
 use Rattle.model.specs.declared.instructions.Instruction.TheVariants.{Nop, Constant, Local, Stack, Number, Branch, TableSwitch, LookupSwitch, Return, Static as StaticField, Field, Array, Class, Invoke, Throw, Monitor}
+use Rattle.model.specs.declared.instructions.ClassOperation.{ClassOperation}
+use Rattle.model.specs.declared.instructions.ClassOperation.TheVariants.{New, CheckCast, InstanceOf}
+use Rattle.model.specs.declared.instructions.Invocation.{Invocation}
+use Rattle.model.specs.declared.instructions.Invocation.TheVariants.{Virtual, Special, Static, Interface}
+use Rattle.model.specs.declared.turns.Exception.TheVariants.{ExceptionInInitializer}
 use Rattle.model.specs.declared.turns.Fault.TheVariants.{NoInstruction}
+use Rattle.model.specs.declared.turns.Mark.{Mark}
+use Rattle.model.specs.declared.turns.Mark.TheVariants.{Unmarked, Waiting, Failing}
+use Rattle.model.specs.Classes.Resolution.{resolved_field, resolved_method}
 use Rattle.model.specs.ClassListings.{ClassListing}
 use Rattle.model.specs.Frames.{Frame, running, replaced}
 use Rattle.model.specs.Programs.{instruction_of}
 use Rattle.model.specs.Worlds.{World, frames_at}
 use Rattle.model.specs.Results.{Effect}
 use Rattle.model.specs.Effects.{Choice, effect_of}
-use Rattle.model.specs.Completions.{Completion, Site, asks, completes}
-use Rattle.model.specs.Completions.Completion.{Faults}
+use Rattle.model.specs.Completions.{Completion, Site, asks, completes, raises}
+use Rattle.model.specs.Completions.Completion.{Faults, Waits}
+use Rattle.model.specs.Table.Initialisation.{declarer, after_initialising}
 use Rattle.model.specs.Table.Constants.{constant}
 use Rattle.model.specs.Table.Locals.{local}
 use Rattle.model.specs.Table.Stacks.{rearranged}
@@ -50,14 +59,54 @@ by_family s (Invoke invocation member) = invoked s invocation member
 by_family s Throw = threw s
 by_family s (Monitor operation) = monitor_operated s operation
 
+-- the class of which an object is made or a static method called
+abbrev pub class_of_operation : ClassOperation → List ℕ → Option (List ℕ)
+class_of_operation New name = Some name
+class_of_operation CheckCast name = None
+class_of_operation InstanceOf name = None
+
+abbrev pub class_of_call : List ClassListing → Invocation → Member → Option (List ℕ)
+class_of_call program Virtual m = None
+class_of_call program Special m = None
+class_of_call program Static m = declarer (resolved_method program m)
+class_of_call program (Interface count) m = None
+
+-- the class that an instruction uses, so that it is initialised first (JVMS 5.5)
+abbrev pub class_used : List ClassListing → Listed → Option (List ℕ)
+class_used program Nop = None
+class_used program (Constant c) = None
+class_used program (Local access) = None
+class_used program (Stack operation) = None
+class_used program (Number operation) = None
+class_used program (Branch test target) = None
+class_used program (TableSwitch table) = None
+class_used program (LookupSwitch lookup) = None
+class_used program (Return kind) = None
+class_used program (StaticField access member) = declarer (resolved_field program member)
+class_used program (Field access member) = None
+class_used program (Array operation) = None
+class_used program (Class operation name) = class_of_operation operation name
+class_used program (Invoke invocation member) = class_of_call program invocation member
+class_used program Throw = None
+class_used program (Monitor operation) = None
+
+abbrev pub at_site : Site → Listed → Completion
+at_site s i = after_initialising s (class_used s.program i) (by_family s i)
+
 -- past the last instruction: F5
 abbrev pub at_instruction : List ClassListing → World → ℕ → Frame → Option Placed → Completion
 at_instruction program w t f None = Faults NoInstruction
-at_instruction program w t f (Some i) = by_family (record { program = program; world = w; thread = t; frame = f; next = i.next }) i.instruction
+at_instruction program w t f (Some i) = at_site (record { program = program; world = w; thread = t; frame = f; next = i.next }) i.instruction
+
+-- an initialiser that failed gives up with an error of its own
+abbrev pub at_mark : List ClassListing → World → ℕ → Frame → Mark → Completion
+at_mark program w t f Unmarked = at_instruction program w t f (instruction_of program f)
+at_mark program w t f Waiting = Waits
+at_mark program w t f Failing = raises ExceptionInInitializer
 
 abbrev pub at_frame : List ClassListing → World → ℕ → Option Frame → Completion
 at_frame program w t None = Faults NoInstruction
-at_frame program w t (Some f) = at_instruction program w t f (instruction_of program f)
+at_frame program w t (Some f) = at_mark program w t f f.mark
 
 -- what the instruction of a live thread comes to
 unfoldable pub completion : List ClassListing → World → ℕ → Completion

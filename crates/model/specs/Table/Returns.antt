@@ -1,4 +1,4 @@
-use Rattle.std.specs.Prelude.{[], ◌∷◌, Bool, true, false, Option, Some, None, Result, Ok, Err}
+use Rattle.std.specs.Prelude.{ℕ, [], ◌∷◌, Bool, true, false, Option, Some, None, Result, Ok, Err}
 use Rattle.model.specs.declared.values.Kind.{Kind}
 use Rattle.model.specs.declared.values.Kind.TheVariants.{Int, Long, Ref}
 use Rattle.model.specs.declared.values.Value.{Value}
@@ -7,12 +7,15 @@ use Rattle.model.specs.declared.listings.Placed.{Placed}
 use Rattle.model.specs.declared.turns.Fault.{Fault}
 use Rattle.model.specs.declared.turns.Fault.TheVariants.{NoInstruction, WrongReturn}
 use Rattle.model.specs.declared.turns.Abrupt.{Abrupt}
+use Rattle.model.specs.declared.turns.ClassState.TheVariants.{Done as Initialised}
+use Rattle.model.specs.declared.turns.Mark.TheVariants.{Unmarked}
 use Rattle.model.specs.declared.turns.Abrupt.TheVariants.{Fault as Faulted}
 use Rattle.model.specs.Signatures.{result_kind}
 use Rattle.model.specs.Frames.{Frame, Moved, running, with_running, callers, replaced, replaced_if_room}
 use Rattle.model.specs.Locals.{value_on}
 use Rattle.model.specs.Programs.{method_at, instruction_of}
-use Rattle.model.specs.Worlds.{World, with_thread}
+use Rattle.model.specs.Initialisation.{runs_initializer, with_states}
+use Rattle.model.specs.Worlds.{World, with_thread, with_class_states}
 use Rattle.model.specs.Worlds.Thread.{Live, Ended}
 use Rattle.model.specs.Monitors.{released}
 use Rattle.model.specs.Completions.{Completion, Site, frames_in, completes_abruptly}
@@ -49,9 +52,22 @@ past_invoke f result None = Err (Faulted NoInstruction)
 past_invoke f None (Some invoke) = Ok (replaced invoke.next f 0 [])
 past_invoke f (Some value) (Some invoke) = replaced_if_room invoke.next f 0 (value ∷ [])
 
+-- the class of an initialiser that returns is initialised
+abbrev pub initialised_if : World → ℕ → Bool → World
+initialised_if w class true = with_class_states w (with_states Initialised (class ∷ []) w.statics.states)
+initialised_if w class false = w
+
 -- the world without the frame's hold on its method monitor
 abbrev pub left_world : Site → World
-left_world s = released s.world s.thread s.frame.monitor
+left_world s = initialised_if (released s.world s.thread s.frame.monitor) s.frame.method.class (runs_initializer s.program s.frame)
+
+-- what waits below an initialiser goes on, and any other frame tries its instruction again
+abbrev pub awake : Frame → Frame
+awake f = record f { mark = Unmarked }
+
+abbrev pub resumed : Site → Frame → Option Value → Bool → Result Moved Abrupt
+resumed s caller result true = Ok (record { frame = awake caller; writes = [] })
+resumed s caller result false = past_invoke caller result (instruction_of s.program caller)
 
 abbrev pub resumes : Site → Result Moved Abrupt → Completion
 resumes s (Err abrupt) = completes_abruptly abrupt
@@ -60,7 +76,7 @@ resumes s (Ok m) = Goes (with_thread (left_world s) s.thread (Live (with_running
 -- the thread of the outermost frame ends
 abbrev pub leaves_to : Site → Option Value → Option Frame → Completion
 leaves_to s result None = Goes (with_thread (left_world s) s.thread (Ended None)) []
-leaves_to s result (Some caller) = resumes s (past_invoke caller result (instruction_of s.program caller))
+leaves_to s result (Some caller) = resumes s (resumed s caller result (runs_initializer s.program s.frame))
 
 abbrev pub leaves_with : Site → Option Value → Completion
 leaves_with s result = leaves_to s result (running (callers (frames_in s)))

@@ -21,7 +21,7 @@ use Rattle.model.proofs.CollectorLemmas.Unwinding.{Kept, objects_touched}
 -- ---- a turn in which monitors change beside one thread
 
 pub kept_same : (P : ℕ → Type 0) (w : World) → Kept P w (next_birth w) w
-kept_same P w = record { fault = refl; rows = refl; threads = refl; statics = refl; made = refl; objects = objects_same P w.objects }
+kept_same P w = record { fault = refl; rows = refl; threads = refl; fields = refl; made = refl; objects = objects_same P w.objects }
 
 pub site_kept : (s : Site) (v : World) (u : Thread) (writes : List ℕ) → Kept (λ b. ⊥ ⊎ In b writes) s.world (next_birth s.world) v → FramesMove (λ b. ⊥ ⊎ In b writes) (frames_in s) (frames_of (Some u)) → ((b : ℕ) → In b writes → Reach s.world b) → WorldMoves s.world (with_thread v s.thread u) writes
 site_kept s v u writes k h known = record {
@@ -29,7 +29,7 @@ site_kept s v u writes k h known = record {
   rows = k.rows;
   moves = record {
     counted = k.made;
-    statics = rw k.statics (refs_same _ (slots_of s.world));
+    statics = rw k.fields (refs_same _ (slots_of s.world));
     threads = rw k.threads (threads_set _ s.world.threads s.thread u h);
     objects = k.objects;
     writes = λ b m. inr (known b m);
@@ -42,7 +42,7 @@ monitor_if_keeps P w v n birth m (Some o) e k = record {
   fault = k.fault;
   rows = k.rows;
   threads = k.threads;
-  statics = k.statics;
+  fields = k.fields;
   made = length-set v.objects birth (record o { monitor = m }) ∙ k.made;
   objects = objects_touched P w.objects v.objects birth o (record o { monitor = m }) e refl k.objects;
 }

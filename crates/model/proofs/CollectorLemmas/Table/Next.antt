@@ -1,6 +1,8 @@
 use Rattle.std.proofs.Common.{◌≡◌, ℕ, [], List, Option, Some, None, Ok, refl}
 use Rattle.model.specs.declared.listings.Placed.{Placed}
 use Rattle.model.specs.declared.instructions.Instruction.TheVariants.{Nop, Constant, Local, Stack, Number, Branch, TableSwitch, LookupSwitch, Return, Static as StaticField, Field, Array, Class, Invoke, Throw, Monitor}
+use Rattle.model.specs.declared.turns.Mark.{Mark}
+use Rattle.model.specs.declared.turns.Mark.TheVariants.{Unmarked, Waiting, Failing}
 use Rattle.model.specs.ClassListings.{ClassListing}
 use Rattle.model.specs.Frames.{Frame, running, replaced}
 use Rattle.model.specs.Programs.{instruction_of}
@@ -13,7 +15,7 @@ use Rattle.model.specs.Table.Stacks.{rearranged}
 use Rattle.model.specs.Table.Numbers.{number}
 use Rattle.model.specs.Table.Branches.{branched}
 use Rattle.model.specs.Table.Switches.{table_switched, lookup_switched}
-use Rattle.model.specs.Table.Next.{Listed, by_family, at_instruction, at_frame, completion, next, asked}
+use Rattle.model.specs.Table.Next.{Listed, by_family, class_used, at_instruction, at_mark, at_frame, completion, next, asked}
 use Rattle.model.specs.Collector.Moves.{CompletionMoves, Lawful, object_of}
 use Rattle.model.proofs.CollectorLemmas.Stepping.{replaced_lawful, completes_moves}
 use Rattle.model.proofs.CollectorLemmas.Choosing.{effect_lawful}
@@ -23,6 +25,7 @@ use Rattle.model.proofs.CollectorLemmas.Table.Stacks.{rearranged_lawful}
 use Rattle.model.proofs.CollectorLemmas.Table.Numbers.{number_lawful}
 use Rattle.model.proofs.CollectorLemmas.Table.Branches.{branched_lawful}
 use Rattle.model.proofs.CollectorLemmas.Table.Switches.{table_switched_lawful, lookup_switched_lawful}
+use Rattle.model.proofs.CollectorLemmas.Table.Initialisation.{after_initialising_moves}
 use Rattle.model.proofs.CollectorLemmas.Table.Returns.{returned_moves}
 use Rattle.model.proofs.CollectorLemmas.Table.Statics.{static_moves}
 use Rattle.model.proofs.CollectorLemmas.Table.Fields.{field_moves}
@@ -54,11 +57,18 @@ family_moves s e (Monitor operation) = monitor_moves s e operation
 
 instruction_moves : (program : List ClassListing) (w : World) (t : ℕ) (f : Frame) (i : Option Placed) → running (frames_at w t) ≡ Some f → CompletionMoves w (at_instruction program w t f i)
 instruction_moves program w t f None e = tt
-instruction_moves program w t f (Some i) e = family_moves (record { program = program; world = w; thread = t; frame = f; next = i.next }) e i.instruction
+instruction_moves program w t f (Some i) e =
+    let s : Site = record { program = program; world = w; thread = t; frame = f; next = i.next } in
+    after_initialising_moves s (class_used program i.instruction) (by_family s i.instruction) (family_moves s e i.instruction)
+
+mark_moves : (program : List ClassListing) (w : World) (t : ℕ) (f : Frame) (mark : Mark) → running (frames_at w t) ≡ Some f → CompletionMoves w (at_mark program w t f mark)
+mark_moves program w t f Unmarked e = instruction_moves program w t f (instruction_of program f) e
+mark_moves program w t f Waiting e = tt
+mark_moves program w t f Failing e = tt
 
 frame_moves : (program : List ClassListing) (w : World) (t : ℕ) (o : Option Frame) → running (frames_at w t) ≡ o → CompletionMoves w (at_frame program w t o)
 frame_moves program w t None e = tt
-frame_moves program w t (Some f) e = instruction_moves program w t f (instruction_of program f) e
+frame_moves program w t (Some f) e = mark_moves program w t f f.mark e
 
 pub completion_moves : (program : List ClassListing) (w : World) (t : ℕ) → CompletionMoves w (completion program w t)
 unfolding completion
