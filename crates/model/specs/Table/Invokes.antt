@@ -27,11 +27,10 @@ use Rattle.model.specs.Locals.{value_on, arguments_on, frames_of_call}
 use Rattle.model.specs.Worlds.{World, with_thread}
 use Rattle.model.specs.Worlds.Thread.{Live}
 use Rattle.model.specs.Objects.{class_at}
-use Rattle.model.specs.Monitors.{may_enter, is_full, entered}
+use Rattle.model.specs.Monitors.{may_enter, is_full, entered, monitor_of, with_monitor_of}
 use Rattle.model.specs.Completions.{Completion, Site, frames_in, raises}
 use Rattle.model.specs.Completions.Completion.{Goes, Faults, Waits}
 use Rattle.model.specs.Table.Builtins.{builtin_call}
-use Rattle.model.specs.Table.Monitors.{monitor_of, with_monitor_of}
 
 -- ---- the arguments: popped from the top, the last one first
 

@@ -19,9 +19,8 @@ use Rattle.model.specs.Locals.{arguments_on, frames_of_call}
 use Rattle.model.specs.Worlds.{World, next_birth}
 use Rattle.model.specs.Worlds.Thread.{Live}
 use Rattle.model.specs.Objects.{class_at}
-use Rattle.model.specs.Monitors.{entered}
+use Rattle.model.specs.Monitors.{entered, monitor_of}
 use Rattle.model.specs.Completions.{Completion, Site, frames_in}
-use Rattle.model.specs.Table.Monitors.{monitor_of}
 use Rattle.model.specs.Table.Invokes.{fault_in_pops, after_pops, arguments_in, method_monitor, may_enter_if, is_full_if, entered_if, births_if, guarded, enters_frame, call_if, called, called_on, on_object, selected_for, special_for, invoked}
 use Rattle.model.specs.Collector.Places.{ref_of, frame_refs, Reach}
 use Rattle.model.specs.Collector.Invariant.{In}
