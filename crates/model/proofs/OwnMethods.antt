@@ -4,7 +4,7 @@ use Rattle.std.proofs.lemmas.Slice.Eq.{bytes_eq-Decides}
 use Rattle.std.proofs.lemmas.Bool.{ltb-true}
 use Rattle.std.specs.Prelude.{◌&&◌, not, cond, codes, length, slice_get, is_some, nat_lt}
 use Rattle.std.specs.List.{flat_map, position_or_len}
-use Rattle.std.specs.Option.{option_map}
+use Rattle.std.specs.Option.{option_map, option_map_or}
 use Rattle.model.specs.declared.names.Member.{Member}
 use Rattle.model.specs.declared.values.Value.{Value}
 use Rattle.model.specs.declared.values.Value.TheVariants.{Int, Long, Ref}
@@ -26,8 +26,9 @@ use Rattle.model.specs.Programs.{is_member, builtin_of, method_at, is_static, is
 use Rattle.model.specs.Frames.{int_on}
 use Rattle.model.specs.Printing.{decimal_line}
 use Rattle.model.specs.Completions.{Completion, Site}
+use Rattle.model.specs.Completions.Completion.{Faults}
 use Rattle.model.specs.Table.Builtins.{prints_on}
-use Rattle.model.specs.Table.Invokes.{fault_in_pops, after_pops, invoked}
+use Rattle.model.specs.Table.Invokes.{fault_in_pops, invoked}
 use Rattle.model.specs.Table.Returns.{gives, same_result}
 
 both : (a b : Bool) → (a && b) ≡ true → (a ≡ true) × (b ≡ true)
@@ -95,7 +96,7 @@ print_callee : (program : List ClassListing) → listed program (codes "vm/Sys")
 print_callee program none = ap (callee_of program) (print_resolved program none)
 
 -- the operand is tested when it is popped
-popped : (stack : List Value) (s : Site) (further : Completion) → further ≡ prints_on s decimal_line (int_on stack) → after_pops (fault_in_pops (IntKind ∷ []) stack) further ≡ prints_on s decimal_line (int_on stack)
+popped : (stack : List Value) (s : Site) (further : Completion) → further ≡ prints_on s decimal_line (int_on stack) → option_map_or Faults (fault_in_pops (IntKind ∷ []) stack) further ≡ prints_on s decimal_line (int_on stack)
 popped [] s further e = refl
 popped (Int z ∷ vs) s further e = e
 popped (Long z ∷ vs) s further e = refl

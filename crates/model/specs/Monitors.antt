@@ -24,18 +24,28 @@ entered t m = record { owner = Some t; count = m.count + 1 }
 abbrev pub exited : Monitor → Monitor
 exited m = if nat_le m.count 1 then free_monitor else record { owner = m.owner; count = m.count - 1 }
 
-abbrev pub with_monitor : World → ℕ → Object → Monitor → World
-with_monitor w birth object monitor = with_object w birth (record object { monitor = monitor })
+-- ---- the monitor of a birth
+
+abbrev pub monitor_if : Option Object → Monitor
+monitor_if None = free_monitor
+monitor_if (Some object) = object.monitor
+
+abbrev pub monitor_of : World → ℕ → Monitor
+monitor_of w birth = monitor_if (object_at w birth)
+
+abbrev pub with_monitor_if : World → ℕ → Monitor → Option Object → World
+with_monitor_if w birth monitor None = w
+with_monitor_if w birth monitor (Some object) = with_object w birth (record object { monitor = monitor })
+
+-- another monitor of this birth
+abbrev pub with_monitor_of : World → ℕ → Monitor → World
+with_monitor_of w birth monitor = with_monitor_if w birth monitor (object_at w birth)
 
 -- ---- leaving a frame lowers the count of its method monitor, where the thread still owns it
 
-abbrev pub released_object : World → ℕ → ℕ → Option Object → World
-released_object w t birth None = w
-released_object w t birth (Some object) = if is_owner t object.monitor.owner then with_monitor w birth object (exited object.monitor) else w
-
 abbrev pub released : World → ℕ → Option ℕ → World
 released w t None = w
-released w t (Some birth) = released_object w t birth (object_at w birth)
+released w t (Some birth) = if is_owner t (monitor_of w birth).owner then with_monitor_of w birth (exited (monitor_of w birth)) else w
 
 abbrev pub released_all : World → ℕ → List (Option ℕ) → World
 released_all w t [] = w

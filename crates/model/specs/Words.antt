@@ -21,9 +21,9 @@ abbrev pub is_field : Declared Field → FieldValue → Bool
 is_field field f =
     bytes_eq f.class field.class && bytes_eq f.name field.member.name && bytes_eq f.descriptor field.member.descriptor
 
--- the place of a field by the class that declares it, its name and its descriptor
-abbrev pub place_of : List FieldValue → Declared Field → Option ℕ
-place_of fields field = position (is_field field) fields
+-- where a field stands in the list, by the class that declares it, its name and its descriptor
+abbrev pub field_index : List FieldValue → Declared Field → Option ℕ
+field_index fields field = position (is_field field) fields
 
 -- a field before it is written
 abbrev pub unwritten : Declared Field → FieldValue

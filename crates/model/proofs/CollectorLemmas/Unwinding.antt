@@ -1,14 +1,14 @@
-use Rattle.std.proofs.Common.{◌≡◌, ◌⊎◌, inl, inr, ℕ, zero, suc, Bool, true, false, List, [], ◌∷◌, ◌++◌, map, reverse, set, slice_get, Option, Some, None, nat_le, refl, ◌∙◌, ap, length-set}
+use Rattle.std.proofs.Common.{◌≡◌, ◌⊎◌, inl, inr, ℕ, zero, suc, Bool, true, false, List, [], ◌∷◌, ◌++◌, map, reverse, set, slice_get, Option, Some, None, nat_le, if◌then◌else◌, refl, ◌∙◌, ap, length-set}
 use Rattle.std.proofs.lemmas.List.{reverse-append}
 use Rattle.model.specs.declared.turns.ClassState.{ClassState}
 use Rattle.model.specs.declared.turns.ClassState.TheVariants.{Failed}
 use Rattle.model.specs.declared.turns.Fault.TheVariants.{StackFull}
 use Rattle.model.specs.ClassListings.{ClassListing}
 use Rattle.model.specs.Frames.{Frame}
-use Rattle.model.specs.Worlds.{World, Object, frames_of, frames_at, next_birth, with_class_states}
+use Rattle.model.specs.Worlds.{World, Object, Monitor, frames_of, frames_at, next_birth, with_class_states}
 use Rattle.model.specs.Worlds.Thread.{Live, Ended}
 use Rattle.model.specs.Objects.{object_at, class_at}
-use Rattle.model.specs.Monitors.{is_owner, exited, released, released_object, released_all}
+use Rattle.model.specs.Monitors.{is_owner, exited, monitor_of, with_monitor_if, with_monitor_of, released, released_all}
 use Rattle.model.specs.Initialisation.{with_states}
 use Rattle.model.specs.Unwinding.{Response, response_of, Landing, Way, way_from, way_of, handling, failing, landed, initialised_by, without, thrown}
 use Rattle.model.specs.Unwinding.Response.{Handles, Fails, Leaves}
@@ -41,25 +41,29 @@ pub record Kept (P : ℕ → Type 0) (w : World) (n : ℕ) (v : World) : Type 0 
   pub made : next_birth v ≡ n
   pub objects : ObjectsMove P w.objects v.objects
 
--- a monitor is released, or it isn't
-released_if : (P : ℕ → Type 0) (w v : World) (n t birth : ℕ) (o : Object) (owns : Bool) → object_at v birth ≡ Some o → is_owner t o.monitor.owner ≡ owns → Kept P w n v → Kept P w n (released_object v t birth (Some o))
-released_if P w v n t birth o false e s k = rw s k
-released_if P w v n t birth o true e s k = rw s (record {
+-- an object with another monitor has the same places
+with_monitor_if_keeps : (P : ℕ → Type 0) (w v : World) (n birth : ℕ) (m : Monitor) (o : Option Object) → object_at v birth ≡ o → Kept P w n v → Kept P w n (with_monitor_if v birth m o)
+with_monitor_if_keeps P w v n birth m None e k = k
+with_monitor_if_keeps P w v n birth m (Some o) e k = record {
   fault = k.fault;
   rows = k.rows;
   threads = k.threads;
   fields = k.fields;
-  made = length-set v.objects birth (record o { monitor = exited o.monitor }) ∙ k.made;
-  objects = objects_touched P w.objects v.objects birth o (record o { monitor = exited o.monitor }) e refl k.objects;
-})
+  made = length-set v.objects birth (record o { monitor = m }) ∙ k.made;
+  objects = objects_touched P w.objects v.objects birth o (record o { monitor = m }) e refl k.objects;
+}
 
-released_object_keeps : (P : ℕ → Type 0) (w v : World) (n t birth : ℕ) (o : Option Object) → object_at v birth ≡ o → Kept P w n v → Kept P w n (released_object v t birth o)
-released_object_keeps P w v n t birth None e k = k
-released_object_keeps P w v n t birth (Some o) e k = released_if P w v n t birth o (is_owner t o.monitor.owner) e refl k
+pub with_monitor_keeps : (P : ℕ → Type 0) (w v : World) (n birth : ℕ) (m : Monitor) → Kept P w n v → Kept P w n (with_monitor_of v birth m)
+with_monitor_keeps P w v n birth m k = with_monitor_if_keeps P w v n birth m (object_at v birth) refl k
+
+kept_if : (P : ℕ → Type 0) (w u v : World) (n : ℕ) (b : Bool) → Kept P w n u → Kept P w n v → Kept P w n (if b then u else v)
+kept_if P w u v n true k l = k
+kept_if P w u v n false k l = l
 
 pub released_keeps : (P : ℕ → Type 0) (w v : World) (n t : ℕ) (monitor : Option ℕ) → Kept P w n v → Kept P w n (released v t monitor)
 released_keeps P w v n t None k = k
-released_keeps P w v n t (Some birth) k = released_object_keeps P w v n t birth (object_at v birth) refl k
+released_keeps P w v n t (Some birth) k =
+    kept_if P w _ v n (is_owner t (monitor_of v birth).owner) (with_monitor_keeps P w v n birth (exited (monitor_of v birth)) k) k
 
 all_keep : (P : ℕ → Type 0) (w v : World) (n t : ℕ) (monitors : List (Option ℕ)) → Kept P w n v → Kept P w n (released_all v t monitors)
 all_keep P w v n t [] k = k

@@ -19,7 +19,7 @@ use Rattle.model.specs.Worlds.Contents.{Instance, Array}
 use Rattle.model.specs.Objects.{class_at}
 use Rattle.model.specs.Completions.{Completion, Site, completes, raises}
 use Rattle.model.specs.Completions.Completion.{Faults}
-use Rattle.model.specs.Words.{place_of, contents_at, word_of, with_word, puts}
+use Rattle.model.specs.Words.{field_index, contents_at, word_of, with_word, puts}
 
 -- ---- which word of an object a reference names
 
@@ -29,7 +29,7 @@ fields_in (Array element values) = []
 
 abbrev pub word_place : Site → Member → ℕ → Option ℕ
 word_place s member birth =
-    option_and_then (λ (field : Declared Field). place_of (fields_in (contents_at s.world birth)) field) (resolved_field s.program member)
+    option_and_then (λ (field : Declared Field). field_index (fields_in (contents_at s.world birth)) field) (resolved_field s.program member)
 
 abbrev pub if_subclass : Bool → Option ℕ → Option ℕ
 if_subclass true place = place

@@ -5,30 +5,10 @@ use Rattle.model.specs.declared.turns.Exception.TheVariants.{NullPointer, Illega
 use Rattle.model.specs.declared.instructions.MonitorOperation.{MonitorOperation}
 use Rattle.model.specs.declared.instructions.MonitorOperation.TheVariants.{Enter, Exit}
 use Rattle.model.specs.Frames.{ref_on, replaced}
-use Rattle.model.specs.Worlds.{World, Object, Monitor, free_monitor}
-use Rattle.model.specs.Objects.{object_at}
-use Rattle.model.specs.Monitors.{is_owner, may_enter, is_full, entered, exited, with_monitor}
+use Rattle.model.specs.Worlds.{World, Monitor}
+use Rattle.model.specs.Monitors.{is_owner, may_enter, is_full, entered, exited, monitor_of, with_monitor_of}
 use Rattle.model.specs.Completions.{Completion, Site, moves_in, raises}
 use Rattle.model.specs.Completions.Completion.{Faults, Waits}
-
--- ---- the monitor of a birth
-
-abbrev pub monitor_if : Option Object → Monitor
-monitor_if None = free_monitor
-monitor_if (Some object) = object.monitor
-
-abbrev pub monitor_of : World → ℕ → Monitor
-monitor_of w birth = monitor_if (object_at w birth)
-
-abbrev pub with_monitor_if : World → ℕ → Monitor → Option Object → World
-with_monitor_if w birth monitor None = w
-with_monitor_if w birth monitor (Some object) = with_monitor w birth object monitor
-
--- another monitor of this birth
-abbrev pub with_monitor_of : World → ℕ → Monitor → World
-with_monitor_of w birth monitor = with_monitor_if w birth monitor (object_at w birth)
-
--- ---- the instructions
 
 -- the operand goes, in a world that differs in the monitor alone
 abbrev pub moved_with : Site → World → Completion

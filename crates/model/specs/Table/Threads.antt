@@ -33,7 +33,7 @@ thread_added s birth object thread writes = Goes (with_more (with_frame (numbere
 abbrev pub begins : Site → ℕ → Object → Callee → Completion
 begins s birth object NoCode = Faults NoMethod
 begins s birth object (Own builtin) = thread_added s birth object (Ended None) []
-begins s birth object (Coded method code place) = thread_added s birth object (Live (called_frame place code.max_locals code.max_stack (Ref (Some birth) ∷ []) ∷ [])) (birth ∷ [])
+begins s birth object (Coded m) = thread_added s birth object (Live (called_frame m.place m.code.max_locals m.code.max_stack (Ref (Some birth) ∷ []) ∷ [])) (birth ∷ [])
 
 -- whether the object was started, and whether 64 threads were
 abbrev pub start_if : Completion → Bool → Bool → Completion

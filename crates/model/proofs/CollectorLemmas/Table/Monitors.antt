@@ -1,22 +1,21 @@
-use Rattle.std.proofs.Common.{◌≡◌, ◌⊎◌, inr, ℕ, Bool, true, false, List, [], ◌∷◌, map, Option, Some, None, Result, Ok, Err, if◌then◌else◌, refl, ◌∙◌, length-set}
+use Rattle.std.proofs.Common.{◌≡◌, ◌⊎◌, inr, ℕ, Bool, true, false, List, [], ◌∷◌, map, Option, Some, None, Result, Ok, Err, if◌then◌else◌, refl}
 use Rattle.model.specs.declared.values.Value.{Value}
 use Rattle.model.specs.declared.values.Value.TheVariants.{Int, Long, Ref}
 use Rattle.model.specs.declared.turns.Fault.{Fault}
 use Rattle.model.specs.declared.instructions.MonitorOperation.{MonitorOperation}
 use Rattle.model.specs.declared.instructions.MonitorOperation.TheVariants.{Enter, Exit}
 use Rattle.model.specs.Frames.{running, with_running, ref_on, replaced}
-use Rattle.model.specs.Worlds.{World, Thread, Object, Monitor, frames_of, next_birth, with_thread}
+use Rattle.model.specs.Worlds.{World, Thread, Monitor, frames_of, next_birth, with_thread}
 use Rattle.model.specs.Worlds.Thread.{Live}
-use Rattle.model.specs.Objects.{object_at}
-use Rattle.model.specs.Monitors.{is_owner, may_enter, is_full, entered, exited}
+use Rattle.model.specs.Monitors.{is_owner, may_enter, is_full, entered, exited, monitor_of, with_monitor_of}
 use Rattle.model.specs.Completions.{Completion, Site, frames_in}
-use Rattle.model.specs.Table.Monitors.{monitor_of, with_monitor_if, with_monitor_of, moved_with, enter_if, operates, operates_on, monitor_operated}
+use Rattle.model.specs.Table.Monitors.{moved_with, enter_if, operates, operates_on, monitor_operated}
 use Rattle.model.specs.Collector.Places.{ref_of, slots_of, Reach}
 use Rattle.model.specs.Collector.Invariant.{In}
 use Rattle.model.specs.Collector.Moves.{FramesMove, WorldMoves, CompletionMoves}
 use Rattle.model.proofs.CollectorLemmas.Moving.{AllMay, refs_same, frames_set, threads_set, objects_same}
 use Rattle.model.proofs.CollectorLemmas.Stepping.{replaced_moves}
-use Rattle.model.proofs.CollectorLemmas.Unwinding.{Kept, objects_touched}
+use Rattle.model.proofs.CollectorLemmas.Unwinding.{Kept, with_monitor_keeps}
 
 -- ---- a turn in which monitors change beside one thread
 
@@ -36,20 +35,9 @@ site_kept s v u writes k h known = record {
   };
 }
 
-monitor_if_keeps : (P : ℕ → Type 0) (w v : World) (n birth : ℕ) (m : Monitor) (o : Option Object) → object_at v birth ≡ o → Kept P w n v → Kept P w n (with_monitor_if v birth m o)
-monitor_if_keeps P w v n birth m None e k = k
-monitor_if_keeps P w v n birth m (Some o) e k = record {
-  fault = k.fault;
-  rows = k.rows;
-  threads = k.threads;
-  fields = k.fields;
-  made = length-set v.objects birth (record o { monitor = m }) ∙ k.made;
-  objects = objects_touched P w.objects v.objects birth o (record o { monitor = m }) e refl k.objects;
-}
-
 -- a monitor is no place
 pub monitor_keeps : (P : ℕ → Type 0) (w : World) (birth : ℕ) (m : Monitor) → Kept P w (next_birth w) (with_monitor_of w birth m)
-monitor_keeps P w birth m = monitor_if_keeps P w w (next_birth w) birth m (object_at w birth) refl (kept_same P w)
+monitor_keeps P w birth m = with_monitor_keeps P w w (next_birth w) birth m (kept_same P w)
 
 -- ---- what is found, and tests
 

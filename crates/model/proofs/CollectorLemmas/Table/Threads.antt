@@ -51,13 +51,13 @@ added_moves s e birth o u writes at h known =
 begins_moves : (s : Site) → running (frames_in s) ≡ Some s.frame → (birth : ℕ) (o : Object) (callee : Callee) → object_at s.world birth ≡ Some o → Reach s.world birth → CompletionMoves s.world (begins s birth o callee)
 begins_moves s e birth o NoCode at known = tt
 begins_moves s e birth o (Own builtin) at known = added_moves s e birth o (Ended None) [] at tt (λ b h. absurd h)
-begins_moves s e birth o (Coded method code place) at known =
+begins_moves s e birth o (Coded m) at known =
     let P : ℕ → Type 0 = λ b. ⊥ ⊎ In b (birth ∷ []) in
     let vs = Ref (Some birth) ∷ [] in
-    let f = called_frame place code.max_locals code.max_stack vs in
+    let f = called_frame m.place m.code.max_locals m.code.max_stack vs in
     let may : AllMay P (map ref_of vs) = (λ b k. inr (inl (let r : b ≡ birth = cc in r)), tt) in
     added_moves s e birth o (Live (f ∷ [])) (birth ∷ []) at
-    (refs_new P [] (frame_refs f) (callee_may P place code.max_locals code.max_stack vs may), (λ b k. absurd (cc)), tt)
+    (refs_new P [] (frame_refs f) (callee_may P m.place m.code.max_locals m.code.max_stack vs may), (λ b k. absurd (cc)), tt)
     (λ b h. elim h [ inl r ↦ rw r known | inr n ↦ absurd n ])
 
 start_if_moves : (w : World) (start : Completion) (was full : Bool) → CompletionMoves w start → CompletionMoves w (start_if start was full)
