@@ -18,6 +18,7 @@ pub mod Opening
 pub mod Outcomes
 pub mod Promising
 pub mod Reclaiming
+pub mod Rooms
 pub mod Running
 pub mod Scanning
 pub mod Shading
