@@ -16,9 +16,8 @@ use Rattle.model.specs.Unwinding.{thrown}
 
 -- What a completion does, once it is chosen whether a cell that it asks for is free.
 
--- whether a turn asked for a cell, and whether one had room; a choice that isn't asked for counts for nothing
+-- whether a cell had room; where none is asked for the choice counts for nothing
 pub data Choice : Type 0 where
-  NotAsked : Choice
   NewObject : Choice
   NoRoom : Choice
 
@@ -35,13 +34,11 @@ created_on w t next taken contents None = faulted w t NoInstruction
 created_on w t next taken contents (Some f) = created_with w t contents (replaced_if_room next f taken (Ref (Some (next_birth w)) ∷ []))
 
 abbrev pub created : List ClassListing → World → ℕ → ℕ → ℕ → Contents → Choice → Effect
-created program w t next taken contents NotAsked = created_on w t next taken contents (running (frames_at w t))
 created program w t next taken contents NewObject = created_on w t next taken contents (running (frames_at w t))
 created program w t next taken contents NoRoom = thrown program w w t 1
 
 -- a new exception is thrown, or the OutOfMemoryError that was made before the run
 abbrev pub raised : List ClassListing → World → ℕ → Exception → Choice → Effect
-raised program w t exception NotAsked = thrown program w (with_new w (plain_object (exception_class exception))) t (next_birth w)
 raised program w t exception NewObject = thrown program w (with_new w (plain_object (exception_class exception))) t (next_birth w)
 raised program w t exception NoRoom = thrown program w w t 1
 

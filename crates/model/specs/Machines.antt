@@ -1,4 +1,4 @@
-use Rattle.std.specs.Prelude.{◌≡◌, ℕ, List, [], ◌∷◌, ◌++◌, Bool, true, false, Option, Some, None, is_some, refl}
+use Rattle.std.specs.Prelude.{◌≡◌, ℕ, List, [], ◌∷◌, ◌++◌, Bool, true, false, Option, Some, None, refl}
 use Rattle.model.specs.declared.journals.HeapShape.{HeapShape}
 use Rattle.model.specs.declared.journals.Limits.{Limits}
 use Rattle.model.specs.declared.journals.Row.{Row}
@@ -12,9 +12,10 @@ use Rattle.model.specs.declared.turns.Turn.TheVariants.{Done as TurnDone, Fault 
 use Rattle.model.specs.ClassListings.{ClassListing}
 use Rattle.model.specs.Journals.{JournalValue, blank, with_row as journal_with_row}
 use Rattle.model.specs.Worlds.{World, opening_world, next_birth}
-use Rattle.model.specs.Effects.Choice.{NotAsked, NewObject}
+use Rattle.model.specs.Effects.Choice.{NewObject, NoRoom as NoneHasRoom}
+use Rattle.model.specs.Effects.{Choice}
 use Rattle.model.specs.Table.Next.{next, asked}
-use Rattle.model.specs.Turns.{refusal, choice_of, ideal_step}
+use Rattle.model.specs.Turns.{refusal, is_fault, choice_of, choice_by, ideal_step}
 use Rattle.model.specs.Accounts.{Account, opening_account, has_room, after_turn}
 use Rattle.model.specs.Collector.Table.{collected}
 
@@ -32,7 +33,7 @@ pub record Machine : Type 0 where
 
 abbrev pub account_step : List ClassListing → HeapShape → Machine → Actor → Outcome → Account
 account_step program shape m (Thread t) outcome =
-    after_turn m.account outcome (next_birth m.world) (asked program m.world t) (next program m.world t (choice_of outcome)).writes
+    after_turn m.account outcome (next_birth m.world) (asked program m.world t) (next program m.world t (choice_of program m.world t outcome)).writes
 account_step program shape m Collector outcome = collected shape m.world m.account
 
 abbrev pub account_unless_refused : List ClassListing → HeapShape → Machine → Actor → Outcome → Option Turn → Account
@@ -42,7 +43,7 @@ account_unless_refused program shape m actor outcome None = account_step program
 -- the ideal run's step and the account's, side by side
 abbrev pub advance : List ClassListing → HeapShape → Limits → Machine → Row → Machine
 advance program shape limits m row = record {
-  world = ideal_step program limits m.world row.actor (choice_of row.outcome);
+  world = ideal_step program limits m.world row.actor (choice_by program m.world row.actor row.outcome);
   account = account_unless_refused program shape m row.actor row.outcome (refusal program limits m.world row.actor);
 }
 
@@ -58,23 +59,24 @@ machine_of v = advance_all v.program v.journal.shape v.journal.limits (opening_m
 
 -- ---- from the machine to the next row
 
-abbrev pub is_fault : World → Bool
-is_fault w = is_some w.fault
-
 abbrev pub outcome_by : Bool → Outcome → Outcome
 outcome_by true outcome = Fault
 outcome_by false outcome = outcome
 
+-- what comes of a turn by a choice: this outcome, unless it faults
+abbrev pub outcome_with : List ClassListing → World → ℕ → Choice → Outcome → Outcome
+outcome_with program w t choice outcome = outcome_by (is_fault (next program w t choice).after) outcome
+
 abbrev pub outcome_asked : List ClassListing → World → ℕ → Bool → Outcome
-outcome_asked program w t true = outcome_by (is_fault (next program w t NewObject).after) Object
-outcome_asked program w t false = NoRoom
+outcome_asked program w t true = outcome_with program w t NewObject Object
+outcome_asked program w t false = outcome_with program w t NoneHasRoom NoRoom
 
 abbrev pub outcome_if : List ClassListing → Machine → ℕ → Option ℕ → Outcome
-outcome_if program m t None = outcome_by (is_fault (next program m.world t NotAsked).after) Done
+outcome_if program m t None = outcome_with program m.world t NewObject Done
 outcome_if program m t (Some words) = outcome_asked program m.world t (has_room m.account words)
 
--- what comes of a turn that nothing refuses: NoRoom where it asks for a cell and none has room, Fault where it faults
--- (after an ask that has room too), Object where it asked, else Done
+-- what comes of a turn that nothing refuses: Fault where it faults, whatever it asked for; NoRoom where it asks for a cell and
+-- none has room; Object where one has; else Done
 abbrev pub outcome_of : List ClassListing → Machine → Actor → Outcome
 outcome_of program m (Thread t) = outcome_if program m t (asked program m.world t)
 outcome_of program m Collector = Done

@@ -1,4 +1,4 @@
-use Rattle.std.specs.Prelude.{ℕ, ◌+◌, List, length, nat_lt, nat_le, Bool, false, Option, Some, None, if◌then◌else◌}
+use Rattle.std.specs.Prelude.{ℕ, ◌+◌, List, length, nat_lt, nat_le, Bool, true, false, Option, Some, None, is_some, if◌then◌else◌}
 use Rattle.model.specs.declared.journals.Limits.{Limits}
 use Rattle.model.specs.declared.journals.Outcome.{Outcome}
 use Rattle.model.specs.declared.journals.Outcome.TheVariants.{Done as WasDone, Object as GotObject, NoRoom as FoundNoRoom, Fault as WasFault}
@@ -10,7 +10,7 @@ use Rattle.model.specs.declared.turns.Turn.TheVariants.{NotReady, Stopped, Outpu
 use Rattle.model.specs.ClassListings.{ClassListing}
 use Rattle.model.specs.Worlds.{World, counted}
 use Rattle.model.specs.Effects.{Choice}
-use Rattle.model.specs.Effects.Choice.{NotAsked, NewObject, NoRoom}
+use Rattle.model.specs.Effects.Choice.{NewObject, NoRoom}
 use Rattle.model.specs.Completions.{prints}
 use Rattle.model.specs.Table.Next.{completion, next}
 use Rattle.model.specs.Ready.{is_ready}
@@ -52,12 +52,25 @@ refusal program limits w actor = refusal_after program limits w actor w.fault
 
 -- ---- the ideal run
 
--- after an ask that has room the only fault is F2, so a fault's choice is that of an object
-abbrev pub choice_of : Outcome → Choice
-choice_of WasDone = NotAsked
-choice_of GotObject = NewObject
-choice_of FoundNoRoom = NoRoom
-choice_of WasFault = NewObject
+abbrev pub is_fault : World → Bool
+is_fault w = is_some w.fault
+
+-- a fault changes nothing else, so where both choices lead to it the world after it is one
+abbrev pub faulting : Bool → Choice
+faulting true = NewObject
+faulting false = NoRoom
+
+-- the choice by which a thread's turn came to its outcome: that of a fault is one by which the turn faults
+abbrev pub choice_of : List ClassListing → World → ℕ → Outcome → Choice
+choice_of program w t WasDone = NewObject
+choice_of program w t GotObject = NewObject
+choice_of program w t FoundNoRoom = NoRoom
+choice_of program w t WasFault = faulting (is_fault (next program w t NewObject).after)
+
+-- the collector asks for no cell
+abbrev pub choice_by : List ClassListing → World → Actor → Outcome → Choice
+choice_by program w (Thread t) outcome = choice_of program w t outcome
+choice_by program w Collector outcome = NewObject
 
 abbrev pub acted : List ClassListing → World → Actor → Choice → World
 acted program w (Thread t) choice = (next program w t choice).after

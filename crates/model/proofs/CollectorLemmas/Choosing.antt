@@ -13,7 +13,7 @@ use Rattle.model.specs.Objects.{made_of, with_new, words_in}
 use Rattle.model.specs.Completions.{Completion, asks}
 use Rattle.model.specs.Completions.Completion.{Goes, Prints, Creates, Throws, Raises, Faults, Waits}
 use Rattle.model.specs.Effects.{Choice, created_with, created_on, created, raised, effect_of}
-use Rattle.model.specs.Effects.Choice.{NotAsked, NewObject, NoRoom}
+use Rattle.model.specs.Effects.Choice.{NewObject, NoRoom}
 use Rattle.model.specs.Collector.Places.{contents_refs, slots_of}
 use Rattle.model.specs.Collector.Invariant.{In}
 use Rattle.model.specs.Collector.Moves.{LeadNowhere, CompletionMoves, Moves, Lawful, object_of}
@@ -61,11 +61,10 @@ created_on_lawful w t next taken contents (Some f) e h = created_if_room w t nex
 there : (w : World) (P : ℕ → Type 0) → Kept P w (next_birth w) w
 there w P = record { fault = refl; rows = refl; threads = refl; statics = refl; made = refl; objects = objects_same P w.objects }
 
-no_room_lawful : (program : List ClassListing) (w : World) (t : ℕ) → Lawful w None (effect_of program w t NotAsked (Throws 1))
+no_room_lawful : (program : List ClassListing) (w : World) (t : ℕ) → Lawful w None (effect_of program w t NewObject (Throws 1))
 no_room_lawful program w t = thrown_lawful program w w None t 1 refl (inr (memory_error_known w)) (there w)
 
 created_lawful : (program : List ClassListing) (w : World) (t next taken : ℕ) (contents : Contents) (choice : Choice) → LeadNowhere (contents_refs contents) → Lawful w (object_of choice (Some (words_in contents))) (created program w t next taken contents choice)
-created_lawful program w t next taken contents NotAsked h = created_on_lawful w t next taken contents (running (frames_at w t)) refl h
 created_lawful program w t next taken contents NewObject h = created_on_lawful w t next taken contents (running (frames_at w t)) refl h
 created_lawful program w t next taken contents NoRoom h = no_room_lawful program w t
 
@@ -82,7 +81,6 @@ one_more w class P = record {
 }
 
 raised_lawful : (program : List ClassListing) (w : World) (t : ℕ) (exception : Exception) (choice : Choice) → Lawful w (object_of choice (Some 0)) (raised program w t exception choice)
-raised_lawful program w t exception NotAsked = thrown_lawful program w (with_new w (plain_object (exception_class exception))) (Some 0) t (next_birth w) refl (inl refl) (one_more w (exception_class exception))
 raised_lawful program w t exception NewObject = thrown_lawful program w (with_new w (plain_object (exception_class exception))) (Some 0) t (next_birth w) refl (inl refl) (one_more w (exception_class exception))
 raised_lawful program w t exception NoRoom = no_room_lawful program w t
 
@@ -90,7 +88,6 @@ raised_lawful program w t exception NoRoom = no_room_lawful program w t
 
 -- none is made where none is asked for
 none_made : (choice : Choice) → object_of choice None ≡ None
-none_made NotAsked = refl
 none_made NewObject = refl
 none_made NoRoom = refl
 

@@ -7,10 +7,11 @@ use Rattle.model.specs.Accounts.{Account, has_room, after_turn}
 use Rattle.model.specs.declared.turns.Fault.{Fault as FaultKind}
 use Rattle.model.specs.Worlds.{World, next_birth, counted, with_fault}
 use Rattle.model.specs.Results.{Effect}
-use Rattle.model.specs.Effects.Choice.{NotAsked, NewObject, NoRoom as NoneHasRoom}
-use Rattle.model.specs.Turns.{choice_of}
+use Rattle.model.specs.Effects.{Choice}
+use Rattle.model.specs.Effects.Choice.{NewObject, NoRoom as NoneHasRoom}
+use Rattle.model.specs.Turns.{is_fault, faulting, choice_of}
 use Rattle.model.specs.Table.Next.{next, asked}
-use Rattle.model.specs.Machines.{Machine, is_fault, outcome_by, outcome_asked, outcome_if}
+use Rattle.model.specs.Machines.{Machine, outcome_by, outcome_asked, outcome_if}
 use Rattle.model.specs.Collector.Places.{Place, root_at, word_at}
 use Rattle.model.specs.Collector.Places.Place.{MemoryError, StackError, Slot, FrameEntry, MethodMonitor}
 use Rattle.model.specs.Collector.Invariant.{Invariant}
@@ -20,7 +21,6 @@ use Rattle.model.specs.Collector.Moves.Lawful.{faults, moves}
 use Rattle.model.proofs.CollectorLemmas.Moving.{allowed_from_moves, refs_same, threads_same, objects_same}
 use Rattle.model.proofs.CollectorLemmas.Turning.{world_keeps, changed_keeps}
 use Rattle.model.proofs.CollectorLemmas.Table.Next.{next_lawful}
-use Rattle.model.proofs.NextKeeps.{next-choice}
 
 -- a thread's turn keeps the invariant, whatever its outcome
 
@@ -85,9 +85,9 @@ lawful_either w e (moves s r m) = allowed_from_moves w (change_of None e) m
 
 abbrev pub turn_change : List ClassListing → World → ℕ → Option ℕ → Outcome → Change
 turn_change program w t words outcome = record {
-  after = (next program w t (choice_of outcome)).after;
+  after = (next program w t (choice_of program w t outcome)).after;
   object = taken_by outcome words;
-  writes = written_by outcome (next program w t (choice_of outcome)).writes;
+  writes = written_by outcome (next program w t (choice_of program w t outcome)).writes;
 }
 
 -- what a turn that isn't refused has
@@ -95,36 +95,48 @@ pub record Turns (program : List ClassListing) (m : Machine) (t : ℕ) (words : 
   pub allowed : Allowed m.world (turn_change program m.world t words outcome)
   pub room : RoomFor (taken_by outcome words) m.account
 
-unasked_by : (program : List ClassListing) (m : Machine) (t : ℕ) → m.world.fault ≡ None → asked program m.world t ≡ None → (f : Bool) → is_fault (next program m.world t NotAsked).after ≡ f → Turns program m t None (outcome_by f Done)
-unasked_by program m t n e true f =
-    let l : Lawful m.world None (next program m.world t NotAsked) = rw e at (next_lawful program m.world t NotAsked) in
-    record { allowed = rw (next-choice program m.world t NewObject NotAsked e) (lawful_fault m.world None _ l n f); room = tt }
+-- a fault, which some choice of a thread's turn led to
+faulting_by : (program : List ClassListing) (m : Machine) (t : ℕ) (words : Option ℕ) (choice : Choice) → m.world.fault ≡ None → is_fault (next program m.world t choice).after ≡ true → (f : Bool) → is_fault (next program m.world t NewObject).after ≡ f → Allowed m.world (record { after = (next program m.world t (faulting f)).after; object = None; writes = [] })
+faulting_by program m t words choice n e true f = lawful_fault m.world _ _ (next_lawful program m.world t NewObject) n f
+faulting_by program m t words NewObject n e false f = absurd (cc)
+faulting_by program m t words NoneHasRoom n e false f = lawful_fault m.world _ _ (next_lawful program m.world t NoneHasRoom) n e
+
+fault_turns : (program : List ClassListing) (m : Machine) (t : ℕ) (words : Option ℕ) (choice : Choice) → m.world.fault ≡ None → is_fault (next program m.world t choice).after ≡ true → Turns program m t words Fault
+fault_turns program m t words choice n e =
+    record { allowed = faulting_by program m t words choice n e (is_fault (next program m.world t NewObject).after) refl; room = tt }
+
+unasked_by : (program : List ClassListing) (m : Machine) (t : ℕ) → m.world.fault ≡ None → asked program m.world t ≡ None → (f : Bool) → is_fault (next program m.world t NewObject).after ≡ f → Turns program m t None (outcome_by f Done)
+unasked_by program m t n e true f = fault_turns program m t None NewObject n f
 unasked_by program m t n e false f =
-    let l : Lawful m.world None (next program m.world t NotAsked) = rw e at (next_lawful program m.world t NotAsked) in
+    let l : Lawful m.world None (next program m.world t NewObject) = rw e at (next_lawful program m.world t NewObject) in
     record { allowed = lawful_done m.world None _ l f; room = tt }
 
-asked_by : (program : List ClassListing) (m : Machine) (t words : ℕ) → m.world.fault ≡ None → asked program m.world t ≡ Some words → has_room m.account words ≡ true → (f : Bool) → is_fault (next program m.world t NewObject).after ≡ f → Turns program m t (Some words) (outcome_by f Object)
-asked_by program m t words n e room true f =
-    let l : Lawful m.world (Some words) (next program m.world t NewObject) = rw e at (next_lawful program m.world t NewObject) in
-    record { allowed = lawful_fault m.world (Some words) _ l n f; room = tt }
-asked_by program m t words n e room false f =
+-- a cell has room
+roomy_by : (program : List ClassListing) (m : Machine) (t words : ℕ) → m.world.fault ≡ None → asked program m.world t ≡ Some words → has_room m.account words ≡ true → (f : Bool) → is_fault (next program m.world t NewObject).after ≡ f → Turns program m t (Some words) (outcome_by f Object)
+roomy_by program m t words n e room true f = fault_turns program m t (Some words) NewObject n f
+roomy_by program m t words n e room false f =
     let l : Lawful m.world (Some words) (next program m.world t NewObject) = rw e at (next_lawful program m.world t NewObject) in
     record { allowed = lawful_done m.world (Some words) _ l f; room = room }
 
-roomed_by : (program : List ClassListing) (m : Machine) (t words : ℕ) → m.world.fault ≡ None → asked program m.world t ≡ Some words → (room : Bool) → has_room m.account words ≡ room → Turns program m t (Some words) (outcome_asked program m.world t room)
-roomed_by program m t words n e true r = asked_by program m t words n e r (is_fault (next program m.world t NewObject).after) refl
-roomed_by program m t words n e false r = record { allowed = lawful_either m.world _ (next_lawful program m.world t NoneHasRoom); room = tt }
+-- none has
+full_by : (program : List ClassListing) (m : Machine) (t words : ℕ) → m.world.fault ≡ None → (f : Bool) → is_fault (next program m.world t NoneHasRoom).after ≡ f → Turns program m t (Some words) (outcome_by f NoRoom)
+full_by program m t words n true f = fault_turns program m t (Some words) NoneHasRoom n f
+full_by program m t words n false f = record { allowed = lawful_either m.world _ (next_lawful program m.world t NoneHasRoom); room = tt }
+
+asked_by : (program : List ClassListing) (m : Machine) (t words : ℕ) → m.world.fault ≡ None → asked program m.world t ≡ Some words → (room : Bool) → has_room m.account words ≡ room → Turns program m t (Some words) (outcome_asked program m.world t room)
+asked_by program m t words n e true r = roomy_by program m t words n e r (is_fault (next program m.world t NewObject).after) refl
+asked_by program m t words n e false r = full_by program m t words n (is_fault (next program m.world t NoneHasRoom).after) refl
 
 pub turns_by : (program : List ClassListing) (m : Machine) (t : ℕ) (words : Option ℕ) → m.world.fault ≡ None → asked program m.world t ≡ words → Turns program m t words (outcome_if program m t words)
-turns_by program m t None n e = unasked_by program m t n e (is_fault (next program m.world t NotAsked).after) refl
-turns_by program m t (Some words) n e = roomed_by program m t words n e (has_room m.account words) refl
+turns_by program m t None n e = unasked_by program m t n e (is_fault (next program m.world t NewObject).after) refl
+turns_by program m t (Some words) n e = asked_by program m t words n e (has_room m.account words) refl
 
 -- a turn that isn't refused keeps the invariant
 pub turn_keeps : (program : List ClassListing) (shape : HeapShape) (m : Machine) (t : ℕ) (outcome : Outcome) → outcome ≡ outcome_if program m t (asked program m.world t) → m.world.fault ≡ None → Invariant shape m.world (next_birth m.world) m.account
-    → Invariant shape (counted (next program m.world t (choice_of outcome)).after) (next_birth (next program m.world t (choice_of outcome)).after) (after_turn m.account outcome (next_birth m.world) (asked program m.world t) (next program m.world t (choice_of outcome)).writes)
+    → Invariant shape (counted (next program m.world t (choice_of program m.world t outcome)).after) (next_birth (next program m.world t (choice_of program m.world t outcome)).after) (after_turn m.account outcome (next_birth m.world) (asked program m.world t) (next program m.world t (choice_of program m.world t outcome)).writes)
 turn_keeps program shape m t outcome is n i =
     let words = asked program m.world t in
     let c = turn_change program m.world t words outcome in
     let h : Turns program m t words outcome = rw is (turns_by program m t words n refl) in
-    rw (after_is m.world m.account outcome words c.after (next program m.world t (choice_of outcome)).writes)
+    rw (after_is m.world m.account outcome words c.after (next program m.world t (choice_of program m.world t outcome)).writes)
     (counted_keeps shape c.after (next_birth c.after) (changed m.world m.account c) (changed_keeps shape m.world m.account c h.room h.allowed i))

@@ -50,7 +50,7 @@ row_on : (L : ℕ → Type 0) (s : ℕ) (program : List ClassListing) (shape : H
 unfolding Holds
 row_on L s program shape limits m actor (Some refused) e i f = f
 row_on L s program shape limits m (Thread t) None e i f =
-    rw (e, after_is m.world m.account (outcome_of program m (Thread t)) (asked program m.world t) (next program m.world t (choice_of (outcome_of program m (Thread t)))).after (next program m.world t (choice_of (outcome_of program m (Thread t)))).writes)
+    rw (e, after_is m.world m.account (outcome_of program m (Thread t)) (asked program m.world t) (next program m.world t (choice_of program m.world t (outcome_of program m (Thread t)))).after (next program m.world t (choice_of program m.world t (outcome_of program m (Thread t)))).writes)
     (changed_on L s program shape m t (unfaulted program limits m.world t e) i f)
 row_on L s program shape limits m Collector None e i f = rw e (record {
   apart = counted_apart L m.world f.apart;

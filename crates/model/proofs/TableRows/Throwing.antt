@@ -20,7 +20,7 @@ use Rattle.model.specs.Results.{Effect, faulted}
 use Rattle.model.specs.Completions.{Completion, asks, prints, raises}
 use Rattle.model.specs.Completions.Completion.{Goes, Prints, Creates, Throws, Faults}
 use Rattle.model.specs.Effects.{Choice, effect_of}
-use Rattle.model.specs.Effects.Choice.{NotAsked, NewObject, NoRoom}
+use Rattle.model.specs.Effects.Choice.{NewObject, NoRoom}
 
 -- ---- the program: main's rows and those of the method that it calls
 
@@ -104,7 +104,7 @@ abbrev then : World → List ℕ → Effect
 then after writes = record { after = after; writes = writes }
 
 abbrev throws : List ExceptionRow → List ExceptionRow → World → ℕ → Effect
-throws outer inner w birth = effect_of (program outer inner) w 0 NotAsked (Throws birth)
+throws outer inner w birth = effect_of (program outer inner) w 0 NewObject (Throws birth)
 
 -- ---- which row takes it: its range begins at start and ends before end, and the first that fits counts
 
@@ -249,7 +249,7 @@ not_created = refl
 -- ---- the rest
 
 abbrev ready : Completion → Effect
-ready c = effect_of (program [] []) (before 3) 0 NotAsked c
+ready c = effect_of (program [] []) (before 3) 0 NewObject c
 
 printed : ready (Prints (before 4) (66 ∷ 10 ∷ [])) ≡ then (record (before 4) { output = 65 ∷ 66 ∷ 10 ∷ [] }) []
 printed = refl

@@ -4,7 +4,7 @@ use Rattle.model.specs.declared.turns.Abrupt.{Abrupt}
 use Rattle.model.specs.Frames.{Frame, Moved}
 use Rattle.model.specs.Results.{Effect, faulted}
 use Rattle.model.specs.Effects.{Choice}
-use Rattle.model.specs.Effects.Choice.{NotAsked, NewObject, NoRoom}
+use Rattle.model.specs.Effects.Choice.{NewObject, NoRoom}
 use Rattle.model.specs.Worlds.{World, Thread, Object, frames_of, next_birth}
 use Rattle.model.specs.Completions.{Completion}
 use Rattle.model.specs.Completions.Completion.{Goes, Prints, Creates, Throws, Raises, Faults, Waits}
@@ -59,7 +59,6 @@ change_of object e = record { after = e.after; object = object; writes = e.write
 -- how many words the new object has, by what was chosen and asked for: there is none where none was asked for, and otherwise
 -- unless none had room
 abbrev pub object_of : Choice → Option ℕ → Option ℕ
-object_of NotAsked words = words
 object_of NewObject words = words
 object_of NoRoom words = None
 
