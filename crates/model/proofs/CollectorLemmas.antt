@@ -5,6 +5,7 @@ pub mod Choosing
 pub mod Collecting
 pub mod Fading
 pub mod FadingTurns
+pub mod FindingRoom
 pub mod Holding
 pub mod Keeping
 pub mod KeepingTurns
