@@ -15,13 +15,13 @@ ghost use Rattle.model.specs.Collector.Runs.{Always, Holds};
 ghost use Rattle.model.specs.Shows.{Shows};
 ghost use Rattle.model.specs.Heaps.{heap_of};
 
-/// Whatever threads and collector do, in whatever order: the invariant of three colours holds, with paths and without; a
-/// reachable birth has one cell, and the collector gives back no cell whose birth a path reaches (Dijkstra et al.,
+/// Whatever threads and collector do, in whatever order: the invariant of three colours holds, with paths and without;
+/// a reachable birth has one cell, and the collector gives back no cell whose birth a path reaches (Dijkstra et al.,
 /// CACM 21(11), 1978); a birth that no path reaches outside Append has no cell once two cycles have ended; the lists of
-/// free cells have one of so many words exactly where some free cell of the heap has so many; a thread's turn finds no room
-/// exactly where it asks for a cell and no free cell has so many words; and with each object in its birth's cell, the cells
-/// show the threads, the static fields, the output and the reachable objects of the ideal world, where nothing is ever
-/// freed. The first two clauses say of a single step that it keeps the invariant.
+/// free cells have one of so many words exactly where some free cell of the heap has so many; a thread's turn finds no
+/// room exactly where it asks for a cell and no free cell has so many words; and with each object in its birth's cell,
+/// the cells show the threads, the static fields, the output and the reachable objects of the ideal world, where
+/// nothing is ever freed. The first two clauses say of a single step that it keeps the invariant.
 pub fn no_reachable_object_is_lost()
     ensures collector { (shape : HeapShape) (w : World) (n : ℕ) (a : Account) → Invariant shape w n a → Invariant shape w n (collected shape w a) }
     ensures thread { (shape : HeapShape) (w : World) (a : Account) (c : Change) → RoomFor c.object a → Allowed w c → Invariant shape w (next_birth w) a → Invariant shape c.after (next_birth c.after) (changed w a c) }
