@@ -5,6 +5,7 @@ pub mod Choosing
 pub mod Collecting
 pub mod Fading
 pub mod FadingTurns
+pub mod FindingRoom
 pub mod Holding
 pub mod Keeping
 pub mod KeepingTurns
@@ -18,6 +19,7 @@ pub mod Opening
 pub mod Outcomes
 pub mod Promising
 pub mod Reclaiming
+pub mod Rooms
 pub mod Running
 pub mod Scanning
 pub mod Shading

@@ -25,6 +25,7 @@ pub mod Printing
 pub mod Programs
 pub mod Ready
 pub mod Results
+pub mod Room
 pub mod Served
 pub mod Shows
 pub mod Signatures

@@ -118,6 +118,14 @@ blackened_before b cells c a x e = go (cell_at cells c) refl
 blackened_held : (b : ℕ) (cells : List Cell) (c a : ℕ) (x : Colour) → cell_at (map (blackened b) cells) c ≡ Taken a x → (y : Colour) × (cell_at cells c ≡ Taken a y)
 blackened_held b cells c a x k = elim (blackened_before b cells c a x k) [ inl s ↦ (x, s.0) | inr s ↦ s.2 ]
 
+blackened-free_by : (a : ℕ) (x : Colour) (t : Bool) → (if t then Taken a Black else Taken a x) ≡ Free → ⊥
+blackened-free_by a x true e = cc
+blackened-free_by a x false e = cc
+
+blackened-free : (b : ℕ) (x : Cell) → blackened b x ≡ Free → x ≡ Free
+blackened-free b Free e = refl
+blackened-free b (Taken a x) e = absurd (blackened-free_by a x (nat_eq a b) e)
+
 tidy-black : (shape : HeapShape) (n : ℕ) (a : Account) (b q : ℕ) (rest : List ℕ) → Tidy shape n (in_mark a (b ∷ rest) q) → Tidy shape n (record a { cells = map (blackened b) a.cells; grey = rest; phase = Mark 0 })
 tidy-black shape n a b q rest h =
     let held = blackened_held b a.cells in
@@ -135,9 +143,9 @@ tidy-black shape n a b q rest h =
         | inr s ↦ absurd (h.once.0 (rw s.0 at k))
       ]);
       once = h.once.1;
-      small = spare-map (blackened b) refl a.cells _ _ a.small h.small;
-      medium = spare-map (blackened b) refl a.cells _ _ a.medium h.medium;
-      large = spare-map (blackened b) refl a.cells _ _ a.large h.large;
+      small = spare-map (blackened b) refl (blackened-free b) a.cells _ _ a.small h.small;
+      medium = spare-map (blackened b) refl (blackened-free b) a.cells _ _ a.medium h.medium;
+      large = spare-map (blackened b) refl (blackened-free b) a.cells _ _ a.large h.large;
     }
 
 black_kept : (cells : List Cell) (b q a : ℕ) → HasKept (Mark q) cells a → HasKept (Mark 0) (map (blackened b) cells) a

@@ -17,8 +17,9 @@ use Rattle.model.specs.Collector.Places.{Place, ref_at, entries_at, monitor_at, 
 use Rattle.model.specs.Collector.Places.Place.{MemoryError, StackError, Slot, FrameEntry, MethodMonitor}
 use Rattle.model.specs.Collector.Table.{cell_at}
 use Rattle.model.specs.Collector.Invariant.{In, Distinct, Spare, Tidy, Invariant}
+use Rattle.model.proofs.CollectorLemmas.Cells.{same_or_not}
 use Rattle.model.proofs.CollectorLemmas.Words.{nowhere_at, opening_nowhere}
-use Rattle.model.proofs.CollectorLemmas.Taking.{relisted, Takes, takes, came_before, came_after, came_here, tidy-came, placed_is, room_for_none}
+use Rattle.model.proofs.CollectorLemmas.Taking.{relisted, Takes, takes, came_before, came_after, came_here, placed_is, room_for_none}
 
 -- the opening meets the invariant
 
@@ -43,6 +44,10 @@ numbers-within zero first c h = absurd h
 numbers-within (suc n) first c (inl e) = (omega arith, omega arith)
 numbers-within (suc n) first c (inr h) = let k = numbers-within n (first + 1) c h in (omega arith, omega arith)
 
+numbers-all : (n first c : ℕ) → first ≤ c → c < first + n → In c (numbers_up first n)
+numbers-all zero first c l u = absurd (omega arith)
+numbers-all (suc n) first c l u = elim (same_or_not first c) [ inl e ↦ inl e | inr ne ↦ inr (numbers-all n (first + 1) c (grind arith) (omega arith)) ]
+
 numbers-distinct : (n first : ℕ) → Distinct (numbers_up first n)
 numbers-distinct zero first = tt
 numbers-distinct (suc n) first = (λ h. let k = numbers-within n (first + 1) first h in omega arith, numbers-distinct n (first + 1))
@@ -52,7 +57,12 @@ length-numbers zero first = refl
 length-numbers (suc n) first = ap suc (length-numbers n (first + 1))
 
 spare-opening : (cells first past n : ℕ) → past ≡ first + n → Spare (replicate cells Free) first past (numbers_up first n)
-spare-opening cells first past n e = record { unused = λ c h. all_free cells c; fits = λ c h. (let k = numbers-within n first c h in (k.0, (let u = k.1 in omega arith))); once = numbers-distinct n first }
+spare-opening cells first past n e = record {
+  unused = λ c h. all_free cells c;
+  fits = λ c h. (let k = numbers-within n first c h in (k.0, (let u = k.1 in omega arith)));
+  listed = λ c l u h. numbers-all n first c l (omega arith);
+  once = numbers-distinct n first;
+}
 
 tidy-empty : (shape : HeapShape) → Tidy shape 1 (empty_account shape)
 tidy-empty shape =
@@ -112,7 +122,7 @@ begins shape two =
       medium = t.medium;
       large = t.large;
       is = placed_is shape 1 o 0 White room.0 t room.1;
-      tidy = tidy-came shape 1 (relisted o t.small t.medium t.large) c White (omega arith) t.was_free t.within t.not_small t.not_medium t.not_large t.tidy;
+      tidy = t.tidy White (omega arith);
       memory = (c, came.here);
       white = λ e y x k. elim (came_before 1 c White _ _ came e y x k) [ inl s ↦ s.2 | inr s ↦ absurd (no_birth _ e y x s) ];
       left = (let l = t.left in omega arith);
@@ -136,7 +146,7 @@ opens shape two =
       medium = t.medium;
       large = t.large;
       is = second_is shape (placed (empty_account shape) 1 0 White) o room.0 t f.is room.1;
-      tidy = tidy-came shape 2 (relisted o t.small t.medium t.large) c White (omega arith) t.was_free t.within t.not_small t.not_medium t.not_large t.tidy;
+      tidy = t.tidy White (omega arith);
       memory = (f.memory.0, came_after 2 c White _ _ came f.memory.0 1 White f.memory.1);
       stack = (c, came.here);
       white = λ e y x k. elim (came_before 2 c White _ _ came e y x k) [ inl s ↦ s.2 | inr s ↦ f.white e y x s ];

@@ -1,11 +1,11 @@
-use Rattle.std.proofs.Common.{◌≡◌, inl, inr, ℕ, Bool, true, false, if◌then◌else◌, List, [], ◌∷◌, ◌++◌, map, refl, ◌∙◌, ap, arith}
+use Rattle.std.proofs.Common.{◌≡◌, inl, inr, ℕ, Bool, true, false, if◌then◌else◌, List, [], ◌∷◌, ◌++◌, map, nat_eq, refl, ◌∙◌, ap, arith}
 use Rattle.model.specs.declared.colours.Colour.{Colour}
 use Rattle.model.specs.declared.colours.Colour.TheVariants.{White, Grey, Black}
 use Rattle.model.specs.declared.colours.Phase.{Phase}
 use Rattle.model.specs.declared.colours.Phase.TheVariants.{Idle, Statics, Frames, Mark, Append}
 use Rattle.model.specs.declared.journals.HeapShape.{HeapShape}
 use Rattle.model.specs.Accounts.{Cell, Account, tint, has_white, shade, shade_all}
-use Rattle.model.specs.Accounts.Cell.{Taken}
+use Rattle.model.specs.Accounts.Cell.{Free, Taken}
 use Rattle.model.specs.Worlds.{World}
 use Rattle.model.specs.Collector.Places.{Reach}
 use Rattle.model.specs.Collector.Places.Reach.{at_root, by_word}
@@ -55,6 +55,16 @@ once-shade shape n a b true e h =
     cc)
 once-shade shape n a b false e h = h.once
 
+tint-free_by : (a b : ℕ) (t : Bool) → (if t then Taken a Grey else Taken a White) ≡ Free → ⊥
+tint-free_by a b true e = cc
+tint-free_by a b false e = cc
+
+tint-free : (b : ℕ) (x : Cell) → tint b x ≡ Free → x ≡ Free
+tint-free b Free e = refl
+tint-free b (Taken a White) e = absurd (tint-free_by a b (nat_eq a b) e)
+tint-free b (Taken a Grey) e = absurd (cc)
+tint-free b (Taken a Black) e = absurd (cc)
+
 pub tidy-shade : (shape : HeapShape) (n : ℕ) (a : Account) (b : ℕ) (t : Bool) → has_white b a.cells ≡ t → Tidy shape n a → Tidy shape n (record a { cells = map (tint b) a.cells; grey = grey_after t a.grey b })
 tidy-shade shape n a b t e h =
     let d = tinted_darker b a.cells in
@@ -66,9 +76,9 @@ tidy-shade shape n a b t e h =
       listed = listed-shade shape n a b t e h;
       only_grey = only-shade shape n a b t e h;
       once = once-shade shape n a b t e h;
-      small = spare-map (tint b) refl a.cells _ _ a.small h.small;
-      medium = spare-map (tint b) refl a.cells _ _ a.medium h.medium;
-      large = spare-map (tint b) refl a.cells _ _ a.large h.large;
+      small = spare-map (tint b) refl (tint-free b) a.cells _ _ a.small h.small;
+      medium = spare-map (tint b) refl (tint-free b) a.cells _ _ a.medium h.medium;
+      large = spare-map (tint b) refl (tint-free b) a.cells _ _ a.large h.large;
     }
 
 -- a cell that is kept after the shading was kept before

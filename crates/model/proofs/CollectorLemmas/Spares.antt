@@ -1,48 +1,69 @@
-use Rattle.std.proofs.Common.{◌≡◌, inl, inr, ℕ, ◌<◌, ◌≤◌, List, [], ◌∷◌, ◌++◌, map, set, ◌∙◌, ap}
+use Rattle.std.proofs.Common.{◌≡◌, inl, inr, ℕ, ◌<◌, ◌≤◌, List, [], ◌∷◌, ◌++◌, length, map, set, sym, ◌∙◌, ap}
+use Rattle.model.specs.declared.colours.Colour.{Colour}
 use Rattle.model.specs.declared.colours.Phase.{Phase}
 use Rattle.model.specs.declared.journals.HeapShape.{HeapShape}
 use Rattle.model.specs.Accounts.{Cell, Account}
-use Rattle.model.specs.Accounts.Cell.{Free}
+use Rattle.model.specs.Accounts.Cell.{Free, Taken}
 use Rattle.model.specs.Collector.Table.{cell_at, at_phase}
 use Rattle.model.specs.Collector.Invariant.{In, Spare, Tidy}
-use Rattle.model.proofs.CollectorLemmas.Lists.{In-push_cases, Distinct-push}
-use Rattle.model.proofs.CollectorLemmas.Cells.{cell_at-map, cell_at-set_other}
+use Rattle.model.proofs.CollectorLemmas.Lists.{In-left, In-last, In-push_cases, Distinct-push}
+use Rattle.model.proofs.CollectorLemmas.Cells.{cell_at-map, cell_at-set_cases, cell_at-set_other}
 
 -- a list of free cells after a change of the cells or of the list
 
-pub spare-map : (f : Cell → Cell) → f Free ≡ Free → (cells : List Cell) (first past : ℕ) (free : List ℕ) → Spare cells first past free → Spare (map f cells) first past free
-spare-map f e cells first past free h = record {
+-- each cell changes, none of them to a free one
+pub spare-map : (f : Cell → Cell) → f Free ≡ Free → ((x : Cell) → f x ≡ Free → x ≡ Free) → (cells : List Cell) (first past : ℕ) (free : List ℕ) → Spare cells first past free → Spare (map f cells) first past free
+spare-map f e none cells first past free h = record {
   unused = λ c k. cell_at-map f e cells c ∙ ap f (h.unused c k) ∙ e;
   fits = h.fits;
+  listed = λ c l u k. h.listed c l u (none (cell_at cells c) (sym (cell_at-map f e cells c) ∙ k));
   once = h.once;
 }
 
--- a cell that isn't of the list is written
-pub spare-set : (cells : List Cell) (p : ℕ) (x : Cell) (first past : ℕ) (free : List ℕ) → (In p free → ⊥) → Spare cells first past free → Spare (set cells p x) first past free
-spare-set cells p x first past free n h = record {
-  unused = λ c k. cell_at-set_other cells p c x (λ e. n (rw (← e) k)) ∙ h.unused c k;
+-- a cell of another size is written
+pub spare-unfit : (cells : List Cell) (p : ℕ) (x : Cell) (first past : ℕ) (free : List ℕ) → ((first ≤ p) × (p < past) → ⊥) → Spare cells first past free → Spare (set cells p x) first past free
+spare-unfit cells p x first past free n h = record {
+  unused = λ c k. cell_at-set_other cells p c x (λ e. n (rw (← e) (h.fits c k))) ∙ h.unused c k;
   fits = h.fits;
+  listed = λ c l u k. h.listed c l u (sym (cell_at-set_other cells p c x (λ e. n (rw (← e) (l, u)))) ∙ k);
   once = h.once;
 }
 
 -- a cell that isn't free is of no list
-pub unfree : (cells : List Cell) (p : ℕ) (first past : ℕ) (free : List ℕ) → (cell_at cells p ≡ Free → ⊥) → Spare cells first past free → In p free → ⊥
+unfree : (cells : List Cell) (p : ℕ) (first past : ℕ) (free : List ℕ) → (cell_at cells p ≡ Free → ⊥) → Spare cells first past free → In p free → ⊥
 unfree cells p first past free n h k = n (h.unused p k)
 
--- a cell of another size is of no list
-pub unfit : (cells : List Cell) (p first past : ℕ) (free : List ℕ) → Spare cells first past free → ((first ≤ p) × (p < past) → ⊥) → In p free → ⊥
-unfit cells p first past free h n k = n (h.fits p k)
+-- a cell that isn't free is written, and stays so
+pub spare-set : (cells : List Cell) (p b : ℕ) (x : Colour) (first past : ℕ) (free : List ℕ) → p < length cells → (cell_at cells p ≡ Free → ⊥) → Spare cells first past free → Spare (set cells p (Taken b x)) first past free
+spare-set cells p b x first past free lt n h = record {
+  unused = λ c k. cell_at-set_other cells p c (Taken b x) (λ e. unfree cells p first past free n h (rw (← e) k)) ∙ h.unused c k;
+  fits = h.fits;
+  listed = λ c l u k. elim (cell_at-set_cases cells p c (Taken b x) lt) [ inl s ↦ (let z = s.1 in absurd (cc)) | inr s ↦ h.listed c l u (sym s.1 ∙ k) ];
+  once = h.once;
+}
 
--- the front cell is taken
-pub spare-tail : (cells : List Cell) (first past c : ℕ) (free : List ℕ) → Spare cells first past (c ∷ free) → Spare cells first past free
-spare-tail cells first past c free h = record { unused = λ d k. h.unused d (inr k); fits = λ d k. h.fits d (inr k); once = h.once.1 }
+-- the front cell is taken, and a birth comes into it
+pub spare-taken : (cells : List Cell) (c b : ℕ) (x : Colour) (first past : ℕ) (free : List ℕ) → c < length cells → Spare cells first past (c ∷ free) → Spare (set cells c (Taken b x)) first past free
+spare-taken cells c b x first past free lt h = record {
+  unused = λ d k. cell_at-set_other cells c d (Taken b x) (λ e. h.once.0 (rw (← e) k)) ∙ h.unused d (inr k);
+  fits = λ d k. h.fits d (inr k);
+  listed = λ d l u k. elim (cell_at-set_cases cells c d (Taken b x) lt) [
+    | inl s ↦ (let z = s.1 in absurd (cc))
+    | inr s ↦ elim (h.listed d l u (sym s.1 ∙ k)) [ inl e ↦ absurd (s.0 e) | inr r ↦ r ]
+  ];
+  once = h.once.1;
+}
 
--- a free cell of the size comes to the end of the list
-pub spare-push : (cells : List Cell) (first past p : ℕ) (free : List ℕ) → cell_at cells p ≡ Free → first ≤ p → p < past → (In p free → ⊥) → Spare cells first past free → Spare cells first past (free ++ p ∷ [])
-spare-push cells first past p free e l u n h = record {
-  unused = λ c k. elim (In-push_cases free p c k) [ inl r ↦ h.unused c r | inr s ↦ rw s e ];
+-- a cell of the size is given back, and comes to the end of the list
+pub spare-freed : (cells : List Cell) (p first past : ℕ) (free : List ℕ) → p < length cells → (cell_at cells p ≡ Free → ⊥) → first ≤ p → p < past → Spare cells first past free → Spare (set cells p Free) first past (free ++ p ∷ [])
+spare-freed cells p first past free lt n l u h = record {
+  unused = λ c k. elim (cell_at-set_cases cells p c Free lt) [
+    | inl s ↦ s.1
+    | inr s ↦ elim (In-push_cases free p c k) [ inl r ↦ s.1 ∙ h.unused c r | inr e ↦ absurd (s.0 e) ]
+  ];
   fits = λ c k. elim (In-push_cases free p c k) [ inl r ↦ h.fits c r | inr s ↦ rw s (l, u) ];
-  once = Distinct-push free p h.once n;
+  listed = λ c m v k. elim (cell_at-set_cases cells p c Free lt) [ inl s ↦ rw s.0 (In-last free p) | inr s ↦ In-left free (p ∷ []) c (h.listed c m v (sym s.1 ∙ k)) ];
+  once = Distinct-push free p h.once (unfree cells p first past free n h);
 }
 
 -- ---- an account in another phase

@@ -9,8 +9,8 @@ use Rattle.model.specs.Worlds.{World}
 use Rattle.model.specs.Collector.Places.{word_at}
 use Rattle.model.specs.Collector.Table.{cell_at, at_phase, listed_in, with_cell, swept, append_step, step_in}
 use Rattle.model.specs.Collector.Invariant.{Kept, HasKept, Spare, Tidy, Invariant}
-use Rattle.model.proofs.CollectorLemmas.Cells.{cell_at-set_cases, cell_at-set_same, cell_at-set_other, taken_within}
-use Rattle.model.proofs.CollectorLemmas.Spares.{spare-set, spare-push, unfree, tidy-phase}
+use Rattle.model.proofs.CollectorLemmas.Cells.{cell_at-set_cases, cell_at-set_other, taken_within}
+use Rattle.model.proofs.CollectorLemmas.Spares.{spare-unfit, spare-set, spare-freed, tidy-phase}
 
 -- the steps of appending keep the invariant
 
@@ -111,29 +111,21 @@ freed_by shape w n a p b x y ex ey e i = go x y ex ey
     within : p < length a.cells
     within = taken_within a.cells p b White e
 
-    small : Spare (set a.cells p Free) 0 shape.small a.small
-    small = spare-set a.cells p Free _ _ a.small (unfree a.cells p _ _ a.small taken i.tidy.small) i.tidy.small
-
-    medium : Spare (set a.cells p Free) shape.small (shape.small + shape.medium) a.medium
-    medium = spare-set a.cells p Free _ _ a.medium (unfree a.cells p _ _ a.medium taken i.tidy.medium) i.tidy.medium
-
-    large : Spare (set a.cells p Free) (shape.small + shape.medium) (shape.small + shape.medium + shape.large) a.large
-    large = spare-set a.cells p Free _ _ a.large (unfree a.cells p _ _ a.large taken i.tidy.large) i.tidy.large
-
-    here : cell_at (set a.cells p Free) p ≡ Free
-    here = cell_at-set_same a.cells p Free within
-
     go : (x y : Bool) → nat_lt p shape.small ≡ x → nat_lt p (shape.small + shape.medium) ≡ y → Invariant shape w n (at_phase (listed_in (with_cell a p Free) p x y) (Append (p + 1)))
     go true y ex ey =
-        let list = spare-push (set a.cells p Free) 0 shape.small p a.small here (omega arith) (ltb-true p _ ex) (unfree a.cells p _ _ a.small taken i.tidy.small) small in
-        freed_keeps shape w n a p b (a.small ++ p ∷ []) a.medium a.large e (tidy-freed shape n a p b (a.small ++ p ∷ []) a.medium a.large e list medium large i.tidy) i
+        let below = ltb-true p _ ex in
+        let list = spare-freed a.cells p _ _ a.small within taken (omega arith) below i.tidy.small in
+        freed_keeps shape w n a p b (a.small ++ p ∷ []) a.medium a.large e (tidy-freed shape n a p b (a.small ++ p ∷ []) a.medium a.large e list (spare-unfit a.cells p Free _ _ a.medium (λ k. let l = k.0 in omega arith) i.tidy.medium) (spare-unfit a.cells p Free _ _ a.large (λ k. let l = k.0 in omega arith) i.tidy.large) i.tidy) i
     go false true ex ey =
-        let list = spare-push (set a.cells p Free) shape.small (shape.small + shape.medium) p a.medium here (ltb-false p _ ex) (ltb-true p _ ey) (unfree a.cells p _ _ a.medium taken i.tidy.medium) medium in
-        freed_keeps shape w n a p b a.small (a.medium ++ p ∷ []) a.large e (tidy-freed shape n a p b a.small (a.medium ++ p ∷ []) a.large e small list large i.tidy) i
+        let above = ltb-false p _ ex in
+        let below = ltb-true p _ ey in
+        let list = spare-freed a.cells p _ _ a.medium within taken above below i.tidy.medium in
+        freed_keeps shape w n a p b a.small (a.medium ++ p ∷ []) a.large e (tidy-freed shape n a p b a.small (a.medium ++ p ∷ []) a.large e (spare-unfit a.cells p Free _ _ a.small (λ k. let u = k.1 in omega arith) i.tidy.small) list (spare-unfit a.cells p Free _ _ a.large (λ k. let l = k.0 in omega arith) i.tidy.large) i.tidy) i
     go false false ex ey =
+        let above = ltb-false p _ ey in
         let past : p < shape.small + shape.medium + shape.large = (let s = i.tidy.sized in let lt = within in omega arith) in
-        let list = spare-push (set a.cells p Free) (shape.small + shape.medium) (shape.small + shape.medium + shape.large) p a.large here (ltb-false p _ ey) past (unfree a.cells p _ _ a.large taken i.tidy.large) large in
-        freed_keeps shape w n a p b a.small a.medium (a.large ++ p ∷ []) e (tidy-freed shape n a p b a.small a.medium (a.large ++ p ∷ []) e small medium list i.tidy) i
+        let list = spare-freed a.cells p _ _ a.large within taken above past i.tidy.large in
+        freed_keeps shape w n a p b a.small a.medium (a.large ++ p ∷ []) e (tidy-freed shape n a p b a.small a.medium (a.large ++ p ∷ []) e (spare-unfit a.cells p Free _ _ a.small (λ k. let u = k.1 in omega arith) i.tidy.small) (spare-unfit a.cells p Free _ _ a.medium (λ k. let u = k.1 in omega arith) i.tidy.medium) list i.tidy) i
 
 -- ---- a black cell turns white
 
@@ -150,6 +142,7 @@ tidy-whitened : (shape : HeapShape) (n : ℕ) (a : Account) (p b : ℕ) → cell
 tidy-whitened shape n a p b e h =
     let held = white_held a.cells p b e in
     let taken : cell_at a.cells p ≡ Free → ⊥ = (λ k. cc) in
+    let within = taken_within a.cells p b Black e in
     record {
       sized = length-set a.cells p (Taken b White) ∙ h.sized;
       one = λ c d y x z k l. h.one c d y (held c y x k).0 (held d y z l).0 (held c y x k).1 (held d y z l).1;
@@ -158,9 +151,9 @@ tidy-whitened shape n a p b e h =
       listed = λ y c k. elim (white_before a.cells p b e c y Grey k) [ inl s ↦ (let z = s.2 in absurd (cc)) | inr s ↦ h.listed y c s.1 ];
       only_grey = λ y k. (let q = h.only_grey y k in (q.0, rw (cell_at-set_other a.cells p q.0 (Taken b White) (λ s. let z = ap (cell_at a.cells) s in let g = q.1 in cc)) (q.1)));
       once = h.once;
-      small = spare-set a.cells p (Taken b White) _ _ a.small (unfree a.cells p _ _ a.small taken h.small) h.small;
-      medium = spare-set a.cells p (Taken b White) _ _ a.medium (unfree a.cells p _ _ a.medium taken h.medium) h.medium;
-      large = spare-set a.cells p (Taken b White) _ _ a.large (unfree a.cells p _ _ a.large taken h.large) h.large;
+      small = spare-set a.cells p b White _ _ a.small within taken h.small;
+      medium = spare-set a.cells p b White _ _ a.medium within taken h.medium;
+      large = spare-set a.cells p b White _ _ a.large within taken h.large;
     }
 
 whitened_kept : (cells : List Cell) (p b a : ℕ) → cell_at cells p ≡ Taken b Black → HasKept (Append p) cells a → HasKept (Append (p + 1)) (set cells p (Taken b White)) a

@@ -7,121 +7,14 @@ use Rattle.model.specs.Accounts.Cell.{Free, Taken}
 use Rattle.model.specs.Collector.Table.{cell_at}
 use Rattle.model.specs.Collector.Invariant.{In, Distinct, Spare, Tidy}
 use Rattle.model.proofs.CollectorLemmas.Lists.{In-left, In-last, In-push_cases, Distinct-push}
-use Rattle.model.proofs.CollectorLemmas.Spares.{spare-set, spare-tail, unfit}
+use Rattle.model.proofs.CollectorLemmas.Spares.{spare-unfit, spare-taken}
 use Rattle.model.proofs.CollectorLemmas.Cells.{cell_at-set_cases, cell_at-set_same}
 
--- a free cell is taken from the front of a list
+-- a free cell is taken from the front of a list, and a birth comes into it
 
 -- an account with other lists of free cells
 abbrev pub relisted : Account → List ℕ → List ℕ → List ℕ → Account
 relisted a small medium large = record a { small = small; medium = medium; large = large }
-
--- what taking a cell gives: a free cell within the heap, and the account with that cell in none of its lists
-pub record Takes (shape : HeapShape) (n : ℕ) (a : Account) (c : ℕ) (b : Account) : Type 0 where
-  pub small : List ℕ
-  pub medium : List ℕ
-  pub large : List ℕ
-  pub is : b ≡ relisted a small medium large
-  pub tidy : Tidy shape n (relisted a small medium large)
-  pub was_free : cell_at a.cells c ≡ Free
-  pub within : c < length a.cells
-  pub not_small : In c small → ⊥
-  pub not_medium : In c medium → ⊥
-  pub not_large : In c large → ⊥
-  pub left : length a.small + length a.medium + length a.large ≡ length small + length medium + length large + 1
-
-taken_from : (fits : Bool) (without : List ℕ → Account) (free : List ℕ) (larger : Option (ℕ × Account)) (r : ℕ × Account) → or_larger fits without (first_cell free) larger ≡ Some r → ((cs : List ℕ) × (free ≡ r.0 ∷ cs) × (r.1 ≡ without cs)) ⊎ (larger ≡ Some r)
-taken_from true without (c ∷ cs) larger r e =
-    let f : r.0 ≡ c = (let k : (c, without cs) ≡ r = cc in sym (ap (λ (p : ℕ × Account). p.0) k)) in
-    let g : r.1 ≡ without cs = (let k : (c, without cs) ≡ r = cc in sym (ap (λ (p : ℕ × Account). p.1) k)) in
-    inl (cs, rw f refl, g)
-taken_from true without [] larger r e = inr e
-taken_from false without free larger r e = inr e
-
--- other lists, which are right too
-tidy-relisted : (shape : HeapShape) (n : ℕ) (a : Account) (s m l : List ℕ) → Spare a.cells 0 shape.small s → Spare a.cells shape.small (shape.small + shape.medium) m → Spare a.cells (shape.small + shape.medium) (shape.small + shape.medium + shape.large) l → Tidy shape n a → Tidy shape n (relisted a s m l)
-tidy-relisted shape n a s m l small medium large h = record {
-  sized = h.sized;
-  one = h.one;
-  some = h.some;
-  born = h.born;
-  listed = h.listed;
-  only_grey = h.only_grey;
-  once = h.once;
-  small = small;
-  medium = medium;
-  large = large;
-}
-
-takes_small : (shape : HeapShape) (n : ℕ) (a : Account) (c : ℕ) (cs : List ℕ) → a.small ≡ c ∷ cs → Tidy shape n a → Takes shape n a c (record a { small = cs })
-takes_small shape n a c cs e h =
-    let list : Spare a.cells 0 shape.small (c ∷ cs) = rw e at h.small in
-    let fit = list.fits c (inl refl) in
-    record {
-      small = cs;
-      medium = a.medium;
-      large = a.large;
-      is = refl;
-      tidy = tidy-relisted shape n a cs a.medium a.large (spare-tail a.cells _ _ c cs list) h.medium h.large h;
-      was_free = list.unused c (inl refl);
-      within = (let s = h.sized in let u = fit.1 in omega arith);
-      not_small = list.once.0;
-      not_medium = unfit a.cells c _ _ a.medium h.medium (λ k. let u = fit.1 in let l = k.0 in omega arith);
-      not_large = unfit a.cells c _ _ a.large h.large (λ k. let u = fit.1 in let l = k.0 in omega arith);
-      left = (let k = ap length e in omega arith);
-    }
-
-takes_medium : (shape : HeapShape) (n : ℕ) (a : Account) (c : ℕ) (cs : List ℕ) → a.medium ≡ c ∷ cs → Tidy shape n a → Takes shape n a c (record a { medium = cs })
-takes_medium shape n a c cs e h =
-    let list : Spare a.cells shape.small (shape.small + shape.medium) (c ∷ cs) = rw e at h.medium in
-    let fit = list.fits c (inl refl) in
-    record {
-      small = a.small;
-      medium = cs;
-      large = a.large;
-      is = refl;
-      tidy = tidy-relisted shape n a a.small cs a.large h.small (spare-tail a.cells _ _ c cs list) h.large h;
-      was_free = list.unused c (inl refl);
-      within = (let s = h.sized in let u = fit.1 in omega arith);
-      not_small = unfit a.cells c _ _ a.small h.small (λ k. let l = fit.0 in let u = k.1 in omega arith);
-      not_medium = list.once.0;
-      not_large = unfit a.cells c _ _ a.large h.large (λ k. let u = fit.1 in let l = k.0 in omega arith);
-      left = (let k = ap length e in omega arith);
-    }
-
-takes_large : (shape : HeapShape) (n : ℕ) (a : Account) (c : ℕ) (cs : List ℕ) → a.large ≡ c ∷ cs → Tidy shape n a → Takes shape n a c (record a { large = cs })
-takes_large shape n a c cs e h =
-    let list : Spare a.cells (shape.small + shape.medium) (shape.small + shape.medium + shape.large) (c ∷ cs) = rw e at h.large in
-    let fit = list.fits c (inl refl) in
-    record {
-      small = a.small;
-      medium = a.medium;
-      large = cs;
-      is = refl;
-      tidy = tidy-relisted shape n a a.small a.medium cs h.small h.medium (spare-tail a.cells _ _ c cs list) h;
-      was_free = list.unused c (inl refl);
-      within = (let s = h.sized in let u = fit.1 in omega arith);
-      not_small = unfit a.cells c _ _ a.small h.small (λ k. let l = fit.0 in let u = k.1 in omega arith);
-      not_medium = unfit a.cells c _ _ a.medium h.medium (λ k. let l = fit.0 in let u = k.1 in omega arith);
-      not_large = list.once.0;
-      left = (let k = ap length e in omega arith);
-    }
-
--- whatever size the cell has
-pub takes : (shape : HeapShape) (n : ℕ) (a : Account) (words : ℕ) (r : ℕ × Account) → take_cell a words ≡ Some r → Tidy shape n a → Takes shape n a r.0 r.1
-takes shape n a words r e h =
-    elim (taken_from (nat_le words 4) (λ cs. record a { small = cs }) a.small _ r e) [
-      | inl k ↦ rw k.2 (takes_small shape n a r.0 k.0 k.1 h)
-      | inr f ↦ elim (taken_from (nat_le words 32) (λ cs. record a { medium = cs }) a.medium _ r f) [
-        | inl k ↦ rw k.2 (takes_medium shape n a r.0 k.0 k.1 h)
-        | inr g ↦ elim (taken_from (nat_le words 256) (λ cs. record a { large = cs }) a.large _ r g) [
-          | inl k ↦ rw k.2 (takes_large shape n a r.0 k.0 k.1 h)
-          | inr n ↦ absurd (cc)
-        ]
-      ]
-    ]
-
--- ---- a birth comes into a free cell
 
 -- the cells after birth n came into the free cell c
 pub record Came (n c : ℕ) (colour : Colour) (old new : List Cell) : Type 0 where
@@ -177,8 +70,9 @@ once-came shape n a White h = h.once
 once-came shape n a Grey h = Distinct-push a.grey n h.once (λ k. let p = h.only_grey n k in let lt = h.born p.0 n Grey p.1 in omega arith)
 once-came shape n a Black h = h.once
 
-pub tidy-came : (shape : HeapShape) (n : ℕ) (a : Account) (c : ℕ) (colour : Colour) → 1 ≤ n → cell_at a.cells c ≡ Free → c < length a.cells → (In c a.small → ⊥) → (In c a.medium → ⊥) → (In c a.large → ⊥) → Tidy shape n a → Tidy shape (n + 1) (came_in a c n colour)
-tidy-came shape n a c colour le f lt small medium large h =
+-- the birth comes, and the lists of free cells are right after it
+tidy-came : (shape : HeapShape) (n : ℕ) (a : Account) (c : ℕ) (colour : Colour) (s m l : List ℕ) → 1 ≤ n → cell_at a.cells c ≡ Free → c < length a.cells → Spare (set a.cells c (Taken n colour)) 0 shape.small s → Spare (set a.cells c (Taken n colour)) shape.small (shape.small + shape.medium) m → Spare (set a.cells c (Taken n colour)) (shape.small + shape.medium) (shape.small + shape.medium + shape.large) l → Tidy shape n a → Tidy shape (n + 1) (came_in (relisted a s m l) c n colour)
+tidy-came shape n a c colour s m l le f lt small medium large h =
     let new = set a.cells c (Taken n colour) in
     let came = came_here n c colour a.cells lt f in
     record {
@@ -189,10 +83,102 @@ tidy-came shape n a c colour le f lt small medium large h =
       listed = listed-came shape n a c colour came h;
       only_grey = only-came shape n a c colour came h;
       once = once-came shape n a colour h;
-      small = spare-set a.cells c (Taken n colour) _ _ a.small small h.small;
-      medium = spare-set a.cells c (Taken n colour) _ _ a.medium medium h.medium;
-      large = spare-set a.cells c (Taken n colour) _ _ a.large large h.large;
+      small = small;
+      medium = medium;
+      large = large;
     }
+
+-- ---- a cell is taken
+
+-- what taking a cell gives: a free cell within the heap, and lists that are right once birth n came into it
+pub record Takes (shape : HeapShape) (n : ℕ) (a : Account) (c : ℕ) (b : Account) : Type 0 where
+  pub small : List ℕ
+  pub medium : List ℕ
+  pub large : List ℕ
+  pub is : b ≡ relisted a small medium large
+  pub tidy : (colour : Colour) → 1 ≤ n → Tidy shape (n + 1) (came_in (relisted a small medium large) c n colour)
+  pub was_free : cell_at a.cells c ≡ Free
+  pub within : c < length a.cells
+  pub left : length a.small + length a.medium + length a.large ≡ length small + length medium + length large + 1
+
+taken_from : (fits : Bool) (without : List ℕ → Account) (free : List ℕ) (larger : Option (ℕ × Account)) (r : ℕ × Account) → or_larger fits without (first_cell free) larger ≡ Some r → ((cs : List ℕ) × (free ≡ r.0 ∷ cs) × (r.1 ≡ without cs)) ⊎ (larger ≡ Some r)
+taken_from true without (c ∷ cs) larger r e =
+    let f : r.0 ≡ c = (let k : (c, without cs) ≡ r = cc in sym (ap (λ (p : ℕ × Account). p.0) k)) in
+    let g : r.1 ≡ without cs = (let k : (c, without cs) ≡ r = cc in sym (ap (λ (p : ℕ × Account). p.1) k)) in
+    inl (cs, rw f refl, g)
+taken_from true without [] larger r e = inr e
+taken_from false without free larger r e = inr e
+
+takes_small : (shape : HeapShape) (n : ℕ) (a : Account) (c : ℕ) (cs : List ℕ) → a.small ≡ c ∷ cs → Tidy shape n a → Takes shape n a c (record a { small = cs })
+takes_small shape n a c cs e h =
+    let list : Spare a.cells 0 shape.small (c ∷ cs) = rw e at h.small in
+    let fit = list.fits c (inl refl) in
+    let within : c < length a.cells = (let s = h.sized in let u = fit.1 in omega arith) in
+    record {
+      small = cs;
+      medium = a.medium;
+      large = a.large;
+      is = refl;
+      tidy = λ colour le. tidy-came shape n a c colour cs a.medium a.large le (list.unused c (inl refl)) within
+          (spare-taken a.cells c n colour _ _ cs within list)
+          (spare-unfit a.cells c (Taken n colour) _ _ a.medium (λ k. let u = fit.1 in let l = k.0 in omega arith) h.medium)
+          (spare-unfit a.cells c (Taken n colour) _ _ a.large (λ k. let u = fit.1 in let l = k.0 in omega arith) h.large) h;
+      was_free = list.unused c (inl refl);
+      within = within;
+      left = (let k = ap length e in omega arith);
+    }
+
+takes_medium : (shape : HeapShape) (n : ℕ) (a : Account) (c : ℕ) (cs : List ℕ) → a.medium ≡ c ∷ cs → Tidy shape n a → Takes shape n a c (record a { medium = cs })
+takes_medium shape n a c cs e h =
+    let list : Spare a.cells shape.small (shape.small + shape.medium) (c ∷ cs) = rw e at h.medium in
+    let fit = list.fits c (inl refl) in
+    let within : c < length a.cells = (let s = h.sized in let u = fit.1 in omega arith) in
+    record {
+      small = a.small;
+      medium = cs;
+      large = a.large;
+      is = refl;
+      tidy = λ colour le. tidy-came shape n a c colour a.small cs a.large le (list.unused c (inl refl)) within
+          (spare-unfit a.cells c (Taken n colour) _ _ a.small (λ k. let l = fit.0 in let u = k.1 in omega arith) h.small)
+          (spare-taken a.cells c n colour _ _ cs within list)
+          (spare-unfit a.cells c (Taken n colour) _ _ a.large (λ k. let u = fit.1 in let l = k.0 in omega arith) h.large) h;
+      was_free = list.unused c (inl refl);
+      within = within;
+      left = (let k = ap length e in omega arith);
+    }
+
+takes_large : (shape : HeapShape) (n : ℕ) (a : Account) (c : ℕ) (cs : List ℕ) → a.large ≡ c ∷ cs → Tidy shape n a → Takes shape n a c (record a { large = cs })
+takes_large shape n a c cs e h =
+    let list : Spare a.cells (shape.small + shape.medium) (shape.small + shape.medium + shape.large) (c ∷ cs) = rw e at h.large in
+    let fit = list.fits c (inl refl) in
+    let within : c < length a.cells = (let s = h.sized in let u = fit.1 in omega arith) in
+    record {
+      small = a.small;
+      medium = a.medium;
+      large = cs;
+      is = refl;
+      tidy = λ colour le. tidy-came shape n a c colour a.small a.medium cs le (list.unused c (inl refl)) within
+          (spare-unfit a.cells c (Taken n colour) _ _ a.small (λ k. let l = fit.0 in let u = k.1 in omega arith) h.small)
+          (spare-unfit a.cells c (Taken n colour) _ _ a.medium (λ k. let l = fit.0 in let u = k.1 in omega arith) h.medium)
+          (spare-taken a.cells c n colour _ _ cs within list) h;
+      was_free = list.unused c (inl refl);
+      within = within;
+      left = (let k = ap length e in omega arith);
+    }
+
+-- whatever size the cell has
+pub takes : (shape : HeapShape) (n : ℕ) (a : Account) (words : ℕ) (r : ℕ × Account) → take_cell a words ≡ Some r → Tidy shape n a → Takes shape n a r.0 r.1
+takes shape n a words r e h =
+    elim (taken_from (nat_le words 4) (λ cs. record a { small = cs }) a.small _ r e) [
+      | inl k ↦ rw k.2 (takes_small shape n a r.0 k.0 k.1 h)
+      | inr f ↦ elim (taken_from (nat_le words 32) (λ cs. record a { medium = cs }) a.medium _ r f) [
+        | inl k ↦ rw k.2 (takes_medium shape n a r.0 k.0 k.1 h)
+        | inr g ↦ elim (taken_from (nat_le words 256) (λ cs. record a { large = cs }) a.large _ r g) [
+          | inl k ↦ rw k.2 (takes_large shape n a r.0 k.0 k.1 h)
+          | inr n ↦ absurd (cc)
+        ]
+      ]
+    ]
 
 -- what `placed` comes to where a cell was taken
 pub placed_is : (shape : HeapShape) (n : ℕ) (a : Account) (words : ℕ) (colour : Colour) (r : ℕ × Account) (t : Takes shape n a r.0 r.1) → take_cell a words ≡ Some r → placed a n words colour ≡ record (relisted a t.small t.medium t.large) { cells = set a.cells r.0 (Taken n colour) }

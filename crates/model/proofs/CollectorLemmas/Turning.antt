@@ -11,7 +11,7 @@ use Rattle.model.specs.Collector.Invariant.{In, HasKept, NotWhite, Tidy, Invaria
 use Rattle.model.specs.Collector.Changes.{Change, IsNew, births_after, Fresh, Allowed, RoomFor, changed}
 use Rattle.model.proofs.CollectorLemmas.Cells.{kept-grey}
 use Rattle.model.proofs.CollectorLemmas.Shading.{reach_kept, one_colour, fronted_before, begun_after, kept_in_all, not_white_in_all, shaded_not_white, shade_all_keeps}
-use Rattle.model.proofs.CollectorLemmas.Taking.{relisted, Takes, takes, Came, came_before, came_after, came_here, came_in, tidy-came}
+use Rattle.model.proofs.CollectorLemmas.Taking.{relisted, Takes, takes, Came, came_before, came_after, came_here, came_in}
 use Rattle.model.proofs.CollectorLemmas.Bounds.{words_made}
 
 -- a thread's turn keeps the invariant: the new birth comes, the writes are shaded one by one, and then the world changes
@@ -57,21 +57,9 @@ some_birth : (shape : HeapShape) (w : World) (n : ℕ) (a : Account) → Invaria
 unfolding root_at
 some_birth shape w n a i = let k = i.roots MemoryError 1 refl in let lt = i.tidy.born k.cell 1 k.colour k.held in omega arith
 
-relisted_keeps : (shape : HeapShape) (w : World) (n : ℕ) (a : Account) (s m l : List ℕ) → Tidy shape n (relisted a s m l) → Invariant shape w n a → Invariant shape w n (relisted a s m l)
-relisted_keeps shape w n a s m l tidy i = record {
-  tidy = tidy;
-  roots = i.roots;
-  words = i.words;
-  scanned = i.scanned;
-  unblack = i.unblack;
-  marked = i.marked;
-  front = i.front;
-  begun = i.begun;
-}
-
 -- the new birth has no words yet
-came_keeps : (shape : HeapShape) (w : World) (n c : ℕ) (a : Account) → Came n c Grey a.cells (set a.cells c (Taken n Grey)) → Tidy shape (n + 1) (came_in a c n Grey) → ((k b : ℕ) → word_at w n k ≡ Some b → ⊥) → Invariant shape w n a → Invariant shape w (n + 1) (came_in a c n Grey)
-came_keeps shape w n c a came tidy none i =
+came_keeps : (shape : HeapShape) (w : World) (n c : ℕ) (a : Account) (s m l : List ℕ) → Came n c Grey a.cells (set a.cells c (Taken n Grey)) → Tidy shape (n + 1) (came_in (relisted a s m l) c n Grey) → ((k b : ℕ) → word_at w n k ≡ Some b → ⊥) → Invariant shape w n a → Invariant shape w (n + 1) (came_in (relisted a s m l) c n Grey)
+came_keeps shape w n c a s m l came tidy none i =
     let new = set a.cells c (Taken n Grey) in
     let kept = came_kept n c a.cells new came a.phase in
     let light = came_not_white n c a.cells new came in
@@ -91,10 +79,10 @@ opened_here shape w words c a b t i =
     let n = next_birth w in
     let base = relisted a t.small t.medium t.large in
     let came = came_here n c Grey a.cells t.within t.was_free in
-    let tidy = tidy-came shape n base c Grey (some_birth shape w n a i) t.was_free t.within t.not_small t.not_medium t.not_large t.tidy in
+    let tidy = t.tidy Grey (some_birth shape w n a i) in
     let kept = came_kept n c a.cells (set a.cells c (Taken n Grey)) came a.phase in
     rw t.is (record {
-      inv = came_keeps shape w n c base came tidy (λ k x e. (let lt = words_made w n k x e in omega arith)) (relisted_keeps shape w n a t.small t.medium t.large t.tidy i);
+      inv = came_keeps shape w n c a t.small t.medium t.large came tidy (λ k x e. (let lt = words_made w n k x e in omega arith)) i;
       new = λ x s. rw s (record {
         kept = record { cell = c; colour = Grey; held = came.here; kept = kept-grey a.phase c };
         not_white = record { never = λ d k. (let z = one_colour shape (n + 1) (came_in base c n Grey) tidy c d n Grey White came.here k in cc) };

@@ -92,14 +92,15 @@ pub record HasKept (phase : Phase) (cells : List Cell) (b : ℕ) : Type 0 where
 pub record NotWhite (cells : List Cell) (b : ℕ) : Type 0 where
   pub never : (c : ℕ) → cell_at cells c ≡ Taken b White → ⊥
 
--- what a list of free cells holds: free cells from one number on and below another, each once
+-- what a list of free cells holds: the free cells from one number on and below another, each once
 pub record Spare (cells : List Cell) (first past : ℕ) (free : List ℕ) : Type 0 where
   pub unused : (c : ℕ) → In c free → cell_at cells c ≡ Free
   pub fits : (c : ℕ) → In c free → (first ≤ c) × (c < past)
+  pub listed : (c : ℕ) → first ≤ c → c < past → cell_at cells c ≡ Free → In c free
   pub once : Distinct free
 
 -- what holds of an account without colours and phase, n being the next birth: a birth has one cell, and was made; the grey
--- births are listed, each once; the free lists hold free cells of their size
+-- births are listed, each once; the free lists hold the free cells of their size
 pub record Tidy (shape : HeapShape) (n : ℕ) (a : Account) : Type 0 where
   pub sized : length a.cells ≡ shape.small + shape.medium + shape.large
   pub one : (c d b : ℕ) (x y : Colour) → cell_at a.cells c ≡ Taken b x → cell_at a.cells d ≡ Taken b y → c ≡ d

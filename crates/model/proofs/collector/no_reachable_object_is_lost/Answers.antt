@@ -1,6 +1,6 @@
 use Rattle.model.proofs.CollectorLemmas.Collecting.{collected_keeps}
 use Rattle.model.proofs.CollectorLemmas.Turning.{changed_keeps}
-use Rattle.model.proofs.CollectorLemmas.Promising.{always_holds, always_kept, always_coloured, always_shown}
+use Rattle.model.proofs.CollectorLemmas.Promising.{always_holds, always_kept, always_coloured, always_room, always_chosen, always_shown}
 use Rattle.model.proofs.CollectorLemmas.Reclaiming.{always_reclaims}
 use Rattle.model.proofs.collector.no_reachable_object_is_lost.Goals as goal
 
@@ -21,6 +21,12 @@ returns-clause-coloured c = always_coloured
 
 pub returns-clause-reclaimed : goal.returns-clause-reclaimed
 returns-clause-reclaimed c = always_reclaims
+
+pub returns-clause-room : goal.returns-clause-room
+returns-clause-room c = always_room
+
+pub returns-clause-chosen : goal.returns-clause-chosen
+returns-clause-chosen c = always_chosen
 
 pub returns-clause-shown : goal.returns-clause-shown
 returns-clause-shown c = always_shown
