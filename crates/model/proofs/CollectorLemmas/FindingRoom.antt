@@ -1,24 +1,25 @@
-use Rattle.std.proofs.Common.{◌≡◌, ℕ, Bool, true, false, List, [], ◌∷◌, reverse, Option, Some, None, Result, Ok, Err, is_some, nat_le, refl, sym, ◌∙◌, ap}
+use Rattle.std.proofs.Common.{◌≡◌, ℕ, Bool, true, false, List, [], ◌∷◌, map, reverse, Option, Some, None, Result, Ok, Err, is_some, nat_le, refl, sym, ◌∙◌, ap}
 use Rattle.model.specs.declared.journals.HeapShape.{HeapShape}
 use Rattle.model.specs.declared.journals.Limits.{Limits}
 use Rattle.model.specs.declared.journals.Outcome.{Outcome}
 use Rattle.model.specs.declared.journals.Outcome.TheVariants.{Done, Object, NoRoom as FoundNoRoom}
 use Rattle.model.specs.declared.turns.Abrupt.{Abrupt}
 use Rattle.model.specs.declared.turns.Actor.TheVariants.{Thread}
+use Rattle.model.specs.declared.turns.Exception.TheVariants.{NoClassDefFound}
 use Rattle.model.specs.declared.turns.Fault.TheVariants.{StackFull}
 use Rattle.model.specs.declared.values.Value.TheVariants.{Ref}
 use Rattle.model.specs.ClassListings.{ClassListing}
 use Rattle.model.specs.Accounts.{has_room}
 use Rattle.model.specs.Frames.{Frame, Moved, running, replaced_if_room}
-use Rattle.model.specs.Worlds.{World, Contents, frames_at, next_birth, counted, plain_object}
+use Rattle.model.specs.Worlds.{World, Contents, frames_at, next_birth, counted, with_class_states, plain_object}
 use Rattle.model.specs.Objects.{class_at, with_new}
 use Rattle.model.specs.Monitors.{released, released_all}
 use Rattle.model.specs.Classes.Exceptions.{exception_class}
 use Rattle.model.specs.Results.{Effect, faulted}
-use Rattle.model.specs.Unwinding.{Landing, landing, left_monitors, landed, thrown}
-use Rattle.model.specs.Unwinding.Landing.{Handled, Unhandled}
+use Rattle.model.specs.Unwinding.{Landing, way_of, without, landed, thrown}
+use Rattle.model.specs.Unwinding.Landing.{Handled, Stopped, Unhandled}
 use Rattle.model.specs.Completions.{Completion}
-use Rattle.model.specs.Completions.Completion.{Goes, Prints, Creates, Throws, Raises, Faults, Waits}
+use Rattle.model.specs.Completions.Completion.{Goes, Prints, Creates, Throws, Raises, Denies, Faults, Waits}
 use Rattle.model.specs.Effects.{Choice, created_with, created_on, effect_of}
 use Rattle.model.specs.Effects.Choice.{NewObject, NoRoom}
 use Rattle.model.specs.Table.Next.{at_frame, completion, next, asked}
@@ -44,10 +45,11 @@ released_all_fault w v t [] k = k.fault
 released_all_fault w v t (monitor ∷ monitors) k = released_all_fault w (released v t monitor) t monitors (released_keeps _ w v (next_birth w) t monitor k)
 
 left_fault : (w : World) (t : ℕ) (monitors : List (Option ℕ)) → (released_all w t monitors).fault ≡ w.fault
-left_fault w t monitors = released_all_fault w w t monitors (record { fault = refl; rows = refl; threads = refl; statics = refl; made = refl; objects = objects_same _ w.objects })
+left_fault w t monitors = released_all_fault w w t monitors (record { fault = refl; rows = refl; threads = refl; fields = refl; made = refl; objects = objects_same _ w.objects })
 
 landed_fault : (before w : World) (t birth : ℕ) (class : List ℕ) (l : Landing) → w.fault ≡ None → is_fault (landed before w t birth class l).after ≡ true → landed before w t birth class l ≡ faulted before t StackFull
 landed_fault before w t birth class Unhandled n e = absurd (no_fault w n e)
+landed_fault before w t birth class (Stopped f callers) n e = absurd (no_fault w n e)
 landed_fault before w t birth class (Handled handler f callers) n e = go (nat_le 1 f.room) refl
   where
     go : (room : Bool) → nat_le 1 f.room ≡ room → landed before w t birth class (Handled handler f callers) ≡ faulted before t StackFull
@@ -57,9 +59,8 @@ landed_fault before w t birth class (Handled handler f callers) n e = go (nat_le
 thrown_fault : (program : List ClassListing) (before w : World) (t birth : ℕ) → w.fault ≡ None → is_fault (thrown program before w t birth).after ≡ true → thrown program before w t birth ≡ faulted before t StackFull
 thrown_fault program before w t birth n e =
     let class = class_at w birth in
-    let frames = reverse (frames_at w t) in
-    let monitors = left_monitors program class frames in
-    landed_fault before (released_all w t monitors) t birth class (landing program class frames) (left_fault w t monitors ∙ n) e
+    let way = way_of program class (reverse (frames_at w t)) in
+    landed_fault before (without program w t way.left) t birth class way.landing (left_fault w t (map (λ (f : Frame). f.monitor) way.left) ∙ n) e
 
 created_with_fault : (w : World) (t : ℕ) (contents : Contents) (r : Result Moved Abrupt) → w.fault ≡ None → is_fault (created_with w t contents r).after ≡ true → created_with w t contents r ≡ faulted w t StackFull
 created_with_fault w t contents (Ok m) n e = absurd (no_fault w n e)
@@ -75,6 +76,9 @@ one_effect program w t (Prints after bytes) h n e g = refl
 one_effect program w t (Creates next taken contents) h n e g = created_on_fault w t next taken contents (running (frames_at w t)) h n e ∙ sym (thrown_fault program w w t 1 n g)
 one_effect program w t (Throws birth) h n e g = refl
 one_effect program w t (Raises exception) h n e g = thrown_fault program w (with_new w (plain_object (exception_class exception))) t (next_birth w) n e ∙ sym (thrown_fault program w w t 1 n g)
+one_effect program w t (Denies states) h n e g =
+    let v = with_class_states w states in
+    thrown_fault program w (with_new v (plain_object (exception_class NoClassDefFound))) t (next_birth w) n e ∙ sym (thrown_fault program w v t 1 n g)
 one_effect program w t (Faults fault) h n e g = refl
 one_effect program w t Waits h n e g = refl
 
