@@ -1,4 +1,5 @@
-use Rattle.std.specs.Prelude.{ℕ, ◌+◌, List, [], ◌∷◌, ◌++◌, drop, take, slice_get, nat_lt, Bool, true, false, ◌&&◌, Option, is_some}
+use Rattle.std.specs.Prelude.{ℕ, ◌+◌, List, [], ◌∷◌, ◌++◌, drop, take, slice_get, nat_lt, Bool, true, false, ◌&&◌, Option, is_some, position}
+use Rattle.std.specs.Option.{option_map}
 use Rattle.std.specs.List.{find, list_any}
 use Rattle.model.specs.declared.journals.Limits.{Limits}
 use Rattle.model.specs.declared.journals.Row.{Row}
@@ -7,7 +8,10 @@ use Rattle.model.specs.declared.turns.Actor.TheVariants.{Thread as ByThread, Col
 use Rattle.model.specs.declared.turns.Fault.{Fault}
 use Rattle.model.specs.declared.turns.Status.{Status}
 use Rattle.model.specs.declared.turns.Status.TheVariants.{Running, Finished, Stuck, Faulted}
+use Rattle.model.specs.declared.turns.ClassState.{ClassState}
 use Rattle.model.specs.ClassListings.{ClassListing}
+use Rattle.model.specs.Classes.Named.{is_named, class_named}
+use Rattle.model.specs.Initialisation.{state_at}
 use Rattle.model.specs.Worlds.{World, Thread}
 use Rattle.model.specs.Ready.{is_ready, thread_numbers, some_lives, some_is_ready}
 use Rattle.model.specs.Turns.{overflows}
@@ -77,3 +81,12 @@ is_running Faulted = false
 abbrev pub output_full_of : Recorded → Bool
 output_full_of v =
     is_running (status_of v) && nat_lt (ideal v).rows v.journal.limits.steps && list_any (is_held_by_output v.program v.journal.limits (ideal v)) (thread_numbers (ideal v))
+
+-- ---- class states
+
+abbrev pub state_named : List ClassListing → World → List ℕ → ClassState
+state_named program w name = state_at w.statics.states (position (is_named name) program)
+
+-- the state of a class by its name, None where there is no such class
+abbrev pub class_state_of : Recorded → List ℕ → Option ClassState
+class_state_of v name = option_map (λ (c : ClassListing). state_named v.program (ideal v) name) (class_named v.program name)
