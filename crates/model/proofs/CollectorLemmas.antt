@@ -17,6 +17,7 @@ pub mod Moving
 pub mod Opening
 pub mod Outcomes
 pub mod Promising
+pub mod Reaching
 pub mod Reclaiming
 pub mod Running
 pub mod Scanning

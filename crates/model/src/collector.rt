@@ -1,6 +1,6 @@
 //! What is proved of the collector, on the definitions alone.
 
-ghost use Rattle.std.specs.Prelude.{ℕ};
+ghost use Rattle.std.specs.Prelude.{ℕ, ◌↔◌, IsTrue};
 ghost use Rattle.model.specs.declared.journals.HeapShape.{HeapShape};
 ghost use Rattle.model.specs.Accounts.{Account};
 ghost use Rattle.model.specs.Worlds.{World, next_birth};
@@ -8,6 +8,8 @@ ghost use Rattle.model.specs.Collector.Table.{collected};
 ghost use Rattle.model.specs.Collector.Invariant.{Invariant};
 ghost use Rattle.model.specs.Collector.Changes.{Change, Allowed, RoomFor, changed};
 ghost use Rattle.model.specs.Collector.Paths.{KeepsReachable, ThreeColour};
+ghost use Rattle.model.specs.Collector.Places.{Reach};
+ghost use Rattle.model.specs.Collector.Reached.{is_reached};
 ghost use Rattle.model.specs.Collector.Reclaim.{AlwaysReclaims};
 ghost use Rattle.model.specs.Collector.Runs.{Always, Holds};
 ghost use Rattle.model.specs.Shows.{Shows};
@@ -26,4 +28,9 @@ pub fn no_reachable_object_is_lost()
     ensures coloured { Always (λ shape m. ThreeColour m.world m.account) }
     ensures reclaimed { AlwaysReclaims }
     ensures shown { Always (λ shape m. Shows (heap_of m.account m.world) m.world) }
+{}
+
+/// The test of whether paths from the roots lead to a birth tells that they do, in every world.
+pub fn what_is_reached_is_computed()
+    ensures { (w : World) (b : ℕ) → Reach w b ↔ IsTrue (is_reached w b) }
 {}
