@@ -19,16 +19,16 @@ use Rattle.model.specs.Accepted.References.{resolves}
 
 -- ---- classes
 
-abbrev object : List ℕ
+abbrev pub object : List ℕ
 object = codes "java/lang/Object"
 
-abbrev method : ℕ → List ℕ → List ℕ → Method
+abbrev pub method : ℕ → List ℕ → List ℕ → Method
 method flags name descriptor = record { flags = record { 0 = flags }; name = name; descriptor = descriptor; code = None }
 
 abbrev field : ℕ → List ℕ → List ℕ → Field
 field flags name descriptor = record { flags = record { 0 = flags }; name = name; descriptor = descriptor; constant = None }
 
-abbrev class_of : ℕ → List ℕ → List ℕ → List (List ℕ) → List Field → List Method → ClassListing
+abbrev pub class_of : ℕ → List ℕ → List ℕ → List (List ℕ) → List Field → List Method → ClassListing
 class_of flags name superclass interfaces fields methods = record {
   name = name;
   flags = record { 0 = flags };
@@ -41,15 +41,15 @@ class_of flags name superclass interfaces fields methods = record {
 abbrev member : List ℕ → List ℕ → List ℕ → Member
 member class name descriptor = record { class = class; name = name; descriptor = descriptor }
 
-abbrev found : {M : Type 0} → List ℕ → M → Option (Declared M)
+abbrev pub found : {M : Type 0} → List ℕ → M → Option (Declared M)
 found class m = Some (record { class = class; member = m })
 
-abbrev f : ℕ → Method
+abbrev pub f : ℕ → Method
 f flags = method flags (codes "f") (codes "()I")
 
 -- ---- A has an f, B over A a private one, C over B none
 
-abbrev private_between : List ClassListing
+abbrev pub private_between : List ClassListing
 private_between =
     class_of 1 (codes "A") object [] [] (f 1 ∷ []) ∷
     class_of 1 (codes "B") (codes "A") [] [] (f 2 ∷ []) ∷

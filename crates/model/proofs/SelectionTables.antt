@@ -1,7 +1,7 @@
 -- A class has one selection table.
 use Rattle.std.proofs.Common.{◌≡◌, ◌⊎◌, inl, inr, ℕ, zero, suc, List, [], ◌∷◌, Less, Greater, Ordering, refl, sym, ap, ◌∙◌, subst, arith}
 use Rattle.std.proofs.lemmas.Cmp.{nat_list_cmp_total, on_total, then_total}
-use Rattle.std.proofs.lemmas.List.Elements.{All-contains}
+use Rattle.std.proofs.lemmas.List.Elements.{All-contains, All-from_recursion}
 use Rattle.std.proofs.lemmas.Map.Keys.{sorted_head, sorted_tail}
 use Rattle.std.specs.Cmp.{IsTotalOrder}
 use Rattle.std.specs.List.{Contains, AllByRecursion}
@@ -26,9 +26,7 @@ none : {X : Type 0} → (x : X) → Contains [] x → ⊥
 none x (k, below, e) = absurd (omega arith)
 
 each-of : {X : Type 0} → (P : X → Type 0) (xs : List X) (x : X) → AllByRecursion P xs → Contains xs x → P x
-each-of P [] x all (k, below, e) = absurd (omega arith)
-each-of P (y ∷ ys) x all (zero, below, e) = subst P e all.0
-each-of P (y ∷ ys) x all (suc k, below, e) = each-of P ys x all.1 (k, omega arith, e)
+each-of P xs x all h = All-contains P xs x (All-from_recursion P xs all) h
 
 module _ {X : Type 0} (R : X → X → Ordering) (order : IsTotalOrder R) where
   never : (x y : X) → R x y ≡ Less → R y x ≡ Less → ⊥

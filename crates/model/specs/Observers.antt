@@ -12,7 +12,7 @@ use Rattle.model.specs.declared.turns.Fault.{Fault}
 use Rattle.model.specs.declared.turns.Status.{Status}
 use Rattle.model.specs.declared.turns.Status.TheVariants.{Running, Finished, Stuck, Faulted}
 use Rattle.model.specs.declared.views.CellView.{CellView}
-use Rattle.model.specs.Accounts.{Cell, Account}
+use Rattle.model.specs.Accounts.{Cell}
 use Rattle.model.specs.Accounts.Cell.{Free, Taken}
 use Rattle.model.specs.ClassListings.{ClassListing}
 use Rattle.model.specs.Collector.Reached.{is_reached}
@@ -93,11 +93,8 @@ output_full_of v =
 abbrev pub next_birth_of : Recorded → ℕ
 next_birth_of v = next_birth (ideal v)
 
-abbrev pub account : Recorded → Account
-account v = (machine_of v).account
-
 abbrev pub phase_of : Recorded → Phase
-phase_of v = (account v).phase
+phase_of v = (machine_of v).account.phase
 
 -- small cells have the first numbers, then medium, then large ones
 abbrev pub words_in_cell : HeapShape → ℕ → ℕ
@@ -112,7 +109,7 @@ cell_view words cell = record { words = words; held = held_in cell }
 
 -- the words of a cell, and the birth and colour that it holds, if it holds one; None past the last cell
 abbrev pub cell_of : Recorded → ℕ → Option CellView
-cell_of v c = option_map (cell_view (words_in_cell v.journal.shape c)) (slice_get (account v).cells c)
+cell_of v c = option_map (cell_view (words_in_cell v.journal.shape c)) (slice_get (machine_of v).account.cells c)
 
 abbrev pub reached_object : World → ℕ → Option Object
 reached_object w b = if is_reached w b then object_at w b else None
