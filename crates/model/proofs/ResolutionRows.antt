@@ -22,13 +22,13 @@ use Rattle.model.specs.Accepted.References.{resolves}
 abbrev pub object : List ℕ
 object = codes "java/lang/Object"
 
-abbrev pub method : ℕ → List ℕ → List ℕ → Method
+abbrev method : ℕ → List ℕ → List ℕ → Method
 method flags name descriptor = record { flags = record { 0 = flags }; name = name; descriptor = descriptor; code = None }
 
 abbrev field : ℕ → List ℕ → List ℕ → Field
 field flags name descriptor = record { flags = record { 0 = flags }; name = name; descriptor = descriptor; constant = None }
 
-abbrev pub class_of : ℕ → List ℕ → List ℕ → List (List ℕ) → List Field → List Method → ClassListing
+abbrev class_of : ℕ → List ℕ → List ℕ → List (List ℕ) → List Field → List Method → ClassListing
 class_of flags name superclass interfaces fields methods = record {
   name = name;
   flags = record { 0 = flags };
@@ -41,7 +41,7 @@ class_of flags name superclass interfaces fields methods = record {
 abbrev member : List ℕ → List ℕ → List ℕ → Member
 member class name descriptor = record { class = class; name = name; descriptor = descriptor }
 
-abbrev pub found : {M : Type 0} → List ℕ → M → Option (Declared M)
+abbrev found : {M : Type 0} → List ℕ → M → Option (Declared M)
 found class m = Some (record { class = class; member = m })
 
 abbrev pub f : ℕ → Method
