@@ -2,9 +2,9 @@
 use Rattle.std.proofs.Common.{◌≡◌, ℕ, zero, suc, ◌+◌, ◌-◌, ◌<◌, ◌≤◌, List, [], ◌∷◌, length, take, drop, slice_index_or, refl, arith, add-one}
 use Rattle.model.specs.declared.values.Value.{Value}
 use Rattle.model.specs.Values.{units_of, units_of_all}
-use Rattle.model.specs.Frames.{Frame, running_frame, with_running, at_pc, push_all, replaced}
+use Rattle.model.specs.Frames.{Frame, running_frame, with_running, push_all, replaced}
 use Rattle.frames.proofs.StackLemmas.{units_of_all-take-drop}
-use Rattle.frames.proofs.RunningLemmas.{running_frame-with_running, then_changed, units_of_all-push_all, without, with_value, Sized}
+use Rattle.frames.proofs.RunningLemmas.{running_frame-with_running, then_changed, units_of_all-push_all, without, with_value, at_pc, Sized}
 
 pub units_of_all-take_at : (vs : List Value) (i : ℕ) (d : Value) → i < length vs → units_of_all (take (i + 1) vs) ≡ units_of_all (take i vs) + units_of (slice_index_or vs i d)
 units_of_all-take_at [] i d h = absurd (omega arith)

@@ -2,7 +2,8 @@
 use Rattle.std.proofs.Common.{◌≡◌, ℕ, slice_set, Option, ◌+◌, ◌-◌, ◌<◌, ◌≤◌, List, [], ◌∷◌, length, drop, take, Ok, Err, ap, sym, ◌∙◌, arith}
 use Rattle.std.specs.Prelude.{ℤ}
 use Rattle.std.proofs.lemmas.List.{length-set, set-set, set-get_or, get_or-set_same}
-use Rattle.model.specs.Frames.{Frame, running_frame, with_running, no_frame, at_pc, replaced, replaced_if_room, push_all, moved_on}
+use Rattle.model.specs.Frames.{Frame, running_frame, with_running, no_frame, replaced, replaced_if_room, push_all}
+use Rattle.frames.specs.Told.{moved_on}
 use Rattle.model.specs.declared.turns.Abrupt.TheVariants.{Fault as Faulted}
 use Rattle.model.specs.declared.turns.Fault.TheVariants.{StackFull}
 use Rattle.frames.proofs.StackLemmas.{units_of_all-take-drop}
@@ -35,6 +36,9 @@ without count f = record f { stack = drop count f.stack }
 
 abbrev pub with_value : Value → Frame → Frame
 with_value v f = record f { stack = v ∷ f.stack }
+
+abbrev pub at_pc : ℕ → Frame → Frame
+at_pc next f = record f { pc = next }
 
 -- values are dropped, and then the pc changes
 pub discards : (old dropped after : List Frame) (next count : ℕ) → 0 < length old → dropped ≡ with_running old (without count (running_frame old)) → after ≡ with_running dropped (at_pc next (running_frame dropped)) → after ≡ with_running old (replaced next (running_frame old) count []).frame

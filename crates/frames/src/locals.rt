@@ -1,9 +1,10 @@
 //! The running frame's locals (JVMS 2.6.1): a long takes two entries, and a store that covers one half of a long makes
 //! its other half unset.
 ghost use Rattle.std.specs.Prelude.{◌≡◌, ℕ, ◌<◌, ◌≤◌, ◌^◌, length, IsOk, OnErr};
-ghost use Rattle.model.specs.Frames.{running_frame, with_running, told, moved_on, as_int};
+ghost use Rattle.model.specs.Frames.{running_frame, with_running, as_int};
 ghost use Rattle.model.specs.declared.values.Kind.TheVariants.{Int as IntKind};
 ghost use Rattle.model.specs.Locals.{entries_of as width_of, has_local, of_kind as found, value_on, local_at, freed, with_local, stored, stored_at};
+ghost use Rattle.frames.specs.Told.{told, moved_on};
 
 use crate::thread_frames::Frames;
 use model::turns::{Abrupt, Fault};

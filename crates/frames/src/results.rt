@@ -1,7 +1,8 @@
 //! What an instruction leaves on the running frame's stack.
 ghost use Rattle.std.specs.Prelude.{◌≡◌, ℕ, ◌+◌, ◌*◌, ◌<◌, ◌≤◌, [], ◌∷◌, length, take, drop, OnErr};
-ghost use Rattle.model.specs.Frames.{running_frame, with_running, replaced, replaced_if_room, push_all, told, moved_on};
+ghost use Rattle.model.specs.Frames.{running_frame, with_running, replaced, replaced_if_room, push_all};
 ghost use Rattle.model.specs.Values.{units_of as units_taken, units_of_all};
+ghost use Rattle.frames.specs.Told.{told, moved_on};
 
 use crate::thread_frames::{Frames, units_of};
 use model::turns::{Abrupt, Fault};

@@ -16,13 +16,14 @@ use Rattle.model.specs.declared.instructions.Invocation.TheVariants.{Static}
 use Rattle.model.specs.ClassListings.{ClassListing}
 use Rattle.model.specs.Signatures.{result_kind}
 use Rattle.model.specs.Classes.Builtin.{builtin_classes, builtin_class, print_methods, static_method}
+use Rattle.model.specs.Classes.Flags.{is_static}
 use Rattle.model.specs.Classes.Named.{class_named, listed, or_else}
 use Rattle.model.specs.Classes.Search.{Declared, upwards, with_superclasses, superclasses, superinterfaces, method_order, declared_in, first_declared}
 use Rattle.model.specs.Classes.Resolution.{method_of, resolved_method}
 use Rattle.model.specs.Callees.{callee_of}
 use Rattle.model.specs.Callees.Callee.{Own}
 use Rattle.model.specs.Initialisation.{is_initializer_if}
-use Rattle.model.specs.Programs.{is_member, builtin_of, method_at, is_static, is_main, main_in}
+use Rattle.model.specs.Programs.{is_member, builtin_of, method_at, is_main, main_in}
 use Rattle.model.specs.Frames.{int_on}
 use Rattle.model.specs.Printing.{decimal_line}
 use Rattle.model.specs.Completions.{Completion, Site}

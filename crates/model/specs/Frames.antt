@@ -122,9 +122,6 @@ abbrev pub push_all : List Value → List Value → List Value
 push_all [] stack = stack
 push_all (v ∷ vs) stack = push_all vs (v ∷ stack)
 
-abbrev pub at_pc : ℕ → Frame → Frame
-at_pc next f = record f { pc = next }
-
 -- a frame, and the births that were written on the way to it, in order
 pub record Moved : Type 0 where
   pub frame : Frame
@@ -137,15 +134,3 @@ replaced next f n vs = record { frame = record f { pc = next; stack = push_all v
 -- the same where they have room, else F2
 abbrev pub replaced_if_room : ℕ → Frame → ℕ → List Value → Result Moved Abrupt
 replaced_if_room next f n vs = if nat_le (units_of_all (push_all vs (drop n f.stack))) f.room then Ok (replaced next f n vs) else Err (Faulted StackFull)
-
--- ---- what a call tells
-
--- the outcome of a call and the state after it as one: the state, or why there is none
-abbrev pub told : {A E : Type 0} → Result (Unit {0}) E → A → Result A E
-told (Ok u) after = Ok after
-told (Err e) after = Err e
-
--- a thread's frames after a move of the running one
-abbrev pub moved_on : List Frame → Result Moved Abrupt → Result (List Frame) Abrupt
-moved_on frames (Ok m) = Ok (with_running frames m.frame)
-moved_on frames (Err e) = Err e

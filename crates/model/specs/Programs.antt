@@ -1,4 +1,4 @@
-use Rattle.std.specs.Prelude.{ℕ, List, [], ◌∷◌, length, slice_get, Option, Some, None, is_some, Bool, ◌&&◌, ◌==◌, codes, cond, position, bit_and}
+use Rattle.std.specs.Prelude.{ℕ, List, [], ◌∷◌, length, slice_get, Option, Some, None, is_some, Bool, ◌&&◌, ◌==◌, codes, cond, position}
 use Rattle.std.specs.Option.{option_map, option_and_then}
 use Rattle.std.specs.Str.{bytes_eq}
 use Rattle.std.specs.List.{find}
@@ -10,6 +10,7 @@ use Rattle.model.specs.declared.builtins.Builtin.TheVariants.{PrintInt, PrintLon
 use Rattle.model.specs.CodeListings.{CodeListing}
 use Rattle.model.specs.ClassListings.{ClassListing}
 use Rattle.model.specs.declared.instructions.Instruction.TheVariants.{Return}
+use Rattle.model.specs.Classes.Flags.{is_static}
 use Rattle.model.specs.Classes.Named.{builtin, or_else}
 use Rattle.model.specs.declared.places.MethodPlace.{MethodPlace}
 use Rattle.model.specs.Frames.{Frame}
@@ -50,9 +51,6 @@ abbrev pub instruction_of : List ClassListing → Frame → Option Placed
 instruction_of program f = option_and_then (λ code. placed_at code f.pc) (code_at program f.method)
 
 -- ---- main
-
-abbrev pub is_static : Method → Bool
-is_static m = bit_and m.flags.0 8 == 8
 
 -- a static `main()V` with code (JVMS 5.2)
 abbrev pub is_main : Method → Bool

@@ -4,12 +4,6 @@ use Rattle.model.specs.declared.values.Kind.TheVariants.{Int as IntKind, Long as
 use Rattle.model.specs.declared.values.Value.{Value}
 use Rattle.model.specs.declared.values.Value.TheVariants.{Int, Long, Ref}
 
--- the kind of a value (JVMS 2.11.1)
-abbrev pub kind_of : Value → Kind
-kind_of (Int z) = IntKind
-kind_of (Long z) = LongKind
-kind_of (Ref r) = RefKind
-
 -- a long takes two units of a stack, every other value one (JVMS 2.6.2)
 abbrev pub units_of : Value → ℕ
 units_of (Int z) = 1

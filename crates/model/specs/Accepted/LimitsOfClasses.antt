@@ -4,8 +4,7 @@ use Rattle.model.specs.declared.listings.Field.{Field}
 use Rattle.model.specs.declared.listings.Method.{Method}
 use Rattle.model.specs.CodeListings.{CodeListing}
 use Rattle.model.specs.ClassListings.{ClassListing}
-use Rattle.model.specs.Classes.Flags.{is_static_field}
-use Rattle.model.specs.Programs.{is_static}
+use Rattle.model.specs.Classes.Flags.{is_static_field, is_static}
 use Rattle.model.specs.Classes.Named.{listed, or_else}
 use Rattle.model.specs.Signatures.{argument_units}
 

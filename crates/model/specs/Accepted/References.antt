@@ -15,9 +15,8 @@ use Rattle.model.specs.declared.instructions.Invocation.TheVariants.{Virtual, Sp
 use Rattle.model.specs.declared.instructions.Instruction.TheVariants.{Nop, Constant, Local, Stack, Number, Branch, TableSwitch, LookupSwitch, Return, Static as StaticField, Field, Array, Class, Invoke, Throw, Monitor}
 use Rattle.model.specs.CodeListings.{CodeListing}
 use Rattle.model.specs.ClassListings.{ClassListing}
-use Rattle.model.specs.Programs.{is_static}
 use Rattle.model.specs.Table.Next.{Listed}
-use Rattle.model.specs.Classes.Flags.{is_abstract, is_interface, is_static_field}
+use Rattle.model.specs.Classes.Flags.{is_abstract, is_interface, is_static_field, is_static}
 use Rattle.model.specs.Classes.Named.{class_named}
 use Rattle.model.specs.Classes.Types.{dimensions, is_type}
 use Rattle.model.specs.Classes.Search.{Declared}

@@ -3,9 +3,9 @@ use Rattle.std.specs.List.{list_any}
 use Rattle.std.specs.Str.{bytes_eq}
 use Rattle.model.specs.declared.listings.Method.{Method}
 use Rattle.model.specs.ClassListings.{ClassListing}
-use Rattle.model.specs.Classes.Flags.{is_synchronized, is_native}
+use Rattle.model.specs.Classes.Flags.{is_static, is_synchronized, is_native}
 use Rattle.model.specs.Classes.Subclasses.{is_subclass}
-use Rattle.model.specs.Programs.{is_static, is_class_initializer}
+use Rattle.model.specs.Programs.{is_class_initializer}
 use Rattle.model.specs.Served.{serves}
 
 -- a class initializer that isn't static and without arguments, result or code

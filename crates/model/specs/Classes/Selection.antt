@@ -3,8 +3,7 @@ use Rattle.std.specs.List.{find}
 use Rattle.std.specs.Str.{bytes_eq}
 use Rattle.model.specs.declared.listings.Method.{Method}
 use Rattle.model.specs.ClassListings.{ClassListing}
-use Rattle.model.specs.Programs.{is_static}
-use Rattle.model.specs.Classes.Flags.{is_private}
+use Rattle.model.specs.Classes.Flags.{is_private, is_static}
 use Rattle.model.specs.Classes.Search.{Declared, first_declared, superclasses}
 
 -- the method of a name and descriptor that a class declares for its objects: neither static nor private. That private
