@@ -10,6 +10,7 @@ pub mod EntryRuns
 pub mod FieldRuns
 pub mod Fields
 pub mod HeapSites
+pub mod InitialisingRuns
 pub mod Invokes
 pub mod LinkRuns
 pub mod Listings
@@ -17,6 +18,7 @@ pub mod Locals
 pub mod LoopRuns
 pub mod Monitors
 pub mod Objects
+pub mod Outcomes
 pub mod PlainPrograms
 pub mod Returns
 pub mod Sites
