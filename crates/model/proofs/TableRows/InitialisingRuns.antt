@@ -1,7 +1,13 @@
 -- Worked runs of class initialisation (JVMS 5.5): the outcome of each turn, and what the machine is after it.
-use Rattle.std.specs.Prelude.{◌≡◌, ℕ, pos, List, [], ◌∷◌, ◌++◌, replicate, Option, Some, None, codes, refl}
+use Rattle.std.specs.Prelude.{◌≡◌, ℕ, pos, List, [], ◌∷◌, ◌++◌, replicate, Option, Some, None, false, codes, refl}
 use Rattle.std.specs.Int.{int_wrap}
 use Rattle.std.specs.Fmt.{digits}
+use Rattle.model.specs.declared.instructions.Instruction.TheVariants.{Invoke}
+use Rattle.model.specs.declared.instructions.Invocation.TheVariants.{Virtual}
+use Rattle.model.specs.declared.turns.Actor.TheVariants.{Thread as ByThread}
+use Rattle.model.specs.declared.turns.Turn.TheVariants.{NotReady}
+use Rattle.model.specs.declared.values.Entry.TheVariants.{Holds}
+use Rattle.model.specs.Ready.{is_ready}
 use Rattle.model.specs.declared.journals.Outcome.{Outcome}
 use Rattle.model.specs.declared.journals.Outcome.TheVariants.{Done, Object as GotObject, NoRoom}
 use Rattle.model.specs.declared.colours.Colour.TheVariants.{Grey}
@@ -12,7 +18,7 @@ use Rattle.model.specs.declared.values.Value.TheVariants.{Int, Ref}
 use Rattle.model.specs.Accounts.{after_turn, shade}
 use Rattle.model.specs.Accounts.Cell.{Free, Taken}
 use Rattle.model.specs.Frames.{Frame}
-use Rattle.model.specs.Worlds.{World, Object, plain_object}
+use Rattle.model.specs.Worlds.{World, Thread, Object, plain_object}
 use Rattle.model.specs.ClassListings.{ClassListing}
 use Rattle.model.specs.Classes.Builtin.{builtin_classes}
 use Rattle.model.specs.Classes.Search.{upwards, interfaces_from}
@@ -22,9 +28,9 @@ use Rattle.model.specs.Initialisation.{waiting}
 use Rattle.model.specs.Table.Next.{completion, next}
 use Rattle.model.specs.Turns.{refusal}
 use Rattle.model.specs.Worlds.Thread.{Live, Ended}
-use Rattle.model.proofs.TableRows.Listings.{Sized, print, return}
+use Rattle.model.proofs.TableRows.Listings.{Sized, ample, print, return}
 use Rattle.model.proofs.TableRows.Stages.{small}
-use Rattle.model.proofs.TableRows.Sites.{class}
+use Rattle.model.proofs.TableRows.Sites.{class, frame, member, method, object, place}
 use Rattle.model.proofs.TableRows.Outcomes.{Played, plays, opens, and_then, played, iconst_0, iconst_1, iconst_2, bipush, idiv, pop, new, getstatic, putstatic, catching, row, main, initializer, plain, with_x, holding, at, failed, world, cells, three_free}
 
 abbrev done : ℕ → List (Option Outcome)
@@ -243,3 +249,113 @@ scarce-ends = refl
 
 scarce-run : plays again (small 4) (opens again (small 4)) (zeros 7) ≡ scarce_ended
 scarce-run = and_then again (small 4) (opens again (small 4)) scarce_failed scarce_ended (zeros 5) (zeros 2) scarce-fails scarce-ends
+
+-- ---- two threads: thread 1 wants the class that thread 0 initialises
+
+abbrev meeting : List ClassListing
+meeting =
+    plain (codes "M") (main 1 (new (codes "T") ∷ (3, Invoke Virtual (member (codes "T") (codes "start") (codes "()V"))) ∷ getstatic (codes "I") ∷ print ∷ return ∷ []) ∷ []) ∷
+    with_x (plain (codes "I") (initializer 1 (bipush 9 ∷ putstatic (codes "I") ∷ return ∷ []) ∷ [])) ∷
+    class (codes "T") (codes "java/lang/Thread") [] (method 1 (codes "run") (codes "()V") 1 1 (getstatic (codes "I") ∷ print ∷ return ∷ []) ∷ []) ∷ []
+
+-- thread 1 stands at its getstatic
+abbrev run_begins : Thread
+run_begins = Live (frame (place 2 0) 0 (Holds (Ref (Some 3)) ∷ []) [] 1 None ∷ [])
+
+abbrev meeting_played : List Thread → ℕ → ClassState → List ℕ → ℕ → List (Option Outcome) → Played
+meeting_played threads n state output rows outcomes = played
+    (world threads (holding (codes "I") n ∷ []) (Initialised ∷ state ∷ Initialised ∷ []) output (object (codes "T") None 0 (Some 1) ∷ []) rows)
+    (cells (Taken 3 Grey ∷ Free ∷ Free ∷ []) (3 ∷ 4 ∷ []) (3 ∷ []))
+    outcomes
+
+-- both threads stand at their getstatic
+abbrev meeting_started : Played
+meeting_started = meeting_played (Live (at 0 0 6 [] 1 ∷ []) ∷ run_begins ∷ []) 0 Unused [] 2 (Some GotObject ∷ done 1)
+
+meeting-starts : plays meeting (small 5) (opens meeting (small 5)) (zeros 2) ≡ meeting_started
+unfolding refusal next completion after_turn shade builtin_classes upwards interfaces_from is_within is_subtype_within int_wrap digits
+meeting-starts = refl
+
+-- thread 0 claims the class, and thread 1's turn is refused
+abbrev claimed_world : World
+claimed_world = (meeting_played (Live (at 0 0 6 [] 1 ∷ at 1 0 0 [] 1 ∷ []) ∷ run_begins ∷ []) 0 (Running 0) [] 3 []).machine.world
+
+abbrev meeting_claimed : Played
+meeting_claimed = meeting_played (Live (at 0 0 6 [] 1 ∷ at 1 0 0 [] 1 ∷ []) ∷ run_begins ∷ []) 0 (Running 0) [] 3 (Some GotObject ∷ done 2 ++ None ∷ [])
+
+meeting-claims : plays meeting (small 5) meeting_started (0 ∷ 1 ∷ []) ≡ meeting_claimed
+unfolding refusal next completion after_turn shade builtin_classes upwards interfaces_from is_within is_subtype_within int_wrap digits
+meeting-claims = refl
+
+meeting-not_ready : is_ready meeting claimed_world 1 ≡ false
+unfolding completion builtin_classes upwards interfaces_from
+meeting-not_ready = refl
+
+meeting-refused : refusal meeting ample claimed_world (ByThread 1) ≡ Some NotReady
+unfolding refusal completion builtin_classes upwards interfaces_from
+meeting-refused = refl
+
+-- it is refused until the initialiser has returned
+abbrev meeting_initialised : Played
+meeting_initialised = meeting_played (Live (at 0 0 6 [] 1 ∷ []) ∷ run_begins ∷ []) 9 Initialised [] 6 (Some GotObject ∷ done 2 ++ None ∷ done 2 ++ None ∷ done 1)
+
+meeting-initialises : plays meeting (small 5) meeting_claimed (0 ∷ 0 ∷ 1 ∷ 0 ∷ []) ≡ meeting_initialised
+unfolding refusal next completion after_turn shade builtin_classes upwards interfaces_from is_within is_subtype_within int_wrap digits
+meeting-initialises = refl
+
+abbrev meeting_ended : Played
+meeting_ended = meeting_played (Ended None ∷ Ended None ∷ []) 9 Initialised (codes "9\n9\n") 12 (Some GotObject ∷ done 2 ++ None ∷ done 2 ++ None ∷ done 7)
+
+meeting-ends : plays meeting (small 5) meeting_initialised (1 ∷ 1 ∷ 1 ∷ 0 ∷ 0 ∷ 0 ∷ []) ≡ meeting_ended
+unfolding refusal next completion after_turn shade builtin_classes upwards interfaces_from is_within is_subtype_within int_wrap digits
+meeting-ends = refl
+
+meeting-run : plays meeting (small 5) (opens meeting (small 5)) (0 ∷ 0 ∷ 0 ∷ 1 ∷ 0 ∷ 0 ∷ 1 ∷ 0 ∷ 1 ∷ 1 ∷ 1 ∷ 0 ∷ 0 ∷ 0 ∷ []) ≡ meeting_ended
+meeting-run =
+    and_then meeting (small 5) (opens meeting (small 5)) meeting_started meeting_ended (zeros 2) (0 ∷ 1 ∷ 0 ∷ 0 ∷ 1 ∷ 0 ∷ 1 ∷ 1 ∷ 1 ∷ 0 ∷ 0 ∷ 0 ∷ []) meeting-starts
+    (and_then meeting (small 5) meeting_started meeting_claimed meeting_ended (0 ∷ 1 ∷ []) (0 ∷ 0 ∷ 1 ∷ 0 ∷ 1 ∷ 1 ∷ 1 ∷ 0 ∷ 0 ∷ 0 ∷ []) meeting-claims
+    (and_then meeting (small 5) meeting_claimed meeting_initialised meeting_ended (0 ∷ 0 ∷ 1 ∷ 0 ∷ []) (1 ∷ 1 ∷ 1 ∷ 0 ∷ 0 ∷ 0 ∷ []) meeting-initialises meeting-ends))
+
+-- ---- a class without an initialiser between two that declare one: it has an empty one, behind its last method
+
+abbrev between : List ClassListing
+between =
+    plain (codes "M") (main 1 (new (codes "R") ∷ pop ∷ return ∷ []) ∷ []) ∷
+    plain (codes "P") (printing iconst_1 ∷ []) ∷
+    class (codes "Q") (codes "P") [] (method 9 (codes "f") (codes "()V") 0 0 (return ∷ []) ∷ []) ∷
+    class (codes "R") (codes "Q") [] (printing iconst_2 ∷ []) ∷ []
+
+abbrev between_claimed : Played
+between_claimed = played
+    (world (Live (at 0 0 0 [] 1 ∷ waiting (at 3 0 0 [] 1) ∷ waiting (at 2 1 0 [] 0) ∷ at 1 0 0 [] 1 ∷ []) ∷ []) []
+    (Initialised ∷ Running 0 ∷ Running 0 ∷ Running 0 ∷ []) [] [] 1)
+    three_free (done 1)
+
+between-claim : plays between (small 5) (opens between (small 5)) (zeros 1) ≡ between_claimed
+unfolding refusal next completion after_turn shade builtin_classes upwards interfaces_from is_within is_subtype_within int_wrap digits
+between-claim = refl
+
+-- Q's turn is its return
+abbrev between_above : Played
+between_above = played
+    (world (Live (at 0 0 0 [] 1 ∷ at 3 0 0 [] 1 ∷ []) ∷ []) [] (Initialised ∷ Initialised ∷ Initialised ∷ Running 0 ∷ []) (codes "1\n") [] 5)
+    three_free (done 5)
+
+between-first : plays between (small 5) between_claimed (zeros 4) ≡ between_above
+unfolding refusal next completion after_turn shade builtin_classes upwards interfaces_from is_within is_subtype_within int_wrap digits
+between-first = refl
+
+abbrev between_ended : Played
+between_ended = played
+    (world (Ended None ∷ []) [] (Initialised ∷ Initialised ∷ Initialised ∷ Initialised ∷ []) (codes "1\n2\n") (plain_object (codes "R") ∷ []) 11)
+    (cells (Taken 3 Grey ∷ Free ∷ Free ∷ []) (3 ∷ 4 ∷ []) (3 ∷ []))
+    (done 8 ++ Some GotObject ∷ done 2)
+
+between-later : plays between (small 5) between_above (zeros 6) ≡ between_ended
+unfolding refusal next completion after_turn shade builtin_classes upwards interfaces_from is_within is_subtype_within int_wrap digits
+between-later = refl
+
+between-run : plays between (small 5) (opens between (small 5)) (zeros 11) ≡ between_ended
+between-run =
+    and_then between (small 5) (opens between (small 5)) between_claimed between_ended (zeros 1) (zeros 10) between-claim
+    (and_then between (small 5) between_claimed between_above between_ended (zeros 4) (zeros 6) between-first between-later)
