@@ -7,6 +7,7 @@ pub mod CallPrograms
 pub mod ClimbingRuns
 pub mod DropRuns
 pub mod EntryRuns
+pub mod FailingRuns
 pub mod FieldRuns
 pub mod Fields
 pub mod HeapSites
