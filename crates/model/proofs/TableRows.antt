@@ -8,9 +8,11 @@ pub mod ClimbingRuns
 pub mod DropRuns
 pub mod EntryRuns
 pub mod FailingRuns
+pub mod FaultRuns
 pub mod FieldRuns
 pub mod Fields
 pub mod HeapSites
+pub mod Initialising
 pub mod InitialisingRuns
 pub mod Invokes
 pub mod LinkRuns
