@@ -5,12 +5,11 @@ use Rattle.std.specs.Int.{int_wrap}
 use Rattle.std.specs.Fmt.{digits}
 use Rattle.model.specs.declared.colours.Colour.TheVariants.{Grey}
 use Rattle.model.specs.declared.journals.Outcome.{Outcome}
-use Rattle.model.specs.declared.journals.Outcome.TheVariants.{Done, Object as GotObject}
+use Rattle.model.specs.declared.journals.Outcome.TheVariants.{Done, Object as GotObject, NoRoom}
 use Rattle.model.specs.declared.listings.ExceptionRow.{ExceptionRow}
-use Rattle.model.specs.declared.turns.ClassState.{ClassState}
 use Rattle.model.specs.declared.turns.ClassState.TheVariants.{Unused, Running, Done as Initialised, Failed}
 use Rattle.model.specs.declared.values.Value.TheVariants.{Int, Ref}
-use Rattle.model.specs.Accounts.{after_turn, shade}
+use Rattle.model.specs.Accounts.{Account, after_turn, shade}
 use Rattle.model.specs.Accounts.Cell.{Free, Taken}
 use Rattle.model.specs.ClassListings.{ClassListing}
 use Rattle.model.specs.Classes.Builtin.{builtin_classes}
@@ -23,7 +22,7 @@ use Rattle.model.specs.Table.Next.{completion, next}
 use Rattle.model.specs.Turns.{refusal}
 use Rattle.model.specs.Worlds.{Thread, Object, plain_object}
 use Rattle.model.specs.Worlds.Thread.{Live, Ended}
-use Rattle.model.proofs.TableRows.Listings.{Sized, print, return}
+use Rattle.model.proofs.TableRows.Listings.{print, return}
 use Rattle.model.proofs.TableRows.Sites.{class}
 use Rattle.model.proofs.TableRows.Stages.{small}
 use Rattle.model.proofs.TableRows.Outcomes.{Played, plays, opens, and_then, played, iconst_0, iconst_1, iconst_2, idiv, pop, athrow, new, getstatic, catching, row, main, initializer, plain, with_x, at, failed, holding, world, cells, three_free}
@@ -70,13 +69,13 @@ opened-run : plays opened (small 5) (opens opened (small 5)) (zeros 2) ≡ with_
 unfolding refusal next completion after_turn shade builtin_classes upwards interfaces_from is_within is_subtype_within int_wrap digits
 opened-run = refl
 
--- M's main asks for R over Q over P, and catches the error: all three have failed
+-- M's main asks for R over Q over P, and catches the error: all three have failed. R waits too, so that its row isn't tried
 abbrev caught : List ClassListing
 caught =
     plain (codes "M") (catching (row 0 3 3 None ∷ []) (main 1 (new (codes "R") ∷ return ∷ [])) ∷ []) ∷
     throwing ∷
     class (codes "Q") (codes "P") [] [] ∷
-    class (codes "R") (codes "Q") [] (initializer 1 (iconst_2 ∷ print ∷ return ∷ []) ∷ []) ∷ []
+    class (codes "R") (codes "Q") [] (catching (row 0 1 0 None ∷ []) (initializer 1 (iconst_2 ∷ print ∷ return ∷ [])) ∷ []) ∷ []
 
 abbrev caught_claimed : Played
 caught_claimed = played
@@ -152,6 +151,32 @@ below-run : plays (below []) (small 5) (opens (below []) (small 5)) (zeros 5) �
 below-run =
     and_then (below []) (small 5) (opens (below []) (small 5)) below_divides below_ended (zeros 3) (zeros 2) (below-divides [])
     (and_then (below []) (small 5) below_divides below_marked below_ended (zeros 1) (zeros 1) below-marked below-ends)
+
+-- the row of a marked frame isn't tried any more
+abbrev once : List ClassListing
+once = below (row 2 3 3 (Some in_initializer) ∷ [])
+
+once-marked : plays once (small 5) below_divides (zeros 1) ≡ below_marked
+unfolding refusal next completion after_turn shade builtin_classes upwards interfaces_from is_within is_subtype_within int_wrap digits
+once-marked = refl
+
+once-ends : plays once (small 5) below_marked (zeros 1) ≡ below_ended
+unfolding refusal next completion after_turn shade builtin_classes upwards interfaces_from is_within is_subtype_within int_wrap digits
+once-ends = refl
+
+-- where no cell has room the OutOfMemoryError takes the place of either, and fails both classes at once
+abbrev ended_without_room : Account → List Object → ℕ → List (Option Outcome) → Played
+ended_without_room account objects rows outcomes = played
+    (world (Ended (Some (codes "java/lang/OutOfMemoryError")) ∷ []) (holding (codes "P") 0 ∷ []) (Initialised ∷ Failed ∷ Failed ∷ []) [] objects rows)
+    account outcomes
+
+below-no_error : plays (below []) (small 3) (opens (below []) (small 3)) (zeros 5) ≡ ended_without_room (cells (Taken 3 Grey ∷ []) [] (3 ∷ [])) (plain_object arithmetic ∷ []) 5 (done 3 ++ Some GotObject ∷ Some NoRoom ∷ [])
+unfolding refusal next completion after_turn shade builtin_classes upwards interfaces_from is_within is_subtype_within int_wrap digits
+below-no_error = refl
+
+below-no_exception : plays (below []) (small 2) (opens (below []) (small 2)) (zeros 4) ≡ ended_without_room (cells [] [] []) [] 4 (done 3 ++ Some NoRoom ∷ [])
+unfolding refusal next completion after_turn shade builtin_classes upwards interfaces_from is_within is_subtype_within int_wrap digits
+below-no_exception = refl
 
 -- ---- P failed and is asked for again, by R over Q over P first: both fail with it
 

@@ -8,7 +8,7 @@ use Rattle.model.specs.declared.instructions.Instruction.TheVariants.{Field}
 use Rattle.model.specs.declared.journals.Outcome.{Outcome}
 use Rattle.model.specs.declared.journals.Outcome.TheVariants.{Done, Object as GotObject, Fault}
 use Rattle.model.specs.declared.turns.Actor.TheVariants.{Thread as ByThread}
-use Rattle.model.specs.declared.turns.ClassState.TheVariants.{Done as Initialised}
+use Rattle.model.specs.declared.turns.ClassState.TheVariants.{Unused, Running, Done as Initialised, Failed}
 use Rattle.model.specs.declared.turns.Fault.TheVariants.{StackFull, WrongClass}
 use Rattle.model.specs.declared.turns.Turn.TheVariants.{Stopped}
 use Rattle.model.specs.declared.values.Value.{Value}
@@ -21,14 +21,18 @@ use Rattle.model.specs.Classes.Search.{upwards, interfaces_from}
 use Rattle.model.specs.Classes.Subclasses.{is_within, is_subclass}
 use Rattle.model.specs.Classes.Types.{is_subtype_within}
 use Rattle.model.specs.Frames.{Frame}
+use Rattle.model.specs.Initialisation.{waiting}
 use Rattle.model.specs.Table.Next.{completion, next}
 use Rattle.model.specs.Turns.{refusal}
-use Rattle.model.specs.Worlds.{World, Object, plain_object, with_fault, counted}
+use Rattle.model.specs.Worlds.{World, plain_object, with_fault, counted}
 use Rattle.model.specs.Worlds.Thread.{Live}
 use Rattle.model.proofs.TableRows.Listings.{Sized, ample, print, return}
 use Rattle.model.proofs.TableRows.Sites.{class, interface, member, method}
 use Rattle.model.proofs.TableRows.Stages.{small}
-use Rattle.model.proofs.TableRows.Outcomes.{Played, plays, opens, and_then, played, iconst_0, iconst_1, idiv, pop, new, invokestatic, object_class, catching, row, main, plain, x, at, world, cells}
+use Rattle.model.proofs.TableRows.Outcomes.{plays, opens, and_then, played, iconst_0, iconst_1, idiv, pop, athrow, new, invokestatic, object_class, catching, row, main, initializer, plain, x, at, world, cells}
+
+abbrev error : List ℕ
+error = codes "java/lang/Error"
 
 abbrev done : ℕ → List (Option Outcome)
 done n = replicate n (Some Done)
@@ -37,6 +41,9 @@ done n = replicate n (Some Done)
 
 abbrev filled : Account
 filled = cells [] [] []
+
+abbrev one_taken : Account
+one_taken = cells (Taken 3 Grey ∷ []) [] (3 ∷ [])
 
 -- the world before, with the fault and one row more
 abbrev stopped : World → World
@@ -113,6 +120,36 @@ dividing-room : plays dividing (small 3) (played divides (cells (Free ∷ []) (2
 unfolding refusal next completion after_turn shade builtin_classes upwards interfaces_from is_within is_subtype_within int_wrap digits
 dividing-room = refl
 
+-- ---- so it is where a class can't be used, and where an initialiser fails: no class changes its state
+
+-- main has no stack, and handles at pc 4 what comes of the new Q, below P
+abbrev failing : List ClassListing
+failing =
+    plain (codes "M") (catching (row 0 3 4 None ∷ []) (main 0 (new (codes "Q") ∷ return ∷ return ∷ [])) ∷ []) ∷
+    plain (codes "P") (initializer 1 (new error ∷ athrow ∷ []) ∷ []) ∷
+    class (codes "Q") (codes "P") [] [] ∷ []
+
+abbrev denied : World
+denied = world (Live (at 0 0 0 [] 0 ∷ []) ∷ []) [] (Initialised ∷ Failed ∷ Unused ∷ []) [] [] 0
+
+denied-run : plays failing (small 2) (played denied filled []) (0 ∷ []) ≡ played (stopped denied) filled (Some Fault ∷ [])
+unfolding refusal next completion after_turn shade builtin_classes upwards interfaces_from is_within is_subtype_within int_wrap digits
+denied-run = refl
+
+denied-room : plays failing (small 3) (played denied (cells (Free ∷ []) (2 ∷ []) []) []) (0 ∷ []) ≡ played (stopped denied) (cells (Free ∷ []) (2 ∷ []) []) (Some Fault ∷ [])
+unfolding refusal next completion after_turn shade builtin_classes upwards interfaces_from is_within is_subtype_within int_wrap digits
+denied-room = refl
+
+-- P throws an Error, above Q, which waits
+abbrev erring : World
+erring = world
+    (Live (at 0 0 0 [] 0 ∷ waiting (at 2 0 0 [] 0) ∷ at 1 0 3 (Ref (Some 3) ∷ []) 1 ∷ []) ∷ []) [] (Initialised ∷ Running 0 ∷ Running 0 ∷ []) []
+    (plain_object error ∷ []) 2
+
+erring-run : plays failing (small 3) (played erring one_taken []) (0 ∷ []) ≡ played (stopped erring) one_taken (Some Fault ∷ [])
+unfolding refusal next completion after_turn shade builtin_classes upwards interfaces_from is_within is_subtype_within int_wrap digits
+erring-run = refl
+
 -- ---- a D is an A by an interface whose superclass is A, and has none of A's fields: F6
 
 abbrev odd_with : ℕ → List Sized → List ClassListing
@@ -136,9 +173,6 @@ odd_world pc stack room rows =
 
 abbrev wrong_class : World → World
 wrong_class w = counted (with_fault w 0 WrongClass)
-
-abbrev one_taken : Account
-one_taken = cells (Taken 3 Grey ∷ []) [] (3 ∷ [])
 
 got-run : plays got (small 3) (opens got (small 3)) (0 ∷ 0 ∷ []) ≡ played (wrong_class (odd_world 3 (Ref (Some 3) ∷ []) 1 1)) one_taken (Some GotObject ∷ Some Fault ∷ [])
 unfolding refusal next completion after_turn shade builtin_classes upwards interfaces_from is_within is_subtype_within int_wrap digits

@@ -1,21 +1,23 @@
 -- Worked rows of class initialisation (JVMS 5.5): states at first, limits of a claim and of the opening, and which initialisers
 -- a program may have.
-use Rattle.std.specs.Prelude.{◌≡◌, ℕ, List, [], ◌∷◌, ◌++◌, replicate, Bool, true, false, Option, Some, None, codes, refl}
-use Rattle.model.specs.declared.instructions.Instruction.TheVariants.{Invoke}
+use Rattle.std.specs.Prelude.{◌≡◌, ℕ, pos, List, [], ◌∷◌, ◌++◌, replicate, Bool, true, false, Some, None, codes, refl}
+use Rattle.std.specs.Int.{int_wrap}
+use Rattle.model.specs.declared.instructions.ClassOperation.TheVariants.{InstanceOf}
+use Rattle.model.specs.declared.instructions.Instruction.TheVariants.{Class, Invoke}
 use Rattle.model.specs.declared.instructions.Invocation.{Invocation}
 use Rattle.model.specs.declared.instructions.Invocation.TheVariants.{Virtual, Special, Static, Interface}
 use Rattle.model.specs.declared.listings.Method.{Method}
 use Rattle.model.specs.declared.turns.ClassState.{ClassState}
 use Rattle.model.specs.declared.turns.ClassState.TheVariants.{Unused, Running, Done as Initialised, Failed}
-use Rattle.model.specs.declared.turns.Mark.TheVariants.{Unmarked}
-use Rattle.model.specs.declared.values.Value.TheVariants.{Ref}
+use Rattle.model.specs.declared.values.Value.TheVariants.{Int, Ref}
 use Rattle.model.specs.Accepted.RefusedMembers.{is_refused}
 use Rattle.model.specs.Accepted.References.{resolves}
 use Rattle.model.specs.ClassListings.{ClassListing}
 use Rattle.model.specs.Classes.Builtin.{builtin_classes}
 use Rattle.model.specs.Classes.Search.{upwards, interfaces_from}
 use Rattle.model.specs.Classes.Subclasses.{is_within}
-use Rattle.model.specs.Classes.Types.{is_subtype_within}
+use Rattle.model.specs.Completions.Completion.{Creates, Denies, Waits}
+use Rattle.model.specs.Worlds.Contents.{Instance}
 use Rattle.model.specs.Effects.Choice.{NewObject}
 use Rattle.model.specs.Frames.{Frame}
 use Rattle.model.specs.Initialisation.{Chain, chain_of, opening_states, waiting}
@@ -24,11 +26,17 @@ use Rattle.model.specs.Table.Next.{completion, next}
 use Rattle.model.specs.Worlds.{World, opening_fits}
 use Rattle.model.specs.Worlds.Thread.{Live, Ended}
 use Rattle.model.proofs.TableRows.Listings.{Sized, return}
-use Rattle.model.proofs.TableRows.Sites.{class, interface, member, method, abstract_method}
-use Rattle.model.proofs.TableRows.Outcomes.{pop, getstatic, invokestatic, object_class, catching, row, main, initializer, plain, with_x, holding, at, world}
+use Rattle.model.proofs.TableRows.Sites.{class, interface, member, method}
+use Rattle.model.proofs.TableRows.Outcomes.{pop, new, getstatic, putstatic, invokestatic, catching, row, main, initializer, plain, with_x, holding, at, world}
 
 abbrev empty : ℕ → Method
 empty stack = initializer stack (return ∷ [])
+
+abbrev turn : List ClassListing → World → Effect
+turn program w = next program w 0 NewObject
+
+abbrev then : World → List ℕ → Effect
+then after writes = record { after = after; writes = writes }
 
 -- ---- states at first
 
@@ -76,6 +84,76 @@ chain-own : upwards_from (codes "java/lang/Thread") Unused Unused Unused ≡ cha
 unfolding upwards builtin_classes
 chain-own = refl
 
+-- ---- which class an instruction uses
+
+-- main stands at the instruction; P declares the field and f, and Q is below it
+abbrev uses : Sized → List ClassListing
+uses i =
+    plain (codes "M") (main 2 (i ∷ return ∷ []) ∷ []) ∷
+    with_x (plain (codes "P") (empty 0 ∷ method 9 (codes "f") (codes "()V") 0 0 (return ∷ []) ∷ [])) ∷
+    class (codes "Q") (codes "P") [] (empty 0 ∷ []) ∷ []
+
+-- with these states of P and Q
+abbrev standing : List Frame → ClassState → ClassState → World
+standing frames p q = world (Live frames ∷ []) (holding (codes "P") 0 ∷ []) (Initialised ∷ p ∷ q ∷ []) [] [] 0
+
+abbrev unused : World
+unused = standing (at 0 0 0 [] 2 ∷ []) Unused Unused
+
+abbrev claims_p : Effect
+claims_p = then (standing (at 0 0 0 [] 2 ∷ at 1 0 0 [] 0 ∷ []) (Running 0) Unused) []
+
+uses-new : turn (uses (new (codes "Q"))) unused ≡ then (standing (at 0 0 0 [] 2 ∷ waiting (at 2 0 0 [] 0) ∷ at 1 0 0 [] 0 ∷ []) (Running 0) (Running 0)) []
+unfolding next completion builtin_classes upwards
+uses-new = refl
+
+-- the class that declares the field or method, whichever class the reference names
+uses-get : turn (uses (getstatic (codes "Q"))) unused ≡ claims_p
+unfolding next completion builtin_classes upwards interfaces_from
+uses-get = refl
+
+uses-call : turn (uses (invokestatic (codes "Q") (codes "f"))) unused ≡ claims_p
+unfolding next completion builtin_classes upwards interfaces_from
+uses-call = refl
+
+-- before any operand is tested
+uses-put : turn (uses (putstatic (codes "P"))) unused ≡ claims_p
+unfolding next completion builtin_classes upwards interfaces_from
+uses-put = refl
+
+-- instanceof uses none
+uses-none : turn (uses (3, Class InstanceOf (codes "Q"))) (standing (at 0 0 0 (Ref None ∷ []) 2 ∷ []) Unused Unused) ≡ then (standing (at 0 0 3 (Int (pos 0) ∷ []) 2 ∷ []) Unused Unused) []
+unfolding next completion builtin_classes upwards int_wrap
+uses-none = refl
+
+-- ---- the first class upwards that was used runs its initialiser: by this thread, or by another
+
+uses-own : completion (uses (new (codes "P"))) (standing (at 0 0 0 [] 2 ∷ []) (Running 0) Unused) 0 ≡ Creates 3 0 (Instance (codes "P") [])
+unfolding completion builtin_classes upwards
+uses-own = refl
+
+uses-below_own : turn (uses (new (codes "Q"))) (standing (at 0 0 0 [] 2 ∷ []) (Running 0) Unused) ≡ then (standing (at 0 0 0 [] 2 ∷ at 2 0 0 [] 0 ∷ []) (Running 0) (Running 0)) []
+unfolding next completion builtin_classes upwards
+uses-below_own = refl
+
+uses-others : completion (uses (new (codes "P"))) (standing (at 0 0 0 [] 2 ∷ []) (Running 1) Unused) 0 ≡ Waits
+unfolding completion builtin_classes upwards
+uses-others = refl
+
+uses-below_others : completion (uses (new (codes "Q"))) (standing (at 0 0 0 [] 2 ∷ []) (Running 1) Unused) 0 ≡ Waits
+unfolding completion builtin_classes upwards
+uses-below_others = refl
+
+-- what is initialised is used at once, whatever is above it
+uses-done : completion (uses (new (codes "Q"))) (standing (at 0 0 0 [] 2 ∷ []) (Running 1) Initialised) 0 ≡ Creates 3 0 (Instance (codes "Q") [])
+unfolding completion builtin_classes upwards
+uses-done = refl
+
+-- Q fails with P
+uses-failed : completion (uses (new (codes "Q"))) (standing (at 0 0 0 [] 2 ∷ []) Failed Unused) 0 ≡ Denies (Initialised ∷ Failed ∷ Failed ∷ [])
+unfolding completion builtin_classes upwards
+uses-failed = refl
+
 -- ---- a claim has room for the initialisers' frames, or throws the StackOverflowError that was made before the run
 
 -- M's f calls itself at pc 0, uses K or L over K at pc 3, and handles all at pc 6
@@ -93,12 +171,6 @@ depth n inside state = world (Live (at 0 0 0 [] 0 ∷ replicate n (at 0 1 0 [] 1
 
 abbrev using : Frame
 using = at 0 1 3 [] 1
-
-abbrev turn : List ClassListing → World → Effect
-turn program w = next program w 0 NewObject
-
-abbrev then : World → List ℕ → Effect
-then after writes = record { after = after; writes = writes }
 
 -- the 256th frame is the initialiser's
 deep-claims : turn (deep (codes "K")) (depth 253 (using ∷ []) Unused) ≡ then (depth 253 (using ∷ at 1 0 0 [] 0 ∷ []) (Running 0)) []
@@ -178,8 +250,16 @@ not-codeless = refl
 
 -- ---- no instruction calls it
 
+abbrev called_as : List ℕ → Invocation → Bool
+called_as name how = resolves (plain (codes "K") (method 8 name (codes "()V") 0 0 (return ∷ []) ∷ []) ∷ []) (Invoke how (member (codes "K") name (codes "()V")))
+
 abbrev called : Invocation → Bool
-called how = resolves (with_x (plain (codes "K") (empty 0 ∷ [])) ∷ []) (Invoke how (member (codes "K") (codes "<clinit>") (codes "()V")))
+called how = called_as (codes "<clinit>") how
+
+-- by any other name it could be
+yes-static : called_as (codes "f") Static ≡ true
+unfolding builtin_classes upwards interfaces_from
+yes-static = refl
 
 no-static : called Static ≡ false
 unfolding builtin_classes upwards interfaces_from

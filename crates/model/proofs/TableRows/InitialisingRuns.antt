@@ -1,5 +1,5 @@
 -- Worked runs of class initialisation (JVMS 5.5): the outcome of each turn, and what the machine is after it.
-use Rattle.std.specs.Prelude.{◌≡◌, ℕ, pos, List, [], ◌∷◌, ◌++◌, replicate, Option, Some, None, false, codes, refl}
+use Rattle.std.specs.Prelude.{◌≡◌, ℕ, List, [], ◌∷◌, ◌++◌, replicate, Option, Some, None, false, codes, refl}
 use Rattle.std.specs.Int.{int_wrap}
 use Rattle.std.specs.Fmt.{digits}
 use Rattle.model.specs.declared.instructions.Instruction.TheVariants.{Invoke}
@@ -14,8 +14,10 @@ use Rattle.model.specs.declared.colours.Colour.TheVariants.{Grey}
 use Rattle.model.specs.declared.listings.Method.{Method}
 use Rattle.model.specs.declared.turns.ClassState.{ClassState}
 use Rattle.model.specs.declared.turns.ClassState.TheVariants.{Unused, Running, Done as Initialised, Failed}
-use Rattle.model.specs.declared.values.Value.TheVariants.{Int, Ref}
-use Rattle.model.specs.Accounts.{after_turn, shade}
+use Rattle.model.specs.declared.values.Value.TheVariants.{Ref}
+use Rattle.model.specs.Accounts.{Account, after_turn, shade}
+use Rattle.model.specs.Observers.{status_in}
+use Rattle.model.specs.declared.turns.Status.TheVariants.{Stuck}
 use Rattle.model.specs.Accounts.Cell.{Free, Taken}
 use Rattle.model.specs.Frames.{Frame}
 use Rattle.model.specs.Worlds.{World, Thread, Object, plain_object}
@@ -315,6 +317,38 @@ meeting-run =
     and_then meeting (small 5) (opens meeting (small 5)) meeting_started meeting_ended (zeros 2) (0 ∷ 1 ∷ 0 ∷ 0 ∷ 1 ∷ 0 ∷ 1 ∷ 1 ∷ 1 ∷ 0 ∷ 0 ∷ 0 ∷ []) meeting-starts
     (and_then meeting (small 5) meeting_started meeting_claimed meeting_ended (0 ∷ 1 ∷ []) (0 ∷ 0 ∷ 1 ∷ 0 ∷ 1 ∷ 1 ∷ 1 ∷ 0 ∷ 0 ∷ 0 ∷ []) meeting-claims
     (and_then meeting (small 5) meeting_claimed meeting_initialised meeting_ended (0 ∷ 0 ∷ 1 ∷ 0 ∷ []) (1 ∷ 1 ∷ 1 ∷ 0 ∷ 0 ∷ 0 ∷ []) meeting-initialises meeting-ends))
+
+-- ---- each of two threads initialises a class, and wants the other's: neither is ever ready again
+
+abbrev wanting : List ℕ → ClassListing → ClassListing
+wanting other c = with_x (record c { methods = initializer 1 (getstatic other ∷ pop ∷ return ∷ []) ∷ [] })
+
+abbrev locking : List ClassListing
+locking =
+    plain (codes "M") (main 1 (getstatic (codes "A") ∷ pop ∷ return ∷ []) ∷ []) ∷
+    class (codes "T") (codes "java/lang/Thread") [] (method 1 (codes "run") (codes "()V") 1 1 (getstatic (codes "B") ∷ pop ∷ return ∷ []) ∷ []) ∷
+    wanting (codes "B") (plain (codes "A") []) ∷
+    wanting (codes "A") (plain (codes "B") []) ∷ []
+
+-- thread 1 runs T's run
+abbrev locking_world : List Frame → List Frame → ClassState → ClassState → ℕ → World
+locking_world of_0 of_1 a b rows = world
+    (Live (at 0 0 0 [] 1 ∷ of_0) ∷ Live (frame (place 1 0) 0 (Holds (Ref (Some 3)) ∷ []) [] 1 None ∷ of_1) ∷ [])
+    (holding (codes "A") 0 ∷ holding (codes "B") 0 ∷ []) (Initialised ∷ Initialised ∷ a ∷ b ∷ []) [] (object (codes "T") None 0 (Some 1) ∷ []) rows
+
+abbrev locking_account : Account
+locking_account = cells (Taken 3 Grey ∷ Free ∷ Free ∷ []) (3 ∷ 4 ∷ []) (3 ∷ [])
+
+abbrev locked : World
+locked = locking_world (at 2 0 0 [] 1 ∷ []) (at 3 0 0 [] 1 ∷ []) (Running 0) (Running 1) 2
+
+locking-run : plays locking (small 5) (played (locking_world [] [] Unused Unused 0) locking_account []) (0 ∷ 1 ∷ 0 ∷ 1 ∷ []) ≡ played locked locking_account (done 2 ++ None ∷ None ∷ [])
+unfolding refusal next completion after_turn shade builtin_classes upwards interfaces_from is_within is_subtype_within int_wrap digits
+locking-run = refl
+
+locking-stuck : status_in locking locked ≡ Stuck
+unfolding completion builtin_classes upwards interfaces_from
+locking-stuck = refl
 
 -- ---- a class without an initialiser between two that declare one: it has an empty one, behind its last method
 

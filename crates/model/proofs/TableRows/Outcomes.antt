@@ -31,7 +31,7 @@ use Rattle.model.specs.CodeListings.{CodeListing}
 use Rattle.model.specs.Frames.{Frame}
 use Rattle.model.specs.Machines.{Machine, advance, opening_machine, row_by}
 use Rattle.model.specs.Worlds.{World, Thread, Object, FieldValue, opening_objects}
-use Rattle.model.proofs.TableRows.Listings.{Sized, ample, placed_from}
+use Rattle.model.proofs.TableRows.Listings.{Sized, ample}
 use Rattle.model.proofs.TableRows.Sites.{class, frame, member, method, place}
 use Rattle.model.proofs.TableRows.Stages.{account}
 
