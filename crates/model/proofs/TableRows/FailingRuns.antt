@@ -5,7 +5,7 @@ use Rattle.std.specs.Int.{int_wrap}
 use Rattle.std.specs.Fmt.{digits}
 use Rattle.model.specs.declared.colours.Colour.TheVariants.{Grey}
 use Rattle.model.specs.declared.journals.Outcome.{Outcome}
-use Rattle.model.specs.declared.journals.Outcome.TheVariants.{Done, Object as GotObject, NoRoom}
+use Rattle.model.specs.declared.journals.Outcome.TheVariants.{Object as GotObject, NoRoom}
 use Rattle.model.specs.declared.listings.ExceptionRow.{ExceptionRow}
 use Rattle.model.specs.declared.turns.ClassState.TheVariants.{Unused, Running, Done as Initialised, Failed}
 use Rattle.model.specs.declared.values.Value.TheVariants.{Int, Ref}
@@ -25,25 +25,7 @@ use Rattle.model.specs.Worlds.Thread.{Live, Ended}
 use Rattle.model.proofs.TableRows.Listings.{print, return}
 use Rattle.model.proofs.TableRows.Sites.{class}
 use Rattle.model.proofs.TableRows.Stages.{small}
-use Rattle.model.proofs.TableRows.Outcomes.{Played, plays, opens, and_then, played, iconst_0, iconst_1, iconst_2, idiv, pop, athrow, new, getstatic, catching, row, main, initializer, plain, with_x, at, failed, holding, world, cells, three_free}
-
-abbrev done : ℕ → List (Option Outcome)
-done n = replicate n (Some Done)
-
-abbrev zeros : ℕ → List ℕ
-zeros n = replicate n 0
-
-abbrev error : List ℕ
-error = codes "java/lang/Error"
-
-abbrev arithmetic : List ℕ
-arithmetic = codes "java/lang/ArithmeticException"
-
-abbrev in_initializer : List ℕ
-in_initializer = codes "java/lang/ExceptionInInitializerError"
-
-abbrev no_class : List ℕ
-no_class = codes "java/lang/NoClassDefFoundError"
+use Rattle.model.proofs.TableRows.Outcomes.{Played, plays, opens, and_then, played, iconst_0, iconst_1, iconst_2, idiv, pop, athrow, new, getstatic, catching, row, main, initializer, plain, with_x, at, failed, holding, world, cells, three_free, done, zeros, error, arithmetic, in_initializer, no_class, out_of_memory, two_free}
 
 -- ---- an Error in P's initialiser
 
@@ -62,10 +44,7 @@ opened-opens : opens opened (small 5) ≡ played (world (Live (waiting (at 0 0 0
 unfolding builtin_classes upwards int_wrap
 opened-opens = refl
 
-abbrev with_error : Played → Played
-with_error p = record p { machine = record p.machine { account = cells (Taken 3 Grey ∷ Free ∷ Free ∷ []) (3 ∷ 4 ∷ []) (3 ∷ []) } }
-
-opened-run : plays opened (small 5) (opens opened (small 5)) (zeros 2) ≡ with_error (played (world (Ended (Some error) ∷ []) [] (Failed ∷ Failed ∷ []) [] (plain_object error ∷ []) 2) three_free (Some GotObject ∷ done 1))
+opened-run : plays opened (small 5) (opens opened (small 5)) (zeros 2) ≡ played (world (Ended (Some error) ∷ []) [] (Failed ∷ Failed ∷ []) [] (plain_object error ∷ []) 2) two_free (Some GotObject ∷ done 1)
 unfolding refusal next completion after_turn shade builtin_classes upwards interfaces_from is_within is_subtype_within int_wrap digits
 opened-run = refl
 
@@ -88,9 +67,9 @@ unfolding refusal next completion after_turn shade builtin_classes upwards inter
 caught-claim = refl
 
 abbrev caught_failed : Played
-caught_failed = with_error (played
+caught_failed = played
     (world (Live (at 0 0 3 (Ref (Some 3) ∷ []) 1 ∷ []) ∷ []) [] (Initialised ∷ Failed ∷ Failed ∷ Failed ∷ []) [] (plain_object error ∷ []) 3)
-    three_free (done 1 ++ Some GotObject ∷ done 1))
+    two_free (done 1 ++ Some GotObject ∷ done 1)
 
 caught-fails : plays caught (small 5) caught_claimed (zeros 2) ≡ caught_failed
 unfolding refusal next completion after_turn shade builtin_classes upwards interfaces_from is_within is_subtype_within int_wrap digits
@@ -111,26 +90,26 @@ below rows =
     dividing rows ∷
     class (codes "Q") (codes "P") [] (initializer 1 (iconst_2 ∷ print ∷ return ∷ []) ∷ []) ∷ []
 
-abbrev below_played : List Frame → List Object → ℕ → List (Option Outcome) → Played
-below_played frames objects rows outcomes = played
+abbrev below_played : List Frame → List Object → ℕ → Account → List (Option Outcome) → Played
+below_played frames objects rows account outcomes = played
     (world (Live (at 0 0 0 [] 1 ∷ waiting (at 2 0 0 [] 1) ∷ frames) ∷ []) (holding (codes "P") 0 ∷ []) (Initialised ∷ Running 0 ∷ Running 0 ∷ []) [] objects rows)
-    three_free outcomes
+    account outcomes
 
 abbrev below_divides : Played
-below_divides = below_played (at 1 0 2 (Int (pos 0) ∷ Int (pos 1) ∷ []) 2 ∷ []) [] 3 (done 3)
+below_divides = below_played (at 1 0 2 (Int (pos 0) ∷ Int (pos 1) ∷ []) 2 ∷ []) [] 3 three_free (done 3)
 
 below-divides : (rows : List ExceptionRow) → plays (below rows) (small 5) (opens (below rows) (small 5)) (zeros 3) ≡ below_divides
 unfolding refusal next completion after_turn shade builtin_classes upwards interfaces_from is_within is_subtype_within int_wrap digits
 below-divides rows = refl
 
 -- handled, it is no failure
-below-handles : plays (below (row 2 3 3 None ∷ [])) (small 5) below_divides (zeros 1) ≡ with_error (below_played (at 1 0 3 (Ref (Some 3) ∷ []) 2 ∷ []) (plain_object arithmetic ∷ []) 4 (done 3 ++ Some GotObject ∷ []))
+below-handles : plays (below (row 2 3 3 None ∷ [])) (small 5) below_divides (zeros 1) ≡ below_played (at 1 0 3 (Ref (Some 3) ∷ []) 2 ∷ []) (plain_object arithmetic ∷ []) 4 two_free (done 3 ++ Some GotObject ∷ [])
 unfolding refusal next completion after_turn shade builtin_classes upwards interfaces_from is_within is_subtype_within int_wrap digits
 below-handles = refl
 
 -- not handled: P is marked first, and the error of the next turn fails P, and Q with it
 abbrev below_marked : Played
-below_marked = with_error (below_played (failed (at 1 0 2 [] 2) ∷ []) (plain_object arithmetic ∷ []) 4 (done 3 ++ Some GotObject ∷ []))
+below_marked = below_played (failed (at 1 0 2 [] 2) ∷ []) (plain_object arithmetic ∷ []) 4 two_free (done 3 ++ Some GotObject ∷ [])
 
 below-marked : plays (below []) (small 5) below_divides (zeros 1) ≡ below_marked
 unfolding refusal next completion after_turn shade builtin_classes upwards interfaces_from is_within is_subtype_within int_wrap digits
@@ -167,7 +146,7 @@ once-ends = refl
 -- where no cell has room the OutOfMemoryError takes the place of either, and fails both classes at once
 abbrev ended_without_room : Account → List Object → ℕ → List (Option Outcome) → Played
 ended_without_room account objects rows outcomes = played
-    (world (Ended (Some (codes "java/lang/OutOfMemoryError")) ∷ []) (holding (codes "P") 0 ∷ []) (Initialised ∷ Failed ∷ Failed ∷ []) [] objects rows)
+    (world (Ended (Some out_of_memory) ∷ []) (holding (codes "P") 0 ∷ []) (Initialised ∷ Failed ∷ Failed ∷ []) [] objects rows)
     account outcomes
 
 below-no_error : plays (below []) (small 3) (opens (below []) (small 3)) (zeros 5) ≡ ended_without_room (cells (Taken 3 Grey ∷ []) [] (3 ∷ [])) (plain_object arithmetic ∷ []) 5 (done 3 ++ Some GotObject ∷ Some NoRoom ∷ [])

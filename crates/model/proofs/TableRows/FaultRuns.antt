@@ -1,11 +1,10 @@
 -- Worked runs that end in a fault which depends on whether a cell has room, and fields that an object hasn't.
-use Rattle.std.specs.Prelude.{◌≡◌, ℕ, pos, List, [], ◌∷◌, ◌++◌, replicate, Option, Some, None, true, codes, refl}
+use Rattle.std.specs.Prelude.{◌≡◌, ℕ, pos, List, [], ◌∷◌, ◌++◌, Some, None, true, codes, refl}
 use Rattle.std.specs.Int.{int_wrap}
 use Rattle.std.specs.Fmt.{digits}
 use Rattle.model.specs.declared.colours.Colour.TheVariants.{Grey}
 use Rattle.model.specs.declared.instructions.Access.TheVariants.{Get, Put}
 use Rattle.model.specs.declared.instructions.Instruction.TheVariants.{Field}
-use Rattle.model.specs.declared.journals.Outcome.{Outcome}
 use Rattle.model.specs.declared.journals.Outcome.TheVariants.{Done, Object as GotObject, Fault}
 use Rattle.model.specs.declared.turns.Actor.TheVariants.{Thread as ByThread}
 use Rattle.model.specs.declared.turns.ClassState.TheVariants.{Unused, Running, Done as Initialised, Failed}
@@ -29,13 +28,7 @@ use Rattle.model.specs.Worlds.Thread.{Live}
 use Rattle.model.proofs.TableRows.Listings.{Sized, ample, print, return}
 use Rattle.model.proofs.TableRows.Sites.{class, interface, member, method}
 use Rattle.model.proofs.TableRows.Stages.{small}
-use Rattle.model.proofs.TableRows.Outcomes.{plays, opens, and_then, played, iconst_0, iconst_1, idiv, pop, athrow, new, invokestatic, object_class, catching, row, main, initializer, plain, x, at, world, cells}
-
-abbrev error : List ℕ
-error = codes "java/lang/Error"
-
-abbrev done : ℕ → List (Option Outcome)
-done n = replicate n (Some Done)
+use Rattle.model.proofs.TableRows.Outcomes.{plays, opens, and_then, played, iconst_0, iconst_1, idiv, pop, athrow, new, invokestatic, object_class, catching, row, main, initializer, plain, x, at, world, cells, done, error}
 
 -- ---- no cell has room, and the handler's stack has none for the OutOfMemoryError: F2. Births 1 and 2 fill the heap
 

@@ -27,7 +27,7 @@ use Rattle.model.specs.Worlds.{World, opening_fits}
 use Rattle.model.specs.Worlds.Thread.{Live, Ended}
 use Rattle.model.proofs.TableRows.Listings.{Sized, return}
 use Rattle.model.proofs.TableRows.Sites.{class, interface, member, method}
-use Rattle.model.proofs.TableRows.Outcomes.{pop, new, getstatic, putstatic, invokestatic, catching, row, main, initializer, plain, with_x, holding, at, world}
+use Rattle.model.proofs.TableRows.Outcomes.{pop, new, getstatic, putstatic, invokestatic, catching, row, main, initializer, plain, with_x, holding, at, world, stack_overflow}
 
 abbrev empty : ℕ → Method
 empty stack = initializer stack (return ∷ [])
@@ -198,7 +198,7 @@ wide-claims : turn (wide 96) (width [] Unused) ≡ then (width (at 1 0 0 [] 96 �
 unfolding next completion builtin_classes upwards interfaces_from
 wide-claims = refl
 
-wide-overflows : turn (wide 97) (width [] Unused) ≡ then (record (width [] Unused) { threads = Ended (Some (codes "java/lang/StackOverflowError")) ∷ [] }) []
+wide-overflows : turn (wide 97) (width [] Unused) ≡ then (record (width [] Unused) { threads = Ended (Some stack_overflow) ∷ [] }) []
 unfolding next completion builtin_classes upwards interfaces_from is_within
 wide-overflows = refl
 

@@ -1,5 +1,5 @@
 -- Worked runs of class initialisation (JVMS 5.5): the outcome of each turn, and what the machine is after it.
-use Rattle.std.specs.Prelude.{◌≡◌, ℕ, List, [], ◌∷◌, ◌++◌, replicate, Option, Some, None, false, codes, refl}
+use Rattle.std.specs.Prelude.{◌≡◌, ℕ, List, [], ◌∷◌, ◌++◌, Option, Some, None, false, codes, refl}
 use Rattle.std.specs.Int.{int_wrap}
 use Rattle.std.specs.Fmt.{digits}
 use Rattle.model.specs.declared.instructions.Instruction.TheVariants.{Invoke}
@@ -15,7 +15,7 @@ use Rattle.model.specs.declared.listings.Method.{Method}
 use Rattle.model.specs.declared.turns.ClassState.{ClassState}
 use Rattle.model.specs.declared.turns.ClassState.TheVariants.{Unused, Running, Done as Initialised, Failed}
 use Rattle.model.specs.declared.values.Value.TheVariants.{Ref}
-use Rattle.model.specs.Accounts.{Account, after_turn, shade}
+use Rattle.model.specs.Accounts.{after_turn, shade}
 use Rattle.model.specs.Observers.{status_in}
 use Rattle.model.specs.declared.turns.Status.TheVariants.{Stuck}
 use Rattle.model.specs.Accounts.Cell.{Free, Taken}
@@ -33,13 +33,7 @@ use Rattle.model.specs.Worlds.Thread.{Live, Ended}
 use Rattle.model.proofs.TableRows.Listings.{Sized, ample, print, return}
 use Rattle.model.proofs.TableRows.Stages.{small}
 use Rattle.model.proofs.TableRows.Sites.{class, frame, member, method, object, place}
-use Rattle.model.proofs.TableRows.Outcomes.{Played, plays, opens, and_then, played, iconst_0, iconst_1, iconst_2, bipush, idiv, pop, new, getstatic, putstatic, catching, row, main, initializer, plain, with_x, holding, at, failed, world, cells, three_free}
-
-abbrev done : ℕ → List (Option Outcome)
-done n = replicate n (Some Done)
-
-abbrev zeros : ℕ → List ℕ
-zeros n = replicate n 0
+use Rattle.model.proofs.TableRows.Outcomes.{Played, plays, opens, and_then, played, iconst_0, iconst_1, iconst_2, bipush, idiv, pop, new, getstatic, putstatic, catching, row, main, initializer, plain, with_x, holding, at, failed, world, cells, three_free, done, zeros, error, arithmetic, in_initializer, no_class, out_of_memory, two_free}
 
 -- ---- the first class has an initialiser: thread 0 opens in it, above a waiting main
 
@@ -147,7 +141,7 @@ over-second = refl
 
 -- the eighth row is the object
 abbrev over_ended : Played
-over_ended = played (world (Ended None ∷ []) [] (Initialised ∷ Initialised ∷ Initialised ∷ []) (codes "1\n2\n") (plain_object (codes "Q") ∷ []) 10) (cells (Taken 3 Grey ∷ Free ∷ Free ∷ []) (3 ∷ 4 ∷ []) (3 ∷ [])) (done 7 ++ Some GotObject ∷ done 2)
+over_ended = played (world (Ended None ∷ []) [] (Initialised ∷ Initialised ∷ Initialised ∷ []) (codes "1\n2\n") (plain_object (codes "Q") ∷ []) 10) two_free (done 7 ++ Some GotObject ∷ done 2)
 
 over-later : plays over (small 5) over_initialised (zeros 3) ≡ over_ended
 unfolding refusal next completion after_turn shade builtin_classes upwards interfaces_from is_within is_subtype_within int_wrap digits
@@ -163,15 +157,6 @@ over-run =
 
 abbrev dividing : ClassListing
 dividing = with_x (plain (codes "P") (initializer 2 (iconst_1 ∷ iconst_0 ∷ idiv ∷ pop ∷ return ∷ []) ∷ []))
-
-abbrev in_initializer : List ℕ
-in_initializer = codes "java/lang/ExceptionInInitializerError"
-
-abbrev no_class : List ℕ
-no_class = codes "java/lang/NoClassDefFoundError"
-
-abbrev arithmetic : List ℕ
-arithmetic = codes "java/lang/ArithmeticException"
 
 -- instructions of main at their pcs: 0 to 6, and the handler at 7, 8, 11 and 14
 abbrev again : List ClassListing
@@ -195,7 +180,7 @@ again-opens = refl
 abbrev again_stopped : Played
 again_stopped = played
     (again_world (at 0 0 0 [] 1 ∷ failed (at 1 0 2 [] 2) ∷ []) (Running 0) (plain_object arithmetic ∷ []) 4)
-    (cells (Taken 3 Grey ∷ Free ∷ Free ∷ []) (3 ∷ 4 ∷ []) (3 ∷ []))
+    two_free
     (done 3 ++ Some GotObject ∷ [])
 
 again-stops : plays again (small 5) again_opened (zeros 4) ≡ again_stopped
@@ -241,7 +226,7 @@ scarce-fails = refl
 
 abbrev scarce_ended : Played
 scarce_ended = played
-    (world (Ended (Some (codes "java/lang/OutOfMemoryError")) ∷ []) (holding (codes "P") 0 ∷ []) (Initialised ∷ Failed ∷ []) [] (plain_object arithmetic ∷ plain_object in_initializer ∷ []) 7)
+    (world (Ended (Some out_of_memory) ∷ []) (holding (codes "P") 0 ∷ []) (Initialised ∷ Failed ∷ []) [] (plain_object arithmetic ∷ plain_object in_initializer ∷ []) 7)
     (cells (Taken 3 Grey ∷ Taken 4 Grey ∷ []) [] (3 ∷ 4 ∷ []))
     (done 3 ++ Some GotObject ∷ Some GotObject ∷ Some Done ∷ Some NoRoom ∷ [])
 
@@ -267,7 +252,7 @@ run_begins = Live (frame (place 2 0) 0 (Holds (Ref (Some 3)) ∷ []) [] 1 None �
 abbrev meeting_played : List Thread → ℕ → ClassState → List ℕ → ℕ → List (Option Outcome) → Played
 meeting_played threads n state output rows outcomes = played
     (world threads (holding (codes "I") n ∷ []) (Initialised ∷ state ∷ Initialised ∷ []) output (object (codes "T") None 0 (Some 1) ∷ []) rows)
-    (cells (Taken 3 Grey ∷ Free ∷ Free ∷ []) (3 ∷ 4 ∷ []) (3 ∷ []))
+    two_free
     outcomes
 
 -- both threads stand at their getstatic
@@ -336,13 +321,10 @@ locking_world of_0 of_1 a b rows = world
     (Live (at 0 0 0 [] 1 ∷ of_0) ∷ Live (frame (place 1 0) 0 (Holds (Ref (Some 3)) ∷ []) [] 1 None ∷ of_1) ∷ [])
     (holding (codes "A") 0 ∷ holding (codes "B") 0 ∷ []) (Initialised ∷ Initialised ∷ a ∷ b ∷ []) [] (object (codes "T") None 0 (Some 1) ∷ []) rows
 
-abbrev locking_account : Account
-locking_account = cells (Taken 3 Grey ∷ Free ∷ Free ∷ []) (3 ∷ 4 ∷ []) (3 ∷ [])
-
 abbrev locked : World
 locked = locking_world (at 2 0 0 [] 1 ∷ []) (at 3 0 0 [] 1 ∷ []) (Running 0) (Running 1) 2
 
-locking-run : plays locking (small 5) (played (locking_world [] [] Unused Unused 0) locking_account []) (0 ∷ 1 ∷ 0 ∷ 1 ∷ []) ≡ played locked locking_account (done 2 ++ None ∷ None ∷ [])
+locking-run : plays locking (small 5) (played (locking_world [] [] Unused Unused 0) two_free []) (0 ∷ 1 ∷ 0 ∷ 1 ∷ []) ≡ played locked two_free (done 2 ++ None ∷ None ∷ [])
 unfolding refusal next completion after_turn shade builtin_classes upwards interfaces_from is_within is_subtype_within int_wrap digits
 locking-run = refl
 
@@ -382,7 +364,7 @@ between-first = refl
 abbrev between_ended : Played
 between_ended = played
     (world (Ended None ∷ []) [] (Initialised ∷ Initialised ∷ Initialised ∷ Initialised ∷ []) (codes "1\n2\n") (plain_object (codes "R") ∷ []) 11)
-    (cells (Taken 3 Grey ∷ Free ∷ Free ∷ []) (3 ∷ 4 ∷ []) (3 ∷ []))
+    two_free
     (done 8 ++ Some GotObject ∷ done 2)
 
 between-later : plays between (small 5) between_above (zeros 6) ≡ between_ended

@@ -1,7 +1,7 @@
 -- Runs of the machine that tell the outcome of each turn, and what programs with class initialisers are written with.
-use Rattle.std.proofs.Common.{◌≡◌, ◌∙◌, ap}
-use Rattle.std.specs.Prelude.{ℕ, pos, List, [], ◌∷◌, ◌++◌, Option, Some, None, codes}
-use Rattle.model.specs.declared.colours.Colour.TheVariants.{White}
+use Rattle.std.proofs.Common.{◌≡◌, ◌∙◌, ap, refl}
+use Rattle.std.specs.Prelude.{ℕ, pos, List, [], ◌∷◌, ◌++◌, map, replicate, Option, Some, None, codes}
+use Rattle.model.specs.declared.colours.Colour.TheVariants.{White, Grey}
 use Rattle.model.specs.declared.colours.Phase.TheVariants.{Idle}
 use Rattle.model.specs.declared.instructions.Access.TheVariants.{Get, Put}
 use Rattle.model.specs.declared.instructions.ClassOperation.TheVariants.{New}
@@ -15,6 +15,7 @@ use Rattle.model.specs.declared.instructions.SmallInt.TheVariants.{Zero, One, Tw
 use Rattle.model.specs.declared.instructions.StackOperation.TheVariants.{Pop}
 use Rattle.model.specs.declared.journals.HeapShape.{HeapShape}
 use Rattle.model.specs.declared.journals.Outcome.{Outcome}
+use Rattle.model.specs.declared.journals.Outcome.TheVariants.{Done}
 use Rattle.model.specs.declared.journals.Row.{Row}
 use Rattle.model.specs.declared.listings.ExceptionRow.{ExceptionRow}
 use Rattle.model.specs.declared.listings.Field.{Field}
@@ -28,6 +29,7 @@ use Rattle.model.specs.Accounts.{Account, Cell}
 use Rattle.model.specs.Accounts.Cell.{Free, Taken}
 use Rattle.model.specs.ClassListings.{ClassListing}
 use Rattle.model.specs.CodeListings.{CodeListing}
+use Rattle.model.specs.Collector.Runs.{advance_if, moved_by, moved_by_all}
 use Rattle.model.specs.Frames.{Frame}
 use Rattle.model.specs.Machines.{Machine, advance, opening_machine, row_by}
 use Rattle.model.specs.Worlds.{World, Thread, Object, FieldValue, opening_objects}
@@ -62,6 +64,26 @@ and_then program shape p q r (t ∷ first) later h k =
 
 abbrev pub played : World → Account → List (Option Outcome) → Played
 played w a outcomes = record { machine = record { world = w; account = a }; outcomes = outcomes }
+
+pub turned-moves : (program : List ClassListing) (shape : HeapShape) (p : Played) (row : Option Row) → (turned program shape p row).machine ≡ advance_if program shape ample p.machine row
+turned-moves program shape p None = refl
+turned-moves program shape p (Some row) = refl
+
+-- the machine is that of the same turns without their outcomes
+pub plays-moves : (program : List ClassListing) (shape : HeapShape) (p : Played) (ts : List ℕ) → (plays program shape p ts).machine ≡ moved_by_all program shape ample p.machine (map ByThread ts)
+unfolding moved_by
+plays-moves program shape p [] = refl
+plays-moves program shape p (t ∷ ts) =
+    let row = row_by program ample p.machine (ByThread t) 0 in
+    plays-moves program shape (turned program shape p row) ts
+    ∙ ap (λ m. moved_by_all program shape ample m (map ByThread ts)) (turned-moves program shape p row)
+
+abbrev pub done : ℕ → List (Option Outcome)
+done n = replicate n (Some Done)
+
+-- so many turns of thread 0
+abbrev pub zeros : ℕ → List ℕ
+zeros n = replicate n 0
 
 -- ---- instructions
 
@@ -103,6 +125,24 @@ invokestatic class name = (3, Invoke Static (member class name (codes "()V")))
 
 abbrev pub object_class : List ℕ
 object_class = codes "java/lang/Object"
+
+abbrev pub error : List ℕ
+error = codes "java/lang/Error"
+
+abbrev pub arithmetic : List ℕ
+arithmetic = codes "java/lang/ArithmeticException"
+
+abbrev pub in_initializer : List ℕ
+in_initializer = codes "java/lang/ExceptionInInitializerError"
+
+abbrev pub no_class : List ℕ
+no_class = codes "java/lang/NoClassDefFoundError"
+
+abbrev pub out_of_memory : List ℕ
+out_of_memory = codes "java/lang/OutOfMemoryError"
+
+abbrev pub stack_overflow : List ℕ
+stack_overflow = codes "java/lang/StackOverflowError"
 
 abbrev pub with_rows : List ExceptionRow → Option CodeListing → Option CodeListing
 with_rows rows None = None
@@ -161,3 +201,6 @@ cells others free grey = account (Taken 1 White ∷ Taken 2 White ∷ others) fr
 
 abbrev pub three_free : Account
 three_free = cells (Free ∷ Free ∷ Free ∷ []) (2 ∷ 3 ∷ 4 ∷ []) []
+
+abbrev pub two_free : Account
+two_free = cells (Taken 3 Grey ∷ Free ∷ Free ∷ []) (3 ∷ 4 ∷ []) (3 ∷ [])
