@@ -8,6 +8,8 @@ use Rattle.model.specs.declared.journals.Outcome.{Outcome}
 use Rattle.model.specs.declared.journals.Outcome.TheVariants.{Object as GotObject, NoRoom}
 use Rattle.model.specs.declared.listings.ExceptionRow.{ExceptionRow}
 use Rattle.model.specs.declared.turns.ClassState.TheVariants.{Unused, Running, Done as Initialised, Failed}
+use Rattle.model.specs.declared.turns.ClassState.{ClassState}
+use Rattle.model.specs.declared.values.Entry.TheVariants.{Holds}
 use Rattle.model.specs.declared.values.Value.TheVariants.{Int, Ref}
 use Rattle.model.specs.Accounts.{Account, after_turn, shade}
 use Rattle.model.specs.Accounts.Cell.{Free, Taken}
@@ -20,10 +22,10 @@ use Rattle.model.specs.Frames.{Frame}
 use Rattle.model.specs.Initialisation.{waiting}
 use Rattle.model.specs.Table.Next.{completion, next}
 use Rattle.model.specs.Turns.{refusal}
-use Rattle.model.specs.Worlds.{Thread, Object, plain_object}
+use Rattle.model.specs.Worlds.{World, Thread, Object, plain_object}
 use Rattle.model.specs.Worlds.Thread.{Live, Ended}
 use Rattle.model.proofs.TableRows.Listings.{print, return}
-use Rattle.model.proofs.TableRows.Sites.{class}
+use Rattle.model.proofs.TableRows.Sites.{class, frame, method, object, place}
 use Rattle.model.proofs.TableRows.Stages.{small}
 use Rattle.model.proofs.TableRows.Outcomes.{Played, plays, opens, and_then, played, iconst_0, iconst_1, iconst_2, idiv, pop, athrow, new, getstatic, catching, row, main, initializer, plain, with_x, at, failed, holding, world, cells, three_free, done, zeros, error, arithmetic, in_initializer, no_class, out_of_memory, two_free}
 
@@ -156,6 +158,29 @@ below-no_error = refl
 below-no_exception : plays (below []) (small 2) (opens (below []) (small 2)) (zeros 4) ≡ ended_without_room (cells [] [] []) [] 4 (done 3 ++ Some NoRoom ∷ [])
 unfolding refusal next completion after_turn shade builtin_classes upwards interfaces_from is_within is_subtype_within int_wrap digits
 below-no_exception = refl
+
+-- ---- thread 1 waits for a class that thread 0 initialises, and that fails
+
+abbrev sharing : List ClassListing
+sharing =
+    plain (codes "M") (main 1 (getstatic (codes "P") ∷ pop ∷ return ∷ []) ∷ []) ∷
+    class (codes "T") (codes "java/lang/Thread") [] (method 1 (codes "run") (codes "()V") 1 1 (getstatic (codes "P") ∷ pop ∷ return ∷ []) ∷ []) ∷
+    dividing [] ∷ []
+
+abbrev shared_world : List Thread → ClassState → List Object → ℕ → World
+shared_world threads state objects rows = world threads (holding (codes "P") 0 ∷ []) (Initialised ∷ Initialised ∷ state ∷ []) []
+    (object (codes "T") None 0 (Some 1) ∷ plain_object arithmetic ∷ objects) rows
+
+-- P is marked, and T's run stands at its getstatic
+abbrev sharing_marked : Played
+sharing_marked = played
+    (shared_world (Live (at 0 0 0 [] 1 ∷ failed (at 2 0 2 [] 2) ∷ []) ∷ Live (frame (place 1 0) 0 (Holds (Ref (Some 3)) ∷ []) [] 1 None ∷ []) ∷ []) (Running 0) [] 0)
+    (cells (Taken 3 Grey ∷ Taken 4 Grey ∷ Free ∷ Free ∷ []) (4 ∷ 5 ∷ []) (3 ∷ 4 ∷ [])) []
+
+-- its first turn is refused, and its next finds a class that failed
+sharing-run : plays sharing (small 6) sharing_marked (1 ∷ 0 ∷ 1 ∷ []) ≡ played (shared_world (Ended (Some in_initializer) ∷ Ended (Some no_class) ∷ []) Failed (plain_object in_initializer ∷ plain_object no_class ∷ []) 2) (cells (Taken 3 Grey ∷ Taken 4 Grey ∷ Taken 5 Grey ∷ Taken 6 Grey ∷ []) [] (3 ∷ 4 ∷ 5 ∷ 6 ∷ [])) (None ∷ Some GotObject ∷ Some GotObject ∷ [])
+unfolding refusal next completion after_turn shade builtin_classes upwards interfaces_from is_within is_subtype_within int_wrap digits
+sharing-run = refl
 
 -- ---- P failed and is asked for again, by R over Q over P first: both fail with it
 
