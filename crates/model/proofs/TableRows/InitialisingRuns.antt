@@ -33,7 +33,7 @@ use Rattle.model.specs.Worlds.Thread.{Live, Ended}
 use Rattle.model.proofs.TableRows.Listings.{Sized, ample, print, return}
 use Rattle.model.proofs.TableRows.Stages.{small}
 use Rattle.model.proofs.TableRows.Sites.{class, frame, member, method, object, place}
-use Rattle.model.proofs.TableRows.Outcomes.{Played, plays, opens, and_then, played, iconst_0, iconst_1, iconst_2, bipush, idiv, pop, new, getstatic, putstatic, catching, row, main, initializer, plain, with_x, holding, at, failed, world, cells, three_free, done, zeros, error, arithmetic, in_initializer, no_class, out_of_memory, two_free}
+use Rattle.model.proofs.TableRows.Outcomes.{Played, plays, opens, and_then, played, iconst_0, iconst_1, iconst_2, bipush, idiv, pop, new, getstatic, putstatic, catching, row, main, initializer, plain, with_x, holding, at, failed, world, cells, three_free, done, zeros, arithmetic, in_initializer, no_class, out_of_memory, two_free}
 
 -- ---- the first class has an initialiser: thread 0 opens in it, above a waiting main
 
