@@ -18,8 +18,8 @@ use Rattle.model.specs.ClassListings.{ClassListing}
 use Rattle.model.specs.CodeListings.{CodeListing}
 use Rattle.model.specs.Completions.{Completion, Site, completes, prints}
 use Rattle.model.specs.Effects.{effect_of}
-use Rattle.model.specs.Effects.Choice.{NotAsked}
-use Rattle.model.specs.Frames.{Frame, Moved, int_on}
+use Rattle.model.specs.Effects.Choice.{NewObject}
+use Rattle.model.specs.Frames.{Frame, IsPlain, Moved, int_on}
 use Rattle.model.specs.Printing.{decimal_line, line_of}
 use Rattle.model.specs.Programs.{builtin_of, code_at, instruction_of, main_in, placed_at}
 use Rattle.model.specs.Served.{is_served, ServedProgram}
@@ -29,7 +29,7 @@ use Rattle.model.specs.Table.Numbers.{number}
 use Rattle.model.specs.Table.Next.{Listed, next, by_family, at_instruction}
 use Rattle.model.specs.Turns.{print_of}
 use Rattle.model.specs.Worlds.{World}
-use Rattle.model.proofs.Served.{ThrowsNothing, constant-throws_nothing, number-throws_nothing, IsInMain, returned_is, printed_is, served_cases, instruction_served, completion-main}
+use Rattle.model.proofs.Served.{ThrowsNothing, constant-throws_nothing, number-throws_nothing, IsInMain, returned_is, printed_is, served_cases, at_site_is, instruction_served, completion-main}
 use Rattle.loader.specs.Steps.{step_of, step_in, step_at, call_of, action_of}
 use Rattle.instructions.specs.Acting.{moved_in, printed_in, acted, acted_at, printed_at}
 use Rattle.instructions.specs.Loaded.{world_shown, world_after}
@@ -43,7 +43,7 @@ module _ (program : List ClassListing) (f : Frame) (states : List ClassState) (o
 
   -- the world after what an instruction comes to
   abbrev left : Completion → World
-  left c = (effect_of program w 0 NotAsked c).after
+  left c = (effect_of program w 0 NewObject c).after
 
   -- what the table says of an instruction is what its step does
   abbrev Shown : ℕ → Listed → Type 0
@@ -98,26 +98,30 @@ module _ (program : List ClassListing) (f : Frame) (states : List ClassState) (o
       (completes_silent n (number n (Binary Ints Add) f) (number-throws_nothing n f))
       (ap prints (returned_is (site n) main)) (invoked_told n main) i served
 
-  module _ (served : ServedProgram program) (main_is : main_in program ≡ Some f.method) (unlocked : f.monitor ≡ None) where
+  module _ (served : ServedProgram program) (main_is : main_in program ≡ Some f.method) (plain : IsPlain f) where
     in_main : (n : ℕ) → IsInMain (site n)
-    in_main n = record { alone = refl; main_is = main_is; unlocked = unlocked; unhidden = served.unhidden }
+    in_main n = record { alone = refl; main_is = main_is; plain = plain; unhidden = served.unhidden }
 
     at_shown : (i : Option Placed) → instruction_of program f ≡ i → left (at_instruction program w 0 f i) ≡ world_after w (acted_at (f ∷ []) output (option_map step_of i))
     at_shown None e = refl
-    at_shown (Some i) e = family_shown i.next (in_main i.next) i.instruction (instruction_served program f i served.code e)
+    at_shown (Some i) e =
+        let is = instruction_served program f i served.code e in
+        ap left (at_site_is (site i.next) served.unhidden i.instruction is) ∙ family_shown i.next (in_main i.next) i.instruction is
 
     -- a turn by the table is a turn by the step
-    pub next_shown : (next program w 0 NotAsked).after ≡ world_after w (acted_at (f ∷ []) output (option_map step_of (instruction_of program f)))
+    pub next_shown : (next program w 0 NewObject).after ≡ world_after w (acted_at (f ∷ []) output (option_map step_of (instruction_of program f)))
     unfolding next
-    next_shown = ap left (completion-main program w 0 f refl) ∙ at_shown (instruction_of program f) refl
+    next_shown = ap left (completion-main program w 0 f refl plain.1) ∙ at_shown (instruction_of program f) refl
 
     at_told : (i : Option Placed) → instruction_of program f ≡ i → prints (at_instruction program w 0 f i) ≡ printed_at (f ∷ []) (option_map step_of i)
     at_told None e = refl
-    at_told (Some i) e = family_told i.next (in_main i.next) i.instruction (instruction_served program f i served.code e)
+    at_told (Some i) e =
+        let is = instruction_served program f i served.code e in
+        ap prints (at_site_is (site i.next) served.unhidden i.instruction is) ∙ family_told i.next (in_main i.next) i.instruction is
 
     -- what the table says of the next print is what the step says
     pub print_shown_at : print_of program w 0 ≡ printed_at (f ∷ []) (option_map step_of (instruction_of program f))
-    print_shown_at = ap prints (completion-main program w 0 f refl) ∙ at_told (instruction_of program f) refl
+    print_shown_at = ap prints (completion-main program w 0 f refl plain.1) ∙ at_told (instruction_of program f) refl
 
 -- the step at a frame's method and pc is that of the instruction at which the frame stands
 step-of_instruction : (o : Option CodeListing) (pc : ℕ) → option_and_then (λ (code : CodeListing). step_in code.instructions pc) o ≡ option_map step_of (option_and_then (λ (code : CodeListing). placed_at code pc) o)

@@ -13,7 +13,7 @@ use Rattle.model.specs.declared.turns.Fault.{Fault}
 use Rattle.model.specs.declared.turns.Abrupt.{Abrupt}
 use Rattle.model.specs.declared.values.Value.{Value}
 use Rattle.model.specs.ClassListings.{ClassListing}
-use Rattle.model.specs.Frames.{Frame, Moved, int_on, replaced, replaced_if_room, running_frame}
+use Rattle.model.specs.Frames.{Frame, IsPlain, Moved, int_on, replaced, replaced_if_room, running_frame}
 use Rattle.model.specs.Programs.{main_in}
 use Rattle.model.specs.Served.{ServedProgram}
 use Rattle.model.specs.Worlds.{World, lives, counted}
@@ -40,20 +40,20 @@ first_lives false frames (suc t) e = cc
 
 -- ---- no action leaves the method
 
--- a move keeps the frame's method and its monitor
+-- a move keeps the frame's method, its monitor and its mark
 abbrev KeepsPlace : Frame → Result Moved Abrupt → Type 0
-KeepsPlace f (Ok moved) = (moved.frame.method ≡ f.method) × (moved.frame.monitor ≡ f.monitor)
+KeepsPlace f (Ok moved) = (moved.frame.method ≡ f.method) × (moved.frame.monitor ≡ f.monitor) × (moved.frame.mark ≡ f.mark)
 KeepsPlace f (Err abrupt) = Unit {0}
 
 room_keeps : (next : ℕ) (f : Frame) (n : ℕ) (vs : List Value) (b : Bool) (e : Abrupt) → KeepsPlace f (if b then Ok (replaced next f n vs) else Err e)
-room_keeps next f n vs true e = (refl, refl)
+room_keeps next f n vs true e = (refl, refl, refl)
 room_keeps next f n vs false e = tt
 
 replaced_keeps : (next : ℕ) (f : Frame) (n : ℕ) (vs : List Value) → KeepsPlace f (replaced_if_room next f n vs)
 replaced_keeps next f n vs = room_keeps next f n vs _ _
 
 operated_keeps : (next : ℕ) (f : Frame) (kind : NumberKind) (o : Option ℤ) → KeepsPlace f (operated next f kind o)
-operated_keeps next f kind (Some z) = (refl, refl)
+operated_keeps next f kind (Some z) = (refl, refl, refl)
 operated_keeps next f kind None = tt
 
 binary_keeps : (next : ℕ) (f : Frame) (kind : NumberKind) (op : Operator) (r : Result (ℤ × ℤ) Fault) → KeepsPlace f (binary_on next f kind op r)
@@ -62,7 +62,7 @@ binary_keeps next f kind op (Ok operands) = operated_keeps next f kind _
 
 negated_keeps : (next : ℕ) (f : Frame) (kind : NumberKind) (r : Result ℤ Fault) → KeepsPlace f (negated_on next f kind r)
 negated_keeps next f kind (Err e) = tt
-negated_keeps next f kind (Ok z) = (refl, refl)
+negated_keeps next f kind (Ok z) = (refl, refl, refl)
 
 converted_keeps : (next : ℕ) (f : Frame) (c : Conversion) (r : Result ℤ Fault) → KeepsPlace f (converted_on next f c r)
 converted_keeps next f c (Err e) = tt
@@ -70,7 +70,7 @@ converted_keeps next f c (Ok z) = replaced_keeps next f 1 (number_value (target_
 
 compared_keeps : (next : ℕ) (f : Frame) (r : Result (ℤ × ℤ) Fault) → KeepsPlace f (compared_on next f r)
 compared_keeps next f (Err e) = tt
-compared_keeps next f (Ok operands) = (refl, refl)
+compared_keeps next f (Ok operands) = (refl, refl, refl)
 
 number_keeps : (next : ℕ) (operation : NumberOperation) (f : Frame) → KeepsPlace f (number next operation f)
 number_keeps next (Binary kind op) f = binary_keeps next f kind op (operands_of kind op f.stack)
@@ -83,17 +83,17 @@ abbrev RunsOn : List ClassListing → Result Parts Fault → Type 0
 RunsOn program (Ok parts) = RunsMainUnlessEnded program parts.ended parts.frames
 RunsOn program (Err fault) = Unit {0}
 
-module _ (program : List ClassListing) (f : Frame) (main_is : main_in program ≡ Some f.method) (unlocked : f.monitor ≡ None) where
+module _ (program : List ClassListing) (f : Frame) (main_is : main_in program ≡ Some f.method) (plain : IsPlain f) where
   moved_runs : (output : List ℕ) (r : Result Moved Abrupt) → KeepsPlace f r → RunsOn program (moved_in (f ∷ []) output r)
-  moved_runs output (Ok moved) e = record { frame = moved.frame; alone = refl; main_is = main_is ∙ ap Some (sym e.0); unlocked = e.1 ∙ unlocked }
+  moved_runs output (Ok moved) e = record { frame = moved.frame; alone = refl; main_is = main_is ∙ ap Some (sym e.0); plain = (e.1 ∙ plain.0, e.2 ∙ plain.1) }
   moved_runs output (Err abrupt) e = tt
 
   printed_runs : (output : List ℕ) (next : ℕ) (r : Result ℤ Fault) → RunsOn program (printed_in (f ∷ []) output next r)
-  printed_runs output next (Ok z) = record { frame = (replaced next f 1 []).frame; alone = refl; main_is = main_is; unlocked = unlocked }
+  printed_runs output next (Ok z) = record { frame = (replaced next f 1 []).frame; alone = refl; main_is = main_is; plain = plain }
   printed_runs output next (Err fault) = tt
 
   acted_runs : (output : List ℕ) (next : ℕ) (action : Action) → RunsOn program (acted (f ∷ []) output next action)
-  acted_runs output next Nop = moved_runs output (Ok (replaced next f 0 [])) (refl, refl)
+  acted_runs output next Nop = moved_runs output (Ok (replaced next f 0 [])) (refl, refl, refl)
   acted_runs output next (Constant c) = moved_runs output (constant next c f) (replaced_keeps next f 0 (constant_value c ∷ []))
   acted_runs output next (Number operation) = moved_runs output (number next operation f) (number_keeps next operation f)
   acted_runs output next Return = tt
@@ -109,8 +109,8 @@ module _ (program : List ClassListing) (limits : Limits) (states : List ClassSta
   state ended frames fault = record { program = program; limits = limits; world = world_shown ended frames states output fault rows }
 
   -- what the table prints is what the step prints
-  printed_alike : (f : Frame) → ServedProgram program → main_in program ≡ Some f.method → f.monitor ≡ None → print_of program (world_shown false (f ∷ []) states output None rows) 0 ≡ printed_at (f ∷ []) (standing program f)
-  printed_alike f served main_is unlocked = print_shown_at program f states output None rows served main_is unlocked ∙ ap (printed_at (f ∷ [])) (sym (step_stands program f))
+  printed_alike : (f : Frame) → ServedProgram program → main_in program ≡ Some f.method → IsPlain f → print_of program (world_shown false (f ∷ []) states output None rows) 0 ≡ printed_at (f ∷ []) (standing program f)
+  printed_alike f served main_is plain = print_shown_at program f states output None rows served main_is plain ∙ ap (printed_at (f ∷ [])) (sym (step_stands program f))
 
   pub going : (ended : Bool) (frames : List Frame) (fault : Option (Fault × ℕ)) (t : ℕ) → ServedProgram program → limits.output ≤ capacity → RunsMainUnlessEnded program ended frames → refusal program limits (world_shown ended frames states output fault rows) (Thread t) ≡ None → IsGoing program limits ended frames output fault rows capacity t
   going true frames fault t served room main e =
@@ -128,10 +128,10 @@ module _ (program : List ClassListing) (limits : Limits) (states : List ClassSta
         frame = main.frame;
         alone = main.alone;
         main_is = main.main_is;
-        unlocked = main.unlocked;
+        plain = main.plain;
         faultless = may.faultless;
         counted = may.counted;
-        fits = within main.frame (subst (λ (o : Option (List ℕ)). IfSome o (λ line. length output + length line ≤ limits.output)) (printed_alike main.frame served main.main_is main.unlocked) fits_here) main.alone;
+        fits = within main.frame (subst (λ (o : Option (List ℕ)). IfSome o (λ line. length output + length line ≤ limits.output)) (printed_alike main.frame served main.main_is main.plain) fits_here) main.alone;
       }
     where
       room_for : (o : Option (List ℕ)) → limits.output ≤ capacity → IfSome o (λ line. length output + length line ≤ limits.output) → IfSome o (λ line. length output + length line ≤ capacity)
@@ -146,15 +146,15 @@ module _ (program : List ClassListing) (limits : Limits) (states : List ClassSta
   done_runs frames fault t ended after_ended after_frames after_output g e =
       let here : told_parts (Ok after_ended) after_frames after_output ≡ acted_at (g.frame ∷ []) output (standing program g.frame) =
       e ∙ ap (λ (fs : List Frame). acted_at fs output (standing program (running_frame fs))) g.alone in
-      subst (RunsOn program) (sym here) (acted_at_runs program g.frame g.main_is g.unlocked output (standing program g.frame))
+      subst (RunsOn program) (sym here) (acted_at_runs program g.frame g.main_is g.plain output (standing program g.frame))
 
   turned : (f : Frame) → (state false (f ∷ []) None).world ≡ world_shown false (f ∷ []) states output None rows
   turned f = refl
 
-  after_of : (f : Frame) → ServedProgram program → main_in program ≡ Some f.method → f.monitor ≡ None → after_step (state false (f ∷ []) None) 0 ≡ record { program = program; limits = limits; world = counted (world_after (world_shown false (f ∷ []) states output None rows) (acted_at (f ∷ []) output (standing program f))) }
-  after_of f served main_is unlocked =
+  after_of : (f : Frame) → ServedProgram program → main_in program ≡ Some f.method → IsPlain f → after_step (state false (f ∷ []) None) 0 ≡ record { program = program; limits = limits; world = counted (world_after (world_shown false (f ∷ []) states output None rows) (acted_at (f ∷ []) output (standing program f))) }
+  after_of f served main_is plain =
       ap (λ (after : World). let s : Loaded = record { program = program; limits = limits; world = counted after } in s)
-      (next_shown program f states output None rows served main_is unlocked ∙ ap (λ (step : Option Step). world_after (world_shown false (f ∷ []) states output None rows) (acted_at (f ∷ []) output step)) (sym (step_stands program f)))
+      (next_shown program f states output None rows served main_is plain ∙ ap (λ (step : Option Step). world_after (world_shown false (f ∷ []) states output None rows) (acted_at (f ∷ []) output step)) (sym (step_stands program f)))
 
   state_is : (ended : Bool) (frames : List Frame) (fault : Option (Fault × ℕ)) (t : ℕ) → (g : IsGoing program limits ended frames output fault rows capacity t) → after_step (state ended frames fault) t ≡ after_step (state false (g.frame ∷ []) None) 0
   state_is ended frames fault t g = rw (g.lives, g.alone, g.faultless, g.first) refl
@@ -165,7 +165,7 @@ module _ (program : List ClassListing) (limits : Limits) (states : List ClassSta
       e ∙ ap (λ (fs : List Frame). acted_at fs output (standing program (running_frame fs))) g.alone in
       ap (λ (o : Option (Fault × ℕ)). let s : Loaded = record { program = program; limits = limits; world = world_shown after_ended after_frames states after_output o (rows + 1) } in s) g.faultless
       ∙ ap (λ (r : Result Parts Fault). let s : Loaded = record { program = program; limits = limits; world = counted (world_after (world_shown false (g.frame ∷ []) states output None rows) r) } in s) here
-      ∙ sym (after_of g.frame g.served g.main_is g.unlocked) ∙ sym (state_is ended frames fault t g)
+      ∙ sym (after_of g.frame g.served g.main_is g.plain) ∙ sym (state_is ended frames fault t g)
 
   pub fault_shown : (frames : List Frame) (fault : Option (Fault × ℕ)) (t : ℕ) (ended : Bool) (kind : Fault) (after_frames : List Frame) (after_output : List ℕ) → IsGoing program limits ended frames output fault rows capacity t → told_parts (Err kind) after_frames after_output ≡ acted_at frames output (standing program (running_frame frames)) → record { program = program; limits = limits; world = world_shown ended frames states output (Some (kind, t)) (rows + 1) } ≡ after_step (record { program = program; limits = limits; world = world_shown ended frames states output fault rows }) t
   fault_shown frames fault t ended kind after_frames after_output g e =
@@ -174,4 +174,4 @@ module _ (program : List ClassListing) (limits : Limits) (states : List ClassSta
       let parts : world_shown ended frames states output (Some (kind, t)) (rows + 1) ≡ world_shown false (g.frame ∷ []) states output (Some (kind, 0)) (rows + 1) = rw (g.lives, g.alone, g.first) refl in
       ap (λ (w : World). let s : Loaded = record { program = program; limits = limits; world = w } in s) parts
       ∙ ap (λ (r : Result Parts Fault). let s : Loaded = record { program = program; limits = limits; world = counted (world_after (world_shown false (g.frame ∷ []) states output None rows) r) } in s) here
-      ∙ sym (after_of g.frame g.served g.main_is g.unlocked) ∙ sym (state_is ended frames fault t g)
+      ∙ sym (after_of g.frame g.served g.main_is g.plain) ∙ sym (state_is ended frames fault t g)

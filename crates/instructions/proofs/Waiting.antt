@@ -8,7 +8,7 @@ use Rattle.model.specs.declared.turns.ClassState.{ClassState}
 use Rattle.model.specs.declared.turns.Fault.{Fault}
 use Rattle.model.specs.declared.turns.Status.TheVariants.{Running}
 use Rattle.model.specs.ClassListings.{ClassListing}
-use Rattle.model.specs.Frames.{Frame, running_frame}
+use Rattle.model.specs.Frames.{Frame, IsPlain, running_frame}
 use Rattle.model.specs.Completions.{waits}
 use Rattle.model.specs.Observers.{cyclic_from, status_by, status_in}
 use Rattle.model.specs.Ready.{is_ready, thread_numbers}
@@ -62,7 +62,7 @@ module _ (program : List ClassListing) (limits : Limits) (states : List ClassSta
   quiet true frames sound (suc t) = none-quiet program (shown true frames) (suc t) refl
   quiet false frames sound zero =
       main-quiet program (shown false frames) 0 sound.main.frame
-      (record { served = sound.served; alone = sound.main.alone; main_is = sound.main.main_is; unlocked = sound.main.unlocked })
+      (record { served = sound.served; alone = sound.main.alone; main_is = sound.main.main_is; plain = sound.main.plain })
   quiet false frames sound (suc t) = none-quiet program (shown false frames) (suc t) refl
 
   pub asks_none : (ended : Bool) (frames : List Frame) → IsSound program limits ended frames capacity → (t : ℕ) → asked program (shown ended frames) t ≡ None
@@ -103,15 +103,15 @@ module _ (program : List ClassListing) (limits : Limits) (states : List ClassSta
   lives_in_main false frames sound t lives = rw sound.main.alone sound.main.main_is
 
   -- and prints what its step does
-  told_in : (f : Frame) → ServedProgram program → main_in program ≡ Some f.method → f.monitor ≡ None → print_of program (shown false (f ∷ [])) 0 ≡ printed_at (f ∷ []) (standing program f)
-  told_in f served main_is unlocked = print_shown_at program f states output fault rows served main_is unlocked ∙ ap (printed_at (f ∷ [])) (sym (step_stands program f))
+  told_in : (f : Frame) → ServedProgram program → main_in program ≡ Some f.method → IsPlain f → print_of program (shown false (f ∷ [])) 0 ≡ printed_at (f ∷ []) (standing program f)
+  told_in f served main_is plain = print_shown_at program f states output fault rows served main_is plain ∙ ap (printed_at (f ∷ [])) (sym (step_stands program f))
 
   told : (ended : Bool) (frames : List Frame) → IsSound program limits ended frames capacity → (t : ℕ) → is_live (shown ended frames) t ≡ true → print_of program (shown ended frames) t ≡ printed_at frames (standing program (running_frame frames))
   told true frames sound zero lives = cc
   told true frames sound (suc t) lives = cc
   told false frames sound zero lives =
       subst (λ (fs : List Frame). print_of program (shown false fs) 0 ≡ printed_at fs (standing program (running_frame fs))) (sym sound.main.alone)
-      (told_in sound.main.frame sound.served sound.main.main_is sound.main.unlocked)
+      (told_in sound.main.frame sound.served sound.main.main_is sound.main.plain)
   told false frames sound (suc t) lives = cc
 
   pub overflows_shown : (ended : Bool) (frames : List Frame) → IsSound program limits ended frames capacity → (t : ℕ) → is_live (shown ended frames) t ≡ true → (n : Option ℕ) → n ≡ option_map length (printed_at frames (standing program (running_frame frames))) → passes_with limits.output output n ≡ overflows program limits (shown ended frames) t

@@ -2,7 +2,7 @@ use Rattle.std.specs.Prelude.{◌≡◌, ◌<◌, ◌≤◌, ◌+◌, ℕ, List,
 use Rattle.model.specs.declared.journals.Limits.{Limits}
 use Rattle.model.specs.declared.turns.Fault.{Fault}
 use Rattle.model.specs.ClassListings.{ClassListing}
-use Rattle.model.specs.Frames.{Frame, running_frame}
+use Rattle.model.specs.Frames.{Frame, IsPlain, running_frame}
 use Rattle.model.specs.Programs.{main_in}
 use Rattle.model.specs.Served.{ServedProgram}
 use Rattle.instructions.specs.Acting.{printed_at, standing}
@@ -15,7 +15,7 @@ pub record IsGoing (program : List ClassListing) (limits : Limits) (ended : Bool
   pub frame : Frame
   pub alone : frames ≡ frame ∷ []
   pub main_is : main_in program ≡ Some frame.method
-  pub unlocked : frame.monitor ≡ None
+  pub plain : IsPlain frame
   pub faultless : fault ≡ None
   pub counted : rows < limits.steps
   pub fits : IfSome (printed_at frames (standing program (running_frame frames))) (λ line. length output + length line ≤ capacity)

@@ -3,11 +3,11 @@ use Rattle.model.specs.declared.journals.Limits.{Limits}
 use Rattle.model.specs.declared.turns.ClassState.{ClassState}
 use Rattle.model.specs.declared.turns.Fault.{Fault}
 use Rattle.model.specs.ClassListings.{ClassListing}
-use Rattle.model.specs.Frames.{Frame}
+use Rattle.model.specs.Frames.{Frame, IsPlain}
 use Rattle.model.specs.Programs.{main_in}
 use Rattle.model.specs.Worlds.{World, Thread, counted, opening_objects, opening_world}
 use Rattle.model.specs.Worlds.Thread.{Live, Ended}
-use Rattle.model.specs.Effects.Choice.{NotAsked}
+use Rattle.model.specs.Effects.Choice.{NewObject}
 use Rattle.model.specs.Served.{ServedProgram}
 use Rattle.model.specs.Table.Next.{next}
 use Rattle.instructions.specs.Acting.{Parts}
@@ -24,7 +24,7 @@ fresh program limits = record { program = program; limits = limits; world = open
 
 -- the same after a turn of a thread
 abbrev pub after_step : Loaded → ℕ → Loaded
-after_step s t = record s { world = counted (next s.program s.world t NotAsked).after }
+after_step s t = record s { world = counted (next s.program s.world t NewObject).after }
 
 -- the same after a turn of the collector, which counts a row and changes nothing else of the ideal world
 abbrev pub after_collection : Loaded → Loaded
@@ -46,12 +46,12 @@ world_shown ended frames states output fault rows = record {
   rows = rows;
 }
 
--- the thread runs main, and gives back no monitor when it leaves it
+-- the thread runs main alone
 pub record RunsMain (program : List ClassListing) (frames : List Frame) : Type 0 where
   pub frame : Frame
   pub alone : frames ≡ frame ∷ []
   pub main_is : main_in program ≡ Some frame.method
-  pub unlocked : frame.monitor ≡ None
+  pub plain : IsPlain frame
 
 abbrev pub RunsMainUnlessEnded : List ClassListing → Bool → List Frame → Type 0
 RunsMainUnlessEnded program true frames = Unit {0}

@@ -1,3 +1,4 @@
+pub mod ArgumentLemmas
 pub mod BuiltinLemmas
 pub mod IndexLemmas
 pub mod LimitLemmas

@@ -11,7 +11,7 @@ use Rattle.model.specs.declared.listings.Placed.{Placed}
 use Rattle.model.specs.declared.names.Member.{Member}
 use Rattle.model.specs.CodeListings.{CodeListing}
 use Rattle.model.specs.ClassListings.{ClassListing}
-use Rattle.model.specs.Programs.{builtin_of}
+use Rattle.model.specs.Programs.{builtin_of, is_class_initializer}
 use Rattle.model.specs.Served.{is_served, serves_rows, serves_code, serves_fields, serves_methods, serves}
 use Rattle.model.specs.Table.Next.{Listed}
 use Rattle.model.specs.Classes.Builtin.{builtin_class, builtin_classes, print_methods}
@@ -105,8 +105,9 @@ methods_resolve : (program : List ClassListing) (ms : List Method) → listed pr
     → serves_methods ms ≡ true → list_any (λ (m : Method). is_unresolved_in program m.code) ms ≡ false
 methods_resolve program [] none h = refl
 methods_resolve program (m ∷ ms) none h =
-    rw (code_resolves program m.code none (and-left (serves_code m.code) (serves_methods ms) h))
-    (methods_resolve program ms none (and-right (serves_code m.code) (serves_methods ms) h))
+    let runs = not (is_class_initializer m) && serves_code m.code in
+    rw (code_resolves program m.code none (and-right (not (is_class_initializer m)) (serves_code m.code) (and-left runs (serves_methods ms) h)))
+    (methods_resolve program ms none (and-right runs (serves_methods ms) h))
 
 class_resolves : (program : List ClassListing) (c : ClassListing) → listed program (codes "vm/Sys") ≡ None
     → has_refused_member program c ≡ false → has_unresolved program c ≡ false

@@ -1,3 +1,4 @@
+pub mod Arguments
 pub mod Builtins
 pub mod Errors
 pub mod Indexed

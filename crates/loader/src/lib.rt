@@ -5,6 +5,7 @@
 #![tactic(auto)]
 
 pub mod acceptance;
+mod arguments;
 mod builtins;
 mod classes;
 pub mod errors;

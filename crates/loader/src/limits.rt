@@ -1,78 +1,15 @@
 //! The machine's limits on classes.
-ghost use Rattle.std.specs.Prelude.{◌≡◌, ◌*◌, ◌≤◌, Some, length, nat_lt};
+ghost use Rattle.std.specs.Prelude.{◌≡◌, Some, length, nat_lt};
 ghost use Rattle.std.specs.Option.{option_copied};
 ghost use Rattle.std.specs.List.{find, list_any};
-ghost use Rattle.model.specs.declared.descriptors.ArgumentStand.TheVariants.{Start as AtStart};
 ghost use Rattle.model.specs.declared.listings.Method.{Method as MethodListing};
-ghost use Rattle.model.specs.Accepted.ArgumentUnits.{stand_after, units_begun, units_from, argument_units};
 ghost use Rattle.model.specs.Accepted.LimitsOfClasses.{own_fields, fields_within, has_too_many_fields, passes_limits, is_too_large, first_past_limits};
 
+use crate::arguments::argument_units;
 use crate::index::Index;
 use bitflags::Flags;
-use model::descriptors::ArgumentStand;
 use model::flags::{FieldFlags, MethodFlags};
 use model::listings::{Listing, Method};
-
-fn stand_after(stand: ArgumentStand, byte: u8) -> ArgumentStand
-    ensures { result ≡ stand_after stand byte }
-{
-    match stand {
-        ArgumentStand::Start | ArgumentStand::Array => {
-            if byte == b'[' {
-                ArgumentStand::Array
-            } else if byte == b'L' {
-                ArgumentStand::Name
-            } else {
-                ArgumentStand::Start
-            }
-        }
-        ArgumentStand::Name => {
-            if byte == b';' {
-                ArgumentStand::Start
-            } else {
-                ArgumentStand::Name
-            }
-        }
-    }
-}
-
-fn units_begun(stand: ArgumentStand, byte: u8) -> usize
-    ensures units { result ≡ units_begun stand byte }
-    ensures few { result ≤ 2 }
-{
-    match stand {
-        ArgumentStand::Start => { if byte == b'J' { 2 } else { 1 } }
-        ArgumentStand::Array | ArgumentStand::Name => 0,
-    }
-}
-
-/// The units of the arguments from here to the `)`.
-fn units_from(bytes: &[u8]) -> usize
-    ensures units { result ≡ units_from AtStart bytes.now }
-    ensures few { result ≤ 2 * length bytes.now }
-{
-    let mut stand = ArgumentStand::Start;
-    let mut units = 0;
-    for byte in bytes {
-        if *byte == b')' {
-            break;
-        }
-        units += units_begun(stand, *byte);
-        stand = stand_after(stand, *byte);
-    }
-    units
-}
-
-/// The units of the arguments of a method's descriptor.
-fn argument_units(descriptor: &[u8]) -> usize
-    ensures units { result ≡ argument_units descriptor.now }
-    ensures few { result ≤ 2 * length descriptor.now }
-{
-    match descriptor.split_first() {
-        Some((_, bytes)) => units_from(bytes),
-        None => 0,
-    }
-}
 
 /// Whether the locals of a method don't hold its arguments, or a frame of it takes more than 4,096 units.
 fn passes_limits(method: &Method) -> bool

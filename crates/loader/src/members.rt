@@ -2,9 +2,10 @@
 ghost use Rattle.std.specs.Prelude.{◌≡◌, count_by, IfOk};
 ghost use Rattle.std.specs.List.{list_any};
 ghost use Rattle.model.specs.Accepted.MembersTwice.{is_same_field, is_same_method, has_field_twice, has_method_twice, has_member_twice};
-ghost use Rattle.model.specs.Accepted.RefusedMembers.{is_run, is_refused, has_refused_member};
+ghost use Rattle.model.specs.Accepted.RefusedMembers.{is_wrong_initializer, is_run, is_refused, has_refused_member};
 
 use crate::index::Index;
+use crate::programs::is_class_initializer;
 use crate::served::serves;
 use crate::subclasses::is_subclass;
 use bitflags::Flags;
@@ -62,8 +63,19 @@ fn is_run(method: &Method) -> bool
     method.name.as_bytes() == b"run".as_slice() && method.descriptor.as_bytes() == b"()V".as_slice()
 }
 
-/// Whether a method of the class is refused: a class initializer, a native method, a static synchronized one, or a
-/// thread's synchronized `run()V`. `AllocError` where memory runs out.
+/// Whether a method is a class initializer that no class may have: one that isn't static, or isn't `()V`, or has no
+/// code.
+fn is_wrong_initializer(method: &Method) -> bool
+    ensures { result ≡ is_wrong_initializer method.now }
+{
+    is_class_initializer(method)
+        && !(method.flags.contains(MethodFlags::STATIC)
+            && method.descriptor.as_bytes() == b"()V".as_slice()
+            && method.code.is_some())
+}
+
+/// Whether a method of the class is refused: a wrong class initializer, a native method, a static synchronized one, or
+/// a thread's synchronized `run()V`. `AllocError` where memory runs out.
 fn is_refused(
     alloc: Global,
     index: &Index<'_>,
@@ -74,7 +86,7 @@ fn is_refused(
 {
     let flags = method.flags;
     Ok(
-        method.name.as_bytes() == b"<clinit>".as_slice()
+        is_wrong_initializer(method)
             || flags.contains(MethodFlags::NATIVE)
             || flags.contains(MethodFlags::SYNCHRONIZED)
                 && (flags.contains(MethodFlags::STATIC)

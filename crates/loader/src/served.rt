@@ -1,11 +1,11 @@
 //! What the machine carries out so far.
-ghost use Rattle.std.specs.Prelude.{◌≡◌};
+ghost use Rattle.std.specs.Prelude.{◌≡◌, ◌&&◌, not};
 ghost use Rattle.std.specs.List.{list_all};
-ghost use Rattle.model.specs.Programs.{builtin_of};
+ghost use Rattle.model.specs.Programs.{builtin_of, is_class_initializer};
 ghost use Rattle.model.specs.Served.{serves_constant, serves_number, serves_call, serves_invocation, is_served, serves_rows, serves_code, serves_fields, serves_methods, serves};
 ghost use Rattle.model.specs.declared.listings.Placed.{Placed as PlacedAt};
 
-use crate::programs::builtin_of;
+use crate::programs::{builtin_of, is_class_initializer};
 use bitflags::Flags;
 use model::builtins::Builtin;
 use model::flags::FieldFlags;
@@ -109,13 +109,20 @@ fn serves_fields(fields: &[Field]) -> bool
         .all(|field| !field.flags.contains(FieldFlags::STATIC))
 }
 
+/// Whether the machine runs the method: it is no class initializer, and its code is served.
+fn serves_method(method: &Method) -> bool
+    ensures { result ≡ (not (is_class_initializer method.now) && serves_code method.now.code) }
+{
+    !is_class_initializer(method) && serves_code(method)
+}
+
 fn serves_methods(methods: &[Method]) -> bool
     ensures { result ≡ serves_methods methods.now }
 {
-    methods.iter().all(|method| serves_code(method))
+    methods.iter().all(|method| serves_method(method))
 }
 
-/// Whether the machine carries out all code of the class, and the class has no static field.
+/// Whether the machine carries out all code of the class, and the class has no static field and no initializer.
 #[tactic(auto, unfolding(model::specs::Served::serves))]
 pub fn serves(class: &Listing) -> bool
     ensures { result ≡ serves class.now }

@@ -470,6 +470,14 @@ fn synchronized_run_of_a_thread(rt: HostRuntime) -> Result<(), Fail> {
 }
 
 #[test]
+fn class_initializer_that_is_not_served(rt: HostRuntime) -> Result<(), Fail> {
+    let alloc = rt.alloc();
+    let initializer = empty(alloc, "<clinit>", "()V", 0x0008, (0, 0))?;
+    assert_eq!(rt; told_with(alloc, initializer)?.as_str(), "L10 in class X");
+    Ok(())
+}
+
+#[test]
 fn call_of_print(rt: HostRuntime) -> Result<(), Fail> {
     let alloc = rt.alloc();
     let member = Member {

@@ -18,6 +18,7 @@ pub mod Moving
 pub mod Opening
 pub mod Outcomes
 pub mod Promising
+pub mod Reaching
 pub mod Reclaiming
 pub mod Rooms
 pub mod Running

@@ -19,7 +19,7 @@ use Rattle.model.specs.Accepted.References.{resolves}
 
 -- ---- classes
 
-abbrev object : List ℕ
+abbrev pub object : List ℕ
 object = codes "java/lang/Object"
 
 abbrev method : ℕ → List ℕ → List ℕ → Method
@@ -44,12 +44,12 @@ member class name descriptor = record { class = class; name = name; descriptor =
 abbrev found : {M : Type 0} → List ℕ → M → Option (Declared M)
 found class m = Some (record { class = class; member = m })
 
-abbrev f : ℕ → Method
+abbrev pub f : ℕ → Method
 f flags = method flags (codes "f") (codes "()I")
 
 -- ---- A has an f, B over A a private one, C over B none
 
-abbrev private_between : List ClassListing
+abbrev pub private_between : List ClassListing
 private_between =
     class_of 1 (codes "A") object [] [] (f 1 ∷ []) ∷
     class_of 1 (codes "B") (codes "A") [] [] (f 2 ∷ []) ∷

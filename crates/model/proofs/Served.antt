@@ -29,7 +29,7 @@ use Rattle.model.specs.declared.turns.Mark.TheVariants.{Unmarked}
 use Rattle.model.specs.declared.turns.Abrupt.TheVariants.{Fault as Faulted, Throw as Thrown}
 use Rattle.model.specs.ClassListings.{ClassListing}
 use Rattle.model.specs.CodeListings.{CodeListing}
-use Rattle.model.specs.Frames.{Frame, Moved, running, int_on, two_ints_on, push_all, replaced}
+use Rattle.model.specs.Frames.{Frame, IsPlain, Moved, running, int_on, two_ints_on, push_all, replaced}
 use Rattle.model.specs.Values.{units_of_all}
 use Rattle.model.specs.Classes.Flags.{is_static_field}
 use Rattle.model.specs.Initialisation.{Chain, chain_if, chain_from, chain_of, declares_initializer, wants_initialising, state_if, first_claim, claimed_states, callers_waiting, main_frames, opening_frames}
@@ -133,14 +133,13 @@ number-throws_nothing next f = sum-throws_nothing next f (two_ints_on f.stack)
 pub record IsInMain (s : Site) : Type 0 where
   pub alone : frames_in s ≡ s.frame ∷ []
   pub main_is : main_in s.program ≡ Some s.frame.method
-  pub unlocked : s.frame.monitor ≡ None
-  pub unmarked : s.frame.mark ≡ Unmarked
+  pub plain : IsPlain s.frame
   pub unhidden : listed s.program (codes "vm/Sys") ≡ None
 
 main_leaves : (s : Site) → IsInMain s → left_world s ≡ s.world
 main_leaves s main =
     ap (initialised_if (released s.world s.thread s.frame.monitor) s.frame.method.class) (main_initializes s.program s.frame.method main.main_is)
-    ∙ ap (released s.world s.thread) main.unlocked
+    ∙ ap (released s.world s.thread) main.plain.0
 
 -- main's return ends the thread
 pub returned_is : (s : Site) → IsInMain s → returned s None ≡ Goes (with_thread s.world s.thread (Ended None)) []
@@ -259,14 +258,13 @@ pub record IsAtMain (program : List ClassListing) (w : World) (t : ℕ) (f : Fra
   pub served : ServedProgram program
   pub alone : frames_at w t ≡ f ∷ []
   pub main_is : main_in program ≡ Some f.method
-  pub unlocked : f.monitor ≡ None
-  pub unmarked : f.mark ≡ Unmarked
+  pub plain : IsPlain f
 
 abbrev site_at : List ClassListing → World → ℕ → Frame → ℕ → Site
 site_at program w t f n = record { program = program; world = w; thread = t; frame = f; next = n }
 
 in_main : (program : List ClassListing) (w : World) (t : ℕ) (f : Frame) (n : ℕ) → IsAtMain program w t f → IsInMain (site_at program w t f n)
-in_main program w t f n at = record { alone = at.alone; main_is = at.main_is; unlocked = at.unlocked; unmarked = at.unmarked; unhidden = at.served.unhidden }
+in_main program w t f n at = record { alone = at.alone; main_is = at.main_is; plain = at.plain; unhidden = at.served.unhidden }
 
 -- what it comes to
 pub completion-main : (program : List ClassListing) (w : World) (t : ℕ) (f : Frame) → frames_at w t ≡ f ∷ [] → f.mark ≡ Unmarked → completion program w t ≡ at_instruction program w t f (instruction_of program f)
@@ -278,7 +276,7 @@ unfolding completion
 completion-none program w t e = rw e
 
 pub main-quiet : (program : List ClassListing) (w : World) (t : ℕ) (f : Frame) → IsAtMain program w t f → IsQuiet (completion program w t)
-main-quiet program w t f at = subst IsQuiet (sym (completion-main program w t f at.alone at.unmarked)) (by_instruction (instruction_of program f) refl) where
+main-quiet program w t f at = subst IsQuiet (sym (completion-main program w t f at.alone at.plain.1)) (by_instruction (instruction_of program f) refl) where
   by_instruction : (i : Option Placed) → instruction_of program f ≡ i → IsQuiet (at_instruction program w t f i)
   by_instruction None e = (refl, refl)
   by_instruction (Some i) e =

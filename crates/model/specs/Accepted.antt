@@ -1,5 +1,4 @@
 -- Which lists of listings are programs: a file for each rule, and the rules in their order.
-pub mod ArgumentUnits
 pub mod BuiltinNames
 pub mod Cycles
 pub mod ExceptionRows

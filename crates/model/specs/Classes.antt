@@ -8,6 +8,7 @@ pub mod Named
 pub mod Resolution
 pub mod Search
 pub mod Selection
+pub mod SelectionTable
 pub mod Subclass
 pub mod Subclasses
 pub mod Types

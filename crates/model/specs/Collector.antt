@@ -6,6 +6,7 @@ pub mod Invariant
 pub mod Moves
 pub mod Paths
 pub mod Places
+pub mod Reached
 pub mod Reclaim
 pub mod Runs
 pub mod Table

@@ -23,8 +23,8 @@ pub data Completion : Type 0 where
   Throws : (birth : ℕ) → Completion
   -- an exception that the machine makes, and for which it asks for a cell
   Raises : (exception : Exception) → Completion
-  -- a class that can't be used, as its initialisation failed: a NoClassDefFoundError, for which the machine asks for a cell,
-  -- and the class states with it
+  -- a class that can't be used, as its initialisation failed: a NoClassDefFoundError, for which the machine asks for a
+  -- cell, and the class states with it
   Denies : (states : List ClassState) → Completion
   Faults : (fault : Fault) → Completion
   -- the thread waits, for a monitor or for a thread's end

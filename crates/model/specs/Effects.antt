@@ -38,8 +38,8 @@ abbrev pub created : List ClassListing → World → ℕ → ℕ → ℕ → Con
 created program w t next taken contents NewObject = created_on w t next taken contents (running (frames_at w t))
 created program w t next taken contents NoRoom = thrown program w w t 1
 
--- a new exception is thrown, or the OutOfMemoryError that was made before the run, in a world that may differ from the one before
--- the turn in its class states
+-- a new exception is thrown, or the OutOfMemoryError that was made before the run, in a world that may differ from the
+-- one before the turn in its class states
 abbrev pub raised : List ClassListing → World → World → ℕ → Exception → Choice → Effect
 raised program before w t exception NewObject =
     thrown program before (with_new w (plain_object (exception_class exception))) t (next_birth w)

@@ -1,4 +1,4 @@
-use Rattle.std.specs.Prelude.{ℕ, ◌+◌, ◌-◌, ℤ, List, [], ◌∷◌, length, drop, take, replicate, slice_get, slice_set, slice_index_or, nat_le, nat_lt, ◌&&◌, Option, None, Result, Ok, Err, Bool, if◌then◌else◌}
+use Rattle.std.specs.Prelude.{◌≡◌, ℕ, ◌+◌, ◌-◌, ℤ, List, [], ◌∷◌, length, drop, take, replicate, slice_get, slice_set, slice_index_or, nat_le, nat_lt, ◌&&◌, Option, None, Result, Ok, Err, Bool, if◌then◌else◌}
 use Rattle.model.specs.declared.values.Value.{Value}
 use Rattle.model.specs.declared.values.Value.TheVariants.{Int, Long, Ref}
 use Rattle.model.specs.declared.values.Entry.{Entry}
@@ -26,6 +26,10 @@ pub record Frame : Type 0 where
 -- the frame of a method at its start, its locals all unset
 abbrev pub opening_frame : MethodPlace → ℕ → ℕ → Frame
 opening_frame method max_locals max_stack = record { method = method; pc = 0; locals = replicate max_locals Unset; stack = []; room = max_stack; monitor = None; mark = Unmarked }
+
+-- a frame that gives back no monitor when it is left, and neither waits nor fails
+abbrev pub IsPlain : Frame → Type 0
+IsPlain f = (f.monitor ≡ None) × (f.mark ≡ Unmarked)
 
 -- ---- the frames of a thread, outermost first: the last one runs
 

@@ -14,8 +14,8 @@ use Rattle.model.specs.Classes.Search.{superclasses}
 use Rattle.model.specs.Frames.{Frame, opening_frame}
 use Rattle.model.specs.Programs.{is_class_initializer, method_at, code_at, main_in}
 
--- Class initialisation (JVMS 5.5) where it needs no world: which classes want it, what states they are in, and what a thread
--- does that claims classes. The classes of a program go by their places; the machine's own need no initialisation.
+-- Class initialisation (JVMS 5.5) where it needs no world: which classes want it, what states they are in, and the frames
+-- of a thread that claims classes. The classes of a program go by their places; the machine's own are initialised.
 
 -- ---- initialisers
 

@@ -75,8 +75,8 @@ abbrev pub outcome_if : List ClassListing → Machine → ℕ → Option ℕ →
 outcome_if program m t None = outcome_with program m.world t NewObject Done
 outcome_if program m t (Some words) = outcome_asked program m.world t (has_room m.account words)
 
--- what comes of a turn that nothing refuses: Fault where it faults, whatever it asked for; NoRoom where it asks for a cell and
--- none has room; Object where one has; else Done
+-- what comes of a turn that nothing refuses: Fault where it faults, whatever it asked for; NoRoom where it asks for a
+-- cell and none has room; Object where one has; else Done
 abbrev pub outcome_of : List ClassListing → Machine → Actor → Outcome
 outcome_of program m (Thread t) = outcome_if program m t (asked program m.world t)
 outcome_of program m Collector = Done

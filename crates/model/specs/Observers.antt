@@ -1,5 +1,8 @@
-use Rattle.std.specs.Prelude.{ℕ, ◌+◌, List, [], ◌∷◌, ◌++◌, drop, take, slice_get, nat_lt, Bool, true, false, ◌&&◌, Option, is_some}
+use Rattle.std.specs.Prelude.{ℕ, ◌+◌, List, [], ◌∷◌, ◌++◌, drop, take, slice_get, nat_lt, Bool, true, false, ◌&&◌, if◌then◌else◌, Option, Some, None, is_some, position}
 use Rattle.std.specs.List.{find, list_any}
+use Rattle.std.specs.Option.{option_map}
+use Rattle.model.specs.declared.colours.Colour.{Colour}
+use Rattle.model.specs.declared.colours.Phase.{Phase}
 use Rattle.model.specs.declared.journals.Limits.{Limits}
 use Rattle.model.specs.declared.journals.Row.{Row}
 use Rattle.model.specs.declared.turns.Actor.{Actor}
@@ -7,8 +10,17 @@ use Rattle.model.specs.declared.turns.Actor.TheVariants.{Thread as ByThread, Col
 use Rattle.model.specs.declared.turns.Fault.{Fault}
 use Rattle.model.specs.declared.turns.Status.{Status}
 use Rattle.model.specs.declared.turns.Status.TheVariants.{Running, Finished, Stuck, Faulted}
+use Rattle.model.specs.declared.turns.ClassState.{ClassState}
+use Rattle.model.specs.Classes.Named.{is_named, class_named}
+use Rattle.model.specs.Initialisation.{state_at}
+use Rattle.model.specs.declared.views.CellView.{CellView}
+use Rattle.model.specs.Accounts.{Cell}
+use Rattle.model.specs.Accounts.Cell.{Free, Taken}
 use Rattle.model.specs.ClassListings.{ClassListing}
-use Rattle.model.specs.Worlds.{World, Thread}
+use Rattle.model.specs.Collector.Reached.{is_reached}
+use Rattle.model.specs.Objects.{object_at}
+use Rattle.model.specs.Room.{words_of_cell}
+use Rattle.model.specs.Worlds.{World, Thread, Object, next_birth}
 use Rattle.model.specs.Ready.{is_ready, thread_numbers, some_lives, some_is_ready}
 use Rattle.model.specs.Turns.{overflows}
 use Rattle.model.specs.Machines.{Recorded, machine_of}
@@ -77,3 +89,39 @@ is_running Faulted = false
 abbrev pub output_full_of : Recorded → Bool
 output_full_of v =
     is_running (status_of v) && nat_lt (ideal v).rows v.journal.limits.steps && list_any (is_held_by_output v.program v.journal.limits (ideal v)) (thread_numbers (ideal v))
+
+-- ---- class states
+
+abbrev pub state_named : List ClassListing → World → List ℕ → ClassState
+state_named program w name = state_at w.statics.states (position (is_named name) program)
+
+-- the state of a class by its name, None where there is no such class
+abbrev pub class_state_of : Recorded → List ℕ → Option ClassState
+class_state_of v name = option_map (λ (c : ClassListing). state_named v.program (ideal v) name) (class_named v.program name)
+
+-- ---- the heap
+
+-- the number that the next new object gets
+abbrev pub next_birth_of : Recorded → ℕ
+next_birth_of v = next_birth (ideal v)
+
+abbrev pub phase_of : Recorded → Phase
+phase_of v = (machine_of v).account.phase
+
+abbrev pub held_in : Cell → Option (ℕ × Colour)
+held_in Free = None
+held_in (Taken birth colour) = Some (birth, colour)
+
+abbrev pub cell_view : ℕ → Cell → CellView
+cell_view words cell = record { words = words; held = held_in cell }
+
+-- the words of a cell, and the birth and colour that it holds, if it holds one; None past the last cell
+abbrev pub cell_of : Recorded → ℕ → Option CellView
+cell_of v c = option_map (cell_view (words_of_cell v.journal.shape c)) (slice_get (machine_of v).account.cells c)
+
+abbrev pub reached_object : World → ℕ → Option Object
+reached_object w b = if is_reached w b then object_at w b else None
+
+-- the object of a birth, None where no path from the roots leads to it
+abbrev pub object_of : Recorded → ℕ → Option Object
+object_of v b = reached_object (ideal v) b

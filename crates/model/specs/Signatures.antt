@@ -1,36 +1,40 @@
-use Rattle.std.specs.Prelude.{ℕ, ◌==◌, List, [], ◌∷◌, ◌++◌, Option, Some, None, if◌then◌else◌}
-use Rattle.std.specs.List.{after_first}
+use Rattle.std.specs.Prelude.{ℕ, zero, suc, ◌+◌, ◌==◌, List, [], ◌∷◌, length, map, take, drop, Option, Some, None, if◌then◌else◌}
+use Rattle.std.specs.List.{sum_by, position_or_len, before_first, after_first}
 use Rattle.model.specs.declared.values.Kind.{Kind}
-use Rattle.model.specs.declared.values.Kind.TheVariants.{Int, Long, Ref}
-use Rattle.model.specs.declared.descriptors.ArgumentStand.{ArgumentStand}
-use Rattle.model.specs.declared.descriptors.ArgumentStand.TheVariants.{Start as AtStart, Array as InArray, Name as InName}
-use Rattle.model.specs.Accepted.ArgumentUnits.{stand_after}
+use Rattle.model.specs.Stores.{descriptor_kind}
+use Rattle.model.specs.Locals.{entries_of}
 
--- The kinds of the values that a method takes and gives, by its descriptor (JVMS 4.3.3, 2.11.1).
+-- What a method takes and gives, by its descriptor (JVMS 4.3.3, 2.11.1).
 
--- the kind of a type, by the first byte of its descriptor: `J` is a long, `L` and `[` are references
-abbrev pub kind_begun : ℕ → Kind
-kind_begun b = if b == 74 then Long else if b == 76 then Ref else if b == 91 then Ref else Int
+-- the bytes of the first of the types in a row (JVMS 4.3.2): `[` stands before a type, `L` before a name that `;` ends
+abbrev pub type_length : List ℕ → ℕ
+type_length [] = 0
+type_length (b ∷ bs) =
+    if b == 91 then 1 + type_length bs else if b == 76 then 2 + position_or_len (λ c. c == 59) bs else 1
 
-abbrev pub kinds_begun : ArgumentStand → ℕ → List Kind
-kinds_begun AtStart b = kind_begun b ∷ []
-kinds_begun InArray b = []
-kinds_begun InName b = []
+-- the types in a row, so many at most
+abbrev pub types_within : ℕ → List ℕ → List (List ℕ)
+types_within zero bytes = []
+types_within (suc n) [] = []
+types_within (suc n) (b ∷ bs) =
+    take (type_length (b ∷ bs)) (b ∷ bs) ∷ types_within n (drop (type_length (b ∷ bs)) (b ∷ bs))
 
--- the kinds of the arguments from here to the `)`
-abbrev pub kinds_from : ArgumentStand → List ℕ → List Kind
-kinds_from stand [] = []
-kinds_from stand (b ∷ bs) = if b == 41 then [] else kinds_begun stand b ++ kinds_from (stand_after stand b) bs
+-- the descriptors of a method's arguments, in order: they stand in parentheses
+abbrev pub argument_types : List ℕ → List (List ℕ)
+argument_types descriptor = types_within (length descriptor) (before_first (λ b. b == 41) (drop 1 descriptor))
 
--- the kinds of a method's arguments, in order; its descriptor begins with `(`
+-- the kinds of a method's arguments
 abbrev pub argument_kinds : List ℕ → List Kind
-argument_kinds [] = []
-argument_kinds (b ∷ bs) = kinds_from AtStart bs
+argument_kinds descriptor = map descriptor_kind (argument_types descriptor)
+
+-- the units of a method's arguments: a long has two, every other one
+abbrev pub argument_units : List ℕ → ℕ
+argument_units descriptor = sum_by entries_of (argument_kinds descriptor)
 
 -- `V` is no value
 abbrev pub kind_if_value : List ℕ → Option Kind
 kind_if_value [] = None
-kind_if_value (b ∷ bs) = if b == 86 then None else Some (kind_begun b)
+kind_if_value (b ∷ bs) = if b == 86 then None else Some (descriptor_kind (b ∷ bs))
 
 -- the kind of a method's result, if it has one: its descriptor has it behind the `)`
 abbrev pub result_kind : List ℕ → Option Kind

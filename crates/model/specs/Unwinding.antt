@@ -19,8 +19,9 @@ use Rattle.model.specs.Objects.{class_at}
 use Rattle.model.specs.Monitors.{released_all}
 use Rattle.model.specs.Results.{Effect, faulted}
 
--- What becomes of a throwable (JVMS 2.10): the innermost frame with a fitting row handles it, frames inside of it are left,
--- and where no frame handles it the thread ends by its class. A class initialiser that handles no throwable fails (JVMS 5.5).
+-- What becomes of a throwable (JVMS 2.10): the innermost frame with a fitting row handles it, frames inside of it are
+-- left, and where no frame handles it the thread ends by its class. A class initialiser that handles no throwable fails
+-- (JVMS 5.5).
 
 -- ---- which row fits
 
@@ -36,8 +37,8 @@ abbrev pub handler_in : List ClassListing → List ℕ → ℕ → Option CodeLi
 handler_in program class pc None = None
 handler_in program class pc (Some code) = option_map (λ (row : ExceptionRow). row.handler) (find (fits program class pc) code.rows)
 
--- the handler of a frame for a class of throwables: that of the first row that fits. The rows of a frame that waits for a class
--- above its own, or that fails, aren't tried
+-- the handler of a frame for a class of throwables: that of the first row that fits. The rows of a frame that waits for
+-- an initialiser above it, or that fails, aren't tried
 abbrev pub handler_of : List ClassListing → List ℕ → Frame → Mark → Option ℕ
 handler_of program class f Unmarked = handler_in program class f.pc (code_at program f.method)
 handler_of program class f Waiting = None
@@ -47,7 +48,7 @@ handler_of program class f Failing = None
 
 pub data Response : Type 0 where
   Handles : (handler : ℕ) → Response
-  -- an initialiser that ends by no Error: the next turn of its thread puts an ExceptionInInitializerError in place of it
+  -- an initialiser is left by no Error: the next turn of its thread throws an ExceptionInInitializerError in its place
   Fails : Response
   Leaves : Response
 
@@ -114,6 +115,7 @@ without program w t left =
 abbrev pub unwound : List ClassListing → World → World → ℕ → ℕ → List ℕ → Way → Effect
 unwound program before w t birth class way = landed before (without program w t way.left) t birth class way.landing
 
--- a thread's turn that ends with a throwable, made in it or not: the world before the turn, and the one with the throwable
+-- a thread's turn that ends with a throwable, made in it or not: the world before the turn, and the one with the
+-- throwable
 abbrev pub thrown : List ClassListing → World → World → ℕ → ℕ → Effect
 thrown program before w t birth = unwound program before w t birth (class_at w birth) (way_of program (class_at w birth) (reverse (frames_at w t)))

@@ -10,6 +10,8 @@ ghost use Rattle.model.specs.Collector.Invariant.{Invariant};
 ghost use Rattle.model.specs.Collector.Changes.{Change, Allowed, RoomFor, changed};
 ghost use Rattle.model.specs.Collector.Choices.{AlwaysChoosesByRoom};
 ghost use Rattle.model.specs.Collector.Paths.{KeepsReachable, ThreeColour};
+ghost use Rattle.model.specs.Collector.Places.{Reach};
+ghost use Rattle.model.specs.Collector.Reached.{is_reached};
 ghost use Rattle.model.specs.Collector.Reclaim.{AlwaysReclaims};
 ghost use Rattle.model.specs.Collector.Runs.{Always, Holds};
 ghost use Rattle.model.specs.Shows.{Shows};
@@ -32,4 +34,9 @@ pub fn no_reachable_object_is_lost()
     ensures room { Always (λ shape m. (words : ℕ) → Room shape m.account words ↔ IsTrue (has_room m.account words)) }
     ensures chosen { AlwaysChoosesByRoom }
     ensures shown { Always (λ shape m. Shows (heap_of m.account m.world) m.world) }
+{}
+
+/// The test of whether paths from the roots lead to a birth tells that they do, in every world.
+pub fn what_is_reached_is_computed()
+    ensures { (w : World) (b : ℕ) → Reach w b ↔ IsTrue (is_reached w b) }
 {}

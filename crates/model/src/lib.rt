@@ -10,7 +10,6 @@ pub mod bytecode;
 pub mod class_files;
 pub mod collector;
 pub mod colours;
-pub mod descriptors;
 pub mod flags;
 pub mod instructions;
 pub mod journals;

@@ -1,5 +1,6 @@
-//! Threads and their frames as plain data, for those who look at a world from outside.
+//! Threads, their frames and the cells of the heap as plain data, for those who look at a world from outside.
 
+use crate::colours::Colour;
 use crate::names::Name;
 use crate::places::MethodPlace;
 use crate::turns::Mark;
@@ -48,4 +49,11 @@ impl Model for ThreadView {
     ghost Value = { Thread };
 
     ghost view = { λ a. thread_in a.state };
+}
+
+/// A cell of the heap: how many words it has, and the birth and the colour that it holds, if it holds one.
+#[derive(Clone, Copy, Debug, PartialEq, Eq)]
+pub struct CellView {
+    pub words: u32,
+    pub held: Option<(u32, Colour)>,
 }

@@ -2,7 +2,7 @@
 ghost use Rattle.std.specs.Prelude.{◌≡◌, ◌<◌, ◌≤◌, length, IsOk, OnErr};
 ghost use Rattle.model.specs.Arithmetic.{comparison_holds};
 ghost use Rattle.model.specs.Frames.{running_frame, int_on, ref_on, two_ints_on, two_refs_on};
-ghost use Rattle.model.specs.Table.Branches.{identity_holds, same_reference, zero_test, ints_test, refs_test, null_test, place_of, branched as branch_move};
+ghost use Rattle.model.specs.Table.Branches.{identity_holds, same_reference, zero_test, ints_test, refs_test, null_test, branch_pc, branched as branch_move};
 ghost use Rattle.plain_steps.specs.Told.{told_with, moved_with};
 
 use crate::written::Written;
@@ -57,7 +57,7 @@ fn are_one(left: Option<u32>, right: Option<u32>) -> bool
 
 /// The target where the branch is taken, else the next instruction.
 fn place(next: u16, target: u16, taken: bool) -> u16
-    ensures { result ≡ place_of next target taken }
+    ensures { result ≡ branch_pc next target taken }
 {
     if taken { target } else { next }
 }

@@ -8,11 +8,11 @@ use Rattle.model.specs.declared.journals.Row.{Row}
 use Rattle.model.specs.declared.turns.Actor.TheVariants.{Thread, Collector}
 use Rattle.model.specs.ClassListings.{ClassListing}
 use Rattle.model.specs.Results.{Effect}
-use Rattle.model.specs.Effects.Choice.{NotAsked}
+use Rattle.model.specs.Effects.Choice.{NewObject}
 use Rattle.model.specs.Journals.{JournalValue, blank, with_row}
 use Rattle.model.specs.Worlds.{World, counted}
 use Rattle.model.specs.Table.Next.{asked, next}
-use Rattle.model.specs.Turns.{refusal, choice_of, ideal_step, unless_refused}
+use Rattle.model.specs.Turns.{refusal, choice_of, choice_by, ideal_step, unless_refused}
 use Rattle.model.specs.Machines.{Machine, machine_of, machine_of-noted, told_of}
 use Rattle.model.specs.Observers.{ideal, after_actor, after_last}
 use Rattle.model.proofs.NextKeeps.{next-rows, next-choice}
@@ -43,11 +43,11 @@ module _ (s : Loaded) (j : JournalValue) (k : ℕ) (is : IsOf s j k) (t : ℕ) w
       let steps = ap (λ (l : Limits). l.steps) is.limits_are in
       omega (arith, h, rows, steps)
 
-  step_world : (o : Outcome) → Unrefused → asked s.program s.world t ≡ None → ideal_step s.program j.limits (ideal (recorded s j)) (Thread t) (choice_of o) ≡ counted (next s.program s.world t NotAsked).after
+  step_world : (o : Outcome) → Unrefused → asked s.program s.world t ≡ None → ideal_step s.program j.limits (ideal (recorded s j)) (Thread t) (choice_of s.program (ideal (recorded s j)) t o) ≡ counted (next s.program s.world t NewObject).after
   step_world o e none =
-      ap (unless_refused s.program (ideal (recorded s j)) (Thread t) (choice_of o)) e
-      ∙ ap (λ (effect : Effect). counted effect.after) (next-choice s.program (ideal (recorded s j)) t (choice_of o) NotAsked (asked_none none))
-      ∙ ap (λ (w : World). counted (next s.program w t NotAsked).after) (sym is.world_is)
+      ap (unless_refused s.program (ideal (recorded s j)) (Thread t) (choice_of s.program (ideal (recorded s j)) t o)) e
+      ∙ ap (λ (effect : Effect). counted effect.after) (next-choice s.program (ideal (recorded s j)) t (choice_of s.program (ideal (recorded s j)) t o) NewObject (asked_none none))
+      ∙ ap (λ (w : World). counted (next s.program w t NewObject).after) (sym is.world_is)
 
   -- after the turn and its row the state is again what the journal stands for
   pub noted_is : (worker : ℕ) (o : Outcome) → Unrefused → asked s.program s.world t ≡ None → IsOf (after_step s t) (with_row j (record { actor = Thread t; outcome = o; worker = worker })) (t + 1)
@@ -56,7 +56,7 @@ module _ (s : Loaded) (j : JournalValue) (k : ℕ) (is : IsOf s j k) (t : ℕ) w
       record {
         limits_are = is.limits_are;
         rows_are =
-            ap (λ (n : ℕ). n + 1) (next-rows s.program s.world t NotAsked ∙ is.rows_are) ∙ sym (length-append j.rows (row ∷ []));
+            ap (λ (n : ℕ). n + 1) (next-rows s.program s.world t NewObject ∙ is.rows_are) ∙ sym (length-append j.rows (row ∷ []));
         world_is = sym (ap (λ (m : Machine). m.world) (machine_of-noted (recorded s j) row) ∙ step_world o e none);
         next_is = sym (after_last-push 0 j.rows row);
       }
@@ -89,7 +89,7 @@ module _ (s : Loaded) (j : JournalValue) (k : ℕ) (is : IsOf s j k) where
         rows_are = ap (λ (n : ℕ). n + 1) is.rows_are ∙ sym (length-append j.rows (row ∷ []));
         world_is = sym (
             ap (λ (m : Machine). m.world) (machine_of-noted (recorded s j) row)
-            ∙ ap (unless_refused s.program (ideal (recorded s j)) Collector (choice_of Done)) e
+            ∙ ap (unless_refused s.program (ideal (recorded s j)) Collector (choice_by s.program (ideal (recorded s j)) Collector Done)) e
             ∙ ap (λ (w : World). counted w) (sym is.world_is));
         next_is = is.next_is ∙ sym (after_last-push 0 j.rows row);
       }

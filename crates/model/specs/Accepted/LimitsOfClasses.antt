@@ -7,7 +7,7 @@ use Rattle.model.specs.ClassListings.{ClassListing}
 use Rattle.model.specs.Classes.Flags.{is_static_field}
 use Rattle.model.specs.Programs.{is_static}
 use Rattle.model.specs.Classes.Named.{listed, or_else}
-use Rattle.model.specs.Accepted.ArgumentUnits.{argument_units}
+use Rattle.model.specs.Signatures.{argument_units}
 
 -- the instance fields that a class declares
 abbrev pub own_fields : ClassListing → ℕ

@@ -22,7 +22,7 @@ use Rattle.model.specs.Classes.Named.{class_named}
 use Rattle.model.specs.Classes.Types.{dimensions, is_type}
 use Rattle.model.specs.Classes.Search.{Declared}
 use Rattle.model.specs.Classes.Resolution.{is_initializer, resolved_field, resolved_method}
-use Rattle.model.specs.Accepted.ArgumentUnits.{argument_units}
+use Rattle.model.specs.Signatures.{argument_units}
 
 -- ---- members, static where that is wanted and else not
 

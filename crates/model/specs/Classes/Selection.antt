@@ -7,7 +7,8 @@ use Rattle.model.specs.Programs.{is_static}
 use Rattle.model.specs.Classes.Flags.{is_private}
 use Rattle.model.specs.Classes.Search.{Declared, first_declared, superclasses}
 
--- the method of a name and descriptor that a class declares for its objects: neither static nor private
+-- the method of a name and descriptor that a class declares for its objects: neither static nor private. That private
+-- methods are skipped is this machine's own rule; the JVMS selects by overriding (5.4.5, 6.5)
 abbrev pub virtual_of : List ℕ → List ℕ → ClassListing → Option Method
 virtual_of name descriptor c =
     find (λ (m : Method). bytes_eq m.name name && bytes_eq m.descriptor descriptor && not (is_static m || is_private m)) c.methods

@@ -1,4 +1,5 @@
 use Rattle.std.specs.Prelude.{ℕ, ℤ, pos, negsuc, ◌==◌, List, [], ◌∷◌, ◌++◌, length, drop, replicate, nat_lt, codes, Bool, true, false, Option, Some, None, Result, Ok, Err, if◌then◌else◌}
+use Rattle.std.specs.Str.{bytes_eq}
 use Rattle.model.specs.declared.instructions.ArrayOperation.{ArrayOperation}
 use Rattle.model.specs.declared.instructions.ArrayOperation.TheVariants.{New, NewOf, Length, Load, Store}
 use Rattle.model.specs.declared.instructions.ElementKind.{ElementKind}
@@ -10,12 +11,10 @@ use Rattle.model.specs.declared.turns.Abrupt.TheVariants.{Fault as Faulted, Thro
 use Rattle.model.specs.declared.turns.Exception.TheVariants.{NullPointer, NegativeArraySize, ArrayStore, ArrayIndexOutOfBounds}
 use Rattle.model.specs.declared.turns.Fault.{Fault}
 use Rattle.model.specs.declared.turns.Fault.TheVariants.{WrongClass}
-use Rattle.model.specs.declared.values.IntType.TheVariants.{Byte, Char, Short, Int as AllBits}
 use Rattle.model.specs.declared.values.Value.{Value}
 use Rattle.model.specs.declared.values.Value.TheVariants.{Int, Long, Ref}
 use Rattle.model.specs.ClassListings.{ClassListing}
 use Rattle.model.specs.Stores.{Storage, storage_of, storage_kind, default_in, kept}
-use Rattle.model.specs.Stores.Storage.{Ints, Longs, References}
 use Rattle.model.specs.Classes.Types.{Element, described, is_subtype}
 use Rattle.model.specs.Classes.Types.Element.{Number, Reference}
 use Rattle.model.specs.Locals.{value_on}
@@ -62,30 +61,23 @@ measured s (Ok (Some birth)) = length_of s (contents_at s.world birth)
 
 -- ---- where an index leads in an array of the opcode's kind
 
-abbrev pub is_letter_of : ElementKind → ℕ → Bool
-is_letter_of IntElement letter = letter == 73
-is_letter_of LongElement letter = letter == 74
-is_letter_of RefElement letter = false
-is_letter_of ByteElement letter = letter == 66
-is_letter_of CharElement letter = letter == 67
-is_letter_of ShortElement letter = letter == 83
+-- the descriptor of an opcode's elements; `L` stands for those of all classes and arrays
+abbrev pub letter_for : ElementKind → List ℕ
+letter_for IntElement = codes "I"
+letter_for LongElement = codes "J"
+letter_for RefElement = codes "L"
+letter_for ByteElement = codes "B"
+letter_for CharElement = codes "C"
+letter_for ShortElement = codes "S"
 
-abbrev pub is_of_references : ElementKind → Bool
-is_of_references IntElement = false
-is_of_references LongElement = false
-is_of_references RefElement = true
-is_of_references ByteElement = false
-is_of_references CharElement = false
-is_of_references ShortElement = false
-
-abbrev pub has_elements : ElementKind → Option Element → Bool
-has_elements kind None = false
-has_elements kind (Some (Number letter)) = is_letter_of kind letter
-has_elements kind (Some (Reference name)) = is_of_references kind
+abbrev pub has_elements : List ℕ → Option Element → Bool
+has_elements letter None = false
+has_elements letter (Some (Number n)) = bytes_eq (n ∷ []) letter
+has_elements letter (Some (Reference name)) = bytes_eq letter (codes "L")
 
 abbrev pub is_array_of : ElementKind → Contents → Bool
 is_array_of kind (Instance class fields) = false
-is_array_of kind (Array element values) = has_elements kind (described element)
+is_array_of kind (Array element values) = has_elements (letter_for kind) (described element)
 
 abbrev pub values_in : Contents → List Value
 values_in (Instance class fields) = []
@@ -127,12 +119,7 @@ loaded s kind (Ok operands) = element_got s (element_place s.world kind operands
 -- ---- stores: the value lies above the index
 
 abbrev pub storage_in : ElementKind → Storage
-storage_in IntElement = Ints AllBits
-storage_in LongElement = Longs
-storage_in RefElement = References
-storage_in ByteElement = Ints Byte
-storage_in CharElement = Ints Char
-storage_in ShortElement = Ints Short
+storage_in kind = storage_of (letter_for kind)
 
 abbrev pub is_element_of : List ClassListing → List ℕ → Option Element → Bool
 is_element_of program class None = true

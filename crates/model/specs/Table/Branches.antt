@@ -41,14 +41,14 @@ null_test identity (Err e) = Err e
 null_test identity (Ok r) = Ok (identity_holds identity r None)
 
 -- the target where the branch is taken, else the next instruction
-abbrev pub place_of : ℕ → ℕ → Bool → ℕ
-place_of next target true = target
-place_of next target false = next
+abbrev pub branch_pc : ℕ → ℕ → Bool → ℕ
+branch_pc next target true = target
+branch_pc next target false = next
 
 -- so many operands go
 abbrev pub branched_on : ℕ → ℕ → Frame → ℕ → Result Bool Fault → Result Moved Abrupt
 branched_on next target f n (Err e) = Err (Faulted e)
-branched_on next target f n (Ok taken) = Ok (replaced (place_of next target taken) f n [])
+branched_on next target f n (Ok taken) = Ok (replaced (branch_pc next target taken) f n [])
 
 -- branches (JVMS 6.5): ints compare signed, references by identity
 abbrev pub branched : ℕ → Test → ℕ → Frame → Result Moved Abrupt

@@ -29,8 +29,8 @@ claims s [] own = own
 claims s (class ∷ classes) own =
     claims_with s (class ∷ classes) (frames_in s ++ callers_waiting (initializer_frames s.program (class ∷ classes)))
 
--- by the state of the first class upwards that was used before, whatever the instruction's operands are: another thread's
--- initialisation is waited for, and below a class that failed all fail
+-- by the state of the first class upwards that was used before, whatever the instruction's operands are: another
+-- thread's initialisation is waited for, and below a class that failed all fail
 abbrev pub initialises : Site → List ℕ → ClassState → Completion → Completion
 initialises s unused Unused own = claims s unused own
 initialises s unused (Running t) own = if t == s.thread then claims s unused own else Waits

@@ -4,14 +4,14 @@ use Rattle.model.specs.declared.instructions.Test.{Test}
 use Rattle.model.specs.declared.instructions.Test.TheVariants.{Always, Zero, Ints, Refs, Null}
 use Rattle.model.specs.Frames.{Frame, int_on, ref_on, two_ints_on, two_refs_on}
 use Rattle.model.specs.Worlds.{World}
-use Rattle.model.specs.Table.Branches.{zero_test, ints_test, refs_test, null_test, place_of, branched_on, branched}
+use Rattle.model.specs.Table.Branches.{zero_test, ints_test, refs_test, null_test, branch_pc, branched_on, branched}
 use Rattle.model.specs.Collector.Moves.{ResultMoves}
 use Rattle.model.proofs.CollectorLemmas.Stepping.{replaced_lawful}
 
 -- operands go, and nothing is pushed
 branched_on_lawful : (w : World) (next target : ℕ) (f : Frame) (n : ℕ) (r : Result Bool Fault) → ResultMoves w f (branched_on next target f n r)
 branched_on_lawful w next target f n (Err e) = tt
-branched_on_lawful w next target f n (Ok taken) = replaced_lawful w (place_of next target taken) f n [] tt
+branched_on_lawful w next target f n (Ok taken) = replaced_lawful w (branch_pc next target taken) f n [] tt
 
 pub branched_lawful : (w : World) (next : ℕ) (test : Test) (target : ℕ) (f : Frame) → ResultMoves w f (branched next test target f)
 branched_lawful w next (Always width) target f = replaced_lawful w target f 0 [] tt

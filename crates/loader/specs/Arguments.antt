@@ -1,6 +1,8 @@
 use Rattle.std.specs.Prelude.{ℕ, ◌+◌, ◌==◌, List, [], ◌∷◌, if◌then◌else◌}
-use Rattle.model.specs.declared.descriptors.ArgumentStand.{ArgumentStand}
-use Rattle.model.specs.declared.descriptors.ArgumentStand.TheVariants.{Start as AtStart, Array as InArray, Name as InName}
+use Rattle.loader.specs.declared.arguments.ArgumentStand.{ArgumentStand}
+use Rattle.loader.specs.declared.arguments.ArgumentStand.TheVariants.{Start as AtStart, Array as InArray, Name as InName}
+
+-- Arguments counted byte by byte.
 
 -- the stand behind a byte: `[` begins an array, `L` a class's name, which `;` ends
 abbrev pub stand_after : ArgumentStand → ℕ → ArgumentStand
@@ -8,7 +10,7 @@ stand_after AtStart b = if b == 91 then InArray else if b == 76 then InName else
 stand_after InArray b = if b == 91 then InArray else if b == 76 then InName else AtStart
 stand_after InName b = if b == 59 then AtStart else InName
 
--- the units of the argument that begins with a byte (JVMS 4.3.3): a long, `J`, has two, every other one
+-- the units of the argument that begins with a byte: a long, `J`, has two, every other one
 abbrev pub units_begun : ArgumentStand → ℕ → ℕ
 units_begun AtStart b = if b == 74 then 2 else 1
 units_begun InArray b = 0
@@ -18,8 +20,3 @@ units_begun InName b = 0
 abbrev pub units_from : ArgumentStand → List ℕ → ℕ
 units_from stand [] = 0
 units_from stand (b ∷ bs) = if b == 41 then 0 else units_begun stand b + units_from (stand_after stand b) bs
-
--- the units of the arguments of a method's descriptor, which begins with `(`
-abbrev pub argument_units : List ℕ → ℕ
-argument_units [] = 0
-argument_units (b ∷ bs) = units_from AtStart bs

@@ -1,7 +1,7 @@
 use Rattle.std.proofs.Common.{◌≡◌, ◌+◌, ◌*◌, ◌≤◌, drop}
-use Rattle.model.specs.declared.descriptors.ArgumentStand.TheVariants.{Start as AtStart}
-use Rattle.model.specs.Accepted.ArgumentUnits.{units_from}
-use Rattle.loader.proofs.limits.units_from.Given as goal
+use Rattle.loader.specs.declared.arguments.ArgumentStand.TheVariants.{Start as AtStart}
+use Rattle.loader.specs.Arguments.{units_from}
+use Rattle.loader.proofs.arguments.units_from.Given as goal
 
 abbrev pub invariant-loop-byte : goal.invariant-loop-byte
 invariant-loop-byte l = record {
