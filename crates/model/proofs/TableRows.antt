@@ -7,9 +7,13 @@ pub mod CallPrograms
 pub mod ClimbingRuns
 pub mod DropRuns
 pub mod EntryRuns
+pub mod FailingRuns
+pub mod FaultRuns
 pub mod FieldRuns
 pub mod Fields
 pub mod HeapSites
+pub mod Initialising
+pub mod InitialisingRuns
 pub mod Invokes
 pub mod LinkRuns
 pub mod Listings
@@ -17,6 +21,7 @@ pub mod Locals
 pub mod LoopRuns
 pub mod Monitors
 pub mod Objects
+pub mod Outcomes
 pub mod PlainPrograms
 pub mod Returns
 pub mod Sites
