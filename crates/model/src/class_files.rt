@@ -45,7 +45,7 @@ impl fmt::Display for FormatFault {
 
 /// An entry of a constant pool (JVMS 4.4). It names other entries by their numbers: a class's name, a member's class
 /// and its name with its descriptor, and these two.
-#[derive(Debug, PartialEq, Eq, Hash, Drop)]
+#[derive(PartialEq, Eq, Hash, Drop)]
 pub enum Entry {
     Utf8(Name),
     Integer(i32),

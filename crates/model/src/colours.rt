@@ -11,7 +11,7 @@ pub enum Colour {
 
 /// Where the collector's cycle stands: at a static slot, at a thread's frame's entry (a frame's method monitor comes
 /// after its last entry), at a word of the front grey cell, at a cell to be given back or whitened.
-#[derive(Clone, Copy, Debug, PartialEq, Eq)]
+#[derive(Clone, Copy, PartialEq, Eq)]
 pub enum Phase {
     Idle,
     Statics { slot: u32 },
