@@ -148,7 +148,7 @@ main_has P all (c ∷ cs) place h = go (nat_lt (position_or_len is_main c.method
 pub main_gives : (program : List ClassListing) (place : MethodPlace) → main_in program ≡ Some place → gives None (method_at program place) ≡ true
 main_gives = main_has (λ (m : Option Method). gives None m ≡ true) main_gives_nothing
 
--- main is no class initialiser
+-- main is no class initializer
 main_initializes_nothing : (m : Method) → is_main m ≡ true → is_initializer_if (Some m) ≡ false
 main_initializes_nothing m h =
     let named = (both (is_static m && is_some m.code) (bytes_eq m.name (codes "main")) (both (is_static m && is_some m.code && bytes_eq m.name (codes "main")) (bytes_eq m.descriptor (codes "()V")) h).0).1 in

@@ -228,7 +228,7 @@ methods_served : (c : ClassListing) → serves c ≡ true → serves_methods c.m
 unfolding serves
 methods_served c e = (both (serves_fields c.fields) (serves_methods c.methods) e).1
 
--- so is the initialiser of a class that declares none
+-- so is the initializer of a class that declares none
 empty_served : (b : Bool) (m : Method) → cond b (Some empty_initializer) None ≡ Some m → serves_code m.code ≡ true
 empty_served true m e = let s : empty_initializer ≡ m = cc in ap (λ (m : Method). serves_code m.code) (sym s)
 empty_served false m e = absurd (cc)

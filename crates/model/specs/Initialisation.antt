@@ -17,13 +17,13 @@ use Rattle.model.specs.Programs.{is_class_initializer, method_at, code_at, main_
 -- Class initialisation (JVMS 5.5) where it needs no world: which classes want it, what states they are in, and the frames
 -- of a thread that claims classes. The classes of a program go by their places; the machine's own are initialised.
 
--- ---- initialisers
+-- ---- initializers
 
 abbrev pub is_initializer_if : Option Method → Bool
 is_initializer_if None = false
 is_initializer_if (Some m) = is_class_initializer m
 
--- whether a frame runs a class initialiser
+-- whether a frame runs a class initializer
 abbrev pub runs_initializer : List ClassListing → Frame → Bool
 runs_initializer program f = is_initializer_if (method_at program f.method)
 
@@ -31,7 +31,7 @@ abbrev pub initializer_in : Option ClassListing → ℕ
 initializer_in None = 0
 initializer_in (Some c) = position_or_len is_class_initializer c.methods
 
--- the place of a class's initialiser: past its last method where it declares none
+-- the place of a class's initializer: past its last method where it declares none
 abbrev pub initializer_place : List ClassListing → ℕ → MethodPlace
 initializer_place program class = record { class = class; method = initializer_in (slice_get program class) }
 
@@ -50,7 +50,7 @@ with_states state (class ∷ classes) states = with_states state classes (slice_
 abbrev pub declares_initializer : ClassListing → Bool
 declares_initializer c = list_any is_class_initializer c.methods
 
--- whether a class, no interface, or one of its superclasses declares an initialiser
+-- whether a class, no interface, or one of its superclasses declares an initializer
 abbrev pub wants_initialising : List ClassListing → ClassListing → Bool
 wants_initialising program c =
     list_any (λ (above : ClassListing). declares_initializer above && list_any (bytes_eq above.name) (superclasses program c.name)) program
@@ -110,7 +110,7 @@ callers_waiting [] = []
 callers_waiting (f ∷ []) = f ∷ []
 callers_waiting (f ∷ g ∷ fs) = waiting f ∷ callers_waiting (g ∷ fs)
 
--- the initialisers of these classes at their starts
+-- the initializers of these classes at their starts
 abbrev pub initializer_frames : List ClassListing → List ℕ → List Frame
 initializer_frames program classes = flat_map (λ class. started_at program (initializer_place program class)) classes
 

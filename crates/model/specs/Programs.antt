@@ -19,11 +19,11 @@ use Rattle.model.specs.Frames.{Frame}
 
 -- ---- methods by their places
 
--- a class initialiser (JVMS 2.9)
+-- a class initializer (JVMS 2.9)
 abbrev pub is_class_initializer : Method → Bool
 is_class_initializer m = bytes_eq m.name (codes "<clinit>")
 
--- the initialiser of a class that declares none: a `return`, with limits 0
+-- the initializer of a class that declares none: a `return`, with limits 0
 abbrev pub empty_initializer : Method
 empty_initializer = record {
   flags = record { 0 = 8 };
@@ -32,7 +32,7 @@ empty_initializer = record {
   code = Some (record { max_stack = 0; max_locals = 0; rows = []; instructions = record { pc = 0; next = 1; instruction = Return None } ∷ [] });
 }
 
--- past the last method of a class stands its empty initialiser
+-- past the last method of a class stands its empty initializer
 abbrev pub method_in : ClassListing → ℕ → Option Method
 method_in c n = or_else (slice_get c.methods n) (cond (n == length c.methods) (Some empty_initializer) None)
 

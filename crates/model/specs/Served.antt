@@ -124,7 +124,7 @@ serves_methods methods = list_all (λ (m : Method). not (is_class_initializer m)
 abbrev pub serves_fields : List FieldListing → Bool
 serves_fields fields = list_all (λ (f : FieldListing). not (is_static_field f)) fields
 
--- the machine carries out all code of the class, and the class has no static field and no initialiser
+-- the machine carries out all code of the class, and the class has no static field and no initializer
 unfoldable pub serves : ClassListing → Bool
 serves c = serves_fields c.fields && serves_methods c.methods
 

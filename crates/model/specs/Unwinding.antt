@@ -20,7 +20,7 @@ use Rattle.model.specs.Monitors.{released_all}
 use Rattle.model.specs.Results.{Effect, faulted}
 
 -- What becomes of a throwable (JVMS 2.10): the innermost frame with a fitting row handles it, frames inside of it are
--- left, and where no frame handles it the thread ends by its class. A class initialiser that handles no throwable fails
+-- left, and where no frame handles it the thread ends by its class. A class initializer that handles no throwable fails
 -- (JVMS 5.5).
 
 -- ---- which row fits
@@ -38,7 +38,7 @@ handler_in program class pc None = None
 handler_in program class pc (Some code) = option_map (λ (row : ExceptionRow). row.handler) (find (fits program class pc) code.rows)
 
 -- the handler of a frame for a class of throwables: that of the first row that fits. The rows of a frame that waits for
--- an initialiser above it, or that fails, aren't tried
+-- an initializer above it, or that fails, aren't tried
 abbrev pub handler_of : List ClassListing → List ℕ → Frame → Mark → Option ℕ
 handler_of program class f Unmarked = handler_in program class f.pc (code_at program f.method)
 handler_of program class f Waiting = None
@@ -48,7 +48,7 @@ handler_of program class f Failing = None
 
 pub data Response : Type 0 where
   Handles : (handler : ℕ) → Response
-  -- an initialiser is left by no Error: the next turn of its thread throws an ExceptionInInitializerError in its place
+  -- an initializer is left by no Error: the next turn of its thread throws an ExceptionInInitializerError in its place
   Fails : Response
   Leaves : Response
 
@@ -68,7 +68,7 @@ response_of program class f = responds (handler_of program class f f.mark) (runs
 pub data Landing : Type 0 where
   -- at a handler of a frame, with its callers
   Handled : (handler : ℕ) (frame : Frame) (callers : List Frame) → Landing
-  -- at an initialiser that fails
+  -- at an initializer that fails
   Stopped : (frame : Frame) (callers : List Frame) → Landing
   Unhandled : Landing
 
@@ -103,7 +103,7 @@ landed before w t birth class (Handled handler f callers) =
     then record { after = with_thread w t (Live (reverse callers ++ handling birth handler f ∷ [])); writes = birth ∷ [] }
     else faulted before t StackFull
 
--- the classes whose initialisers are among these frames
+-- the classes whose initializers are among these frames
 abbrev pub initialised_by : List ClassListing → List Frame → List ℕ
 initialised_by program frames = map (λ (f : Frame). f.method.class) (filter (runs_initializer program) frames)
 

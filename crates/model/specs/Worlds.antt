@@ -128,7 +128,7 @@ opening_slots_of c = map (opening_slot c.name) (filter is_static_field c.fields)
 abbrev pub opening_slots : List ClassListing → List FieldValue
 opening_slots program = flat_map opening_slots_of program
 
--- thread 0 stands at the start of main, or of the initialiser that main's class wants first
+-- thread 0 stands at the start of main, or of the initializer that main's class wants first
 abbrev pub opening_world : List ClassListing → World
 opening_world program = record {
   threads = Live (opening_frames program) ∷ [];

@@ -89,7 +89,7 @@ frames_left P fs above [] h = tt
 frames_left P [] above (g ∷ gs) h = frames_from P above (g ∷ gs) h
 frames_left P (f ∷ fs) above (g ∷ gs) h = (h.0, h.1, frames_left P fs above gs h.2)
 
--- where a throwable lands in these frames: a handler finds it on its stack, an initialiser that fails finds nothing
+-- where a throwable lands in these frames: a handler finds it on its stack, an initializer that fails finds nothing
 abbrev LandsIn : (ℕ → Type 0) → (ℕ → Type 0) → ℕ → List Frame → Landing → Type 0
 LandsIn P Q birth frames Unhandled = Unit {0}
 LandsIn P Q birth frames (Stopped f callers) = FramesMove Q frames (reverse callers ++ failing f ∷ [])

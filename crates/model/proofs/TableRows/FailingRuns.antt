@@ -29,7 +29,7 @@ use Rattle.model.proofs.TableRows.Sites.{class, frame, method, object, place}
 use Rattle.model.proofs.TableRows.Stages.{small}
 use Rattle.model.proofs.TableRows.Outcomes.{Played, plays, opens, and_then, played, iconst_0, iconst_1, iconst_2, idiv, pop, athrow, new, getstatic, catching, row, main, initializer, plain, with_x, at, failed, holding, world, cells, three_free, done, zeros, error, arithmetic, in_initializer, no_class, out_of_memory, two_free}
 
--- ---- an Error in P's initialiser
+-- ---- an Error in P's initializer
 
 abbrev throwing : ClassListing
 throwing = plain (codes "P") (initializer 1 (new error ∷ athrow ∷ []) ∷ [])
@@ -80,7 +80,7 @@ caught-fails = refl
 caught-run : plays caught (small 5) (opens caught (small 5)) (zeros 3) ≡ caught_failed
 caught-run = and_then caught (small 5) (opens caught (small 5)) caught_claimed caught_failed (zeros 1) (zeros 2) caught-claim caught-fails
 
--- ---- a division by zero in P's initialiser, which handles it itself or not
+-- ---- a division by zero in P's initializer, which handles it itself or not
 
 abbrev dividing : List ExceptionRow → ClassListing
 dividing rows = with_x (plain (codes "P") (catching rows (initializer 2 (iconst_1 ∷ iconst_0 ∷ idiv ∷ pop ∷ return ∷ [])) ∷ []))

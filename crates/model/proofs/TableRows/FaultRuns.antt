@@ -113,7 +113,7 @@ dividing-room : plays dividing (small 3) (played divides (cells (Free ∷ []) (2
 unfolding refusal next completion after_turn shade builtin_classes upwards interfaces_from is_within is_subtype_within int_wrap digits
 dividing-room = refl
 
--- ---- so it is where a class can't be used, and where an initialiser fails: no class changes its state
+-- ---- so it is where a class can't be used, and where an initializer fails: no class changes its state
 
 -- main has no stack, and handles at pc 4 what comes of the new Q, below P
 abbrev failing : List ClassListing

@@ -1,4 +1,4 @@
--- Worked rows of class initialisation (JVMS 5.5): states at first, limits of a claim and of the opening, and which initialisers
+-- Worked rows of class initialisation (JVMS 5.5): states at first, limits of a claim and of the opening, and which initializers
 -- a program may have.
 use Rattle.std.specs.Prelude.{◌≡◌, ℕ, pos, List, [], ◌∷◌, ◌++◌, replicate, Bool, true, false, Some, None, codes, refl}
 use Rattle.std.specs.Int.{int_wrap}
@@ -40,7 +40,7 @@ then after writes = record { after = after; writes = writes }
 
 -- ---- states at first
 
--- below P, which declares an initialiser, Q and R want initialising; M and an interface don't
+-- below P, which declares an initializer, Q and R want initialising; M and an interface don't
 abbrev family : List ClassListing
 family =
     plain (codes "M") (main 0 (return ∷ []) ∷ []) ∷
@@ -126,7 +126,7 @@ uses-none : turn (uses (3, Class InstanceOf (codes "Q"))) (standing (at 0 0 0 (R
 unfolding next completion builtin_classes upwards int_wrap
 uses-none = refl
 
--- ---- the first class upwards that was used runs its initialiser: by this thread, or by another
+-- ---- the first class upwards that was used runs its initializer: by this thread, or by another
 
 uses-own : completion (uses (new (codes "P"))) (standing (at 0 0 0 [] 2 ∷ []) (Running 0) Unused) 0 ≡ Creates 3 0 (Instance (codes "P") [])
 unfolding completion builtin_classes upwards
@@ -154,7 +154,7 @@ uses-failed : completion (uses (new (codes "Q"))) (standing (at 0 0 0 [] 2 ∷ [
 unfolding completion builtin_classes upwards
 uses-failed = refl
 
--- ---- a claim has room for the initialisers' frames, or throws the StackOverflowError that was made before the run
+-- ---- a claim has room for the initializers' frames, or throws the StackOverflowError that was made before the run
 
 -- M's f calls itself at pc 0, uses K or L over K at pc 3, and handles all at pc 6
 abbrev deep : List ℕ → List ClassListing
@@ -172,7 +172,7 @@ depth n inside state = world (Live (at 0 0 0 [] 0 ∷ replicate n (at 0 1 0 [] 1
 abbrev using : Frame
 using = at 0 1 3 [] 1
 
--- the 256th frame is the initialiser's
+-- the 256th frame is the initializer's
 deep-claims : turn (deep (codes "K")) (depth 253 (using ∷ []) Unused) ≡ then (depth 253 (using ∷ at 1 0 0 [] 0 ∷ []) (Running 0)) []
 unfolding next completion builtin_classes upwards interfaces_from
 deep-claims = refl
@@ -187,7 +187,7 @@ deep-neither : turn (deep (codes "L")) (depth 253 (using ∷ []) Unused) ≡ the
 unfolding next completion builtin_classes upwards interfaces_from is_within
 deep-neither = refl
 
--- main has a stack of 4,000 units, and the initialiser one of so many
+-- main has a stack of 4,000 units, and the initializer one of so many
 abbrev wide : ℕ → List ClassListing
 wide units = plain (codes "M") (main 4000 (getstatic (codes "K") ∷ pop ∷ return ∷ []) ∷ []) ∷ with_x (plain (codes "K") (empty units ∷ [])) ∷ []
 
@@ -204,7 +204,7 @@ wide-overflows = refl
 
 -- ---- the frames with which thread 0 opens
 
--- I over H, with initialisers of these units, and a main of some
+-- I over H, with initializers of these units, and a main of some
 abbrev opening : ℕ → ℕ → ℕ → List ClassListing
 opening of_main of_i of_h = class (codes "I") (codes "H") [] (main of_main (return ∷ []) ∷ empty of_i ∷ []) ∷ plain (codes "H") (empty of_h ∷ []) ∷ []
 
@@ -224,7 +224,7 @@ opening-two : opening_fits (opening 0 3000 3000) ≡ false
 unfolding upwards builtin_classes
 opening-two = refl
 
--- ---- which initialisers a class may have: static, without arguments and result, with code
+-- ---- which initializers a class may have: static, without arguments and result, with code
 
 abbrev refused : Method → Bool
 refused m = is_refused (plain (codes "K") (m ∷ []) ∷ []) (codes "K") m

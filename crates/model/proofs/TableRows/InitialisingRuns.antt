@@ -35,7 +35,7 @@ use Rattle.model.proofs.TableRows.Stages.{small}
 use Rattle.model.proofs.TableRows.Sites.{class, frame, member, method, object, place}
 use Rattle.model.proofs.TableRows.Outcomes.{Played, plays, opens, and_then, played, iconst_0, iconst_1, iconst_2, bipush, idiv, pop, new, getstatic, putstatic, catching, row, main, initializer, plain, with_x, holding, at, failed, world, cells, three_free, done, zeros, arithmetic, in_initializer, no_class, out_of_memory, two_free}
 
--- ---- the first class has an initialiser: thread 0 opens in it, above a waiting main
+-- ---- the first class has an initializer: thread 0 opens in it, above a waiting main
 
 abbrev own : List ClassListing
 own = with_x (plain (codes "I") (
@@ -46,7 +46,7 @@ own-opens : opens own (small 5) ≡ played (world (Live (waiting (at 0 0 0 [] 1)
 unfolding builtin_classes upwards int_wrap
 own-opens = refl
 
--- main goes on when the initialiser has returned
+-- main goes on when the initializer has returned
 abbrev own_initialised : Played
 own_initialised = played (world (Live (at 0 0 0 [] 1 ∷ []) ∷ []) (holding (codes "I") 9 ∷ []) (Initialised ∷ []) [] [] 3) three_free (done 3)
 
@@ -99,7 +99,7 @@ others-run =
     and_then others (small 5) others_opened others_claimed _ (zeros 1) (zeros 6) others-claim
     (and_then others (small 5) others_claimed others_initialised _ (zeros 3) (zeros 3) others-first others-later)
 
--- ---- Q over P: P's initialiser runs before Q's
+-- ---- Q over P: P's initializer runs before Q's
 
 abbrev printing : Sized → Method
 printing constant = initializer 1 (constant ∷ print ∷ return ∷ [])
@@ -153,7 +153,7 @@ over-run =
     (and_then over (small 5) over_claimed over_above over_ended (zeros 3) (zeros 6) over-first
     (and_then over (small 5) over_above over_initialised over_ended (zeros 3) (zeros 3) over-second over-later))
 
--- ---- an initialiser that divides by zero, and main that catches what comes of it, and asks for the class again
+-- ---- an initializer that divides by zero, and main that catches what comes of it, and asks for the class again
 
 abbrev dividing : ClassListing
 dividing = with_x (plain (codes "P") (initializer 2 (iconst_1 ∷ iconst_0 ∷ idiv ∷ pop ∷ return ∷ []) ∷ []))
@@ -176,7 +176,7 @@ again-opens : opens again (small 5) ≡ again_opened
 unfolding builtin_classes upwards int_wrap
 again-opens = refl
 
--- the exception's turn ends at the initialiser, which fails
+-- the exception's turn ends at the initializer, which fails
 abbrev again_stopped : Played
 again_stopped = played
     (again_world (at 0 0 0 [] 1 ∷ failed (at 1 0 2 [] 2) ∷ []) (Running 0) (plain_object arithmetic ∷ []) 4)
@@ -282,7 +282,7 @@ meeting-refused : refusal meeting ample claimed_world (ByThread 1) ≡ Some NotR
 unfolding refusal completion builtin_classes upwards interfaces_from
 meeting-refused = refl
 
--- it is refused until the initialiser has returned
+-- it is refused until the initializer has returned
 abbrev meeting_initialised : Played
 meeting_initialised = meeting_played (Live (at 0 0 6 [] 1 ∷ []) ∷ run_begins ∷ []) 9 Initialised [] 6 (Some GotObject ∷ done 2 ++ None ∷ done 2 ++ None ∷ done 1)
 
@@ -332,7 +332,7 @@ locking-stuck : status_in locking locked ≡ Stuck
 unfolding completion builtin_classes upwards interfaces_from
 locking-stuck = refl
 
--- ---- a class without an initialiser between two that declare one: it has an empty one, behind its last method
+-- ---- a class without an initializer between two that declare one: it has an empty one, behind its last method
 
 abbrev between : List ClassListing
 between =

@@ -1,4 +1,4 @@
--- Runs of the machine that tell the outcome of each turn, and what programs with class initialisers are written with.
+-- Runs of the machine that tell the outcome of each turn, and what programs with class initializers are written with.
 use Rattle.std.proofs.Common.{◌≡◌, ◌∙◌, ap, refl}
 use Rattle.std.specs.Prelude.{ℕ, pos, List, [], ◌∷◌, ◌++◌, map, replicate, Option, Some, None, codes}
 use Rattle.model.specs.declared.colours.Colour.TheVariants.{White, Grey}

@@ -16,7 +16,7 @@ use Rattle.model.specs.Completions.Completion.{Goes, Denies, Waits}
 abbrev pub states_in : Site → List ClassState
 states_in s = s.world.statics.states
 
--- the thread runs these classes' initialisers, the last one first; without room for their frames nothing is claimed
+-- the thread runs these classes' initializers, the last one first; without room for their frames nothing is claimed
 abbrev pub claims_with : Site → List ℕ → List Frame → Completion
 claims_with s classes frames =
     if within_limits frames

@@ -98,7 +98,7 @@ abbrev pub at_instruction : List ClassListing → World → ℕ → Frame → Op
 at_instruction program w t f None = Faults NoInstruction
 at_instruction program w t f (Some i) = at_site (record { program = program; world = w; thread = t; frame = f; next = i.next }) i.instruction
 
--- an initialiser that failed gives up with an error of its own
+-- an initializer that failed gives up with an error of its own
 abbrev pub at_mark : List ClassListing → World → ℕ → Frame → Mark → Completion
 at_mark program w t f Unmarked = at_instruction program w t f (instruction_of program f)
 at_mark program w t f Waiting = Waits

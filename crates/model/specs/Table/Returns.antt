@@ -52,7 +52,7 @@ past_invoke f result None = Err (Faulted NoInstruction)
 past_invoke f None (Some invoke) = Ok (replaced invoke.next f 0 [])
 past_invoke f (Some value) (Some invoke) = replaced_if_room invoke.next f 0 (value ∷ [])
 
--- the class of an initialiser that returns is initialised
+-- the class of an initializer that returns is initialised
 abbrev pub initialised_if : World → ℕ → Bool → World
 initialised_if w class true = with_class_states w (with_states Initialised (class ∷ []) w.statics.states)
 initialised_if w class false = w
@@ -61,7 +61,7 @@ initialised_if w class false = w
 abbrev pub left_world : Site → World
 left_world s = initialised_if (released s.world s.thread s.frame.monitor) s.frame.method.class (runs_initializer s.program s.frame)
 
--- what waits below an initialiser goes on, and any other frame tries its instruction again
+-- what waits below an initializer goes on, and any other frame tries its instruction again
 abbrev pub awake : Frame → Frame
 awake f = record f { mark = Unmarked }
 

@@ -19,7 +19,7 @@ use Rattle.model.proofs.CollectorLemmas.Calls.{unset_may}
 use Rattle.model.proofs.CollectorLemmas.Unwinding.{states_keep}
 use Rattle.model.proofs.CollectorLemmas.Table.Monitors.{kept_same, site_kept, if_moves}
 
--- initialisers come on top, and lead nowhere
+-- initializers come on top, and lead nowhere
 
 -- ---- frames at their starts
 
