@@ -16,7 +16,8 @@ use Rattle.model.specs.declared.turns.ClassState.{ClassState}
 use Rattle.model.specs.declared.turns.ClassState.TheVariants.{Unused, Running, Done as Initialised, Failed}
 use Rattle.model.specs.declared.values.Value.TheVariants.{Ref}
 use Rattle.model.specs.Accounts.{after_turn, shade}
-use Rattle.model.specs.Observers.{status_in}
+use Rattle.model.specs.Machines.{machine_of, opened}
+use Rattle.model.specs.Observers.{status_in, class_state_of}
 use Rattle.model.specs.declared.turns.Status.TheVariants.{Stuck}
 use Rattle.model.specs.Accounts.Cell.{Free, Taken}
 use Rattle.model.specs.Frames.{Frame}
@@ -45,6 +46,19 @@ own = with_x (plain (codes "I") (
 own-opens : opens own (small 5) ≡ played (world (Live (waiting (at 0 0 0 [] 1) ∷ at 0 1 0 [] 1 ∷ []) ∷ []) (holding (codes "I") 0 ∷ []) (Running 0 ∷ []) [] [] 0) three_free []
 unfolding builtin_classes upwards int_wrap
 own-opens = refl
+
+-- the states of classes by their names: one that is being initialised, one of the machine's own, and one that isn't there
+own-state : class_state_of (opened own (small 5) ample) (codes "I") ≡ Some (Running 0)
+unfolding machine_of builtin_classes upwards
+own-state = refl
+
+own-builtin_state : class_state_of (opened own (small 5) ample) (codes "java/lang/Object") ≡ Some Initialised
+unfolding machine_of builtin_classes upwards
+own-builtin_state = refl
+
+own-missing_state : class_state_of (opened own (small 5) ample) (codes "X") ≡ None
+unfolding builtin_classes
+own-missing_state = refl
 
 -- main goes on when the initializer has returned
 abbrev own_initialised : Played
