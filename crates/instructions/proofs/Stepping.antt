@@ -30,9 +30,15 @@ use Rattle.model.specs.Table.Next.{Listed, next, by_family, at_instruction}
 use Rattle.model.specs.Turns.{print_of}
 use Rattle.model.specs.Worlds.{World}
 use Rattle.model.proofs.Served.{ThrowsNothing, constant-throws_nothing, number-throws_nothing, IsInMain, returned_is, printed_is, served_cases, at_site_is, instruction_served, completion-main}
-use Rattle.loader.specs.Steps.{step_of, step_in, step_at, call_of, action_of}
-use Rattle.instructions.specs.Acting.{moved_in, printed_in, acted, acted_at, printed_at}
+use Rattle.loader.specs.declared.programs.Step.{Step}
+use Rattle.loader.specs.Steps.{step_of, step_in, call_of, action_of}
+use Rattle.loader.specs.StepLists.{step_or_none}
+use Rattle.instructions.specs.Acting.{moved_in, printed_in, acted, acted_at, printed_at, standing}
 use Rattle.instructions.specs.Loaded.{world_shown, world_after}
+
+-- the step of an instruction, if there is one
+abbrev pub step_for : Option Placed → Step
+step_for i = step_or_none (option_map step_of i)
 
 module _ (program : List ClassListing) (f : Frame) (states : List ClassState) (output : List ℕ) (fault : Option (Fault × ℕ)) (rows : ℕ) where
   abbrev pub w : World
@@ -75,7 +81,7 @@ module _ (program : List ClassListing) (f : Frame) (states : List ClassState) (o
 
   -- and so is what the table says of its print
   abbrev PrintShown : ℕ → Listed → Type 0
-  PrintShown n i = prints (by_family (site n) i) ≡ printed_at (f ∷ []) (Some (record { next = n; action = action_of i }))
+  PrintShown n i = prints (by_family (site n) i) ≡ printed_at (f ∷ []) (record { next = n; action = action_of i })
 
   completes_silent : (n : ℕ) (r : Result Moved Abrupt) → ThrowsNothing r → prints (completes (site n) r) ≡ None
   completes_silent n (Ok moved) e = refl
@@ -89,7 +95,7 @@ module _ (program : List ClassListing) (f : Frame) (states : List ClassState) (o
   invoked_told : (n : ℕ) → IsInMain (site n) → (m : Member) → builtin_of m ≡ Some PrintInt → PrintShown n (Invoke Static m)
   invoked_told n main m named =
       ap prints (printed_is (site n) m named main.unhidden) ∙ print_told n (int_on f.stack)
-      ∙ sym (ap (λ (b : Option Builtin). printed_at (f ∷ []) (Some (record { next = n; action = call_of b }))) named)
+      ∙ sym (ap (λ (b : Option Builtin). printed_at (f ∷ []) (record { next = n; action = call_of b })) named)
 
   family_told : (n : ℕ) → IsInMain (site n) → (i : Listed) → is_served i ≡ true → PrintShown n i
   family_told n main i served =
@@ -102,31 +108,32 @@ module _ (program : List ClassListing) (f : Frame) (states : List ClassState) (o
     in_main : (n : ℕ) → IsInMain (site n)
     in_main n = record { alone = refl; main_is = main_is; plain = plain; unhidden = served.unhidden }
 
-    at_shown : (i : Option Placed) → instruction_of program f ≡ i → left (at_instruction program w 0 f i) ≡ world_after w (acted_at (f ∷ []) output (option_map step_of i))
+    at_shown : (i : Option Placed) → instruction_of program f ≡ i → left (at_instruction program w 0 f i) ≡ world_after w (acted_at (f ∷ []) output (step_for i))
     at_shown None e = refl
     at_shown (Some i) e =
         let is = instruction_served program f i served.code e in
         ap left (at_site_is (site i.next) served.unhidden i.instruction is) ∙ family_shown i.next (in_main i.next) i.instruction is
 
     -- a turn by the table is a turn by the step
-    pub next_shown : (next program w 0 NewObject).after ≡ world_after w (acted_at (f ∷ []) output (option_map step_of (instruction_of program f)))
+    pub next_shown : (next program w 0 NewObject).after ≡ world_after w (acted_at (f ∷ []) output (step_for (instruction_of program f)))
     unfolding next
     next_shown = ap left (completion-main program w 0 f refl plain.1) ∙ at_shown (instruction_of program f) refl
 
-    at_told : (i : Option Placed) → instruction_of program f ≡ i → prints (at_instruction program w 0 f i) ≡ printed_at (f ∷ []) (option_map step_of i)
+    at_told : (i : Option Placed) → instruction_of program f ≡ i → prints (at_instruction program w 0 f i) ≡ printed_at (f ∷ []) (step_for i)
     at_told None e = refl
     at_told (Some i) e =
         let is = instruction_served program f i served.code e in
         ap prints (at_site_is (site i.next) served.unhidden i.instruction is) ∙ family_told i.next (in_main i.next) i.instruction is
 
     -- what the table says of the next print is what the step says
-    pub print_shown_at : print_of program w 0 ≡ printed_at (f ∷ []) (option_map step_of (instruction_of program f))
+    pub print_shown_at : print_of program w 0 ≡ printed_at (f ∷ []) (step_for (instruction_of program f))
     print_shown_at = ap prints (completion-main program w 0 f refl plain.1) ∙ at_told (instruction_of program f) refl
 
 -- the step at a frame's method and pc is that of the instruction at which the frame stands
-step-of_instruction : (o : Option CodeListing) (pc : ℕ) → option_and_then (λ (code : CodeListing). step_in code.instructions pc) o ≡ option_map step_of (option_and_then (λ (code : CodeListing). placed_at code pc) o)
+step-of_instruction : (o : Option CodeListing) (pc : ℕ)
+    → step_or_none (option_and_then (λ (code : CodeListing). step_in code.instructions pc) o) ≡ step_for (option_and_then (λ (code : CodeListing). placed_at code pc) o)
 step-of_instruction None pc = refl
 step-of_instruction (Some code) pc = refl
 
-pub step_stands : (program : List ClassListing) (f : Frame) → step_at program f.method f.pc ≡ option_map step_of (instruction_of program f)
+pub step_stands : (program : List ClassListing) (f : Frame) → standing program f ≡ step_for (instruction_of program f)
 step_stands program f = step-of_instruction (code_at program f.method) f.pc

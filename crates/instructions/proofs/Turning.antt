@@ -100,9 +100,8 @@ module _ (program : List ClassListing) (f : Frame) (main_is : main_in program �
   acted_runs output next Print = printed_runs output next (int_on f.stack)
   acted_runs output next Unserved = tt
 
-  acted_at_runs : (output : List ℕ) (step : Option Step) → RunsOn program (acted_at (f ∷ []) output step)
-  acted_at_runs output None = tt
-  acted_at_runs output (Some step) = acted_runs output step.next step.action
+  acted_at_runs : (output : List ℕ) (step : Step) → RunsOn program (acted_at (f ∷ []) output step)
+  acted_at_runs output step = acted_runs output step.next step.action
 
 module _ (program : List ClassListing) (limits : Limits) (states : List ClassState) (output : List ℕ) (rows capacity : ℕ) where
   abbrev state : Bool → List Frame → Option (Fault × ℕ) → Loaded
@@ -154,7 +153,7 @@ module _ (program : List ClassListing) (limits : Limits) (states : List ClassSta
   after_of : (f : Frame) → ServedProgram program → main_in program ≡ Some f.method → IsPlain f → after_step (state false (f ∷ []) None) 0 ≡ record { program = program; limits = limits; world = counted (world_after (world_shown false (f ∷ []) states output None rows) (acted_at (f ∷ []) output (standing program f))) }
   after_of f served main_is plain =
       ap (λ (after : World). let s : Loaded = record { program = program; limits = limits; world = counted after } in s)
-      (next_shown program f states output None rows served main_is plain ∙ ap (λ (step : Option Step). world_after (world_shown false (f ∷ []) states output None rows) (acted_at (f ∷ []) output step)) (sym (step_stands program f)))
+      (next_shown program f states output None rows served main_is plain ∙ ap (λ (step : Step). world_after (world_shown false (f ∷ []) states output None rows) (acted_at (f ∷ []) output step)) (sym (step_stands program f)))
 
   state_is : (ended : Bool) (frames : List Frame) (fault : Option (Fault × ℕ)) (t : ℕ) → (g : IsGoing program limits ended frames output fault rows capacity t) → after_step (state ended frames fault) t ≡ after_step (state false (g.frame ∷ []) None) 0
   state_is ended frames fault t g = rw (g.lives, g.alone, g.faultless, g.first) refl

@@ -91,18 +91,13 @@ module _ (program : List ClassListing) (limits : Limits) (states : List ClassSta
   pub lives_ready : (ended : Bool) (frames : List Frame) → IsSound program limits ended frames capacity → fault ≡ None → (t : ℕ) → is_live (shown ended frames) t ≡ is_ready program (shown ended frames) t
   lives_ready ended frames sound none t = sym (ready_shown ended frames sound t ∙ rw none refl)
 
-  -- a thread that lives runs main
+  -- a thread that lives has one frame
   pub lives_alone : (ended : Bool) (frames : List Frame) → IsSound program limits ended frames capacity → (t : ℕ) → is_live (shown ended frames) t ≡ true → length frames ≡ 1
   lives_alone true frames sound zero lives = cc
   lives_alone true frames sound (suc t) lives = cc
   lives_alone false frames sound t lives = rw sound.main.alone refl
 
-  pub lives_in_main : (ended : Bool) (frames : List Frame) → IsSound program limits ended frames capacity → (t : ℕ) → is_live (shown ended frames) t ≡ true → main_in program ≡ Some (running_frame frames).method
-  lives_in_main true frames sound zero lives = cc
-  lives_in_main true frames sound (suc t) lives = cc
-  lives_in_main false frames sound t lives = rw sound.main.alone sound.main.main_is
-
-  -- and prints what its step does
+  -- it prints what its step does
   told_in : (f : Frame) → ServedProgram program → main_in program ≡ Some f.method → IsPlain f → print_of program (shown false (f ∷ [])) 0 ≡ printed_at (f ∷ []) (standing program f)
   told_in f served main_is plain = print_shown_at program f states output fault rows served main_is plain ∙ ap (printed_at (f ∷ [])) (sym (step_stands program f))
 

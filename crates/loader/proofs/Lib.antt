@@ -6,4 +6,4 @@ pub mod ParentLemmas
 pub mod ReachedLemmas
 pub mod ReferenceLemmas
 pub mod RunLemmas
-pub mod StepTables
+pub mod StepListLemmas

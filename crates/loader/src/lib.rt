@@ -17,6 +17,7 @@ pub mod programs;
 mod reached;
 mod rules;
 mod served;
+mod step_lists;
 mod subclasses;
 mod superclasses;
 #[cfg(test)]

@@ -1,14 +1,10 @@
 use Rattle.std.proofs.Common.{vec_capacity, Some, None}
-use Rattle.instructions.proofs.Waiting.{lives_alone, lives_in_main, overflows_shown}
+use Rattle.instructions.proofs.Waiting.{lives_alone, overflows_shown}
 use Rattle.instructions.proofs.state.State.overflows.Goals as goal
 
-pub print_length-requires-clause-some : goal.print_length-requires-clause-some
-print_length-requires-clause-some c =
+pub print_length-requires : goal.print_length-requires
+print_length-requires c =
     lives_alone c.self.inside.program c.self.inside.limits c.self.inside.states.items c.self.inside.output.items c.self.inside.fault c.self.inside.rows (vec_capacity c.self.inside.output) c.self.inside.ended c.self.inside.frames c.self.invariant c.args.thread (rw (← c.self.view_is) at c.requires)
-
-pub print_length-requires-clause-main : goal.print_length-requires-clause-main
-print_length-requires-clause-main c =
-    lives_in_main c.self.inside.program c.self.inside.limits c.self.inside.states.items c.self.inside.output.items c.self.inside.fault c.self.inside.rows (vec_capacity c.self.inside.output) c.self.inside.ended c.self.inside.frames c.self.invariant c.args.thread (rw (← c.self.view_is) at c.requires)
 
 pub returns-in-Some : goal.returns-in-Some
 returns-in-Some c =
