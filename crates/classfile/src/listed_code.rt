@@ -45,18 +45,14 @@ fn listed(alloc: Global, pool: &Pool, instruction: &Instr) -> Result<Listed, All
             Instruction::LookupSwitch(copied_lookup(alloc, lookup)?)
         }
         Instruction::Return(kind) => Instruction::Return(*kind),
-        Instruction::Static(access, field) => {
-            Instruction::Static(*access, pool.member(alloc, *field)?)
-        }
-        Instruction::Field(access, field) => {
-            Instruction::Field(*access, pool.member(alloc, *field)?)
-        }
-        Instruction::Array(operation) => Instruction::Array(listed_array(alloc, pool, operation)?),
+        Instruction::Static(access, field) => { Instruction::Static(*access, pool.member(*field)?) }
+        Instruction::Field(access, field) => { Instruction::Field(*access, pool.member(*field)?) }
+        Instruction::Array(operation) => Instruction::Array(listed_array(pool, operation)?),
         Instruction::Class(operation, class) => {
-            Instruction::Class(*operation, pool.class_name(alloc, *class)?)
+            Instruction::Class(*operation, pool.class_name(*class)?)
         }
         Instruction::Invoke(invocation, method) => {
-            Instruction::Invoke(*invocation, pool.member(alloc, *method)?)
+            Instruction::Invoke(*invocation, pool.member(*method)?)
         }
         Instruction::Throw => Instruction::Throw,
         Instruction::Monitor(operation) => Instruction::Monitor(*operation),
@@ -78,7 +74,6 @@ fn listed_constant(pool: &Pool, constant: Constant<u16, u16>) -> Constant<i32, i
 }
 
 fn listed_array(
-    alloc: Global,
     pool: &Pool,
     operation: &ArrayOperation<u16>,
 ) -> Result<ArrayOperation<Name>, AllocError>
@@ -86,7 +81,7 @@ fn listed_array(
 {
     Ok(match operation {
         ArrayOperation::New(primitive) => ArrayOperation::New(*primitive),
-        ArrayOperation::NewOf(class) => ArrayOperation::NewOf(pool.class_name(alloc, *class)?),
+        ArrayOperation::NewOf(class) => ArrayOperation::NewOf(pool.class_name(*class)?),
         ArrayOperation::Length => ArrayOperation::Length,
         ArrayOperation::Load(kind) => ArrayOperation::Load(*kind),
         ArrayOperation::Store(kind) => ArrayOperation::Store(*kind),

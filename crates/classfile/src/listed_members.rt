@@ -19,12 +19,12 @@ pub fn listed_fields(
 {
     let mut all = Vec::new(alloc);
     for field in fields {
-        all.push(listed_field(alloc, pool, field)?)?;
+        all.push(listed_field(pool, field)?)?;
     }
     Ok(all)
 }
 
-fn listed_field(alloc: Global, pool: &Pool, field: &FieldEntry) -> Result<Field, AllocError>
+fn listed_field(pool: &Pool, field: &FieldEntry) -> Result<Field, AllocError>
     ensures { IfOk result (λ listed. listed ≡ listing.listed_field pool.now field.now) }
 {
     let constant = match field.constant {
@@ -33,8 +33,8 @@ fn listed_field(alloc: Global, pool: &Pool, field: &FieldEntry) -> Result<Field,
     };
     Ok(Field {
         flags: field.flags,
-        name: pool.name(alloc, field.name)?,
-        descriptor: pool.name(alloc, field.descriptor)?,
+        name: pool.name(field.name)?,
+        descriptor: pool.name(field.descriptor)?,
         constant,
     })
 }
@@ -45,7 +45,7 @@ pub fn class_names(alloc: Global, pool: &Pool, numbers: &[u16]) -> Result<Vec<Na
 {
     let mut names = Vec::new(alloc);
     for number in numbers {
-        names.push(pool.class_name(alloc, *number)?)?;
+        names.push(pool.class_name(*number)?)?;
     }
     Ok(names)
 }

@@ -22,9 +22,9 @@ pub fn listing(alloc: Global, file: &ClassFile) -> Result<Listing, AllocError>
     let head = file.head();
     let pool = head.pool();
     Ok(Listing {
-        name: pool.class_name(alloc, head.class())?,
+        name: pool.class_name(head.class())?,
         flags: listed_flags(head.flags()),
-        superclass: pool.class_name(alloc, head.superclass())?,
+        superclass: pool.class_name(head.superclass())?,
         interfaces: class_names(alloc, pool, head.interfaces())?,
         fields: listed_fields(alloc, pool, head.fields())?,
         methods: listed_methods(alloc, pool, file.methods())?,
@@ -61,8 +61,8 @@ fn listed_method(alloc: Global, pool: &Pool, method: &MethodEntry) -> Result<Met
     };
     Ok(Method {
         flags: method.flags,
-        name: pool.name(alloc, method.name)?,
-        descriptor: pool.name(alloc, method.descriptor)?,
+        name: pool.name(method.name)?,
+        descriptor: pool.name(method.descriptor)?,
         code,
     })
 }
@@ -87,18 +87,18 @@ fn listed_rows(
 {
     let mut all = Vec::new(alloc);
     for row in rows {
-        all.push(listed_row(alloc, pool, row)?)?;
+        all.push(listed_row(pool, row)?)?;
     }
     Ok(all)
 }
 
-fn listed_row(alloc: Global, pool: &Pool, row: &CodeRow) -> Result<ExceptionRow, AllocError>
+fn listed_row(pool: &Pool, row: &CodeRow) -> Result<ExceptionRow, AllocError>
     ensures { IfOk result (λ listed. listed ≡ listing.listed_row pool.now row.now) }
 {
     let class = if row.class == 0 {
         None
     } else {
-        Some(pool.class_name(alloc, row.class)?)
+        Some(pool.class_name(row.class)?)
     };
     Ok(ExceptionRow {
         start: row.start,

@@ -1,5 +1,6 @@
 //! Names of classes, members and types.
 ghost use Rattle.std.specs.Prelude.{◌≡◌, IfOk, ℕ, List};
+ghost use Rattle.std.specs.Arc.{arc_slice_items};
 ghost use Rattle.std.specs.Str.{bytes_eq};
 ghost use Rattle.std.specs.Hash as fed;
 ghost use Rattle.std.specs.Cmp.{partial_equiv_from_equiv};
@@ -11,35 +12,45 @@ use std::alloc::{AllocError, Global};
 use std::fmt;
 use std::hash::{Hash, Hasher};
 use std::marker::Model;
+use std::sync::ArcSlice;
 
 /// The name of a class, field or method, or a descriptor, as its ASCII bytes (JVMS 4.2, 4.3): `java/lang/Object`,
 /// `main`, `()V`, `[I`. A contract sees the list of the bytes. Which bytes make a good name is the reader's business.
+/// The bytes are kept once, however many names share them.
 #[derive(Debug, Drop)]
 pub struct Name {
-    bytes: Vec<u8>,
+    bytes: ArcSlice<u8, Global>,
 }
 
 impl Model for Name {
     ghost Value = { List ℕ };
 
-    ghost view = { λ a. a.bytes.items };
+    ghost view = { λ a. arc_slice_items a.bytes };
 }
 
 impl Name {
-    /// The name with these bytes.
-    pub fn new(bytes: Vec<u8>) -> Name
-        ensures { result ≡ bytes.items }
+    /// The name with these bytes. `AllocError` where memory runs out.
+    pub fn new(bytes: Vec<u8>) -> Result<Name, AllocError>
+        ensures { IfOk result (λ name. name ≡ bytes.items) }
     {
-        Name { bytes }
+        let bytes = ArcSlice::from_vec(bytes)?;
+        Ok(Name { bytes })
     }
 
     /// A name with a copy of these bytes. `AllocError` where memory runs out.
     pub fn copy_of(alloc: Global, bytes: &[u8]) -> Result<Name, AllocError>
         ensures { IfOk result (λ name. name ≡ bytes.now) }
     {
-        Ok(Name {
-            bytes: Vec::from_slice(alloc, bytes)?,
-        })
+        Name::new(Vec::from_slice(alloc, bytes)?)
+    }
+
+    /// The same name, which shares the bytes: none is copied. `AllocError` where the count of those that share them is
+    /// full, at 2^63.
+    pub fn share(&self) -> Result<Name, AllocError>
+        ensures { IfOk result (λ name. name ≡ self.now) }
+    {
+        let bytes = self.bytes.clone()?;
+        Ok(Name { bytes })
     }
 
     /// Whether the name is this text.

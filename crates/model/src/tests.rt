@@ -9,8 +9,10 @@ fn names_are_kept(rt: HostRuntime) -> Result<(), Fail> {
     let copied = Name::copy_of(rt.alloc(), b"vm/Sys")?;
     assert!(rt; copied.is("vm/Sys"));
     assert!(rt; !copied.is("vm/Sy"));
-    let made = Name::new(copied.as_bytes().to_vec(rt.alloc())?);
+    let made = Name::new(copied.as_bytes().to_vec(rt.alloc())?)?;
     assert_eq!(rt; made.as_bytes(), b"vm/Sys".as_slice());
+    let shared = made.share()?;
+    assert!(rt; shared == copied);
     Ok(())
 }
 

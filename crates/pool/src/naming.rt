@@ -8,24 +8,24 @@ use crate::pools::Pool;
 use model::class_files::Entry;
 use model::listings::Constant;
 use model::names::{Member, Name};
-use std::alloc::{AllocError, Global};
+use std::alloc::AllocError;
 
 impl Pool {
-    /// The text under a number; no bytes where it is no text's.
-    pub fn name(&self, alloc: Global, number: u16) -> Result<Name, AllocError>
+    /// The text under a number, which shares its bytes with the pool; no bytes where it is no text's.
+    pub fn name(&self, number: u16) -> Result<Name, AllocError>
         ensures { IfOk result (λ name. name ≡ name_at self.now number) }
     {
-        match self.text(number) {
-            Some(text) => Name::copy_of(alloc, text),
-            None => Ok(Name::new(Vec::new(alloc))),
+        match self.entry(number) {
+            Some(Entry::Utf8(text)) => text.share(),
+            _ => Name::new(Vec::new(self.alloc())),
         }
     }
 
     /// The name of the class, or the descriptor of the array, under a number; no bytes where it is neither's.
-    pub fn class_name(&self, alloc: Global, number: u16) -> Result<Name, AllocError>
+    pub fn class_name(&self, number: u16) -> Result<Name, AllocError>
         ensures { IfOk result (λ name. name ≡ class_at self.now number) }
     {
-        self.name(alloc, self.class(number).unwrap_or(0))
+        self.name(self.class(number).unwrap_or(0))
     }
 
     /// The numbers of a reference's class and of its name and descriptor; zeros where there is no reference.
@@ -41,15 +41,15 @@ impl Pool {
     }
 
     /// The field or the method that the reference under a number names; its names have no bytes where there is none.
-    pub fn member(&self, alloc: Global, number: u16) -> Result<Member, AllocError>
+    pub fn member(&self, number: u16) -> Result<Member, AllocError>
         ensures { IfOk result (λ member. member ≡ member_at self.now number) }
     {
         let (class, member) = self.reference(number);
         let (name, descriptor) = self.name_and_type(member).unwrap_or((0, 0));
         Ok(Member {
-            class: self.class_name(alloc, class)?,
-            name: self.name(alloc, name)?,
-            descriptor: self.name(alloc, descriptor)?,
+            class: self.class_name(class)?,
+            name: self.name(name)?,
+            descriptor: self.name(descriptor)?,
         })
     }
 

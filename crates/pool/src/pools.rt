@@ -80,6 +80,11 @@ impl Pool {
         put_entries(out, &self.slots)
     }
 
+    /// Where the pool takes its memory.
+    pub(crate) fn alloc(&self) -> Global {
+        *self.slots.allocator()
+    }
+
     /// What the text under a number is good for, if there is one.
     pub(crate) fn kind(&self, number: u16) -> Option<TextKind>
         ensures { result ≡ option_map kind_of (text_at self.now number) }

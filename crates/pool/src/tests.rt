@@ -209,9 +209,9 @@ fn what_numbers_name(rt: HostRuntime) -> Result<(), Fail> {
     assert_eq!(rt; builder.add(Entry::Long(-7)), Ok(7));
     assert_eq!(rt; builder.add(Entry::Integer(8)), Ok(9));
     let pool = builder.finish()?;
-    assert!(rt; pool.name(alloc, 3)?.is("print"));
-    assert!(rt; pool.class_name(alloc, 2)?.is("vm/Sys"));
-    let print = pool.member(alloc, 6)?;
+    assert!(rt; pool.name(3)?.is("print"));
+    assert!(rt; pool.class_name(2)?.is("vm/Sys"));
+    let print = pool.member(6)?;
     assert!(rt; print.class.is("vm/Sys") && print.name.is("print") && print.descriptor.is("(I)V"));
     assert_eq!(rt; (pool.long(7), pool.int(9)), (-7, 8));
     assert_eq!(rt; pool.value(7), Some(Constant::Long(-7)));
