@@ -22,7 +22,7 @@ begins b bs false false e k = rw (e, k) (omega arith)
 pub has_byte : (b : ℕ) (bs : List ℕ) → 0 < type_length (b ∷ bs)
 has_byte b bs = begins b bs (b == 91) (b == 76) refl refl
 
-shorter : (n k : ℕ) (row : List ℕ) → length row ≤ suc n → 0 < k → length (drop k row) ≤ n
+pub shorter : (n k : ℕ) (row : List ℕ) → length row ≤ suc n → 0 < k → length (drop k row) ≤ n
 shorter n k row h lt = omega (arith, length-drop k row)
 
 -- how many types are asked for doesn't matter where they are as many as the bytes
