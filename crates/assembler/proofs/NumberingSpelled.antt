@@ -10,9 +10,9 @@ use Rattle.model.specs.CodeListings.{CodeListing}
 use Rattle.model.specs.ClassFiles.Items.{Item, is_same_item, is_item_of, with_items, class_items, name_items, member_items, constant_items, array_items, call_items, instruction_items, placed_items, catch_items, row_items, code_items, method_items, value_items, field_items, listing_items}
 use Rattle.model.specs.ClassFiles.Items.Item.{text_item, int_item, long_item, class_item, name_item, field_item, method_item, interface_item}
 use Rattle.model.specs.ClassFiles.Methods.{wants_code, units_fit}
-use Rattle.model.specs.ClassFiles.References.{names_class, is_array, is_field, is_method, is_member, fits_units}
+use Rattle.model.specs.ClassFiles.References.{names_class, is_field, is_method, is_member, fits_units}
 use Rattle.model.specs.Table.Next.{Listed}
-use Rattle.model.specs.Texts.Descriptors.{is_field_descriptor, arguments_of}
+use Rattle.model.specs.Texts.Descriptors.{is_field_descriptor, is_array_descriptor, arguments_of}
 use Rattle.model.specs.Texts.Flags.{has}
 use Rattle.model.specs.Texts.Names.{is_class_name, is_field_name, is_method_name}
 use Rattle.model.specs.Texts.Spelled.{is_int, is_long, constant_is_spelled, array_is_spelled, class_is_spelled, field_is_named, method_is_named, count_is_spelled, operands_are_spelled, instruction_is_spelled, catch_is_spelled, row_is_spelled, code_is_spelled, body_is_spelled, method_is_spelled, value_is_spelled, field_is_spelled, is_spelled}
@@ -32,9 +32,10 @@ use Rattle.model.specs.declared.listings.Field.{Field}
 use Rattle.model.specs.declared.listings.Method.{Method}
 use Rattle.model.specs.declared.listings.Placed.{Placed}
 use Rattle.model.specs.declared.names.Member.{Member}
+use Rattle.model.proofs.PlainNames.{class_word_plain, field_name_plain, method_name_plain, field_descriptor_plain, called_descriptor_plain, own_descriptor_plain}
 use Rattle.assembler.specs.Numbering.{is_well_formed}
 use Rattle.assembler.proofs.NumberingItems.{same_is, among_first, with_items_only}
-use Rattle.assembler.proofs.NumberingTexts.{class_written, field_name_written, method_name_written, field_descriptor_written, called_descriptor_written, own_descriptor_written}
+use Rattle.assembler.proofs.NumberingTexts.{written}
 
 -- ---- lists of well formed items
 
@@ -73,10 +74,10 @@ pool_is_good xs good =
 -- ---- classes and members
 
 class_good : (name : List ℕ) → names_class name ≡ true → Good (class_items name)
-class_good name h = more_good (text_item name) (class_item name ∷ []) (class_written name h) (one_good (class_item name) h)
+class_good name h = more_good (text_item name) (class_item name ∷ []) (written name (class_word_plain name h)) (one_good (class_item name) h)
 
 plain_class_good : (name : List ℕ) → is_class_name name ≡ true → Good (class_items name)
-plain_class_good name h = class_good name (or_left (is_class_name name) (is_array name) h)
+plain_class_good name h = class_good name (or_left (is_class_name name) (is_array_descriptor name) h)
 
 member_good : (x : Item) (m : Member) → is_class_name m.class ≡ true → is_well_formed (text_item m.name) ≡ true → is_well_formed (text_item m.descriptor) ≡ true → is_member m.name m.descriptor ≡ true → is_well_formed x ≡ true → Good (member_items x m)
 member_good x m owner name descriptor pair own =
@@ -88,13 +89,13 @@ named_field_good : (m : Member) → field_is_named m ≡ true → Good (member_i
 named_field_good m h =
     let p = and_parts (is_class_name m.class) (is_field m.name m.descriptor) h in
     let q = and_parts (is_field_name m.name) (is_field_descriptor m.descriptor) p.1 in
-    member_good (field_item m) m p.0 (field_name_written m.name q.0) (field_descriptor_written m.descriptor q.1) (or_left (is_field m.name m.descriptor) (is_method m.name m.descriptor) p.1) p.1
+    member_good (field_item m) m p.0 (written m.name (field_name_plain m.name q.0)) (written m.descriptor (field_descriptor_plain m.descriptor q.1)) (or_left (is_field m.name m.descriptor) (is_method m.name m.descriptor) p.1) p.1
 
 named_method_good : (x : Item) (m : Member) → method_is_named m ≡ true → (is_method m.name m.descriptor ≡ true → is_well_formed x ≡ true) → Good (member_items x m)
 named_method_good x m h own =
     let p = and_parts (is_class_name m.class) (is_method m.name m.descriptor) h in
     let q = and_parts (is_method_name m.name) (fits_units (arguments_of m.descriptor)) p.1 in
-    member_good x m p.0 (method_name_written m.name q.0) (called_descriptor_written m.descriptor q.1) (or_right (is_field m.name m.descriptor) (is_method m.name m.descriptor) p.1) (own p.1)
+    member_good x m p.0 (written m.name (method_name_plain m.name q.0)) (written m.descriptor (called_descriptor_plain m.descriptor q.1)) (or_right (is_field m.name m.descriptor) (is_method m.name m.descriptor) p.1) (own p.1)
 
 -- ---- instructions
 
@@ -175,8 +176,8 @@ method_good class m h =
     let p = and_parts _ (body_is_spelled (wants_code m.flags.0) m.code) h in
     let q = and_parts _ (units_fit (has m.flags.0 0x0008) (arguments_of m.descriptor)) p.0 in
     let r = and_parts _ (is_method_name m.name) q.0 in
-    more_good (text_item m.name) (text_item m.descriptor ∷ code_items m.code) (method_name_written m.name r.1)
-    (more_good (text_item m.descriptor) (code_items m.code) (own_descriptor_written m.descriptor (has m.flags.0 0x0008) q.1) (body_good (wants_code m.flags.0) m.code p.1))
+    more_good (text_item m.name) (text_item m.descriptor ∷ code_items m.code) (written m.name (method_name_plain m.name r.1))
+    (more_good (text_item m.descriptor) (code_items m.code) (written m.descriptor (own_descriptor_plain (has m.flags.0 0x0008) m.descriptor q.1)) (body_good (wants_code m.flags.0) m.code p.1))
 
 value_good : (static : Bool) (descriptor : List ℕ) (value : Option Constant) → value_is_spelled static descriptor value ≡ true → Good (value_items value)
 value_good static descriptor None h = refl
@@ -188,8 +189,8 @@ field_good class f h =
     let p = and_parts _ (value_is_spelled (has f.flags.0 0x0008) f.descriptor f.constant) h in
     let q = and_parts _ (is_field_descriptor f.descriptor) p.0 in
     let r = and_parts _ (is_field_name f.name) q.0 in
-    more_good (text_item f.name) (text_item f.descriptor ∷ value_items f.constant) (field_name_written f.name r.1)
-    (more_good (text_item f.descriptor) (value_items f.constant) (field_descriptor_written f.descriptor q.1) (value_good (has f.flags.0 0x0008) f.descriptor f.constant p.1))
+    more_good (text_item f.name) (text_item f.descriptor ∷ value_items f.constant) (written f.name (field_name_plain f.name r.1))
+    (more_good (text_item f.descriptor) (value_items f.constant) (written f.descriptor (field_descriptor_plain f.descriptor q.1)) (value_good (has f.flags.0 0x0008) f.descriptor f.constant p.1))
 
 -- ---- a class
 

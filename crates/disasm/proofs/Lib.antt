@@ -1,6 +1,6 @@
 mod Back
 mod MarkLemmas
-pub mod NameWords
+pub mod NumberWords
 pub mod PlainWords
 pub mod RoundTrip
 pub mod SpelledWords

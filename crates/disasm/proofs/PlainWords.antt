@@ -6,18 +6,7 @@ use Rattle.std.proofs.lemmas.Bool.{and_parts, and_from, or_from, or_right, both_
 use Rattle.model.specs.Texts.Lines.{lines_of, line_byte, begins_with_newline}
 use Rattle.model.specs.Texts.Statements.{Statement, is_text_byte, statement_of, statement_before, statements_of}
 use Rattle.model.specs.Texts.Words.{is_blank, ends_word, word_byte, runs_of, before_comment, words_of}
-
--- a character that prints and is no space
-abbrev pub is_ink : ℕ → Bool
-is_ink b = nat_le 33 b && nat_le b 126
-
--- a word of such characters that begins no comment
-abbrev pub is_plain : List ℕ → Bool
-is_plain [] = false
-is_plain (b ∷ bs) = not (b == 59) && (is_ink b && list_all is_ink bs)
-
-abbrev pub IsPlain : List ℕ → Type 0
-IsPlain w = is_plain w ≡ true
+use Rattle.model.proofs.PlainNames.{is_ink, IsPlain, inks_of}
 
 -- a statement that a line can spell: plain words, one at least
 abbrev pub IsSaid : List (List ℕ) → Type 0
@@ -79,10 +68,6 @@ begins b bs plain =
     let p = and_parts (not (b == 59)) (is_ink b && list_all is_ink bs) plain in
     let q = and_parts (is_ink b) (list_all is_ink bs) p.1 in
     record { no_comment = not-true (b == 59) p.0; first = q.0; others = q.1 }
-
-pub inks_of : (w : List ℕ) → IsPlain w → list_all is_ink w ≡ true
-inks_of [] plain = refl
-inks_of (b ∷ bs) plain = let p = begins b bs plain in and_from (is_ink b) (list_all is_ink bs) p.first p.others
 
 first_run : (w rest : List ℕ) (ws : List (List ℕ)) → IsPlain w → ends_word rest ≡ true → runs_of rest ≡ ws → runs_of (w ++ rest) ≡ w ∷ ws
 first_run [] rest ws plain ends others = absurd (false≢true plain)

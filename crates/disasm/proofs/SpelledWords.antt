@@ -72,8 +72,9 @@ use Rattle.model.specs.Texts.Names.{is_class_name, is_field_name, is_method_name
 use Rattle.model.specs.Texts.Spelled as spelled
 use Rattle.model.specs.Texts.Widths.{different}
 use Rattle.disasm.specs.Statements as said
-use Rattle.disasm.proofs.NameWords.{plain_append, class_name_plain, field_name_plain, method_name_plain, field_descriptor_plain, class_word_plain, called_descriptor_plain, own_descriptor_plain, decimal_plain, signed_plain, label_plain}
-use Rattle.disasm.proofs.PlainWords.{is_ink, is_plain, IsPlain, IsSaid, inks_of}
+use Rattle.disasm.proofs.NumberWords.{decimal_plain, signed_plain, label_plain}
+use Rattle.disasm.proofs.PlainWords.{IsSaid}
+use Rattle.model.proofs.PlainNames.{is_ink, is_plain, IsPlain, inks_of, plain_append, class_name_plain, field_name_plain, method_name_plain, field_descriptor_plain, class_word_plain, called_descriptor_plain, own_descriptor_plain}
 
 -- each of a list of words is plain, and each of a list of statements is said
 abbrev ArePlain : List (List ℕ) → Type 0
@@ -275,19 +276,19 @@ field_operand_said : (name kind : List ℕ) (m : Member) → IsPlain (name ++ ki
 field_operand_said name kind m plain h =
     let p = and_parts (is_class_name m.class) (is_field m.name m.descriptor) h in
     let q = and_parts (is_field_name m.name) (is_field_descriptor m.descriptor) p.1 in
-    (plain, (path_plain m.class m.name (class_name_plain m.class p.0) (field_name_plain m.name q.0), (field_descriptor_plain m.descriptor q.1, tt)))
+    (plain, (path_plain m.class m.name (class_name_plain m.class p.0).plain (field_name_plain m.name q.0).plain, ((field_descriptor_plain m.descriptor q.1).plain, tt)))
 
 array_said : (a : ArrayOperation (List ℕ)) → spelled.array_is_spelled a ≡ true → IsSaid (said.array_words a)
 array_said (array.New p) h = (refl, (primitive_plain p, tt))
-array_said (array.NewOf c) h = (refl, (class_word_plain c h, tt))
+array_said (array.NewOf c) h = (refl, ((class_word_plain c h).plain, tt))
 array_said array.Length h = (refl, tt)
 array_said (array.Load k) h = (plain_append (text.element_letter k) (codes "aload") (element_plain k) refl, tt)
 array_said (array.Store k) h = (plain_append (text.element_letter k) (codes "astore") (element_plain k) refl, tt)
 
 operand_plain : (o : ClassOperation) (c : List ℕ) → spelled.class_is_spelled o c ≡ true → IsPlain c
-operand_plain class.New c h = class_name_plain c h
-operand_plain class.CheckCast c h = class_word_plain c h
-operand_plain class.InstanceOf c h = class_word_plain c h
+operand_plain class.New c h = (class_name_plain c h).plain
+operand_plain class.CheckCast c h = (class_word_plain c h).plain
+operand_plain class.InstanceOf c h = (class_word_plain c h).plain
 
 count_plain : (i : Invocation) → ArePlain (said.count_words i)
 count_plain invocation.Virtual = tt
@@ -299,8 +300,8 @@ method_plain : (m : Member) → spelled.method_is_named m ≡ true → IsPlain (
 method_plain m h =
     let p = and_parts (is_class_name m.class) (is_method m.name m.descriptor) h in
     let q = and_parts (is_method_name m.name) (fits_units (arguments_of m.descriptor)) p.1 in
-    path_plain m.class (m.name ++ m.descriptor) (class_name_plain m.class p.0)
-    (plain_append m.name m.descriptor (method_name_plain m.name q.0) (inks_of m.descriptor (called_descriptor_plain m.descriptor q.1)))
+    path_plain m.class (m.name ++ m.descriptor) (class_name_plain m.class p.0).plain
+    (plain_append m.name m.descriptor (method_name_plain m.name q.0).plain (inks_of m.descriptor (called_descriptor_plain m.descriptor q.1).plain))
 
 instruction_said : (i : Listed) → spelled.operands_are_spelled i ≡ true → AreSaid (said.instruction_statements i)
 instruction_said Nop h = ((refl, tt), tt)
@@ -340,7 +341,7 @@ instructions_said among pcs end (p ∷ ps) h =
 
 catch_plain : (c : Option (List ℕ)) → spelled.catch_is_spelled c ≡ true → IsPlain (text.catch_name c)
 catch_plain None h = refl
-catch_plain (Some name) h = class_name_plain name (and_parts (is_class_name name) (not (bytes_eq name (codes "all"))) h).0
+catch_plain (Some name) h = (class_name_plain name (and_parts (is_class_name name) (not (bytes_eq name (codes "all"))) h).0).plain
 
 row_said : (among : List Placed) (r : ExceptionRow) → spelled.row_is_spelled among r ≡ true → IsSaid (said.row_words r)
 row_said among r h =
@@ -387,7 +388,7 @@ field_said class f h =
     let r = and_parts flags (is_field_name f.name) q.0 in (
       refl,
       all_append IsPlain (said.flags_words field_flags f.flags.0) (f.name ∷ f.descriptor ∷ said.value_words f.constant) (flags_plain f.flags.0 field_flags refl)
-          (field_name_plain f.name r.1, (field_descriptor_plain f.descriptor q.1, value_plain f.constant)),
+          ((field_name_plain f.name r.1).plain, ((field_descriptor_plain f.descriptor q.1).plain, value_plain f.constant)),
     )
 
 body_said : (wanted : Bool) (c : Option CodeListing) → spelled.body_is_spelled wanted c ≡ true → AreSaid (said.body_statements c)
@@ -401,7 +402,7 @@ method_said class m h =
     let p = and_parts ((flags && is_method_name m.name) && fit) (spelled.body_is_spelled (wants_code m.flags.0) m.code) h in
     let q = and_parts (flags && is_method_name m.name) fit p.0 in
     let r = and_parts flags (is_method_name m.name) q.0 in
-    let word = plain_append m.name m.descriptor (method_name_plain m.name r.1) (inks_of m.descriptor (own_descriptor_plain (has m.flags.0 0x0008) m.descriptor q.1)) in (
+    let word = plain_append m.name m.descriptor (method_name_plain m.name r.1).plain (inks_of m.descriptor (own_descriptor_plain (has m.flags.0 0x0008) m.descriptor q.1).plain) in (
       (refl, all_append IsPlain (said.flags_words method_flags m.flags.0) ((m.name ++ m.descriptor) ∷ []) (flags_plain m.flags.0 method_flags refl) (word, tt)),
       all_append IsSaid (said.body_statements m.code) (said.end_words ∷ []) (body_said (wants_code m.flags.0) m.code p.1) ((refl, (refl, tt)), tt),
     )
@@ -421,11 +422,11 @@ class_statements_said l h =
     let d = and_parts ((head && is_class_name l.name) && is_class_name l.superclass) interfaces c.0 in
     let e = and_parts (head && is_class_name l.name) (is_class_name l.superclass) d.0 in
     let f = and_parts head (is_class_name l.name) e.0 in (
-      class_said (has flags 0x0200) flags l.name (class_name_plain l.name f.1),
+      class_said (has flags 0x0200) flags l.name (class_name_plain l.name f.1).plain,
       (
-        (refl, (class_name_plain l.superclass e.1, tt)),
+        (refl, ((class_name_plain l.superclass e.1).plain, tt)),
         all_append IsSaid (map said.interface_words l.interfaces) (map said.field_words l.fields ++ flat_map said.method_statements l.methods)
-            (all_mapped_if IsSaid said.interface_words is_class_name (λ name plain. (refl, (class_name_plain name plain, tt))) l.interfaces d.1)
+            (all_mapped_if IsSaid said.interface_words is_class_name (λ name plain. (refl, ((class_name_plain name plain).plain, tt))) l.interfaces d.1)
             (all_append IsSaid (map said.field_words l.fields) (flat_map said.method_statements l.methods) (all_mapped_if IsSaid said.field_words (spelled.field_is_spelled flags) (field_said flags) l.fields c.1)
             (all_parts_if IsSaid said.method_statements (spelled.method_is_spelled flags) (method_said flags) l.methods b.1)),
       ),

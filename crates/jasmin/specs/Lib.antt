@@ -1,4 +1,3 @@
 pub mod Bodies
-pub mod Rows
 pub mod Statements
 pub mod Switches

@@ -14,7 +14,7 @@ use crate::errors::Fault;
 use crate::heads::method_head;
 use crate::instructions::{instruction_by, wide_instruction};
 use crate::mnemonics::mnemonic;
-use crate::names::is_part;
+use model::good_names::is_part;
 use crate::numbers::natural;
 use crate::operands::only;
 use crate::switches::{OpenSwitch, SwitchLine, lookup_begins, switch_line, table_begins};

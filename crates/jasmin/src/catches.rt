@@ -7,7 +7,7 @@ ghost use Rattle.model.specs.Texts.Names.{is_part};
 
 use crate::errors::Fault;
 use crate::instructions::class_named;
-use crate::names::is_part;
+use model::good_names::is_part;
 use jasmin_words::words::Words;
 use model::names::Name;
 use model::trees::CatchRow;

@@ -6,10 +6,10 @@ ghost use Rattle.model.specs.Texts.Flags.{field_flags_agree, has};
 ghost use Rattle.model.specs.Texts.Heads.{field_words, field_of, constant_of, value_of};
 ghost use Rattle.model.specs.Texts.Names.{is_field_name};
 
-use crate::descriptors::is_field_descriptor;
+use model::descriptors::is_field_descriptor;
 use crate::errors::Fault;
 use crate::flags::{field_flags_agree, with_flag};
-use crate::names::is_field_name;
+use model::good_names::is_field_name;
 use crate::operands::only_number;
 use bitflags::Flags;
 use jasmin_words::statements::Statement;

@@ -7,7 +7,7 @@ ghost use Rattle.model.specs.Texts.Names.{is_class_name, is_method_name};
 
 use crate::errors::Fault;
 use crate::flags::{class_flags_agree, flags_and_word, method_flags_agree};
-use crate::names::{is_class_name, is_method_name};
+use model::good_names::{is_class_name, is_method_name};
 use crate::operands::only;
 use crate::signatures::{Signature, cut_signature};
 use bitflags::Flags;

@@ -5,7 +5,6 @@
 
 mod bodies;
 mod catches;
-mod descriptors;
 mod errors;
 mod fields;
 mod flags;
@@ -15,7 +14,6 @@ mod labels;
 mod laws;
 mod locals;
 mod mnemonics;
-mod names;
 mod numbers;
 mod operands;
 mod reader;

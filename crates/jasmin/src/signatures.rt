@@ -5,8 +5,8 @@ ghost use Rattle.model.specs.Texts.Descriptors.{arguments_of, is_field_descripto
 ghost use Rattle.model.specs.Texts.Names.{is_class_name, is_field_name, is_method_name};
 ghost use Rattle.model.specs.Texts.Operands.{before_parenthesis, from_parenthesis, class_in, name_in, method_named, field_named};
 
-use crate::descriptors::{argument_units, is_field_descriptor};
-use crate::names::{is_class_name, is_field_name, is_method_name};
+use model::descriptors::{arguments_of, is_field_descriptor};
+use model::good_names::{is_class_name, is_field_name, is_method_name};
 
 /// A word cut at its first parenthesis, and the units of the arguments.
 #[derive(Clone, Copy)]
@@ -23,7 +23,7 @@ pub fn cut_signature(word: &[u8]) -> Option<Signature<'_>>
 {
     let place = opening_in(word)?;
     let (path, descriptor) = (&word[..place], &word[place..]);
-    let units = argument_units(descriptor)?;
+    let units = arguments_of(descriptor)?;
     Some(Signature {
         path,
         descriptor,

@@ -1,4 +1,3 @@
-pub mod ArgumentLemmas
 pub mod BuiltinLemmas
 pub mod IndexLemmas
 pub mod LimitLemmas

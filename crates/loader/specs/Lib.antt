@@ -1,4 +1,3 @@
-pub mod Arguments
 pub mod Builtins
 pub mod Errors
 pub mod Indexed

@@ -5,7 +5,6 @@
 #![tactic(auto)]
 
 pub mod acceptance;
-mod arguments;
 mod builtins;
 mod classes;
 pub mod errors;

@@ -5,9 +5,9 @@ ghost use Rattle.std.specs.List.{find, list_any};
 ghost use Rattle.model.specs.declared.listings.Method.{Method as MethodListing};
 ghost use Rattle.model.specs.Accepted.LimitsOfClasses.{own_fields, fields_within, has_too_many_fields, passes_limits, is_too_large, first_past_limits};
 
-use crate::arguments::argument_units;
 use crate::index::Index;
 use bitflags::Flags;
+use model::descriptors::argument_units;
 use model::flags::{FieldFlags, MethodFlags};
 use model::listings::{Listing, Method};
 

@@ -1,5 +1,4 @@
 pub mod BuilderLemmas
-pub mod DescriptorLemmas
 pub mod EntryLemmas
 pub mod EqualEntries
 pub mod FieldLemmas

@@ -4,4 +4,3 @@ pub mod Making
 pub mod Numbering
 pub mod Reading
 pub mod Slots
-pub mod Spots

@@ -9,10 +9,10 @@ ghost use Rattle.model.specs.Texts.Descriptors as descriptors;
 ghost use Rattle.model.specs.Texts.Names as names;
 ghost use Rattle.pool.specs.Kinds as definition;
 
-use crate::descriptors::{argument_units, is_field_descriptor};
-use crate::names::{is_class_name, is_field_name, is_method_name};
 use crate::pools::Pool;
 use model::class_files::Entry;
+use model::descriptors::{arguments_of, is_array_descriptor, is_field_descriptor};
+use model::good_names::{is_class_name, is_field_name, is_method_name};
 use std::alloc::{AllocError, Global};
 
 /// What a text is good for.
@@ -29,17 +29,7 @@ pub(crate) struct TextKind {
     /// it is a field's descriptor
     pub field_descriptor: bool,
     /// the units that its arguments take, if it is a method's descriptor
-    pub units: Option<u32>,
-}
-
-/// Whether a text is an array's descriptor.
-fn is_array(text: &[u8]) -> bool
-    ensures { result ≡ references.is_array text.now }
-{
-    match text {
-        [b'[', ..] => is_field_descriptor(text),
-        _ => false,
-    }
+    pub units: Option<usize>,
 }
 
 fn kind_of(text: &[u8]) -> TextKind
@@ -47,11 +37,11 @@ fn kind_of(text: &[u8]) -> TextKind
 {
     TextKind {
         class_name: is_class_name(text),
-        array: is_array(text),
+        array: is_array_descriptor(text),
         field_name: is_field_name(text),
         method_name: is_method_name(text),
         field_descriptor: is_field_descriptor(text),
-        units: argument_units(text),
+        units: arguments_of(text),
     }
 }
 
@@ -131,7 +121,7 @@ impl Pool {
     }
 
     /// The units that the arguments of the text take, if it is a method's descriptor.
-    pub fn argument_units(&self, number: u16) -> Option<u32>
+    pub fn argument_units(&self, number: u16) -> Option<usize>
         ensures { result ≡ option_and_then descriptors.arguments_of (text_at self.now number) }
     {
         self.kind(number)?.units

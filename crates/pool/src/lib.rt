@@ -2,12 +2,10 @@
 #![tactic(auto)]
 
 mod builder;
-pub mod descriptors;
 mod entries;
 mod error;
 pub mod fields;
 mod kinds;
-pub mod names;
 mod naming;
 mod pools;
 mod references;

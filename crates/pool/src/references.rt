@@ -18,7 +18,7 @@ pub enum MemberKind {
 }
 
 /// Whether the units of a method's arguments, if its descriptor is one, are 255 at most.
-fn fits_units(units: Option<u32>) -> bool
+fn fits_units(units: Option<usize>) -> bool
     ensures { result ≡ references.fits_units units }
 {
     match units {

@@ -1,6 +1,4 @@
 use super::*;
-use crate::descriptors::{argument_units, is_field_descriptor};
-use crate::names::{is_class_name, is_field_name, is_method_name};
 use model::class_files::{Entry, FormatFault};
 use model::listings::Constant;
 use model::names::Name;
@@ -84,25 +82,6 @@ fn a_member_of_the_other_kind(rt: HostRuntime) {
     assert_eq!(rt; fault(&rt, &bytes), None);
     bytes[26] = 5;
     assert_eq!(rt; fault(&rt, &bytes), Some(FormatFault::Index));
-}
-
-#[test]
-fn names_and_descriptors(rt: HostRuntime) {
-    assert!(rt; is_class_name(b"java/lang/Object"));
-    assert!(rt; !is_class_name(b"java//Object"));
-    assert!(rt; !is_class_name(b"java/"));
-    assert!(rt; is_field_name(b"$a_1"));
-    assert!(rt; !is_field_name(b"1a"));
-    assert!(rt; !is_field_name(b"<init>"));
-    assert!(rt; is_method_name(b"<clinit>"));
-    assert!(rt; !is_method_name(b"<main>"));
-    assert!(rt; is_field_descriptor(b"[[La/B;"));
-    assert!(rt; !is_field_descriptor(b"Z"));
-    assert!(rt; !is_field_descriptor(b"II"));
-    assert_eq!(rt; argument_units(b"(IJ[JLA;)V"), Some(5));
-    assert_eq!(rt; argument_units(b"()I"), Some(0));
-    assert_eq!(rt; argument_units(b"(V)I"), None);
-    assert_eq!(rt; argument_units(b"(I"), None);
 }
 
 fn utf8(alloc: Global, text: &str) -> Result<Entry, AllocError> {

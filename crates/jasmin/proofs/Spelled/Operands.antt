@@ -1,7 +1,7 @@
 -- Numbers and names have the ranges and forms that a listing asks for.
 use Rattle.std.proofs.Common.{◌≡◌, ℕ, ℤ, true, ◌&&◌, ◌||◌, List, [], ◌∷◌, refl, subst, sym, Some, None, Option}
 use Rattle.std.specs.Prelude.{IfSome, if◌then◌else◌, nat_le, int_le}
-use Rattle.model.specs.ClassFiles.References.{names_class, is_array, fits_units}
+use Rattle.model.specs.ClassFiles.References.{names_class, fits_units}
 use Rattle.model.specs.Texts.Descriptors.{arguments_of, is_field_descriptor, is_array_descriptor}
 use Rattle.model.specs.Texts.Names.{is_class_name, is_field_name, is_method_name}
 use Rattle.model.specs.Texts.Numbers.{number_in, number_of, natural_to, natural_of}
@@ -30,14 +30,8 @@ only_natural_fits high words = of_any (λ n. nat_le n high ≡ true) (natural_to
 pub class_fits : (word : List ℕ) → IfSome (class_named word) (λ c. is_class_name c ≡ true)
 class_fits word = of_if (λ c. is_class_name c ≡ true) (is_class_name word) word (λ h. h)
 
-same_array : (word : List ℕ) → is_array_descriptor word ≡ is_array word
-same_array [] = refl
-same_array (b ∷ bs) = refl
-
 pub type_fits : (word : List ℕ) → IfSome (type_named word) (λ c. names_class c ≡ true)
-type_fits word =
-    of_if (λ c. names_class c ≡ true) (is_class_name word || is_array_descriptor word) word
-    (λ h. subst (λ a. (is_class_name word || a) ≡ true) (same_array word) h)
+type_fits word = of_if (λ c. names_class c ≡ true) (is_class_name word || is_array_descriptor word) word (λ h. h)
 
 field_spelled_fits : (class name descriptor : List ℕ) → IfSome (field_spelled class name descriptor) (λ m. field_is_named m ≡ true)
 field_spelled_fits class name descriptor =

@@ -2,7 +2,7 @@
 use Rattle.std.specs.Prelude.{◌≡◌, ℕ, Bool, false, ◌&&◌, ◌||◌, ◌==◌, nat_le, List, [], ◌∷◌, Option, Some, None, if◌then◌else◌}
 use Rattle.std.specs.List.{AllByRecursion}
 use Rattle.model.specs.Texts.Names.{is_class_name, is_field_name, is_method_name}
-use Rattle.model.specs.Texts.Descriptors.{is_field_descriptor, arguments_of}
+use Rattle.model.specs.Texts.Descriptors.{is_field_descriptor, is_array_descriptor, arguments_of}
 use Rattle.model.specs.ClassFiles.Pools.{entry_at}
 use Rattle.model.specs.declared.class_files.FormatFault.{FormatFault}
 use Rattle.model.specs.declared.class_files.FormatFault.TheVariants.{Index, Name}
@@ -49,12 +49,8 @@ abbrev pub text_at : List Entry → ℕ → Option (List ℕ)
 text_at pool n = text_of (entry_at pool n)
 
 -- a class entry names a class or, by a descriptor, an array (JVMS 4.4.1)
-abbrev pub is_array : List ℕ → Bool
-is_array [] = false
-is_array (b ∷ bs) = b == 91 && is_field_descriptor (b ∷ bs)
-
 abbrev pub names_class : List ℕ → Bool
-names_class text = is_class_name text || is_array text
+names_class text = is_class_name text || is_array_descriptor text
 
 abbrev pub fits_units : Option ℕ → Bool
 fits_units None = false

@@ -1,6 +1,6 @@
 use Rattle.std.proofs.Common.{◌≡◌, drop, false}
 use Rattle.model.specs.Texts.Names.{are_parts}
-use Rattle.jasmin.proofs.names.are_parts.Given as goal
+use Rattle.model.proofs.good_names.are_parts.Given as goal
 
 -- the parts so far, and those that follow
 abbrev pub invariant-loop-b : goal.invariant-loop-b
