@@ -5,19 +5,14 @@
 #![tactic(auto)]
 
 pub mod acceptance;
-mod builtins;
-mod classes;
 pub mod errors;
 mod exception_rows;
-mod index;
 mod limits;
 mod members;
 pub mod programs;
-mod reached;
 mod rules;
 mod served;
 mod step_lists;
-mod subclasses;
 mod superclasses;
 #[cfg(test)]
 mod tests;

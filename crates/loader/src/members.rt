@@ -4,13 +4,13 @@ ghost use Rattle.std.specs.List.{list_any};
 ghost use Rattle.model.specs.Accepted.MembersTwice.{is_same_field, is_same_method, has_field_twice, has_method_twice, has_member_twice};
 ghost use Rattle.model.specs.Accepted.RefusedMembers.{is_wrong_initializer, is_run, is_refused, has_refused_member};
 
-use crate::index::Index;
 use crate::programs::is_class_initializer;
 use crate::served::serves;
-use crate::subclasses::is_subclass;
 use bitflags::Flags;
 use model::flags::MethodFlags;
 use model::listings::{Field, Listing, Method};
+use resolve::index::Index;
+use resolve::subclasses::is_subclass;
 use std::alloc::{AllocError, Global};
 
 fn count_field(fields: &[Field], field: &Field) -> usize

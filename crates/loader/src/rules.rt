@@ -4,7 +4,7 @@ ghost use Rattle.std.specs.Option.{option_copied};
 ghost use Rattle.std.specs.List.{find, list_any};
 ghost use Rattle.model.specs.Programs.{is_main};
 ghost use Rattle.model.specs.Accepted.BuiltinNames.{has_builtin_name};
-ghost use Rattle.model.specs.Accepted.Superclasses.{is_class_twice, has_missing_parent, has_wrong_parent};
+ghost use Rattle.model.specs.Accepted.Superclasses.{is_class_twice, has_wrong_parent};
 ghost use Rattle.model.specs.Accepted.Cycles.{is_on_cycle};
 ghost use Rattle.model.specs.Accepted.MembersTwice.{has_member_twice};
 ghost use Rattle.model.specs.Accepted.RefusedMembers.{has_refused_member};
@@ -12,15 +12,16 @@ ghost use Rattle.model.specs.Accepted.ExceptionRows.{has_bad_row};
 ghost use Rattle.model.specs.Accepted.Refusals.{refused_by, refused_main, refusal_of};
 ghost use Rattle.loader.specs.Told.{refusal_in};
 
-use crate::classes::is_builtin;
 use crate::exception_rows::has_bad_row;
-use crate::index::Index;
 use crate::limits::first_past_limits;
 use crate::members::{has_member_twice, has_refused_member};
 use crate::programs::is_main;
-use crate::superclasses::{has_missing_parent, has_wrong_parent, is_class_twice, is_on_cycle};
+use crate::superclasses::{has_wrong_parent, is_class_twice};
 use model::listings::{Listing, Method};
 use model::refusals::LoadRule;
+use resolve::builtins::is_builtin;
+use resolve::index::Index;
+use resolve::parents::{first_on_cycle, first_with_missing_parent};
 use std::alloc::{AllocError, Global};
 
 /// A rule that is broken, and the first class in order that breaks it. Only the rule on main can be broken by none.
@@ -47,30 +48,6 @@ fn first_twice(program: &[Listing]) -> Option<&Listing>
     ensures { option_copied result ≡ find (is_class_twice program.now) program.now }
 {
     program.iter().find(|class| is_class_twice(program, class))
-}
-
-fn first_with_missing_parent<'a>(index: &Index<'_>, program: &'a [Listing]) -> Option<&'a Listing>
-    ensures { option_copied result ≡ find (has_missing_parent index.now) program.now }
-{
-    program
-        .iter()
-        .find(|class| has_missing_parent(index, class))
-}
-
-/// The first class on a cycle. `AllocError` where memory runs out, here and below.
-fn first_on_cycle<'a>(
-    alloc: Global,
-    index: &Index<'a>,
-    program: &'a [Listing],
-) -> Result<Option<&'a Listing>, AllocError>
-    ensures { IfOk result (λ found. option_copied found ≡ find (is_on_cycle index.now) program.now) }
-{
-    for class in program {
-        if is_on_cycle(alloc, index, class)? {
-            return Ok(Some(class));
-        }
-    }
-    Ok(None)
 }
 
 fn first_with_wrong_parent<'a>(index: &Index<'_>, program: &'a [Listing]) -> Option<&'a Listing>

@@ -1,18 +1,15 @@
 //! What is asked of the superclass and the superinterfaces of a class.
-ghost use Rattle.std.specs.Prelude.{◌≡◌, is_none, IfOk};
+ghost use Rattle.std.specs.Prelude.{◌≡◌};
 ghost use Rattle.std.specs.List.{list_any};
 ghost use Rattle.model.specs.Classes.Named.{class_named};
-ghost use Rattle.model.specs.Accepted.Superclasses.{is_class_twice, has_missing_parent, has_wrong_parent, is_no_superclass, is_no_superinterface};
-ghost use Rattle.model.specs.Accepted.Cycles.{is_on_cycle};
+ghost use Rattle.model.specs.Accepted.Superclasses.{is_class_twice, has_wrong_parent, is_no_superclass, is_no_superinterface};
 
-use crate::classes::{is_builtin, is_there};
-use crate::index::Index;
-use crate::reached::Reached;
 use bitflags::Flags;
 use model::flags::ClassFlags;
 use model::listings::Listing;
 use model::names::Name;
-use std::alloc::{AllocError, Global};
+use resolve::builtins::is_builtin;
+use resolve::index::Index;
 
 /// Whether two classes of the program have this class's name.
 #[tactic(auto, unfolding(model::specs::Accepted::Superclasses::is_class_twice))]
@@ -25,35 +22,6 @@ pub fn is_class_twice(program: &[Listing], class: &Listing) -> bool
         .filter(|other| other.name.as_bytes() == name)
         .count()
         > 1
-}
-
-fn is_one_missing(index: &Index<'_>, names: &[Name]) -> bool
-    ensures { result ≡ list_any (λ name. is_none (class_named index.now name)) names.now }
-{
-    names.iter().any(|name| !is_there(index, name.as_bytes()))
-}
-
-/// Whether a superclass or superinterface of the class isn't there.
-#[tactic(auto, unfolding(model::specs::Accepted::Superclasses::has_missing_parent))]
-pub fn has_missing_parent(index: &Index<'_>, class: &Listing) -> bool
-    ensures { result ≡ has_missing_parent index.now class.now }
-{
-    !is_there(index, class.superclass.as_bytes()) || is_one_missing(index, &class.interfaces)
-}
-
-/// Whether a superclass or superinterface of the class is the class itself or below it. Each class above it is looked at
-/// once. `AllocError` where memory runs out.
-pub fn is_on_cycle<'a>(
-    alloc: Global,
-    index: &Index<'a>,
-    class: &'a Listing,
-) -> Result<bool, AllocError>
-    ensures { IfOk result (λ found. found ≡ is_on_cycle index.now class.now) }
-{
-    let mut reached = Reached::new(alloc);
-    reached.add_parents(class)?;
-    reached.close(index)?;
-    Ok(reached.has(class.name.as_bytes()))
 }
 
 /// Whether a class of this name is there that can't be extended.

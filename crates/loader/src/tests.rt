@@ -6,6 +6,7 @@ use model::flags::{ClassFlags, FieldFlags, MethodFlags};
 use model::instructions::{Instruction, Invocation};
 use model::listings::{Code, ExceptionRow, Field, Listed, Listing, Method, Placed};
 use model::names::{Member, Name};
+use resolve::index::Index;
 use std::alloc::{AllocError, Global};
 use std::test::Fail;
 
@@ -399,7 +400,7 @@ fn is_bad(alloc: Global, row: ExceptionRow) -> Result<bool, Fail> {
         .methods
         .push(method(alloc, "f", "()V", PUBLIC_STATIC, code)?)?;
     let classes = [class];
-    let index = index::Index::new(alloc, &classes)?;
+    let index = Index::new(alloc, &classes)?;
     Ok(exception_rows::has_bad_row(alloc, &index, &classes[0])?)
 }
 
