@@ -4,7 +4,6 @@ ghost use Rattle.std.specs.Prelude.{◌≡◌, ◌++◌, None, OnOk};
 ghost use Rattle.std.specs.Option.{option_copied};
 ghost use Rattle.model.specs.Texts.Flags.{has};
 ghost use Rattle.model.specs.ClassFiles.Fields as definition;
-ghost use Rattle.model.specs.Texts.Descriptors.{is_int_type};
 ghost use Rattle.model.specs.ClassFiles.Fields.{field_bytes};
 ghost use Rattle.pool.specs.Reading.Steps.{Gives};
 ghost use Rattle.classfile.specs.Reading.Attributes.{attribute_from, attributes_from};
@@ -13,6 +12,7 @@ ghost use Rattle.classfile.specs.Reading.Fields.{value_of, constant_from, consta
 use crate::attributes::{field_name_at, field_type_at, sized_at, text_at};
 use bitflags::Flags;
 use model::class_files::{ConstantValue, Entry, FieldEntry, FormatFault};
+use model::descriptors::{is_int_type, is_long_type};
 use model::flags::FieldFlags;
 use pool::fields::u16_at;
 use pool::{Pool, ReadError};
@@ -29,23 +29,13 @@ pub fn are_field_flags(class: u16, flags: u16) -> bool
     flags & 0xff20 == 0 && (class & INTERFACE == 0 || flags & 0x0019 == 0x0019)
 }
 
-/// Whether an int holds the values of this type.
-fn is_int_type(text: &[u8]) -> bool
-    ensures { result ≡ is_int_type text.now }
-{
-    text == b"B".as_slice()
-        || text == b"C".as_slice()
-        || text == b"S".as_slice()
-        || text == b"I".as_slice()
-}
-
 /// Whether an entry may be the value of a field of this type.
 pub fn is_value_of(text: &[u8], entry: Option<&Entry>) -> bool
     ensures { result ≡ definition.is_value_of text.now (option_copied entry.entry) }
 {
     match entry {
         Some(Entry::Integer(_)) => is_int_type(text),
-        Some(Entry::Long(_)) => text == b"J".as_slice(),
+        Some(Entry::Long(_)) => is_long_type(text),
         _ => false,
     }
 }

@@ -7,8 +7,8 @@ ghost use Rattle.model.specs.Texts.Names.{is_part};
 
 use crate::errors::Fault;
 use crate::instructions::class_named;
-use model::good_names::is_part;
 use jasmin_words::words::Words;
+use model::good_names::is_part;
 use model::names::Name;
 use model::trees::CatchRow;
 use std::alloc::Global;

@@ -6,15 +6,15 @@ ghost use Rattle.model.specs.Texts.Flags.{field_flags_agree, has};
 ghost use Rattle.model.specs.Texts.Heads.{field_words, field_of, constant_of, value_of};
 ghost use Rattle.model.specs.Texts.Names.{is_field_name};
 
-use model::descriptors::is_field_descriptor;
 use crate::errors::Fault;
 use crate::flags::{field_flags_agree, with_flag};
-use model::good_names::is_field_name;
 use crate::operands::only_number;
 use bitflags::Flags;
 use jasmin_words::statements::Statement;
 use jasmin_words::words::Words;
+use model::descriptors::{is_field_descriptor, is_int_type, is_long_type};
 use model::flags::{ClassFlags, FIELD_FLAGS, FieldFlags};
+use model::good_names::is_field_name;
 use model::listings::{Constant, Field};
 use model::names::Name;
 use std::alloc::Global;
@@ -112,19 +112,9 @@ fn value_of(flags: u16, descriptor: &[u8], number: Words<'_>) -> Result<Constant
         let n = only_number(number, -0x8000_0000, 0x7fff_ffff)?;
         return Ok(Constant::Int(n as i32));
     }
-    if is_static && descriptor == b"J".as_slice() {
+    if is_static && is_long_type(descriptor) {
         let n = only_number(number, i64::MIN, i64::MAX)?;
         return Ok(Constant::Long(n));
     }
     Err(Fault::Operand)
-}
-
-/// Whether a descriptor is that of a type that an int holds.
-fn is_int_type(descriptor: &[u8]) -> bool
-    ensures { result ≡ is_int_type descriptor.now }
-{
-    descriptor == b"B".as_slice()
-        || descriptor == b"C".as_slice()
-        || descriptor == b"S".as_slice()
-        || descriptor == b"I".as_slice()
 }

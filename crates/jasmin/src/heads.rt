@@ -7,12 +7,12 @@ ghost use Rattle.model.specs.Texts.Names.{is_class_name, is_method_name};
 
 use crate::errors::Fault;
 use crate::flags::{class_flags_agree, flags_and_word, method_flags_agree};
-use model::good_names::{is_class_name, is_method_name};
 use crate::operands::only;
 use crate::signatures::{Signature, cut_signature};
 use bitflags::Flags;
 use jasmin_words::statements::Statement;
 use model::flags::{CLASS_FLAGS, ClassFlags, INTERFACE_FLAGS, METHOD_FLAGS, MethodFlags};
+use model::good_names::{is_class_name, is_method_name};
 
 /// What a `.class` or an `.interface` says.
 #[derive(Clone, Copy)]

@@ -6,16 +6,16 @@ ghost use Rattle.model.specs.Texts.Numbers.{number_in};
 ghost use Rattle.model.specs.Texts.Operands.{only, both, method_named, class_named, type_named, label_named, primitives};
 ghost use Rattle.model.specs.Texts.Tables.{named};
 
-use model::descriptors::is_array_descriptor;
 use crate::errors::Fault;
 use crate::locals::local_by;
 use crate::mnemonics::mnemonic;
-use model::good_names::{is_class_name, is_part};
 use crate::numbers::integer;
 use crate::operands::{alone, both, only, only_number};
 use crate::signatures;
 use crate::tables::named;
 use jasmin_words::words::Words;
+use model::descriptors::is_array_descriptor;
+use model::good_names::{is_class_name, is_part};
 use model::instructions::{
     ArrayOperation, ClassOperation, Constant, Instruction, Invocation, Primitive, Width,
 };

@@ -16,6 +16,20 @@ pub fn is_field_descriptor(word: &[u8]) -> bool
     fits(word) && is_type(word)
 }
 
+/// Whether a word is the descriptor of a type that an int holds: `B`, `C`, `S` or `I` (JVMS 4.3.2).
+pub fn is_int_type(word: &[u8]) -> bool
+    ensures { result ≡ is_int_type word.now }
+{
+    matches!(word, [b'B' | b'C' | b'S' | b'I'])
+}
+
+/// Whether a word is the descriptor of the type long, `J` (JVMS 4.3.2).
+pub fn is_long_type(word: &[u8]) -> bool
+    ensures { result ≡ is_long_type word.now }
+{
+    matches!(word, [b'J'])
+}
+
 /// Whether a word is an array's descriptor, as a class entry may name one (JVMS 4.4.1).
 pub fn is_array_descriptor(word: &[u8]) -> bool
     ensures { result ≡ is_array_descriptor word.now }
@@ -185,8 +199,14 @@ fn is_type(word: &[u8]) -> bool
 fn is_element_type(word: &[u8]) -> bool
     ensures { result ≡ is_element_type word.now }
 {
+    is_int_type(word) || is_long_type(word) || is_class_type(word)
+}
+
+/// Whether a word is the type of a class: `L`, the parts of its name, and `;`.
+fn is_class_type(word: &[u8]) -> bool
+    ensures { result ≡ is_class_type word.now }
+{
     match word {
-        [b'B' | b'C' | b'S' | b'I' | b'J'] => true,
         [b'L', rest @ ..] => {
             let end = length_before(b';', rest);
             end + 1 == rest.len() && are_parts(&rest[..end])

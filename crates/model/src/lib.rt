@@ -1,8 +1,8 @@
 //! The vocabulary and the definitions of the machine: what every contract of the crates above speaks of.
 //!
 //! `src/` has the types that code and definitions share: names, access flags, values, instructions, listings, actors,
-//! turns, journals. `specs/` has the definitions: the instruction table, the ideal run, the heap's account, the text
-//! relation and the worked rows that compute.
+//! turns, journals; and the tests of names and descriptors, which all readers share. `specs/` has the definitions: the
+//! instruction table, the ideal run, the heap's account, the text relation and the worked rows that compute.
 #![tactic(auto)]
 
 pub mod builtins;

@@ -1,7 +1,7 @@
 //! Each call that takes memory succeeds where there is some; printed names.
 use crate::descriptors::{
     argument_units, arguments_of, descriptor_kind, is_array_descriptor, is_field_descriptor,
-    result_kind,
+    is_int_type, is_long_type, result_kind,
 };
 use crate::good_names::{is_class_name, is_field_name, is_method_name, is_part};
 use crate::journals::{HeapShape, Journal, Limits, Outcome, Row};
@@ -121,6 +121,8 @@ fn field_descriptors(rt: HostRuntime) {
         assert_eq!(rt; is_field_descriptor(word), kind.is_some());
         let told = kind.map(|_| descriptor_kind(word));
         assert_eq!(rt; told, kind);
+        assert_eq!(rt; is_int_type(word), kind == Some(Kind::Int));
+        assert_eq!(rt; is_long_type(word), text == "J");
         let array = kind.is_some() && text.starts_with('[');
         assert_eq!(rt; is_array_descriptor(word), array);
     }
