@@ -1,4 +1,6 @@
 pub mod Builtins
 pub mod Hierarchies
 pub mod Indexed
+pub mod Interfaces
 pub mod Reached
+pub mod Tables
