@@ -4,6 +4,7 @@ pub mod IndexLemmas
 pub mod LimitLemmas
 pub mod ParentLemmas
 pub mod ReachedLemmas
+pub mod RepeatLemmas
 pub mod ReferenceLemmas
 pub mod RunLemmas
 pub mod StepTables

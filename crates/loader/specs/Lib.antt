@@ -4,5 +4,6 @@ pub mod Errors
 pub mod Indexed
 pub mod Prepared
 pub mod Reached
+pub mod Repeats
 pub mod Steps
 pub mod Told

@@ -15,6 +15,7 @@ mod limits;
 mod members;
 pub mod programs;
 mod reached;
+mod repeats;
 mod rules;
 mod served;
 mod subclasses;

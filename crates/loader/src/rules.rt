@@ -10,7 +10,8 @@ ghost use Rattle.model.specs.Accepted.MembersTwice.{has_member_twice};
 ghost use Rattle.model.specs.Accepted.RefusedMembers.{has_refused_member};
 ghost use Rattle.model.specs.Accepted.ExceptionRows.{has_bad_row};
 ghost use Rattle.model.specs.Accepted.Refusals.{refused_by, refused_main, refusal_of};
-ghost use Rattle.loader.specs.Told.{refusal_in};
+ghost use Rattle.loader.specs.declared.rules.Stop.TheVariants.{Refused, Memory};
+ghost use Rattle.loader.specs.Told.{refusal_in, StopsAt};
 
 use crate::classes::is_builtin;
 use crate::exception_rows::has_bad_row;
@@ -18,7 +19,7 @@ use crate::index::Index;
 use crate::limits::first_past_limits;
 use crate::members::{has_member_twice, has_refused_member};
 use crate::programs::is_main;
-use crate::superclasses::{has_missing_parent, has_wrong_parent, is_class_twice, is_on_cycle};
+use crate::superclasses::{first_class_twice, has_missing_parent, has_wrong_parent, is_on_cycle};
 use model::listings::{Listing, Method};
 use model::refusals::LoadRule;
 use std::alloc::{AllocError, Global};
@@ -41,12 +42,6 @@ fn has_builtin_name(class: &Listing) -> bool
     ensures { result ≡ has_builtin_name class.now }
 {
     is_builtin(class.name.as_bytes())
-}
-
-fn first_twice(program: &[Listing]) -> Option<&Listing>
-    ensures { option_copied result ≡ find (is_class_twice program.now) program.now }
-{
-    program.iter().find(|class| is_class_twice(program, class))
 }
 
 fn first_with_missing_parent<'a>(index: &Index<'_>, program: &'a [Listing]) -> Option<&'a Listing>
@@ -79,10 +74,19 @@ fn first_with_wrong_parent<'a>(index: &Index<'_>, program: &'a [Listing]) -> Opt
     program.iter().find(|class| has_wrong_parent(index, class))
 }
 
-fn first_with_member_twice(program: &[Listing]) -> Option<&Listing>
-    ensures { option_copied result ≡ find has_member_twice program.now }
+/// The first class with a member twice.
+fn first_with_member_twice(
+    alloc: Global,
+    program: &[Listing],
+) -> Result<Option<&Listing>, AllocError>
+    ensures { IfOk result (λ found. option_copied found ≡ find has_member_twice program.now) }
 {
-    program.iter().find(|class| has_member_twice(class))
+    for class in program {
+        if has_member_twice(alloc, class)? {
+            return Ok(Some(class));
+        }
+    }
+    Ok(None)
 }
 
 /// The first class with a refused member.
@@ -117,13 +121,26 @@ fn first_with_bad_row<'a>(
     Ok(None)
 }
 
-/// The first classes that break some rules; of the last three, one is sought where those before it aren't there.
-#[derive(Clone, Copy)]
-struct Found<'a> {
-    on_cycle: Option<&'a Listing>,
-    with_member_twice: Option<&'a Listing>,
-    with_refused_member: Option<&'a Listing>,
-    with_bad_row: Option<&'a Listing>,
+/// What stops the trial of the rules: a rule that is broken, or want of memory.
+pub enum Stop<'a> {
+    Refused(Refusal<'a>),
+    Memory(AllocError),
+}
+
+impl<'a> From<Refusal<'a>> for Stop<'a> {
+    ghost from_gives = { λ refusal stop. stop ≡ Refused refusal };
+
+    fn from(refusal: Refusal<'a>) -> Stop<'a> {
+        Stop::Refused(refusal)
+    }
+}
+
+impl<'a> From<AllocError> for Stop<'a> {
+    ghost from_gives = { λ error stop. stop ≡ Memory error };
+
+    fn from(error: AllocError) -> Stop<'a> {
+        Stop::Memory(error)
+    }
 }
 
 /// `Err` with the rule and the class that breaks it, where one does.
@@ -164,66 +181,55 @@ fn begins_with_main(program: &[Listing]) -> Result<(), Refusal<'_>>
     }
 }
 
-/// `Err` with the first rule, in order, that some class breaks, and the first class that does; else `Ok`.
+/// The rules on classes whose parents are there: `Err` with the first rule that some class breaks, and the first class
+/// that does, or where memory runs out.
 #[tactic(auto, using(crate::proofs::ReferenceLemmas::none_unresolved), unfolding(model::specs::Accepted::Refusals::refusal_of))]
-fn obeys_rules<'a>(
+fn obeys_class_rules<'a>(
+    alloc: Global,
     index: &Index<'a>,
     program: &'a [Listing],
-    found: Found<'a>,
-) -> Result<(), Refusal<'a>>
+) -> Result<(), Stop<'a>>
     requires index { index.now ≡ program.now }
-    requires on_cycle { option_copied found.on_cycle ≡ find (is_on_cycle program.now) program.now }
-    requires with_member_twice { option_copied found.with_member_twice ≡ find has_member_twice program.now }
-    requires with_refused_member { found.with_member_twice ≡ None → option_copied found.with_refused_member ≡ find (has_refused_member program.now) program.now }
-    requires with_bad_row { found.with_member_twice ≡ None → found.with_refused_member ≡ None → option_copied found.with_bad_row ≡ find (has_bad_row program.now) program.now }
-    ensures { refusal_in result ≡ refusal_of program.now }
+    requires own { find has_builtin_name program.now ≡ None }
+    requires once { find (is_class_twice program.now) program.now ≡ None }
+    requires there { find (has_missing_parent program.now) program.now ≡ None }
+    requires above { find (is_on_cycle program.now) program.now ≡ None }
+    ensures { StopsAt (refusal_of program.now) result }
 {
-    keeps(LoadRule::BuiltinName, first_with_builtin_name(program))?;
-    keeps(LoadRule::ClassTwice, first_twice(program))?;
-    keeps(
-        LoadRule::MissingSuperclass,
-        first_with_missing_parent(index, program),
-    )?;
-    keeps(LoadRule::Cycle, found.on_cycle)?;
     keeps(
         LoadRule::WrongSuperclass,
         first_with_wrong_parent(index, program),
     )?;
-    if let Some(class) = found.with_member_twice {
-        return keeps(LoadRule::MemberTwice, Some(class));
-    }
-    if let Some(class) = found.with_refused_member {
-        return keeps(LoadRule::RefusedMember, Some(class));
-    }
-    keeps(LoadRule::BadExceptionRow, found.with_bad_row)?;
+    keeps(
+        LoadRule::MemberTwice,
+        first_with_member_twice(alloc, program)?,
+    )?;
+    keeps(
+        LoadRule::RefusedMember,
+        first_with_refused_member(alloc, index, program)?,
+    )?;
+    keeps(
+        LoadRule::BadExceptionRow,
+        first_with_bad_row(alloc, index, program)?,
+    )?;
     keeps(LoadRule::LimitPassed, first_past_limits(index, program))?;
-    begins_with_main(program)
+    begins_with_main(program)?;
+    Ok(())
 }
 
-/// The refusal of a program, if it is refused: the first rule, in order, that some class breaks, and the first class that
-/// does. `AllocError` where memory runs out.
-pub fn first_refusal(
-    alloc: Global,
-    program: &[Listing],
-) -> Result<Result<(), Refusal<'_>>, AllocError>
-    ensures { IfOk result (λ answer. refusal_in answer ≡ refusal_of program.now) }
+/// `Err` with the first rule, in order, that some class breaks, and the first class that does, or where memory runs out;
+/// else `Ok`.
+#[tactic(auto, unfolding(model::specs::Accepted::Refusals::refusal_of))]
+pub fn obeys_rules(alloc: Global, program: &[Listing]) -> Result<(), Stop<'_>>
+    ensures { StopsAt (refusal_of program.now) result }
 {
+    keeps(LoadRule::BuiltinName, first_with_builtin_name(program))?;
+    keeps(LoadRule::ClassTwice, first_class_twice(alloc, program)?)?;
     let index = Index::new(alloc, program)?;
-    let on_cycle = first_on_cycle(alloc, &index, program)?;
-    let with_member_twice = first_with_member_twice(program);
-    let with_refused_member = match with_member_twice {
-        Some(_) => None,
-        None => first_with_refused_member(alloc, &index, program)?,
-    };
-    let with_bad_row = match (with_member_twice, with_refused_member) {
-        (None, None) => first_with_bad_row(alloc, &index, program)?,
-        _ => None,
-    };
-    let found = Found {
-        on_cycle,
-        with_member_twice,
-        with_refused_member,
-        with_bad_row,
-    };
-    Ok(obeys_rules(&index, program, found))
+    keeps(
+        LoadRule::MissingSuperclass,
+        first_with_missing_parent(&index, program),
+    )?;
+    keeps(LoadRule::Cycle, first_on_cycle(alloc, &index, program)?)?;
+    obeys_class_rules(alloc, &index, program)
 }

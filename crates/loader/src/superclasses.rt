@@ -1,30 +1,40 @@
 //! What is asked of the superclass and the superinterfaces of a class.
 ghost use Rattle.std.specs.Prelude.{◌≡◌, is_none, IfOk};
-ghost use Rattle.std.specs.List.{list_any};
+ghost use Rattle.std.specs.List.{find, list_any};
+ghost use Rattle.std.specs.Option.{option_copied};
+ghost use Rattle.model.specs.ClassListings.{ClassListing};
 ghost use Rattle.model.specs.Classes.Named.{class_named};
 ghost use Rattle.model.specs.Accepted.Superclasses.{is_class_twice, has_missing_parent, has_wrong_parent, is_no_superclass, is_no_superinterface};
 ghost use Rattle.model.specs.Accepted.Cycles.{is_on_cycle};
+ghost use Rattle.loader.specs.Repeats.{name_again};
 
 use crate::classes::{is_builtin, is_there};
 use crate::index::Index;
 use crate::reached::Reached;
+use crate::repeats::Repeats;
 use bitflags::Flags;
 use model::flags::ClassFlags;
 use model::listings::Listing;
 use model::names::Name;
 use std::alloc::{AllocError, Global};
 
-/// Whether two classes of the program have this class's name.
-#[tactic(auto, unfolding(model::specs::Accepted::Superclasses::is_class_twice))]
-pub fn is_class_twice(program: &[Listing], class: &Listing) -> bool
-    ensures { result ≡ is_class_twice program.now class.now }
+fn first_again<'a>(repeats: &Repeats<&[u8]>, program: &'a [Listing]) -> Option<&'a Listing>
+    ensures { option_copied result ≡ find (λ (c : ClassListing). name_again repeats.now c.name) program.now }
 {
-    let name = class.name.as_bytes();
     program
         .iter()
-        .filter(|other| other.name.as_bytes() == name)
-        .count()
-        > 1
+        .find(|class| repeats.has_again(class.name.as_bytes()))
+}
+
+/// The first class of the program whose name another one has. `AllocError` where memory runs out.
+pub fn first_class_twice(alloc: Global, program: &[Listing]) -> Result<Option<&Listing>, AllocError>
+    ensures { IfOk result (λ found. option_copied found ≡ find (is_class_twice program.now) program.now) }
+{
+    let mut repeats = Repeats::new(alloc);
+    for class in program {
+        repeats.note(class.name.as_bytes())?;
+    }
+    Ok(first_again(&repeats, program))
 }
 
 fn is_one_missing(index: &Index<'_>, names: &[Name]) -> bool
