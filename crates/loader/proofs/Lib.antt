@@ -1,10 +1,5 @@
 pub mod ArgumentLemmas
-pub mod BuiltinLemmas
-pub mod IndexLemmas
 pub mod LimitLemmas
-pub mod ParentLemmas
-pub mod ReachedLemmas
 pub mod RepeatLemmas
-pub mod ReferenceLemmas
 pub mod RunLemmas
 pub mod StepTables
