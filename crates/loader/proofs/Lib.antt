@@ -1,5 +1,4 @@
-pub mod BuiltinLemmas
 pub mod LimitLemmas
-pub mod ReferenceLemmas
+pub mod RepeatLemmas
 pub mod RunLemmas
 pub mod StepListLemmas

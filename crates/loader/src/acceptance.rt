@@ -6,7 +6,7 @@ ghost use Rattle.loader.specs.Errors.{Tells, IsRefusedBy};
 ghost use Rattle.loader.specs.Steps.{CanRun};
 
 use crate::errors::LoadError;
-use crate::rules::{Refusal, first_refusal};
+use crate::rules::{Refusal, Stop, obeys_rules};
 use model::listings::Listing;
 use model::names::Name;
 use std::alloc::Global;
@@ -33,9 +33,9 @@ pub fn accept(alloc: Global, program: &[Listing]) -> Result<(), LoadError>
     ensures runs { OnOk result (CanRun program.now) }
     ensures refused { IfErr result (IsRefusedBy program.now) }
 {
-    match first_refusal(alloc, program) {
-        Ok(Ok(())) => Ok(()),
-        Ok(Err(refusal)) => Err(told(alloc, refusal)),
-        Err(error) => Err(LoadError::Memory(error)),
+    match obeys_rules(alloc, program) {
+        Ok(()) => Ok(()),
+        Err(Stop::Refused(refusal)) => Err(told(alloc, refusal)),
+        Err(Stop::Memory(error)) => Err(LoadError::Memory(error)),
     }
 }

@@ -10,6 +10,8 @@ mod exception_rows;
 mod limits;
 mod members;
 pub mod programs;
+mod references;
+mod repeats;
 mod rules;
 mod served;
 mod step_lists;

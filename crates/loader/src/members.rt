@@ -1,60 +1,81 @@
 //! What is asked of the members of a class.
-ghost use Rattle.std.specs.Prelude.{◌≡◌, count_by, IfOk};
+ghost use Rattle.std.specs.Prelude.{◌≡◌, IfOk};
 ghost use Rattle.std.specs.List.{list_any};
-ghost use Rattle.model.specs.Accepted.MembersTwice.{is_same_field, is_same_method, has_field_twice, has_method_twice, has_member_twice};
+ghost use Rattle.model.specs.declared.listings.Field.{Field as FieldListing};
+ghost use Rattle.model.specs.declared.listings.Method.{Method as MethodListing};
+ghost use Rattle.model.specs.Accepted.MembersTwice.{has_field_twice, has_method_twice, has_member_twice};
 ghost use Rattle.model.specs.Accepted.RefusedMembers.{is_wrong_initializer, is_run, is_refused, has_refused_member};
+ghost use Rattle.loader.specs.Repeats.{signature_again};
 
 use crate::programs::is_class_initializer;
+use crate::repeats::Repeats;
 use crate::served::serves;
 use bitflags::Flags;
 use model::flags::MethodFlags;
 use model::listings::{Field, Listing, Method};
-use resolve::index::Index;
-use resolve::subclasses::is_subclass;
+use resolve::classes::Classes;
 use std::alloc::{AllocError, Global};
 
-fn count_field(fields: &[Field], field: &Field) -> usize
-    ensures { result ≡ count_by (is_same_field field.now) fields.now }
+/// The name and the descriptor of a member.
+type Signature<'a> = (&'a [u8], &'a [u8]);
+
+fn field_signature(field: &Field) -> Signature<'_>
+    ensures name { result.0.now ≡ field.now.name }
+    ensures descriptor { result.1.now ≡ field.now.descriptor }
 {
-    let name = field.name.as_bytes();
-    let descriptor = field.descriptor.as_bytes();
+    (field.name.as_bytes(), field.descriptor.as_bytes())
+}
+
+fn method_signature(method: &Method) -> Signature<'_>
+    ensures name { result.0.now ≡ method.now.name }
+    ensures descriptor { result.1.now ≡ method.now.descriptor }
+{
+    (method.name.as_bytes(), method.descriptor.as_bytes())
+}
+
+fn is_one_field_again(repeats: &Repeats<Signature<'_>>, fields: &[Field]) -> bool
+    ensures { result ≡ list_any (λ (f : FieldListing). signature_again repeats.now f.name f.descriptor) fields.now }
+{
     fields
         .iter()
-        .filter(|other| other.name.as_bytes() == name && other.descriptor.as_bytes() == descriptor)
-        .count()
+        .any(|field| repeats.has_again(field_signature(field)))
 }
 
-fn count_method(methods: &[Method], method: &Method) -> usize
-    ensures { result ≡ count_by (is_same_method method.now) methods.now }
+fn has_field_twice(alloc: Global, fields: &[Field]) -> Result<bool, AllocError>
+    ensures { IfOk result (λ found. found ≡ has_field_twice fields.now) }
 {
-    let name = method.name.as_bytes();
-    let descriptor = method.descriptor.as_bytes();
-    methods
-        .iter()
-        .filter(|other| other.name.as_bytes() == name && other.descriptor.as_bytes() == descriptor)
-        .count()
+    let mut repeats = Repeats::new(alloc);
+    for field in fields {
+        repeats.note(field_signature(field))?;
+    }
+    Ok(is_one_field_again(&repeats, fields))
 }
 
-fn has_field_twice(fields: &[Field]) -> bool
-    ensures { result ≡ has_field_twice fields.now }
-{
-    fields.iter().any(|field| count_field(fields, field) > 1)
-}
-
-fn has_method_twice(methods: &[Method]) -> bool
-    ensures { result ≡ has_method_twice methods.now }
+fn is_one_method_again(repeats: &Repeats<Signature<'_>>, methods: &[Method]) -> bool
+    ensures { result ≡ list_any (λ (m : MethodListing). signature_again repeats.now m.name m.descriptor) methods.now }
 {
     methods
         .iter()
-        .any(|method| count_method(methods, method) > 1)
+        .any(|method| repeats.has_again(method_signature(method)))
 }
 
-/// Whether two fields of the class have one name and descriptor, or two methods.
+fn has_method_twice(alloc: Global, methods: &[Method]) -> Result<bool, AllocError>
+    ensures { IfOk result (λ found. found ≡ has_method_twice methods.now) }
+{
+    let mut repeats = Repeats::new(alloc);
+    for method in methods {
+        repeats.note(method_signature(method))?;
+    }
+    Ok(is_one_method_again(&repeats, methods))
+}
+
+/// Whether two fields of the class have one name and descriptor, or two methods. `AllocError` where memory runs
+/// out.
 #[tactic(auto, unfolding(model::specs::Accepted::MembersTwice::has_member_twice))]
-pub fn has_member_twice(class: &Listing) -> bool
-    ensures { result ≡ has_member_twice class.now }
+pub fn has_member_twice(alloc: Global, class: &Listing) -> Result<bool, AllocError>
+    ensures { IfOk result (λ found. found ≡ has_member_twice class.now) }
 {
-    has_field_twice(&class.fields) || has_method_twice(&class.methods)
+    Ok(has_field_twice(alloc, &class.fields)? || has_method_twice(alloc, &class.methods)?)
 }
 
 fn is_run(method: &Method) -> bool
@@ -75,51 +96,30 @@ fn is_wrong_initializer(method: &Method) -> bool
 }
 
 /// Whether a method of the class is refused: a wrong class initializer, a native method, a static synchronized one, or
-/// a thread's synchronized `run()V`. `AllocError` where memory runs out.
-fn is_refused(
-    alloc: Global,
-    index: &Index<'_>,
-    class: &[u8],
-    method: &Method,
-) -> Result<bool, AllocError>
-    ensures { IfOk result (λ found. found ≡ is_refused index.now class.now method.now) }
+/// a thread's synchronized `run()V`.
+fn is_refused(classes: &Classes<'_>, class: &[u8], method: &Method) -> bool
+    ensures { result ≡ is_refused classes.now class.now method.now }
 {
     let flags = method.flags;
-    Ok(
-        is_wrong_initializer(method)
-            || flags.contains(MethodFlags::NATIVE)
-            || flags.contains(MethodFlags::SYNCHRONIZED)
-                && (flags.contains(MethodFlags::STATIC)
-                    || is_run(method) && is_subclass(alloc, index, class, b"java/lang/Thread")?),
-    )
+    is_wrong_initializer(method)
+        || flags.contains(MethodFlags::NATIVE)
+        || flags.contains(MethodFlags::SYNCHRONIZED)
+            && (flags.contains(MethodFlags::STATIC)
+                || is_run(method) && classes.is_subclass(class, b"java/lang/Thread"))
 }
 
-fn is_one_refused(
-    alloc: Global,
-    index: &Index<'_>,
-    class: &[u8],
-    methods: &[Method],
-) -> Result<bool, AllocError>
-    ensures { IfOk result (λ found. found ≡ list_any (is_refused index.now class.now) methods.now) }
+fn is_one_refused(classes: &Classes<'_>, class: &[u8], methods: &[Method]) -> bool
+    ensures { result ≡ list_any (is_refused classes.now class.now) methods.now }
 {
-    for method in methods {
-        if is_refused(alloc, index, class, method)? {
-            return Ok(true);
-        }
-    }
-    Ok(false)
+    methods
+        .iter()
+        .any(|method| is_refused(classes, class, method))
 }
 
-/// Whether a member of the class is refused, or the machine doesn't carry out all of its code yet. `AllocError` where
-/// memory runs out.
+/// Whether a member of the class is refused, or the machine doesn't carry out all of its code yet.
 #[tactic(auto, unfolding(model::specs::Accepted::RefusedMembers::has_refused_member))]
-pub fn has_refused_member(
-    alloc: Global,
-    index: &Index<'_>,
-    class: &Listing,
-) -> Result<bool, AllocError>
-    ensures { IfOk result (λ found. found ≡ has_refused_member index.now class.now) }
+pub fn has_refused_member(classes: &Classes<'_>, class: &Listing) -> bool
+    ensures { result ≡ has_refused_member classes.now class.now }
 {
-    let refused = is_one_refused(alloc, index, class.name.as_bytes(), &class.methods)?;
-    Ok(refused || !serves(class))
+    is_one_refused(classes, class.name.as_bytes(), &class.methods) || !serves(class)
 }

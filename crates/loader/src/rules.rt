@@ -1,25 +1,30 @@
 //! The rules in their order, and the first that a list of listings breaks.
-ghost use Rattle.std.specs.Prelude.{◌≡◌, None, IfOk};
+ghost use Rattle.std.specs.Prelude.{◌≡◌, None, IfOk, IfErr, OnOk};
 ghost use Rattle.std.specs.Option.{option_copied};
 ghost use Rattle.std.specs.List.{find, list_any};
 ghost use Rattle.model.specs.Programs.{is_main};
 ghost use Rattle.model.specs.Accepted.BuiltinNames.{has_builtin_name};
-ghost use Rattle.model.specs.Accepted.Superclasses.{is_class_twice, has_wrong_parent};
+ghost use Rattle.model.specs.Accepted.Superclasses.{is_class_twice, has_missing_parent, has_wrong_parent};
 ghost use Rattle.model.specs.Accepted.Cycles.{is_on_cycle};
 ghost use Rattle.model.specs.Accepted.MembersTwice.{has_member_twice};
 ghost use Rattle.model.specs.Accepted.RefusedMembers.{has_refused_member};
+ghost use Rattle.model.specs.Accepted.References.{has_unresolved};
 ghost use Rattle.model.specs.Accepted.ExceptionRows.{has_bad_row};
 ghost use Rattle.model.specs.Accepted.Refusals.{refused_by, refused_main, refusal_of};
-ghost use Rattle.loader.specs.Told.{refusal_in};
+ghost use Rattle.resolve.specs.Hierarchies.{IsHierarchy};
+ghost use Rattle.loader.specs.declared.rules.Stop.TheVariants.{Refused, Memory};
+ghost use Rattle.loader.specs.Told.{refusal_in, StopsAt, StopsFor, parents_refused};
 
 use crate::exception_rows::has_bad_row;
 use crate::limits::first_past_limits;
 use crate::members::{has_member_twice, has_refused_member};
 use crate::programs::is_main;
-use crate::superclasses::{has_wrong_parent, is_class_twice};
+use crate::references::has_unresolved;
+use crate::superclasses::{first_class_twice, has_wrong_parent};
 use model::listings::{Listing, Method};
 use model::refusals::LoadRule;
 use resolve::builtins::is_builtin;
+use resolve::classes::Classes;
 use resolve::index::Index;
 use resolve::parents::{first_on_cycle, first_with_missing_parent};
 use std::alloc::{AllocError, Global};
@@ -31,10 +36,26 @@ pub struct Refusal<'a> {
     pub class: Option<&'a Listing>,
 }
 
-fn first_with_builtin_name(program: &[Listing]) -> Option<&Listing>
-    ensures { option_copied result ≡ find has_builtin_name program.now }
-{
-    program.iter().find(|class| has_builtin_name(class))
+/// What stops the trial of the rules: a rule that is broken, or want of memory.
+pub enum Stop<'a> {
+    Refused(Refusal<'a>),
+    Memory(AllocError),
+}
+
+impl<'a> From<Refusal<'a>> for Stop<'a> {
+    ghost from_gives = { λ refusal stop. stop ≡ Refused refusal };
+
+    fn from(refusal: Refusal<'a>) -> Stop<'a> {
+        Stop::Refused(refusal)
+    }
+}
+
+impl<'a> From<AllocError> for Stop<'a> {
+    ghost from_gives = { λ error stop. stop ≡ Memory error };
+
+    fn from(error: AllocError) -> Stop<'a> {
+        Stop::Memory(error)
+    }
 }
 
 #[tactic(auto, unfolding(model::specs::Accepted::BuiltinNames::has_builtin_name))]
@@ -44,63 +65,67 @@ fn has_builtin_name(class: &Listing) -> bool
     is_builtin(class.name.as_bytes())
 }
 
-fn first_twice(program: &[Listing]) -> Option<&Listing>
-    ensures { option_copied result ≡ find (is_class_twice program.now) program.now }
+fn first_with_builtin_name(program: &[Listing]) -> Option<&Listing>
+    ensures { option_copied result ≡ find has_builtin_name program.now }
 {
-    program.iter().find(|class| is_class_twice(program, class))
+    program.iter().find(|class| has_builtin_name(class))
 }
 
-fn first_with_wrong_parent<'a>(index: &Index<'_>, program: &'a [Listing]) -> Option<&'a Listing>
-    ensures { option_copied result ≡ find (has_wrong_parent index.now) program.now }
+fn first_with_wrong_parent<'a>(classes: &Classes<'a>) -> Option<&'a Listing>
+    ensures { option_copied result ≡ find (has_wrong_parent classes.now) classes.now }
 {
-    program.iter().find(|class| has_wrong_parent(index, class))
+    classes
+        .program()
+        .iter()
+        .find(|class| has_wrong_parent(classes, class))
 }
 
-fn first_with_member_twice(program: &[Listing]) -> Option<&Listing>
-    ensures { option_copied result ≡ find has_member_twice program.now }
-{
-    program.iter().find(|class| has_member_twice(class))
-}
-
-/// The first class with a refused member.
-fn first_with_refused_member<'a>(
+/// The first class with a member twice. `AllocError` where memory runs out.
+fn first_with_member_twice(
     alloc: Global,
-    index: &Index<'_>,
-    program: &'a [Listing],
-) -> Result<Option<&'a Listing>, AllocError>
-    ensures { IfOk result (λ found. option_copied found ≡ find (has_refused_member index.now) program.now) }
+    program: &[Listing],
+) -> Result<Option<&Listing>, AllocError>
+    ensures { IfOk result (λ found. option_copied found ≡ find has_member_twice program.now) }
 {
     for class in program {
-        if has_refused_member(alloc, index, class)? {
+        if has_member_twice(alloc, class)? {
             return Ok(Some(class));
         }
     }
     Ok(None)
 }
 
-/// The first class with a bad exception row.
-fn first_with_bad_row<'a>(
-    alloc: Global,
-    index: &Index<'_>,
-    program: &'a [Listing],
-) -> Result<Option<&'a Listing>, AllocError>
-    ensures { IfOk result (λ found. option_copied found ≡ find (has_bad_row index.now) program.now) }
+fn first_with_refused_member<'a>(classes: &Classes<'a>) -> Option<&'a Listing>
+    ensures { option_copied result ≡ find (has_refused_member classes.now) classes.now }
 {
-    for class in program {
-        if has_bad_row(alloc, index, class)? {
-            return Ok(Some(class));
-        }
-    }
-    Ok(None)
+    classes
+        .program()
+        .iter()
+        .find(|class| has_refused_member(classes, class))
 }
 
-/// The first classes that break some rules; of the last three, one is sought where those before it aren't there.
-#[derive(Clone, Copy)]
-struct Found<'a> {
-    on_cycle: Option<&'a Listing>,
-    with_member_twice: Option<&'a Listing>,
-    with_refused_member: Option<&'a Listing>,
-    with_bad_row: Option<&'a Listing>,
+fn first_with_unresolved<'a>(classes: &Classes<'a>) -> Option<&'a Listing>
+    ensures { option_copied result ≡ find (has_unresolved classes.now) classes.now }
+{
+    classes
+        .program()
+        .iter()
+        .find(|class| has_unresolved(classes, class))
+}
+
+fn first_with_bad_row<'a>(classes: &Classes<'a>) -> Option<&'a Listing>
+    ensures { option_copied result ≡ find (has_bad_row classes.now) classes.now }
+{
+    classes
+        .program()
+        .iter()
+        .find(|class| has_bad_row(classes, class))
+}
+
+fn has_main(methods: &[Method]) -> bool
+    ensures { result ≡ list_any is_main methods.now }
+{
+    methods.iter().any(|method| is_main(method))
 }
 
 /// `Err` with the rule and the class that breaks it, where one does.
@@ -114,12 +139,6 @@ fn keeps(rule: LoadRule, found: Option<&Listing>) -> Result<(), Refusal<'_>>
         }),
         None => Ok(()),
     }
-}
-
-fn has_main(methods: &[Method]) -> bool
-    ensures { result ≡ list_any is_main methods.now }
-{
-    methods.iter().any(|method| is_main(method))
 }
 
 /// `Err` where the first class declares no static `main()V`, or there is none.
@@ -141,66 +160,61 @@ fn begins_with_main(program: &[Listing]) -> Result<(), Refusal<'_>>
     }
 }
 
-/// `Err` with the first rule, in order, that some class breaks, and the first class that does; else `Ok`.
-#[tactic(auto, using(crate::proofs::ReferenceLemmas::none_unresolved), unfolding(model::specs::Accepted::Refusals::refusal_of))]
-fn obeys_rules<'a>(
-    index: &Index<'a>,
-    program: &'a [Listing],
-    found: Found<'a>,
-) -> Result<(), Refusal<'a>>
-    requires index { index.now ≡ program.now }
-    requires on_cycle { option_copied found.on_cycle ≡ find (is_on_cycle program.now) program.now }
-    requires with_member_twice { option_copied found.with_member_twice ≡ find has_member_twice program.now }
-    requires with_refused_member { found.with_member_twice ≡ None → option_copied found.with_refused_member ≡ find (has_refused_member program.now) program.now }
-    requires with_bad_row { found.with_member_twice ≡ None → found.with_refused_member ≡ None → option_copied found.with_bad_row ≡ find (has_bad_row program.now) program.now }
-    ensures { refusal_in result ≡ refusal_of program.now }
+/// The classes of a program by their names. `Err` with the first class that has a parent that isn't there, or else with
+/// the first on a cycle, or where memory runs out.
+fn known_classes(alloc: Global, program: &[Listing]) -> Result<Classes<'_>, Stop<'_>>
+    ensures classes { IfOk result (λ classes. classes ≡ program.now) }
+    ensures parents { OnOk result (IsHierarchy program.now) }
+    ensures stops { IfErr result (StopsFor (parents_refused program.now)) }
 {
-    keeps(LoadRule::BuiltinName, first_with_builtin_name(program))?;
-    keeps(LoadRule::ClassTwice, first_twice(program))?;
+    if let Some(classes) = Classes::new(alloc, program)? {
+        return Ok(classes);
+    }
+    let index = Index::new(alloc, program)?;
     keeps(
         LoadRule::MissingSuperclass,
-        first_with_missing_parent(index, program),
+        first_with_missing_parent(&index, program),
     )?;
-    keeps(LoadRule::Cycle, found.on_cycle)?;
-    keeps(
-        LoadRule::WrongSuperclass,
-        first_with_wrong_parent(index, program),
-    )?;
-    if let Some(class) = found.with_member_twice {
-        return keeps(LoadRule::MemberTwice, Some(class));
-    }
-    if let Some(class) = found.with_refused_member {
-        return keeps(LoadRule::RefusedMember, Some(class));
-    }
-    keeps(LoadRule::BadExceptionRow, found.with_bad_row)?;
-    keeps(LoadRule::LimitPassed, first_past_limits(index, program))?;
-    begins_with_main(program)
+    Err(Stop::Refused(Refusal {
+        rule: LoadRule::Cycle,
+        class: first_on_cycle(alloc, &index, program)?,
+    }))
 }
 
-/// The refusal of a program, if it is refused: the first rule, in order, that some class breaks, and the first class that
-/// does. `AllocError` where memory runs out.
-pub fn first_refusal(
-    alloc: Global,
-    program: &[Listing],
-) -> Result<Result<(), Refusal<'_>>, AllocError>
-    ensures { IfOk result (λ answer. refusal_in answer ≡ refusal_of program.now) }
+/// The rules behind those on names and parents: `Err` with the first that some class breaks, and the first class that
+/// does, or where memory runs out.
+#[tactic(auto, unfolding(model::specs::Accepted::Refusals::refusal_of))]
+fn obeys_class_rules<'a>(alloc: Global, classes: &Classes<'a>) -> Result<(), Stop<'a>>
+    requires own { find has_builtin_name classes.now ≡ None }
+    requires once { find (is_class_twice classes.now) classes.now ≡ None }
+    requires parents { IsHierarchy classes.now }
+    ensures { StopsAt (refusal_of classes.now) result }
 {
-    let index = Index::new(alloc, program)?;
-    let on_cycle = first_on_cycle(alloc, &index, program)?;
-    let with_member_twice = first_with_member_twice(program);
-    let with_refused_member = match with_member_twice {
-        Some(_) => None,
-        None => first_with_refused_member(alloc, &index, program)?,
-    };
-    let with_bad_row = match (with_member_twice, with_refused_member) {
-        (None, None) => first_with_bad_row(alloc, &index, program)?,
-        _ => None,
-    };
-    let found = Found {
-        on_cycle,
-        with_member_twice,
-        with_refused_member,
-        with_bad_row,
-    };
-    Ok(obeys_rules(&index, program, found))
+    let program = classes.program();
+    keeps(LoadRule::WrongSuperclass, first_with_wrong_parent(classes))?;
+    keeps(
+        LoadRule::MemberTwice,
+        first_with_member_twice(alloc, program)?,
+    )?;
+    keeps(LoadRule::RefusedMember, first_with_refused_member(classes))?;
+    keeps(
+        LoadRule::UnresolvedReference,
+        first_with_unresolved(classes),
+    )?;
+    keeps(LoadRule::BadExceptionRow, first_with_bad_row(classes))?;
+    keeps(LoadRule::LimitPassed, first_past_limits(classes))?;
+    begins_with_main(program)?;
+    Ok(())
+}
+
+/// `Err` with the first rule, in order, that some class breaks, and the first class that does, or where memory runs out;
+/// else `Ok`.
+#[tactic(auto, unfolding(model::specs::Accepted::Refusals::refusal_of))]
+pub fn obeys_rules(alloc: Global, program: &[Listing]) -> Result<(), Stop<'_>>
+    ensures { StopsAt (refusal_of program.now) result }
+{
+    keeps(LoadRule::BuiltinName, first_with_builtin_name(program))?;
+    keeps(LoadRule::ClassTwice, first_class_twice(alloc, program)?)?;
+    let classes = known_classes(alloc, program)?;
+    obeys_class_rules(alloc, &classes)
 }

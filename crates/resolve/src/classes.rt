@@ -104,4 +104,11 @@ impl<'a> Classes<'a> {
     {
         self.index.enough_steps()
     }
+
+    /// The first class of the program with this name.
+    pub fn listed(&self, name: &[u8]) -> Option<&'a Listing>
+        ensures { option_copied result ≡ listed self.now name.now }
+    {
+        self.index.listed(name)
+    }
 }
