@@ -118,9 +118,8 @@ def loader_side(crate, files):
 
 def crate_in(folder):
     """A folder with the repository's crates and one more, the program in tools/relations/main.rt.in."""
+    shutil.copytree(CRATES, os.path.join(folder, "crates"), ignore=shutil.ignore_patterns("out", "must-fail"))
     os.makedirs(os.path.join(folder, "crates", "relations", "src"))
-    for path in glob.glob(os.path.join(CRATES, "*")):
-        os.symlink(os.path.abspath(path), os.path.join(folder, "crates", os.path.basename(path)))
     with open(os.path.join(CRATES, "..", "crates.txt")) as file:
         listed = file.read()
     with open(os.path.join(folder, "crates.txt"), "w") as file:
