@@ -10,6 +10,8 @@ KIND is one of
     methods  N methods of one name, whose code is a return
     code     N methods with 65,535 bytes of code: `getstatic`, `ldc`, `iadd`, `putstatic`, `goto` and a return
     pool     N texts in the pool, each with its class
+    uses     N times `new` and `pop` of one class with a name of 65,535 bytes, 16,000 in a method
+    fields   N fields, each with a name of its own
 """
 import struct
 import sys
@@ -51,59 +53,105 @@ def code(name, descriptor, attribute, body):
     return u2(0x0009) + u2(name) + u2(descriptor) + u2(1) + u2(attribute) + u4(len(info)) + info
 
 
-def class_file(pool, this, above, interfaces, methods):
+def class_file(pool, this, above, interfaces, fields, methods):
     return b"".join(
         [b"\xca\xfe\xba\xbe\x00\x00\x00\x31", pool.bytes(), u2(0x0021), u2(this), u2(above)]
         + [u2(len(interfaces))]
         + [u2(number) for number in interfaces]
-        + [u2(0), u2(len(methods))]
+        + [u2(len(fields))]
+        + fields
+        + [u2(len(methods))]
         + methods
         + [u2(0)]
     )
 
 
-def made(kind, n):
-    pool = Pool()
-    this = pool.class_of(b"E")
-    above = pool.class_of(b"java/lang/Object")
-    name, descriptor, attribute = pool.text(b"main"), pool.text(b"()V"), pool.text(b"Code")
-    interfaces, methods = [], []
-    if kind == "names":
-        long = pool.text(b"a" * 65_535)
-        first = pool.add(u1(7), u2(long))
-        for _ in range(n - 1):
-            pool.add(u1(7), u2(long))
-        interfaces = [first] * n
-        for start in range(0, n, 21_844):
-            body = (b"\xbb" + u2(first)) * min(21_844, n - start) + b"\xb1"
-            methods.append(code(name, descriptor, attribute, body))
-    elif kind == "pairs":
-        long = pool.text(b"m" * 60_000)
-        kinds = pool.text(b"()" + b"[" * 3 + b"L" + b"c" * 59_993 + b";")
-        pair = pool.add(u1(12), u2(long), u2(kinds))
-        for _ in range(n - 1):
-            pool.add(u1(12), u2(long), u2(kinds))
-        for _ in range(n):
-            pool.add(u1(10), u2(this), u2(pair))
-    elif kind == "methods":
-        methods = [code(name, descriptor, attribute, b"\xb1")] * n
-    elif kind == "code":
-        seven = pool.add(u1(3), u4(7))
-        x = pool.add(u1(12), u2(pool.text(b"x")), u2(pool.text(b"I")))
-        field = pool.add(u1(9), u2(this), u2(x))
-        block = b"\xb2" + u2(field) + b"\x13" + u2(seven) + b"\x60" + b"\xb3" + u2(field) + b"\xa7\x00\x03"
-        body = block * (65_534 // len(block))
-        body = body + b"\x00" * (65_534 - len(body)) + b"\xb1"
-        methods = [code(name, descriptor, attribute, body)] * n
-    elif kind == "pool":
-        for number in range(n):
-            pool.class_of(b"some/package/C%d" % number)
-    else:
-        raise SystemExit(__doc__)
-    return class_file(pool, this, above, interfaces, methods)
+class Parts:
+    """A class E over Object, to which a kind adds interfaces, fields and methods."""
+
+    def __init__(self):
+        self.pool = Pool()
+        self.this = self.pool.class_of(b"E")
+        self.above = self.pool.class_of(b"java/lang/Object")
+        self.name, self.descriptor = self.pool.text(b"main"), self.pool.text(b"()V")
+        self.attribute = self.pool.text(b"Code")
+        self.interfaces, self.fields, self.methods = [], [], []
+
+    def method(self, name, body):
+        self.methods.append(code(name, self.descriptor, self.attribute, body))
+
+    def bytes(self):
+        return class_file(self.pool, self.this, self.above, self.interfaces, self.fields, self.methods)
 
 
-if len(sys.argv) != 4:
+def names(e, n):
+    long = e.pool.text(b"a" * 65_535)
+    first = e.pool.add(u1(7), u2(long))
+    for _ in range(n - 1):
+        e.pool.add(u1(7), u2(long))
+    e.interfaces = [first] * n
+    for start in range(0, n, 21_844):
+        e.method(e.name, (b"\xbb" + u2(first)) * min(21_844, n - start) + b"\xb1")
+
+
+def pairs(e, n):
+    long = e.pool.text(b"m" * 60_000)
+    kinds = e.pool.text(b"()" + b"[" * 3 + b"L" + b"c" * 59_993 + b";")
+    pair = e.pool.add(u1(12), u2(long), u2(kinds))
+    for _ in range(n - 1):
+        e.pool.add(u1(12), u2(long), u2(kinds))
+    for _ in range(n):
+        e.pool.add(u1(10), u2(e.this), u2(pair))
+
+
+def methods(e, n):
+    for _ in range(n):
+        e.method(e.name, b"\xb1")
+
+
+def long_code(e, n):
+    seven = e.pool.add(u1(3), u4(7))
+    x = e.pool.add(u1(12), u2(e.pool.text(b"x")), u2(e.pool.text(b"I")))
+    field = e.pool.add(u1(9), u2(e.this), u2(x))
+    block = b"\xb2" + u2(field) + b"\x13" + u2(seven) + b"\x60" + b"\xb3" + u2(field) + b"\xa7\x00\x03"
+    body = block * (65_534 // len(block))
+    body = body + b"\x00" * (65_534 - len(body)) + b"\xb1"
+    for _ in range(n):
+        e.method(e.name, body)
+
+
+def pool(e, n):
+    for number in range(n):
+        e.pool.class_of(b"some/package/C%d" % number)
+
+
+def uses(e, n):
+    used = e.pool.class_of(b"a" * 65_535)
+    for start in range(0, n, 16_000):
+        body = (b"\xbb" + u2(used) + b"\x57") * min(16_000, n - start) + b"\xb1"
+        e.method(e.pool.text(b"m%d" % len(e.methods)), body)
+
+
+def fields(e, n):
+    kind = e.pool.text(b"I")
+    for number in range(n):
+        e.fields.append(u2(0x0008) + u2(e.pool.text(b"f%d" % number)) + u2(kind) + u2(0))
+
+
+KINDS = {
+    "names": names,
+    "pairs": pairs,
+    "methods": methods,
+    "code": long_code,
+    "pool": pool,
+    "uses": uses,
+    "fields": fields,
+}
+
+
+if len(sys.argv) != 4 or sys.argv[1] not in KINDS:
     raise SystemExit(__doc__)
+parts = Parts()
+KINDS[sys.argv[1]](parts, int(sys.argv[2]))
 with open(sys.argv[3], "wb") as file:
-    file.write(made(sys.argv[1], int(sys.argv[2])))
+    file.write(parts.bytes())

@@ -1,12 +1,10 @@
 -- What the class file of a listing tells of the pool and of the code.
 use Rattle.std.proofs.Common.{◌≡◌, ℕ, ◌<◌, ◌^◌, Bool, List, [], ◌∷◌, map, sym, ◌∙◌, ap, subst, append-nil, Option, Some, None}
-use Rattle.std.specs.Prelude.{IfOk, IfErr, Result, Ok, Err}
 use Rattle.std.specs.List.{AllByRecursion}
 use Rattle.std.specs.Option.{option_map}
 use Rattle.model.specs.ClassFiles.Items.{Item, with_items, listing_items}
 use Rattle.model.specs.ClassListings.{ClassListing}
 use Rattle.model.specs.CodeListings.{CodeListing}
-use Rattle.model.specs.ClassFiles.Classes.{ClassPart}
 use Rattle.model.specs.ClassFiles.Methods.{wants_code}
 use Rattle.model.specs.declared.class_files.Entry.{Entry}
 use Rattle.model.specs.declared.listings.Method.{Method}
@@ -16,8 +14,6 @@ use Rattle.classfile.specs.Sound.{CodesStand, MethodStands}
 use Rattle.classfile.proofs.SoundLaws.{standing_methods, standing_code}
 use Rattle.assembler.specs.Assembled.{Stays, HasRoom, HasCode, assembled_code, assembled_method, assembled_body, assembled, file_flags}
 use Rattle.assembler.specs.Numbering.{entries_of}
-use Rattle.assembler.specs.declared.error.AsmError.{AsmError}
-use Rattle.assembler.specs.declared.error.AsmError.TheVariants as error
 use Rattle.assembler.proofs.NumberingEntries.{count_is}
 
 pub has_room : (items : List Item) (l : ClassListing) → IsClass (assembled items l) → HasRoom items
@@ -41,13 +37,3 @@ whole old new l body s = ap (with_items old) (sym (append-nil (listing_items l))
 
 pub made_is : (old new : List Item) (l : ClassListing) (body : BodyPart) → Stays old (listing_items l) new (λ items. assembled_body items l) body → made (entries_of new) body ≡ assembled (with_items old (listing_items l)) l
 made_is old new l body s = ap (made (entries_of new)) ((s []).1) ∙ ap (λ items. assembled items l) (sym (whole old new l body s))
-
--- ---- answers
-
-pub made_of : (P : Type 0) (r : Result ClassPart AsmError) (a b : ClassPart) → a ≡ b → IfOk r (λ file. (file ≡ a) × P) → IfOk r (λ file. file ≡ b)
-made_of P (Ok file) a b e h = h.0 ∙ e
-made_of P (Err fault) a b e h = h
-
-pub only_of : (r : Result ClassPart AsmError) (a b : ClassPart) → a ≡ b → IfErr r (λ e. IsClass a → e ≡ error.Memory) → IsClass b → IfErr r (λ e. e ≡ error.Memory)
-only_of (Ok file) a b e h is = h
-only_of (Err fault) a b e h is = h (subst IsClass (sym e) is)

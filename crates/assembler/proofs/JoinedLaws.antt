@@ -1,5 +1,5 @@
 -- The class file of a tree has its listing, and a tree that has one can be assembled.
-use Rattle.std.specs.Prelude.{IfOk, Result, Ok, Err, ◌⊎◌}
+use Rattle.std.specs.Prelude.{◌⊎◌}
 use Rattle.std.proofs.Common.{◌≡◌, ℕ, ℤ, ◌<◌, ◌^◌, true, false, ◌&&◌, List, [], ◌∷◌, ◌++◌, length, map, refl, ◌∙◌, ap, subst, arith, inl, inr, Option, Some, None, codes, ◌+◌}
 use Rattle.std.specs.List.{flat_map, list_all}
 use Rattle.std.specs.Option.{option_map}
@@ -26,7 +26,6 @@ use Rattle.model.specs.declared.listings.Method.{Method}
 use Rattle.model.specs.declared.trees.MethodTree.{MethodTree}
 use Rattle.model.specs.declared.trees.TextLine.{TextLine}
 use Rattle.model.specs.declared.trees.TextLine.TheVariants.{Label, Instruction}
-use Rattle.assembler.specs.declared.error.AsmError.{AsmError}
 use Rattle.assembler.specs.Assembled.{file_flags, assembled, tree_items, assembled_tree}
 use Rattle.assembler.specs.Checks.{few_rows, has_few_rows, has_short_lists, body_is_right, method_is_right}
 use Rattle.assembler.specs.Numbering.{IsPool, are_items_of}
@@ -152,10 +151,9 @@ listed_again t pool small h =
     let l = listing_of t in
     class_listed (with_items [] (tree_items t)) (file_flags l.flags) l pool.closed (listing_there (used_in_methods t.methods) l) (flags_kept l.flags small h)
 
-pub found_of : (r : Result ClassPart AsmError) (items : List Item) (a : ClassPart) (t : Tree) → items ≡ with_items [] (tree_items t) → a ≡ assembled_tree t → list_all method_is_right (listing_of t).methods ≡ true → has_short_lists (listing_of t) ≡ true
-    → has (listing_of t).flags.0 0x0020 ≡ false → (listing_of t).flags.0 < 2 ^ 16 → IfOk r (λ file. (file ≡ a) × IsPool items) → IfOk r (λ file. (file_listing file ≡ listing_of t) × (assembles t ≡ true))
+pub joined : (file : ClassPart) (items : List Item) (a : ClassPart) (t : Tree) → items ≡ with_items [] (tree_items t) → a ≡ assembled_tree t → list_all method_is_right (listing_of t).methods ≡ true → has_short_lists (listing_of t) ≡ true
+    → has (listing_of t).flags.0 0x0020 ≡ false → (listing_of t).flags.0 < 2 ^ 16 → file ≡ a → IsPool items → (file_listing file ≡ listing_of t) × (assembles t ≡ true)
 unfolding assembled_tree
-found_of (Err fault) items a t e same right short super small h = h
-found_of (Ok file) items a t e same right short super small h =
-    let pool = subst IsPool e h.1 in
-    (ap file_listing (h.0 ∙ same) ∙ listed_again t pool small super, it_assembles t right short pool)
+joined file items a t e same right short super small is pools =
+    let pool = subst IsPool e pools in
+    (ap file_listing (is ∙ same) ∙ listed_again t pool small super, it_assembles t right short pool)

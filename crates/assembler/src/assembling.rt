@@ -26,17 +26,28 @@ use std::alloc::Global;
 
 const SUPER: u16 = 0x0020;
 
-/// The class file of a tree (JVMS 4).
+/// What a tree assembles to.
+#[derive(Drop)]
+pub struct Assembled {
+    /// the class file
+    pub file: ClassFile,
+    /// the listing that the tree and the class file have
+    pub listing: Listing,
+}
+
+/// The class file of a tree (JVMS 4), and the listing of both.
 ///
 /// A1 where a method's code is empty or has more than 65,535 bytes, A2 where a branch's way is longer than two bytes have
 /// room for, A4 where the keys of a switch don't rise or a table ends past the greatest int: of the first method in order
 /// that has a fault, A4 before A1 before A2. Then A3 where the pool or a list has more than 65,535. A5 where memory runs
 /// out. A tree that no text spells, as one with SUPER, may be refused with A3.
-pub fn assemble(alloc: Global, tree: &ClassTree) -> Result<ClassFile, AsmError>
+pub fn assemble(alloc: Global, tree: &ClassTree) -> Result<Assembled, AsmError>
     // The class file has the tree's listing, and the tree is one that can be assembled.
-    ensures found { IfOk result (λ file. (file_listing file ≡ listing_of tree.now) × (assembles tree.now ≡ true)) }
+    ensures found { IfOk result (λ made. (file_listing made.file ≡ listing_of tree.now) × (assembles tree.now ≡ true)) }
     // Its pool is that of the listing, behind the numbers of `ldc`.
-    ensures made { IfOk result (λ file. file ≡ assembled_tree tree.now) }
+    ensures made { IfOk result (λ made. made.file ≡ assembled_tree tree.now) }
+    // The listing is the tree's.
+    ensures listed { IfOk result (λ made. made.listing ≡ listing_of tree.now) }
     // A tree that some text spells and that can be assembled has one, unless memory runs out.
     ensures only { is_spelled (listing_of tree.now) ≡ true → assembles tree.now ≡ true → MatchResult result (λ _. ⊤) (λ e. e ≡ error.Memory) }
 {
@@ -46,7 +57,8 @@ pub fn assemble(alloc: Global, tree: &ClassTree) -> Result<ClassFile, AsmError>
     }
     let mut numbers = Numbers::new(alloc);
     note_methods(&mut numbers, tree.methods.as_slice())?;
-    class_file(alloc, numbers, &listing)
+    let file = class_file(alloc, numbers, &listing)?;
+    Ok(Assembled { file, listing })
 }
 
 fn has_super(listing: &Listing) -> bool

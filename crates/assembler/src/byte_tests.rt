@@ -1,48 +1,23 @@
 //! Every statement and mnemonic with the bytes that it assembles to. The bytes are those of tools/plain_asm.py, and `javap`
 //! says of each file what its text says.
 
-use crate::assemble;
-use classfile::write;
-use jasmin::read;
-use std::alloc::Global;
-use std::process::Abort;
+use crate::tests::{answer, is_hex};
 use std::test::Fail;
 
-/// Bytes as hexadecimal digits.
-fn digits(alloc: Global, bytes: &[u8]) -> Result<String, Fail> {
-    let mut text = String::new(alloc);
-    for byte in bytes {
-        let two = format!(in alloc; "{byte:02x}")?;
-        text.push_str(two.as_str())?;
-    }
-    Ok(text)
-}
+const E: &str =
+    ".class public E\n.super java/lang/Object\n.method public static main()V\n.limit stack 0\n.limit locals 0\nreturn\n.end method\n";
 
-/// The class file of a text as hexadecimal digits, or why it has none.
-fn answer(alloc: Global, text: &str) -> Result<String, Fail> {
-    let tree = read(alloc, text.as_bytes())?;
-    match assemble(alloc, &tree) {
-        Ok(file) => {
-            let bytes = write(alloc, &file)?;
-            digits(alloc, bytes.as_slice())
-        }
-        Err(error) => Ok(format!(in alloc; "{error}")?),
-    }
-}
+const E_BYTES: &str =
+    "cafebabe 0000 0031 0008 01000145 070001 0100106a6176612f6c616e672f4f626a656374 070003 0100046d61696e 010003282956 010004436f6465 0021 0002 0004 0000 0000 0001 0009 0005 0006 0001 0007 0000000d 0000 0000 00000001 b1 0000 0000 0000";
 
-fn compare(rt: &impl Abort, alloc: Global, text: &str, wanted: &str) -> Result<(), Fail> {
-    let found = answer(alloc, text)?;
-    assert_eq!(rt; found.as_str(), wanted);
-    Ok(())
-}
+const K: &str =
+    ".class public K\n.super java/lang/Object\n.implements Runn\n.field static final x I = -2\n.field public static l J = 7\n";
 
-/// A text of one method with these lines of code.
-fn method(alloc: Global, code: &str) -> Result<String, Fail> {
-    Ok(format!(in alloc;
-        ".class A\n.super B\n.method static main()V\n.limit stack 1\n.limit locals 0\n{code}.end method\n"
-    )?)
-}
+/// The pool counts 15, since a long takes two numbers.
+const K_BYTES: &str =
+    "cafebabe 0000 0031 000f 0100014b 070001 0100106a6176612f6c616e672f4f626a656374 070003 01000452756e6e 070005 01000178 01000149 01000d436f6e7374616e7456616c7565 03fffffffe 0100016c 0100014a 050000000000000007 0021 0002 0004 0001 0006 0002 0018 0007 0008 0001 0009 00000002 000a 0009 000b 000c 0001 0009 00000002 000d 0000 0000";
 
+/// Interfaces, fields with values, an abstract method, exception rows.
 const PARTS: &str =
     ".class public abstract P\n.super q/Q\n.implements r/R\n.implements r/S\n.field private static final a I = -2\n.field static b J = 5000000000\n.field volatile c [Lq/Q;\n.method abstract f(J)I\n.end method\n.method static g()V\n.limit stack 1\n.limit locals 0\n.catch r/T from A to B using C\n.catch all from A to B using C\nA:\nnop\nB:\nreturn\nC:\nathrow\n.end method\n";
 
@@ -54,6 +29,7 @@ const PARTS_BYTES: &str =
     00140000000800150016000100170000001f000100000000000300b1bf000200000001000200190000000100020000000000\
     00";
 
+/// An interface has no SUPER.
 const INTERFACE: &str =
     ".interface public I\n.super java/lang/Object\n.field public static final X I = 3\n.method public abstract f()V\n.end method\n";
 
@@ -61,13 +37,6 @@ const INTERFACE_BYTES: &str =
     "cafebabe00000031000a010001490700010100106a6176612f6c616e672f4f626a6563740700030100015801000d436f6e73\
     74616e7456616c75650300000003010001660100032829560601000200040000000100190005000100010006000000020007\
     000104010008000900000000";
-
-/// Interfaces, fields with values, an abstract method, exception rows; an interface has no SUPER.
-#[test]
-fn the_parts_of_a_class_stand_in_order(rt: HostRuntime) -> Result<(), Fail> {
-    compare(&rt, rt.alloc(), PARTS, PARTS_BYTES)?;
-    compare(&rt, rt.alloc(), INTERFACE, INTERFACE_BYTES)
-}
 
 /// Each mnemonic in each of its spellings, and the switches.
 const EVERY: &str = "\
@@ -268,43 +237,15 @@ const EVERY_BYTES: &str =
     b800000007fffffeb8ab000000fffffe9c00000000000000000000";
 
 #[test]
-fn every_spelling_has_its_bytes(rt: HostRuntime) -> Result<(), Fail> {
-    compare(&rt, rt.alloc(), EVERY, EVERY_BYTES)
-}
-
-/// A switch with 10,000 keys, each with a label of its own.
-#[test]
-fn a_switch_has_10000_labels(rt: HostRuntime) -> Result<(), Fail> {
-    let alloc = rt.alloc();
-    let mut text = String::from_str(
-        alloc,
-        ".class A\n.super B\n.method static main()V\n.limit stack 1\n.limit locals 0\niconst_0\ntableswitch 0\n",
-    )?;
-    for number in 0u32..10000 {
-        let line = format!(in alloc; "L{number}\n")?;
-        text.push_str(line.as_str())?;
+fn texts_have_these_class_files(rt: HostRuntime) -> Result<(), Fail> {
+    for (text, bytes) in [
+        (E, E_BYTES),
+        (K, K_BYTES),
+        (PARTS, PARTS_BYTES),
+        (INTERFACE, INTERFACE_BYTES),
+        (EVERY, EVERY_BYTES),
+    ] {
+        assert!(rt; is_hex(&answer(rt.alloc(), text)?, bytes), "{text}");
     }
-    text.push_str("default : L0\n")?;
-    for number in 0u32..10000 {
-        let line = format!(in alloc; "L{number}:\nnop\n")?;
-        text.push_str(line.as_str())?;
-    }
-    text.push_str(".end method\n")?;
-    let tree = read(alloc, text.as_str().as_bytes())?;
-    let file = assemble(alloc, &tree)?;
-    let method = file.methods().first().ok_or("no method")?;
-    let code = method.code.as_ref().ok_or("no code")?;
-    // an int, pads of 2, the default, two bounds, 10,000 ways and as many instructions
-    assert_eq!(rt;
-        code.instructions.bytes().len(),
-        1 + 1 + 2 + 12 + 40000 + 10000
-    );
-    let last = code
-        .instructions
-        .bytes()
-        .get(40012..40016)
-        .ok_or("too short")?;
-    // the last label's instruction stands 10,000 - 1 bytes behind the switch, which takes 40,015 from pc 1 on
-    assert_eq!(rt; last, [0, 0, 195, 94].as_slice());
     Ok(())
 }

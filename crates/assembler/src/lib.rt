@@ -3,8 +3,8 @@
 
 mod assembling;
 mod checks;
-mod copies;
 mod error;
+mod instructions;
 mod labels;
 mod lasting;
 mod listings;
@@ -14,7 +14,7 @@ mod numbers;
 mod sizes;
 mod widths;
 
-pub use assembling::assemble;
+pub use assembling::{Assembled, assemble};
 pub use error::AsmError;
 pub use listings::listing;
 

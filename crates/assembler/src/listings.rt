@@ -10,8 +10,8 @@ ghost use Rattle.assembler.specs.declared.error.AsmError.TheVariants as error;
 ghost use Rattle.assembler.specs.declared.listings.CodeFault.TheVariants as fault;
 
 use crate::checks::{all_reach, lines_agree};
-use crate::copies::{copied, listed};
 use crate::error::AsmError;
+use crate::instructions::listed;
 use crate::labels::{label_pc, label_pcs};
 use crate::sizes::{has_right_size, pc_after};
 use crate::widths::narrow_numbers;
@@ -51,42 +51,42 @@ pub fn listing(alloc: Global, tree: &ClassTree) -> Result<Listing, AsmError>
     let narrow = narrow_numbers(alloc, tree.methods.as_slice())?;
     let methods = method_listings(alloc, narrow.as_slice(), tree.methods.as_slice())?;
     Ok(Listing {
-        name: copied(alloc, &tree.name)?,
+        name: tree.name.share()?,
         flags: tree.flags,
-        superclass: copied(alloc, &tree.superclass)?,
-        interfaces: copied_names(alloc, tree.interfaces.as_slice())?,
-        fields: copied_fields(alloc, tree.fields.as_slice())?,
+        superclass: tree.superclass.share()?,
+        interfaces: shared_names(alloc, tree.interfaces.as_slice())?,
+        fields: shared_fields(alloc, tree.fields.as_slice())?,
         methods,
     })
 }
 
-fn copied_names(alloc: Global, names: &[Name]) -> Result<Vec<Name>, AllocError>
-    ensures { IfOk result (λ copies. copies.items ≡ names.now) }
+fn shared_names(alloc: Global, names: &[Name]) -> Result<Vec<Name>, AllocError>
+    ensures { IfOk result (λ shared. shared.items ≡ names.now) }
 {
-    let mut copies = Vec::new(alloc);
+    let mut shared = Vec::new(alloc);
     for name in names {
-        copies.push(copied(alloc, name)?)?;
+        shared.push(name.share()?)?;
     }
-    Ok(copies)
+    Ok(shared)
 }
 
-fn copied_fields(alloc: Global, fields: &[Field]) -> Result<Vec<Field>, AllocError>
-    ensures { IfOk result (λ copies. copies.items ≡ fields.now) }
+fn shared_fields(alloc: Global, fields: &[Field]) -> Result<Vec<Field>, AllocError>
+    ensures { IfOk result (λ shared. shared.items ≡ fields.now) }
 {
-    let mut copies = Vec::new(alloc);
+    let mut shared = Vec::new(alloc);
     for field in fields {
-        copies.push(copied_field(alloc, field)?)?;
+        shared.push(shared_field(field)?)?;
     }
-    Ok(copies)
+    Ok(shared)
 }
 
-fn copied_field(alloc: Global, field: &Field) -> Result<Field, AllocError>
-    ensures { IfOk result (λ copy. copy ≡ field.now) }
+fn shared_field(field: &Field) -> Result<Field, AllocError>
+    ensures { IfOk result (λ shared. shared ≡ field.now) }
 {
     Ok(Field {
         flags: field.flags,
-        name: copied(alloc, &field.name)?,
-        descriptor: copied(alloc, &field.descriptor)?,
+        name: field.name.share()?,
+        descriptor: field.descriptor.share()?,
         constant: field.constant,
     })
 }
@@ -112,8 +112,8 @@ fn method_listing(alloc: Global, narrow: &[i32], method: &MethodTree) -> Result<
     ensures found { IfOk result (λ listing. (listing ≡ method_listing narrow.now method.now) × (method_is_right (method_listing narrow.now method.now) ≡ true)) }
     ensures only { IfErr result (λ e. method_assembles (method_listing narrow.now method.now) ≡ true → e ≡ error.Memory) }
 {
-    let name = copied(alloc, &method.name)?;
-    let descriptor = copied(alloc, &method.descriptor)?;
+    let name = method.name.share()?;
+    let descriptor = method.descriptor.share()?;
     let code = match &method.body {
         None => None,
         Some(body) => match code_listing(alloc, narrow, body) {
@@ -185,31 +185,27 @@ fn listed_rows(
 {
     let mut listed = Vec::new(alloc);
     for row in rows {
-        listed.push(listed_row(alloc, pcs, row)?)?;
+        listed.push(listed_row(pcs, row)?)?;
     }
     Ok(listed)
 }
 
-fn listed_row(
-    alloc: Global,
-    pcs: &Labels<'_, u16>,
-    row: &CatchRow,
-) -> Result<ExceptionRow, AllocError>
+fn listed_row(pcs: &Labels<'_, u16>, row: &CatchRow) -> Result<ExceptionRow, AllocError>
     ensures { IfOk result (λ listed. listed ≡ row_with (pc_in pcs.now) row.now) }
 {
     Ok(ExceptionRow {
         start: label_pc(pcs, &row.start),
         end: label_pc(pcs, &row.end),
         handler: label_pc(pcs, &row.handler),
-        class: copied_class(alloc, &row.class)?,
+        class: shared_class(&row.class)?,
     })
 }
 
-fn copied_class(alloc: Global, class: &Option<Name>) -> Result<Option<Name>, AllocError>
-    ensures { IfOk result (λ copy. copy ≡ class.now) }
+fn shared_class(class: &Option<Name>) -> Result<Option<Name>, AllocError>
+    ensures { IfOk result (λ shared. shared ≡ class.now) }
 {
     match class {
-        Some(name) => Ok(Some(copied(alloc, name)?)),
+        Some(name) => Ok(Some(name.share()?)),
         None => Ok(None),
     }
 }

@@ -70,8 +70,10 @@ impl Numbers {
         ensures full { result ≡ Err error.Full → 2 ^ 16 ≤ items_count (with_items self.old (text_item text.now ∷ [])) }
         ensures pool { IsPool self.new }
     {
-        let copy = Name::copy_of(self.alloc, text.as_bytes())?;
-        self.entry(Entry::Utf8(copy))
+        // what the type says of a pool holds also where the text can't be shared
+        let _ = &self.pool;
+        let shared = text.share()?;
+        self.entry(Entry::Utf8(shared))
     }
 
     /// The number of the name of an attribute.

@@ -199,11 +199,11 @@ fn run<F: Files, W: Write>(
 
 /// The class file of a text, as bytes.
 fn class_bytes(alloc: Global, name: &String, text: &[u8]) -> Result<Vec<u8>, Ending> {
-    let file = match assembled(alloc, text) {
-        Ok(file) => file,
+    let made = match assembled(alloc, text) {
+        Ok(made) => made,
         Err(error) => return Err(source_refused(alloc, name, &error)),
     };
-    match classfile::write(alloc, &file) {
+    match classfile::write(alloc, &made.file) {
         Ok(bytes) => Ok(bytes),
         Err(_) => Err(Ending::memory()),
     }

@@ -2,10 +2,10 @@
 ghost use Rattle.std.specs.Prelude.{◌≡◌, IfOk, IfErr};
 ghost use Rattle.model.specs.ClassFiles.Listing.{listing_of};
 ghost use Rattle.model.specs.ClassListings.{ClassListing};
-ghost use Rattle.jvm.specs.Launching.{IsListing, IsTextListing, LacksMemory, begins_as_class};
+ghost use Rattle.jvm.specs.Launching.{IsListing, IsClassListing, IsTextListing, LacksMemory, begins_as_class};
 
-use assembler::{AsmError, assemble};
-use classfile::{ClassError, ClassFile};
+use assembler::{AsmError, Assembled, assemble};
+use classfile::ClassError;
 use jasmin::TextError;
 use model::listings::Listing;
 use std::alloc::Global;
@@ -35,9 +35,12 @@ fn begins_as_class(source: &[u8]) -> bool
     source.starts_with(&[0xca, 0xfe, 0xba, 0xbe])
 }
 
-/// The class file that a text assembles to. A refusal of the text or of the assembler, or for memory.
-pub fn assembled(alloc: Global, text: &[u8]) -> Result<ClassFile, SourceError>
-    ensures found { IfOk result (λ file. IsTextListing text.now (listing_of file)) }
+/// What a text assembles to. A refusal of the text or of the assembler, or for memory.
+pub fn assembled(alloc: Global, text: &[u8]) -> Result<Assembled, SourceError>
+    // The class file has the text's listing.
+    ensures found { IfOk result (λ made. IsTextListing text.now (listing_of made.file)) }
+    // The listing is the text's.
+    ensures listed { IfOk result (λ made. IsTextListing text.now made.listing) }
     ensures refused { IfErr result (λ e. (LacksMemory e → ⊥) → (listing : ClassListing) → IsTextListing text.now listing → ⊥) }
 {
     let tree = match jasmin::read(alloc, text) {
@@ -46,33 +49,45 @@ pub fn assembled(alloc: Global, text: &[u8]) -> Result<ClassFile, SourceError>
     };
     jasmin::texts_are_spelled();
     match assemble(alloc, &tree) {
-        Ok(file) => Ok(file),
+        Ok(made) => Ok(made),
         Err(error) => Err(SourceError::Assembly(error)),
     }
 }
 
-/// The class file of a source: read, or assembled from its text.
-fn class_file(alloc: Global, source: &[u8]) -> Result<ClassFile, SourceError>
-    ensures found { IfOk result (λ file. IsListing source.now (listing_of file)) }
-    ensures refused { IfErr result (λ e. (LacksMemory e → ⊥) → (listing : ClassListing) → IsListing source.now listing → ⊥) }
+/// The listing of a text that assembles.
+fn text_listing(alloc: Global, text: &[u8]) -> Result<Listing, SourceError>
+    ensures found { IfOk result (λ listing. IsTextListing text.now listing) }
+    ensures refused { IfErr result (λ e. (LacksMemory e → ⊥) → (listing : ClassListing) → IsTextListing text.now listing → ⊥) }
 {
-    if !begins_as_class(source) {
-        return assembled(alloc, source);
-    }
-    match classfile::read(alloc, source) {
-        Ok(file) => Ok(file),
-        Err(error) => Err(SourceError::Class(error)),
+    match assembled(alloc, text) {
+        Ok(made) => Ok(made.listing),
+        Err(error) => Err(error),
     }
 }
 
-/// The listing of a source.
+/// The listing of a class file.
+fn class_listing(alloc: Global, bytes: &[u8]) -> Result<Listing, SourceError>
+    ensures found { IfOk result (λ listing. IsClassListing bytes.now listing) }
+    ensures refused { IfErr result (λ e. (LacksMemory e → ⊥) → (listing : ClassListing) → IsClassListing bytes.now listing → ⊥) }
+{
+    let file = match classfile::read(alloc, bytes) {
+        Ok(file) => file,
+        Err(error) => return Err(SourceError::Class(error)),
+    };
+    match classfile::listing(alloc, &file) {
+        Ok(listing) => Ok(listing),
+        Err(_) => Err(SourceError::Memory),
+    }
+}
+
+/// The listing of a source: read from its class file, or made from its text.
 pub fn source_listing(alloc: Global, source: &[u8]) -> Result<Listing, SourceError>
     ensures found { IfOk result (λ listing. IsListing source.now listing) }
     ensures refused { IfErr result (λ e. (LacksMemory e → ⊥) → (listing : ClassListing) → IsListing source.now listing → ⊥) }
 {
-    let file = class_file(alloc, source)?;
-    match classfile::listing(alloc, &file) {
-        Ok(listing) => Ok(listing),
-        Err(_) => Err(SourceError::Memory),
+    if begins_as_class(source) {
+        class_listing(alloc, source)
+    } else {
+        text_listing(alloc, source)
     }
 }

@@ -5,14 +5,13 @@ use Rattle.model.specs.ClassListings.{ClassListing}
 use Rattle.model.specs.Texts.Assembling.{assembles}
 use Rattle.model.specs.Texts.Flags.{has}
 use Rattle.model.specs.Texts.ListingOfTree.{listing_of}
-use Rattle.assembler.specs.Assembled.{code_stands, assembled, assembled_tree}
+use Rattle.classfile.specs.Classes.{IsClass}
+use Rattle.assembler.specs.Assembled.{code_stands, assembled}
 use Rattle.assembler.specs.Checks.{has_short_lists, method_is_right}
 use Rattle.assembler.specs.declared.error.AsmError.TheVariants as error
-use Rattle.assembler.specs.Numbering.{IsPool}
-use Rattle.assembler.proofs.FileLaws.{made_of, only_of}
 use Rattle.assembler.proofs.SmallLaws.{has_class}
 use Rattle.assembler.proofs.StayingLaws.{given_on}
-use Rattle.assembler.proofs.JoinedLaws as joined
+use Rattle.assembler.proofs.JoinedLaws.{joined}
 use Rattle.assembler.proofs.TreeLaws as laws
 use Rattle.assembler.proofs.assembling.assemble.Goals as goal
 use Rattle.assembler.proofs.assembling.assemble.Goals.{then-has_super-via-then-has_super, then-has_super-via-else-has_super+then-not-has_short_lists}
@@ -40,27 +39,29 @@ returns-in_err-note_methods-clause-only c spelled whole =
 pub class_file-requires : goal.class_file-requires
 class_file-requires c = subst (λ (l : ClassListing). list_all (λ m. code_stands m.code) l.methods ≡ true) (sym c.in_ok-listing.ensures.found.0) (laws.listing_stands c.args.tree.now)
 
+pub returns-in_err-file-clause-only : goal.returns-in_err-file-clause-only
+returns-in_err-file-clause-only c spelled whole =
+    let same = c.as_slice.ensures.value ∙ ap (λ t. t.methods) c.tree.view_is in
+    let pool = laws.tree_pool c.args.tree.now c.new-numbers.result c.note_methods.new.numbers c.as_slice.result.now c.new-numbers.ensures same c.in_ok-note_methods.ensures.noted c.in_ok-listing.listing c.in_ok-listing.ensures.found.0 in
+    given_on c.from_residual-in_err-file.result c.in_err-file.field-0.0 (λ e. e ≡ error.Memory) c.from_residual-in_err-file.ensures.1
+    (c.in_err-file.ensures.only (subst IsClass (sym pool) (has_class c.args.tree.now spelled whole)))
+
 pub returns-clause-made : goal.returns-clause-made
 returns-clause-made c =
     let same = c.as_slice.ensures.value ∙ ap (λ t. t.methods) c.tree.view_is in
     let pool = laws.tree_pool c.args.tree.now c.new-numbers.result c.note_methods.new.numbers c.as_slice.result.now c.new-numbers.ensures same c.in_ok-note_methods.ensures.noted c.in_ok-listing.listing c.in_ok-listing.ensures.found.0 in
-    made_of (IsPool (with_items c.note_methods.new.numbers (listing_items c.in_ok-listing.listing))) c.class_file.result (assembled (with_items c.note_methods.new.numbers (listing_items c.in_ok-listing.listing)) c.in_ok-listing.listing) (assembled_tree c.args.tree.now) pool c.class_file.ensures.found
-
-pub returns-clause-only : goal.returns-clause-only
-returns-clause-only c spelled whole =
-    let same = c.as_slice.ensures.value ∙ ap (λ t. t.methods) c.tree.view_is in
-    let pool = laws.tree_pool c.args.tree.now c.new-numbers.result c.note_methods.new.numbers c.as_slice.result.now c.new-numbers.ensures same c.in_ok-note_methods.ensures.noted c.in_ok-listing.listing c.in_ok-listing.ensures.found.0 in
-    only_of c.class_file.result (assembled (with_items c.note_methods.new.numbers (listing_items c.in_ok-listing.listing)) c.in_ok-listing.listing) (assembled_tree c.args.tree.now) pool c.class_file.ensures.only (has_class c.args.tree.now spelled whole)
+    c.in_ok-file.ensures.found.0 ∙ pool
 
 pub returns-clause-found : goal.returns-clause-found
 returns-clause-found c =
     let t = c.args.tree.now in
     let l = c.in_ok-listing.ensures.found.0 in
+    let items = with_items c.note_methods.new.numbers (listing_items c.in_ok-listing.listing) in
     let same = c.as_slice.ensures.value ∙ ap (λ t. t.methods) c.tree.view_is in
     let pool = laws.tree_pool t c.new-numbers.result c.note_methods.new.numbers c.as_slice.result.now c.new-numbers.ensures same c.in_ok-note_methods.ensures.noted c.in_ok-listing.listing l in
-    let items = laws.tree_items_are t c.new-numbers.result c.note_methods.new.numbers c.as_slice.result.now c.new-numbers.ensures same c.in_ok-note_methods.ensures.noted c.in_ok-listing.listing l in
+    let items_are = laws.tree_items_are t c.new-numbers.result c.note_methods.new.numbers c.as_slice.result.now c.new-numbers.ensures same c.in_ok-note_methods.ensures.noted c.in_ok-listing.listing l in
     let short = sym (ap has_short_lists l) ∙ sym c.has_short_lists.ensures ∙ c.if-not-has_short_lists.false in
     let right = sym (ap (λ k. list_all method_is_right k.methods) l) ∙ c.in_ok-listing.ensures.found.1 in
     let super = sym (ap (λ k. has k.flags.0 0x0020) l) ∙ sym c.has_super.ensures.is ∙ c.if-has_super.false in
     let fits = subst (λ (k : ClassListing). k.flags.0 < 2 ^ 16) l c.has_super.ensures.fits in
-    joined.found_of c.class_file.result (with_items c.note_methods.new.numbers (listing_items c.in_ok-listing.listing)) (assembled (with_items c.note_methods.new.numbers (listing_items c.in_ok-listing.listing)) c.in_ok-listing.listing) t items pool right short super fits c.class_file.ensures.found
+    joined c.in_ok-file.file items (assembled items c.in_ok-listing.listing) t items_are pool right short super fits c.in_ok-file.ensures.found.0 c.in_ok-file.ensures.found.1

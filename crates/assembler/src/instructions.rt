@@ -15,20 +15,14 @@ use model::names::{Member, Name};
 use model::trees::Written;
 use std::alloc::{AllocError, Global};
 
-/// A name of one's own.
-pub fn copied(alloc: Global, name: &Name) -> Result<Name, AllocError>
-    ensures { IfOk result (λ copy. copy ≡ name.now) }
-{
-    Name::copy_of(alloc, name.as_bytes())
-}
-
-fn copied_member(alloc: Global, member: &Member) -> Result<Member, AllocError>
-    ensures { IfOk result (λ copy. copy ≡ member.now) }
+/// A member of the same names.
+fn shared_member(member: &Member) -> Result<Member, AllocError>
+    ensures { IfOk result (λ shared. shared ≡ member.now) }
 {
     Ok(Member {
-        class: copied(alloc, &member.class)?,
-        name: copied(alloc, &member.name)?,
-        descriptor: copied(alloc, &member.descriptor)?,
+        class: member.class.share()?,
+        name: member.name.share()?,
+        descriptor: member.descriptor.share()?,
     })
 }
 
@@ -57,22 +51,13 @@ pub fn listed(
             alloc, pcs, lookup,
         )?),
         Instruction::Return(kind) => Instruction::Return(*kind),
-        Instruction::Static(access, field) => Instruction::Static(
-            *access,
-            copied_member(alloc, field)?,
-        ),
-        Instruction::Field(access, field) => Instruction::Field(
-            *access,
-            copied_member(alloc, field)?,
-        ),
-        Instruction::Array(operation) => Instruction::Array(copied_array(alloc, operation)?),
-        Instruction::Class(operation, class) => Instruction::Class(
-            *operation,
-            copied(alloc, class)?,
-        ),
+        Instruction::Static(access, field) => Instruction::Static(*access, shared_member(field)?),
+        Instruction::Field(access, field) => Instruction::Field(*access, shared_member(field)?),
+        Instruction::Array(operation) => Instruction::Array(shared_array(operation)?),
+        Instruction::Class(operation, class) => Instruction::Class(*operation, class.share()?),
         Instruction::Invoke(invocation, method) => Instruction::Invoke(
             *invocation,
-            copied_member(alloc, method)?,
+            shared_member(method)?,
         ),
         Instruction::Throw => Instruction::Throw,
         Instruction::Monitor(operation) => Instruction::Monitor(*operation),
@@ -94,15 +79,12 @@ fn widened_constant(narrow: &[i32], constant: Constant<i32, i64>) -> Constant<i3
     }
 }
 
-fn copied_array(
-    alloc: Global,
-    operation: &ArrayOperation<Name>,
-) -> Result<ArrayOperation<Name>, AllocError>
-    ensures { IfOk result (λ copy. copy ≡ operation.now) }
+fn shared_array(operation: &ArrayOperation<Name>) -> Result<ArrayOperation<Name>, AllocError>
+    ensures { IfOk result (λ shared. shared ≡ operation.now) }
 {
     Ok(match operation {
         ArrayOperation::New(primitive) => ArrayOperation::New(*primitive),
-        ArrayOperation::NewOf(class) => ArrayOperation::NewOf(copied(alloc, class)?),
+        ArrayOperation::NewOf(class) => ArrayOperation::NewOf(class.share()?),
         ArrayOperation::Length => ArrayOperation::Length,
         ArrayOperation::Load(kind) => ArrayOperation::Load(*kind),
         ArrayOperation::Store(kind) => ArrayOperation::Store(*kind),

@@ -1,6 +1,6 @@
 use Rattle.std.proofs.Common.{◌≡◌, ◌++◌, drop, map}
 use Rattle.assembler.specs.Checks.{pc_in}
-use Rattle.assembler.proofs.copies.listed_targets.Given as goal
+use Rattle.assembler.proofs.instructions.listed_targets.Given as goal
 
 -- the pcs so far, and those of the labels that follow
 abbrev pub invariant-loop-label : goal.invariant-loop-label

@@ -1,6 +1,6 @@
 use Rattle.std.proofs.Common.{◌≡◌, ◌++◌, drop, map}
 use Rattle.assembler.specs.Checks.{pc_in}
-use Rattle.assembler.proofs.copies.listed_pairs.Given as goal
+use Rattle.assembler.proofs.instructions.listed_pairs.Given as goal
 
 -- the pairs so far, and those that follow
 abbrev pub invariant-loop-key : goal.invariant-loop-key
