@@ -1,5 +1,5 @@
 -- Plain words can be written: they are of the ASCII characters but NUL, and have 65,535 bytes at most.
-use Rattle.std.proofs.Common.{◌≡◌, ℕ, ◌&&◌, true, List, length, arith}
+use Rattle.std.proofs.Common.{◌≡◌, ℕ, true, List, length, arith}
 use Rattle.std.specs.Prelude.{nat_le}
 use Rattle.std.specs.List.{list_all}
 use Rattle.std.proofs.lemmas.Bool.{and_parts, and_from, leb-true, le-leb}

@@ -1,17 +1,7 @@
 -- Types in a row, one after the other.
-use Rattle.std.proofs.Common.{◌≡◌, ℕ, zero, suc, ◌+◌, ◌<◌, ◌≤◌, ◌==◌, Bool, true, false, List, [], ◌∷◌, length, take, drop, min, refl, sym, ap, ap₂, ◌∙◌, arith}
-use Rattle.std.specs.List.{position_or_len}
+use Rattle.std.proofs.Common.{◌≡◌, ℕ, zero, suc, ◌<◌, ◌≤◌, ◌==◌, Bool, true, false, List, [], ◌∷◌, length, take, drop, min, refl, sym, ap, ap₂, ◌∙◌, arith}
 use Rattle.std.proofs.lemmas.List.{length-drop, take_min, drop_min}
-use Rattle.model.specs.Signatures.{dimensions, element_length, type_length, types_within, types_in}
-
-one_more : (n : ℕ) → 1 + n ≡ suc n
-one_more n = omega arith
-
-two_more : (n : ℕ) → 2 + n ≡ suc (1 + n)
-two_more n = omega arith
-
-none_more : (n : ℕ) → 0 + n ≡ n
-none_more n = omega arith
+use Rattle.model.specs.Signatures.{type_length, types_within, types_in}
 
 -- a type has a byte at least
 begins : (b : ℕ) (bs : List ℕ) (array class : Bool) → (b == 91) ≡ array → (b == 76) ≡ class → 0 < type_length (b ∷ bs)

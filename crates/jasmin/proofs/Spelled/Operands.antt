@@ -1,5 +1,5 @@
 -- Numbers and names have the ranges and forms that a listing asks for.
-use Rattle.std.proofs.Common.{◌≡◌, ℕ, ℤ, true, ◌&&◌, ◌||◌, List, [], ◌∷◌, refl, subst, sym, Some, None, Option}
+use Rattle.std.proofs.Common.{◌≡◌, ℕ, ℤ, true, ◌&&◌, ◌||◌, List, refl, subst, sym, Some, None, Option}
 use Rattle.std.specs.Prelude.{IfSome, if◌then◌else◌, nat_le, int_le}
 use Rattle.model.specs.ClassFiles.References.{names_class, fits_units}
 use Rattle.model.specs.Texts.Descriptors.{arguments_of, is_field_descriptor, is_array_descriptor}
