@@ -5,3 +5,4 @@ pub mod ReachedLemmas
 pub mod InterfaceLemmas
 pub mod NamedLemmas
 pub mod SearchLemmas
+pub mod TypeLemmas

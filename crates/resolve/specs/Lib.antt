@@ -1,4 +1,5 @@
 pub mod Builtins
+pub mod Elements
 pub mod Hierarchies
 pub mod Indexed
 pub mod Interfaces

@@ -16,3 +16,4 @@ mod resolution;
 mod search;
 mod sought;
 pub mod subclasses;
+mod types;
