@@ -1,3 +1,4 @@
+pub mod AboveLemmas
 pub mod BuiltinLemmas
 pub mod IndexLemmas
 pub mod ParentLemmas

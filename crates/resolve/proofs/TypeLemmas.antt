@@ -1,9 +1,9 @@
 -- Types taken apart, element by element.
-use Rattle.std.proofs.Common.{◌≡◌, ℕ, zero, suc, ◌+◌, ◌-◌, ◌<◌, ◌≤◌, List, Bool, true, false, Option, Some, None, is_some, Bor, length, refl, sym, ap, ◌∙◌, arith}
+use Rattle.std.proofs.Common.{◌≡◌, ℕ, suc, ◌+◌, ◌-◌, ◌<◌, ◌≤◌, List, Bool, true, false, Option, Some, None, is_some, Bor, refl, sym, ap, ◌∙◌, arith}
 use Rattle.std.specs.Option.{option_copied}
 use Rattle.model.specs.ClassListings.{ClassListing}
 use Rattle.model.specs.Classes.Named.{class_named}
-use Rattle.model.specs.Classes.Types.{Element, element_of, is_there_within, type_is_there}
+use Rattle.model.specs.Classes.Types.{element_of, is_there_within, type_is_there}
 use Rattle.model.specs.Classes.Types.Element.{Number, Reference}
 
 -- whether a type is there, seen from what so many steps have left

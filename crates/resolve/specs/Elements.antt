@@ -1,4 +1,4 @@
-use Rattle.std.specs.Prelude.{Option, Some, None}
+use Rattle.std.specs.Prelude.{Option}
 use Rattle.std.specs.Option.{option_map}
 use Rattle.model.specs.Classes.Types.{Element}
 use Rattle.model.specs.Classes.Types.Element.{Number, Reference}

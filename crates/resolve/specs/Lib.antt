@@ -1,3 +1,4 @@
+pub mod Above
 pub mod Builtins
 pub mod Elements
 pub mod Hierarchies

@@ -1,4 +1,4 @@
-use Rattle.std.proofs.Common.{◌≡◌, ◌+◌, ℕ, List, Bor, Some, length, ap, subst, sym, ◌∙◌, arith}
+use Rattle.std.proofs.Common.{◌+◌, ℕ, List, Bor, Some, length, ap, subst, sym, ◌∙◌, arith}
 use Rattle.model.specs.Classes.Named.{class_named}
 use Rattle.model.specs.Classes.Types.{is_type}
 use Rattle.resolve.specs.Elements.{shown}
