@@ -17,7 +17,7 @@ tells : (b : Bool) → Tells b
 tells true = inl refl
 tells false = inr refl
 
-turned : (x y : List ℕ) → bytes_eq x y ≡ bytes_eq y x
+pub turned : (x y : List ℕ) → bytes_eq x y ≡ bytes_eq y x
 turned x y = by (bytes_eq x y) (bytes_eq y x) refl refl
   where
     by : (a b : Bool) → bytes_eq x y ≡ a → bytes_eq y x ≡ b → a ≡ b

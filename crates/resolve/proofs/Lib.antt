@@ -1,3 +1,4 @@
+pub mod AboveLemmas
 pub mod BuiltinLemmas
 pub mod IndexLemmas
 pub mod ParentLemmas
@@ -5,3 +6,4 @@ pub mod ReachedLemmas
 pub mod InterfaceLemmas
 pub mod NamedLemmas
 pub mod SearchLemmas
+pub mod TypeLemmas

@@ -1,4 +1,6 @@
+pub mod Above
 pub mod Builtins
+pub mod Elements
 pub mod Hierarchies
 pub mod Indexed
 pub mod Interfaces

@@ -3,10 +3,11 @@ ghost use Rattle.std.specs.Prelude.{◌≡◌, IfOk, IfSome};
 ghost use Rattle.std.specs.Option.{option_copied, option_map};
 ghost use Rattle.std.specs.List.{find};
 ghost use Rattle.model.specs.Classes.Named.{is_named, class_named, listed};
-ghost use Rattle.model.specs.Classes.Subclasses.{enough_steps};
+ghost use Rattle.model.specs.Classes.Subclasses.{enough_steps, is_subclass};
 ghost use Rattle.resolve.specs.Hierarchies.{AreMade};
 ghost use Rattle.resolve.specs.Interfaces.{interfaces_once};
 
+use crate::above::Above;
 use crate::builtins::builtin_classes;
 use crate::index::Index;
 use crate::interfaces::{interface_lists, list_named};
@@ -23,6 +24,7 @@ pub struct Classes<'a> {
     index: Index<'a>,
     own: Vec<Listing>,
     interfaces: Vec<Reached<'a>>,
+    above: Above<'a>,
 }
 
 impl<'a> Model for Classes<'a> {
@@ -34,7 +36,7 @@ impl<'a> Model for Classes<'a> {
 
     ghost view = { λ a. a.index };
 
-    ghost invariant = { λ a. AreTables a.index a.own.items a.interfaces.items };
+    ghost invariant = { λ a. AreTables a.index a.own.items a.interfaces.items a.above };
 }
 
 fn is_named(class: &Listing, name: &[u8]) -> bool
@@ -65,10 +67,12 @@ impl<'a> Classes<'a> {
         }
         let own = builtin_classes(alloc)?;
         let interfaces = interface_lists(alloc, &index)?;
+        let above = Above::new(alloc, &index)?;
         Ok(Some(Classes {
             index,
             own,
             interfaces,
+            above,
         }))
     }
 
@@ -110,5 +114,12 @@ impl<'a> Classes<'a> {
         ensures { option_copied result ≡ listed self.now name.now }
     {
         self.index.listed(name)
+    }
+
+    /// Whether a class is another's subclass: the same, or below it through superclasses and superinterfaces.
+    pub fn is_subclass(&self, name: &[u8], above: &[u8]) -> bool
+        ensures { result ≡ is_subclass self.now name.now above.now }
+    {
+        self.above.is_subclass(name, above)
     }
 }

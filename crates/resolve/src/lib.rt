@@ -4,6 +4,7 @@
 //! Each question is a function of its own, under the name that the definitions of the crate `model` give it.
 #![tactic(auto)]
 
+mod above;
 pub mod builtins;
 pub mod classes;
 pub mod found;
@@ -16,3 +17,4 @@ mod resolution;
 mod search;
 mod sought;
 pub mod subclasses;
+mod types;
