@@ -10,8 +10,8 @@ ghost use Rattle.model.specs.Classes.Resolution.{is_initializer, resolved_field,
 ghost use Rattle.model.specs.Classes.Types.{dimensions};
 ghost use Rattle.model.specs.Accepted.References.{is_static_found, is_instance_found, is_static_method_found, is_concrete_found, is_interface_found, names_class, finds_static, finds_instance, invocation_resolves, array_resolves, class_resolves, resolves, catch_resolves, is_unresolved_in, has_unresolved};
 
-use crate::arguments::argument_units;
 use bitflags::Flags;
+use model::descriptors::argument_units;
 use model::flags::{ClassFlags, FieldFlags, MethodFlags};
 use model::instructions::{ArrayOperation, ClassOperation, Instruction, Invocation};
 use model::listings::{ExceptionRow, Listed, Listing, Method, Placed};
