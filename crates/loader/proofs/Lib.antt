@@ -1,9 +1,6 @@
 pub mod ArgumentLemmas
 pub mod BuiltinLemmas
-pub mod IndexLemmas
 pub mod LimitLemmas
-pub mod ParentLemmas
-pub mod ReachedLemmas
 pub mod RepeatLemmas
 pub mod ReferenceLemmas
 pub mod RunLemmas

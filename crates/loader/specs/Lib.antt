@@ -1,9 +1,6 @@
 pub mod Arguments
-pub mod Builtins
 pub mod Errors
-pub mod Indexed
 pub mod Prepared
-pub mod Reached
 pub mod Repeats
 pub mod Steps
 pub mod Told

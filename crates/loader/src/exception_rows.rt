@@ -3,9 +3,9 @@ ghost use Rattle.std.specs.Prelude.{◌≡◌, ◌==◌, ◌&&◌, ◌||◌, nat
 ghost use Rattle.std.specs.List.{list_any};
 ghost use Rattle.model.specs.Accepted.ExceptionRows.{is_instruction, code_length, is_bad_row, is_no_throwable, has_bad_row_in, has_bad_row};
 
-use crate::index::Index;
-use crate::subclasses::is_subclass;
 use model::listings::{Code, ExceptionRow, Listing, Method};
+use resolve::index::Index;
+use resolve::subclasses::is_subclass;
 use std::alloc::{AllocError, Global};
 
 /// Whether an instruction of the code begins at this pc.

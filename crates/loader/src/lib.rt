@@ -6,19 +6,14 @@
 
 pub mod acceptance;
 mod arguments;
-mod builtins;
-mod classes;
 pub mod errors;
 mod exception_rows;
-mod index;
 mod limits;
 mod members;
 pub mod programs;
-mod reached;
 mod repeats;
 mod rules;
 mod served;
-mod subclasses;
 mod superclasses;
 #[cfg(test)]
 mod tests;

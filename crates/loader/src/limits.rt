@@ -6,10 +6,10 @@ ghost use Rattle.model.specs.declared.listings.Method.{Method as MethodListing};
 ghost use Rattle.model.specs.Accepted.LimitsOfClasses.{own_fields, fields_within, has_too_many_fields, passes_limits, is_too_large, first_past_limits};
 
 use crate::arguments::argument_units;
-use crate::index::Index;
 use bitflags::Flags;
 use model::flags::{FieldFlags, MethodFlags};
 use model::listings::{Listing, Method};
+use resolve::index::Index;
 
 /// Whether the locals of a method don't hold its arguments, or a frame of it takes more than 4,096 units.
 fn passes_limits(method: &Method) -> bool

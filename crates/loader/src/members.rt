@@ -7,14 +7,14 @@ ghost use Rattle.model.specs.Accepted.MembersTwice.{has_field_twice, has_method_
 ghost use Rattle.model.specs.Accepted.RefusedMembers.{is_wrong_initializer, is_run, is_refused, has_refused_member};
 ghost use Rattle.loader.specs.Repeats.{signature_again};
 
-use crate::index::Index;
 use crate::programs::is_class_initializer;
 use crate::repeats::Repeats;
 use crate::served::serves;
-use crate::subclasses::is_subclass;
 use bitflags::Flags;
 use model::flags::MethodFlags;
 use model::listings::{Field, Listing, Method};
+use resolve::index::Index;
+use resolve::subclasses::is_subclass;
 use std::alloc::{AllocError, Global};
 
 /// The name and the descriptor of a member.

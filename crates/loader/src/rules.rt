@@ -13,15 +13,16 @@ ghost use Rattle.model.specs.Accepted.Refusals.{refused_by, refused_main, refusa
 ghost use Rattle.loader.specs.declared.rules.Stop.TheVariants.{Refused, Memory};
 ghost use Rattle.loader.specs.Told.{refusal_in, StopsAt};
 
-use crate::classes::is_builtin;
 use crate::exception_rows::has_bad_row;
-use crate::index::Index;
 use crate::limits::first_past_limits;
 use crate::members::{has_member_twice, has_refused_member};
 use crate::programs::is_main;
-use crate::superclasses::{first_class_twice, has_missing_parent, has_wrong_parent, is_on_cycle};
+use crate::superclasses::{first_class_twice, has_wrong_parent};
 use model::listings::{Listing, Method};
 use model::refusals::LoadRule;
+use resolve::builtins::is_builtin;
+use resolve::index::Index;
+use resolve::parents::{first_on_cycle, first_with_missing_parent};
 use std::alloc::{AllocError, Global};
 
 /// A rule that is broken, and the first class in order that breaks it. Only the rule on main can be broken by none.
@@ -44,37 +45,13 @@ fn has_builtin_name(class: &Listing) -> bool
     is_builtin(class.name.as_bytes())
 }
 
-fn first_with_missing_parent<'a>(index: &Index<'_>, program: &'a [Listing]) -> Option<&'a Listing>
-    ensures { option_copied result ≡ find (has_missing_parent index.now) program.now }
-{
-    program
-        .iter()
-        .find(|class| has_missing_parent(index, class))
-}
-
-/// The first class on a cycle. `AllocError` where memory runs out, here and below.
-fn first_on_cycle<'a>(
-    alloc: Global,
-    index: &Index<'a>,
-    program: &'a [Listing],
-) -> Result<Option<&'a Listing>, AllocError>
-    ensures { IfOk result (λ found. option_copied found ≡ find (is_on_cycle index.now) program.now) }
-{
-    for class in program {
-        if is_on_cycle(alloc, index, class)? {
-            return Ok(Some(class));
-        }
-    }
-    Ok(None)
-}
-
 fn first_with_wrong_parent<'a>(index: &Index<'_>, program: &'a [Listing]) -> Option<&'a Listing>
     ensures { option_copied result ≡ find (has_wrong_parent index.now) program.now }
 {
     program.iter().find(|class| has_wrong_parent(index, class))
 }
 
-/// The first class with a member twice.
+/// The first class with a member twice. `AllocError` where memory runs out, here and below.
 fn first_with_member_twice(
     alloc: Global,
     program: &[Listing],

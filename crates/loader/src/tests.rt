@@ -1,38 +1,78 @@
-//! The smallest listings that break each rule, with what users are told.
+//! Small programs in words, with what users are told of each; and which exception rows are refused.
 
 use super::*;
+use crate::exception_rows::has_bad_row;
 use bitflags::Flags;
 use model::flags::{ClassFlags, FieldFlags, MethodFlags};
-use model::instructions::{Instruction, Invocation};
+use model::instructions::Instruction;
 use model::listings::{Code, ExceptionRow, Field, Listed, Listing, Method, Placed};
-use model::names::{Member, Name};
+use model::names::Name;
+use resolve::index::Index;
 use std::alloc::{AllocError, Global};
+use std::process::Abort;
 use std::test::Fail;
 
-const PUBLIC_STATIC: u16 = 0x0009;
+// In each row a program, and what users are told. A semicolon stands between classes. A class is its name and then, in
+// any order, `^` with its superclass, `+` with a superinterface, `final`, `abstract` or `interface`, fields as `x:I`
+// and methods as `f()V`. Behind `@` stand flags, in a method also the limits of locals and stack.
+
+/// Programs that keep all rules, and one that has no class.
+const ACCEPTED: &str = " => L9
+E main()V@9,0,0 => accepted
+E main()V@9,0,0; F ^E; T ^java/lang/Thread => accepted
+E main()V@9,0,0 +J +J; J interface => accepted
+E main()V@9,0,0 +J; J interface +K; K interface => accepted
+java/lang/Threads main()V@9,0,0 => accepted
+E main()V@9,0,0 f()V@9,0,0 f(I)V@9,1,0 x:I x:J y:I => accepted
+E main()V@9,96,4000 => accepted
+E main()V@9,0,0 f(IJ)V@9,3,0 g(IJ)V@1,4,0 => accepted
+E main()V@9,0,0 f()V@33,1,0 run()V@33,1,0 => accepted
+";
+
+/// Each rule alone, broken by the first class, by one in the middle and by the last.
+const ONE_RULE: &str = "java/lang/Thread main()V@9,0,0 => L11 in class java/lang/Thread
+E main()V@9,0,0; F; vm/Sys => L11 in class vm/Sys
+E main()V@9,0,0; X; Y; Y; X => L1 in class X
+E main()V@9,0,0; X; X => L1 in class X
+X main()V@9,0,0 ^Y => L2 in class X
+E main()V@9,0,0; F; X +Y => L2 in class X
+X main()V@9,0,0 +J; J interface +K => L2 in class J
+X main()V@9,0,0 ^X => L3 in class X
+E main()V@9,0,0; W ^X; X ^Y; Y ^Z; Z ^X => L3 in class X
+X main()V@9,0,0 +J; J interface +K; K interface +J => L3 in class J
+X main()V@9,0,0 ^J; J interface => L4 in class X
+E main()V@9,0,0; F final; X ^F => L4 in class X
+X main()V@9,0,0 +F; F => L4 in class X
+E main()V@9,0,0; X +java/lang/Thread => L4 in class X
+X main()V@9,0,0 main()V@9,0,0 => L5 in class X
+E main()V@9,0,0; X x:I y:I z:I x:I@2 => L5 in class X
+E main()V@9,0,0 n()V@257,1,0 => L10 in class E
+E main()V@9,0,0; X f()V@41,0,0 => L10 in class X
+E main()V@9,0,0; X ^java/lang/Thread; T ^X run()V@33,1,0 => L10 in class T
+E main()V@9,0,0; X <clinit>()V@1,1,0 => L10 in class X
+E main()V@9,0,0; X <clinit>(I)V@8,1,0 => L10 in class X
+E main()V@9,0,0; X x:I@8 => L10 in class X
+X main()V@9,97,4000 => L8 in class X
+E main()V@9,0,0; X f(IJ)V@9,2,0 => L8 in class X
+E main()V@9,0,0; X f(IJ)V@1,3,0 => L8 in class X
+X => L9 in class X
+X main()V@1,1,0; E main()V@9,0,0 => L9 in class X
+X main(I)V@9,1,0 => L9 in class X
+";
+
+/// Two rules that stand behind each other, the later one broken by the earlier class.
+const TWO_RULES: &str = "E main()V@9,0,0; E; vm/Sys => L11 in class vm/Sys
+E main()V@9,0,0 ^Y; X; X => L1 in class X
+E main()V@9,0,0 ^E; X ^Y => L2 in class X
+E main()V@9,0,0 +F; F; X ^X => L3 in class X
+E main()V@9,0,0 x:I x:I; X +E => L4 in class X
+E main()V@9,0,0 n()V@257,1,0; X x:I x:I => L5 in class X
+E main()V@9,97,4000; X n()V@257,1,0 => L10 in class X
+E; X f()V@1,0,0 => L8 in class X
+";
 
 fn name(alloc: Global, text: &str) -> Result<Name, AllocError> {
     Name::copy_of(alloc, text.as_bytes())
-}
-
-fn class(alloc: Global, class: &str, superclass: &str, flags: u16) -> Result<Listing, AllocError> {
-    Ok(Listing {
-        name: name(alloc, class)?,
-        flags: ClassFlags::from_bits_retain(flags),
-        superclass: name(alloc, superclass)?,
-        interfaces: Vec::new(alloc),
-        fields: Vec::new(alloc),
-        methods: Vec::new(alloc),
-    })
-}
-
-fn field(alloc: Global, text: &str, flags: u16) -> Result<Field, AllocError> {
-    Ok(Field {
-        flags: FieldFlags::from_bits_retain(flags),
-        name: name(alloc, text)?,
-        descriptor: name(alloc, "I")?,
-        constant: None,
-    })
 }
 
 fn placed(pc: u8, instruction: Listed) -> Placed {
@@ -43,120 +83,106 @@ fn placed(pc: u8, instruction: Listed) -> Placed {
     }
 }
 
-/// This instruction and a return, under limits of stack and locals.
-fn code(alloc: Global, limits: (u16, u16), first: Listed) -> Result<Code, AllocError> {
+/// Two instructions of one byte each that do nothing, under limits of locals and stack.
+fn code(alloc: Global, max_locals: u16, max_stack: u16) -> Result<Code, AllocError> {
     let mut instructions = Vec::new(alloc);
-    instructions.push(placed(0, first))?;
+    instructions.push(placed(0, Instruction::Nop))?;
     instructions.push(placed(1, Instruction::Return(None)))?;
     Ok(Code {
-        max_stack: limits.0,
-        max_locals: limits.1,
+        max_stack,
+        max_locals,
         rows: Vec::new(alloc),
         instructions,
     })
 }
 
-/// A method with this code.
-fn method(
-    alloc: Global,
-    text: &str,
-    descriptor: &str,
-    flags: u16,
-    code: Code,
-) -> Result<Method, AllocError> {
+/// A method, as `f()V@9,0,0`.
+fn method(alloc: Global, words: &str) -> Result<Method, Fail> {
+    let (signature, numbers) = words.split_once("@").ok_or("no numbers")?;
+    let (flags, limits) = numbers.split_once(",").ok_or("no limits")?;
+    let (max_locals, max_stack) = limits.split_once(",").ok_or("no stack")?;
+    let (called, types) = signature.split_once("(").ok_or("no method")?;
+    let descriptor = format!(in alloc; "({types}")?;
     Ok(Method {
-        flags: MethodFlags::from_bits_retain(flags),
-        name: name(alloc, text)?,
-        descriptor: name(alloc, descriptor)?,
-        code: Some(code),
+        flags: MethodFlags::from_bits_retain(flags.parse::<u16>()?),
+        name: name(alloc, called)?,
+        descriptor: name(alloc, descriptor.as_str())?,
+        code: Some(code(alloc, max_locals.parse::<u16>()?, max_stack.parse::<u16>()?)?),
     })
 }
 
-/// A method that does nothing, under limits of stack and locals.
-fn empty(
-    alloc: Global,
-    text: &str,
-    descriptor: &str,
-    flags: u16,
-    limits: (u16, u16),
-) -> Result<Method, AllocError> {
-    let code = code(alloc, limits, Instruction::Nop)?;
-    method(alloc, text, descriptor, flags, code)
+/// A field, as `x:I` or `x:I@8`.
+fn field(alloc: Global, words: &str) -> Result<Field, Fail> {
+    let (called, rest) = words.split_once(":").ok_or("no field")?;
+    let (descriptor, flags) = rest.split_once("@").unwrap_or((rest, "1"));
+    Ok(Field {
+        flags: FieldFlags::from_bits_retain(flags.parse::<u16>()?),
+        name: name(alloc, called)?,
+        descriptor: name(alloc, descriptor)?,
+        constant: None,
+    })
 }
 
-fn main(alloc: Global) -> Result<Method, AllocError> {
-    empty(alloc, "main", "()V", PUBLIC_STATIC, (0, 0))
-}
-
-/// A class in a few words: a main is one that does nothing, fields are f0, f1 and so on.
-#[derive(Clone, Copy)]
-struct Plan<'a> {
-    name: &'a str,
-    superclass: &'a str,
-    flags: u16,
-    interface: Option<&'a str>,
-    has_main: bool,
-    fields: u16,
-}
-
-/// A public class with nothing in it.
-fn below<'a>(name: &'a str, superclass: &'a str) -> Plan<'a> {
-    Plan {
-        name,
-        superclass,
-        flags: 1,
-        interface: None,
-        has_main: false,
-        fields: 0,
-    }
-}
-
-/// A class over Object.
-fn plain(name: &str) -> Plan<'_> {
-    below(name, "java/lang/Object")
-}
-
-/// A class over Object with a main, which is a program by itself.
-fn program(name: &str) -> Plan<'_> {
-    Plan {
-        has_main: true,
-        ..plain(name)
-    }
-}
-
-/// An interface over Object with a superinterface.
-fn interface<'a>(name: &'a str, above: Option<&'a str>) -> Plan<'a> {
-    Plan {
-        flags: 0x0600,
-        interface: above,
-        ..plain(name)
-    }
-}
-
-/// The class that a plan is of.
-fn listed(alloc: Global, plan: Plan<'_>) -> Result<Listing, Fail> {
-    let mut class = class(alloc, plan.name, plan.superclass, plan.flags)?;
-    if let Some(interface) = plan.interface {
+/// Adds what a word says of a class.
+fn add(alloc: Global, class: &mut Listing, word: &str) -> Result<(), Fail> {
+    if let Some(interface) = word.strip_prefix("+") {
         class.interfaces.push(name(alloc, interface)?)?;
+    } else if word.contains("(") {
+        class.methods.push(method(alloc, word)?)?;
+    } else if word.contains(":") {
+        class.fields.push(field(alloc, word)?)?;
     }
-    if plan.has_main {
-        class.methods.push(main(alloc)?)?;
+    Ok(())
+}
+
+fn flags_of(words: &str) -> ClassFlags {
+    let mut flags = ClassFlags::PUBLIC;
+    for word in words.split(" ") {
+        match word {
+            "final" => flags = flags.union(ClassFlags::FINAL),
+            "abstract" => flags = flags.union(ClassFlags::ABSTRACT),
+            "interface" => flags = flags.union(ClassFlags::INTERFACE),
+            _ => {}
+        }
     }
-    for number in 0..plan.fields {
-        class
-            .fields
-            .push(field(alloc, format!(in alloc; "f{number}")?.as_str(), 1)?)?;
+    flags
+}
+
+fn superclass_of(words: &str) -> &str {
+    for word in words.split(" ") {
+        if let Some(name) = word.strip_prefix("^") {
+            return name;
+        }
+    }
+    "java/lang/Object"
+}
+
+/// The class of some words.
+fn listed(alloc: Global, words: &str) -> Result<Listing, Fail> {
+    let (called, rest) = words.split_once(" ").unwrap_or((words, ""));
+    let mut class = Listing {
+        name: name(alloc, called)?,
+        flags: flags_of(rest),
+        superclass: name(alloc, superclass_of(rest))?,
+        interfaces: Vec::new(alloc),
+        fields: Vec::new(alloc),
+        methods: Vec::new(alloc),
+    };
+    for word in rest.split(" ") {
+        add(alloc, &mut class, word)?;
     }
     Ok(class)
 }
 
-/// What users are told of the classes of these plans.
-fn told_of(alloc: Global, plans: &[Plan<'_>]) -> Result<String, Fail> {
+/// The classes of some words.
+fn program(alloc: Global, words: &str) -> Result<Vec<Listing>, Fail> {
     let mut classes = Vec::new(alloc);
-    for plan in plans {
-        classes.push(listed(alloc, *plan)?)?;
+    for class in words.split("; ") {
+        if !class.is_empty() {
+            classes.push(listed(alloc, class)?)?;
+        }
     }
-    Ok(told(alloc, &classes)?)
+    Ok(classes)
 }
 
 /// What users are told of these classes.
@@ -167,372 +193,122 @@ fn told(alloc: Global, program: &[Listing]) -> Result<String, AllocError> {
     }
 }
 
-/// What users are told of a class with main and this method beside it.
-fn told_with(alloc: Global, method: Method) -> Result<String, Fail> {
-    let mut class = listed(alloc, program("X"))?;
-    class.methods.push(method)?;
-    Ok(told(alloc, &[class])?)
+fn compare(rt: &impl Abort, alloc: Global, rows: &str) -> Result<(), Fail> {
+    for row in rows.lines() {
+        let (words, wanted) = row.split_once(" => ").ok_or("no row")?;
+        let found = told(alloc, &program(alloc, words)?)?;
+        assert_eq!(rt; (words, found.as_str()), (words, wanted));
+    }
+    Ok(())
 }
 
-/// What users are told of a class with main and a method of this instruction beside it.
-fn told_at(alloc: Global, instruction: Listed) -> Result<String, Fail> {
-    let code = code(alloc, (1, 0), instruction)?;
-    let method = method(alloc, "f", "()V", PUBLIC_STATIC, code)?;
-    told_with(alloc, method)
+#[test]
+fn programs_are_accepted_or_refused(rt: HostRuntime) -> Result<(), Fail> {
+    for rows in [ACCEPTED, ONE_RULE, TWO_RULES] {
+        compare(&rt, rt.alloc(), rows)?;
+    }
+    Ok(())
 }
 
-/// A program of so many classes: main's class, C1, C2 and so on.
-fn classes(alloc: Global, count: u16) -> Result<Vec<Listing>, Fail> {
-    let mut classes = Vec::new(alloc);
-    classes.push(listed(alloc, program("C0"))?)?;
+/// Main's class, and so many others with so many fields each, each below the one before it.
+fn chain(alloc: Global, count: usize, fields: usize) -> Result<Vec<Listing>, Fail> {
+    let mut classes = program(alloc, "C0 main()V@9,0,0")?;
     for number in 1..count {
-        let name = format!(in alloc; "C{number}")?;
-        classes.push(listed(alloc, plain(name.as_str()))?)?;
+        let superclass = number - 1;
+        let mut class = listed(
+            alloc,
+            format!(in alloc; "C{number} ^C{superclass}")?.as_str(),
+        )?;
+        for place in 0..fields {
+            class
+                .fields
+                .push(field(alloc, format!(in alloc; "x{place}:I")?.as_str())?)?;
+        }
+        classes.push(class)?;
     }
     Ok(classes)
 }
 
+/// A program has 256 classes at most, an object 256 fields, with those that it inherits.
 #[test]
-fn good_programs(rt: HostRuntime) -> Result<(), Fail> {
-    let alloc = rt.alloc();
-    let e = program("E");
-    let answer = "accepted";
-    assert_eq!(rt; told_of(alloc, &[e])?.as_str(), answer);
-    let thread = below("T", "java/lang/Thread");
-    assert_eq!(rt;
-        told_of(alloc, &[e, below("F", "E"), thread])?.as_str(),
-        answer
-    );
-    Ok(())
-}
-
-#[test]
-fn names_of_classes(rt: HostRuntime) -> Result<(), Fail> {
-    let alloc = rt.alloc();
-    let builtin = [program("java/lang/Thread")];
-    assert_eq!(rt;
-        told_of(alloc, &builtin)?.as_str(),
-        "L11 in class java/lang/Thread"
-    );
-    let (x, y) = (plain("X"), plain("Y"));
-    let twice = [program("E"), x, y, y, x];
-    assert_eq!(rt; told_of(alloc, &twice)?.as_str(), "L1 in class X");
-    Ok(())
-}
-
-#[test]
-fn superclasses_and_interfaces(rt: HostRuntime) -> Result<(), Fail> {
-    let alloc = rt.alloc();
-    // no superclass
-    let missing = [below("X", "Y")];
-    assert_eq!(rt; told_of(alloc, &missing)?.as_str(), "L2 in class X");
-    // a class below two interfaces that extend each other
-    let x = Plan {
-        interface: Some("J"),
-        ..program("X")
-    };
-    let cycle = [x, interface("J", Some("K")), interface("K", Some("J"))];
-    assert_eq!(rt; told_of(alloc, &cycle)?.as_str(), "L3 in class J");
-    // no superinterface
-    let missing = [x, interface("J", Some("K"))];
-    assert_eq!(rt; told_of(alloc, &missing)?.as_str(), "L2 in class J");
-    // a superclass that is an interface
-    let extended = [below("X", "J"), interface("J", None)];
-    assert_eq!(rt; told_of(alloc, &extended)?.as_str(), "L4 in class X");
-    Ok(())
-}
-
-#[test]
-fn final_classes_and_superinterfaces(rt: HostRuntime) -> Result<(), Fail> {
-    let alloc = rt.alloc();
-    // a final superclass
-    let last = Plan {
-        flags: 0x0010,
-        ..plain("F")
-    };
-    let extended = [below("X", "F"), last];
-    assert_eq!(rt; told_of(alloc, &extended)?.as_str(), "L4 in class X");
-    // superinterfaces that are no interfaces
-    for above in ["F", "java/lang/Thread"] {
-        let x = Plan {
-            interface: Some(above),
-            ..program("X")
-        };
-        let implemented = [x, plain("F")];
-        assert_eq!(rt; told_of(alloc, &implemented)?.as_str(), "L4 in class X");
+fn classes_and_fields_are_few(rt: HostRuntime) -> Result<(), Fail> {
+    for (count, fields, wanted) in [
+        (256, 0, "accepted"),
+        (258, 0, "L8 in class C256"),
+        (2, 256, "accepted"),
+        (2, 257, "L8 in class C1"),
+        (3, 128, "accepted"),
+        (3, 129, "L8 in class C2"),
+    ] {
+        let program = chain(rt.alloc(), count, fields)?;
+        assert_eq!(rt; told(rt.alloc(), &program)?.as_str(), wanted);
     }
     Ok(())
 }
 
-/// The rules in the order in which they are tried, but for those that no program shows, since none has exception rows yet.
-const RULES: [u8; 9] = [11, 1, 2, 3, 4, 5, 10, 8, 9];
-
-/// Makes a class break a rule: a missing superinterface, the class itself as one, two fields of one name, a native method,
-/// a frame of 4,097 units, no main.
-fn breaks(alloc: Global, class: &mut Listing, rule: u8) -> Result<(), AllocError> {
-    match rule {
-        2 => class.interfaces.push(name(alloc, "Missing")?)?,
-        3 => {
-            let itself = Name::copy_of(alloc, class.name.as_bytes())?;
-            class.interfaces.push(itself)?;
-        }
-        5 => {
-            for flags in [1u16, 2] {
-                class.fields.push(field(alloc, "x", flags)?)?;
-            }
-        }
-        10 => class
-            .methods
-            .push(empty(alloc, "n", "()V", 0x0101, (0, 1))?)?,
-        8 => class
-            .methods
-            .push(empty(alloc, "f", "()V", PUBLIC_STATIC, (97, 4000))?)?,
-        _ => {}
+/// Main's class below so many layers of two interfaces, each of them below both of the next layer.
+fn layers(alloc: Global, count: usize) -> Result<String, Fail> {
+    let mut words = format!(in alloc; "X main()V@9,0,0 +A1 +B1")?;
+    for layer in 1..count {
+        let next = layer + 1;
+        words.push_str(format!(in alloc;
+            "; A{layer} interface +A{next} +B{next}; B{layer} interface +A{next} +B{next}"
+        )?.as_str())?;
     }
-    Ok(())
-}
-
-/// What users are told where the first class breaks these rules; it has a name of the machine's own for the first of all,
-/// its name twice for the next, and extends a final class for the fourth.
-fn told_breaking(alloc: Global, rules: &[u8]) -> Result<String, Fail> {
-    let called = if rules.contains(&11) {
-        "java/lang/Error"
-    } else {
-        "X"
-    };
-    let superclass = if rules.contains(&4) {
-        "F"
-    } else {
-        "java/lang/Object"
-    };
-    let first = Plan {
-        has_main: !rules.contains(&9),
-        ..below(called, superclass)
-    };
-    let mut classes = Vec::new(alloc);
-    let mut class = listed(alloc, first)?;
-    for rule in rules {
-        breaks(alloc, &mut class, *rule)?;
-    }
-    classes.push(class)?;
-    if rules.contains(&1) {
-        classes.push(listed(alloc, plain(called))?)?;
-    }
-    let last = Plan {
-        flags: 0x0010,
-        ..plain("F")
-    };
-    classes.push(listed(alloc, last)?)?;
-    Ok(told(alloc, &classes)?)
-}
-
-/// A class that breaks a rule and all that come behind it is refused by that rule.
-#[test]
-fn rules_in_order(rt: HostRuntime) -> Result<(), Fail> {
-    let alloc = rt.alloc();
-    for place in 0..RULES.len() {
-        let rules = &RULES[place..];
-        let rule = RULES[place];
-        let class = if rule == 11 { "java/lang/Error" } else { "X" };
-        let wanted = format!(in alloc; "L{rule} in class {class}")?;
-        assert_eq!(rt; told_breaking(alloc, rules)?.as_str(), wanted.as_str());
-    }
-    Ok(())
-}
-
-/// Both interfaces of a layer become superinterfaces.
-fn add_layer(alloc: Global, class: &mut Listing, layer: u16) -> Result<(), AllocError> {
-    for side in ["A", "B"] {
-        let above = format!(in alloc; "{side}{layer}")?;
-        class.interfaces.push(name(alloc, above.as_str())?)?;
-    }
-    Ok(())
-}
-
-/// What users are told of main's class below so many layers of two interfaces, each of them below both of the next layer.
-fn told_of_layers(alloc: Global, layers: u16) -> Result<String, Fail> {
-    let mut classes = Vec::new(alloc);
-    let mut first = listed(alloc, program("X"))?;
-    add_layer(alloc, &mut first, 1)?;
-    classes.push(first)?;
-    for layer in 1..layers {
-        for side in ["A", "B"] {
-            let name = format!(in alloc; "{side}{layer}")?;
-            let mut class = listed(alloc, interface(name.as_str(), None))?;
-            add_layer(alloc, &mut class, layer + 1)?;
-            classes.push(class)?;
-        }
-    }
-    for side in ["A", "B"] {
-        let name = format!(in alloc; "{side}{layers}")?;
-        classes.push(listed(alloc, interface(name.as_str(), None))?)?;
-    }
-    Ok(told(alloc, &classes)?)
+    words.push_str(format!(in alloc; "; A{count} interface; B{count} interface")?.as_str())?;
+    Ok(words)
 }
 
 /// There are as many ways upwards as numbers of so many bits, and each class is looked at once.
 #[test]
 fn layers_of_interfaces(rt: HostRuntime) -> Result<(), Fail> {
     let alloc = rt.alloc();
-    assert_eq!(rt; told_of_layers(alloc, 120)?.as_str(), "accepted");
-    // the 257th of 401 classes
-    assert_eq!(rt; told_of_layers(alloc, 200)?.as_str(), "L8 in class B128");
-    Ok(())
-}
-
-/// A row over the first of two instructions of one byte each, with its handler at the second.
-fn row(alloc: Global, class: &str) -> Result<ExceptionRow, AllocError> {
-    Ok(ExceptionRow {
-        start: 0,
-        end: 1,
-        handler: 1,
-        class: Some(name(alloc, class)?),
-    })
-}
-
-/// Whether a class with such a row is at fault.
-fn is_bad(alloc: Global, row: ExceptionRow) -> Result<bool, Fail> {
-    let mut code = code(alloc, (1, 0), Instruction::Nop)?;
-    code.rows.push(row)?;
-    let mut class = listed(alloc, below("X", "java/lang/Exception"))?;
-    class
-        .methods
-        .push(method(alloc, "f", "()V", PUBLIC_STATIC, code)?)?;
-    let classes = [class];
-    let index = index::Index::new(alloc, &classes)?;
-    Ok(exception_rows::has_bad_row(alloc, &index, &classes[0])?)
-}
-
-/// Programs with exception rows aren't run yet, so the rule is called by itself.
-#[test]
-fn bad_rows(rt: HostRuntime) -> Result<(), Fail> {
-    let alloc = rt.alloc();
-    for (class, bad) in [
-        ("X", false),
-        ("java/lang/Error", false),
-        ("java/lang/Thread", true),
-    ] {
-        assert_eq!(rt; is_bad(alloc, row(alloc, class)?)?, bad);
-    }
-    for (start, end, handler, bad) in [
-        (0u16, 2u16, 0u16, false),
-        (1, 1, 0, true),
-        (0, 3, 0, true),
-        (0, 1, 2, true),
-    ] {
-        let row = ExceptionRow {
-            start,
-            end,
-            handler,
-            class: None,
-        };
-        assert_eq!(rt; is_bad(alloc, row)?, bad);
+    for (count, wanted) in [(120, "accepted"), (200, "L8 in class B128")] {
+        let program = program(alloc, layers(alloc, count)?.as_str())?;
+        assert_eq!(rt; told(alloc, &program)?.as_str(), wanted);
     }
     Ok(())
 }
 
-#[test]
-fn method_twice(rt: HostRuntime) -> Result<(), Fail> {
-    let alloc = rt.alloc();
-    let method = main(alloc)?;
-    assert_eq!(rt; told_with(alloc, method)?.as_str(), "L5 in class X");
-    Ok(())
-}
-
-#[test]
-fn field_twice(rt: HostRuntime) -> Result<(), Fail> {
-    let alloc = rt.alloc();
-    let mut class = listed(alloc, program("X"))?;
-    for (name, flags) in [("x", 1u16), ("y", 1), ("x", 2)] {
-        class.fields.push(field(alloc, name, flags)?)?;
-    }
-    assert_eq!(rt; told(alloc, &[class])?.as_str(), "L5 in class X");
-    Ok(())
-}
-
-#[test]
-fn synchronized_run_of_a_thread(rt: HostRuntime) -> Result<(), Fail> {
-    let alloc = rt.alloc();
-    let mut classes = Vec::new(alloc);
-    for plan in [
-        program("E"),
-        below("X", "java/lang/Thread"),
-        below("T", "X"),
-    ] {
-        classes.push(listed(alloc, plan)?)?;
-    }
-    if let Some(thread) = classes.get_mut(2) {
-        let run = empty(alloc, "run", "()V", 0x0021, (0, 1))?;
-        thread.methods.push(run)?;
-    }
-    assert_eq!(rt; told(alloc, &classes)?.as_str(), "L10 in class T");
-    Ok(())
-}
-
-#[test]
-fn class_initializer_that_is_not_served(rt: HostRuntime) -> Result<(), Fail> {
-    let alloc = rt.alloc();
-    let initializer = empty(alloc, "<clinit>", "()V", 0x0008, (0, 0))?;
-    assert_eq!(rt; told_with(alloc, initializer)?.as_str(), "L10 in class X");
-    Ok(())
-}
-
-#[test]
-fn call_of_print(rt: HostRuntime) -> Result<(), Fail> {
-    let alloc = rt.alloc();
-    let member = Member {
-        class: name(alloc, "vm/Sys")?,
-        name: name(alloc, "print")?,
-        descriptor: name(alloc, "(I)V")?,
+/// Whether a class with an exception row over two instructions of one byte each is at fault. An empty name is none.
+fn is_bad(alloc: Global, bounds: (u16, u16, u16), class: &str) -> Result<bool, Fail> {
+    let (start, end, handler) = bounds;
+    let class = if class.is_empty() {
+        None
+    } else {
+        Some(name(alloc, class)?)
     };
-    let print = Instruction::Invoke(Invocation::Static, member);
-    assert_eq!(rt; told_at(alloc, print)?.as_str(), "accepted");
-    Ok(())
+    let mut code = code(alloc, 0, 0)?;
+    code.rows.push(ExceptionRow {
+        start,
+        end,
+        handler,
+        class,
+    })?;
+    let mut program = program(alloc, "X ^java/lang/Exception f()V@9,0,0")?;
+    let listing = program.first_mut().ok_or("no class")?;
+    let method = listing.methods.first_mut().ok_or("no method")?;
+    method.code = Some(code);
+    let index = Index::new(alloc, &program)?;
+    let class = program.first().ok_or("no class")?;
+    Ok(has_bad_row(alloc, &index, class)?)
 }
 
+/// Programs with exception rows aren't run yet, so the rule is called by itself (JVMS 4.7.3).
 #[test]
-fn frame_of_4097_units(rt: HostRuntime) -> Result<(), Fail> {
-    let alloc = rt.alloc();
-    let method = empty(alloc, "f", "()V", PUBLIC_STATIC, (97, 4000))?;
-    assert_eq!(rt; told_with(alloc, method)?.as_str(), "L8 in class X");
-    Ok(())
-}
-
-#[test]
-fn object_of_257_fields(rt: HostRuntime) -> Result<(), Fail> {
-    let y = Plan {
-        fields: 1,
-        ..below("Y", "X")
-    };
-    let x = Plan {
-        fields: 256,
-        ..plain("X")
-    };
-    assert_eq!(rt;
-        told_of(rt.alloc(), &[program("E"), y, x])?.as_str(),
-        "L8 in class Y"
-    );
-    Ok(())
-}
-
-#[test]
-fn program_of_258_classes(rt: HostRuntime) -> Result<(), Fail> {
-    let classes = classes(rt.alloc(), 258)?;
-    assert_eq!(rt; told(rt.alloc(), &classes)?.as_str(), "L8 in class C256");
-    Ok(())
-}
-
-#[test]
-fn no_class(rt: HostRuntime) -> Result<(), Fail> {
-    assert_eq!(rt; told(rt.alloc(), &[])?.as_str(), "L9");
-    Ok(())
-}
-
-#[test]
-fn instance_main(rt: HostRuntime) -> Result<(), Fail> {
-    let alloc = rt.alloc();
-    let mut class = listed(alloc, plain("X"))?;
-    class.methods.push(empty(alloc, "main", "()V", 1, (0, 1))?)?;
-    assert_eq!(rt; told(alloc, &[class])?.as_str(), "L9 in class X");
+fn exception_rows_are_good_or_bad(rt: HostRuntime) -> Result<(), Fail> {
+    for (bounds, class, wanted) in [
+        ((0u16, 2u16, 0u16), "", false),
+        ((0, 1, 1), "X", false),
+        ((0, 1, 1), "java/lang/Error", false),
+        ((0, 1, 1), "java/lang/Thread", true),
+        ((1, 1, 0), "", true),
+        ((0, 3, 0), "", true),
+        ((0, 1, 2), "", true),
+        ((2, 3, 0), "", true),
+    ] {
+        let found = is_bad(rt.alloc(), bounds, class)?;
+        assert_eq!(rt; (bounds, class, found), (bounds, class, wanted));
+    }
     Ok(())
 }

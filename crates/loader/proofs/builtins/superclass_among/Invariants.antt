@@ -1,6 +1,0 @@
-use Rattle.std.proofs.Common.{◌≡◌, drop}
-use Rattle.loader.specs.Builtins.{superclass_among}
-use Rattle.loader.proofs.builtins.superclass_among.Given as goal
-
-abbrev pub invariant-loop-class : goal.invariant-loop-class
-invariant-loop-class l = superclass_among (drop l.class-index l.classes) l.name ≡ superclass_among l.classes l.name

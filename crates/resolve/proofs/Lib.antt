@@ -1,0 +1,5 @@
+pub mod BuiltinLemmas
+pub mod IndexLemmas
+pub mod ParentLemmas
+pub mod ReachedLemmas
+pub mod NamedLemmas

@@ -1,0 +1,4 @@
+pub mod Builtins
+pub mod Hierarchies
+pub mod Indexed
+pub mod Reached

@@ -1,0 +1,13 @@
+//! What names of classes, fields and methods stand for in a program: subclasses, resolution, selection and the fields of
+//! objects (JVMS 5.4.3, 6.5).
+//!
+//! Each question is a function of its own, under the name that the definitions of the crate `model` give it.
+#![tactic(auto)]
+
+pub mod builtins;
+pub mod classes;
+pub mod found;
+pub mod index;
+pub mod parents;
+pub mod reached;
+pub mod subclasses;

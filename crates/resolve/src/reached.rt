@@ -1,0 +1,104 @@
+//! The names of the classes that are reached upwards from some.
+ghost use Rattle.std.specs.Prelude.{◌≡◌, ℕ, List, [], OnOk};
+ghost use Rattle.model.specs.Classes.Named.{parents_named, parents_of};
+ghost use Rattle.resolve.specs.Reached.{has_name, with_name, with_names, is_one_below};
+
+use crate::builtins::builtin_superclass;
+use crate::index::Index;
+use indexmap::IndexSet;
+use model::listings::Listing;
+use std::alloc::{AllocError, Global};
+use std::marker::Model;
+
+/// Names of classes, each once, in the order in which they were reached. A contract sees their list.
+#[derive(Drop)]
+pub struct Reached<'a> {
+    names: IndexSet<&'a [u8]>,
+}
+
+impl<'a> Model for Reached<'a> {
+    ghost use Rattle.std.specs.Prelude.{List, ℕ, map};
+
+    ghost Value = { List (List ℕ) };
+
+    ghost view = { λ a. map (λ name. name.now) a.names.keys };
+}
+
+impl<'a> Reached<'a> {
+    ghost use Rattle.std.specs.Prelude.{◌<◌, ◌^◌, Some, length, slice_get};
+
+    /// No names.
+    pub fn new(alloc: Global) -> Reached<'a>
+        ensures { result ≡ [] }
+    {
+        Reached {
+            names: IndexSet::new(alloc),
+        }
+    }
+
+    /// Adds a name where it isn't there. `AllocError` where memory runs out.
+    pub fn add(&mut self, name: &'a [u8]) -> Result<(), AllocError>
+        ensures { OnOk result (self.new ≡ with_name self.old name.now) }
+    {
+        self.names.insert(name)?;
+        Ok(())
+    }
+
+    /// Adds the superclass and the superinterfaces of a class.
+    pub fn add_parents(&mut self, class: &'a Listing) -> Result<(), AllocError>
+        ensures { OnOk result (self.new ≡ with_names self.old (parents_of class.now)) }
+    {
+        self.add(class.superclass.as_bytes())?;
+        for interface in &class.interfaces {
+            self.add(interface.as_bytes())?;
+        }
+        Ok(())
+    }
+
+    /// Adds the parents of the class of a name, where there is one.
+    fn add_parents_named(&mut self, index: &Index<'a>, name: &[u8]) -> Result<(), AllocError>
+        ensures { OnOk result (self.new ≡ with_names self.old (parents_named index.now name.now)) }
+    {
+        match index.listed(name) {
+            Some(class) => self.add_parents(class),
+            None => match builtin_superclass(name) {
+                Some(superclass) => self.add(superclass),
+                None => Ok(()),
+            },
+        }
+    }
+
+    fn len(&self) -> usize
+        ensures len { result ≡ length self.now }
+        ensures few { result < 2 ^ 63 }
+    {
+        self.names.len()
+    }
+
+    fn get(&self, index: usize) -> &'a [u8]
+        requires { index < length self.now }
+        ensures { slice_get self.now index ≡ Some result.now }
+    {
+        self.names.as_slice()[index]
+    }
+
+    /// Adds all that is above the names, each name's parents once.
+    pub fn close(&mut self, index: &Index<'a>) -> Result<(), AllocError>
+        ensures { OnOk result ((above : List ℕ) → has_name self.new above ≡ is_one_below index.now self.old above) }
+    {
+        let mut next = 0;
+        while next < self.len() {
+            let name = self.get(next);
+            self.add_parents_named(index, name)?;
+            next += 1;
+        }
+        Ok(())
+    }
+
+    /// Whether a name is among them.
+    pub fn has(&self, name: &[u8]) -> bool
+        ensures { result ≡ has_name self.now name.now }
+    {
+        self.names.contains(name)
+    }
+}
