@@ -1,12 +1,11 @@
 //! What is asked of exception rows (JVMS 4.7.3).
-ghost use Rattle.std.specs.Prelude.{◌≡◌, ◌==◌, ◌&&◌, ◌||◌, nat_lt, IfOk};
+ghost use Rattle.std.specs.Prelude.{◌≡◌, ◌==◌, ◌&&◌, ◌||◌, nat_lt};
 ghost use Rattle.std.specs.List.{list_any};
+ghost use Rattle.model.specs.declared.listings.Method.{Method as MethodListing};
 ghost use Rattle.model.specs.Accepted.ExceptionRows.{is_instruction, code_length, is_bad_row, is_no_throwable, has_bad_row_in, has_bad_row};
 
 use model::listings::{Code, ExceptionRow, Listing, Method};
-use resolve::index::Index;
-use resolve::subclasses::is_subclass;
-use std::alloc::{AllocError, Global};
+use resolve::classes::Classes;
 
 /// Whether an instruction of the code begins at this pc.
 fn is_instruction(code: &Code, pc: u16) -> bool
@@ -26,12 +25,12 @@ fn is_end(code: &Code, pc: u16) -> bool
         }
 }
 
-fn is_no_throwable(alloc: Global, index: &Index<'_>, row: &ExceptionRow) -> Result<bool, AllocError>
-    ensures { IfOk result (λ found. found ≡ is_no_throwable index.now row.now.class) }
+fn is_no_throwable(classes: &Classes<'_>, row: &ExceptionRow) -> bool
+    ensures { result ≡ is_no_throwable classes.now row.now.class }
 {
     match &row.class {
-        Some(name) => Ok(!is_subclass(alloc, index, name.as_bytes(), b"java/lang/Throwable")?),
-        None => Ok(false),
+        Some(name) => !classes.is_subclass(name.as_bytes(), b"java/lang/Throwable"),
+        None => false,
     }
 }
 
@@ -46,52 +45,38 @@ fn is_placed(code: &Code, row: &ExceptionRow) -> bool
         && is_end(code, row.end)
 }
 
-fn is_bad_row(
-    alloc: Global,
-    index: &Index<'_>,
-    code: &Code,
-    row: &ExceptionRow,
-) -> Result<bool, AllocError>
-    ensures { IfOk result (λ found. found ≡ is_bad_row index.now code.now row.now) }
+fn is_bad_row(classes: &Classes<'_>, code: &Code, row: &ExceptionRow) -> bool
+    ensures { result ≡ is_bad_row classes.now code.now row.now }
 {
-    Ok(!is_placed(code, row) || is_no_throwable(alloc, index, row)?)
+    !is_placed(code, row) || is_no_throwable(classes, row)
 }
 
-fn is_one_bad(
-    alloc: Global,
-    index: &Index<'_>,
-    code: &Code,
-    rows: &[ExceptionRow],
-) -> Result<bool, AllocError>
-    ensures { IfOk result (λ found. found ≡ list_any (is_bad_row index.now code.now) rows.now) }
+fn is_one_bad(classes: &Classes<'_>, code: &Code, rows: &[ExceptionRow]) -> bool
+    ensures { result ≡ list_any (is_bad_row classes.now code.now) rows.now }
 {
-    for row in rows {
-        if is_bad_row(alloc, index, code, row)? {
-            return Ok(true);
-        }
-    }
-    Ok(false)
+    rows.iter().any(|row| is_bad_row(classes, code, row))
 }
 
-fn has_bad_row_in(alloc: Global, index: &Index<'_>, method: &Method) -> Result<bool, AllocError>
-    ensures { IfOk result (λ found. found ≡ has_bad_row_in index.now method.now.code) }
+fn has_bad_row_in(classes: &Classes<'_>, method: &Method) -> bool
+    ensures { result ≡ has_bad_row_in classes.now method.now.code }
 {
     match &method.code {
-        Some(code) => is_one_bad(alloc, index, code, &code.rows),
-        None => Ok(false),
+        Some(code) => is_one_bad(classes, code, &code.rows),
+        None => false,
     }
+}
+
+fn is_one_method_bad(classes: &Classes<'_>, methods: &[Method]) -> bool
+    ensures { result ≡ list_any (λ (m : MethodListing). has_bad_row_in classes.now m.code) methods.now }
+{
+    methods.iter().any(|method| has_bad_row_in(classes, method))
 }
 
 /// Whether an exception row of the class doesn't begin below its end, has a bound or handler that is no instruction,
-/// where its end may be the code's length, or has a class that is no Throwable. `AllocError` where memory runs out.
+/// where its end may be the code's length, or has a class that is no Throwable.
 #[tactic(auto, unfolding(model::specs::Accepted::ExceptionRows::has_bad_row))]
-pub fn has_bad_row(alloc: Global, index: &Index<'_>, class: &Listing) -> Result<bool, AllocError>
-    ensures { IfOk result (λ found. found ≡ has_bad_row index.now class.now) }
+pub fn has_bad_row(classes: &Classes<'_>, class: &Listing) -> bool
+    ensures { result ≡ has_bad_row classes.now class.now }
 {
-    for method in &class.methods {
-        if has_bad_row_in(alloc, index, method)? {
-            return Ok(true);
-        }
-    }
-    Ok(false)
+    is_one_method_bad(classes, &class.methods)
 }

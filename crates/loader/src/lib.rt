@@ -11,6 +11,7 @@ mod exception_rows;
 mod limits;
 mod members;
 pub mod programs;
+mod references;
 mod repeats;
 mod rules;
 mod served;

@@ -9,7 +9,7 @@ use crate::arguments::argument_units;
 use bitflags::Flags;
 use model::flags::{FieldFlags, MethodFlags};
 use model::listings::{Listing, Method};
-use resolve::index::Index;
+use resolve::classes::Classes;
 
 /// Whether the locals of a method don't hold its arguments, or a frame of it takes more than 4,096 units.
 fn passes_limits(method: &Method) -> bool
@@ -41,8 +41,8 @@ fn own_fields(class: &Listing) -> usize
 }
 
 /// Whether an object of the class, with the fields of so many superclasses, has more fields than `room`.
-fn has_more_fields(steps: usize, index: &Index<'_>, class: &Listing, room: usize) -> bool
-    ensures { result ≡ nat_lt room (fields_within steps index.now (Some class.now)) }
+fn has_more_fields(steps: usize, classes: &Classes<'_>, class: &Listing, room: usize) -> bool
+    ensures { result ≡ nat_lt room (fields_within steps classes.now (Some class.now)) }
 {
     let own = own_fields(class);
     if own > room {
@@ -51,8 +51,8 @@ fn has_more_fields(steps: usize, index: &Index<'_>, class: &Listing, room: usize
     if steps == 0 {
         return false;
     }
-    match index.listed(class.superclass.as_bytes()) {
-        Some(superclass) => has_more_fields(steps - 1, index, superclass, room - own),
+    match classes.listed(class.superclass.as_bytes()) {
+        Some(superclass) => has_more_fields(steps - 1, classes, superclass, room - own),
         None => false,
     }
 }
@@ -65,28 +65,29 @@ fn is_one_past_limits(methods: &[Method]) -> bool
 
 /// Whether an object of the class has more than 256 fields, or a method of it passes the limits.
 #[tactic(auto, unfolding(model::specs::Accepted::LimitsOfClasses::is_too_large))]
-fn is_too_large(index: &Index<'_>, class: &Listing) -> bool
-    ensures { result ≡ is_too_large index.now class.now }
+fn is_too_large(classes: &Classes<'_>, class: &Listing) -> bool
+    ensures { result ≡ is_too_large classes.now class.now }
 {
-    has_more_fields(index.program().len(), index, class, 256) || is_one_past_limits(&class.methods)
+    has_more_fields(classes.program().len(), classes, class, 256)
+        || is_one_past_limits(&class.methods)
 }
 
-fn first_too_large<'a>(index: &Index<'_>, classes: &'a [Listing]) -> Option<&'a Listing>
-    ensures { option_copied result ≡ find (is_too_large index.now) classes.now }
+fn first_too_large<'a>(classes: &Classes<'_>, program: &'a [Listing]) -> Option<&'a Listing>
+    ensures { option_copied result ≡ find (is_too_large classes.now) program.now }
 {
-    classes.iter().find(|class| is_too_large(index, class))
+    program.iter().find(|class| is_too_large(classes, class))
 }
 
 /// The first class past a limit; the 257th is past that of the number of classes.
 #[tactic(auto, unfolding(model::specs::Accepted::LimitsOfClasses::first_past_limits))]
-pub fn first_past_limits<'a>(index: &Index<'_>, program: &'a [Listing]) -> Option<&'a Listing>
-    requires { index.now ≡ program.now }
-    ensures { option_copied result ≡ first_past_limits program.now }
+pub fn first_past_limits<'a>(classes: &Classes<'a>) -> Option<&'a Listing>
+    ensures { option_copied result ≡ first_past_limits classes.now }
 {
+    let program = classes.program();
     if program.len() <= 256 {
-        return first_too_large(index, program);
+        return first_too_large(classes, program);
     }
-    match first_too_large(index, &program[..256]) {
+    match first_too_large(classes, &program[..256]) {
         Some(class) => Some(class),
         None => Some(&program[256]),
     }

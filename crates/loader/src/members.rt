@@ -13,8 +13,7 @@ use crate::served::serves;
 use bitflags::Flags;
 use model::flags::MethodFlags;
 use model::listings::{Field, Listing, Method};
-use resolve::index::Index;
-use resolve::subclasses::is_subclass;
+use resolve::classes::Classes;
 use std::alloc::{AllocError, Global};
 
 /// The name and the descriptor of a member.
@@ -70,8 +69,8 @@ fn has_method_twice(alloc: Global, methods: &[Method]) -> Result<bool, AllocErro
     Ok(is_one_method_again(&repeats, methods))
 }
 
-/// Whether two fields of the class have one name and descriptor, or two methods. `AllocError` where memory runs out, here
-/// and below.
+/// Whether two fields of the class have one name and descriptor, or two methods. `AllocError` where memory runs
+/// out.
 #[tactic(auto, unfolding(model::specs::Accepted::MembersTwice::has_member_twice))]
 pub fn has_member_twice(alloc: Global, class: &Listing) -> Result<bool, AllocError>
     ensures { IfOk result (λ found. found ≡ has_member_twice class.now) }
@@ -97,51 +96,30 @@ fn is_wrong_initializer(method: &Method) -> bool
 }
 
 /// Whether a method of the class is refused: a wrong class initializer, a native method, a static synchronized one, or
-/// a thread's synchronized `run()V`. `AllocError` where memory runs out.
-fn is_refused(
-    alloc: Global,
-    index: &Index<'_>,
-    class: &[u8],
-    method: &Method,
-) -> Result<bool, AllocError>
-    ensures { IfOk result (λ found. found ≡ is_refused index.now class.now method.now) }
+/// a thread's synchronized `run()V`.
+fn is_refused(classes: &Classes<'_>, class: &[u8], method: &Method) -> bool
+    ensures { result ≡ is_refused classes.now class.now method.now }
 {
     let flags = method.flags;
-    Ok(
-        is_wrong_initializer(method)
-            || flags.contains(MethodFlags::NATIVE)
-            || flags.contains(MethodFlags::SYNCHRONIZED)
-                && (flags.contains(MethodFlags::STATIC)
-                    || is_run(method) && is_subclass(alloc, index, class, b"java/lang/Thread")?),
-    )
+    is_wrong_initializer(method)
+        || flags.contains(MethodFlags::NATIVE)
+        || flags.contains(MethodFlags::SYNCHRONIZED)
+            && (flags.contains(MethodFlags::STATIC)
+                || is_run(method) && classes.is_subclass(class, b"java/lang/Thread"))
 }
 
-fn is_one_refused(
-    alloc: Global,
-    index: &Index<'_>,
-    class: &[u8],
-    methods: &[Method],
-) -> Result<bool, AllocError>
-    ensures { IfOk result (λ found. found ≡ list_any (is_refused index.now class.now) methods.now) }
+fn is_one_refused(classes: &Classes<'_>, class: &[u8], methods: &[Method]) -> bool
+    ensures { result ≡ list_any (is_refused classes.now class.now) methods.now }
 {
-    for method in methods {
-        if is_refused(alloc, index, class, method)? {
-            return Ok(true);
-        }
-    }
-    Ok(false)
+    methods
+        .iter()
+        .any(|method| is_refused(classes, class, method))
 }
 
-/// Whether a member of the class is refused, or the machine doesn't carry out all of its code yet. `AllocError` where
-/// memory runs out.
+/// Whether a member of the class is refused, or the machine doesn't carry out all of its code yet.
 #[tactic(auto, unfolding(model::specs::Accepted::RefusedMembers::has_refused_member))]
-pub fn has_refused_member(
-    alloc: Global,
-    index: &Index<'_>,
-    class: &Listing,
-) -> Result<bool, AllocError>
-    ensures { IfOk result (λ found. found ≡ has_refused_member index.now class.now) }
+pub fn has_refused_member(classes: &Classes<'_>, class: &Listing) -> bool
+    ensures { result ≡ has_refused_member classes.now class.now }
 {
-    let refused = is_one_refused(alloc, index, class.name.as_bytes(), &class.methods)?;
-    Ok(refused || !serves(class))
+    is_one_refused(classes, class.name.as_bytes(), &class.methods) || !serves(class)
 }

@@ -1,4 +1,4 @@
-//! What is asked of the superclass and the superinterfaces of a class.
+//! What is asked of the superclass and the superinterfaces of a class, and of its name.
 ghost use Rattle.std.specs.Prelude.{◌≡◌, IfOk};
 ghost use Rattle.std.specs.List.{find, list_any};
 ghost use Rattle.std.specs.Option.{option_copied};
@@ -12,8 +12,7 @@ use bitflags::Flags;
 use model::flags::ClassFlags;
 use model::listings::Listing;
 use model::names::Name;
-use resolve::builtins::is_builtin;
-use resolve::index::Index;
+use resolve::classes::Classes;
 use std::alloc::{AllocError, Global};
 
 fn first_again<'a>(repeats: &Repeats<&[u8]>, program: &'a [Listing]) -> Option<&'a Listing>
@@ -36,10 +35,10 @@ pub fn first_class_twice(alloc: Global, program: &[Listing]) -> Result<Option<&L
 }
 
 /// Whether a class of this name is there that can't be extended.
-fn is_no_superclass(index: &Index<'_>, name: &[u8]) -> bool
-    ensures { result ≡ is_no_superclass (class_named index.now name.now) }
+fn is_no_superclass(classes: &Classes<'_>, name: &[u8]) -> bool
+    ensures { result ≡ is_no_superclass (class_named classes.now name.now) }
 {
-    match index.listed(name) {
+    match classes.class_named(name) {
         Some(class) => class.flags.contains(ClassFlags::INTERFACE)
             || class.flags.contains(ClassFlags::FINAL),
         None => false,
@@ -47,28 +46,28 @@ fn is_no_superclass(index: &Index<'_>, name: &[u8]) -> bool
 }
 
 /// Whether a class of this name is there that can't be implemented.
-fn is_no_superinterface(index: &Index<'_>, name: &[u8]) -> bool
-    ensures { result ≡ is_no_superinterface (class_named index.now name.now) }
+fn is_no_superinterface(classes: &Classes<'_>, name: &[u8]) -> bool
+    ensures { result ≡ is_no_superinterface (class_named classes.now name.now) }
 {
-    match index.listed(name) {
+    match classes.class_named(name) {
         Some(class) => !class.flags.contains(ClassFlags::INTERFACE),
-        None => is_builtin(name),
+        None => false,
     }
 }
 
-fn is_one_no_superinterface(index: &Index<'_>, names: &[Name]) -> bool
-    ensures { result ≡ list_any (λ name. is_no_superinterface (class_named index.now name)) names.now }
+fn is_one_no_superinterface(classes: &Classes<'_>, names: &[Name]) -> bool
+    ensures { result ≡ list_any (λ name. is_no_superinterface (class_named classes.now name)) names.now }
 {
     names
         .iter()
-        .any(|name| is_no_superinterface(index, name.as_bytes()))
+        .any(|name| is_no_superinterface(classes, name.as_bytes()))
 }
 
 /// Whether the superclass is an interface or final, or a superinterface is no interface.
 #[tactic(auto, unfolding(model::specs::Accepted::Superclasses::has_wrong_parent))]
-pub fn has_wrong_parent(index: &Index<'_>, class: &Listing) -> bool
-    ensures { result ≡ has_wrong_parent index.now class.now }
+pub fn has_wrong_parent(classes: &Classes<'_>, class: &Listing) -> bool
+    ensures { result ≡ has_wrong_parent classes.now class.now }
 {
-    is_no_superclass(index, class.superclass.as_bytes())
-        || is_one_no_superinterface(index, &class.interfaces)
+    is_no_superclass(classes, class.superclass.as_bytes())
+        || is_one_no_superinterface(classes, &class.interfaces)
 }

@@ -1,13 +1,14 @@
-//! Small programs in words, with what users are told of each; and which exception rows are refused.
+//! Small programs in words, with what users are told of each; and what references and exception rows are refused.
 
 use super::*;
 use crate::exception_rows::has_bad_row;
+use crate::references::resolves;
 use bitflags::Flags;
 use model::flags::{ClassFlags, FieldFlags, MethodFlags};
-use model::instructions::Instruction;
+use model::instructions::{Access, ArrayOperation, ClassOperation, Instruction, Invocation};
 use model::listings::{Code, ExceptionRow, Field, Listed, Listing, Method, Placed};
-use model::names::Name;
-use resolve::index::Index;
+use model::names::{Member, Name};
+use resolve::classes::Classes;
 use std::alloc::{AllocError, Global};
 use std::process::Abort;
 use std::test::Fail;
@@ -270,6 +271,138 @@ fn layers_of_interfaces(rt: HostRuntime) -> Result<(), Fail> {
     Ok(())
 }
 
+/// Classes to which the rows below refer: `s` and `f` are static.
+const CLASSES: &str =
+    "A x:I s:I@8 m()V@1,1,0 f()V@9,0,0 <init>()V@1,1,0 <clinit>()V@8,0,0; B ^A +I; I interface c:I@9 i(J)V@1025,3,0; V abstract <init>()V@1,1,0";
+
+// In each row an instruction, and whether what it refers to is there and of the right kind (JVMS 5.4.3, 6.5).
+
+const MEMBERS: &str = "getstatic A s I => true
+getstatic B s I => true
+getstatic B c I => true
+getstatic A x I => false
+getstatic A s J => false
+getstatic Q s I => false
+getstatic [I s I => false
+putfield A x I => true
+putfield B x I => true
+putfield A s I => false
+putfield A y I => false
+invokestatic A f ()V => true
+invokestatic B f ()V => true
+invokestatic vm/Sys print (I)V => true
+invokestatic A m ()V => false
+invokestatic A f ()I => false
+invokestatic I i (J)V => false
+invokestatic A <clinit> ()V => false
+invokevirtual A m ()V => true
+invokevirtual B m ()V => true
+invokevirtual B i (J)V => true
+invokevirtual java/lang/Thread start ()V => true
+invokevirtual A f ()V => false
+invokevirtual A <init> ()V => false
+invokevirtual I i (J)V => false
+invokevirtual [I m ()V => false
+invokespecial A <init> ()V => true
+invokespecial A m ()V => true
+invokespecial java/lang/Object <init> ()V => true
+invokespecial B <init> ()V => false
+invokespecial A <clinit> ()V => false
+invokespecial A f ()V => false
+invokespecial I i (J)V => false
+invokeinterface I i (J)V => true
+invokeinterface B i (J)V => false
+invokeinterface I m ()V => false
+invokeinterface2 I i (J)V => false
+";
+
+const TYPES: &str = "new A => true
+new java/lang/Object => true
+new V => false
+new I => false
+new Q => false
+new [I => false
+checkcast I => true
+checkcast [I => true
+checkcast [[LA; => true
+checkcast [LQ; => false
+checkcast Q => false
+instanceof A => true
+instanceof [LQ; => false
+anewarray A => true
+anewarray [J => true
+anewarray Q => false
+";
+
+/// The instruction of a word and a member; `invokeinterface` has a count of three units, and `invokeinterface2` of two.
+fn at_member(word: &str, member: Member) -> Listed {
+    match word {
+        "getstatic" => Instruction::Static(Access::Get, member),
+        "putfield" => Instruction::Field(Access::Put, member),
+        "invokestatic" => Instruction::Invoke(Invocation::Static, member),
+        "invokevirtual" => Instruction::Invoke(Invocation::Virtual, member),
+        "invokespecial" => Instruction::Invoke(Invocation::Special, member),
+        "invokeinterface" => Instruction::Invoke(Invocation::Interface(3), member),
+        _ => Instruction::Invoke(Invocation::Interface(2), member),
+    }
+}
+
+/// The instruction of a word and a type.
+fn at_type(word: &str, name: Name) -> Listed {
+    match word {
+        "new" => Instruction::Class(ClassOperation::New, name),
+        "checkcast" => Instruction::Class(ClassOperation::CheckCast, name),
+        "instanceof" => Instruction::Class(ClassOperation::InstanceOf, name),
+        _ => Instruction::Array(ArrayOperation::NewOf(name)),
+    }
+}
+
+/// The instruction of some words.
+fn instruction(alloc: Global, words: &str) -> Result<Listed, Fail> {
+    let (word, rest) = words.split_once(" ").ok_or("no instruction")?;
+    let Some((class, signature)) = rest.split_once(" ") else {
+        return Ok(at_type(word, name(alloc, rest)?));
+    };
+    let (called, descriptor) = signature.split_once(" ").ok_or("no descriptor")?;
+    let member = Member {
+        class: name(alloc, class)?,
+        name: name(alloc, called)?,
+        descriptor: name(alloc, descriptor)?,
+    };
+    Ok(at_member(word, member))
+}
+
+/// Programs with these instructions aren't run yet, so the rule is called by itself.
+#[test]
+fn references_are_resolved(rt: HostRuntime) -> Result<(), Fail> {
+    let alloc = rt.alloc();
+    let program = program(alloc, CLASSES)?;
+    let classes = Classes::new(alloc, &program)?.ok_or("no classes")?;
+    for row in MEMBERS.lines().chain(TYPES.lines()) {
+        let (words, wanted) = row.split_once(" => ").ok_or("no row")?;
+        let found = resolves(&classes, &instruction(alloc, words)?);
+        assert_eq!(rt; (words, found), (words, wanted == "true"));
+    }
+    Ok(())
+}
+
+/// An array has 255 dimensions at most (JVMS 4.4.1), so the elements of another have 254.
+#[test]
+fn elements_have_254_dimensions(rt: HostRuntime) -> Result<(), Fail> {
+    let alloc = rt.alloc();
+    let classes = Classes::new(alloc, &[])?.ok_or("no classes")?;
+    for (count, wanted) in [(254, true), (255, false)] {
+        let mut words = format!(in alloc; "anewarray ")?;
+        for _ in 0..count {
+            words.push_str("[")?;
+        }
+        words.push_str("I")?;
+        let found = resolves(&classes, &instruction(alloc, words.as_str())?);
+        assert_eq!(rt; found, wanted);
+    }
+    Ok(())
+}
+
 /// Whether a class with an exception row over two instructions of one byte each is at fault. An empty name is none.
 fn is_bad(alloc: Global, bounds: (u16, u16, u16), class: &str) -> Result<bool, Fail> {
     let (start, end, handler) = bounds;
@@ -289,9 +422,9 @@ fn is_bad(alloc: Global, bounds: (u16, u16, u16), class: &str) -> Result<bool, F
     let listing = program.first_mut().ok_or("no class")?;
     let method = listing.methods.first_mut().ok_or("no method")?;
     method.code = Some(code);
-    let index = Index::new(alloc, &program)?;
+    let classes = Classes::new(alloc, &program)?.ok_or("no classes")?;
     let class = program.first().ok_or("no class")?;
-    Ok(has_bad_row(alloc, &index, class)?)
+    Ok(has_bad_row(&classes, class))
 }
 
 /// Programs with exception rows aren't run yet, so the rule is called by itself (JVMS 4.7.3).

@@ -1,13 +1,14 @@
 -- Classes by name: what a map finds in which each class goes whose name wasn't there.
-use Rattle.std.proofs.Common.{◌≡◌, ◌⊎◌, inl, inr, ℕ, ◌+◌, ◌<◌, ◌≤◌, suc, zero, List, [], ◌∷◌, ◌++◌, length, take, get_or, Bool, true, false, cond, Option, Some, None, is_some, Bor, refl, arith, ap, sym, ◌∙◌}
+use Rattle.std.proofs.Common.{◌≡◌, ◌⊎◌, inl, inr, ℕ, ◌+◌, ◌<◌, ◌≤◌, suc, zero, List, [], ◌∷◌, ◌++◌, length, take, get_or, slice_get, Bool, true, false, cond, Option, Some, None, is_some, IfSome, Bor, subst, refl, arith, ap, sym, ◌∙◌}
 use Rattle.std.specs.List.{find}
 use Rattle.std.specs.Map.{lookup}
 use Rattle.std.specs.Option.{option_map, option_copied}
 use Rattle.std.specs.Str.{bytes_eq}
+use Rattle.std.proofs.lemmas.Map.Entries.{All-lookup}
 use Rattle.std.proofs.lemmas.Slice.Eq.{bytes_eq-Decides}
 use Rattle.model.specs.ClassListings.{ClassListing}
-use Rattle.model.specs.Classes.Named.{is_named, or_else}
-use Rattle.resolve.specs.Indexed.{found_in}
+use Rattle.model.specs.Classes.Named.{is_named, listed, or_else}
+use Rattle.resolve.specs.Indexed.{IsIndex, found_in}
 
 abbrev Tells : Bool → Type 0
 Tells b = (b ≡ true) ⊎ (b ≡ false)
@@ -16,7 +17,7 @@ tells : (b : Bool) → Tells b
 tells true = inl refl
 tells false = inr refl
 
-turned : (x y : List ℕ) → bytes_eq x y ≡ bytes_eq y x
+pub turned : (x y : List ℕ) → bytes_eq x y ≡ bytes_eq y x
 turned x y = by (bytes_eq x y) (bytes_eq y x) refl refl
   where
     by : (a b : Bool) → bytes_eq x y ≡ a → bytes_eq y x ≡ b → a ≡ b
@@ -107,3 +108,17 @@ some_value class (Some v) h e n = differ (ap (option_map class) e ∙ n)
   where
     differ : Some (class v.now) ≡ None → ⊥
     differ p = cc
+
+pub slice-there : (cs : List ClassListing) (n : ℕ) (c : ClassListing) → c ≡ get_or cs n c → n < length cs → slice_get cs n ≡ Some c
+slice-there [] n c is inside = absurd (omega arith)
+slice-there (x ∷ xs) zero c is inside = ap (λ y. Some y) (sym is)
+slice-there (x ∷ xs) (suc n) c is inside = slice-there xs n c is (omega arith)
+
+-- the place that an entry has is that of the class of its name
+pub numbered : {K C : Type 0} (text : K → List ℕ) (class : C → ClassListing) (number : C → ℕ) (program : List ClassListing) (entries : List (K × C))
+    (name : List ℕ) (c : C) → IsIndex text class number program entries → Some c ≡ lookup (λ k. bytes_eq name (text k)) entries
+    → slice_get program (number c) ≡ listed program name
+numbered {K = K} {C = C} text class number program entries name c index found =
+    subst (λ (x : Option C). IfSome x (λ c. slice_get program (number c) ≡ Some (class c))) (sym found)
+    (All-lookup (λ c. slice_get program (number c) ≡ Some (class c)) (λ k. bytes_eq name (text k)) entries index.placed)
+    ∙ ap (option_map class) found ∙ index.finds name

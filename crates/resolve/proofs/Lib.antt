@@ -1,5 +1,9 @@
+pub mod AboveLemmas
 pub mod BuiltinLemmas
 pub mod IndexLemmas
 pub mod ParentLemmas
 pub mod ReachedLemmas
+pub mod InterfaceLemmas
 pub mod NamedLemmas
+pub mod SearchLemmas
+pub mod TypeLemmas

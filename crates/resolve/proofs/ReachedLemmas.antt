@@ -57,12 +57,12 @@ any-has f [] x h t = absurd h
 any-has f (y ∷ ys) x (inl e) t = rw (e, t)
 any-has f (y ∷ ys) x (inr h) t = or-right (f y) (list_any f ys) (any-has f ys x h t)
 
-has-HasName : (names : List (List ℕ)) (name : List ℕ) → has_name names name ≡ true → HasName names name
+pub has-HasName : (names : List (List ℕ)) (name : List ℕ) → has_name names name ≡ true → HasName names name
 has-HasName names name h =
     let found : (x : List ℕ) × HasName names x × (bytes_eq name x ≡ true) = any-found (bytes_eq name) names h in
     subst (λ (x : List ℕ). HasName names x) (sym ((bytes_eq-Decides name found.0).0 found.2)) found.1
 
-HasName-has : (names : List (List ℕ)) (name : List ℕ) → HasName names name → has_name names name ≡ true
+pub HasName-has : (names : List (List ℕ)) (name : List ℕ) → HasName names name → has_name names name ≡ true
 HasName-has names name h = any-has (bytes_eq name) names name h ((bytes_eq-Decides name name).1 refl)
 
 in-left : (xs ys : List (List ℕ)) (x : List ℕ) → HasName xs x → HasName (xs ++ ys) x
@@ -109,10 +109,10 @@ adds : (names : List (List ℕ)) (name : List ℕ) → Adds names name (with_nam
 adds names name = adds-if (has_name names name) names name (has-HasName names name)
 
 -- some names more
-record AddsAll (names more all : List (List ℕ)) : Type 0 where
-  extends : Extension names all
-  holds : (x : List ℕ) → HasName more x → HasName all x
-  only : (x : List ℕ) → HasName all x → HasName names x ⊎ HasName more x
+pub record AddsAll (names more all : List (List ℕ)) : Type 0 where
+  pub extends : Extension names all
+  pub holds : (x : List ℕ) → HasName more x → HasName all x
+  pub only : (x : List ℕ) → HasName all x → HasName names x ⊎ HasName more x
 
 in-extension : (names more : List (List ℕ)) → Extension names more → (x : List ℕ) → HasName names x → HasName more x
 in-extension names more e x h = subst (λ (xs : List (List ℕ)). HasName xs x) (sym e.1) (in-left names e.0 x h)
@@ -137,7 +137,7 @@ further names name one more all first rest =
     known x (inl h) = elim (first.only x h) [ inl there ↦ inl there | inr e ↦ inr (inl e) ]
     known x (inr h) = inr (inr h)
 
-adds_all : (names more : List (List ℕ)) → AddsAll names more (with_names names more)
+pub adds_all : (names more : List (List ℕ)) → AddsAll names more (with_names names more)
 adds_all names [] = record { extends = ([], append-nil names); holds = λ x h. absurd h; only = λ x h. inl h }
 adds_all names (name ∷ more) =
     further names name (with_name names name) more (with_names (with_name names name) more) (adds names name)
@@ -229,7 +229,7 @@ within-reached (suc n) program names name above closed there h =
           within-reached n program names found.0 above closed (closed name found.0 there found.1) found.2
     ]
 
-same-bool : (a b : Bool) → (a ≡ true → b ≡ true) → (b ≡ true → a ≡ true) → a ≡ b
+pub same-bool : (a b : Bool) → (a ≡ true → b ≡ true) → (b ≡ true → a ≡ true) → a ≡ b
 same-bool true b to back = sym (to refl)
 same-bool false true to back = back refl
 same-bool false false to back = refl

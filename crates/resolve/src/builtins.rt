@@ -76,7 +76,8 @@ const PRINT_METHODS: [Native; 3] = [
     function!(b"putc" b"(I)V"),
 ];
 
-const BUILTINS: [Builtin; 23] = [
+/// The machine's own classes, in order.
+pub const BUILTINS: [Builtin; 23] = [
     class!(b"java/lang/Object" over b""),
     class!(b"java/lang/Throwable" over b"java/lang/Object"),
     class!(b"java/lang/Exception" over b"java/lang/Throwable"),

@@ -1,13 +1,18 @@
 //! The classes of a program by their names, the machine's own among them (JVMS 5.3, 5.4.3).
 ghost use Rattle.std.specs.Prelude.{◌≡◌, IfOk, IfSome};
-ghost use Rattle.std.specs.Option.{option_copied};
+ghost use Rattle.std.specs.Option.{option_copied, option_map};
 ghost use Rattle.std.specs.List.{find};
-ghost use Rattle.model.specs.Classes.Named.{is_named, class_named};
+ghost use Rattle.model.specs.Classes.Named.{is_named, class_named, listed};
+ghost use Rattle.model.specs.Classes.Subclasses.{enough_steps, is_subclass};
 ghost use Rattle.resolve.specs.Hierarchies.{AreMade};
+ghost use Rattle.resolve.specs.Interfaces.{interfaces_once};
 
+use crate::above::Above;
 use crate::builtins::builtin_classes;
 use crate::index::Index;
+use crate::interfaces::{interface_lists, list_named};
 use crate::parents::{first_on_cycle, first_with_missing_parent};
+use crate::reached::Reached;
 use model::listings::Listing;
 use std::alloc::{AllocError, Global};
 use std::marker::Model;
@@ -18,18 +23,20 @@ use std::marker::Model;
 pub struct Classes<'a> {
     index: Index<'a>,
     own: Vec<Listing>,
+    interfaces: Vec<Reached<'a>>,
+    above: Above<'a>,
 }
 
 impl<'a> Model for Classes<'a> {
-    ghost use Rattle.std.specs.Prelude.{◌≡◌, List};
+    ghost use Rattle.std.specs.Prelude.{List};
     ghost use Rattle.model.specs.ClassListings.{ClassListing};
-    ghost use Rattle.model.specs.Classes.Builtin.{builtin_classes};
+    ghost use Rattle.resolve.specs.Tables.{AreTables};
 
     ghost Value = { List ClassListing };
 
     ghost view = { λ a. a.index };
 
-    ghost invariant = { λ a. a.own.items ≡ builtin_classes };
+    ghost invariant = { λ a. AreTables a.index a.own.items a.interfaces.items a.above };
 }
 
 fn is_named(class: &Listing, name: &[u8]) -> bool
@@ -59,7 +66,14 @@ impl<'a> Classes<'a> {
             return Ok(None);
         }
         let own = builtin_classes(alloc)?;
-        Ok(Some(Classes { index, own }))
+        let interfaces = interface_lists(alloc, &index)?;
+        let above = Above::new(alloc, &index)?;
+        Ok(Some(Classes {
+            index,
+            own,
+            interfaces,
+            above,
+        }))
     }
 
     /// The classes of the program, in order.
@@ -79,5 +93,33 @@ impl<'a> Classes<'a> {
             Some(class) => Some(class),
             None => first_named(&self.own, name),
         }
+    }
+
+    /// The first class of the program with this name.
+    pub fn listed(&self, name: &[u8]) -> Option<&'a Listing>
+        ensures { option_copied result ≡ listed self.now name.now }
+    {
+        self.index.listed(name)
+    }
+
+    /// The list of superinterfaces of the program's class of a name, in the order of the search, each once.
+    pub fn interfaces(&self, name: &[u8]) -> Option<&Reached<'a>>
+        ensures { option_copied result ≡ option_map (interfaces_once (enough_steps self.now) self.now) (listed self.now name.now) }
+    {
+        list_named(&self.index, &self.interfaces, name)
+    }
+
+    /// So many steps upwards pass every class once, the machine's own too.
+    pub fn enough_steps(&self) -> usize
+        ensures { result ≡ enough_steps self.now }
+    {
+        self.index.enough_steps()
+    }
+
+    /// Whether a class is another's subclass: the same, or below it through superclasses and superinterfaces.
+    pub fn is_subclass(&self, name: &[u8], above: &[u8]) -> bool
+        ensures { result ≡ is_subclass self.now name.now above.now }
+    {
+        self.above.is_subclass(name, above)
     }
 }

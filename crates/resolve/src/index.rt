@@ -1,7 +1,8 @@
 //! Classes by their names (JVMS 5.3).
-ghost use Rattle.std.specs.Prelude.{◌≡◌, is_some, IfOk};
-ghost use Rattle.std.specs.Option.{option_copied};
+ghost use Rattle.std.specs.Prelude.{◌≡◌, is_some, slice_get, IfOk};
+ghost use Rattle.std.specs.Option.{option_and_then, option_copied};
 ghost use Rattle.model.specs.Classes.Named.{class_named, listed};
+ghost use Rattle.model.specs.Classes.Subclasses.{enough_steps};
 
 use crate::builtins::is_builtin;
 use indexmap::IndexMap;
@@ -9,24 +10,30 @@ use model::listings::Listing;
 use std::alloc::{AllocError, Global};
 use std::marker::Model;
 
+/// A class and its place in the program.
+#[derive(Clone, Copy)]
+struct Numbered<'a> {
+    number: usize,
+    class: &'a Listing,
+}
+
 /// The classes of a program by their names. A contract sees the program.
 #[derive(Drop)]
 pub struct Index<'a> {
     program: &'a [Listing],
-    classes: IndexMap<&'a [u8], &'a Listing>,
+    classes: IndexMap<&'a [u8], Numbered<'a>>,
 }
 
 impl<'a> Model for Index<'a> {
-    ghost use Rattle.std.specs.Prelude.{◌≡◌, ℕ, List};
+    ghost use Rattle.std.specs.Prelude.{List};
     ghost use Rattle.model.specs.ClassListings.{ClassListing};
-    ghost use Rattle.resolve.specs.Indexed.{found_in};
-    ghost use Rattle.model.specs.Classes.Named.{listed};
+    ghost use Rattle.resolve.specs.Indexed.{IsIndex};
 
     ghost Value = { List ClassListing };
 
     ghost view = { λ a. a.program.now };
 
-    ghost invariant = { λ a. (name : List ℕ) → found_in (λ k. k.now) (λ c. c.now) a.classes.entries name ≡ listed a.program.now name };
+    ghost invariant = { λ a. IsIndex (λ k. k.now) (λ c. c.class.now) (λ c. c.number) a.program.now a.classes.entries };
 }
 
 impl<'a> Index<'a> {
@@ -35,10 +42,10 @@ impl<'a> Index<'a> {
         ensures { IfOk result (λ index. index ≡ program.now) }
     {
         let mut classes = IndexMap::new(alloc);
-        for class in program {
+        for (number, class) in program.iter().enumerate() {
             let name = class.name.as_bytes();
             if classes.get(name).is_none() {
-                classes.insert(name, class)?;
+                classes.insert(name, Numbered { number, class })?;
             }
         }
         Ok(Index { program, classes })
@@ -55,7 +62,14 @@ impl<'a> Index<'a> {
     pub fn listed(&self, name: &[u8]) -> Option<&'a Listing>
         ensures { option_copied result ≡ listed self.now name.now }
     {
-        self.classes.get(name).copied()
+        Some(self.classes.get(name)?.class)
+    }
+
+    /// The place in the program of the first class with this name.
+    pub fn number(&self, name: &[u8]) -> Option<usize>
+        ensures { option_and_then (slice_get self.now) result ≡ listed self.now name.now }
+    {
+        Some(self.classes.get(name)?.number)
     }
 
     /// Whether a class of this name is there: one of the program, or of the machine itself.
@@ -63,5 +77,12 @@ impl<'a> Index<'a> {
         ensures { result ≡ is_some (class_named self.now name.now) }
     {
         self.listed(name).is_some() || is_builtin(name)
+    }
+
+    /// So many steps upwards pass every class once, the machine's own too.
+    pub fn enough_steps(&self) -> usize
+        ensures { result ≡ enough_steps self.now }
+    {
+        self.program.len() + 23
     }
 }

@@ -4,10 +4,17 @@
 //! Each question is a function of its own, under the name that the definitions of the crate `model` give it.
 #![tactic(auto)]
 
+mod above;
 pub mod builtins;
 pub mod classes;
 pub mod found;
 pub mod index;
+mod interfaces;
+mod members;
 pub mod parents;
 pub mod reached;
+mod resolution;
+mod search;
+mod sought;
 pub mod subclasses;
+mod types;

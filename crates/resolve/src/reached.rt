@@ -1,5 +1,5 @@
 //! The names of the classes that are reached upwards from some.
-ghost use Rattle.std.specs.Prelude.{◌≡◌, ℕ, List, [], OnOk};
+ghost use Rattle.std.specs.Prelude.{◌≡◌, ℕ, List, [], map, OnOk};
 ghost use Rattle.model.specs.Classes.Named.{parents_named, parents_of};
 ghost use Rattle.resolve.specs.Reached.{has_name, with_name, with_names, is_one_below};
 
@@ -80,6 +80,23 @@ impl<'a> Reached<'a> {
         ensures { slice_get self.now index ≡ Some result.now }
     {
         self.names.as_slice()[index]
+    }
+
+    /// Adds these names, in order.
+    pub fn add_all(&mut self, names: &Reached<'a>) -> Result<(), AllocError>
+        ensures { OnOk result (self.new ≡ with_names self.old names.now) }
+    {
+        for name in names.names.as_slice() {
+            self.add(*name)?;
+        }
+        Ok(())
+    }
+
+    /// The names in order.
+    pub fn as_slice(&self) -> &[&'a [u8]]
+        ensures { map (λ name. name.now) result.now ≡ self.now }
+    {
+        self.names.as_slice()
     }
 
     /// Adds all that is above the names, each name's parents once.

@@ -1,41 +1,67 @@
-use Rattle.std.proofs.Common.{◌≡◌, ◌+◌, ◌≤◌, length, List, [], ◌∷◌, ◌++◌, arith, subst, sym, ap, ◌∙◌, refl, take}
-use Rattle.std.specs.List.{find}
+use Rattle.std.proofs.Common.{◌≡◌, ◌+◌, ◌≤◌, length, List, [], ◌∷◌, ◌++◌, Bor, ℕ, slice_get, Some, arith, subst, sym, ap, ◌∙◌, refl, take}
+use Rattle.std.specs.List.{All, find}
 use Rattle.std.specs.Str.{bytes_eq}
+use Rattle.std.proofs.lemmas.List.Elements.{All-nil, All-push}
 use Rattle.indexmap.proofs.CallerLemmas.{insert_entry-new}
 use Rattle.model.specs.ClassListings.{ClassListing}
 use Rattle.model.specs.Classes.Named.{is_named}
+use Rattle.resolve.specs.declared.index.Numbered.{Numbered}
 use Rattle.resolve.specs.Indexed.{found_in}
-use Rattle.resolve.proofs.IndexLemmas.{Finds, finds-new, finds-known, take-next, take-all, no_value, some_value}
+use Rattle.resolve.proofs.IndexLemmas.{Finds, finds-new, finds-known, take-next, take-all, slice-there, no_value, some_value}
 use Rattle.resolve.proofs.index.Index.new.Goals as goal
 use Rattle.resolve.proofs.index.Index.new.Goals.{then-is_none+in_ok-insert, else-is_none}
 
-pub loop-class-init : goal.loop-class-init
-loop-class-init c = λ name. rw c.new-classes.ensures.empty refl
+abbrev Entries : Type 0
+Entries = List (Bor (List ℕ) × Numbered)
 
-pub loop-class-preserved : goal.loop-class-preserved
-loop-class-preserved c =
+-- each entry has the place of its class
+abbrev IsPlaced : List ClassListing → Bor (List ℕ) × Numbered → Type 0
+IsPlaced program e = slice_get program e.1.number ≡ Some e.1.class.now
+
+pub loop-number-init : goal.loop-number-init
+loop-number-init c = record {
+  finds = λ name. rw c.new-classes.ensures.empty refl;
+  placed = subst (λ (es : Entries). All (IsPlaced c.args.program.now) es) (sym c.new-classes.ensures.empty) (All-nil (IsPlaced c.args.program.now));
+}
+
+pub loop-number-preserved : goal.loop-number-preserved
+loop-number-preserved c =
     let cs : List ClassListing = c.args.program.now in
-    let passed : take (c.loop-class.class-index + 1) cs ≡ take c.loop-class.class-index cs ++ c.class-item.result ∷ [] =
-    take-next cs c.loop-class.class-index c.class-item.result c.class-item.is (omega arith) in
-    let named : c.as_bytes-name.result.now ≡ c.class-item.result.name = c.as_bytes-name.ensures ∙ ap (λ (x : ClassListing). x.name) c.class.view_is in
+    let n : ℕ = c.loop-number.number in
+    let passed : take (n + 1) cs ≡ take n cs ++ c.index-program-number.result ∷ [] =
+    take-next cs n c.index-program-number.result c.index-program-number.is (omega arith) in
+    let named : c.as_bytes-name.result.now ≡ c.index-program-number.result.name = c.as_bytes-name.ensures ∙ ap (λ (x : ClassListing). x.name) c.class.view_is in
     elim c.if-is_none.branch [
       | then-is_none+in_ok-insert w ↦
           let none = no_value c.get.result w.if-is_none.ensures c.get.ensures.value in
           let entries = ap (λ m. m.entries) w.classes-is ∙ w.in_ok-insert.ensures.entries
-          ∙ insert_entry-new (λ x y. bytes_eq x.now y.now) c.loop-class.classes c.as_bytes-name.result _ none in
-          λ name.
-          ap (λ es. found_in (λ k. k.now) (λ x. x.now) es name) entries
-          ∙ finds-new (λ k. k.now) (λ x. x.now) c.loop-class.classes.entries (take c.loop-class.class-index cs) c.as_bytes-name.result _ c.loop-class.invariant named name
-          ∙ ap (find (is_named name)) (sym passed)
+          ∙ insert_entry-new (λ x y. bytes_eq x.now y.now) c.loop-number.classes c.as_bytes-name.result _ none in
+          record {
+            finds = λ name.
+                ap (λ es. found_in (λ k. k.now) (λ x. x.class.now) es name) entries
+                ∙ finds-new (λ k. k.now) (λ x. x.class.now) c.loop-number.classes.entries (take n cs) c.as_bytes-name.result _ c.loop-number.invariant.finds named name
+                ∙ ap (find (is_named name)) (sym passed);
+            placed = subst (λ (es : Entries). All (IsPlaced cs) es) (sym entries)
+                (All-push (IsPlaced cs) c.loop-number.classes.entries _ c.loop-number.invariant.placed
+                (slice-there cs n c.index-program-number.result c.index-program-number.is (omega arith)));
+          }
       | else-is_none w ↦
-          λ name.
-          ap (λ m. found_in (λ k. k.now) (λ x. x.now) m.entries name) w.classes-is
-          ∙ finds-known (λ k. k.now) (λ x. x.now) c.loop-class.classes.entries (take c.loop-class.class-index cs) c.class-item.result c.loop-class.invariant
-          (λ none. some_value (λ x. x.now) c.get.result w.if-is_none.ensures c.get.ensures.value (ap (found_in (λ k. k.now) (λ x. x.now) c.loop-class.classes.entries) named ∙ none)) name
-          ∙ ap (find (is_named name)) (sym passed)
+          record {
+            finds = λ name.
+                ap (λ m. found_in (λ k. k.now) (λ x. x.class.now) m.entries name) w.classes-is
+                ∙ finds-known (λ k. k.now) (λ x. x.class.now) c.loop-number.classes.entries (take n cs) c.index-program-number.result c.loop-number.invariant.finds
+                (λ none. some_value (λ x. x.class.now) c.get.result w.if-is_none.ensures c.get.ensures.value
+                (ap (found_in (λ k. k.now) (λ x. x.class.now) c.loop-number.classes.entries) named ∙ none)) name
+                ∙ ap (find (is_named name)) (sym passed);
+            placed = subst (λ (es : Entries). All (IsPlaced cs) es) (sym (ap (λ m. m.entries) w.classes-is)) c.loop-number.invariant.placed;
+          }
     ]
 
 pub invariant_of-result : goal.invariant_of-result
 invariant_of-result c =
-    let done : length c.args.program.now ≤ c.loop-class.class-index = omega arith in
-    subst (λ (cs : List ClassListing). Finds (λ k. k.now) (λ x. x.now) c.loop-class.classes.entries cs) (take-all c.args.program.now c.loop-class.class-index done) c.loop-class.invariant
+    let done : length c.args.program.now ≤ c.loop-number.number = omega arith in
+    record {
+      finds = subst (λ (cs : List ClassListing). Finds (λ k. k.now) (λ x. x.class.now) c.loop-number.classes.entries cs)
+          (take-all c.args.program.now c.loop-number.number done) c.loop-number.invariant.finds;
+      placed = c.loop-number.invariant.placed;
+    }
