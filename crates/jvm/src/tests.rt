@@ -390,6 +390,46 @@ fn texts_that_do_not_assemble_are_told(rt: HostRuntime) -> Result<(), Fail> {
     )
 }
 
+/// Class files of a class E without methods, below Object and below itself.
+const NO_METHODS: &[u8] =
+    b"\xca\xfe\xba\xbe\0\0\01\0\x05\x01\0\x01E\x07\0\x01\x01\0\x10java/lang/Object\x07\0\x03\0 \0\x02\0\x04\0\0\0\0\0\0\0\0";
+
+const BELOW_ITSELF: &[u8] =
+    b"\xca\xfe\xba\xbe\0\0\01\0\x03\x01\0\x01E\x07\0\x01\0 \0\x02\0\x02\0\0\0\0\0\0\0\0";
+
+/// Texts and class files of one class that break a rule of loading.
+#[test]
+fn broken_rules_of_loading_are_told(rt: HostRuntime) -> Result<(), Fail> {
+    for (source, answer) in [
+        (
+            b".class vm/Sys\n.super java/lang/Object\n".as_slice(),
+            b"jvm: load: L11 in class vm/Sys\n".as_slice(),
+        ),
+        (b".class E\n.super F\n", b"jvm: load: L2 in class E\n"),
+        (BELOW_ITSELF, b"jvm: load: L3 in class E\n"),
+        (
+            b".class E\n.super java/lang/Error\n.implements java/lang/Thread\n",
+            b"jvm: load: L4 in class E\n",
+        ),
+        (
+            b".class E\n.super java/lang/Object\n.field x I\n.field x J\n.field x I\n",
+            b"jvm: load: L5 in class E\n",
+        ),
+        (NO_METHODS, b"jvm: load: L9 in class E\n"),
+    ] {
+        check(
+            &rt,
+            rt.alloc(),
+            ["run", "a.j"].as_slice(),
+            source,
+            2,
+            b"",
+            answer,
+        )?;
+    }
+    Ok(())
+}
+
 #[test]
 fn a_text_is_assembled(rt: HostRuntime) -> Result<(), Fail> {
     let wanted = Answer {

@@ -95,6 +95,13 @@ impl<'a> Classes<'a> {
         }
     }
 
+    /// The first class of the program with this name.
+    pub fn listed(&self, name: &[u8]) -> Option<&'a Listing>
+        ensures { option_copied result ≡ listed self.now name.now }
+    {
+        self.index.listed(name)
+    }
+
     /// The list of superinterfaces of the program's class of a name, in the order of the search, each once.
     pub fn interfaces(&self, name: &[u8]) -> Option<&Reached<'a>>
         ensures { option_copied result ≡ option_map (interfaces_once (enough_steps self.now) self.now) (listed self.now name.now) }
