@@ -17,4 +17,6 @@ mod resolution;
 mod search;
 mod sought;
 pub mod subclasses;
+#[cfg(test)]
+mod tests;
 mod types;
