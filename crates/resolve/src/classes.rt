@@ -116,13 +116,6 @@ impl<'a> Classes<'a> {
         self.index.enough_steps()
     }
 
-    /// The first class of the program with this name.
-    pub fn listed(&self, name: &[u8]) -> Option<&'a Listing>
-        ensures { option_copied result ≡ listed self.now name.now }
-    {
-        self.index.listed(name)
-    }
-
     /// Whether a class is another's subclass: the same, or below it through superclasses and superinterfaces.
     pub fn is_subclass(&self, name: &[u8], above: &[u8]) -> bool
         ensures { result ≡ is_subclass self.now name.now above.now }
