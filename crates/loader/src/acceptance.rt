@@ -8,15 +8,14 @@ ghost use Rattle.loader.specs.Steps.{CanRun};
 use crate::errors::LoadError;
 use crate::rules::{Refusal, Stop, obeys_rules};
 use model::listings::Listing;
-use model::names::Name;
 use std::alloc::Global;
 
-fn told(alloc: Global, refusal: Refusal<'_>) -> LoadError
+fn told(refusal: Refusal<'_>) -> LoadError
     ensures { Tells (refusal_value refusal.entry) result }
 {
     let rule = refusal.rule;
     match refusal.class {
-        Some(class) => match Name::copy_of(alloc, class.name.as_bytes()) {
+        Some(class) => match class.name.share() {
             Ok(class) => LoadError::InClass { rule, class },
             Err(error) => LoadError::Memory(error),
         },
@@ -35,7 +34,7 @@ pub fn accept(alloc: Global, program: &[Listing]) -> Result<(), LoadError>
 {
     match obeys_rules(alloc, program) {
         Ok(()) => Ok(()),
-        Err(Stop::Refused(refusal)) => Err(told(alloc, refusal)),
+        Err(Stop::Refused(refusal)) => Err(told(refusal)),
         Err(Stop::Memory(error)) => Err(LoadError::Memory(error)),
     }
 }
