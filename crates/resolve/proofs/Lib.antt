@@ -4,6 +4,7 @@ pub mod IndexLemmas
 pub mod ParentLemmas
 pub mod ReachedLemmas
 pub mod InterfaceLemmas
+pub mod LayoutLemmas
 pub mod NamedLemmas
 pub mod SearchLemmas
 pub mod TypeLemmas

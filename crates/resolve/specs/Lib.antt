@@ -4,5 +4,6 @@ pub mod Elements
 pub mod Hierarchies
 pub mod Indexed
 pub mod Interfaces
+pub mod Layouts
 pub mod Reached
 pub mod Tables

@@ -9,6 +9,7 @@ pub mod classes;
 pub mod found;
 pub mod index;
 mod interfaces;
+mod layout;
 mod members;
 pub mod parents;
 pub mod reached;
