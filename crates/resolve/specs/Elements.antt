@@ -1,8 +1,10 @@
-use Rattle.std.specs.Prelude.{Option}
+use Rattle.std.specs.Prelude.{ℕ, List, Bool, Option}
 use Rattle.std.specs.Option.{option_map}
 use Rattle.model.specs.Classes.Types.{Element}
 use Rattle.model.specs.Classes.Types.Element.{Number, Reference}
 use Rattle.resolve.specs.declared.types.Element.{Element as Shown}
+use Rattle.resolve.specs.declared.types.Compared.{Compared}
+use Rattle.resolve.specs.declared.types.Compared.TheVariants.{Told, Elements}
 use Rattle.resolve.specs.declared.types.Element.TheVariants.{Number as ShownNumber, Reference as ShownReference}
 
 abbrev pub element : Shown → Element
@@ -12,3 +14,8 @@ element (ShownReference name) = Reference name.now
 -- what an array holds, as the definitions say it
 abbrev pub shown : Option Shown → Option Element
 shown = option_map element
+
+-- the answer on two types, where one on their elements is given
+abbrev pub told : (List ℕ → List ℕ → Bool) → Compared → Bool
+told elements (Told answer) = answer
+told elements (Elements element other) = elements element.now other.now

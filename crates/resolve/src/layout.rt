@@ -54,11 +54,7 @@ impl<'a> Classes<'a> {
     /// The fields of an object of the class of a name, in the order of its words: the superclass's first, each class's in
     /// the order of its file. `AllocError` where memory runs out.
     #[tactic(auto, using(crate::proofs::LayoutLemmas::turned))]
-    pub fn layout(
-        &self,
-        alloc: Global,
-        name: &[u8],
-    ) -> Result<Vec<Found<'_, Field>>, AllocError>
+    pub fn layout(&self, alloc: Global, name: &[u8]) -> Result<Vec<Found<'_, Field>>, AllocError>
         ensures { IfOk result (λ fields. fields.items ≡ layout self.now name.now) }
     {
         let mut fields = Vec::new(alloc);

@@ -6,6 +6,7 @@ use model::flags::{ClassFlags, FieldFlags, MethodFlags};
 use model::listings::{Field, Listing, Method};
 use model::names::{Member, Name};
 use std::alloc::{AllocError, Global};
+use std::fmt::Write;
 use std::test::Fail;
 
 /// A class with its superclass, perhaps an interface, and the flags of a field `x I` and of a method `f()I`, where it has
@@ -166,6 +167,21 @@ fn subclasses_and_types(rt: HostRuntime) -> Result<(), Fail> {
             expected
         );
     }
+    for (name, above, expected) in [
+        ("D", "J", true),
+        ("[D", "java/lang/Object", true),
+        ("[LD;", "[LJ;", true),
+        ("[LJ;", "[LD;", false),
+        ("[[I", "[Ljava/lang/Object;", true),
+        ("[I", "[J", false),
+        ("[I", "[Ljava/lang/Object;", false),
+        ("J", "[LJ;", false),
+    ] {
+        assert_eq!(rt;
+            classes.is_subtype(name.as_bytes(), above.as_bytes()),
+            expected
+        );
+    }
     for (name, expected) in [
         ("D", true),
         ("E", false),
@@ -175,6 +191,29 @@ fn subclasses_and_types(rt: HostRuntime) -> Result<(), Fail> {
     ] {
         assert_eq!(rt; classes.is_type(name.as_bytes()), expected);
     }
+    Ok(())
+}
+
+/// JVMS 2.4: the superclass's fields come first, and static ones have no word.
+#[test]
+fn fields_of_objects(rt: HostRuntime) -> Result<(), Fail> {
+    let alloc = rt.alloc();
+    let rows = [
+        row!("B", "A", &[], Some(2), None),
+        row!("A", OBJECT, &[], Some(1), None),
+        row!("C", "B", &["J"], Some(9), None),
+        row!("J", OBJECT, &[], Some(0x19), None),
+    ];
+    let program = listings(alloc, &rows)?;
+    let Some(classes) = Classes::new(alloc, &program)? else {
+        return Err(Fail::new("no classes"));
+    };
+    let fields = classes.layout(alloc, b"C".as_slice())?;
+    let mut declarers = String::new(alloc);
+    for field in &fields {
+        write!(declarers, "{}.{} ", field.class.name, field.member.name)?;
+    }
+    assert_eq!(rt; declarers.as_str(), "A.x B.x ");
     Ok(())
 }
 
@@ -208,11 +247,11 @@ fn layers_of_interfaces(rt: HostRuntime) -> Result<(), Fail> {
     for layer in 0..LAYERS {
         for side in ["l", "r"] {
             let mut class = listing(alloc, row!("", OBJECT, &[], None, None))?;
-            class.name = Name::new(format!(in alloc; "{side}{layer}")?.into_bytes());
+            class.name = Name::new(format!(in alloc; "{side}{layer}")?.into_bytes())?;
             if layer > 0 {
                 for below in ["l", "r"] {
                     let text = format!(in alloc; "{below}{}", layer - 1)?;
-                    class.interfaces.push(Name::new(text.into_bytes()))?;
+                    class.interfaces.push(Name::new(text.into_bytes())?)?;
                 }
             }
             program.push(class)?;
