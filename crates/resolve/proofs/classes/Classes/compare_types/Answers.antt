@@ -1,4 +1,4 @@
-use Rattle.std.proofs.Common.{◌≡◌, ◌∙◌, ap, Some, codes, Bool}
+use Rattle.std.proofs.Common.{◌∙◌, ap, Some, codes, Bool}
 use Rattle.std.specs.Str.{bytes_eq}
 use Rattle.model.specs.Classes.Subclasses.{is_subclass}
 use Rattle.model.specs.Classes.Types.{element_of, types_compare}
