@@ -90,6 +90,10 @@ public class Relations {
         return found;
     }
 
+    /**
+     * The class in which a method is found; where it is found in a superinterface, which of them is left to the machine
+     * (JVMS 5.4.3.3), and a handle on it names the class that was asked.
+     */
     static String method(Class<?> c, String name, String descriptor) throws Throwable {
         String found = "none";
         try {
@@ -98,7 +102,9 @@ public class Relations {
             // no such method, or one of objects
         }
         try {
-            found = declarer(all.findVirtual(c, name, type(descriptor)));
+            Class<?> declarer = Class.forName(declarer(all.findVirtual(c, name, type(descriptor))));
+            found = declarer == c && declares(c, name, descriptor, 0) || !declarer.isInterface() && declarer != c
+                ? declarer.getName() : "an interface";
         } catch (ReflectiveOperationException e) {
             // no such method, or a static one
         }
@@ -118,7 +124,7 @@ public class Relations {
             return null;
         }
         for (Class<?> above : classes) {
-            if (above.isAssignableFrom(c) && declares(above, name, descriptor)) {
+            if (above.isAssignableFrom(c) && declares(above, name, descriptor, Modifier.STATIC | Modifier.PRIVATE)) {
                 MethodHandle handle = all.findVirtual(above, name, type(descriptor));
                 Object object = c.getDeclaredConstructor().newInstance();
                 List<Object> arguments = new ArrayList<>();
@@ -136,9 +142,8 @@ public class Relations {
         return null;
     }
 
-    static boolean declares(Class<?> c, String name, String descriptor) {
+    static boolean declares(Class<?> c, String name, String descriptor, int hidden) {
         for (Method m : c.getDeclaredMethods()) {
-            int hidden = Modifier.STATIC | Modifier.PRIVATE;
             if (m.getName().equals(name) && type(m).toMethodDescriptorString().equals(descriptor)) {
                 return (m.getModifiers() & hidden) == 0;
             }

@@ -2,10 +2,8 @@
 
 use super::*;
 use bitflags::Flags;
-use model::instructions::{ClassOperation, Constant, Instruction, Invocation, Width};
+use model::instructions::{Constant, Instruction, Invocation, Width};
 use model::listings::{Constant as Value, Listed, Listing};
-use model::names::Name;
-use std::ptr;
 
 /// A class A with a field `static final J L = -1`, and a method `public static main()V` whose code is `ldc 2147483647`,
 /// `invokestatic vm/Sys/print(I)V` and `return`, of which the first hands Object to the last.
@@ -90,46 +88,5 @@ fn limits_and_a_row(rt: HostRuntime) -> Result<(), Fail> {
     assert_eq!(rt; (row.start, row.end, row.handler), (0, 2, 5));
     let class = row.class.as_ref().ok_or("no class")?;
     assert!(rt; class.is("java/lang/Object"));
-    Ok(())
-}
-
-/// E with 10,000 times `new java/lang/Object` and `pop` before its return.
-fn many_news(alloc: Global) -> Result<Vec<u8>, Fail> {
-    let mut code = Vec::new(alloc);
-    for _ in 0..10_000 {
-        code.extend_from_slice(&[0xbb, 0, 4, 0x57])?;
-    }
-    code.push(0xb1)?;
-    with_code(alloc, &code)
-}
-
-/// Whether two names have their bytes in one place.
-fn share_bytes(one: &Name, other: &Name) -> bool {
-    match (one.as_bytes().first(), other.as_bytes().first()) {
-        (Some(one), Some(other)) => ptr::eq(one, other),
-        _ => false,
-    }
-}
-
-/// How many instructions of the first method are `new`, with the bytes of the superclass's name.
-fn sharing_news(listing: &Listing) -> Option<usize> {
-    let code = listing.methods.first()?.code.as_ref()?;
-    let news = code
-        .instructions
-        .iter()
-        .filter(|placed| match &placed.instruction {
-            Instruction::Class(ClassOperation::New, name) => {
-                share_bytes(name, &listing.superclass)
-            }
-            _ => false,
-        });
-    Some(news.count())
-}
-
-#[test]
-fn a_name_is_kept_once(rt: HostRuntime) -> Result<(), Fail> {
-    let bytes = many_news(rt.alloc())?;
-    let e = listing(rt.alloc(), &read(rt.alloc(), &bytes)?)?;
-    assert_eq!(rt; sharing_news(&e), Some(10_000));
     Ok(())
 }
