@@ -1,3 +1,5 @@
+pub mod ActingLemmas
+pub mod Keeping
 pub mod OpeningState
 pub mod Refusing
 pub mod Stepping

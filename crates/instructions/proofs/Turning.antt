@@ -1,32 +1,25 @@
 -- A turn on the parts of the state.
 use Rattle.std.proofs.Common.{◌≡◌, ◌≤◌, ◌+◌, ℕ, zero, suc, ℤ, List, [], ◌∷◌, length, Option, Some, None, IfSome, Result, Ok, Err, Bool, true, false, refl, ap, sym, ◌∙◌, arith, subst}
-use Rattle.std.specs.Prelude.{if◌then◌else◌, slice_get}
-use Rattle.model.specs.declared.instructions.Conversion.{Conversion}
-use Rattle.model.specs.declared.instructions.NumberKind.{NumberKind}
-use Rattle.model.specs.declared.instructions.Operator.{Operator}
-use Rattle.model.specs.declared.instructions.NumberOperation.{NumberOperation}
-use Rattle.model.specs.declared.instructions.NumberOperation.TheVariants.{Binary, Negate, Convert, CompareLongs}
+use Rattle.std.specs.Prelude.{slice_get}
 use Rattle.model.specs.declared.journals.Limits.{Limits}
 use Rattle.model.specs.declared.turns.Actor.TheVariants.{Thread}
 use Rattle.model.specs.declared.turns.ClassState.{ClassState}
 use Rattle.model.specs.declared.turns.Fault.{Fault}
 use Rattle.model.specs.declared.turns.Abrupt.{Abrupt}
-use Rattle.model.specs.declared.values.Value.{Value}
 use Rattle.model.specs.ClassListings.{ClassListing}
-use Rattle.model.specs.Frames.{Frame, IsPlain, Moved, int_on, replaced, replaced_if_room, running_frame}
+use Rattle.model.specs.Frames.{Frame, IsPlain, Moved, int_on, replaced, running_frame}
 use Rattle.model.specs.Programs.{main_in}
 use Rattle.model.specs.Served.{ServedProgram}
 use Rattle.model.specs.Worlds.{World, lives, counted}
 use Rattle.model.specs.Turns.{refusal, print_of}
-use Rattle.model.specs.Table.Constants.{constant, constant_value}
-use Rattle.model.specs.Arithmetic.{conversion_result}
-use Rattle.model.specs.Table.Numbers.{number, number_value, target_kind, operated, binary_on, negated_on, converted_on, compared_on, operands_of, operand_of, source_kind}
-use Rattle.loader.specs.declared.programs.Action.{Action}
-use Rattle.loader.specs.declared.programs.Action.TheVariants.{Nop, Constant, Number, Return, Print, Unserved}
+use Rattle.loader.specs.declared.operations.Operation.{Operation}
+use Rattle.loader.specs.declared.operations.Operation.TheVariants as operation
 use Rattle.loader.specs.declared.programs.Step.{Step}
-use Rattle.instructions.specs.Acting.{Parts, moved_in, printed_in, acted, acted_at, printed_at, standing, told_parts}
+use Rattle.instructions.specs.Acting.{Parts, moved_in, printed_in, moved_or, acted, acted_at, acted_else, printed_at, standing, told_parts}
 use Rattle.instructions.specs.Going.{IsGoing}
 use Rattle.instructions.specs.Loaded.{Loaded, RunsMainUnlessEnded, thread_shown, world_shown, world_after, after_step}
+use Rattle.plain_steps.specs.PlainMoves.{plain_move}
+use Rattle.instructions.proofs.Keeping.{KeepsPlace, KeepsPlaceIfSome, plain_keeps}
 use Rattle.instructions.proofs.Refusing.{allowed}
 use Rattle.instructions.proofs.Stepping.{next_shown, print_shown_at, step_stands}
 
@@ -38,47 +31,8 @@ first_lives true frames (suc t) e = cc
 first_lives false frames zero e = (refl, refl)
 first_lives false frames (suc t) e = cc
 
--- ---- no action leaves the method
+-- ---- what an operation leaves runs main or has ended
 
--- a move keeps the frame's method, its monitor and its mark
-abbrev KeepsPlace : Frame → Result Moved Abrupt → Type 0
-KeepsPlace f (Ok moved) = (moved.frame.method ≡ f.method) × (moved.frame.monitor ≡ f.monitor) × (moved.frame.mark ≡ f.mark)
-KeepsPlace f (Err abrupt) = Unit {0}
-
-room_keeps : (next : ℕ) (f : Frame) (n : ℕ) (vs : List Value) (b : Bool) (e : Abrupt) → KeepsPlace f (if b then Ok (replaced next f n vs) else Err e)
-room_keeps next f n vs true e = (refl, refl, refl)
-room_keeps next f n vs false e = tt
-
-replaced_keeps : (next : ℕ) (f : Frame) (n : ℕ) (vs : List Value) → KeepsPlace f (replaced_if_room next f n vs)
-replaced_keeps next f n vs = room_keeps next f n vs _ _
-
-operated_keeps : (next : ℕ) (f : Frame) (kind : NumberKind) (o : Option ℤ) → KeepsPlace f (operated next f kind o)
-operated_keeps next f kind (Some z) = (refl, refl, refl)
-operated_keeps next f kind None = tt
-
-binary_keeps : (next : ℕ) (f : Frame) (kind : NumberKind) (op : Operator) (r : Result (ℤ × ℤ) Fault) → KeepsPlace f (binary_on next f kind op r)
-binary_keeps next f kind op (Err e) = tt
-binary_keeps next f kind op (Ok operands) = operated_keeps next f kind _
-
-negated_keeps : (next : ℕ) (f : Frame) (kind : NumberKind) (r : Result ℤ Fault) → KeepsPlace f (negated_on next f kind r)
-negated_keeps next f kind (Err e) = tt
-negated_keeps next f kind (Ok z) = (refl, refl, refl)
-
-converted_keeps : (next : ℕ) (f : Frame) (c : Conversion) (r : Result ℤ Fault) → KeepsPlace f (converted_on next f c r)
-converted_keeps next f c (Err e) = tt
-converted_keeps next f c (Ok z) = replaced_keeps next f 1 (number_value (target_kind c) (conversion_result c z) ∷ [])
-
-compared_keeps : (next : ℕ) (f : Frame) (r : Result (ℤ × ℤ) Fault) → KeepsPlace f (compared_on next f r)
-compared_keeps next f (Err e) = tt
-compared_keeps next f (Ok operands) = (refl, refl, refl)
-
-number_keeps : (next : ℕ) (operation : NumberOperation) (f : Frame) → KeepsPlace f (number next operation f)
-number_keeps next (Binary kind op) f = binary_keeps next f kind op (operands_of kind op f.stack)
-number_keeps next (Negate kind) f = negated_keeps next f kind (operand_of kind f.stack)
-number_keeps next (Convert c) f = converted_keeps next f c (operand_of (source_kind c) f.stack)
-number_keeps next CompareLongs f = compared_keeps next f _
-
--- what an action leaves runs main or has ended
 abbrev RunsOn : List ClassListing → Result Parts Fault → Type 0
 RunsOn program (Ok parts) = RunsMainUnlessEnded program parts.ended parts.frames
 RunsOn program (Err fault) = Unit {0}
@@ -92,16 +46,19 @@ module _ (program : List ClassListing) (f : Frame) (main_is : main_in program �
   printed_runs output next (Ok z) = record { frame = (replaced next f 1 []).frame; alone = refl; main_is = main_is; plain = plain }
   printed_runs output next (Err fault) = tt
 
-  acted_runs : (output : List ℕ) (next : ℕ) (action : Action) → RunsOn program (acted (f ∷ []) output next action)
-  acted_runs output next Nop = moved_runs output (Ok (replaced next f 0 [])) (refl, refl, refl)
-  acted_runs output next (Constant c) = moved_runs output (constant next c f) (replaced_keeps next f 0 (constant_value c ∷ []))
-  acted_runs output next (Number operation) = moved_runs output (number next operation f) (number_keeps next operation f)
-  acted_runs output next Return = tt
-  acted_runs output next Print = printed_runs output next (int_on f.stack)
-  acted_runs output next Unserved = tt
+  else_runs : (output : List ℕ) (next : ℕ) (op : Operation) → RunsOn program (acted_else (f ∷ []) output next op)
+  else_runs output next operation.Return = tt
+  else_runs output next operation.PrintInt = printed_runs output next (int_on f.stack)
+  else_runs output next _ = tt
+
+  acted_runs : (output : List ℕ) (next : ℕ) (op : Operation) → RunsOn program (acted (f ∷ []) output next op)
+  acted_runs output next op = by_move (plain_move next op f) (plain_keeps next op f) where
+    by_move : (o : Option (Result Moved Abrupt)) → KeepsPlaceIfSome f o → RunsOn program (moved_or (f ∷ []) output o (acted_else (f ∷ []) output next op))
+    by_move (Some m) kept = moved_runs output m kept
+    by_move None kept = else_runs output next op
 
   acted_at_runs : (output : List ℕ) (step : Step) → RunsOn program (acted_at (f ∷ []) output step)
-  acted_at_runs output step = acted_runs output step.next step.action
+  acted_at_runs output step = acted_runs output step.next step.operation
 
 module _ (program : List ClassListing) (limits : Limits) (states : List ClassState) (output : List ℕ) (rows capacity : ℕ) where
   abbrev state : Bool → List Frame → Option (Fault × ℕ) → Loaded

@@ -1,4 +1,16 @@
+pub mod SelectionLemmas
+pub mod ClassTableLemmas
+pub mod InitializerLemmas
 pub mod LimitLemmas
+pub mod MethodTableLemmas
+pub mod NumberingLemmas
+pub mod PlaceLemmas
+pub mod PlainOperationRows
 pub mod RepeatLemmas
+pub mod RowPlaceLemmas
 pub mod RunLemmas
+pub mod SelectedRowLemmas
+pub mod SelectionTableLemmas
+pub mod SelectorLemmas
 pub mod StepListLemmas
+pub mod StorageLemmas

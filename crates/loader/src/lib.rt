@@ -5,19 +5,46 @@
 #![tactic(auto)]
 
 pub mod acceptance;
+pub mod class_numbers;
+pub mod class_tables;
 pub mod errors;
 mod exception_rows;
+pub mod first_places;
+pub mod initializers;
 mod limits;
+mod member_places;
 mod members;
+pub mod method_tables;
+mod narrowing;
+mod numbered_operations;
+mod numbering;
+#[cfg(test)]
+mod operation_tests;
+pub mod operations;
+pub mod own_methods;
+pub mod plain_operations;
+mod prepared;
 pub mod programs;
 mod references;
 mod repeats;
+mod resolved_operations;
 mod rules;
+pub mod selection;
+pub mod selection_rows;
+#[cfg(test)]
+mod selection_tests;
+pub mod selectors;
 mod served;
+pub mod static_slots;
 mod step_lists;
+pub mod storages;
 mod superclasses;
 #[cfg(test)]
+mod table_tests;
+pub mod tables;
+#[cfg(test)]
 mod tests;
+mod type_numbers;
 
 pub use acceptance::accept;
 pub use errors::LoadError;

@@ -7,9 +7,9 @@ ghost use Rattle.model.specs.declared.listings.Method.{Method as MethodListing};
 ghost use Rattle.model.specs.declared.listings.Placed.{Placed as PlacedAt};
 ghost use Rattle.model.specs.Classes.Named.{class_named};
 ghost use Rattle.model.specs.Classes.Resolution.{is_initializer, resolved_field, resolved_method};
-ghost use Rattle.model.specs.Classes.Types.{dimensions};
 ghost use Rattle.model.specs.Accepted.References.{is_static_found, is_instance_found, is_static_method_found, is_concrete_found, is_interface_found, names_class, finds_static, finds_instance, invocation_resolves, array_resolves, class_resolves, resolves, catch_resolves, is_unresolved_in, has_unresolved};
 
+use crate::type_numbers::dimensions;
 use bitflags::Flags;
 use model::descriptors::argument_units;
 use model::flags::{ClassFlags, FieldFlags, MethodFlags};
@@ -135,20 +135,6 @@ fn invocation_resolves(classes: &Classes<'_>, invocation: Invocation, member: &M
         Invocation::Static => finds_static(classes, member),
         Invocation::Interface(count) => finds_in_interface(classes, count, member),
     }
-}
-
-/// How many dimensions an array has, by its descriptor; a class has none.
-fn dimensions(name: &[u8]) -> usize
-    ensures { result ≡ dimensions name.now }
-{
-    let mut count = 0;
-    for byte in name {
-        if *byte != b'[' {
-            break;
-        }
-        count += 1;
-    }
-    count
 }
 
 fn array_resolves(classes: &Classes<'_>, operation: &ArrayOperation<Name>) -> bool

@@ -5,7 +5,8 @@ ghost use Rattle.model.specs.Programs.{builtin_of, is_class_initializer};
 ghost use Rattle.model.specs.Served.{serves_constant, serves_number, serves_call, serves_invocation, is_served, serves_rows, serves_code, serves_fields, serves_methods, serves};
 ghost use Rattle.model.specs.declared.listings.Placed.{Placed as PlacedAt};
 
-use crate::programs::{builtin_of, is_class_initializer};
+use crate::own_methods::builtin_of;
+use crate::programs::is_class_initializer;
 use bitflags::Flags;
 use model::builtins::Builtin;
 use model::flags::FieldFlags;

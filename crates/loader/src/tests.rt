@@ -2,12 +2,15 @@
 
 use super::*;
 use crate::exception_rows::has_bad_row;
+use crate::operations::Operation;
+use crate::programs::Program;
 use crate::references::resolves;
 use bitflags::Flags;
 use model::flags::{ClassFlags, FieldFlags, MethodFlags};
 use model::instructions::{Access, ArrayOperation, ClassOperation, Instruction, Invocation};
 use model::listings::{Code, ExceptionRow, Field, Listed, Listing, Method, Placed};
 use model::names::{Member, Name};
+use model::places::MethodPlace;
 use resolve::classes::Classes;
 use std::alloc::{AllocError, Global};
 use std::process::Abort;
@@ -72,11 +75,11 @@ E main()V@9,97,4000; X n()V@257,1,0 => L10 in class X
 E; X f()V@1,0,0 => L8 in class X
 ";
 
-fn name(alloc: Global, text: &str) -> Result<Name, AllocError> {
+pub(crate) fn name(alloc: Global, text: &str) -> Result<Name, AllocError> {
     Name::copy_of(alloc, text.as_bytes())
 }
 
-fn placed(pc: u8, instruction: Listed) -> Placed {
+pub(crate) fn placed(pc: u8, instruction: Listed) -> Placed {
     Placed {
         pc: u16::from(pc),
         next: u16::from(pc) + 1,
@@ -176,7 +179,7 @@ fn listed(alloc: Global, words: &str) -> Result<Listing, Fail> {
 }
 
 /// The classes of some words.
-fn program(alloc: Global, words: &str) -> Result<Vec<Listing>, Fail> {
+pub(crate) fn program(alloc: Global, words: &str) -> Result<Vec<Listing>, Fail> {
     let mut classes = Vec::new(alloc);
     for class in words.split("; ") {
         if !class.is_empty() {
@@ -356,7 +359,7 @@ fn at_type(word: &str, name: Name) -> Listed {
 }
 
 /// The instruction of some words.
-fn instruction(alloc: Global, words: &str) -> Result<Listed, Fail> {
+pub(crate) fn instruction(alloc: Global, words: &str) -> Result<Listed, Fail> {
     let (word, rest) = words.split_once(" ").ok_or("no instruction")?;
     let Some((class, signature)) = rest.split_once(" ") else {
         return Ok(at_type(word, name(alloc, rest)?));
@@ -440,6 +443,34 @@ fn exception_rows_are_good_or_bad(rt: HostRuntime) -> Result<(), Fail> {
     ] {
         let found = is_bad(rt.alloc(), bounds, class)?;
         assert_eq!(rt; (bounds, class, found), (bounds, class, wanted));
+    }
+    Ok(())
+}
+
+/// Main's instructions by their pcs, and the initializer behind a class's last method (JVMS 2.9).
+#[test]
+fn instructions_by_their_pcs(rt: HostRuntime) -> Result<(), Fail> {
+    let classes = program(rt.alloc(), "E main()V@9,0,0; F")?;
+    accept(rt.alloc(), classes.as_slice())?;
+    let program = Program::new(rt.alloc(), classes)?;
+    for (class, method, pc, next, operation) in [
+        (0, 0, 0, 1, Operation::Nop),
+        (0, 0, 1, 2, Operation::Return),
+        (0, 0, 2, 0, Operation::Invalid),
+        (0, 1, 0, 1, Operation::Return),
+        (0, 1, 1, 0, Operation::Invalid),
+        (0, 2, 0, 0, Operation::Invalid),
+        (1, 0, 0, 1, Operation::Return),
+        (2, 0, 0, 0, Operation::Invalid),
+    ] {
+        let place = MethodPlace { class, method };
+        let behind = match program.placed(place, pc) {
+            Some(placed) => placed.next,
+            None => 0,
+        };
+        assert!(rt; behind == next);
+        let step = program.step(place, pc);
+        assert!(rt; (step.next, step.operation) == (next, operation));
     }
     Ok(())
 }

@@ -9,6 +9,7 @@ pub mod Resolution
 pub mod Search
 pub mod Selection
 pub mod SelectionTable
+pub mod Special
 pub mod Subclass
 pub mod Subclasses
 pub mod Types

@@ -1,13 +1,14 @@
 //! Descriptors of fields and methods (JVMS 4.3): which words are some, and what those of methods say.
-ghost use Rattle.std.specs.Prelude.{◌≡◌, ◌<◌, ◌≤◌, ◌*◌, ◌+◌, ◌==◌, ◌∷◌, length, drop};
+ghost use Rattle.std.specs.Prelude.{◌≡◌, ◌<◌, ◌≤◌, ◌*◌, ◌+◌, ◌==◌, ◌∷◌, length, drop, IfOk};
 ghost use Rattle.std.specs.List.{list_all, position_or_len, before_first};
 ghost use Rattle.model.specs.Locals.{entries_of};
-ghost use Rattle.model.specs.Signatures.{dimensions, element_length, type_length, types_in, argument_units, result_type, result_kind};
+ghost use Rattle.model.specs.Signatures.{dimensions, element_length, type_length, types_in, argument_kinds, argument_units, result_type, result_kind};
 ghost use Rattle.model.specs.Stores.{descriptor_kind};
 ghost use Rattle.model.specs.Texts.Descriptors.{is_int_type, is_long_type, is_class_type, is_element_type, is_type, is_field_descriptor, is_array_descriptor, is_result, is_method_descriptor, arguments_of};
 
 use crate::good_names::{are_parts, fits};
 use crate::values::Kind;
+use std::alloc::{AllocError, Global};
 
 /// Whether a word is a field's descriptor: one type, of 65,535 bytes at most (JVMS 4.3.2).
 pub fn is_field_descriptor(word: &[u8]) -> bool
@@ -73,6 +74,21 @@ pub fn argument_units(descriptor: &[u8]) -> usize
         rest = others;
     }
     units
+}
+
+/// The kinds of the arguments of a method's descriptor, in order. Of a word that is no descriptor, those of what stands
+/// where the types would. `AllocError` where memory runs out.
+pub fn argument_kinds(alloc: Global, descriptor: &[u8]) -> Result<Vec<Kind>, AllocError>
+    ensures { IfOk result (λ kinds. kinds.items ≡ argument_kinds descriptor.now) }
+{
+    let mut rest = argument_row(descriptor);
+    let mut kinds = Vec::new(alloc);
+    while !rest.is_empty() {
+        let (first, others) = split_type(rest);
+        kinds.push(descriptor_kind(first))?;
+        rest = others;
+    }
+    Ok(kinds)
 }
 
 /// The kind of a method's result, by its descriptor. `None` where it returns nothing.

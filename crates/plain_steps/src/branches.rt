@@ -1,8 +1,8 @@
 //! The branches.
-ghost use Rattle.std.specs.Prelude.{◌≡◌, ◌<◌, ◌≤◌, length, IsOk, OnErr};
-ghost use Rattle.model.specs.Arithmetic.{comparison_holds};
-ghost use Rattle.model.specs.Frames.{running_frame, int_on, ref_on, two_ints_on, two_refs_on};
-ghost use Rattle.model.specs.Table.Branches.{identity_holds, same_reference, zero_test, ints_test, refs_test, null_test, branch_pc, branched as branch_move};
+ghost use Rattle.std.specs.Prelude.{◌≡◌, ◌<◌, [], length, OnErr};
+ghost use Rattle.model.specs.Frames.{replaced, running_frame, with_running};
+ghost use Rattle.model.specs.declared.instructions.Test.TheVariants.{Zero, Ints, Refs, Null};
+ghost use Rattle.model.specs.Table.Branches.{identity_holds, same_reference, branch_pc, branched as branch_move};
 ghost use Rattle.plain_steps.specs.Told.{told_with, moved_with};
 
 use crate::written::Written;
@@ -12,29 +12,106 @@ use model::turns::Abrupt;
 
 /// A branch (JVMS 6.5): the frame goes to the target where the test holds, else to the next instruction. Faults of the
 /// operands, F1 and F3, from the top.
+#[inline(always)]
 pub fn branched(frames: &mut Frames, next: u16, test: Test, target: u16) -> Result<Written, Abrupt>
     requires { 0 < length frames.old }
     ensures step { told_with result frames.new ≡ moved_with frames.old (branch_move next test target (running_frame frames.old)) }
     ensures kept { OnErr result (frames.new ≡ frames.old) }
 {
-    let (taken, count) = match test {
-        Test::Always(_) => (true, 0),
-        Test::Zero(comparison) => (values::compare_ints(comparison, frames.int()?, 0), 1),
-        Test::Ints(comparison) => {
-            let (right, left) = frames.two_ints()?;
-            (values::compare_ints(comparison, left, right), 2)
-        }
-        Test::Refs(identity) => {
-            let (right, left) = frames.two_references()?;
-            (compare_references(identity, left, right), 2)
-        }
-        Test::Null(identity) => (compare_references(identity, frames.reference()?, None), 1),
-    };
-    frames.discard(place(next, target, taken), count);
+    match test {
+        Test::Always(_) => Ok(go(frames, target)),
+        Test::Zero(comparison) => if_zero(frames, next, comparison, target),
+        Test::Ints(comparison) => if_ints(frames, next, comparison, target),
+        Test::Refs(identity) => if_references(frames, next, identity, target),
+        Test::Null(identity) => if_null(frames, next, identity, target),
+    }
+}
+
+/// The frame goes to a pc, and nothing else changes: a `goto`, or a `nop` to the next instruction.
+#[inline(always)]
+pub(crate) fn go(frames: &mut Frames, pc: u16) -> Written
+    requires { 0 < length frames.old }
+    ensures frames { frames.new ≡ with_running frames.old (replaced pc (running_frame frames.old) 0 []).frame }
+    ensures none { result ≡ [] }
+{
+    frames.discard(pc, 0);
+    Written::none()
+}
+
+/// A branch that compares the int at the top with 0.
+#[inline(always)]
+pub(crate) fn if_zero(
+    frames: &mut Frames,
+    next: u16,
+    comparison: Comparison,
+    target: u16,
+) -> Result<Written, Abrupt>
+    requires { 0 < length frames.old }
+    ensures step { told_with result frames.new ≡ moved_with frames.old (branch_move next (Zero comparison) target (running_frame frames.old)) }
+    ensures kept { OnErr result (frames.new ≡ frames.old) }
+{
+    let value = frames.int()?;
+    let taken = values::compare_ints(comparison, value, 0);
+    frames.discard(place(next, target, taken), 1);
+    Ok(Written::none())
+}
+
+/// A branch that compares the two ints at the top.
+#[inline(always)]
+pub(crate) fn if_ints(
+    frames: &mut Frames,
+    next: u16,
+    comparison: Comparison,
+    target: u16,
+) -> Result<Written, Abrupt>
+    requires { 0 < length frames.old }
+    ensures step { told_with result frames.new ≡ moved_with frames.old (branch_move next (Ints comparison) target (running_frame frames.old)) }
+    ensures kept { OnErr result (frames.new ≡ frames.old) }
+{
+    let (right, left) = frames.two_ints()?;
+    let taken = values::compare_ints(comparison, left, right);
+    frames.discard(place(next, target, taken), 2);
+    Ok(Written::none())
+}
+
+/// A branch that compares the two references at the top.
+#[inline(always)]
+pub(crate) fn if_references(
+    frames: &mut Frames,
+    next: u16,
+    identity: Identity,
+    target: u16,
+) -> Result<Written, Abrupt>
+    requires { 0 < length frames.old }
+    ensures step { told_with result frames.new ≡ moved_with frames.old (branch_move next (Refs identity) target (running_frame frames.old)) }
+    ensures kept { OnErr result (frames.new ≡ frames.old) }
+{
+    let (right, left) = frames.two_references()?;
+    let taken = compare_references(identity, left, right);
+    frames.discard(place(next, target, taken), 2);
+    Ok(Written::none())
+}
+
+/// A branch that compares the reference at the top with null.
+#[inline(always)]
+pub(crate) fn if_null(
+    frames: &mut Frames,
+    next: u16,
+    identity: Identity,
+    target: u16,
+) -> Result<Written, Abrupt>
+    requires { 0 < length frames.old }
+    ensures step { told_with result frames.new ≡ moved_with frames.old (branch_move next (Null identity) target (running_frame frames.old)) }
+    ensures kept { OnErr result (frames.new ≡ frames.old) }
+{
+    let reference = frames.reference()?;
+    let taken = compare_references(identity, reference, None);
+    frames.discard(place(next, target, taken), 1);
     Ok(Written::none())
 }
 
 /// Whether two references are one, or differ, as a branch asks.
+#[inline(always)]
 fn compare_references(identity: Identity, left: Option<u32>, right: Option<u32>) -> bool
     ensures { result ≡ identity_holds identity left right }
 {
@@ -45,6 +122,7 @@ fn compare_references(identity: Identity, left: Option<u32>, right: Option<u32>)
 }
 
 /// Whether two references are one; null is one with null.
+#[inline(always)]
 fn are_one(left: Option<u32>, right: Option<u32>) -> bool
     ensures { result ≡ same_reference left right }
 {
@@ -56,6 +134,7 @@ fn are_one(left: Option<u32>, right: Option<u32>) -> bool
 }
 
 /// The target where the branch is taken, else the next instruction.
+#[inline(always)]
 fn place(next: u16, target: u16, taken: bool) -> u16
     ensures { result ≡ branch_pc next target taken }
 {

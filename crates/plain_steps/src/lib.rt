@@ -12,10 +12,11 @@
 //! | `rearranged(frames, next, operation)` | the same with `rearranged next operation f` |
 //! | `branched(frames, next, test, target)` | the same with `branched next test target f` |
 //! | `table_switched(frames, table)`, `lookup_switched(frames, lookup)` | the same with `table_switched table f`, `lookup_switched lookup f` |
-//! | `plain_step(frames, step)` | the same with `plain_move step.next step.action f`, where that is `Some` |
+//! | `plain_step(frames, step)` | the same with `plain_move step.next step.operation f`, where that is `Some` |
 //!
-//! `proofs/TableLemmas.antt` says what such an equation comes to in the instruction table: `by_family-plain`, then
-//! `completes-done` or `completes-abrupt`.
+//! `proofs/TableLemmas.antt` says what such an equation comes to in the instruction table: by `family_moves` an instruction's
+//! plain operation moves the frame as its family does; `by_family-plain`, and then `completes-done` or `completes-abrupt`,
+//! give the table's completion.
 #![tactic(auto)]
 
 mod branches;

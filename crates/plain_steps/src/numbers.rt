@@ -15,6 +15,7 @@ use values::{IntType, Value};
 
 /// An operator, a change of sign, a conversion or a comparison (JVMS 6.5). Faults of the operands come first, F1 and
 /// F3 from the top; then ArithmeticException of a division by zero; then F2 of a conversion.
+#[inline(always)]
 pub fn number(frames: &mut Frames, next: u16, operation: NumberOperation) -> Result<Written, Abrupt>
     requires { 0 < length frames.old }
     ensures step { told_with result frames.new ≡ moved_with frames.old (number_move next operation (running_frame frames.old)) }
@@ -31,7 +32,8 @@ pub fn number(frames: &mut Frames, next: u16, operation: NumberOperation) -> Res
 }
 
 /// An operator on two ints.
-fn int_operation(frames: &mut Frames, next: u16, op: Operator) -> Result<Written, Abrupt>
+#[inline(always)]
+pub(crate) fn int_operation(frames: &mut Frames, next: u16, op: Operator) -> Result<Written, Abrupt>
     requires { 0 < length frames.old }
     ensures step { told_with result frames.new ≡ moved_with frames.old (number_move next (Binary Int op) (running_frame frames.old)) }
     ensures kept { OnErr result (frames.new ≡ frames.old) }
@@ -47,7 +49,12 @@ fn int_operation(frames: &mut Frames, next: u16, op: Operator) -> Result<Written
 }
 
 /// An operator on two longs, or a shift of a long.
-fn long_operation(frames: &mut Frames, next: u16, op: Operator) -> Result<Written, Abrupt>
+#[inline(always)]
+pub(crate) fn long_operation(
+    frames: &mut Frames,
+    next: u16,
+    op: Operator,
+) -> Result<Written, Abrupt>
     requires { 0 < length frames.old }
     ensures step { told_with result frames.new ≡ moved_with frames.old (number_move next (Binary Long op) (running_frame frames.old)) }
     ensures kept { OnErr result (frames.new ≡ frames.old) }
@@ -63,6 +70,7 @@ fn long_operation(frames: &mut Frames, next: u16, op: Operator) -> Result<Writte
 }
 
 /// The operands of an operator on longs, the right one first; a shift's count is an int.
+#[inline(always)]
 fn long_operands(frames: &Frames, op: Operator) -> Result<(i64, i64), Fault>
     requires { 0 < length frames.now }
     ensures operands { result ≡ operands_of Long op (running_frame frames.now).stack }
@@ -86,7 +94,8 @@ fn long_operands(frames: &Frames, op: Operator) -> Result<(i64, i64), Fault>
 }
 
 /// The change of an int's sign.
-fn int_negation(frames: &mut Frames, next: u16) -> Result<Written, Abrupt>
+#[inline(always)]
+pub(crate) fn int_negation(frames: &mut Frames, next: u16) -> Result<Written, Abrupt>
     requires { 0 < length frames.old }
     ensures step { told_with result frames.new ≡ moved_with frames.old (number_move next (Negate Int) (running_frame frames.old)) }
     ensures kept { OnErr result (frames.new ≡ frames.old) }
@@ -97,7 +106,8 @@ fn int_negation(frames: &mut Frames, next: u16) -> Result<Written, Abrupt>
 }
 
 /// The change of a long's sign.
-fn long_negation(frames: &mut Frames, next: u16) -> Result<Written, Abrupt>
+#[inline(always)]
+pub(crate) fn long_negation(frames: &mut Frames, next: u16) -> Result<Written, Abrupt>
     requires { 0 < length frames.old }
     ensures step { told_with result frames.new ≡ moved_with frames.old (number_move next (Negate Long) (running_frame frames.old)) }
     ensures kept { OnErr result (frames.new ≡ frames.old) }
@@ -108,7 +118,12 @@ fn long_negation(frames: &mut Frames, next: u16) -> Result<Written, Abrupt>
 }
 
 /// A conversion of one number.
-fn convert(frames: &mut Frames, next: u16, conversion: Conversion) -> Result<Written, Abrupt>
+#[inline(always)]
+pub(crate) fn convert(
+    frames: &mut Frames,
+    next: u16,
+    conversion: Conversion,
+) -> Result<Written, Abrupt>
     requires { 0 < length frames.old }
     ensures step { told_with result frames.new ≡ moved_with frames.old (number_move next (Convert conversion) (running_frame frames.old)) }
     ensures kept { OnErr result (frames.new ≡ frames.old) }
@@ -125,7 +140,8 @@ fn convert(frames: &mut Frames, next: u16, conversion: Conversion) -> Result<Wri
 }
 
 /// The comparison of two longs.
-fn comparison(frames: &mut Frames, next: u16) -> Result<Written, Abrupt>
+#[inline(always)]
+pub(crate) fn comparison(frames: &mut Frames, next: u16) -> Result<Written, Abrupt>
     requires { 0 < length frames.old }
     ensures step { told_with result frames.new ≡ moved_with frames.old (number_move next CompareLongs (running_frame frames.old)) }
     ensures kept { OnErr result (frames.new ≡ frames.old) }

@@ -2,7 +2,8 @@
 
 use super::*;
 use frames::Frames;
-use loader::programs::{Action, Step};
+use loader::operations::Operation;
+use loader::programs::Step;
 use model::instructions::{
     Constant, Conversion, NumberKind, NumberOperation, Operator, SmallInt, SmallLong, Width,
 };
@@ -11,59 +12,60 @@ use model::turns::{Abrupt, Exception, Fault};
 use std::alloc::{AllocError, Global};
 use values::Value;
 
-fn push(constant: Constant<i32, i64>) -> Action {
-    Action::Constant(constant)
-}
-
-fn int(value: i32) -> Action {
-    push(Constant::Int(Width::Narrow, value))
-}
-
-fn long(value: i64) -> Action {
-    push(Constant::Long(value))
-}
-
-fn number(operation: NumberOperation) -> Action {
-    Action::Number(operation)
-}
-
-fn binary(kind: NumberKind, op: Operator) -> Action {
-    number(NumberOperation::Binary(kind, op))
-}
-
-/// What the last of some actions tells, and the value that is then on top, in a frame whose stack has so much room.
-/// An action that isn't plain ends them with no value.
-fn run(
-    alloc: Global,
-    room: u16,
-    actions: &[Action],
-) -> Result<(Option<Abrupt>, Option<Value>), AllocError> {
+/// A frame of three locals whose stack has so much room.
+fn frame_of(alloc: Global, room: u16) -> Result<Frames, AllocError> {
     let mut frames = Frames::new(alloc)?;
-    if frames.has_room_for(0, room) {
-        frames.enter(
-            MethodPlace {
-                class: 0,
-                method: 0,
-            },
-            0,
-            room,
-        );
+    if frames.has_room_for(3, room) {
+        let method = MethodPlace {
+            class: 0,
+            method: 0,
+        };
+        frames.enter(method, 3, room);
     }
-    for action in actions {
+    Ok(frames)
+}
+
+/// Carries out operations, none of which writes a reference, up to the first that isn't plain; whether all were.
+fn carry_out(frames: &mut Frames, operations: &[Operation]) -> Result<bool, Abrupt> {
+    for operation in operations {
         if frames.is_empty() {
-            return Ok((None, None));
+            return Ok(false);
         }
         let step = Step {
             next: 7,
-            action: *action,
+            operation: *operation,
         };
-        match plain_step(&mut frames, step) {
+        match plain_step(frames, step) {
             Some(Ok(written)) if written.as_slice().is_empty() => {}
-            Some(Err(abrupt)) => return Ok((Some(abrupt), top(&frames))),
-            _ => return Ok((None, None)),
+            Some(Err(abrupt)) => return Err(abrupt),
+            _ => return Ok(false),
         }
     }
-    Ok((None, top(&frames)))
+    Ok(true)
+}
+
+/// What the last of some operations tells, and the value that is then on top, in a frame whose stack has so much room.
+/// An operation that isn't plain ends them with no value.
+fn run(
+    alloc: Global,
+    room: u16,
+    operations: &[Operation],
+) -> Result<(Option<Abrupt>, Option<Value>), AllocError> {
+    let mut frames = frame_of(alloc, room)?;
+    Ok(match carry_out(&mut frames, operations) {
+        Ok(true) => (None, top(&frames)),
+        Ok(false) => (None, None),
+        Err(abrupt) => (Some(abrupt), top(&frames)),
+    })
+}
+
+/// The pc behind some operations.
+fn pc_after(alloc: Global, operations: &[Operation]) -> Result<Option<u16>, AllocError> {
+    let mut frames = frame_of(alloc, 4)?;
+    match carry_out(&mut frames, operations) {
+        Ok(true) if !frames.is_empty() => Ok(Some(frames.pc())),
+        _ => Ok(None),
+    }
 }
 
 /// The value on top of the running frame's stack, if there is one.
@@ -74,96 +76,232 @@ fn top(frames: &Frames) -> Option<Value> {
     frames.value(0).ok()
 }
 
+/// The value that a constant leaves on top.
+fn pushed(alloc: Global, operand: Constant<i32, i64>) -> Result<Option<Value>, AllocError> {
+    let mut frames = frame_of(alloc, 2)?;
+    if frames.is_empty() {
+        return Ok(None);
+    }
+    match constant(&mut frames, 7, operand) {
+        Ok(_) => Ok(top(&frames)),
+        Err(_) => Ok(None),
+    }
+}
+
 #[test]
 fn constants_are_pushed(rt: HostRuntime) -> Result<(), AllocError> {
     let rows = [
-        (push(Constant::Null), Value::Ref(None)),
-        (push(Constant::SmallInt(SmallInt::MinusOne)), Value::Int(-1)),
-        (push(Constant::SmallInt(SmallInt::Five)), Value::Int(5)),
-        (push(Constant::SmallLong(SmallLong::One)), Value::Long(1)),
-        (push(Constant::Byte(-128)), Value::Int(-128)),
-        (push(Constant::Short(-32768)), Value::Int(-32768)),
-        (int(i32::MAX), Value::Int(i32::MAX)),
-        (long(i64::MIN), Value::Long(i64::MIN)),
+        (Constant::Null, Value::Ref(None)),
+        (Constant::SmallInt(SmallInt::MinusOne), Value::Int(-1)),
+        (Constant::SmallInt(SmallInt::Five), Value::Int(5)),
+        (Constant::SmallLong(SmallLong::One), Value::Long(1)),
+        (Constant::Byte(-128), Value::Int(-128)),
+        (Constant::Short(-32768), Value::Int(-32768)),
+        (Constant::Int(Width::Narrow, i32::MAX), Value::Int(i32::MAX)),
+        (Constant::Long(i64::MIN), Value::Long(i64::MIN)),
     ];
-    for (action, want) in rows {
-        assert_eq!(rt; run(rt.alloc(), 2, &[action])?, (None, Some(want)));
+    for (operand, want) in rows {
+        assert_eq!(rt; pushed(rt.alloc(), operand)?, Some(want));
+    }
+    let rows = [
+        (Operation::AconstNull, Value::Ref(None)),
+        (Operation::Iconst(-32768), Value::Int(-32768)),
+        (Operation::Lconst(-2147483648), Value::Long(-2147483648)),
+    ];
+    for (operation, want) in rows {
+        assert_eq!(rt; run(rt.alloc(), 2, &[operation])?, (None, Some(want)));
     }
     let full = Some(Abrupt::Fault(Fault::StackFull));
-    assert_eq!(rt; run(rt.alloc(), 1, &[long(1)])?, (full, None));
+    assert_eq!(rt; run(rt.alloc(), 1, &[Operation::Lconst(1)])?, (full, None));
     assert_eq!(rt;
-        run(rt.alloc(), 1, &[int(1), int(2)])?,
+        run(rt.alloc(), 1, &[Operation::Iconst(1), Operation::Iconst(2)])?,
         (full, Some(Value::Int(1)))
     );
     Ok(())
 }
 
+/// Two ints, the right one on top, an operation and what it leaves on top.
 #[test]
-fn numbers_are_computed(rt: HostRuntime) -> Result<(), AllocError> {
-    let rem = binary(NumberKind::Int, Operator::Rem);
-    let shift = binary(NumberKind::Long, Operator::Ushr);
-    let minus_seven = [push(Constant::Byte(-7)), int(3), rem];
-    assert_eq!(rt;
-        run(rt.alloc(), 2, &minus_seven)?,
-        (None, Some(Value::Int(-1)))
-    );
-    let zeros = [long(-1), push(Constant::Byte(65)), shift];
-    assert_eq!(rt;
-        run(rt.alloc(), 3, &zeros)?,
-        (None, Some(Value::Long(9223372036854775807)))
-    );
-    let difference = [long(9), long(7), binary(NumberKind::Long, Operator::Sub)];
-    assert_eq!(rt;
-        run(rt.alloc(), 4, &difference)?,
-        (None, Some(Value::Long(2)))
-    );
-    let sign = [int(5), number(NumberOperation::Negate(NumberKind::Int))];
-    assert_eq!(rt; run(rt.alloc(), 1, &sign)?, (None, Some(Value::Int(-5))));
-    let byte = [
-        int(200),
-        number(NumberOperation::Convert(Conversion::IntToByte)),
-    ];
-    assert_eq!(rt; run(rt.alloc(), 1, &byte)?, (None, Some(Value::Int(-56))));
-    let order = [
-        long(1),
-        long(4294967296),
-        number(NumberOperation::CompareLongs),
-    ];
-    assert_eq!(rt; run(rt.alloc(), 4, &order)?, (None, Some(Value::Int(-1))));
-    assert_eq!(rt;
-        run(rt.alloc(), 1, &[int(1), Action::Nop])?,
-        (None, Some(Value::Int(1)))
-    );
+fn ints_are_computed(rt: HostRuntime) -> Result<(), AllocError> {
+    for (left, right, operation, want) in [
+        (2147483647, 1, Operation::Iadd, -2147483648),
+        (3, 5, Operation::Isub, -2),
+        (65536, 65536, Operation::Imul, 0),
+        (-7, 3, Operation::Idiv, -2),
+        (-7, 3, Operation::Irem, -1),
+        (1, 33, Operation::Ishl, 2),
+        (-8, 1, Operation::Ishr, -4),
+        (-8, 28, Operation::Iushr, 15),
+        (12, 10, Operation::Iand, 8),
+        (12, 10, Operation::Ior, 14),
+        (12, 10, Operation::Ixor, 6),
+        (12, 10, Operation::Ineg, -10),
+        (12, 200, Operation::I2b, -56),
+        (12, -1, Operation::I2c, 65535),
+        (12, 32768, Operation::I2s, -32768),
+    ] {
+        let operations = [Operation::Iconst(left), Operation::Iconst(right), operation];
+        assert_eq!(rt;
+            run(rt.alloc(), 2, &operations)?,
+            (None, Some(Value::Int(want)))
+        );
+    }
+    Ok(())
+}
+
+/// Two longs, the right one on top, an operation and what it leaves on top.
+#[test]
+fn longs_are_computed(rt: HostRuntime) -> Result<(), AllocError> {
+    for (left, right, operation, want) in [
+        (2147483647, 1, Operation::Ladd, Value::Long(2147483648)),
+        (3, 5, Operation::Lsub, Value::Long(-2)),
+        (65536, 65536, Operation::Lmul, Value::Long(4294967296)),
+        (-7, 3, Operation::Ldiv, Value::Long(-2)),
+        (-7, 3, Operation::Lrem, Value::Long(-1)),
+        (12, 10, Operation::Land, Value::Long(8)),
+        (12, 10, Operation::Lor, Value::Long(14)),
+        (12, 10, Operation::Lxor, Value::Long(6)),
+        (12, 10, Operation::Lneg, Value::Long(-10)),
+        (12, 10, Operation::Lcmp, Value::Int(1)),
+        (12, -1, Operation::L2i, Value::Int(-1)),
+    ] {
+        let operations = [Operation::Lconst(left), Operation::Lconst(right), operation];
+        assert_eq!(rt; run(rt.alloc(), 4, &operations)?, (None, Some(want)));
+    }
+    Ok(())
+}
+
+/// A long and the count of a shift on top, an operation and what it leaves on top.
+#[test]
+fn longs_are_shifted(rt: HostRuntime) -> Result<(), AllocError> {
+    for (left, count, operation, want) in [
+        (1, 65, Operation::Lshl, Value::Long(2)),
+        (-8, 1, Operation::Lshr, Value::Long(-4)),
+        (-1, 65, Operation::Lushr, Value::Long(9223372036854775807)),
+        (1, -5, Operation::I2l, Value::Long(-5)),
+    ] {
+        let operations = [Operation::Lconst(left), Operation::Iconst(count), operation];
+        assert_eq!(rt; run(rt.alloc(), 4, &operations)?, (None, Some(want)));
+    }
+    let halved = NumberOperation::Binary(NumberKind::Int, Operator::Shr);
+    let mut frames = frame_of(rt.alloc(), 2)?;
+    assert!(rt; !frames.is_empty());
+    assert!(rt; constant(&mut frames, 1, Constant::Byte(7)).is_ok());
+    assert!(rt; constant(&mut frames, 2, Constant::Byte(1)).is_ok());
+    assert!(rt; number(&mut frames, 3, halved).is_ok());
+    assert_eq!(rt; top(&frames), Some(Value::Int(3)));
+    let widened = NumberOperation::Convert(Conversion::IntToLong);
+    assert!(rt; number(&mut frames, 4, widened).is_ok());
+    assert_eq!(rt; top(&frames), Some(Value::Long(3)));
+    Ok(())
+}
+
+#[test]
+fn locals_and_stacks_are_moved(rt: HostRuntime) -> Result<(), AllocError> {
+    let one = Operation::Iconst(1);
+    let two = Operation::Iconst(2);
+    for (first, second, third, fourth, want) in [
+        (
+            two,
+            Operation::Istore(2),
+            Operation::Iinc(2, -3),
+            Operation::Iload(2),
+            Value::Int(-1),
+        ),
+        (
+            Operation::Lconst(5),
+            Operation::Lstore(0),
+            one,
+            Operation::Lload(0),
+            Value::Long(5),
+        ),
+        (
+            Operation::AconstNull,
+            Operation::Astore(1),
+            one,
+            Operation::Aload(1),
+            Value::Ref(None),
+        ),
+        (one, two, Operation::Swap, Operation::Nop, Value::Int(1)),
+        (one, two, Operation::DupX1, Operation::Pop, Value::Int(1)),
+        (one, two, Operation::Dup2, Operation::Pop2, Value::Int(2)),
+        (one, two, Operation::Dup, Operation::Pop2, Value::Int(1)),
+    ] {
+        let found = run(rt.alloc(), 4, &[first, second, third, fourth])?;
+        assert_eq!(rt; found, (None, Some(want)));
+    }
+    Ok(())
+}
+
+/// Two ints, 1 and 2 on top, or two nulls, and a branch to 40; the next instruction stands at 7.
+#[test]
+fn branches_go_to_their_targets(rt: HostRuntime) -> Result<(), AllocError> {
+    for (operation, pc) in [
+        (Operation::Goto(40), 40),
+        (Operation::Ifeq(40), 7),
+        (Operation::Ifne(40), 40),
+        (Operation::Iflt(40), 7),
+        (Operation::Ifge(40), 40),
+        (Operation::Ifgt(40), 40),
+        (Operation::Ifle(40), 7),
+        (Operation::IfIcmpeq(40), 7),
+        (Operation::IfIcmpne(40), 40),
+        (Operation::IfIcmplt(40), 40),
+        (Operation::IfIcmpge(40), 7),
+        (Operation::IfIcmpgt(40), 7),
+        (Operation::IfIcmple(40), 40),
+    ] {
+        let operations = [Operation::Iconst(1), Operation::Iconst(2), operation];
+        assert_eq!(rt; pc_after(rt.alloc(), &operations)?, Some(pc));
+    }
+    for (operation, pc) in [
+        (Operation::IfAcmpeq(40), 40),
+        (Operation::IfAcmpne(40), 7),
+        (Operation::Ifnull(40), 40),
+        (Operation::Ifnonnull(40), 7),
+    ] {
+        let operations = [Operation::AconstNull, Operation::AconstNull, operation];
+        assert_eq!(rt; pc_after(rt.alloc(), &operations)?, Some(pc));
+    }
     Ok(())
 }
 
 #[test]
 fn wrong_operands_are_told(rt: HostRuntime) -> Result<(), AllocError> {
-    let add = binary(NumberKind::Int, Operator::Add);
-    let widened = number(NumberOperation::Convert(Conversion::IntToLong));
-    let empty = Some(Abrupt::Fault(Fault::StackEmpty));
-    let kind = Some(Abrupt::Fault(Fault::WrongKind));
-    let full = Some(Abrupt::Fault(Fault::StackFull));
-    assert_eq!(rt;
-        run(rt.alloc(), 2, &[int(1), add])?,
-        (empty, Some(Value::Int(1)))
-    );
-    assert_eq!(rt;
-        run(rt.alloc(), 2, &[long(1), add])?,
-        (kind, Some(Value::Long(1)))
-    );
-    assert_eq!(rt;
-        run(rt.alloc(), 1, &[int(1), widened])?,
-        (full, Some(Value::Int(1)))
-    );
-    let by_zero = [long(1), long(0), binary(NumberKind::Long, Operator::Div)];
-    assert_eq!(rt;
-        run(rt.alloc(), 4, &by_zero)?,
+    let empty = Abrupt::Fault(Fault::StackEmpty);
+    let kind = Abrupt::Fault(Fault::WrongKind);
+    let full = Abrupt::Fault(Fault::StackFull);
+    let division = Abrupt::Throw(Exception::Arithmetic);
+    let one = Operation::Iconst(1);
+    let zero = Operation::Lconst(0);
+    for (first, second, third, told, want) in [
+        (Operation::Nop, one, Operation::Iadd, empty, Value::Int(1)),
         (
-            Some(Abrupt::Throw(Exception::Arithmetic)),
-            Some(Value::Long(0))
-        )
-    );
+            one,
+            Operation::Lconst(1),
+            Operation::Iadd,
+            kind,
+            Value::Long(1),
+        ),
+        (
+            one,
+            Operation::Lconst(9),
+            Operation::I2l,
+            kind,
+            Value::Long(9),
+        ),
+        (
+            Operation::Lconst(1),
+            zero,
+            Operation::Ldiv,
+            division,
+            Value::Long(0),
+        ),
+        (one, zero, Operation::Lconst(1), full, Value::Long(0)),
+    ] {
+        let found = run(rt.alloc(), 4, &[first, second, third])?;
+        assert_eq!(rt; found, (Some(told), Some(want)));
+    }
     Ok(())
 }
 
@@ -180,8 +318,18 @@ fn references_are_written(rt: HostRuntime) {
 }
 
 #[test]
-fn other_actions_are_left(rt: HostRuntime) -> Result<(), AllocError> {
-    let actions = [int(1), Action::Return];
-    assert_eq!(rt; run(rt.alloc(), 1, &actions)?, (None, None));
+fn other_operations_are_left(rt: HostRuntime) -> Result<(), AllocError> {
+    for operation in [
+        Operation::Invalid,
+        Operation::Aside,
+        Operation::Return,
+        Operation::Getstatic(0),
+        Operation::PrintInt,
+    ] {
+        assert_eq!(rt;
+            run(rt.alloc(), 1, &[Operation::Iconst(1), operation])?,
+            (None, None)
+        );
+    }
     Ok(())
 }

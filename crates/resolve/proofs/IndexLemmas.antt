@@ -5,6 +5,7 @@ use Rattle.std.specs.Map.{lookup}
 use Rattle.std.specs.Option.{option_map, option_copied}
 use Rattle.std.specs.Str.{bytes_eq}
 use Rattle.std.proofs.lemmas.Map.Entries.{All-lookup}
+use Rattle.std.proofs.lemmas.Option.{slice_get_within}
 use Rattle.std.proofs.lemmas.Slice.Eq.{bytes_eq-Decides}
 use Rattle.model.specs.ClassListings.{ClassListing}
 use Rattle.model.specs.Classes.Named.{is_named, listed, or_else}
@@ -83,15 +84,15 @@ module _ {K C : Type 0} (text : K → List ℕ) (class : C → ClassListing) whe
           or-some (find (is_named name) cs) (alone c name) (λ none. known (ap (found_in text class entries) is ∙ so name ∙ none))
       same (inr f) = rw f (or_none (find (is_named name) cs))
 
-pub take-next : (cs : List ClassListing) (n : ℕ) (c : ClassListing) → c ≡ get_or cs n c → n < length cs → take (n + 1) cs ≡ take n cs ++ c ∷ []
-take-next cs n c is inside = let next : n + 1 ≡ suc n = omega arith in rw next (by cs n is inside)
+pub take-next : {A : Type 0} (cs : List A) (n : ℕ) (c : A) → c ≡ get_or cs n c → n < length cs → take (n + 1) cs ≡ take n cs ++ c ∷ []
+take-next {A = A} cs n c is inside = let next : n + 1 ≡ suc n = omega arith in rw next (by cs n is inside)
   where
-    by : (cs : List ClassListing) (n : ℕ) → c ≡ get_or cs n c → n < length cs → take (suc n) cs ≡ take n cs ++ c ∷ []
+    by : (cs : List A) (n : ℕ) → c ≡ get_or cs n c → n < length cs → take (suc n) cs ≡ take n cs ++ c ∷ []
     by [] n is inside = absurd (omega arith)
     by (x ∷ xs) zero is inside = ap (λ y. y ∷ []) (sym is)
     by (x ∷ xs) (suc n) is inside = ap (λ rest. x ∷ rest) (by xs n is (omega arith))
 
-pub take-all : (cs : List ClassListing) (n : ℕ) → length cs ≤ n → take n cs ≡ cs
+pub take-all : {A : Type 0} (cs : List A) (n : ℕ) → length cs ≤ n → take n cs ≡ cs
 take-all [] zero h = refl
 take-all [] (suc n) h = refl
 take-all (x ∷ xs) zero h = absurd (omega arith)
@@ -109,16 +110,26 @@ some_value class (Some v) h e n = differ (ap (option_map class) e ∙ n)
     differ : Some (class v.now) ≡ None → ⊥
     differ p = cc
 
-pub slice-there : (cs : List ClassListing) (n : ℕ) (c : ClassListing) → c ≡ get_or cs n c → n < length cs → slice_get cs n ≡ Some c
+pub slice-none : {A : Type 0} (xs : List A) (n : ℕ) → length xs ≤ n → None ≡ slice_get xs n
+slice-none [] n over = refl
+slice-none (x ∷ xs) zero over = absurd (omega arith)
+slice-none (x ∷ xs) (suc n) over = slice-none xs n (omega arith)
+
+pub slice-there : {A : Type 0} (cs : List A) (n : ℕ) (c : A) → c ≡ get_or cs n c → n < length cs → slice_get cs n ≡ Some c
 slice-there [] n c is inside = absurd (omega arith)
 slice-there (x ∷ xs) zero c is inside = ap (λ y. Some y) (sym is)
 slice-there (x ∷ xs) (suc n) c is inside = slice-there xs n c is (omega arith)
 
 -- the place that an entry has is that of the class of its name
-pub numbered : {K C : Type 0} (text : K → List ℕ) (class : C → ClassListing) (number : C → ℕ) (program : List ClassListing) (entries : List (K × C))
-    (name : List ℕ) (c : C) → IsIndex text class number program entries → Some c ≡ lookup (λ k. bytes_eq name (text k)) entries
-    → slice_get program (number c) ≡ listed program name
-numbered {K = K} {C = C} text class number program entries name c index found =
-    subst (λ (x : Option C). IfSome x (λ c. slice_get program (number c) ≡ Some (class c))) (sym found)
-    (All-lookup (λ c. slice_get program (number c) ≡ Some (class c)) (λ k. bytes_eq name (text k)) entries index.placed)
-    ∙ ap (option_map class) found ∙ index.finds name
+module _ {K C : Type 0} (text : K → List ℕ) (class : C → ClassListing) (number : C → ℕ) (program : List ClassListing) (entries : List (K × C))
+    (name : List ℕ) (c : C) (index : IsIndex text class number program entries) (found : Some c ≡ lookup (λ k. bytes_eq name (text k)) entries) where
+  placed : slice_get program (number c) ≡ Some (class c)
+  placed =
+      subst (λ (x : Option C). IfSome x (λ c. slice_get program (number c) ≡ Some (class c))) (sym found)
+      (All-lookup (λ c. slice_get program (number c) ≡ Some (class c)) (λ k. bytes_eq name (text k)) entries index.placed)
+
+  pub numbered : slice_get program (number c) ≡ listed program name
+  numbered = placed ∙ ap (option_map class) found ∙ index.finds name
+
+  pub number-inside : number c < length program
+  number-inside = slice_get_within program (number c) (class c) placed

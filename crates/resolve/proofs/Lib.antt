@@ -1,10 +1,16 @@
-pub mod AboveLemmas
+pub mod AcyclicLemmas
 pub mod BuiltinLemmas
+pub mod ClassAtNumber
+pub mod ListLemmas
 pub mod IndexLemmas
 pub mod ParentLemmas
 pub mod ReachedLemmas
 pub mod InterfaceLemmas
 pub mod LayoutLemmas
+pub mod MemberLemmas
 pub mod NamedLemmas
+pub mod NumberLemmas
 pub mod SearchLemmas
+pub mod SpecialLemmas
+pub mod SubclassLemmas
 pub mod TypeLemmas

@@ -7,7 +7,7 @@ use Rattle.std.proofs.lemmas.Slice.Eq.{bytes_eq-Decides}
 use Rattle.model.specs.ClassListings.{ClassListing}
 use Rattle.model.specs.Classes.Named.{is_named}
 
-abbrev HasName : List ℕ → Option ClassListing → Type 0
+abbrev pub HasName : List ℕ → Option ClassListing → Type 0
 HasName name found = IfSome found (λ c. c.name ≡ name)
 
 found-cond : (name : List ℕ) (b : Bool) (c : ClassListing) (rest : Option ClassListing) → (b ≡ true → c.name ≡ name) → HasName name rest
@@ -15,7 +15,7 @@ found-cond : (name : List ℕ) (b : Bool) (c : ClassListing) (rest : Option Clas
 found-cond name true c rest here there = here refl
 found-cond name false c rest here there = there
 
-found : (name : List ℕ) (cs : List ClassListing) → HasName name (find (is_named name) cs)
+pub found : (name : List ℕ) (cs : List ClassListing) → HasName name (find (is_named name) cs)
 found name [] = tt
 found name (c ∷ cs) = found-cond name (bytes_eq c.name name) c (find (is_named name) cs) (λ h. (bytes_eq-Decides c.name name).0 h) (found name cs)
 

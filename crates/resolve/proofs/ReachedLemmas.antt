@@ -36,15 +36,15 @@ with_name-map now ks k =
 
 -- ---- names among names
 
-or-cases : (a b : Bool) → (a || b) ≡ true → (a ≡ true) ⊎ (b ≡ true)
+pub or-cases : (a b : Bool) → (a || b) ≡ true → (a ≡ true) ⊎ (b ≡ true)
 or-cases true b h = inl refl
 or-cases false b h = inr h
 
-or-right : (a b : Bool) → b ≡ true → (a || b) ≡ true
+pub or-right : (a b : Bool) → b ≡ true → (a || b) ≡ true
 or-right true b h = refl
 or-right false b h = h
 
-any-found : (f : List ℕ → Bool) (xs : List (List ℕ)) → list_any f xs ≡ true → (x : List ℕ) × HasName xs x × (f x ≡ true)
+pub any-found : (f : List ℕ → Bool) (xs : List (List ℕ)) → list_any f xs ≡ true → (x : List ℕ) × HasName xs x × (f x ≡ true)
 any-found f [] h = cc
 any-found f (x ∷ xs) h =
     elim (or-cases (f x) (list_any f xs) h) [
@@ -52,7 +52,7 @@ any-found f (x ∷ xs) h =
       | inr there ↦ let found : (y : List ℕ) × HasName xs y × (f y ≡ true) = any-found f xs there in (found.0, inr found.1, found.2)
     ]
 
-any-has : (f : List ℕ → Bool) (xs : List (List ℕ)) (x : List ℕ) → HasName xs x → f x ≡ true → list_any f xs ≡ true
+pub any-has : (f : List ℕ → Bool) (xs : List (List ℕ)) (x : List ℕ) → HasName xs x → f x ≡ true → list_any f xs ≡ true
 any-has f [] x h t = absurd h
 any-has f (y ∷ ys) x (inl e) t = rw (e, t)
 any-has f (y ∷ ys) x (inr h) t = or-right (f y) (list_any f ys) (any-has f ys x h t)

@@ -5,5 +5,7 @@ pub mod Hierarchies
 pub mod Indexed
 pub mod Interfaces
 pub mod Layouts
+pub mod Members
+pub mod Numbers
 pub mod Reached
 pub mod Tables

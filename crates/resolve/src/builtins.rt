@@ -1,10 +1,13 @@
 //! The machine's own classes, as listings.
 ghost use Rattle.std.specs.Prelude.{◌≡◌, is_some, map, IfOk};
+ghost use Rattle.std.specs.List.{position};
 ghost use Rattle.std.specs.Option.{option_copied, option_map};
+ghost use Rattle.std.specs.Str.{bytes_eq};
 ghost use Rattle.model.specs.ClassListings.{ClassListing};
 ghost use Rattle.model.specs.Classes.Builtin.{builtin_classes};
 ghost use Rattle.model.specs.Classes.Named.{builtin};
 ghost use Rattle.resolve.specs.Builtins.{superclass_among, native_listing, own_listing};
+ghost use Rattle.resolve.specs.Numbers.{name_of};
 
 use bitflags::Flags;
 use model::flags::{ClassFlags, MethodFlags};
@@ -126,6 +129,25 @@ pub fn is_builtin(name: &[u8]) -> bool
     ensures { result ≡ is_some (builtin name.now) }
 {
     builtin_superclass(name).is_some()
+}
+
+fn place_among(classes: &[Builtin], name: &[u8]) -> Option<usize>
+    ensures { result ≡ position (bytes_eq name.now) (map (λ b. b.name.now) classes.now) }
+{
+    for (place, class) in classes.iter().enumerate() {
+        if name == class.name {
+            return Some(place);
+        }
+    }
+    None
+}
+
+/// The place among the machine's own classes of the one of this name.
+#[tactic(auto, unfolding(model::specs::Classes::Builtin::builtin_classes))]
+pub fn builtin_number(name: &[u8]) -> Option<usize>
+    ensures { result ≡ position (bytes_eq name.now) (map name_of builtin_classes) }
+{
+    place_among(&BUILTINS, name)
 }
 
 fn native_listing(alloc: Global, native: &Native) -> Result<Method, AllocError>

@@ -1,17 +1,20 @@
 //! The classes of a program by their names, the machine's own among them (JVMS 5.3, 5.4.3).
-ghost use Rattle.std.specs.Prelude.{◌≡◌, IfOk, IfSome};
-ghost use Rattle.std.specs.Option.{option_copied, option_map};
+ghost use Rattle.std.specs.Prelude.{◌≡◌, ◌<◌, length, slice_get, IfOk, IfSome, Some};
+ghost use Rattle.std.specs.Option.{option_and_then, option_copied, option_map};
 ghost use Rattle.std.specs.List.{find};
 ghost use Rattle.model.specs.Classes.Named.{is_named, class_named, listed};
 ghost use Rattle.model.specs.Classes.Subclasses.{enough_steps, is_subclass};
 ghost use Rattle.resolve.specs.Hierarchies.{AreMade};
 ghost use Rattle.resolve.specs.Interfaces.{interfaces_once};
+ghost use Rattle.resolve.specs.Numbers.{all_classes, class_number};
 
-use crate::above::Above;
-use crate::builtins::builtin_classes;
+use crate::above::{above_all_interfaces, is_subclass};
+use crate::builtins::{builtin_classes, builtin_number};
+use crate::cycles::has_cycle;
 use crate::index::Index;
-use crate::interfaces::{interface_lists, list_named};
-use crate::parents::{first_on_cycle, first_with_missing_parent};
+use crate::interfaces::Interfaces;
+use crate::members::{Members, members_of_all};
+use crate::parents::first_with_missing_parent;
 use crate::reached::Reached;
 use model::listings::Listing;
 use std::alloc::{AllocError, Global};
@@ -23,20 +26,22 @@ use std::marker::Model;
 pub struct Classes<'a> {
     index: Index<'a>,
     own: Vec<Listing>,
-    interfaces: Vec<Reached<'a>>,
-    above: Above<'a>,
+    members: Vec<Members<'a>>,
+    interfaces: Interfaces<'a>,
+    above: Vec<Reached<'a>>,
 }
 
 impl<'a> Model for Classes<'a> {
     ghost use Rattle.std.specs.Prelude.{List};
     ghost use Rattle.model.specs.ClassListings.{ClassListing};
+    ghost use Rattle.resolve.specs.Interfaces.{lists_in};
     ghost use Rattle.resolve.specs.Tables.{AreTables};
 
     ghost Value = { List ClassListing };
 
     ghost view = { λ a. a.index };
 
-    ghost invariant = { λ a. AreTables a.index a.own.items a.interfaces.items a.above };
+    ghost invariant = { λ a. AreTables a.index a.own.items a.members.items (lists_in a.interfaces.lists.entries) a.above.items };
 }
 
 fn is_named(class: &Listing, name: &[u8]) -> bool
@@ -60,17 +65,20 @@ impl<'a> Classes<'a> {
         ensures { IfOk result (λ classes. AreMade program.now classes) }
     {
         let index = Index::new(alloc, program)?;
-        if first_with_missing_parent(&index, program).is_some()
-            || first_on_cycle(alloc, &index, program)?.is_some()
-        {
+        if first_with_missing_parent(&index, program).is_some() {
+            return Ok(None);
+        }
+        let interfaces = Interfaces::new(alloc, &index)?;
+        if has_cycle(alloc, &index, &interfaces)? {
             return Ok(None);
         }
         let own = builtin_classes(alloc)?;
-        let interfaces = interface_lists(alloc, &index)?;
-        let above = Above::new(alloc, &index)?;
+        let members = members_of_all(alloc, program)?;
+        let above = above_all_interfaces(alloc, &index)?;
         Ok(Some(Classes {
             index,
             own,
+            members,
             interfaces,
             above,
         }))
@@ -102,11 +110,58 @@ impl<'a> Classes<'a> {
         self.index.listed(name)
     }
 
+    /// The program's class of a name, with its members.
+    pub fn members(&self, name: &[u8]) -> Option<&Members<'a>>
+        ensures { option_copied result ≡ listed self.now name.now }
+    {
+        self.members.get(self.index.number(name)?)
+    }
+
+    fn place(&self, name: &[u8]) -> Option<usize>
+        ensures { result ≡ class_number self.now name.now }
+    {
+        match self.index.number(name) {
+            Some(number) => Some(number),
+            None => Some(self.program().len() + builtin_number(name)?),
+        }
+    }
+
+    /// How many classes there are, the machine's own among them.
+    pub fn len(&self) -> usize
+        ensures { result ≡ length (all_classes self.now) }
+    {
+        self.index.program().len() + self.own.len()
+    }
+
+    /// The class of a number.
+    pub fn class(&self, number: usize) -> &Listing
+        requires { number < length (all_classes self.now) }
+        ensures { slice_get (all_classes self.now) number ≡ Some result.now }
+    {
+        let program = self.index.program();
+        if number < program.len() {
+            &program[number]
+        } else {
+            &self.own[number - program.len()]
+        }
+    }
+
+    /// The number of the class of a name: its place in the program, or, of the machine's own, its place among these with
+    /// the program's classes before it. `None` where there is none.
+    #[tactic(auto, using(crate::proofs::ClassAtNumber::class_at_number, crate::proofs::ClassAtNumber::number_inside))]
+    pub fn number(&self, name: &[u8]) -> Option<usize>
+        ensures number { result ≡ class_number self.now name.now }
+        ensures class { option_and_then (slice_get (all_classes self.now)) result ≡ class_named self.now name.now }
+        ensures inside { IfSome result (λ number. number < length (all_classes self.now)) }
+    {
+        self.place(name)
+    }
+
     /// The list of superinterfaces of the program's class of a name, in the order of the search, each once.
     pub fn interfaces(&self, name: &[u8]) -> Option<&Reached<'a>>
         ensures { option_copied result ≡ option_map (interfaces_once (enough_steps self.now) self.now) (listed self.now name.now) }
     {
-        list_named(&self.index, &self.interfaces, name)
+        self.interfaces.get(name)
     }
 
     /// So many steps upwards pass every class once, the machine's own too.
@@ -120,6 +175,6 @@ impl<'a> Classes<'a> {
     pub fn is_subclass(&self, name: &[u8], above: &[u8]) -> bool
         ensures { result ≡ is_subclass self.now name.now above.now }
     {
-        self.above.is_subclass(name, above)
+        is_subclass(&self.index, &self.above, name, above)
     }
 }

@@ -1,10 +1,14 @@
 //! Classes by their names (JVMS 5.3).
-ghost use Rattle.std.specs.Prelude.{◌≡◌, is_some, slice_get, IfOk};
-ghost use Rattle.std.specs.Option.{option_and_then, option_copied};
+ghost use Rattle.std.specs.Prelude.{◌≡◌, is_some, map, slice_get, IfOk};
+ghost use Rattle.std.specs.List.{position};
+ghost use Rattle.std.specs.Option.{option_and_then, option_copied, option_map};
+ghost use Rattle.model.specs.ClassListings.{ClassListing};
 ghost use Rattle.model.specs.Classes.Named.{class_named, listed};
 ghost use Rattle.model.specs.Classes.Subclasses.{enough_steps};
+ghost use Rattle.std.specs.Str.{bytes_eq};
+ghost use Rattle.resolve.specs.Numbers.{name_of};
 
-use crate::builtins::is_builtin;
+use crate::builtins::{BUILTINS, builtin_superclass, is_builtin};
 use indexmap::IndexMap;
 use model::listings::Listing;
 use std::alloc::{AllocError, Global};
@@ -67,9 +71,21 @@ impl<'a> Index<'a> {
 
     /// The place in the program of the first class with this name.
     pub fn number(&self, name: &[u8]) -> Option<usize>
-        ensures { option_and_then (slice_get self.now) result ≡ listed self.now name.now }
+        ensures place { option_and_then (slice_get self.now) result ≡ listed self.now name.now }
+        ensures first { result ≡ position (bytes_eq name.now) (map name_of self.now) }
     {
         Some(self.classes.get(name)?.number)
+    }
+
+    /// The name of the superclass of the class of a name, of the program or of the machine itself; empty at
+    /// `java/lang/Object`.
+    pub fn superclass(&self, name: &[u8]) -> Option<&'a [u8]>
+        ensures { option_copied result ≡ option_map (λ (c : ClassListing). c.superclass) (class_named self.now name.now) }
+    {
+        match self.listed(name) {
+            Some(class) => Some(class.superclass.as_bytes()),
+            None => builtin_superclass(name),
+        }
     }
 
     /// Whether a class of this name is there: one of the program, or of the machine itself.
@@ -83,6 +99,6 @@ impl<'a> Index<'a> {
     pub fn enough_steps(&self) -> usize
         ensures { result ≡ enough_steps self.now }
     {
-        self.program.len() + 23
+        self.program.len() + BUILTINS.len()
     }
 }

@@ -1,88 +1,166 @@
 //! The superinterfaces of classes, in the order in which members are sought (JVMS 5.4.3).
-ghost use Rattle.std.specs.Prelude.{◌≡◌, ℕ, suc, length, IfOk, OnOk};
-ghost use Rattle.model.specs.Classes.Named.{listed};
-ghost use Rattle.std.specs.Option.{option_copied, option_map};
-ghost use Rattle.model.specs.Classes.Search.{interfaces_from, interfaces_named};
-ghost use Rattle.model.specs.Classes.Subclasses.{enough_steps};
-ghost use Rattle.resolve.specs.Interfaces.{interface_lists, interfaces_once};
-ghost use Rattle.resolve.specs.Reached.{with_name, with_names};
+ghost use Rattle.std.specs.Prelude.{◌≡◌, ◌<◌, [], ℕ, List, cond, true, is_none, is_some, IfOk, OnOk, Some};
+ghost use Rattle.std.specs.List.{find, flat_map, list_all};
+ghost use Rattle.std.specs.Option.{option_copied};
+ghost use Rattle.std.specs.Str.{bytes_eq};
+ghost use Rattle.model.specs.ClassListings.{ClassListing};
+ghost use Rattle.resolve.specs.Interfaces.{AreFull, AreLists, all_behind, first_ready, is_ready, is_settled, lists_in, missing, with_list};
+ghost use Rattle.resolve.specs.Reached.{with_names};
 
 use crate::index::Index;
+use crate::order::parents_first;
 use crate::reached::Reached;
+use indexmap::IndexMap;
+use model::listings::Listing;
 use model::names::Name;
 use std::alloc::{AllocError, Global};
 
-/// The list of the class of a name.
-pub fn list_named<'l, 'a>(
-    index: &Index<'a>,
-    lists: &'l [Reached<'a>],
-    name: &[u8],
-) -> Option<&'l Reached<'a>>
-    ensures { (steps : ℕ) → lists.now ≡ interface_lists steps index.now → option_copied result ≡ option_map (interfaces_once steps index.now) (listed index.now name.now) }
-{
-    lists.get(index.number(name)?)
+/// Under the names of classes, the superinterfaces of each, in the order of the search, each once.
+#[derive(Drop)]
+pub struct Interfaces<'a> {
+    lists: IndexMap<&'a [u8], Reached<'a>>,
 }
 
-/// Adds an interface, with its list behind it.
-fn add_interface<'a>(
-    index: &Index<'a>,
-    lists: &[Reached<'a>],
-    name: &'a [u8],
-    found: &mut Reached<'a>,
-) -> Result<(), AllocError>
-    ensures { (steps : ℕ) → lists.now ≡ interface_lists steps index.now → OnOk result (found.new ≡ with_names (with_name found.old name.now) (interfaces_from steps index.now (interfaces_named index.now name.now))) }
-{
-    found.add(name)?;
-    match list_named(index, lists, name) {
-        Some(list) => found.add_all(list),
-        None => Ok(()),
+impl<'a> Interfaces<'a> {
+    /// The list under a name.
+    pub fn get(&self, name: &[u8]) -> Option<&Reached<'a>>
+        ensures { option_copied result ≡ lists_in self.now.lists.entries name.now }
+    {
+        self.lists.get(name)
     }
-}
 
-/// Adds these interfaces, each with its list behind it.
-fn add_interfaces<'a>(
-    index: &Index<'a>,
-    lists: &[Reached<'a>],
-    interfaces: &'a [Name],
-    found: &mut Reached<'a>,
-) -> Result<(), AllocError>
-    ensures { (steps : ℕ) → lists.now ≡ interface_lists steps index.now → OnOk result (found.new ≡ with_names found.old (interfaces_from (suc steps) index.now interfaces.now)) }
-{
-    for interface in interfaces {
-        add_interface(index, lists, interface.as_bytes(), found)?;
+    /// Adds an interface, and behind it what its list has.
+    fn add_with_list(&self, name: &'a [u8], found: &mut Reached<'a>) -> Result<(), AllocError>
+        ensures { OnOk result (found.new ≡ with_names found.old (with_list name.now (lists_in self.now.lists.entries name.now))) }
+    {
+        found.add(name)?;
+        match self.get(name) {
+            Some(list) => found.add_all(list),
+            None => Ok(()),
+        }
     }
-    Ok(())
-}
 
-/// The lists of superinterfaces that are one step longer.
-fn longer<'a>(
-    alloc: Global,
-    index: &Index<'a>,
-    lists: &[Reached<'a>],
-) -> Result<Vec<Reached<'a>>, AllocError>
-    ensures { (steps : ℕ) → lists.now ≡ interface_lists steps index.now → IfOk result (λ longer. longer.items ≡ interface_lists (suc steps) index.now) }
-{
-    let mut longer = Vec::new(alloc);
-    for class in index.program() {
-        let mut list = Reached::new(alloc);
-        add_interfaces(index, lists, &class.interfaces, &mut list)?;
-        longer.push(list)?;
+    /// These interfaces, behind each what its list has, each name once.
+    fn listed_behind(
+        &self,
+        alloc: Global,
+        interfaces: &'a [Name],
+    ) -> Result<Reached<'a>, AllocError>
+        ensures { IfOk result (λ found. found ≡ with_names [] (all_behind (lists_in self.now.lists.entries) interfaces.now)) }
+    {
+        let mut found = Reached::new(alloc);
+        for interface in interfaces {
+            self.add_with_list(interface.as_bytes(), &mut found)?;
+        }
+        Ok(found)
     }
-    Ok(longer)
-}
 
-/// For each class of the program, its superinterfaces in the order of the search, each once. `AllocError` where memory
-/// runs out.
-#[tactic(auto, unfolding(model::specs::Classes::Search::interfaces_from))]
-pub fn interface_lists<'a>(alloc: Global, index: &Index<'a>) -> Result<Vec<Reached<'a>>, AllocError>
-    ensures { IfOk result (λ lists. lists.items ≡ interface_lists (enough_steps index.now) index.now) }
-{
-    let mut lists = Vec::new(alloc);
-    for _ in index.program() {
-        lists.push(Reached::new(alloc))?;
+    /// Whether a name has its list, or is no class of the program.
+    fn is_settled(&self, index: &Index<'_>, name: &[u8]) -> bool
+        ensures { result ≡ is_settled index.now (lists_in self.now.lists.entries) name.now }
+    {
+        self.get(name).is_some() || index.listed(name).is_none()
     }
-    for _ in 0..index.enough_steps() {
-        lists = longer(alloc, index, &lists)?;
+
+    fn are_settled(&self, index: &Index<'_>, names: &[Name]) -> bool
+        ensures { result ≡ list_all (is_settled index.now (lists_in self.now.lists.entries)) names.now }
+    {
+        names
+            .iter()
+            .all(|name| self.is_settled(index, name.as_bytes()))
     }
-    Ok(lists)
+
+    /// Whether the class of a name has no list, while its parents have theirs.
+    fn is_ready(&self, index: &Index<'_>, name: &[u8]) -> bool
+        ensures { result ≡ is_ready index.now (lists_in self.now.lists.entries) name.now }
+    {
+        match index.listed(name) {
+            Some(class) => {
+                self.get(name).is_none()
+                    && self.is_settled(index, class.superclass.as_bytes())
+                    && self.are_settled(index, &class.interfaces)
+            }
+            None => false,
+        }
+    }
+
+    /// The first class that is ready.
+    fn first_ready(&self, index: &Index<'a>) -> Option<&'a Listing>
+        ensures { option_copied result ≡ first_ready index.now (lists_in self.now.lists.entries) }
+    {
+        index
+            .program()
+            .iter()
+            .find(|class| self.is_ready(index, class.name.as_bytes()))
+    }
+
+    /// Adds the list of the class of a name.
+    fn add(&mut self, alloc: Global, index: &Index<'a>, name: &'a [u8]) -> Result<(), AllocError>
+        requires ready { is_ready index.now (lists_in self.old.lists.entries) name.now ≡ true }
+        requires lists { AreLists index.now (lists_in self.old.lists.entries) }
+        ensures lists { OnOk result (AreLists index.now (lists_in self.new.lists.entries)) }
+        ensures fewer { OnOk result (missing index.now (lists_in self.new.lists.entries) < missing index.now (lists_in self.old.lists.entries)) }
+    {
+        if let Some(class) = index.listed(name) {
+            let list = self.listed_behind(alloc, &class.interfaces)?;
+            self.lists.insert(name, list)?;
+        }
+        Ok(())
+    }
+
+    /// Adds the lists of these classes, of each that is ready when its turn comes.
+    fn add_ready(
+        &mut self,
+        alloc: Global,
+        index: &Index<'a>,
+        names: &Reached<'a>,
+    ) -> Result<(), AllocError>
+        requires { AreLists index.now (lists_in self.old.lists.entries) }
+        ensures { OnOk result (AreLists index.now (lists_in self.new.lists.entries)) }
+    {
+        for name in names.as_slice() {
+            if self.is_ready(index, *name) {
+                self.add(alloc, index, *name)?;
+            }
+        }
+        Ok(())
+    }
+
+    /// Adds lists until no class is ready.
+    fn add_rest(&mut self, alloc: Global, index: &Index<'a>) -> Result<(), AllocError>
+        requires { AreLists index.now (lists_in self.old.lists.entries) }
+        ensures lists { OnOk result (AreLists index.now (lists_in self.new.lists.entries)) }
+        ensures full { OnOk result (AreFull index.now (lists_in self.new.lists.entries)) }
+    {
+        while let Some(class) = self.first_ready(index) {
+            self.add(alloc, index, class.name.as_bytes())?;
+        }
+        Ok(())
+    }
+
+    /// The lists of a program's classes, of all where none is above itself. Each is made once, from those of its parents,
+    /// as long as each class stands behind its parents in the order that is tried first. `AllocError` where memory runs
+    /// out.
+    pub fn new(alloc: Global, index: &Index<'a>) -> Result<Interfaces<'a>, AllocError>
+        ensures lists { IfOk result (λ found. AreLists index.now (lists_in found.lists.entries)) }
+        ensures full { IfOk result (λ found. AreFull index.now (lists_in found.lists.entries)) }
+    {
+        let mut interfaces = Interfaces {
+            lists: IndexMap::new(alloc),
+        };
+        let names = parents_first(alloc, index)?;
+        interfaces.add_ready(alloc, index, &names)?;
+        interfaces.add_rest(alloc, index)?;
+        Ok(interfaces)
+    }
+
+    /// Whether each class of the program has its list.
+    pub fn has_all(&self, index: &Index<'_>) -> bool
+        ensures { result ≡ list_all (λ (c : ClassListing). is_some (lists_in self.now.lists.entries c.name)) index.now }
+    {
+        index
+            .program()
+            .iter()
+            .all(|class| self.get(class.name.as_bytes()).is_some())
+    }
 }

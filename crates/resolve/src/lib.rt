@@ -7,16 +7,19 @@
 mod above;
 pub mod builtins;
 pub mod classes;
+mod cycles;
 pub mod found;
 pub mod index;
 mod interfaces;
 mod layout;
 mod members;
+mod order;
 pub mod parents;
 pub mod reached;
-mod resolution;
+pub mod resolution;
 mod search;
+mod special;
 mod sought;
 #[cfg(test)]
 mod tests;
-mod types;
+pub mod types;

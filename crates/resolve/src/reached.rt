@@ -7,6 +7,7 @@ use crate::builtins::builtin_superclass;
 use crate::index::Index;
 use indexmap::IndexSet;
 use model::listings::Listing;
+use model::names::Name;
 use std::alloc::{AllocError, Global};
 use std::marker::Model;
 
@@ -44,15 +45,22 @@ impl<'a> Reached<'a> {
         Ok(())
     }
 
+    /// Adds these names of interfaces, in order.
+    pub fn add_interfaces(&mut self, interfaces: &'a [Name]) -> Result<(), AllocError>
+        ensures { OnOk result (self.new ≡ with_names self.old interfaces.now) }
+    {
+        for interface in interfaces {
+            self.add(interface.as_bytes())?;
+        }
+        Ok(())
+    }
+
     /// Adds the superclass and the superinterfaces of a class.
     pub fn add_parents(&mut self, class: &'a Listing) -> Result<(), AllocError>
         ensures { OnOk result (self.new ≡ with_names self.old (parents_of class.now)) }
     {
         self.add(class.superclass.as_bytes())?;
-        for interface in &class.interfaces {
-            self.add(interface.as_bytes())?;
-        }
-        Ok(())
+        self.add_interfaces(&class.interfaces)
     }
 
     /// Adds the parents of the class of a name, where there is one.

@@ -10,7 +10,7 @@ use model::listings::{Field, Method};
 use model::names::Member;
 
 /// Whether a name is that of an instance or class initializer (JVMS 2.9).
-fn is_initializer(name: &[u8]) -> bool
+pub fn is_initializer(name: &[u8]) -> bool
     ensures { result ≡ is_initializer name.now }
 {
     name == b"<init>".as_slice() || name == b"<clinit>".as_slice()

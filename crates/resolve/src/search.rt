@@ -5,6 +5,7 @@ ghost use Rattle.model.specs.Classes.Search.{declared_in, first_declared, field_
 
 use crate::classes::Classes;
 use crate::found::Found;
+use crate::members::Members;
 use crate::sought::Sought;
 use model::listings::Listing;
 
@@ -16,12 +17,26 @@ fn declared<'c, S: Sought>(class: &'c Listing, sought: &S) -> Option<Found<'c, S
     Some(Found { class, member })
 }
 
+/// What a class of the program declares.
+fn declared_in<'c, S: Sought>(members: &'c Members<'_>, sought: &S) -> Option<Found<'c, S::Member>>
+    ensures { result ≡ declared_in (S.of sought.now) members.now.name (Some members.now) }
+{
+    let member = sought.find_in(members)?;
+    Some(Found {
+        class: members.class(),
+        member,
+    })
+}
+
 impl<'a> Classes<'a> {
     /// What the class of a name declares.
     pub fn declared_by<S: Sought>(&self, name: &[u8], sought: &S) -> Option<Found<'_, S::Member>>
         ensures { result ≡ first_declared self.now (S.of sought.now) (name.now ∷ []) }
     {
-        declared(self.class_named(name)?, sought)
+        match self.members(name) {
+            Some(members) => declared_in(members, sought),
+            None => declared(self.class_named(name)?, sought),
+        }
     }
 
     /// What the first of these classes declares that declares what is sought.

@@ -5,7 +5,7 @@ ghost use Rattle.model.specs.ClassListings.{ClassListing};
 ghost use Rattle.model.specs.Classes.Resolution.{field_of, method_of};
 ghost use Rattle.model.specs.Classes.Selection.{virtual_of};
 
-use crate::members::{field_of, method_of, virtual_of};
+use crate::members::{Members, field_of, method_of, virtual_of};
 use model::listings::{Field, Listing, Method};
 
 /// A name and a descriptor for which a class may declare a member.
@@ -14,9 +14,13 @@ pub trait Sought {
 
     ghost of: { Self → ClassListing → Option Self.Member };
 
-    /// The member that a class declares.
+    /// The member that a class declares, sought among all.
     fn of<'c>(&self, class: &'c Listing) -> Option<&'c Self::Member>
         ensures { option_copied result ≡ of self.now class.now };
+
+    /// The member that a class declares, looked up.
+    fn find_in<'c>(&self, members: &'c Members<'_>) -> Option<&'c Self::Member>
+        ensures { option_copied result ≡ of self.now members.now };
 }
 
 /// A field.
@@ -33,6 +37,10 @@ impl<'m> Sought for SoughtField<'m> {
 
     fn of<'c>(&self, class: &'c Listing) -> Option<&'c Field> {
         field_of(class, self.name, self.descriptor)
+    }
+
+    fn find_in<'c>(&self, members: &'c Members<'_>) -> Option<&'c Field> {
+        members.field(self.name, self.descriptor)
     }
 }
 
@@ -51,6 +59,10 @@ impl<'m> Sought for SoughtMethod<'m> {
     fn of<'c>(&self, class: &'c Listing) -> Option<&'c Method> {
         method_of(class, self.name, self.descriptor)
     }
+
+    fn find_in<'c>(&self, members: &'c Members<'_>) -> Option<&'c Method> {
+        members.method(self.name, self.descriptor)
+    }
 }
 
 /// A method that is neither static nor private.
@@ -67,5 +79,9 @@ impl<'m> Sought for SoughtVirtual<'m> {
 
     fn of<'c>(&self, class: &'c Listing) -> Option<&'c Method> {
         virtual_of(class, self.name, self.descriptor)
+    }
+
+    fn find_in<'c>(&self, members: &'c Members<'_>) -> Option<&'c Method> {
+        members.virtual_method(self.name, self.descriptor)
     }
 }

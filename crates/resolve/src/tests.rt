@@ -265,3 +265,23 @@ fn layers_of_interfaces(rt: HostRuntime) -> Result<(), Fail> {
     assert!(rt; classes.field(&member(alloc, "l19", "x", "I")?).is_none());
     Ok(())
 }
+
+/// The program's six classes are counted from 0, the machine's own behind them.
+#[test]
+fn classes_have_numbers(rt: HostRuntime) -> Result<(), Fail> {
+    let alloc = rt.alloc();
+    let program = listings(alloc, &ROWS)?;
+    let Some(classes) = Classes::new(alloc, &program)? else {
+        return Err(Fail::new("no classes"));
+    };
+    for (name, expected) in [("A", 0), ("D", 5), ("java/lang/Object", 6), ("vm/Sys", 28)] {
+        let found = classes.number(name.as_bytes()).unwrap_or(classes.len());
+        assert_eq!(rt; (name, found), (name, expected));
+        if found >= classes.len() {
+            return Err(Fail::new("no class"));
+        }
+        assert_eq!(rt; classes.class(found).name.as_bytes(), name.as_bytes());
+    }
+    assert_eq!(rt; classes.number(b"E".as_slice()), None);
+    Ok(())
+}

@@ -9,13 +9,13 @@ use crate::classes::Classes;
 
 /// What an array holds: numbers of a kind, by its letter, or references to a class or an array.
 #[derive(Clone, Copy)]
-enum Element<'t> {
+pub enum Element<'t> {
     Number(u8),
     Reference(&'t [u8]),
 }
 
 /// What a descriptor says; `None` where it is empty.
-fn described(descriptor: &[u8]) -> Option<Element<'_>>
+pub fn described(descriptor: &[u8]) -> Option<Element<'_>>
     ensures { shown result ≡ described descriptor.now }
 {
     let (letter, rest) = descriptor.split_first()?;

@@ -1,8 +1,6 @@
-use Rattle.std.specs.Prelude.{ℕ, ◌+◌, List, [], ◌∷◌, ◌++◌, length, drop, reverse, slice_get, ◌&&◌, not, Option, Some, None, Result, Ok, Err, if◌then◌else◌}
-use Rattle.std.specs.List.{list_any}
-use Rattle.std.specs.Option.{option_and_then, option_len, option_map_or, option_or, option_to_list}
+use Rattle.std.specs.Prelude.{ℕ, ◌+◌, List, [], ◌∷◌, ◌++◌, length, drop, reverse, not, Option, Some, None, Result, Ok, Err, if◌then◌else◌}
+use Rattle.std.specs.Option.{option_len, option_map_or, option_or, option_to_list}
 use Rattle.std.specs.Result.{result_err}
-use Rattle.std.specs.Str.{bytes_eq}
 use Rattle.model.specs.declared.names.Member.{Member}
 use Rattle.model.specs.declared.listings.Method.{Method}
 use Rattle.model.specs.declared.values.Kind.{Kind}
@@ -12,12 +10,12 @@ use Rattle.model.specs.declared.turns.Fault.TheVariants.{WrongClass, NoMethod, M
 use Rattle.model.specs.declared.turns.Exception.TheVariants.{NullPointer, StackOverflow}
 use Rattle.model.specs.declared.instructions.Invocation.{Invocation}
 use Rattle.model.specs.declared.instructions.Invocation.TheVariants.{Virtual, Special, Static, Interface}
-use Rattle.model.specs.ClassListings.{ClassListing}
 use Rattle.model.specs.Signatures.{argument_kinds}
 use Rattle.model.specs.Classes.Flags.{is_synchronized}
-use Rattle.model.specs.Classes.Search.{Declared, superclasses}
-use Rattle.model.specs.Classes.Resolution.{resolved_method, is_initializer}
+use Rattle.model.specs.Classes.Search.{Declared}
+use Rattle.model.specs.Classes.Resolution.{resolved_method}
 use Rattle.model.specs.Classes.Selection.{selected}
+use Rattle.model.specs.Classes.Special.{special_method, superclass_at}
 use Rattle.model.specs.Classes.Types.{is_subtype}
 use Rattle.model.specs.Callees.{CodedMethod, Callee, callee_of}
 use Rattle.model.specs.Callees.Callee.{Own, Coded, NoCode}
@@ -118,20 +116,9 @@ on_object s m method = with_arguments s m (called_on s m method (ref_on (drop (a
 abbrev pub selected_for : Site → Member → ℕ → Option (Declared Method)
 selected_for s m birth = selected s.program (class_at s.world birth) m.name m.descriptor
 
--- the direct superclass of the class whose code calls
-abbrev pub superclass_here : Site → List ℕ
-superclass_here s = option_map_or (λ (c : ClassListing). c.superclass) (slice_get s.program s.frame.method.class) []
-
--- a method of a proper superclass is looked up from the direct superclass on; any other, and an initializer, is taken
--- as it was resolved
-abbrev pub specially : Site → Member → Declared Method → Option (Declared Method)
-specially s m d =
-    if not (is_initializer m.name) && list_any (bytes_eq d.class) (superclasses s.program (superclass_here s))
-    then selected s.program (superclass_here s) m.name m.descriptor
-    else Some d
-
+-- by the superclass of the class whose code calls
 abbrev pub special_for : Site → Member → Option (Declared Method)
-special_for s m = option_and_then (specially s m) (resolved_method s.program m)
+special_for s m = special_method s.program (superclass_at s.program s.frame.method.class) m
 
 -- the four invokes (JVMS 6.5)
 abbrev pub invoked : Site → Invocation → Member → Completion

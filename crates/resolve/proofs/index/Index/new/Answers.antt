@@ -1,5 +1,6 @@
-use Rattle.std.proofs.Common.{◌≡◌, ◌+◌, ◌≤◌, length, List, [], ◌∷◌, ◌++◌, Bor, ℕ, slice_get, Some, arith, subst, sym, ap, ◌∙◌, refl, take}
-use Rattle.std.specs.List.{All, find}
+use Rattle.std.proofs.Common.{◌≡◌, ◌+◌, ◌≤◌, length, List, [], ◌∷◌, ◌++◌, Bor, ℕ, slice_get, map, Some, arith, subst, sym, ap, ◌∙◌, refl, take}
+use Rattle.std.specs.List.{All, find, position}
+use Rattle.std.specs.Option.{option_map}
 use Rattle.std.specs.Str.{bytes_eq}
 use Rattle.std.proofs.lemmas.List.Elements.{All-nil, All-push}
 use Rattle.indexmap.proofs.CallerLemmas.{insert_entry-new}
@@ -7,6 +8,8 @@ use Rattle.model.specs.ClassListings.{ClassListing}
 use Rattle.model.specs.Classes.Named.{is_named}
 use Rattle.resolve.specs.declared.index.Numbered.{Numbered}
 use Rattle.resolve.specs.Indexed.{found_in}
+use Rattle.resolve.specs.Numbers.{name_of}
+use Rattle.resolve.proofs.NumberLemmas.{first-place}
 use Rattle.resolve.proofs.IndexLemmas.{Finds, finds-new, finds-known, take-next, take-all, slice-there, no_value, some_value}
 use Rattle.resolve.proofs.index.Index.new.Goals as goal
 use Rattle.resolve.proofs.index.Index.new.Goals.{then-is_none+in_ok-insert, else-is_none}
@@ -18,10 +21,15 @@ Entries = List (Bor (List ℕ) × Numbered)
 abbrev IsPlaced : List ClassListing → Bor (List ℕ) × Numbered → Type 0
 IsPlaced program e = slice_get program e.1.number ≡ Some e.1.class.now
 
+-- each entry has the first place of its class's name
+abbrev IsFirst : List ClassListing → Bor (List ℕ) × Numbered → Type 0
+IsFirst program e = position (bytes_eq e.1.class.now.name) (map name_of program) ≡ Some e.1.number
+
 pub loop-number-init : goal.loop-number-init
 loop-number-init c = record {
   finds = λ name. rw c.new-classes.ensures.empty refl;
   placed = subst (λ (es : Entries). All (IsPlaced c.args.program.now) es) (sym c.new-classes.ensures.empty) (All-nil (IsPlaced c.args.program.now));
+  first = subst (λ (es : Entries). All (IsFirst c.args.program.now) es) (sym c.new-classes.ensures.empty) (All-nil (IsFirst c.args.program.now));
 }
 
 pub loop-number-preserved : goal.loop-number-preserved
@@ -44,6 +52,13 @@ loop-number-preserved c =
             placed = subst (λ (es : Entries). All (IsPlaced cs) es) (sym entries)
                 (All-push (IsPlaced cs) c.loop-number.classes.entries _ c.loop-number.invariant.placed
                 (slice-there cs n c.index-program-number.result c.index-program-number.is (omega arith)));
+            first = subst (λ (es : Entries). All (IsFirst cs) es) (sym entries)
+                (All-push (IsFirst cs) c.loop-number.classes.entries _ c.loop-number.invariant.first
+                (first-place cs n c.index-program-number.result
+                (sym (c.loop-number.invariant.finds c.index-program-number.result.name)
+                ∙ ap (λ (name : List ℕ). found_in (λ k. k.now) (λ x. x.class.now) c.loop-number.classes.entries name) (sym named)
+                ∙ ap (option_map (λ (x : Numbered). x.class.now)) none)
+                c.index-program-number.is (omega arith)));
           }
       | else-is_none w ↦
           record {
@@ -54,6 +69,7 @@ loop-number-preserved c =
                 (ap (found_in (λ k. k.now) (λ x. x.class.now) c.loop-number.classes.entries) named ∙ none)) name
                 ∙ ap (find (is_named name)) (sym passed);
             placed = subst (λ (es : Entries). All (IsPlaced cs) es) (sym (ap (λ m. m.entries) w.classes-is)) c.loop-number.invariant.placed;
+            first = subst (λ (es : Entries). All (IsFirst cs) es) (sym (ap (λ m. m.entries) w.classes-is)) c.loop-number.invariant.first;
           }
     ]
 
@@ -64,4 +80,5 @@ invariant_of-result c =
       finds = subst (λ (cs : List ClassListing). Finds (λ k. k.now) (λ x. x.class.now) c.loop-number.classes.entries cs)
           (take-all c.args.program.now c.loop-number.number done) c.loop-number.invariant.finds;
       placed = c.loop-number.invariant.placed;
+      first = c.loop-number.invariant.first;
     }
