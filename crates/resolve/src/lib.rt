@@ -18,8 +18,8 @@ pub mod parents;
 pub mod reached;
 pub mod resolution;
 mod search;
-mod special;
 mod sought;
+mod special;
 #[cfg(test)]
 mod tests;
 pub mod types;
