@@ -7,7 +7,7 @@ use Rattle.model.specs.Classes.Builtin.{builtin_classes}
 use Rattle.model.specs.Classes.Layout.{layout}
 use Rattle.model.specs.Classes.Subclasses.{is_subclass}
 use Rattle.loader.specs.ClassFacts.{ClassFacts}
-use Rattle.loader.specs.ClassNumbers.{all_classes, class_names, class_number}
+use Rattle.resolve.specs.Numbers.{all_classes, class_names, class_number}
 use Rattle.loader.specs.ClassTables.{class_facts, class_tables, is_below, is_subclass_in, superclass_in, word_of, words_if, words_in}
 
 read : {A : Type 0} (f : Option ClassFacts → A) (program : List ClassListing) (n : ℕ) (class : Option ClassListing) → slice_get (all_classes program) n ≡ class

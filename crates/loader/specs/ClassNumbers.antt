@@ -1,24 +1,14 @@
-use Rattle.std.specs.Prelude.{◌≡◌, ℕ, List, ◌++◌, map, position, Option}
+use Rattle.std.specs.Prelude.{◌≡◌, ℕ, List, map}
 use Rattle.std.specs.Borrow.{Bor}
 use Rattle.std.specs.List.{position_or_len}
 use Rattle.std.specs.Map.{lookup}
 use Rattle.std.specs.Str.{bytes_eq}
 use Rattle.model.specs.ClassListings.{ClassListing}
-use Rattle.model.specs.Classes.Builtin.{builtin_classes}
+use Rattle.resolve.specs.Numbers.{class_names, class_number}
 
 -- Classes have numbers: those of a program from 0 on in order, and behind them the machine's own.
 
-abbrev pub all_classes : List ClassListing → List ClassListing
-all_classes program = program ++ builtin_classes
-
-abbrev pub class_names : List ClassListing → List (List ℕ)
-class_names program = map (λ (c : ClassListing). c.name) program ++ map (λ (c : ClassListing). c.name) builtin_classes
-
--- the number of the class of a name, the first where several have it
-abbrev pub class_number : List ClassListing → List ℕ → Option ℕ
-class_number program name = position (bytes_eq name) (class_names program)
-
--- the same, and where no class has the name, how many classes there are
+-- the number of the class of a name; where none has it, how many classes there are
 abbrev pub class_place : List ClassListing → List ℕ → ℕ
 class_place program name = position_or_len (bytes_eq name) (class_names program)
 

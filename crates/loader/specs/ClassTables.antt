@@ -7,7 +7,8 @@ use Rattle.model.specs.Classes.Search.{Declared}
 use Rattle.model.specs.Classes.Subclasses.{is_subclass}
 use Rattle.loader.specs.declared.class_tables.Word.{Word}
 use Rattle.loader.specs.ClassFacts.{ClassFacts}
-use Rattle.loader.specs.ClassNumbers.{all_classes, class_names, class_number, class_place}
+use Rattle.resolve.specs.Numbers.{all_classes, class_names, class_number}
+use Rattle.loader.specs.ClassNumbers.{class_place}
 use Rattle.loader.specs.Storages.{descriptor_storage}
 
 -- ---- what is known of each class of a program, by its number

@@ -1,7 +1,8 @@
 //! The numbers of classes.
 ghost use Rattle.std.specs.Prelude.{◌≡◌, ◌++◌, map, IfOk, OnOk};
 ghost use Rattle.model.specs.ClassListings.{ClassListing as Class};
-ghost use Rattle.loader.specs.ClassNumbers.{class_names, class_number, class_place, names_now};
+ghost use Rattle.resolve.specs.Numbers.{class_names, class_number};
+ghost use Rattle.loader.specs.ClassNumbers.{class_place, names_now};
 
 use crate::first_places::first_places;
 use indexmap::IndexMap;

@@ -8,18 +8,27 @@ use model::listings::Method;
 use model::names::Member;
 use resolve::builtins::is_builtin;
 use resolve::found::Found;
+use std::marker::Model;
 
-/// A method as a reference to it names it.
-#[derive(Clone, Copy)]
+/// A method as a reference to it names it, with names that are lent. A contract sees the reference.
+#[derive(Drop)]
 struct Named<'m> {
     class: &'m [u8],
     name: &'m [u8],
     descriptor: &'m [u8],
 }
 
+impl<'m> Model for Named<'m> {
+    ghost use Rattle.model.specs.declared.names.Member.{Member};
+
+    ghost Value = { Member };
+
+    ghost view = { λ a. record { class = a.class.now; name = a.name.now; descriptor = a.descriptor.now } };
+}
+
 /// Whether a method has this class, name and descriptor.
-fn is_member(method: Named<'_>, class: &str, name: &str, descriptor: &str) -> bool
-    ensures { result ≡ is_member (record { class = method.entry.class.now; name = method.entry.name.now; descriptor = method.entry.descriptor.now }) class.now name.now descriptor.now }
+fn is_member(method: &Named<'_>, class: &str, name: &str, descriptor: &str) -> bool
+    ensures { result ≡ is_member method.now class.now name.now descriptor.now }
 {
     method.class == class.as_bytes()
         && method.name == name.as_bytes()
@@ -27,8 +36,8 @@ fn is_member(method: Named<'_>, class: &str, name: &str, descriptor: &str) -> bo
 }
 
 /// Whether a method is the initializer of one of the machine's own classes.
-fn is_own_initializer(method: Named<'_>) -> bool
-    ensures { result ≡ is_own_initializer (record { class = method.entry.class.now; name = method.entry.name.now; descriptor = method.entry.descriptor.now }) }
+fn is_own_initializer(method: &Named<'_>) -> bool
+    ensures { result ≡ is_own_initializer method.now }
 {
     is_builtin(method.class)
         && method.name == b"<init>".as_slice()
@@ -36,8 +45,8 @@ fn is_own_initializer(method: Named<'_>) -> bool
 }
 
 /// The method of the machine's own with these names, if there is one.
-fn builtin_named(method: Named<'_>) -> Option<Builtin>
-    ensures { result ≡ builtin_of (record { class = method.entry.class.now; name = method.entry.name.now; descriptor = method.entry.descriptor.now }) }
+fn builtin_named(method: &Named<'_>) -> Option<Builtin>
+    ensures { result ≡ builtin_of method.now }
 {
     if is_member(method, "vm/Sys", "print", "(I)V") {
         Some(Builtin::PrintInt)
@@ -62,7 +71,7 @@ fn builtin_named(method: Named<'_>) -> Option<Builtin>
 pub fn builtin_of(member: &Member) -> Option<Builtin>
     ensures { result ≡ builtin_of member.now }
 {
-    builtin_named(Named {
+    builtin_named(&Named {
         class: member.class.as_bytes(),
         name: member.name.as_bytes(),
         descriptor: member.descriptor.as_bytes(),
@@ -75,7 +84,7 @@ pub fn builtin_found(found: &Found<'_, Method>) -> Option<Builtin>
 {
     let class = found.class;
     let method = found.member;
-    builtin_named(Named {
+    builtin_named(&Named {
         class: class.name.as_bytes(),
         name: method.name.as_bytes(),
         descriptor: method.descriptor.as_bytes(),

@@ -238,6 +238,7 @@ fn chain(alloc: Global, count: usize, fields: usize) -> Result<Vec<Listing>, Fai
 fn classes_and_fields_are_few(rt: HostRuntime) -> Result<(), Fail> {
     for (count, fields, wanted) in [
         (256, 0, "accepted"),
+        (257, 0, "L8 in class C256"),
         (258, 0, "L8 in class C256"),
         (2, 256, "accepted"),
         (2, 257, "L8 in class C1"),

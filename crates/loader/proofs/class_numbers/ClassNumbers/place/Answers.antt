@@ -3,7 +3,7 @@ use Rattle.std.specs.Option.{unwrap_or}
 use Rattle.std.specs.Str.{bytes_eq}
 use Rattle.std.proofs.lemmas.List.{length-map}
 use Rattle.model.specs.ClassListings.{ClassListing}
-use Rattle.loader.specs.ClassNumbers.{class_names}
+use Rattle.resolve.specs.Numbers.{class_names}
 use Rattle.loader.proofs.PlaceLemmas.{place-or}
 use Rattle.loader.proofs.class_numbers.ClassNumbers.place.Goals as goal
 
