@@ -4,6 +4,11 @@
 //! files (pcs and pool numbers), listings (pcs and names) and loaded programs (pcs and resolved places). The form is
 //! part of the operand: `iload_3`, `iload 3` and `wide iload 3` are three values of `Local` with one index.
 
+ghost use Rattle.std.specs.Prelude.{◌&&◌};
+ghost use Rattle.std.specs.Cmp.{and_equiv, and_per, int_eq_equiv, on_equiv, on_per, partial_equiv_from_equiv};
+ghost use Rattle.std.specs.Cmp.Lexicographic.{lists_equiv, lists_per, pointwise};
+ghost use Rattle.std.specs.Ordering.{int_eq};
+
 use crate::values::Kind;
 use std::marker::Model;
 
@@ -194,6 +199,20 @@ impl<Target> Model for TableSwitch<Target> {
     ghost view = { λ a. record { low = a.low; targets = a.targets.items; default = a.default } };
 }
 
+impl<Target: PartialEq> PartialEq for TableSwitch<Target> {
+    ghost eq = { λ a b. int_eq a.low b.low && (pointwise Target.eq a.targets b.targets && Target.eq a.default b.default) };
+
+    ghost laws = { and_per (on_per (λ a. a.low) (partial_equiv_from_equiv int_eq_equiv)) (and_per (on_per (λ a. a.targets) (lists_per Target.laws)) (on_per (λ a. a.default) Target.laws)) };
+
+    fn eq(&self, other: &Self) -> bool {
+        self.low == other.low && self.targets == other.targets && self.default == other.default
+    }
+}
+
+impl<Target: Eq> Eq for TableSwitch<Target> {
+    ghost laws = { and_equiv (on_equiv (λ a. a.low) int_eq_equiv) (and_equiv (on_equiv (λ a. a.targets) (lists_equiv Target.Eq.laws)) (on_equiv (λ a. a.default) Target.Eq.laws)) };
+}
+
 /// The operands of `lookupswitch`: a target for each key, and one for all other ints.
 #[derive(Drop)]
 pub struct LookupSwitch<Target> {
@@ -207,6 +226,24 @@ impl<Target> Model for LookupSwitch<Target> {
     ghost Value = { Lookup Target };
 
     ghost view = { λ a. record { pairs = a.pairs.items; default = a.default } };
+}
+
+impl<Target: PartialEq> PartialEq for LookupSwitch<Target> {
+    ghost eq = { λ a b. pointwise (λ p q. int_eq p.0 q.0 && Target.eq p.1 q.1) a.pairs b.pairs && Target.eq a.default b.default };
+
+    ghost laws = { and_per
+        (on_per (λ a. a.pairs) (lists_per (and_per (on_per (λ p. p.0) (partial_equiv_from_equiv int_eq_equiv)) (on_per (λ p. p.1) Target.laws))))
+        (on_per (λ a. a.default) Target.laws) };
+
+    fn eq(&self, other: &Self) -> bool {
+        self.pairs == other.pairs && self.default == other.default
+    }
+}
+
+impl<Target: Eq> Eq for LookupSwitch<Target> {
+    ghost laws = { and_equiv
+        (on_equiv (λ a. a.pairs) (lists_equiv (and_equiv (on_equiv (λ p. p.0) int_eq_equiv) (on_equiv (λ p. p.1) Target.Eq.laws))))
+        (on_equiv (λ a. a.default) Target.Eq.laws) };
 }
 
 /// Whether a static or a field is read or written.
@@ -238,7 +275,7 @@ pub enum ElementKind {
 }
 
 /// Instructions on arrays. `Class` is the element class of `anewarray`.
-#[derive(Drop)]
+#[derive(PartialEq, Eq, Drop)]
 pub enum ArrayOperation<Class> {
     /// `newarray`
     New(Primitive),
@@ -275,7 +312,7 @@ pub enum MonitorOperation {
 
 /// An instruction (JVMS 6.5), by families. `Target` is what a branch names, `Int` and `Long` what `ldc` and `ldc2_w`
 /// name, and `Field`, `Method` and `Class` what the instructions on these name.
-#[derive(Drop)]
+#[derive(PartialEq, Eq, Drop)]
 pub enum Instruction<Target, Int, Long, Field, Method, Class> {
     Nop,
     Constant(Constant<Int, Long>),

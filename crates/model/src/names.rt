@@ -104,7 +104,7 @@ impl fmt::Display for Name {
 
 /// A field or a method by name, as an instruction of a listing refers to it (JVMS 5.1): the class to begin the search
 /// at, and the member's name and descriptor.
-#[derive(Debug, Drop)]
+#[derive(Debug, PartialEq, Eq, Drop)]
 pub struct Member {
     pub class: Name,
     pub name: Name,
