@@ -1,5 +1,6 @@
 pub mod SelectionLemmas
 pub mod ClassTableLemmas
+pub mod EqualPrograms
 pub mod InitializerLemmas
 pub mod LimitLemmas
 pub mod MethodTableLemmas

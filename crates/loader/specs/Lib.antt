@@ -1,6 +1,7 @@
 pub mod ClassFacts
 pub mod ClassNumbers
 pub mod ClassTables
+pub mod EqualPrograms
 pub mod Errors
 pub mod Initializers
 pub mod MemberPlaces

@@ -475,3 +475,23 @@ fn instructions_by_their_pcs(rt: HostRuntime) -> Result<(), Fail> {
     }
     Ok(())
 }
+
+/// Programs are equal where their listings are, in one order.
+#[test]
+fn programs_are_compared(rt: HostRuntime) -> Result<(), Fail> {
+    let alloc = rt.alloc();
+    let first = program_of(alloc, "E main()V@9,0,0 x:I; F")?;
+    let same = program_of(alloc, "E main()V@9,0,0 x:I; F")?;
+    let other = program_of(alloc, "E main()V@9,0,0 x:J; F")?;
+    let fewer = program_of(alloc, "E main()V@9,0,0 x:I")?;
+    assert!(rt; first == same && first == first.copy()?);
+    assert!(rt; first != other && first != fewer);
+    Ok(())
+}
+
+/// The program of classes in words.
+fn program_of(alloc: Global, words: &str) -> Result<Program, Fail> {
+    let classes = program(alloc, words)?;
+    accept(alloc, classes.as_slice())?;
+    Ok(Program::new(alloc, classes)?)
+}
