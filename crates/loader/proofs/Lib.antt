@@ -5,6 +5,7 @@ pub mod InitializerLemmas
 pub mod LimitLemmas
 pub mod MethodTableLemmas
 pub mod NumberingLemmas
+pub mod PcLemmas
 pub mod PlaceLemmas
 pub mod PlainOperationRows
 pub mod RepeatLemmas

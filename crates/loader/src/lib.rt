@@ -22,6 +22,7 @@ mod numbering;
 mod operation_tests;
 pub mod operations;
 pub mod own_methods;
+mod pcs;
 pub mod plain_operations;
 mod prepared;
 pub mod programs;

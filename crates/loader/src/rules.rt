@@ -113,13 +113,19 @@ fn first_with_unresolved<'a>(classes: &Classes<'a>) -> Option<&'a Listing>
         .find(|class| has_unresolved(classes, class))
 }
 
-fn first_with_bad_row<'a>(classes: &Classes<'a>) -> Option<&'a Listing>
-    ensures { option_copied result ≡ find (has_bad_row classes.now) classes.now }
+/// The first class with a bad exception row. `AllocError` where memory runs out.
+fn first_with_bad_row<'a>(
+    alloc: Global,
+    classes: &Classes<'a>,
+) -> Result<Option<&'a Listing>, AllocError>
+    ensures { IfOk result (λ found. option_copied found ≡ find (has_bad_row classes.now) classes.now) }
 {
-    classes
-        .program()
-        .iter()
-        .find(|class| has_bad_row(classes, class))
+    for class in classes.program() {
+        if has_bad_row(alloc, classes, class)? {
+            return Ok(Some(class));
+        }
+    }
+    Ok(None)
 }
 
 fn has_main(methods: &[Method]) -> bool
@@ -201,7 +207,10 @@ fn obeys_class_rules<'a>(alloc: Global, classes: &Classes<'a>) -> Result<(), Sto
         LoadRule::UnresolvedReference,
         first_with_unresolved(classes),
     )?;
-    keeps(LoadRule::BadExceptionRow, first_with_bad_row(classes))?;
+    keeps(
+        LoadRule::BadExceptionRow,
+        first_with_bad_row(alloc, classes)?,
+    )?;
     keeps(LoadRule::LimitPassed, first_past_limits(classes))?;
     begins_with_main(program)?;
     Ok(())

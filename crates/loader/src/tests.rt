@@ -426,7 +426,7 @@ fn is_bad(alloc: Global, bounds: (u16, u16, u16), class: &str) -> Result<bool, F
     method.code = Some(code);
     let classes = Classes::new(alloc, &program)?.ok_or("no classes")?;
     let class = program.first().ok_or("no class")?;
-    Ok(has_bad_row(&classes, class))
+    Ok(has_bad_row(alloc, &classes, class)?)
 }
 
 /// Programs with exception rows aren't run yet, so the rule is called by itself (JVMS 4.7.3).
