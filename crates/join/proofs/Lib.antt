@@ -1,0 +1,13 @@
+pub mod Agreeing
+pub mod Cells
+pub mod Collecting
+pub mod Completions
+pub mod Monitors
+pub mod Naming
+pub mod NewBirths
+pub mod Observers
+pub mod Places
+pub mod Reached
+pub mod Shading
+pub mod Table
+pub mod Unwinding

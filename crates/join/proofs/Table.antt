@@ -1,0 +1,11 @@
+pub mod Arrays
+pub mod Branches
+pub mod Fields
+pub mod Invokes
+pub mod Monitors
+pub mod Objects
+pub mod Plain
+pub mod Returns
+pub mod Stacks
+pub mod Statics
+pub mod Threads

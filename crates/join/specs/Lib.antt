@@ -1,0 +1,4 @@
+pub mod Joined
+pub mod Naming
+pub mod OnCells
+pub mod TurnsOnCells
