@@ -7,7 +7,7 @@ use Rattle.model.specs.declared.turns.Exception.TheVariants.{Arithmetic, NullPoi
 use Rattle.model.specs.declared.turns.Abrupt.{Abrupt}
 use Rattle.model.specs.declared.turns.Abrupt.TheVariants.{Fault as Faulted, Throw}
 use Rattle.model.specs.Accounts.{Cell}
-use Rattle.model.specs.Frames.{Frame, Moved, with_running, replaced}
+use Rattle.model.specs.Frames.{Frame, Moved, running, with_running, replaced}
 use Rattle.model.specs.Values.{births_of}
 use Rattle.model.specs.declared.values.Value.{Value}
 use Rattle.model.specs.Words.{puts}
@@ -37,6 +37,12 @@ module _ (h : Naming) where
   module _ (cells : List Cell) where
     pub frames_on_cells : (w : World) (t : ℕ) → frames_at (on_cells h cells w) t ≡ map (named_frame h) (frames_at w t)
     frames_on_cells w t = ap frames_of (slice_get-map (named_thread h) w.threads t) ∙ frames_named (slice_get w.threads t)
+
+    pub running_on_cells : (w : World) (t : ℕ) → running (frames_at (on_cells h cells w) t) ≡ option_map (named_frame h) (running (frames_at w t))
+    running_on_cells w t =
+        ap running (frames_on_cells w t)
+        ∙ ap (λ (n : ℕ). slice_get (map (named_frame h) (frames_at w t)) (n - 1)) (length_named (named_frame h) (frames_at w t))
+        ∙ slice_get-map (named_frame h) (frames_at w t) (length (frames_at w t) - 1)
 
     pub thread_on_cells : (w : World) (t : ℕ) (u : Thread) → with_thread (on_cells h cells w) t (named_thread h u) ≡ on_cells h cells (with_thread w t u)
     thread_on_cells w t u = ap (λ ts. record (on_cells h cells w) { threads = ts }) (sym (map-set (named_thread h) w.threads t u))

@@ -1,8 +1,10 @@
 pub mod Arrays
 pub mod Branches
 pub mod Fields
+pub mod Initialisation
 pub mod Invokes
 pub mod Monitors
+pub mod Next
 pub mod Objects
 pub mod Plain
 pub mod Returns

@@ -96,14 +96,14 @@ module _ (h : Naming) where
       ap (λ g. with_running (map (named_frame h) fs) (record g { monitor = named_ref h monitor })) (run_named fs)
       ∙ running_named h fs (record (running_frame fs) { monitor = monitor })
 
-  units_same : (fs : List Frame) → units_of_frames (map (named_frame h) fs) ≡ units_of_frames fs
-  units_same [] = refl
-  units_same (f ∷ fs) = ap (λ (n : ℕ). n + f.room + units_of_frames (map (named_frame h) fs)) (length_named _ f.locals) ∙ ap (λ (n : ℕ). length f.locals + f.room + n) (units_same fs)
+  pub units_named : (fs : List Frame) → units_of_frames (map (named_frame h) fs) ≡ units_of_frames fs
+  units_named [] = refl
+  units_named (f ∷ fs) = ap (λ (n : ℕ). n + f.room + units_of_frames (map (named_frame h) fs)) (length_named _ f.locals) ∙ ap (λ (n : ℕ). length f.locals + f.room + n) (units_named fs)
 
   room_named : (fs : List Frame) (max_locals max_stack : ℕ) → has_room_for (map (named_frame h) fs) max_locals max_stack ≡ has_room_for fs max_locals max_stack
   room_named fs max_locals max_stack =
       ap (λ (n : ℕ). nat_lt n 256 && nat_le (units_of_frames (map (named_frame h) fs) + max_locals + max_stack) 4096) (length_named (named_frame h) fs)
-      ∙ ap (λ (n : ℕ). nat_lt (length fs) 256 && nat_le (n + max_locals + max_stack) 4096) (units_same fs)
+      ∙ ap (λ (n : ℕ). nat_lt (length fs) 256 && nat_le (n + max_locals + max_stack) 4096) (units_named fs)
 
   listed_named : (o : Option ℕ) → option_to_list (named_ref h o) ≡ map h (option_to_list o)
   listed_named None = refl

@@ -37,7 +37,7 @@ use Rattle.join.proofs.Places.{length_named}
 -- starting and joining threads, and the machine's other own methods, come to the same on cells
 
 module _ (h : Naming) where
-  unset_named : (n : ℕ) → map (named_entry h) (replicate n Unset) ≡ replicate n Unset
+  pub unset_named : (n : ℕ) → map (named_entry h) (replicate n Unset) ≡ replicate n Unset
   unset_named zero = refl
   unset_named (suc n) = ap (λ es. Unset ∷ es) (unset_named n)
 
