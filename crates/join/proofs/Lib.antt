@@ -1,7 +1,9 @@
 pub mod Agreeing
 pub mod Cells
+pub mod Choices
 pub mod Collecting
 pub mod Completions
+pub mod Joining
 pub mod Monitors
 pub mod Naming
 pub mod NewBirths
@@ -10,4 +12,5 @@ pub mod Places
 pub mod Reached
 pub mod Shading
 pub mod Table
+pub mod Turns
 pub mod Unwinding
