@@ -10,6 +10,7 @@ use Rattle.model.specs.Collector.Table.{cell_at}
 use Rattle.model.proofs.CollectorLemmas.Cells.{same_or_not}
 use Rattle.join.specs.Naming.{Naming, named_object, named_contents, Named}
 use Rattle.join.specs.OnCells.{held_object, nobody, on_cells, InCell}
+use Rattle.join.proofs.Lists.{get-set_same, get-set_other}
 
 -- an object is read in its cell, and written image alone
 
@@ -46,31 +47,19 @@ pub class_in_cell : (h : Naming) (cells : List Cell) (w : World) (b : ℕ) → I
 class_in_cell h cells w b s = rw (object_in_cell h cells w b s, s.made) (class_named h s.object.contents)
 
 -- another object of a birth that stands in a cell
-set_here : (os : List Object) (b : ℕ) (o u : Object) → slice_get os b ≡ Some u → slice_get (set os b o) b ≡ Some o
-set_here [] b o u e = absurd (cc)
-set_here (x ∷ os) zero o u e = refl
-set_here (x ∷ os) (suc b) o u e = set_here os b o u e
-
-set_there : (os : List Object) (a b : ℕ) (o : Object) → (a ≡ b → ⊥) → slice_get (set os b o) a ≡ slice_get os a
-set_there [] a b o n = refl
-set_there (x ∷ os) zero zero o n = absurd (n refl)
-set_there (x ∷ os) zero (suc b) o n = refl
-set_there (x ∷ os) (suc a) zero o n = refl
-set_there (x ∷ os) (suc a) (suc b) o n = set_there os a b o (λ e. n (ap suc e))
-
 other_held : (h : Naming) (os : List Object) (b : ℕ) (o : Object) (z : Cell) → ((a : ℕ) (y : Colour) → z ≡ Taken a y → a ≡ b → ⊥) → held_object h os z ≡ held_object h (set os b o) z
 other_held h os b o Free k = refl
-other_held h os b o (Taken a y) k = rw (set_there os a b o (k a y refl)) refl
+other_held h os b o (Taken a y) k = rw (get-set_other os a b o (k a y refl)) refl
 
 pub put_on_cells : (h : Naming) (cells : List Cell) (w : World) (b : ℕ) (o : Object) → Named h cells → InCell h cells w b → on_cells h cells (with_object w b o) ≡ with_object (on_cells h cells w) (h b) (named_object h o)
 put_on_cells h cells w b o named s =
-    let here : held_object h (set w.objects b o) (Taken b s.colour) ≡ named_object h o = rw (set_here w.objects b o s.object s.made) refl in
+    let here : held_object h (set w.objects b o) (Taken b s.colour) ≡ named_object h o = rw (get-set_same w.objects b o s.object s.made) refl in
     let all = mapped_set (held_object h w.objects) (held_object h (set w.objects b o)) cells s.cell b s.colour s.held (λ d n. other_held h w.objects b o (cell_at cells d) (λ a y e k. n (let p = named d a y e in let q = ap h k in let r = s.named in omega (arith, p, q, r)))) in
     rw (s.named, ← here) (ap (λ os. record (on_cells h cells w) { objects = nobody ∷ os }) all)
 
 -- a birth stands where it stood
 pub in_cell_put : (h : Naming) (cells : List Cell) (w : World) (a b : ℕ) (o : Object) → InCell h cells w a → InCell h cells (with_object w b o) a
 in_cell_put h cells w a b o s = elim (same_or_not b a) as (λ _. InCell h cells (with_object w b o) a) [
-  | inl e ↦ record { cell = s.cell; colour = s.colour; object = o; held = s.held; named = s.named; made = (let k = s.made in rw (← e) (set_here w.objects a o s.object k)) }
-  | inr n ↦ record { cell = s.cell; colour = s.colour; object = s.object; held = s.held; named = s.named; made = set_there w.objects a b o n ∙ s.made }
+  | inl e ↦ record { cell = s.cell; colour = s.colour; object = o; held = s.held; named = s.named; made = (let k = s.made in rw (← e) (get-set_same w.objects a o s.object k)) }
+  | inr n ↦ record { cell = s.cell; colour = s.colour; object = s.object; held = s.held; named = s.named; made = get-set_other w.objects a b o n ∙ s.made }
 ]

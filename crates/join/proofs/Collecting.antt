@@ -1,5 +1,5 @@
 use Rattle.std.proofs.Common.{◌≡◌, inl, ℕ, zero, suc, ◌+◌, List, [], ◌∷◌, length, map, set, nat_lt, nat_eq, Bool, true, false, if◌then◌else◌, Option, Some, None, refl, sym, ◌∙◌, ap, arith, eq-eqb, ltb-false, ◌≤◌}
-use Rattle.std.proofs.lemmas.List.{map-set, set-get_or}
+use Rattle.std.proofs.lemmas.List.{map-set, set-get_or, length-map}
 use Rattle.model.specs.declared.colours.Colour.{Colour}
 use Rattle.model.specs.declared.colours.Colour.TheVariants.{White, Grey, Black}
 use Rattle.model.specs.declared.colours.Phase.{Phase}
@@ -23,7 +23,7 @@ use Rattle.join.specs.TurnsOnCells.{shade_cell, shade_cell_if, blacken_cell, sta
 use Rattle.join.specs.Joined.{named_account, Joined}
 use Rattle.join.proofs.Completions.{frames_on_cells}
 use Rattle.join.proofs.Shading.{written, black_other, shade_on_cells, named_shade, in_cell_shade, on_shade}
-use Rattle.join.proofs.Places.{length_named, entries_on_cells, slots_on_cells, slot_on_cells, entry_on_cells, method_on_cells, words_on_cells, word_on_cells}
+use Rattle.join.proofs.Places.{entries_on_cells, slots_on_cells, slot_on_cells, entry_on_cells, method_on_cells, words_on_cells, word_on_cells}
 use Rattle.join.proofs.Reached.{in_cell_at, kept_in_cell, reached_in_cell, root_in_cell}
 
 -- a collector's step on cells is the table's step on births
@@ -83,7 +83,7 @@ module _ (h : Naming) where
     mark_on_cells q (b ∷ rest) k l =
         let s = k b (inl refl) in
         ap (λ rs. word_on on (named_account h a) q (h b) (map h rest) (nat_lt q (length rs))) (words_on_cells h a.cells w b s)
-        ∙ ap (λ n. word_on on (named_account h a) q (h b) (map h rest) (nat_lt q n)) (length_named (named_ref h) (words_of w.objects b))
+        ∙ ap (λ n. word_on on (named_account h a) q (h b) (map h rest) (nat_lt q n)) (length-map (words_of w.objects b) (named_ref h))
         ∙ word_step_on_cells q b rest s (λ b'. l b b' (inl refl)) _
 
     grey_in_cells : (b : ℕ) → In b a.grey → InCell h a.cells w b
@@ -91,9 +91,9 @@ module _ (h : Naming) where
 
     frames_tests : (t d j : ℕ) → frames_on on (named_account h a) t d j (nat_lt t (length on.threads)) (nat_lt d (length (frames_at on t))) (nat_lt j (length (entries_at (frames_at on t) d))) ≡ frames_on on (named_account h a) t d j (nat_lt t (length w.threads)) (nat_lt d (length (frames_at w t))) (nat_lt j (length (entries_at (frames_at w t) d)))
     frames_tests t d j =
-        let x : length on.threads ≡ length w.threads = length_named _ w.threads in
-        let y : length (frames_at on t) ≡ length (frames_at w t) = ap length (frames_on_cells h a.cells w t) ∙ length_named _ (frames_at w t) in
-        let z : length (entries_at (frames_at on t) d) ≡ length (entries_at (frames_at w t) d) = ap length (entries_on_cells h a.cells w t d) ∙ length_named _ (entries_at (frames_at w t) d) in
+        let x : length on.threads ≡ length w.threads = length-map w.threads _ in
+        let y : length (frames_at on t) ≡ length (frames_at w t) = ap length (frames_on_cells h a.cells w t) ∙ length-map (frames_at w t) _ in
+        let z : length (entries_at (frames_at on t) d) ≡ length (entries_at (frames_at w t) d) = ap length (entries_on_cells h a.cells w t d) ∙ length-map (entries_at (frames_at w t) d) _ in
         rw (x, y, z) refl
 
     step_on_cells : h 1 ≡ 1 → h 2 ≡ 2 → (phase : Phase) → step_on shape on (named_account h a) phase ≡ named_account h (step_in shape w a phase)
@@ -104,7 +104,7 @@ module _ (h : Naming) where
         ∙ ap (λ (r : ℕ). at_phase (shade_cell (shade_cell (named_account h a) r) (h 2)) (Statics 0)) (sym e1)
         ∙ ap (λ x. at_phase (shade_cell x (h 2)) (Statics 0)) (shade_on_cells h a w 1 named one)
         ∙ ap (λ x. at_phase x (Statics 0)) (shade_on_cells h (shade a 1) w 2 (named_shade h a 1 named) (in_cell_shade h a w 1 2 two))
-    step_on_cells e1 e2 (Statics s) = ap (λ rs. statics_on on (named_account h a) s (nat_lt s (length rs))) (slots_on_cells h a.cells w) ∙ ap (λ n. statics_on on (named_account h a) s (nat_lt s n)) (length_named (named_ref h) (slots_of w)) ∙ statics_on_cells s _
+    step_on_cells e1 e2 (Statics s) = ap (λ rs. statics_on on (named_account h a) s (nat_lt s (length rs))) (slots_on_cells h a.cells w) ∙ ap (λ n. statics_on on (named_account h a) s (nat_lt s n)) (length-map (slots_of w) (named_ref h)) ∙ statics_on_cells s _
     step_on_cells e1 e2 (Frames t d j) = frames_tests t d j ∙ frames_step_on_cells t d j _ _ _
     step_on_cells e1 e2 (Mark q) = mark_on_cells q a.grey grey_in_cells (λ b b' k f. (let g = i.tidy.only_grey b k in kept_in_cell h shape w a named i b' (i.words g.0 b Grey q b' g.1 (kept-grey a.phase g.0) f)))
     step_on_cells e1 e2 (Append p) = append_on_cells shape a p _

@@ -1,6 +1,6 @@
 use Rattle.std.proofs.Common.{◌≡◌, ℕ, suc, ◌-◌, List, [], ◌∷◌, length, map, set, slice_get, Option, Some, None, Result, Ok, Err, refl, sym, ◌∙◌, ap}
 use Rattle.std.specs.Option.{option_map}
-use Rattle.std.proofs.lemmas.List.{map-set}
+use Rattle.std.proofs.lemmas.List.{map-set, length-map}
 use Rattle.std.proofs.lemmas.Option.{slice_get-map}
 use Rattle.model.specs.declared.turns.Exception.{Exception}
 use Rattle.model.specs.declared.turns.Exception.TheVariants.{Arithmetic, NullPointer, ClassCast, NegativeArraySize, ArrayStore, IllegalMonitorState, ArrayIndexOutOfBounds, IllegalThreadState, StackOverflow, ExceptionInInitializer, NoClassDefFound}
@@ -21,13 +21,9 @@ use Rattle.join.proofs.Naming.{replaced_named, births_named}
 
 -- an instruction that changes the running frame alone comes to the same on cells
 
-length_named : {A B : Type 0} (f : A → B) (xs : List A) → length (map f xs) ≡ length xs
-length_named f [] = refl
-length_named f (x ∷ xs) = ap suc (length_named f xs)
-
 module _ (h : Naming) where
   pub running_named : (fs : List Frame) (f : Frame) → with_running (map (named_frame h) fs) (named_frame h f) ≡ map (named_frame h) (with_running fs f)
-  running_named fs f = ap (λ (n : ℕ). set (map (named_frame h) fs) (n - 1) (named_frame h f)) (length_named (named_frame h) fs) ∙ sym (map-set (named_frame h) fs (length fs - 1) f)
+  running_named fs f = ap (λ (n : ℕ). set (map (named_frame h) fs) (n - 1) (named_frame h f)) (length-map fs (named_frame h)) ∙ sym (map-set (named_frame h) fs (length fs - 1) f)
 
   frames_named : (o : Option Thread) → frames_of (option_map (named_thread h) o) ≡ map (named_frame h) (frames_of o)
   frames_named None = refl
@@ -41,7 +37,7 @@ module _ (h : Naming) where
     pub running_on_cells : (w : World) (t : ℕ) → running (frames_at (on_cells h cells w) t) ≡ option_map (named_frame h) (running (frames_at w t))
     running_on_cells w t =
         ap running (frames_on_cells w t)
-        ∙ ap (λ (n : ℕ). slice_get (map (named_frame h) (frames_at w t)) (n - 1)) (length_named (named_frame h) (frames_at w t))
+        ∙ ap (λ (n : ℕ). slice_get (map (named_frame h) (frames_at w t)) (n - 1)) (length-map (frames_at w t) (named_frame h))
         ∙ slice_get-map (named_frame h) (frames_at w t) (length (frames_at w t) - 1)
 
     pub thread_on_cells : (w : World) (t : ℕ) (u : Thread) → with_thread (on_cells h cells w) t (named_thread h u) ≡ on_cells h cells (with_thread w t u)

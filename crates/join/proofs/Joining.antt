@@ -1,6 +1,7 @@
 use Rattle.std.proofs.Common.{◌≡◌, ℕ, zero, suc, ◌+◌, ◌≤◌, List, [], ◌∷◌, map, replicate, slice_get, nat_le, not, is_none, ◌&&◌, if◌then◌else◌, Option, Some, None, refl, sym, ◌∙◌, ap, subst, arith}
 use Rattle.std.specs.Option.{option_map}
 use Rattle.std.proofs.lemmas.Option.{slice_get-map}
+use Rattle.std.proofs.lemmas.List.{map-id}
 use Rattle.model.specs.declared.colours.Colour.{Colour}
 use Rattle.model.specs.declared.colours.Colour.TheVariants.{White}
 use Rattle.model.specs.declared.journals.HeapShape.{HeapShape}
@@ -179,10 +180,6 @@ two_cells zero zero (suc (suc l)) two = (l, let k : zero + zero + suc (suc l) �
 two_cells zero zero (suc zero) two = absurd (omega arith)
 two_cells zero zero zero two = absurd (omega arith)
 
-itself : (ns : List ℕ) → map (λ b. b) ns ≡ ns
-itself [] = refl
-itself (n ∷ ns) = ap (λ rest. n ∷ rest) (itself ns)
-
 pub opening_joint : (program : List ClassListing) (shape : HeapShape) → 2 ≤ shape.small + shape.medium + shape.large → Joint (opening_on program shape) (opening_machine program shape)
 opening_joint program shape two =
     let k = two_cells shape.small shape.medium shape.large two in
@@ -190,7 +187,7 @@ opening_joint program shape two =
       naming = λ b. b;
       joined = record {
         world = refl;
-        account = ap (λ grey. let a : Account = record (opening_account shape) { grey = grey } in a) (sym (itself (opening_account shape).grey));
+        account = ap (λ grey. let a : Account = record (opening_account shape) { grey = grey } in a) (sym (map-id (opening_account shape).grey));
         named = subst (Named (λ b. b)) (sym k.1) (two_named k.0);
         memory_error = refl;
         stack_error = refl;

@@ -4,6 +4,7 @@ pub mod Choices
 pub mod Collecting
 pub mod Completions
 pub mod Joining
+pub mod Lists
 pub mod Monitors
 pub mod Naming
 pub mod NewBirths

@@ -25,21 +25,13 @@ use Rattle.join.specs.OnCells.{held_object, object_or_nobody, nobody, on_cells, 
 use Rattle.join.specs.Joined.{Bounded}
 use Rattle.join.proofs.Cells.{mapped_alike}
 use Rattle.join.proofs.Agreeing.{FrameMay, threads_agree, fields_agree, contents_agree, nowhere_named}
+use Rattle.join.proofs.Lists.{get-older, get-newest}
 
 -- a birth comes into a free cell
 
 may_all : (P Q : ℕ → Type 0) (rs : List (Option ℕ)) → ((b : ℕ) → P b → Q b) → AllMay P rs → AllMay Q rs
 may_all P Q [] f k = tt
 may_all P Q (r ∷ rs) f k = (λ b e. f b (k.0 b e), may_all P Q rs f k.1)
-
-older : (os : List Object) (o : Object) (b : ℕ) → b < length os → slice_get (os ++ o ∷ []) b ≡ slice_get os b
-older [] o b l = absurd (omega arith)
-older (x ∷ os) o zero l = refl
-older (x ∷ os) o (suc b) l = older os o b (omega arith)
-
-newest : (os : List Object) (o : Object) → slice_get (os ++ o ∷ []) (length os) ≡ Some o
-newest [] o = refl
-newest (x ∷ os) o = newest os o
 
 module _ (h : Naming) (shape : HeapShape) (w : World) (a : Account) (named : Named h a.cells) (i : Invariant shape w (next_birth w) a) where
   pub born_before : (b : ℕ) → Reach w b → b < next_birth w
@@ -111,13 +103,13 @@ module _ (h : Naming) (shape : HeapShape) (w : World) (a : Account) (named : Nam
 
     held_alike : (new : Object) (z : Cell) → ((b : ℕ) (x : Colour) → z ≡ Taken b x → b < next_birth w) → held_object naming_with (w.objects ++ new ∷ []) z ≡ held_object h w.objects z
     held_alike new Free k = refl
-    held_alike new (Taken b x) k = ap (λ r. named_object naming_with (object_or_nobody r)) (older w.objects new b (k b x refl)) ∙ held_if b (slice_get w.objects b) refl
+    held_alike new (Taken b x) k = ap (λ r. named_object naming_with (object_or_nobody r)) (get-older w.objects new b (k b x refl)) ∙ held_if b (slice_get w.objects b) refl
 
     pub new_on_cells : (new : Object) → LeadNowhere (contents_refs new.contents) → on_cells naming_with cells_with (with_new w new) ≡ with_object (on_cells h a.cells w) (suc c) new
     new_on_cells new empty =
         let threads = threads_agree h naming_with (λ b. b < next_birth w) old_name w.threads frame_may in
         let slots = fields_agree h naming_with (λ b. b < next_birth w) old_name w.statics.fields slots_may in
-        let here : held_object naming_with (w.objects ++ new ∷ []) (Taken (next_birth w) Grey) ≡ new = ap (λ r. named_object naming_with (object_or_nobody r)) (newest w.objects new) ∙ ap (λ k. record new { contents = k }) (nowhere_named naming_with new.contents empty) in
+        let here : held_object naming_with (w.objects ++ new ∷ []) (Taken (next_birth w) Grey) ≡ new = ap (λ r. named_object naming_with (object_or_nobody r)) (get-newest w.objects new) ∙ ap (λ k. record new { contents = k }) (nowhere_named naming_with new.contents empty) in
         let objects = map-set (held_object naming_with (w.objects ++ new ∷ [])) a.cells c (Taken (next_birth w) Grey)
         ∙ ap (λ os. set os c (held_object naming_with (w.objects ++ new ∷ []) (Taken (next_birth w) Grey))) (mapped_alike _ _ a.cells (λ d. held_alike new (cell_at a.cells d) (λ b x e. i.tidy.born d b x e)))
         ∙ ap (set (map (held_object h w.objects) a.cells) c) here in
@@ -135,11 +127,11 @@ module _ (h : Naming) (shape : HeapShape) (w : World) (a : Account) (named : Nam
           object = s.object;
           held = came_after (next_birth w) c Grey a.cells cells_with came s.cell b s.colour s.held;
           named = sym (old_name b l) ∙ s.named;
-          made = older w.objects new b l ∙ s.made;
+          made = get-older w.objects new b l ∙ s.made;
         }
 
     pub in_cell_new : (new : Object) → InCell naming_with cells_with (with_new w new) (next_birth w)
-    in_cell_new new = record { cell = c; colour = Grey; object = new; held = came.here; named = new_name; made = newest w.objects new }
+    in_cell_new new = record { cell = c; colour = Grey; object = new; held = came.here; named = new_name; made = get-newest w.objects new }
 
     pub refs_with : (bs : List ℕ) → ((b : ℕ) → In b bs → b < next_birth w) → map h bs ≡ map naming_with bs
     refs_with [] k = refl

@@ -18,6 +18,7 @@ use Rattle.join.specs.Naming.{Naming, named_ref, named_value, named_entry, named
 use Rattle.join.specs.OnCells.{on_cells, InCell}
 use Rattle.join.proofs.Agreeing.{threads_agree}
 use Rattle.join.proofs.Reached.{reached_in_cell}
+use Rattle.join.proofs.Lists.{map-after, map-same}
 
 -- what an observer reads off the cells: the births of the references, which are those of the ideal world
 
@@ -34,14 +35,6 @@ birth_back : (h : Naming) (cells : List Cell) (w : World) (b : ℕ) → InCell h
 birth_back h cells w b s = rw (s.named, s.held) refl
 
 -- ---- one naming after another, and the naming by itself
-
-lists_after : {A : Type 0} (f g k : A → A) → ((x : A) → g (f x) ≡ k x) → (xs : List A) → map g (map f xs) ≡ map k xs
-lists_after f g k e [] = refl
-lists_after f g k e (x ∷ xs) = rw (e x, lists_after f g k e xs) refl
-
-lists_same : {A : Type 0} (f : A → A) → ((x : A) → f x ≡ x) → (xs : List A) → map f xs ≡ xs
-lists_same f e [] = refl
-lists_same f e (x ∷ xs) = ap (λ y. y ∷ map f xs) (e x) ∙ ap (λ ys. x ∷ ys) (lists_same f e xs)
 
 module _ (h g : Naming) where
   abbrev both : ℕ → ℕ
@@ -62,10 +55,10 @@ module _ (h g : Naming) where
   entry_after UpperHalf = refl
 
   frame_after : (f : Frame) → named_frame g (named_frame h f) ≡ named_frame both f
-  frame_after f = rw (lists_after (named_entry h) (named_entry g) (named_entry both) entry_after f.locals, lists_after (named_value h) (named_value g) (named_value both) value_after f.stack, ref_after f.monitor) refl
+  frame_after f = rw (map-after (named_entry h) (named_entry g) (named_entry both) entry_after f.locals, map-after (named_value h) (named_value g) (named_value both) value_after f.stack, ref_after f.monitor) refl
 
   thread_after : (t : Thread) → named_thread g (named_thread h t) ≡ named_thread both t
-  thread_after (Live frames) = ap Live (lists_after (named_frame h) (named_frame g) (named_frame both) frame_after frames)
+  thread_after (Live frames) = ap Live (map-after (named_frame h) (named_frame g) (named_frame both) frame_after frames)
   thread_after (Ended by) = refl
 
 ref_same : (r : Option ℕ) → named_ref (λ b. b) r ≡ r
@@ -83,10 +76,10 @@ entry_same (Holds v) = ap Holds (value_same v)
 entry_same UpperHalf = refl
 
 frame_same : (f : Frame) → named_frame (λ b. b) f ≡ f
-frame_same f = rw (lists_same (named_entry (λ b. b)) entry_same f.locals, lists_same (named_value (λ b. b)) value_same f.stack, ref_same f.monitor) refl
+frame_same f = rw (map-same (named_entry (λ b. b)) entry_same f.locals, map-same (named_value (λ b. b)) value_same f.stack, ref_same f.monitor) refl
 
 thread_same : (t : Thread) → named_thread (λ b. b) t ≡ t
-thread_same (Live frames) = ap Live (lists_same (named_frame (λ b. b)) frame_same frames)
+thread_same (Live frames) = ap Live (map-same (named_frame (λ b. b)) frame_same frames)
 thread_same (Ended by) = refl
 
 -- ---- the threads, read
@@ -95,6 +88,6 @@ pub threads_read : (h : Naming) (shape : HeapShape) (w : World) (a : Account) �
 threads_read h shape w a named i =
     let g = birth_read a.cells in
     let same : (b : ℕ) → Reach w b → g (h b) ≡ b = λ b r. birth_back h a.cells w b (reached_in_cell h shape w a named i b r) in
-    lists_after (named_thread h) (named_thread g) (named_thread (λ b. g (h b))) (thread_after h g) w.threads
+    map-after (named_thread h) (named_thread g) (named_thread (λ b. g (h b))) (thread_after h g) w.threads
     ∙ threads_agree (λ b. g (h b)) (λ b. b) (Reach w) same w.threads (λ t d f e. record { locals = locals_known w t d f e; stack = stack_known w t d f e; monitor = λ b k. monitor_known w t d b f e k })
-    ∙ lists_same (named_thread (λ b. b)) thread_same w.threads
+    ∙ map-same (named_thread (λ b. b)) thread_same w.threads

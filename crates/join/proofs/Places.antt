@@ -16,12 +16,9 @@ use Rattle.join.specs.Naming.{Naming, named_ref, named_value, named_entry, named
 use Rattle.join.specs.OnCells.{on_cells, InCell}
 use Rattle.join.proofs.Cells.{object_in_cell}
 use Rattle.join.proofs.Completions.{frames_on_cells}
+use Rattle.join.proofs.Lists.{reverse-map}
 
 -- what the collector sees on cells is what it sees in the ideal world, as references
-
-pub length_named : {A B : Type 0} (f : A → B) (xs : List A) → length (map f xs) ≡ length xs
-length_named f [] = refl
-length_named f (x ∷ xs) = ap suc (length_named f xs)
 
 module _ (h : Naming) where
   pub ref_at_named : (rs : List (Option ℕ)) (k : ℕ) → ref_at (map (named_ref h) rs) k ≡ named_ref h (ref_at rs k)
@@ -44,15 +41,9 @@ module _ (h : Naming) where
   through f g k [] = refl
   through f g k (x ∷ xs) = rw (k x, through f g k xs) refl
 
-  backwards : (rs : List (Option ℕ)) → reverse (map (named_ref h) rs) ≡ map (named_ref h) (reverse rs)
-  backwards [] = refl
-  backwards (r ∷ rs) =
-      reverse-append (named_ref h r ∷ []) (map (named_ref h) rs) ∙ ap (λ ss. ss ++ named_ref h r ∷ []) (backwards rs)
-      ∙ sym (map-append (named_ref h) (reverse rs) (r ∷ [])) ∙ ap (map (named_ref h)) (sym (reverse-append (r ∷ []) rs))
-
   frame_refs_named : (f : Frame) → frame_refs (named_frame h f) ≡ map (named_ref h) (frame_refs f)
   frame_refs_named f =
-      rw (through (named_entry h) entry_ref entry_ref_named f.locals, through (named_value h) ref_of value_ref f.stack, backwards (map ref_of f.stack))
+      rw (through (named_entry h) entry_ref entry_ref_named f.locals, through (named_value h) ref_of value_ref f.stack, reverse-map (named_ref h) (map ref_of f.stack))
       (sym (map-append (named_ref h) (map entry_ref f.locals) (reverse (map ref_of f.stack))))
 
   frame_if : (o : Option Frame) → refs_of_frame (option_map (named_frame h) o) ≡ map (named_ref h) (refs_of_frame o)

@@ -10,17 +10,13 @@ use Rattle.model.specs.Collector.Invariant.{Invariant, HasKept}
 use Rattle.model.proofs.CollectorLemmas.Shading.{reach_kept}
 use Rattle.join.specs.Naming.{Naming, Named}
 use Rattle.join.specs.OnCells.{InCell, ReachedInCells}
+use Rattle.join.proofs.Lists.{get-within}
 
 -- where the collector's invariant holds, what is reachable stands in a cell
 
-made : (os : List Object) (b : ℕ) → b < length os → (o : Object) × (slice_get os b ≡ Some o)
-made [] b h = absurd (omega arith)
-made (o ∷ os) zero h = (o, refl)
-made (o ∷ os) (suc b) h = made os b (omega arith)
-
 module _ (h : Naming) (shape : HeapShape) (w : World) (a : Account) (named : Named h a.cells) (i : Invariant shape w (next_birth w) a) where
   pub in_cell_at : (c b : ℕ) (x : Colour) → cell_at a.cells c ≡ Taken b x → InCell h a.cells w b
-  in_cell_at c b x e = let o = made w.objects b (i.tidy.born c b x e) in record { cell = c; colour = x; object = o.0; held = e; named = named c b x e; made = o.1 }
+  in_cell_at c b x e = let o = get-within w.objects b (i.tidy.born c b x e) in record { cell = c; colour = x; object = o.0; held = e; named = named c b x e; made = o.1 }
 
   pub kept_in_cell : (b : ℕ) → HasKept a.phase a.cells b → InCell h a.cells w b
   kept_in_cell b k = in_cell_at k.cell b k.colour k.held

@@ -1,5 +1,5 @@
 use Rattle.std.proofs.Common.{◌≡◌, inl, inr, ℕ, suc, List, [], ◌∷◌, ◌++◌, map, set, nat_eq, Bool, true, false, if◌then◌else◌, refl, sym, ◌∙◌, ap, arith, eqb-true, eq-eqb}
-use Rattle.std.proofs.lemmas.List.{map-append, set-get_or}
+use Rattle.std.proofs.lemmas.List.{map-append, set-get_or, map-id}
 use Rattle.model.specs.declared.colours.Colour.{Colour}
 use Rattle.model.specs.declared.colours.Colour.TheVariants.{White, Grey, Black}
 use Rattle.model.specs.Accounts.{Account, tint, has_white, shade, shade_all}
@@ -17,15 +17,11 @@ use Rattle.join.proofs.Cells.{mapped_set}
 
 -- shading a birth is shading its cell
 
-map_same : (cells : List Cell) → map (λ (z : Cell). z) cells ≡ cells
-map_same [] = refl
-map_same (z ∷ cells) = ap (λ zs. z ∷ zs) (map_same cells)
-
 -- a change of every cell that concerns one birth alone is a write of one cell
 pub written : (h : Naming) (g : Cell → Cell) (cells : List Cell) (c b : ℕ) (x : Colour) → Named h cells → ((z : Cell) → ((y : Colour) → z ≡ Taken b y → ⊥) → z ≡ g z) → cell_at cells c ≡ Taken b x → map g cells ≡ set cells c (g (Taken b x))
 written h g cells c b x named same e =
     mapped_set (λ (z : Cell). z) g cells c b x e (λ d n. same (cell_at cells d) (λ y k. n (let p = named d b y k in let q = named c b x e in omega (arith, p, q))))
-    ∙ ap (λ zs. set zs c (g (Taken b x))) (map_same cells)
+    ∙ ap (λ zs. set zs c (g (Taken b x))) (map-id cells)
 
 tint_by : (a b : ℕ) (t : Bool) → nat_eq a b ≡ t → (a ≡ b → ⊥) → Taken a White ≡ (if t then Taken a Grey else Taken a White)
 tint_by a b true e n = absurd (n (eqb-true a b e))

@@ -43,7 +43,6 @@ use Rattle.join.proofs.Naming.{if_room_named}
 use Rattle.join.proofs.Completions.{frames_on_cells, running_named, running_on_cells, thread_on_cells}
 use Rattle.join.proofs.Choices.{by_room, ideal_unless, ideal_carried, ideal_by, ideal_turned}
 use Rattle.join.proofs.Shading.{EachInCell, shades_on_cells, named_shades, on_shades}
-use Rattle.join.proofs.Places.{length_named}
 use Rattle.join.proofs.Reached.{reached_in_cell}
 use Rattle.join.proofs.Unwinding.{thrown_on_cells}
 use Rattle.join.proofs.Agreeing.{frame_agrees}

@@ -22,6 +22,7 @@ use Rattle.join.specs.OnCells.Matches.{faults, matches}
 use Rattle.join.proofs.Cells.{class_in_cell}
 use Rattle.join.proofs.Completions.{frames_on_cells, thread_on_cells}
 use Rattle.join.proofs.Monitors.{MonitorInCell, MonitorsInCells, all_released, released_fault}
+use Rattle.join.proofs.Lists.{reverse-map}
 
 -- a throwable does the same on cells
 
@@ -56,14 +57,6 @@ module _ (h : Naming) where
       go : (runs : Bool) → initialised_by program (map (named_frame h) fs) ≡ initialised_by program fs → map (λ (g : Frame). g.method.class) (if runs then named_frame h f ∷ filter (runs_initializer program) (map (named_frame h) fs) else filter (runs_initializer program) (map (named_frame h) fs)) ≡ map (λ (g : Frame). g.method.class) (if runs then f ∷ filter (runs_initializer program) fs else filter (runs_initializer program) fs)
       go true e = ap (λ cs. f.method.class ∷ cs) e
       go false e = e
-
-  reverse_named : (fs : List Frame) → reverse (map (named_frame h) fs) ≡ map (named_frame h) (reverse fs)
-  reverse_named [] = refl
-  reverse_named (f ∷ fs) =
-      reverse-append (named_frame h f ∷ []) (map (named_frame h) fs)
-      ∙ ap (λ gs. gs ++ named_frame h f ∷ []) (reverse_named fs)
-      ∙ sym (map-append (named_frame h) (reverse fs) (f ∷ []))
-      ∙ ap (map (named_frame h)) (sym (reverse-append (f ∷ []) fs))
 
   module _ (cells : List Cell) (named : Named h cells) where
     -- ---- frames are left
@@ -108,11 +101,11 @@ module _ (h : Naming) where
         matches (ap (λ fs. record { after = with_thread (on_cells h cells w) t (Live fs); writes = [] }) frames ∙ ap (λ v. record { after = v; writes = [] }) (thread_on_cells h cells w t (Live (reverse callers ++ failing f ∷ [])))) q
       where
         frames : reverse (map (named_frame h) callers) ++ named_frame h (failing f) ∷ [] ≡ map (named_frame h) (reverse callers ++ failing f ∷ [])
-        frames = ap (λ fs. fs ++ named_frame h (failing f) ∷ []) (reverse_named callers) ∙ sym (map-append (named_frame h) (reverse callers) (failing f ∷ []))
+        frames = ap (λ fs. fs ++ named_frame h (failing f) ∷ []) (reverse-map (named_frame h) callers) ∙ sym (map-append (named_frame h) (reverse callers) (failing f ∷ []))
     landed_on_cells on before w t b class (Handled handler f callers) q = go (nat_le 1 f.room)
       where
         frames : reverse (map (named_frame h) callers) ++ named_frame h (handling b handler f) ∷ [] ≡ map (named_frame h) (reverse callers ++ handling b handler f ∷ [])
-        frames = ap (λ fs. fs ++ named_frame h (handling b handler f) ∷ []) (reverse_named callers) ∙ sym (map-append (named_frame h) (reverse callers) (handling b handler f ∷ []))
+        frames = ap (λ fs. fs ++ named_frame h (handling b handler f) ∷ []) (reverse-map (named_frame h) callers) ∙ sym (map-append (named_frame h) (reverse callers) (handling b handler f ∷ []))
 
         go : (room : Bool) → Matches h cells on before t
             (if room then record { after = with_thread (on_cells h cells w) t (Live (reverse (map (named_frame h) callers) ++ handling (h b) handler (named_frame h f) ∷ [])); writes = h b ∷ [] } else faulted on t StackFull)
@@ -125,7 +118,7 @@ module _ (h : Naming) where
         let class = class_at w b in
         let fs = reverse (frames_at w t) in
         let way = way_of program class fs in
-        let image : reverse (frames_at (on_cells h cells w) t) ≡ map (named_frame h) fs = ap reverse (frames_on_cells h cells w t) ∙ reverse_named (frames_at w t) in
+        let image : reverse (frames_at (on_cells h cells w) t) ≡ map (named_frame h) fs = ap reverse (frames_on_cells h cells w t) ∙ reverse-map (named_frame h) (frames_at w t) in
         let worlds = without_on_cells program w t way.left (left_in_cells w program class fs (backwards w (frames_at w t) (frames_in_cells w (frames_at w t) k))) in
         rw (class_in_cell h cells w b s, image, way_named program class fs, worlds)
         (landed_on_cells on before (without program w t way.left) t b class way.landing (released_fault w t (map (λ (f : Frame). f.monitor) way.left) ∙ q))

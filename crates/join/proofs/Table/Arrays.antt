@@ -1,5 +1,5 @@
 use Rattle.std.proofs.Common.{◌≡◌, ℕ, suc, ℤ, pos, negsuc, List, [], ◌∷◌, length, map, drop, nat_lt, Bool, true, false, Option, Some, None, Result, Ok, Err, refl, ◌∙◌, ap}
-use Rattle.std.proofs.lemmas.List.{drop-map}
+use Rattle.std.proofs.lemmas.List.{drop-map, length-map}
 use Rattle.model.specs.declared.instructions.ArrayOperation.{ArrayOperation}
 use Rattle.model.specs.declared.instructions.ArrayOperation.TheVariants.{New, NewOf, Length, Load, Store}
 use Rattle.model.specs.declared.instructions.ElementKind.{ElementKind}
@@ -30,13 +30,9 @@ use Rattle.join.proofs.Table.Fields.{word_named, kept_named, with_word_on_cells}
 -- arrays come to the same on cells
 
 module _ (h : Naming) where
-  length_named : (vs : List Value) → length (map (named_value h) vs) ≡ length vs
-  length_named [] = refl
-  length_named (v ∷ vs) = ap suc (length_named vs)
-
   index_named : (z : ℤ) (c : Contents) → index_in z (named_contents h c) ≡ index_in z c
   index_named (pos n) (Instance class fields) = refl
-  index_named (pos n) (Array element values) = ap (λ (m : ℕ). if_below n (nat_lt n m)) (length_named values)
+  index_named (pos n) (Array element values) = ap (λ (m : ℕ). if_below n (nat_lt n m)) (length-map values (named_value h))
   index_named (negsuc n) c = refl
 
   is_array_named : (kind : ElementKind) (c : Contents) → is_array_of kind (named_contents h c) ≡ is_array_of kind c
@@ -64,7 +60,7 @@ module _ (h : Naming) (cells : List Cell) (s : Site) (u : ReachedInCells h cells
 
   length_on_cells : (c : Contents) → length_of image (named_contents h c) ≡ image_of (length_of s c)
   length_on_cells (Instance class fields) = refl
-  length_on_cells (Array element values) = rw (length_named h values) (ap (moves_in image.world image) (replaced_named h s.next s.frame 1 (Int (pos (length values)) ∷ [])) ∙ moves_on_cells h cells s.world s (replaced s.next s.frame 1 (Int (pos (length values)) ∷ [])))
+  length_on_cells (Array element values) = rw (length-map values (named_value h)) (ap (moves_in image.world image) (replaced_named h s.next s.frame 1 (Int (pos (length values)) ∷ [])) ∙ moves_on_cells h cells s.world s (replaced s.next s.frame 1 (Int (pos (length values)) ∷ [])))
 
   measured_on_cells : (r : Result (Option ℕ) Fault) → ((b : ℕ) → r ≡ Ok (Some b) → Reach s.world b) → measured image (renamed h (named_ref h) r) ≡ image_of (measured s r)
   measured_on_cells (Err fault) k = refl

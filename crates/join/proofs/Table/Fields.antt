@@ -1,7 +1,7 @@
 use Rattle.std.proofs.Common.{◌≡◌, ℕ, zero, suc, ◌+◌, List, [], ◌∷◌, map, drop, length, not, if◌then◌else◌, Option, Some, None, Result, Ok, Err, refl, sym, ◌∙◌, ap}
 use Rattle.std.specs.List.{prefix_len}
 use Rattle.std.specs.Option.{option_and_then}
-use Rattle.std.proofs.lemmas.List.{map-set}
+use Rattle.std.proofs.lemmas.List.{map-set, length-map}
 use Rattle.model.specs.declared.listings.Field.{Field}
 use Rattle.model.specs.declared.names.Member.{Member}
 use Rattle.model.specs.declared.instructions.Access.{Access}
@@ -68,16 +68,12 @@ module _ (h : Naming) where
   kept_named Longs v = refl
   kept_named References v = refl
 
-  fields_length : (fields : List FieldValue) → length (map (named_field h) fields) ≡ length fields
-  fields_length [] = refl
-  fields_length (f ∷ fs) = ap suc (fields_length fs)
-
   prefix_named : (field : Declared Field) (fields : List FieldValue) → prefix_len (λ x. not (is_field field x)) (map (named_field h) fields) ≡ prefix_len (λ x. not (is_field field x)) fields
   prefix_named field [] = refl
   prefix_named field (f ∷ fs) = ap (λ (n : ℕ). if not (is_field field f) then 1 + n else zero) (prefix_named field fs)
 
   pub place_named : (field : Declared Field) (fields : List FieldValue) → field_index (map (named_field h) fields) field ≡ field_index fields field
-  place_named field fields = rw (prefix_named field fields, fields_length fields) refl
+  place_named field fields = rw (prefix_named field fields, length-map fields (named_field h)) refl
 
   fields_named : (c : Contents) → fields_in (named_contents h c) ≡ map (named_field h) (fields_in c)
   fields_named (Instance class fields) = refl

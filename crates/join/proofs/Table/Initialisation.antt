@@ -1,5 +1,5 @@
 use Rattle.std.proofs.Common.{◌≡◌, ℕ, ◌==◌, List, [], ◌∷◌, ◌++◌, length, map, nat_le, ◌&&◌, Bool, true, false, if◌then◌else◌, Option, Some, None, refl, sym, ◌∙◌, ap}
-use Rattle.std.proofs.lemmas.List.{map-append}
+use Rattle.std.proofs.lemmas.List.{map-append, length-map}
 use Rattle.model.specs.declared.turns.ClassState.{ClassState}
 use Rattle.model.specs.declared.turns.ClassState.TheVariants.{Unused, Running, Done, Failed}
 use Rattle.model.specs.declared.turns.Exception.TheVariants.{StackOverflow}
@@ -18,7 +18,6 @@ use Rattle.model.specs.Table.Initialisation.{states_in, claims_with, claims, ini
 use Rattle.join.specs.Naming.{Naming, named_entry, named_frame}
 use Rattle.join.specs.OnCells.{on_cells, site_on, completion_on}
 use Rattle.join.proofs.Completions.{frames_on_cells, thread_on_cells, raises_on_cells}
-use Rattle.join.proofs.Places.{length_named}
 use Rattle.join.proofs.Table.Threads.{unset_named}
 use Rattle.join.proofs.Table.Invokes.{units_named}
 
@@ -44,7 +43,7 @@ module _ (h : Naming) where
 
   limits_named : (fs : List Frame) → within_limits (map (named_frame h) fs) ≡ within_limits fs
   limits_named fs =
-      ap (λ (n : ℕ). nat_le n 256 && nat_le (units_of_frames (map (named_frame h) fs)) 4096) (length_named (named_frame h) fs)
+      ap (λ (n : ℕ). nat_le n 256 && nat_le (units_of_frames (map (named_frame h) fs)) 4096) (length-map fs (named_frame h))
       ∙ ap (λ (n : ℕ). nat_le (length fs) 256 && nat_le n 4096) (units_named h fs)
 
   module _ (cells : List Cell) (s : Site) (stack_error : h 2 ≡ 2) where

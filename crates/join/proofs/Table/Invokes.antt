@@ -2,7 +2,7 @@ use Rattle.std.proofs.Common.{◌≡◌, ℕ, zero, suc, ◌+◌, ◌-◌, List,
 use Rattle.std.specs.List.{slice_index_or}
 use Rattle.std.specs.Option.{option_len, option_map_or, option_or, option_to_list}
 use Rattle.std.specs.Result.{result_err}
-use Rattle.std.proofs.lemmas.List.{map-append, drop-map, reverse-append}
+use Rattle.std.proofs.lemmas.List.{map-append, drop-map, reverse-append, length-map, take-map}
 use Rattle.model.specs.declared.names.Member.{Member}
 use Rattle.model.specs.declared.listings.Method.{Method}
 use Rattle.model.specs.declared.places.MethodPlace.{MethodPlace}
@@ -40,24 +40,17 @@ use Rattle.join.specs.OnCells.{site_on, completion_on, on_cells, InCell, Reached
 use Rattle.join.proofs.Cells.{class_in_cell}
 use Rattle.join.proofs.Naming.{renamed, ref_on_named, value_on_named, births_named}
 use Rattle.join.proofs.Completions.{frames_on_cells, running_named, thread_on_cells, raises_on_cells}
-use Rattle.join.proofs.Places.{length_named}
-use Rattle.join.proofs.Table.Returns.{take_named}
 use Rattle.join.proofs.Monitors.{monitor_of_on_cells, with_monitor_on_cells}
 use Rattle.join.proofs.Table.Threads.{called_named, builtin_on_cells}
+use Rattle.join.proofs.Lists.{reverse-map}
 
 -- calls come to the same on cells
 
 module _ (h : Naming) where
   -- ---- arguments
 
-  back_named : (vs : List Value) → reverse (map (named_value h) vs) ≡ map (named_value h) (reverse vs)
-  back_named [] = refl
-  back_named (v ∷ vs) =
-      reverse-append (named_value h v ∷ []) (map (named_value h) vs) ∙ ap (λ ws. ws ++ named_value h v ∷ []) (back_named vs)
-      ∙ sym (map-append (named_value h) (reverse vs) (v ∷ [])) ∙ ap (map (named_value h)) (sym (reverse-append (v ∷ []) vs))
-
   arguments_named : (n : ℕ) (stack : List Value) → arguments_on n (map (named_value h) stack) ≡ map (named_value h) (arguments_on n stack)
-  arguments_named n stack = ap reverse (take_named h (named_value h) n stack) ∙ back_named (take n stack)
+  arguments_named n stack = ap reverse (take-map (named_value h) n stack) ∙ reverse-map (named_value h) (take n stack)
 
   fault_named : (r : Result Value Fault) → result_err (renamed h (named_value h) r) ≡ result_err r
   fault_named (Err fault) = refl
@@ -77,7 +70,7 @@ module _ (h : Naming) where
   frame_at_named (f ∷ fs) (suc k) = frame_at_named fs k
 
   run_named : (fs : List Frame) → running_frame (map (named_frame h) fs) ≡ named_frame h (running_frame fs)
-  run_named fs = ap (λ (n : ℕ). slice_index_or (map (named_frame h) fs) (n - 1) no_frame) (length_named (named_frame h) fs) ∙ frame_at_named fs (length fs - 1)
+  run_named fs = ap (λ (n : ℕ). slice_index_or (map (named_frame h) fs) (n - 1) no_frame) (length-map fs (named_frame h)) ∙ frame_at_named fs (length fs - 1)
 
   abbrev dropped : ℕ → Frame → Frame
   dropped n f = record f { stack = drop n f.stack }
@@ -98,11 +91,11 @@ module _ (h : Naming) where
 
   pub units_named : (fs : List Frame) → units_of_frames (map (named_frame h) fs) ≡ units_of_frames fs
   units_named [] = refl
-  units_named (f ∷ fs) = ap (λ (n : ℕ). n + f.room + units_of_frames (map (named_frame h) fs)) (length_named _ f.locals) ∙ ap (λ (n : ℕ). length f.locals + f.room + n) (units_named fs)
+  units_named (f ∷ fs) = ap (λ (n : ℕ). n + f.room + units_of_frames (map (named_frame h) fs)) (length-map f.locals _) ∙ ap (λ (n : ℕ). length f.locals + f.room + n) (units_named fs)
 
   room_named : (fs : List Frame) (max_locals max_stack : ℕ) → has_room_for (map (named_frame h) fs) max_locals max_stack ≡ has_room_for fs max_locals max_stack
   room_named fs max_locals max_stack =
-      ap (λ (n : ℕ). nat_lt n 256 && nat_le (units_of_frames (map (named_frame h) fs) + max_locals + max_stack) 4096) (length_named (named_frame h) fs)
+      ap (λ (n : ℕ). nat_lt n 256 && nat_le (units_of_frames (map (named_frame h) fs) + max_locals + max_stack) 4096) (length-map fs (named_frame h))
       ∙ ap (λ (n : ℕ). nat_lt (length fs) 256 && nat_le (n + max_locals + max_stack) 4096) (units_named fs)
 
   listed_named : (o : Option ℕ) → option_to_list (named_ref h o) ≡ map h (option_to_list o)

@@ -1,7 +1,8 @@
 use Rattle.std.proofs.Common.{◌≡◌, ℕ, ◌+◌, ◌-◌, ℤ, ◌+ℤ◌, List, [], ◌∷◌, map, set, drop, slice_get, nat_le, Bool, true, false, Option, Some, None, Result, Ok, Err, refl, sym, ◌∙◌, ap}
 use Rattle.std.specs.Option.{option_map}
-use Rattle.std.proofs.lemmas.List.{drop-map, map-set}
+use Rattle.std.proofs.lemmas.List.{drop-map, map-set, length-map}
 use Rattle.std.proofs.lemmas.Option.{slice_get-map}
+use Rattle.std.specs.Int.{w32, int_wrap}
 use Rattle.model.specs.declared.instructions.Constant.{Constant}
 use Rattle.model.specs.declared.instructions.Constant.TheVariants.{Null, SmallInt as SmallIntOf, SmallLong as SmallLongOf, Byte, Short, Int as IntOf, Long as LongOf}
 use Rattle.model.specs.declared.instructions.NumberKind.{NumberKind}
@@ -15,7 +16,6 @@ use Rattle.model.specs.declared.instructions.Local.TheVariants.{Byte}
 use Rattle.model.specs.declared.instructions.LocalAccess.{LocalAccess}
 use Rattle.model.specs.declared.instructions.LocalAccess.TheVariants.{Load, Store, Increment as Incremented}
 use Rattle.model.specs.Switches.{Table, Lookup}
-use Rattle.std.specs.Int.{w32, int_wrap}
 use Rattle.model.specs.declared.turns.Fault.{Fault}
 use Rattle.model.specs.declared.values.Kind.{Kind}
 use Rattle.model.specs.declared.values.Kind.TheVariants.{Int as IntKind}
@@ -32,7 +32,6 @@ use Rattle.model.specs.Table.Switches.{table_switched_on, lookup_switched_on, ta
 use Rattle.model.specs.Table.Locals.{local_index, loaded_on, incremented_on, increment_index, increment_amount, local}
 use Rattle.join.specs.Naming.{Naming, named_value, named_entry, named_frame, named_moved, named_result}
 use Rattle.join.proofs.Naming.{renamed, int_on_named, long_on_named, of_kind_named, value_on_named, births_named, replaced_named, if_room_named}
-use Rattle.join.proofs.Places.{length_named}
 
 -- constants, numbers, switches and locals come to the same under another naming
 
@@ -135,7 +134,7 @@ module _ (h : Naming) where
   entries es = map (named_entry h) es
 
   has_named : (kind : Kind) (es : List Entry) (index : ℕ) → has_local kind (entries es) index ≡ has_local kind es index
-  has_named kind es index = ap (λ n. nat_le (index + entries_of kind) n) (length_named (named_entry h) es)
+  has_named kind es index = ap (λ n. nat_le (index + entries_of kind) n) (length-map es (named_entry h))
 
   in_entry_named : (kind : Kind) (o : Option Entry) → value_in_entry kind (option_map (named_entry h) o) ≡ renamed h (named_value h) (value_in_entry kind o)
   in_entry_named kind None = refl

@@ -1,6 +1,7 @@
 use Rattle.std.proofs.Common.{◌≡◌, ℕ, zero, suc, ◌-◌, List, [], ◌∷◌, length, map, take, slice_get, Bool, true, false, Option, Some, None, Result, Ok, Err, refl, ◌∙◌, ap}
 use Rattle.std.specs.Option.{option_map}
 use Rattle.std.proofs.lemmas.Option.{slice_get-map}
+use Rattle.std.proofs.lemmas.List.{length-map, take-map}
 use Rattle.model.specs.declared.values.Kind.{Kind}
 use Rattle.model.specs.declared.values.Value.{Value}
 use Rattle.model.specs.declared.listings.Placed.{Placed}
@@ -22,22 +23,16 @@ use Rattle.join.specs.Naming.{Naming, named_value, named_frame, named_result}
 use Rattle.join.specs.OnCells.{site_on, completion_on, on_cells, ReachedInCells}
 use Rattle.join.proofs.Naming.{renamed, value_on_named, replaced_named, if_room_named}
 use Rattle.join.proofs.Completions.{running_named, frames_on_cells, thread_on_cells, abruptly_on_cells}
-use Rattle.join.proofs.Places.{length_named}
 use Rattle.join.proofs.Monitors.{released_on_cells}
 
 -- returns come to the same on cells
 
 module _ (h : Naming) where
-  pub take_named : {A : Type 0} (f : A → A) (n : ℕ) (xs : List A) → take n (map f xs) ≡ map f (take n xs)
-  take_named f zero xs = refl
-  take_named f (suc n) [] = refl
-  take_named f (suc n) (x ∷ xs) = ap (λ rest. f x ∷ rest) (take_named f n xs)
-
   callers_named : (fs : List Frame) → callers (map (named_frame h) fs) ≡ map (named_frame h) (callers fs)
-  callers_named fs = ap (λ (n : ℕ). take (n - 1) (map (named_frame h) fs)) (length_named (named_frame h) fs) ∙ take_named (named_frame h) (length fs - 1) fs
+  callers_named fs = ap (λ (n : ℕ). take (n - 1) (map (named_frame h) fs)) (length-map fs (named_frame h)) ∙ take-map (named_frame h) (length fs - 1) fs
 
   top_named : (fs : List Frame) → running (map (named_frame h) fs) ≡ option_map (named_frame h) (running fs)
-  top_named fs = ap (λ (n : ℕ). slice_get (map (named_frame h) fs) (n - 1)) (length_named (named_frame h) fs) ∙ slice_get-map (named_frame h) fs (length fs - 1)
+  top_named fs = ap (λ (n : ℕ). slice_get (map (named_frame h) fs) (n - 1)) (length-map fs (named_frame h)) ∙ slice_get-map (named_frame h) fs (length fs - 1)
 
   past_named : (f : Frame) (result : Option Value) (invoke : Option Placed) → past_invoke (named_frame h f) (option_map (named_value h) result) invoke ≡ named_result h (past_invoke f result invoke)
   past_named f None None = refl

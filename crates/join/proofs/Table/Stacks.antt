@@ -1,5 +1,5 @@
 use Rattle.std.proofs.Common.{◌≡◌, ℕ, suc, ◌+◌, List, [], ◌∷◌, ◌++◌, length, map, drop, Result, Ok, Err, refl, ◌∙◌, ap}
-use Rattle.std.proofs.lemmas.List.{map-append, drop-map}
+use Rattle.std.proofs.lemmas.List.{map-append, drop-map, length-map}
 use Rattle.model.specs.declared.values.Value.{Value}
 use Rattle.model.specs.declared.values.Value.TheVariants.{Int, Long, Ref}
 use Rattle.model.specs.declared.turns.Fault.{Fault}
@@ -43,32 +43,28 @@ module _ (h : Naming) where
   group_named One vs = unit_on_named vs
   group_named Two vs = rw (top_named h vs, drop-map (named_value h) 1 vs, unit_on_named (drop 1 vs)) (as_units_named (top_of vs) (unit_on (drop 1 vs)))
 
-  length_named : (vs : List Value) → length (named vs) ≡ length vs
-  length_named [] = refl
-  length_named (v ∷ vs) = ap suc (length_named vs)
-
   below_named : (u : Units) (vs : List Value) (r : Result (List Value) Fault) → with_group_below u (named vs) (renamed h named r) ≡ renamed h pair (with_group_below u vs r)
   below_named u vs (Err e) = refl
-  below_named u vs (Ok upper) = rw (length_named upper, drop-map (named_value h) (length upper) vs, group_named u (drop (length upper) vs)) (pair_named h named named (Ok upper) (group_on u (drop (length upper) vs)))
+  below_named u vs (Ok upper) = rw (length-map upper (named_value h), drop-map (named_value h) (length upper) vs, group_named u (drop (length upper) vs)) (pair_named h named named (Ok upper) (group_on u (drop (length upper) vs)))
 
   groups_named : (u l : Units) (vs : List Value) → groups_on u l (named vs) ≡ renamed h pair (groups_on u l vs)
   groups_named u l vs = ap (with_group_below l (named vs)) (group_named u vs) ∙ below_named l vs (group_on u vs)
 
   popped_named : (next : ℕ) (f : Frame) (r : Result (List Value) Fault) → popped_on next (named_frame h f) (renamed h named r) ≡ named_result h (popped_on next f r)
   popped_named next f (Err e) = refl
-  popped_named next f (Ok group) = rw (length_named group) (ap Ok (replaced_named h next f (length group) []))
+  popped_named next f (Ok group) = rw (length-map group (named_value h)) (ap Ok (replaced_named h next f (length group) []))
 
   doubled_named : (next : ℕ) (f : Frame) (r : Result (List Value) Fault) → doubled_on next (named_frame h f) (renamed h named r) ≡ named_result h (doubled_on next f r)
   doubled_named next f (Err e) = refl
-  doubled_named next f (Ok group) = rw (length_named group, ← map-append (named_value h) group group) (if_room_named h next f (length group) (group ++ group))
+  doubled_named next f (Ok group) = rw (length-map group (named_value h), ← map-append (named_value h) group group) (if_room_named h next f (length group) (group ++ group))
 
   inserted_named : (next : ℕ) (f : Frame) (r : Result (List Value × List Value) Fault) → inserted_on next (named_frame h f) (renamed h pair r) ≡ named_result h (inserted_on next f r)
   inserted_named next f (Err e) = refl
-  inserted_named next f (Ok groups) = rw (length_named groups.0, length_named groups.1, ← map-append (named_value h) groups.0 groups.1, ← map-append (named_value h) (groups.0 ++ groups.1) groups.0) (if_room_named h next f (length groups.0 + length groups.1) (groups.0 ++ groups.1 ++ groups.0))
+  inserted_named next f (Ok groups) = rw (length-map groups.0 (named_value h), length-map groups.1 (named_value h), ← map-append (named_value h) groups.0 groups.1, ← map-append (named_value h) (groups.0 ++ groups.1) groups.0) (if_room_named h next f (length groups.0 + length groups.1) (groups.0 ++ groups.1 ++ groups.0))
 
   swapped_named : (next : ℕ) (f : Frame) (r : Result (List Value × List Value) Fault) → swapped_on next (named_frame h f) (renamed h pair r) ≡ named_result h (swapped_on next f r)
   swapped_named next f (Err e) = refl
-  swapped_named next f (Ok groups) = rw (length_named groups.0, length_named groups.1, ← map-append (named_value h) groups.0 groups.1) (ap Ok (replaced_named h next f (length groups.0 + length groups.1) (groups.0 ++ groups.1)))
+  swapped_named next f (Ok groups) = rw (length-map groups.0 (named_value h), length-map groups.1 (named_value h), ← map-append (named_value h) groups.0 groups.1) (ap Ok (replaced_named h next f (length groups.0 + length groups.1) (groups.0 ++ groups.1)))
 
   pub rearranged_named : (next : ℕ) (operation : StackOperation) (f : Frame) → rearranged next operation (named_frame h f) ≡ named_result h (rearranged next operation f)
   rearranged_named next Pop f = ap (popped_on next (named_frame h f)) (group_named One f.stack) ∙ popped_named next f _

@@ -1,6 +1,6 @@
 use Rattle.std.proofs.Common.{◌≡◌, ℕ, ◌-◌, ℤ, List, [], ◌∷◌, length, map, replicate, zero, suc, slice_get, nat_le, codes, is_some, Bool, true, false, if◌then◌else◌, Option, Some, None, Result, Ok, Err, refl, sym, ◌∙◌, ap}
 use Rattle.std.specs.Option.{option_map}
-use Rattle.std.proofs.lemmas.List.{map-append}
+use Rattle.std.proofs.lemmas.List.{map-append, length-map}
 use Rattle.std.proofs.lemmas.Option.{slice_get-map}
 use Rattle.model.specs.declared.builtins.Builtin.{Builtin}
 use Rattle.model.specs.declared.builtins.Builtin.TheVariants.{PrintInt, PrintLong, PutByte, Initialize, RunThread, StartThread, JoinThread}
@@ -32,7 +32,6 @@ use Rattle.join.specs.OnCells.{site_on, completion_on, on_cells, InCell, Reached
 use Rattle.join.proofs.Cells.{object_in_cell, put_on_cells, class_named}
 use Rattle.join.proofs.Naming.{renamed, ref_on_named, int_on_named, long_on_named, units_named, replaced_named}
 use Rattle.join.proofs.Completions.{frame_on_cells, moves_on_cells}
-use Rattle.join.proofs.Places.{length_named}
 
 -- starting and joining threads, and the machine's other own methods, come to the same on cells
 
@@ -72,7 +71,7 @@ module _ (h : Naming) where
     -- ---- a thread is started
 
     threads_length : length image.world.threads ≡ length s.world.threads
-    threads_length = length_named (named_thread h) s.world.threads
+    threads_length = length-map s.world.threads (named_thread h)
 
     numbered_on_cells : (b : ℕ) (o : Object) → InCell h cells s.world b → numbered image.world (h b) (named_object h o) ≡ on_cells h cells (numbered s.world b o)
     numbered_on_cells b o k =
