@@ -14,7 +14,7 @@ use Rattle.model.specs.Effects.Choice.{NewObject, NoRoom}
 use Rattle.model.specs.Completions.{Completion, asks}
 use Rattle.model.specs.Turns.{refusal, is_fault, choice_of}
 use Rattle.model.specs.Table.Next.{completion, next, asked}
-use Rattle.model.specs.Machines.{Machine, outcome_by, outcome_with, outcome_asked, outcome_if}
+use Rattle.model.specs.Machines.{Machine, outcome_by, outcome_if}
 use Rattle.model.specs.Collector.Choices.{Chooses}
 use Rattle.model.specs.Collector.Invariant.{Tidy}
 use Rattle.model.specs.Collector.Moves.{object_of}

@@ -21,10 +21,10 @@ use Rattle.join.specs.Naming.{Naming, named_ref, Named}
 use Rattle.join.specs.OnCells.{held_object, nobody, on_cells, InCell}
 use Rattle.join.specs.TurnsOnCells.{shade_cell, shade_cell_if, blacken_cell, statics_on, frames_on, word_on, mark_on, step_on, emptied, swept_on, collected_on}
 use Rattle.join.specs.Joined.{named_account, Joined}
-use Rattle.join.proofs.Completions.{frames_on_cells}
 use Rattle.join.proofs.Shading.{written, black_other, shade_on_cells, named_shade, in_cell_shade, on_shade}
 use Rattle.join.proofs.Places.{entries_on_cells, slots_on_cells, slot_on_cells, entry_on_cells, method_on_cells, words_on_cells, word_on_cells}
 use Rattle.join.proofs.Reached.{in_cell_at, kept_in_cell, reached_in_cell, root_in_cell}
+use Rattle.join.proofs.Frames.{frames_on_cells}
 
 -- a collector's step on cells is the table's step on births
 

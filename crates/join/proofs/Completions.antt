@@ -1,53 +1,31 @@
-use Rattle.std.proofs.Common.{◌≡◌, ℕ, suc, ◌-◌, List, [], ◌∷◌, length, map, set, slice_get, Option, Some, None, Result, Ok, Err, refl, sym, ◌∙◌, ap}
-use Rattle.std.specs.Option.{option_map}
-use Rattle.std.proofs.lemmas.List.{map-set, length-map}
-use Rattle.std.proofs.lemmas.Option.{slice_get-map}
+use Rattle.std.proofs.Common.{◌≡◌, ℕ, List, [], ◌∷◌, map, Result, Ok, Err, refl, sym, ◌∙◌, ap}
 use Rattle.model.specs.declared.turns.Exception.{Exception}
 use Rattle.model.specs.declared.turns.Exception.TheVariants.{Arithmetic, NullPointer, ClassCast, NegativeArraySize, ArrayStore, IllegalMonitorState, ArrayIndexOutOfBounds, IllegalThreadState, StackOverflow, ExceptionInInitializer, NoClassDefFound}
 use Rattle.model.specs.declared.turns.Abrupt.{Abrupt}
 use Rattle.model.specs.declared.turns.Abrupt.TheVariants.{Fault as Faulted, Throw}
 use Rattle.model.specs.Accounts.{Cell}
-use Rattle.model.specs.Frames.{Frame, Moved, running, with_running, replaced}
+use Rattle.model.specs.Frames.{Frame, Moved, with_running, replaced}
 use Rattle.model.specs.Values.{births_of}
 use Rattle.model.specs.declared.values.Value.{Value}
 use Rattle.model.specs.Words.{puts}
-use Rattle.model.specs.Worlds.{World, Thread, frames_of, frames_at, with_thread}
-use Rattle.model.specs.Worlds.Thread.{Live, Ended}
+use Rattle.model.specs.Worlds.{World, with_thread}
+use Rattle.model.specs.Worlds.Thread.{Live}
 use Rattle.model.specs.Completions.{Site, frames_in, with_frame, moves_in, raises, completes_abruptly, completes}
 use Rattle.model.specs.Completions.Completion.{Goes, Throws}
-use Rattle.join.specs.Naming.{Naming, named_value, named_frame, named_thread, named_moved, named_result}
+use Rattle.join.specs.Naming.{Naming, named_value, named_frame, named_moved, named_result}
 use Rattle.join.specs.OnCells.{on_cells, completion_on, site_on}
 use Rattle.join.proofs.Naming.{replaced_named, births_named}
+use Rattle.join.proofs.Frames.{running_named, frames_on_cells, thread_on_cells}
 
 -- an instruction that changes the running frame alone comes to the same on cells
 
 module _ (h : Naming) where
-  pub running_named : (fs : List Frame) (f : Frame) → with_running (map (named_frame h) fs) (named_frame h f) ≡ map (named_frame h) (with_running fs f)
-  running_named fs f = ap (λ (n : ℕ). set (map (named_frame h) fs) (n - 1) (named_frame h f)) (length-map fs (named_frame h)) ∙ sym (map-set (named_frame h) fs (length fs - 1) f)
-
-  frames_named : (o : Option Thread) → frames_of (option_map (named_thread h) o) ≡ map (named_frame h) (frames_of o)
-  frames_named None = refl
-  frames_named (Some (Live frames)) = refl
-  frames_named (Some (Ended by)) = refl
-
   module _ (cells : List Cell) where
-    pub frames_on_cells : (w : World) (t : ℕ) → frames_at (on_cells h cells w) t ≡ map (named_frame h) (frames_at w t)
-    frames_on_cells w t = ap frames_of (slice_get-map (named_thread h) w.threads t) ∙ frames_named (slice_get w.threads t)
-
-    pub running_on_cells : (w : World) (t : ℕ) → running (frames_at (on_cells h cells w) t) ≡ option_map (named_frame h) (running (frames_at w t))
-    running_on_cells w t =
-        ap running (frames_on_cells w t)
-        ∙ ap (λ (n : ℕ). slice_get (map (named_frame h) (frames_at w t)) (n - 1)) (length-map (frames_at w t) (named_frame h))
-        ∙ slice_get-map (named_frame h) (frames_at w t) (length (frames_at w t) - 1)
-
-    pub thread_on_cells : (w : World) (t : ℕ) (u : Thread) → with_thread (on_cells h cells w) t (named_thread h u) ≡ on_cells h cells (with_thread w t u)
-    thread_on_cells w t u = ap (λ ts. record (on_cells h cells w) { threads = ts }) (sym (map-set (named_thread h) w.threads t u))
-
     pub frame_on_cells : (w : World) (s : Site) (f : Frame) → with_frame (on_cells h cells w) (site_on h cells s) (named_frame h f) ≡ on_cells h cells (with_frame w s f)
     frame_on_cells w s f =
-        ap (λ fs. with_thread (on_cells h cells w) s.thread (Live (with_running fs (named_frame h f)))) (frames_on_cells s.world s.thread)
-        ∙ ap (λ fs. with_thread (on_cells h cells w) s.thread (Live fs)) (running_named (frames_in s) f)
-        ∙ thread_on_cells w s.thread (Live (with_running (frames_in s) f))
+        ap (λ fs. with_thread (on_cells h cells w) s.thread (Live (with_running fs (named_frame h f)))) (frames_on_cells h cells s.world s.thread)
+        ∙ ap (λ fs. with_thread (on_cells h cells w) s.thread (Live fs)) (running_named h (frames_in s) f)
+        ∙ thread_on_cells h cells w s.thread (Live (with_running (frames_in s) f))
 
     pub moves_on_cells : (w : World) (s : Site) (m : Moved) → moves_in (on_cells h cells w) (site_on h cells s) (named_moved h m) ≡ completion_on h cells (moves_in w s m)
     moves_on_cells w s m = ap (λ after. Goes after (map h m.writes)) (frame_on_cells w s m.frame)

@@ -3,6 +3,7 @@ pub mod Cells
 pub mod Choices
 pub mod Collecting
 pub mod Completions
+pub mod Frames
 pub mod Joining
 pub mod Lists
 pub mod Monitors

@@ -1,6 +1,6 @@
-use Rattle.std.proofs.Common.{◌≡◌, ℕ, zero, suc, List, [], ◌∷◌, ◌++◌, length, map, reverse, slice_get, Option, Some, None, refl, sym, ◌∙◌, ap}
+use Rattle.std.proofs.Common.{◌≡◌, ℕ, zero, suc, List, [], ◌∷◌, map, reverse, slice_get, Option, Some, None, refl, sym, ◌∙◌, ap}
 use Rattle.std.specs.Option.{option_map}
-use Rattle.std.proofs.lemmas.List.{map-append, reverse-append}
+use Rattle.std.proofs.lemmas.List.{map-append}
 use Rattle.std.proofs.lemmas.Option.{slice_get-map}
 use Rattle.model.specs.declared.values.Value.{Value}
 use Rattle.model.specs.declared.values.Value.TheVariants.{Int, Long, Ref}
@@ -15,8 +15,8 @@ use Rattle.model.specs.Collector.Places.Place.{Slot, FrameEntry, MethodMonitor}
 use Rattle.join.specs.Naming.{Naming, named_ref, named_value, named_entry, named_field, named_frame, named_contents}
 use Rattle.join.specs.OnCells.{on_cells, InCell}
 use Rattle.join.proofs.Cells.{object_in_cell}
-use Rattle.join.proofs.Completions.{frames_on_cells}
 use Rattle.join.proofs.Lists.{reverse-map}
+use Rattle.join.proofs.Frames.{frames_on_cells}
 
 -- what the collector sees on cells is what it sees in the ideal world, as references
 

@@ -1,9 +1,9 @@
-use Rattle.std.proofs.Common.{◌≡◌, ℕ, zero, suc, ◌<◌, List, [], ◌∷◌, length, slice_get, Some, refl, arith}
+use Rattle.std.proofs.Common.{◌≡◌, ℕ, Some}
 use Rattle.model.specs.declared.colours.Colour.{Colour}
 use Rattle.model.specs.declared.journals.HeapShape.{HeapShape}
 use Rattle.model.specs.Accounts.{Account}
 use Rattle.model.specs.Accounts.Cell.{Taken}
-use Rattle.model.specs.Worlds.{World, Object, next_birth}
+use Rattle.model.specs.Worlds.{World, next_birth}
 use Rattle.model.specs.Collector.Places.{Reach, Place, root_at}
 use Rattle.model.specs.Collector.Table.{cell_at}
 use Rattle.model.specs.Collector.Invariant.{Invariant, HasKept}

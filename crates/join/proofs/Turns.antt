@@ -1,7 +1,6 @@
 use Rattle.std.proofs.Common.{◌≡◌, ◌⊎◌, inl, inr, ℕ, suc, ◌-◌, List, [], ◌∷◌, ◌++◌, length, map, slice_get, nat_le, Bool, true, false, is_some, Option, Some, None, Result, Ok, Err, refl, sym, ◌∙◌, ap, subst}
 use Rattle.std.specs.Option.{option_map}
 use Rattle.std.proofs.lemmas.List.{map-append}
-use Rattle.std.proofs.lemmas.Option.{slice_get-map}
 use Rattle.model.specs.declared.colours.Colour.TheVariants.{Grey}
 use Rattle.model.specs.declared.journals.HeapShape.{HeapShape}
 use Rattle.model.specs.declared.turns.Abrupt.{Abrupt}
@@ -23,7 +22,7 @@ use Rattle.model.specs.Results.{Effect}
 use Rattle.model.specs.Unwinding.{thrown}
 use Rattle.model.specs.Effects.{created_with, created_on, raised}
 use Rattle.model.specs.Effects.Choice.{NewObject, NoRoom}
-use Rattle.model.specs.Completions.{Completion, asks}
+use Rattle.model.specs.Completions.{Completion}
 use Rattle.model.specs.Completions.Completion.{Goes, Prints, Creates, Throws, Raises, Denies, Faults, Waits}
 use Rattle.model.specs.Machines.{Machine}
 use Rattle.model.specs.Collector.Places.{contents_refs, Reach}
@@ -36,17 +35,17 @@ use Rattle.model.proofs.CollectorLemmas.Known.{memory_error_known, stack_error_k
 use Rattle.model.proofs.CollectorLemmas.Taking.{Takes, takes, placed_is, relisted}
 use Rattle.join.specs.OnCells.Matches.{faults, matches}
 use Rattle.join.specs.Naming.{Naming, named_frame, named_result, Named}
-use Rattle.join.specs.OnCells.{completion_on, effect_on, on_cells, InCell, Matches}
+use Rattle.join.specs.OnCells.{completion_on, on_cells, InCell, Matches}
 use Rattle.join.specs.TurnsOnCells.{shade_cells, birth_in, carried_unless, carried_on, created_with_on, created_in, created_at, raised_at, turned_on}
 use Rattle.join.specs.Joined.{named_account, Joined, Joint, Bounded}
 use Rattle.join.proofs.Naming.{if_room_named}
-use Rattle.join.proofs.Completions.{frames_on_cells, running_named, running_on_cells, thread_on_cells}
 use Rattle.join.proofs.Choices.{by_room, ideal_unless, ideal_carried, ideal_by, ideal_turned}
 use Rattle.join.proofs.Shading.{EachInCell, shades_on_cells, named_shades, on_shades}
 use Rattle.join.proofs.Reached.{reached_in_cell}
 use Rattle.join.proofs.Unwinding.{thrown_on_cells}
 use Rattle.join.proofs.Agreeing.{frame_agrees}
 use Rattle.join.proofs.NewBirths.{naming_with, cells_with, old_name, new_name, named_with, frame_may, new_on_cells, in_cell_with, in_cell_new, refs_with, born_before}
+use Rattle.join.proofs.Frames.{running_named, frames_on_cells, running_on_cells, thread_on_cells}
 
 -- a thread's turn on cells is the ideal turn
 

@@ -1,4 +1,4 @@
-use Rattle.std.proofs.Common.{◌≡◌, ℕ, suc, List, [], ◌∷◌, ◌++◌, map, filter, reverse, nat_le, slice_get, Bool, true, false, not, ◌&&◌, if◌then◌else◌, Option, Some, None, refl, sym, ◌∙◌, ap}
+use Rattle.std.proofs.Common.{◌≡◌, ℕ, suc, List, [], ◌∷◌, ◌++◌, map, filter, reverse, nat_le, slice_get, Bool, true, false, not, ◌&&◌, if◌then◌else◌, Some, refl, sym, ◌∙◌, ap}
 use Rattle.std.proofs.lemmas.List.{map-append, reverse-append}
 use Rattle.model.specs.declared.turns.Fault.TheVariants.{StackFull}
 use Rattle.model.specs.declared.turns.ClassState.TheVariants.{Failed}
@@ -20,9 +20,9 @@ use Rattle.join.specs.Naming.{Naming, Named, named_ref, named_frame, named_landi
 use Rattle.join.specs.OnCells.{on_cells, InCell, Matches}
 use Rattle.join.specs.OnCells.Matches.{faults, matches}
 use Rattle.join.proofs.Cells.{class_in_cell}
-use Rattle.join.proofs.Completions.{frames_on_cells, thread_on_cells}
 use Rattle.join.proofs.Monitors.{MonitorInCell, MonitorsInCells, all_released, released_fault}
 use Rattle.join.proofs.Lists.{reverse-map}
+use Rattle.join.proofs.Frames.{frames_on_cells, thread_on_cells}
 
 -- a throwable does the same on cells
 

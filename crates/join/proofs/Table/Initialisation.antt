@@ -1,5 +1,5 @@
-use Rattle.std.proofs.Common.{◌≡◌, ℕ, ◌==◌, List, [], ◌∷◌, ◌++◌, length, map, nat_le, ◌&&◌, Bool, true, false, if◌then◌else◌, Option, Some, None, refl, sym, ◌∙◌, ap}
-use Rattle.std.proofs.lemmas.List.{map-append, length-map}
+use Rattle.std.proofs.Common.{◌≡◌, ℕ, ◌==◌, List, [], ◌∷◌, ◌++◌, map, Bool, true, false, if◌then◌else◌, Option, Some, None, refl, sym, ◌∙◌, ap}
+use Rattle.std.proofs.lemmas.List.{map-append}
 use Rattle.model.specs.declared.turns.ClassState.{ClassState}
 use Rattle.model.specs.declared.turns.ClassState.TheVariants.{Unused, Running, Done, Failed}
 use Rattle.model.specs.declared.turns.Exception.TheVariants.{StackOverflow}
@@ -8,18 +8,17 @@ use Rattle.model.specs.ClassListings.{ClassListing}
 use Rattle.model.specs.CodeListings.{CodeListing}
 use Rattle.model.specs.Programs.{code_at}
 use Rattle.model.specs.Accounts.{Cell}
-use Rattle.model.specs.Frames.{Frame, opening_frame, units_of_frames, within_limits}
+use Rattle.model.specs.Frames.{Frame, opening_frame, within_limits}
 use Rattle.model.specs.Worlds.{with_thread, with_class_states}
 use Rattle.model.specs.Worlds.Thread.{Live}
 use Rattle.model.specs.Initialisation.{chain_of, with_states, framed, started_at, initializer_place, initializer_frames, waiting, callers_waiting}
 use Rattle.model.specs.Completions.{Completion, Site, frames_in, raises}
 use Rattle.model.specs.Completions.Completion.{Goes, Waits}
 use Rattle.model.specs.Table.Initialisation.{states_in, claims_with, claims, initialises, after_initialising}
-use Rattle.join.specs.Naming.{Naming, named_entry, named_frame}
-use Rattle.join.specs.OnCells.{on_cells, site_on, completion_on}
-use Rattle.join.proofs.Completions.{frames_on_cells, thread_on_cells, raises_on_cells}
-use Rattle.join.proofs.Table.Threads.{unset_named}
-use Rattle.join.proofs.Table.Invokes.{units_named}
+use Rattle.join.specs.Naming.{Naming, named_frame}
+use Rattle.join.specs.OnCells.{site_on, completion_on}
+use Rattle.join.proofs.Completions.{raises_on_cells}
+use Rattle.join.proofs.Frames.{unset_named, limits_named, frames_on_cells, thread_on_cells}
 
 -- what comes before an instruction that uses a class comes to the same on cells: initializers' frames hold no births
 
@@ -40,11 +39,6 @@ module _ (h : Naming) where
   waiting_named [] = refl
   waiting_named (f ∷ []) = refl
   waiting_named (f ∷ g ∷ fs) = ap (λ gs. waiting (named_frame h f) ∷ gs) (waiting_named (g ∷ fs))
-
-  limits_named : (fs : List Frame) → within_limits (map (named_frame h) fs) ≡ within_limits fs
-  limits_named fs =
-      ap (λ (n : ℕ). nat_le n 256 && nat_le (units_of_frames (map (named_frame h) fs)) 4096) (length-map fs (named_frame h))
-      ∙ ap (λ (n : ℕ). nat_le (length fs) 256 && nat_le n 4096) (units_named h fs)
 
   module _ (cells : List Cell) (s : Site) (stack_error : h 2 ≡ 2) where
     abbrev image : Site
@@ -69,7 +63,7 @@ module _ (h : Naming) where
 
     claims_with_on_cells : (classes : List ℕ) (frames : List Frame) → claims_with image classes (map (named_frame h) frames) ≡ image_of (claims_with s classes frames)
     claims_with_on_cells classes frames =
-        ap (λ (within : Bool). if within then Goes (with_class_states (with_thread image.world s.thread (Live (map (named_frame h) frames))) (with_states (Running s.thread) classes (states_in s))) [] else raises StackOverflow) (limits_named frames)
+        ap (λ (within : Bool). if within then Goes (with_class_states (with_thread image.world s.thread (Live (map (named_frame h) frames))) (with_states (Running s.thread) classes (states_in s))) [] else raises StackOverflow) (limits_named h frames)
         ∙ claims_if (within_limits frames) classes frames
 
     claims_on_cells : (classes : List ℕ) (x y : Completion) → x ≡ image_of y → claims image classes x ≡ image_of (claims s classes y)

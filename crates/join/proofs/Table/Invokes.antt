@@ -1,11 +1,9 @@
-use Rattle.std.proofs.Common.{◌≡◌, ℕ, zero, suc, ◌+◌, ◌-◌, List, [], ◌∷◌, ◌++◌, length, map, take, drop, reverse, Bool, true, false, ◌&&◌, nat_le, nat_lt, not, if◌then◌else◌, Option, Some, None, Result, Ok, Err, refl, sym, ◌∙◌, ap}
-use Rattle.std.specs.List.{slice_index_or}
+use Rattle.std.proofs.Common.{◌≡◌, ℕ, ◌+◌, List, [], ◌∷◌, ◌++◌, map, drop, reverse, Bool, true, false, not, if◌then◌else◌, Option, Some, None, Result, Ok, Err, refl, sym, ◌∙◌, ap}
 use Rattle.std.specs.Option.{option_len, option_map_or, option_or, option_to_list}
 use Rattle.std.specs.Result.{result_err}
-use Rattle.std.proofs.lemmas.List.{map-append, drop-map, reverse-append, length-map, take-map}
+use Rattle.std.proofs.lemmas.List.{map-append, drop-map}
 use Rattle.model.specs.declared.names.Member.{Member}
 use Rattle.model.specs.declared.listings.Method.{Method}
-use Rattle.model.specs.declared.places.MethodPlace.{MethodPlace}
 use Rattle.model.specs.declared.values.Kind.{Kind}
 use Rattle.model.specs.declared.values.Value.{Value}
 use Rattle.model.specs.declared.turns.Fault.{Fault}
@@ -23,8 +21,8 @@ use Rattle.model.specs.Callees.{CodedMethod, Callee, callee_of}
 use Rattle.model.specs.Callees.Callee.{Own, Coded, NoCode}
 use Rattle.model.specs.Accounts.{Cell}
 use Rattle.model.specs.Values.{births_of}
-use Rattle.model.specs.Frames.{Frame, ref_on, running, running_frame, no_frame, with_running, units_of_frames, has_room_for}
-use Rattle.model.specs.Locals.{value_on, arguments_on, called_frame, frames_of_call}
+use Rattle.model.specs.Frames.{Frame, ref_on, running, running_frame, with_running, has_room_for}
+use Rattle.model.specs.Locals.{value_on, arguments_on, frames_of_call}
 use Rattle.model.specs.Worlds.{Monitor, free_monitor, with_thread}
 use Rattle.model.specs.Worlds.Thread.{Live}
 use Rattle.model.specs.Objects.{class_at}
@@ -39,18 +37,15 @@ use Rattle.join.specs.Naming.{Naming, named_ref, named_value, named_frame}
 use Rattle.join.specs.OnCells.{site_on, completion_on, on_cells, InCell, ReachedInCells}
 use Rattle.join.proofs.Cells.{class_in_cell}
 use Rattle.join.proofs.Naming.{renamed, ref_on_named, value_on_named, births_named}
-use Rattle.join.proofs.Completions.{frames_on_cells, running_named, thread_on_cells, raises_on_cells}
+use Rattle.join.proofs.Completions.{raises_on_cells}
 use Rattle.join.proofs.Monitors.{monitor_of_on_cells, with_monitor_on_cells}
-use Rattle.join.proofs.Table.Threads.{called_named, builtin_on_cells}
-use Rattle.join.proofs.Lists.{reverse-map}
+use Rattle.join.proofs.Table.Threads.{builtin_on_cells}
+use Rattle.join.proofs.Frames.{running_named, arguments_on_named, run_named, call_named, room_named, frames_on_cells, thread_on_cells}
 
 -- calls come to the same on cells
 
 module _ (h : Naming) where
   -- ---- arguments
-
-  arguments_named : (n : ℕ) (stack : List Value) → arguments_on n (map (named_value h) stack) ≡ map (named_value h) (arguments_on n stack)
-  arguments_named n stack = ap reverse (take-map (named_value h) n stack) ∙ reverse-map (named_value h) (take n stack)
 
   fault_named : (r : Result Value Fault) → result_err (renamed h (named_value h) r) ≡ result_err r
   fault_named (Err fault) = refl
@@ -64,39 +59,10 @@ module _ (h : Naming) where
 
   -- ---- frames
 
-  frame_at_named : (fs : List Frame) (k : ℕ) → slice_index_or (map (named_frame h) fs) k no_frame ≡ named_frame h (slice_index_or fs k no_frame)
-  frame_at_named [] k = refl
-  frame_at_named (f ∷ fs) zero = refl
-  frame_at_named (f ∷ fs) (suc k) = frame_at_named fs k
-
-  run_named : (fs : List Frame) → running_frame (map (named_frame h) fs) ≡ named_frame h (running_frame fs)
-  run_named fs = ap (λ (n : ℕ). slice_index_or (map (named_frame h) fs) (n - 1) no_frame) (length-map fs (named_frame h)) ∙ frame_at_named fs (length fs - 1)
-
-  abbrev dropped : ℕ → Frame → Frame
-  dropped n f = record f { stack = drop n f.stack }
-
-  call_named : (fs : List Frame) (method : MethodPlace) (max_locals max_stack n : ℕ) → frames_of_call (map (named_frame h) fs) method max_locals max_stack n ≡ map (named_frame h) (frames_of_call fs method max_locals max_stack n)
-  call_named fs method max_locals max_stack n =
-      let f = running_frame fs in
-      ap (λ g. with_running (map (named_frame h) fs) (dropped n g) ++ called_frame method max_locals max_stack (arguments_on n g.stack) ∷ []) (run_named fs)
-      ∙ ap (λ vs. with_running (map (named_frame h) fs) (record (named_frame h f) { stack = vs }) ++ called_frame method max_locals max_stack (arguments_on n (map (named_value h) f.stack)) ∷ []) (drop-map (named_value h) n f.stack)
-      ∙ ap (λ gs. gs ++ called_frame method max_locals max_stack (arguments_on n (map (named_value h) f.stack)) ∷ []) (running_named h fs (dropped n f))
-      ∙ ap (λ g. map (named_frame h) (with_running fs (dropped n f)) ++ g ∷ []) (ap (called_frame method max_locals max_stack) (arguments_named n f.stack) ∙ called_named h method max_locals max_stack (arguments_on n f.stack))
-      ∙ sym (map-append (named_frame h) (with_running fs (dropped n f)) (called_frame method max_locals max_stack (arguments_on n f.stack) ∷ []))
-
   guarded_named : (monitor : Option ℕ) (fs : List Frame) → guarded (named_ref h monitor) (map (named_frame h) fs) ≡ map (named_frame h) (guarded monitor fs)
   guarded_named monitor fs =
-      ap (λ g. with_running (map (named_frame h) fs) (record g { monitor = named_ref h monitor })) (run_named fs)
+      ap (λ g. with_running (map (named_frame h) fs) (record g { monitor = named_ref h monitor })) (run_named h fs)
       ∙ running_named h fs (record (running_frame fs) { monitor = monitor })
-
-  pub units_named : (fs : List Frame) → units_of_frames (map (named_frame h) fs) ≡ units_of_frames fs
-  units_named [] = refl
-  units_named (f ∷ fs) = ap (λ (n : ℕ). n + f.room + units_of_frames (map (named_frame h) fs)) (length-map f.locals _) ∙ ap (λ (n : ℕ). length f.locals + f.room + n) (units_named fs)
-
-  room_named : (fs : List Frame) (max_locals max_stack : ℕ) → has_room_for (map (named_frame h) fs) max_locals max_stack ≡ has_room_for fs max_locals max_stack
-  room_named fs max_locals max_stack =
-      ap (λ (n : ℕ). nat_lt n 256 && nat_le (units_of_frames (map (named_frame h) fs) + max_locals + max_stack) 4096) (length-map fs (named_frame h))
-      ∙ ap (λ (n : ℕ). nat_lt (length fs) 256 && nat_le (n + max_locals + max_stack) 4096) (units_named fs)
 
   listed_named : (o : Option ℕ) → option_to_list (named_ref h o) ≡ map h (option_to_list o)
   listed_named None = refl
@@ -152,12 +118,12 @@ module _ (h : Naming) where
     frames_same : (c : CodedMethod) (n : ℕ) (o : Option ℕ) → guarded (named_ref h o) (frames_of_call (frames_in image) c.place c.code.max_locals c.code.max_stack n) ≡ map (named_frame h) (guarded o (frames_of_call (frames_in s) c.place c.code.max_locals c.code.max_stack n))
     frames_same c n o =
         ap (λ fs. guarded (named_ref h o) (frames_of_call fs c.place c.code.max_locals c.code.max_stack n)) (frames_on_cells h cells s.world s.thread)
-        ∙ ap (guarded (named_ref h o)) (call_named (frames_in s) c.place c.code.max_locals c.code.max_stack n)
+        ∙ ap (guarded (named_ref h o)) (call_named h (frames_in s) c.place c.code.max_locals c.code.max_stack n)
         ∙ guarded_named o (frames_of_call (frames_in s) c.place c.code.max_locals c.code.max_stack n)
 
     writes_same : (n : ℕ) (o : Option ℕ) → births_of (arguments_on n image.frame.stack) ++ option_to_list (named_ref h o) ≡ map h (births_of (arguments_on n s.frame.stack) ++ option_to_list o)
     writes_same n o =
-        ap (λ bs. bs ++ option_to_list (named_ref h o)) (ap births_of (arguments_named n s.frame.stack) ∙ births_named h (arguments_on n s.frame.stack))
+        ap (λ bs. bs ++ option_to_list (named_ref h o)) (ap births_of (arguments_on_named h n s.frame.stack) ∙ births_named h (arguments_on n s.frame.stack))
         ∙ ap (λ bs. map h (births_of (arguments_on n s.frame.stack)) ++ bs) (listed_named o)
         ∙ sym (map-append h (births_of (arguments_on n s.frame.stack)) (option_to_list o))
 
@@ -193,7 +159,7 @@ module _ (h : Naming) where
         ∙ monitor_same (method_monitor (call m o) c) (monitor_reached (is_synchronized c.method) o k) in
         let room : has_room_for (frames_in image) c.code.max_locals c.code.max_stack ≡ has_room_for (frames_in s) c.code.max_locals c.code.max_stack =
         ap (λ fs. has_room_for fs c.code.max_locals c.code.max_stack) (frames_on_cells h cells s.world s.thread)
-        ∙ room_named (frames_in s) c.code.max_locals c.code.max_stack in
+        ∙ room_named h (frames_in s) c.code.max_locals c.code.max_stack in
         ap (λ (x : Monitor). if not (may_enter s.thread x.owner) then Waits else if not (has_room_for (frames_in image) c.code.max_locals c.code.max_stack) then raises StackOverflow else if is_full x then Faults MonitorLimit else enters_frame (call_image m o) c) monitor
         ∙ ap (λ (is : Bool). if not (may_enter s.thread (monitor_for (call m o) c).owner) then Waits else if not is then raises StackOverflow else if is_full (monitor_for (call m o) c) then Faults MonitorLimit else enters_frame (call_image m o) c) room
         ∙ by_tests (enters_frame (call_image m o) c) (enters_frame (call m o) c) (may_enter s.thread (monitor_for (call m o) c).owner) (has_room_for (frames_in s) c.code.max_locals c.code.max_stack) (is_full (monitor_for (call m o) c)) (enters_frame_on_cells m o c k)

@@ -1,18 +1,18 @@
-use Rattle.std.proofs.Common.{◌≡◌, ℕ, List, [], Bool, true, false, if◌then◌else◌, Option, Some, None, Result, Ok, Err, refl, sym, ◌∙◌, ap}
+use Rattle.std.proofs.Common.{◌≡◌, ℕ, List, [], Bool, true, false, if◌then◌else◌, Option, Some, None, Result, Ok, Err, refl, ◌∙◌, ap}
 use Rattle.model.specs.declared.turns.Fault.{Fault}
 use Rattle.model.specs.declared.turns.Exception.TheVariants.{IllegalMonitorState}
 use Rattle.model.specs.declared.instructions.MonitorOperation.{MonitorOperation}
 use Rattle.model.specs.declared.instructions.MonitorOperation.TheVariants.{Enter, Exit}
 use Rattle.model.specs.Accounts.{Cell}
 use Rattle.model.specs.Frames.{ref_on, running, replaced}
-use Rattle.model.specs.Worlds.{World, Monitor}
+use Rattle.model.specs.Worlds.{World}
 use Rattle.model.specs.Monitors.{is_owner, entered, exited, monitor_of, with_monitor_of}
 use Rattle.model.specs.Completions.{Completion, Site, frames_in, moves_in, raises}
 use Rattle.model.specs.Table.Monitors.{moved_with, enter_if, enters, exits, operates, operates_on, monitor_operated}
 use Rattle.model.specs.Collector.Places.{Reach}
 use Rattle.model.proofs.CollectorLemmas.Known.{stack_known}
 use Rattle.model.proofs.CollectorLemmas.Words.{ref_on-known}
-use Rattle.join.specs.Naming.{Naming, named_ref, Named}
+use Rattle.join.specs.Naming.{Naming, named_ref}
 use Rattle.join.specs.OnCells.{site_on, completion_on, on_cells, InCell, ReachedInCells}
 use Rattle.join.proofs.Monitors.{monitor_of_on_cells, with_monitor_on_cells}
 use Rattle.join.proofs.Naming.{renamed, ref_on_named, replaced_named}

@@ -21,8 +21,7 @@ use Rattle.model.proofs.CollectorLemmas.Known.{stack_known}
 use Rattle.join.specs.Naming.{Naming, named_frame}
 use Rattle.join.specs.OnCells.{site_on, completion_on, on_cells, ReachedInCells}
 use Rattle.join.proofs.Naming.{replaced_named}
-use Rattle.join.proofs.Completions.{completes_on_cells, running_on_cells}
-use Rattle.join.proofs.Table.Plain.{constant_named, number_named, table_named, lookup_named, local_named}
+use Rattle.join.proofs.Completions.{completes_on_cells}
 use Rattle.join.proofs.Table.Stacks.{rearranged_named}
 use Rattle.join.proofs.Table.Branches.{branched_on_cells}
 use Rattle.join.proofs.Table.Initialisation.{after_initialising_on_cells}
@@ -33,6 +32,11 @@ use Rattle.join.proofs.Table.Arrays.{array_on_cells}
 use Rattle.join.proofs.Table.Objects.{class_operated_on_cells, threw_on_cells}
 use Rattle.join.proofs.Table.Invokes.{invoked_on_cells}
 use Rattle.join.proofs.Table.Monitors.{monitor_operated_on_cells}
+use Rattle.join.proofs.Frames.{running_on_cells}
+use Rattle.join.proofs.Table.Numbers.{number_named}
+use Rattle.join.proofs.Table.Switches.{table_named, lookup_named}
+use Rattle.join.proofs.Table.Constants.{constant_named}
+use Rattle.join.proofs.Table.Locals.{local_named}
 
 -- the whole table comes to the same on cells
 

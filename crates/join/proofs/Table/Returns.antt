@@ -1,7 +1,5 @@
-use Rattle.std.proofs.Common.{◌≡◌, ℕ, zero, suc, ◌-◌, List, [], ◌∷◌, length, map, take, slice_get, Bool, true, false, Option, Some, None, Result, Ok, Err, refl, ◌∙◌, ap}
+use Rattle.std.proofs.Common.{◌≡◌, ℕ, ◌-◌, List, [], ◌∷◌, length, map, Bool, true, false, Option, Some, None, Result, Ok, Err, refl, ◌∙◌, ap}
 use Rattle.std.specs.Option.{option_map}
-use Rattle.std.proofs.lemmas.Option.{slice_get-map}
-use Rattle.std.proofs.lemmas.List.{length-map, take-map}
 use Rattle.model.specs.declared.values.Kind.{Kind}
 use Rattle.model.specs.declared.values.Value.{Value}
 use Rattle.model.specs.declared.listings.Placed.{Placed}
@@ -22,18 +20,13 @@ use Rattle.model.proofs.CollectorLemmas.Known.{monitor_known}
 use Rattle.join.specs.Naming.{Naming, named_value, named_frame, named_result}
 use Rattle.join.specs.OnCells.{site_on, completion_on, on_cells, ReachedInCells}
 use Rattle.join.proofs.Naming.{renamed, value_on_named, replaced_named, if_room_named}
-use Rattle.join.proofs.Completions.{running_named, frames_on_cells, thread_on_cells, abruptly_on_cells}
+use Rattle.join.proofs.Completions.{abruptly_on_cells}
 use Rattle.join.proofs.Monitors.{released_on_cells}
+use Rattle.join.proofs.Frames.{running_named, callers_named, top_running, frames_on_cells, thread_on_cells}
 
 -- returns come to the same on cells
 
 module _ (h : Naming) where
-  callers_named : (fs : List Frame) → callers (map (named_frame h) fs) ≡ map (named_frame h) (callers fs)
-  callers_named fs = ap (λ (n : ℕ). take (n - 1) (map (named_frame h) fs)) (length-map fs (named_frame h)) ∙ take-map (named_frame h) (length fs - 1) fs
-
-  top_named : (fs : List Frame) → running (map (named_frame h) fs) ≡ option_map (named_frame h) (running fs)
-  top_named fs = ap (λ (n : ℕ). slice_get (map (named_frame h) fs) (n - 1)) (length-map fs (named_frame h)) ∙ slice_get-map (named_frame h) fs (length fs - 1)
-
   past_named : (f : Frame) (result : Option Value) (invoke : Option Placed) → past_invoke (named_frame h f) (option_map (named_value h) result) invoke ≡ named_result h (past_invoke f result invoke)
   past_named f None None = refl
   past_named f (Some v) None = refl
@@ -55,7 +48,7 @@ module _ (h : Naming) where
         initialised_on_cells w class false = refl
 
     callers_on_cells : callers (frames_in image) ≡ map (named_frame h) (callers (frames_in s))
-    callers_on_cells = ap callers (frames_on_cells h cells s.world s.thread) ∙ callers_named (frames_in s)
+    callers_on_cells = ap callers (frames_on_cells h cells s.world s.thread) ∙ callers_named h (frames_in s)
 
     resumes_on_cells : (r : Result Moved Abrupt) → resumes image (named_result h r) ≡ completion_on h cells (resumes s r)
     resumes_on_cells (Err abrupt) = abruptly_on_cells h cells u.stack_error abrupt
@@ -75,7 +68,7 @@ module _ (h : Naming) where
         ap (resumes image) (resumed_named f result runs) ∙ resumes_on_cells (resumed s f result runs)
 
     with_on_cells : (result : Option Value) → leaves_with image (option_map (named_value h) result) ≡ completion_on h cells (leaves_with s result)
-    with_on_cells result = ap (leaves_to image (option_map (named_value h) result)) (ap running callers_on_cells ∙ top_named (callers (frames_in s))) ∙ leaves_on_cells result (running (callers (frames_in s)))
+    with_on_cells result = ap (leaves_to image (option_map (named_value h) result)) (ap running callers_on_cells ∙ top_running h (callers (frames_in s))) ∙ leaves_on_cells result (running (callers (frames_in s)))
 
     if_on_cells : (r : Result Value Fault) → leaves_if image (renamed h (named_value h) r) ≡ completion_on h cells (leaves_if s r)
     if_on_cells (Err fault) = refl

@@ -1,21 +1,17 @@
-use Rattle.std.proofs.Common.{◌≡◌, ℕ, ◌-◌, ℤ, List, [], ◌∷◌, length, map, replicate, zero, suc, slice_get, nat_le, codes, is_some, Bool, true, false, if◌then◌else◌, Option, Some, None, Result, Ok, Err, refl, sym, ◌∙◌, ap}
+use Rattle.std.proofs.Common.{◌≡◌, ℕ, ℤ, List, [], ◌∷◌, length, map, slice_get, nat_le, codes, is_some, Bool, true, false, if◌then◌else◌, Option, Some, None, Result, Ok, Err, refl, sym, ◌∙◌, ap}
 use Rattle.std.specs.Option.{option_map}
 use Rattle.std.proofs.lemmas.List.{map-append, length-map}
 use Rattle.std.proofs.lemmas.Option.{slice_get-map}
 use Rattle.model.specs.declared.builtins.Builtin.{Builtin}
 use Rattle.model.specs.declared.builtins.Builtin.TheVariants.{PrintInt, PrintLong, PutByte, Initialize, RunThread, StartThread, JoinThread}
-use Rattle.model.specs.declared.places.MethodPlace.{MethodPlace}
 use Rattle.model.specs.declared.turns.Fault.{Fault}
-use Rattle.model.specs.declared.values.Value.{Value}
-use Rattle.model.specs.declared.values.Value.TheVariants.{Int, Long, Ref}
-use Rattle.model.specs.declared.values.Entry.TheVariants.{Unset, Holds, UpperHalf}
+use Rattle.model.specs.declared.values.Value.TheVariants.{Ref}
 use Rattle.model.specs.Accounts.{Cell}
 use Rattle.model.specs.Callees.{Callee, callee_of}
 use Rattle.model.specs.Callees.Callee.{Own, Coded, NoCode}
 use Rattle.model.specs.Classes.Selection.{selected}
-use Rattle.model.specs.Values.{units_of_all}
 use Rattle.model.specs.Frames.{running, replaced}
-use Rattle.model.specs.Locals.{argument_entries, called_frame}
+use Rattle.model.specs.Locals.{called_frame}
 use Rattle.model.specs.Printing.{decimal_line, low_byte}
 use Rattle.model.specs.Worlds.{World, Thread, Object, lives}
 use Rattle.model.specs.Worlds.Thread.{Live, Ended}
@@ -27,29 +23,16 @@ use Rattle.model.specs.Table.Builtins.{prints_on, does_nothing, builtin_call}
 use Rattle.model.specs.Collector.Places.{Reach}
 use Rattle.model.proofs.CollectorLemmas.Known.{stack_known}
 use Rattle.model.proofs.CollectorLemmas.Words.{ref_on-known}
-use Rattle.join.specs.Naming.{Naming, named_ref, named_value, named_entry, named_frame, named_thread, named_contents, named_object}
+use Rattle.join.specs.Naming.{Naming, named_ref, named_thread, named_contents, named_object}
 use Rattle.join.specs.OnCells.{site_on, completion_on, on_cells, InCell, ReachedInCells}
 use Rattle.join.proofs.Cells.{object_in_cell, put_on_cells, class_named}
-use Rattle.join.proofs.Naming.{renamed, ref_on_named, int_on_named, long_on_named, units_named, replaced_named}
+use Rattle.join.proofs.Naming.{renamed, ref_on_named, int_on_named, long_on_named, replaced_named}
 use Rattle.join.proofs.Completions.{frame_on_cells, moves_on_cells}
+use Rattle.join.proofs.Frames.{called_named}
 
 -- starting and joining threads, and the machine's other own methods, come to the same on cells
 
 module _ (h : Naming) where
-  pub unset_named : (n : ℕ) → map (named_entry h) (replicate n Unset) ≡ replicate n Unset
-  unset_named zero = refl
-  unset_named (suc n) = ap (λ es. Unset ∷ es) (unset_named n)
-
-  arguments_named : (vs : List Value) → argument_entries (map (named_value h) vs) ≡ map (named_entry h) (argument_entries vs)
-  arguments_named [] = refl
-  arguments_named (Int z ∷ vs) = ap (λ es. Holds (Int z) ∷ es) (arguments_named vs)
-  arguments_named (Long z ∷ vs) = ap (λ es. Holds (Long z) ∷ UpperHalf ∷ es) (arguments_named vs)
-  arguments_named (Ref r ∷ vs) = ap (λ es. Holds (Ref (named_ref h r)) ∷ es) (arguments_named vs)
-
-  pub called_named : (method : MethodPlace) (max_locals max_stack : ℕ) (vs : List Value) → called_frame method max_locals max_stack (map (named_value h) vs) ≡ named_frame h (called_frame method max_locals max_stack vs)
-  called_named method max_locals max_stack vs =
-      rw (arguments_named vs, units_named h vs, map-append (named_entry h) (argument_entries vs) (replicate (max_locals - units_of_all vs) Unset), unset_named (max_locals - units_of_all vs)) refl
-
   module _ (cells : List Cell) (s : Site) (u : ReachedInCells h cells s.world) where
     abbrev image : Site
     image = site_on h cells s
@@ -93,7 +76,7 @@ module _ (h : Naming) where
     begins_on_cells b o NoCode k = refl
     begins_on_cells b o (Own builtin) k = added_on_cells b o (Ended None) [] k
     begins_on_cells b o (Coded m) k =
-        ap (λ f. thread_added image (h b) (named_object h o) (Live (f ∷ [])) (h b ∷ [])) (called_named m.place m.code.max_locals m.code.max_stack (Ref (Some b) ∷ []))
+        ap (λ f. thread_added image (h b) (named_object h o) (Live (f ∷ [])) (h b ∷ [])) (called_named h m.place m.code.max_locals m.code.max_stack (Ref (Some b) ∷ []))
         ∙ added_on_cells b o (Live (called_frame m.place m.code.max_locals m.code.max_stack (Ref (Some b) ∷ []) ∷ [])) (b ∷ []) k
 
     start_on_cells : (x y : Completion) (was full : Bool) → x ≡ image_of y → start_if x was full ≡ image_of (start_if y was full)
