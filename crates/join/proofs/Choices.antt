@@ -21,7 +21,6 @@ use Rattle.model.specs.Collector.Moves.{object_of}
 use Rattle.model.specs.Collector.Runs.{moved_by}
 use Rattle.model.proofs.CollectorLemmas.FindingRoom.{chooses_by_room}
 use Rattle.model.proofs.CollectorLemmas.Rooms.{room_is_listed}
-use Rattle.join.specs.TurnsOnCells.{counted_on}
 
 -- a thread's turn in the ideal machine, told by what its instruction comes to and without outcomes: as on cells, what was
 -- written is shaded, and a fault leaves the account
@@ -29,6 +28,9 @@ use Rattle.join.specs.TurnsOnCells.{counted_on}
 abbrev pub by_room : Bool → Choice
 by_room true = NewObject
 by_room false = NoRoom
+
+abbrev pub counted_in : Machine → Machine
+counted_in m = record { world = counted m.world; account = m.account }
 
 -- the choice of a turn that asks for so many words, or for none
 abbrev pub chosen : Account → Option ℕ → Choice
@@ -65,14 +67,14 @@ module _ (program : List ClassListing) (shape : HeapShape) (limits : Limits) (m 
   moved_is e = rw (e, e) refl
 
   abbrev carried : Choice → Machine
-  carried choice = counted_on (ideal_carried m.account (next_birth m.world) (object_of choice (asked program m.world t)) (effect choice))
+  carried choice = counted_in (ideal_carried m.account (next_birth m.world) (object_of choice (asked program m.world t)) (effect choice))
 
   -- the account, and with it the whole, where the world is that of the choice
   module _ (choice : Choice) (outcome : Outcome) (is : choice_of program m.world t outcome ≡ choice) where
     abbrev AccountIs : Option ℕ → Type 0
     AccountIs words = (writes : List ℕ) → after_turn m.account outcome (next_birth m.world) words writes ≡ shade_all (new_object m.account (next_birth m.world) (object_of choice words)) writes
 
-    by_fault : AccountIs (asked program m.world t) → (o : Option (Fault × ℕ)) → (effect choice).after.fault ≡ o → (turned (outcome_by (is_fault (effect choice).after) outcome)).world ≡ counted (effect choice).after → turned (outcome_by (is_fault (effect choice).after) outcome) ≡ counted_on (ideal_unless m.account (next_birth m.world) (object_of choice (asked program m.world t)) (effect choice) o)
+    by_fault : AccountIs (asked program m.world t) → (o : Option (Fault × ℕ)) → (effect choice).after.fault ≡ o → (turned (outcome_by (is_fault (effect choice).after) outcome)).world ≡ counted (effect choice).after → turned (outcome_by (is_fault (effect choice).after) outcome) ≡ counted_in (ideal_unless m.account (next_birth m.world) (object_of choice (asked program m.world t)) (effect choice) o)
     unfolding after_turn
     by_fault done None e k =
         ap (λ (b : Bool). turned (outcome_by b outcome)) (ap is_some e)
@@ -126,6 +128,6 @@ module _ (program : List ClassListing) (shape : HeapShape) (limits : Limits) (m 
     account_is None s = by_world NewObject Done refl (rw s (λ writes. refl)) (rw s refl) (moved_is e) (world_is None s)
     account_is (Some words) s = account_if words (has_room m.account words) refl s (world_is (Some words) s)
 
-    pub turn_is : moved_by program shape limits m (Thread t) ≡ counted_on (ideal_turned program m t (completion program m.world t))
+    pub turn_is : moved_by program shape limits m (Thread t) ≡ counted_in (ideal_turned program m t (completion program m.world t))
     unfolding ideal_turned next
     turn_is = account_is (asked program m.world t) refl

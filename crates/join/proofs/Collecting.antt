@@ -19,7 +19,7 @@ use Rattle.model.proofs.CollectorLemmas.Cells.{kept-grey}
 use Rattle.model.proofs.CollectorLemmas.Known.{memory_error_known, stack_error_known}
 use Rattle.join.specs.Naming.{Naming, named_ref, Named}
 use Rattle.join.specs.OnCells.{held_object, nobody, on_cells, InCell}
-use Rattle.join.specs.TurnsOnCells.{shade_cell, shade_cell_if, blacken_cell, statics_on, frames_on, word_on, mark_on, step_on, emptied, swept_on, collected_on}
+use Rattle.join.specs.TurnsOnCells.{CellMachine, shade_cell, shade_cell_if, blacken_cell, statics_on, frames_on, word_on, mark_on, step_on, emptied, swept_on, collected_on}
 use Rattle.join.specs.Joined.{named_account, Joined}
 use Rattle.join.proofs.Shading.{written, black_other, shade_on_cells, named_shade, in_cell_shade, on_shade}
 use Rattle.join.proofs.Places.{entries_on_cells, slots_on_cells, slot_on_cells, entry_on_cells, method_on_cells, words_on_cells, word_on_cells}
@@ -174,11 +174,12 @@ module _ (h : Naming) (w : World) where
 
 -- ---- the whole
 
-pub collected_on_cells : (h : Naming) (shape : HeapShape) (on m : Machine) → Invariant shape m.world (next_birth m.world) m.account → Joined h on m → Joined h (collected_on shape on) (record { world = m.world; account = collected shape m.world m.account })
+pub collected_on_cells : (h : Naming) (shape : HeapShape) (on : CellMachine) (m : Machine) → Invariant shape m.world (next_birth m.world) m.account → Joined h on m → Joined h (collected_on shape on) (record { world = m.world; account = collected shape m.world m.account })
 unfolding collected collected_on
 collected_on_cells h shape on m i j = record {
   world = rw (j.world, j.account) (world_on_cells h m.world shape m.account m.account.phase);
   account = rw (j.world, j.account) (step_on_cells h shape m.world m.account j.named i j.memory_error j.stack_error m.account.phase);
+  births = j.births;
   named = λ c b x e. (let k = collected_held shape m.world m.account c b x e in j.named c b k.0 k.1);
   memory_error = j.memory_error;
   stack_error = j.stack_error;

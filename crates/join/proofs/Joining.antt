@@ -32,13 +32,13 @@ use Rattle.model.proofs.CollectorLemmas.Outcomes.{turns_by, turn_change, counted
 use Rattle.model.proofs.CollectorLemmas.Table.Next.{completion_moves}
 use Rattle.join.specs.Naming.{Naming, named_thread, Named}
 use Rattle.join.specs.OnCells.{completion_on, on_cells, ReachedInCells}
-use Rattle.join.specs.TurnsOnCells.{turned_on, counted_on, unless_refused_on, moved_on, opening_on}
+use Rattle.join.specs.TurnsOnCells.{CellMachine, turned_on, counted_on, unless_refused_on, moved_on, opening_on}
 use Rattle.join.specs.Joined.{Joined, Joint, named_account, Bounded}
 use Rattle.join.proofs.Reached.{reached_in_cells}
 use Rattle.join.proofs.NewBirths.{bounded_after}
 use Rattle.join.proofs.Collecting.{collected_on_cells}
 use Rattle.join.proofs.Turns.{turned_joint}
-use Rattle.join.proofs.Choices.{ideal_turned, turn_is}
+use Rattle.join.proofs.Choices.{counted_in, ideal_turned, turn_is}
 use Rattle.join.proofs.Table.Next.{completion_on_cells}
 
 -- each turn of an actor keeps the join
@@ -102,25 +102,25 @@ module _ (h : Naming) (cells : List Cell) where
 
 -- ---- a turn
 
-joined_counted : (h : Naming) (x m : Machine) → Joined h x m → Joined h (counted_on x) (counted_on m)
-joined_counted h x m j = record { world = ap counted j.world; account = j.account; named = j.named; memory_error = j.memory_error; stack_error = j.stack_error }
+joined_counted : (h : Naming) (x : CellMachine) (m : Machine) → Joined h x m → Joined h (counted_on x) (counted_in m)
+joined_counted h x m j = record { world = ap counted j.world; account = j.account; births = j.births; named = j.named; memory_error = j.memory_error; stack_error = j.stack_error }
 
-module _ (program : List ClassListing) (shape : HeapShape) (limits : Limits) (on m : Machine) (i : Holds shape m) (bound : Bounded m.world) (joint : Joint on m) where
+module _ (program : List ClassListing) (shape : HeapShape) (limits : Limits) (on : CellMachine) (m : Machine) (i : Holds shape m) (bound : Bounded m.world) (joint : Joint on m) where
   reached : ReachedInCells joint.naming m.account.cells m.world
   unfolding Holds
   reached = reached_in_cells joint.naming shape m.world m.account joint.joined.named i joint.joined.memory_error joint.joined.stack_error
 
-  turned : (t : ℕ) → refusal program limits m.world (ThreadActor t) ≡ None → Joint (turned_on program on (next_birth m.world) t (completion program on.world t)) (ideal_turned program m t (completion program m.world t))
+  turned : (t : ℕ) → refusal program limits m.world (ThreadActor t) ≡ None → Joint (turned_on program on t (completion program on.world t)) (ideal_turned program m t (completion program m.world t))
   unfolding Holds
   turned t e =
       let j = joint.joined in
       let c = completion program m.world t in
-      let same : turned_on program on (next_birth m.world) t (completion program on.world t) ≡ turned_on program (record { world = on_cells joint.naming m.account.cells m.world; account = named_account joint.naming m.account }) (next_birth m.world) t (completion_on joint.naming m.account.cells c) =
-      rw (j.world, j.account, completion_on_cells joint.naming m.account.cells program m.world reached t) refl in
+      let same : turned_on program on t (completion program on.world t) ≡ turned_on program (record { world = on_cells joint.naming m.account.cells m.world; account = named_account joint.naming m.account; births = next_birth m.world }) t (completion_on joint.naming m.account.cells c) =
+      rw (j.world, j.account, j.births, completion_on_cells joint.naming m.account.cells program m.world reached t) refl in
       subst (λ x. Joint x (ideal_turned program m t c)) (sym same)
       (turned_joint joint.naming shape m i j.named j.memory_error j.stack_error bound (unfaulted program limits m.world t e) program t c (completion_moves program m.world t))
 
-  moved : (actor : Actor) (o : Option Turn) → refusal program limits m.world actor ≡ o → Joint (unless_refused_on program shape on (next_birth m.world) actor o) (moved_by program shape limits m actor)
+  moved : (actor : Actor) (o : Option Turn) → refusal program limits m.world actor ≡ o → Joint (unless_refused_on program shape on actor o) (moved_by program shape limits m actor)
   unfolding Holds moved_by
   moved actor (Some refused) e = rw e joint
   moved (ThreadActor t) None e =
@@ -128,11 +128,11 @@ module _ (program : List ClassListing) (shape : HeapShape) (limits : Limits) (on
       subst (Joint _) (sym (turn_is program shape limits m t i.tidy e)) (record { naming = r.naming; joined = joined_counted r.naming _ _ r.joined })
   moved Collector None e = rw (e, e) (record { naming = joint.naming; joined = joined_counted joint.naming _ _ (collected_on_cells joint.naming shape on m i joint.joined) })
 
-  pub joined_moves : (actor : Actor) → Joint (moved_on program shape limits on (next_birth m.world) actor) (moved_by program shape limits m actor)
+  pub joined_moves : (actor : Actor) → Joint (moved_on program shape limits on actor) (moved_by program shape limits m actor)
   unfolding moved_on
   joined_moves actor =
       let same : refusal program limits on.world actor ≡ refusal program limits m.world actor = ap (λ w. refusal program limits w actor) joint.joined.world ∙ refusal_on_cells joint.naming m.account.cells program limits m.world reached actor in
-      subst (λ o. Joint (unless_refused_on program shape on (next_birth m.world) actor o) (moved_by program shape limits m actor)) (sym same)
+      subst (λ o. Joint (unless_refused_on program shape on actor o) (moved_by program shape limits m actor)) (sym same)
       (moved actor (refusal program limits m.world actor) refl)
 
   -- ---- every word goes on to lead to a birth that was made
@@ -188,6 +188,7 @@ opening_joint program shape two =
       joined = record {
         world = refl;
         account = ap (λ grey. let a : Account = record (opening_account shape) { grey = grey } in a) (sym (map-id (opening_account shape).grey));
+        births = refl;
         named = subst (Named (λ b. b)) (sym k.1) (two_named k.0);
         memory_error = refl;
         stack_error = refl;
@@ -204,10 +205,10 @@ pub opening_bounded : (program : List ClassListing) → Bounded (opening_world p
 unfolding word_at
 opening_bounded program x k b e = absurd (no_word x k b e)
 
-pub turn_joins : (program : List ClassListing) (shape : HeapShape) (limits : Limits) (on m : Machine) (actor : Actor) → Holds shape m → Bounded m.world → Joint on m → Joint (moved_on program shape limits on (next_birth m.world) actor) (moved_by program shape limits m actor)
+pub turn_joins : (program : List ClassListing) (shape : HeapShape) (limits : Limits) (on : CellMachine) (m : Machine) (actor : Actor) → Holds shape m → Bounded m.world → Joint on m → Joint (moved_on program shape limits on actor) (moved_by program shape limits m actor)
 turn_joins program shape limits on m actor i b j = joined_moves program shape limits on m i b j actor
 
-pub turn_bounds : (program : List ClassListing) (shape : HeapShape) (limits : Limits) (on m : Machine) (actor : Actor) → Holds shape m → Bounded m.world → Joint on m → Bounded (moved_by program shape limits m actor).world
+pub turn_bounds : (program : List ClassListing) (shape : HeapShape) (limits : Limits) (on : CellMachine) (m : Machine) (actor : Actor) → Holds shape m → Bounded m.world → Joint on m → Bounded (moved_by program shape limits m actor).world
 turn_bounds program shape limits on m actor i b j = bounded_moved program shape limits on m i b j actor
 
 pub opening_joins : (program : List ClassListing) (shape : HeapShape) → ShapeFits shape.small shape.medium shape.large → Joint (opening_on program shape) (opening_machine program shape)

@@ -5,21 +5,23 @@ use Rattle.model.specs.Machines.{Machine}
 use Rattle.model.specs.Collector.Places.{word_at}
 use Rattle.join.specs.Naming.{Naming, Named}
 use Rattle.join.specs.OnCells.{on_cells}
+use Rattle.join.specs.TurnsOnCells.{CellMachine}
 
 -- The join of the machine on cells and the ideal machine: the one is the image of the other.
 
 abbrev pub named_account : Naming → Account → Account
 named_account h a = record a { grey = map h a.grey }
 
-pub record Joined (h : Naming) (on m : Machine) : Type 0 where
+pub record Joined (h : Naming) (on : CellMachine) (m : Machine) : Type 0 where
   pub world : on.world ≡ on_cells h m.account.cells m.world
   pub account : on.account ≡ named_account h m.account
+  pub births : on.births ≡ next_birth m.world
   pub named : Named h m.account.cells
   pub memory_error : h 1 ≡ 1
   pub stack_error : h 2 ≡ 2
 
 -- by some naming, which is a witness
-pub record Joint (on m : Machine) : Type 0 where
+pub record Joint (on : CellMachine) (m : Machine) : Type 0 where
   pub naming : Naming
   pub joined : Joined naming on m
 

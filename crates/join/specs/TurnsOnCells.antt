@@ -27,16 +27,20 @@ use Rattle.model.specs.Completions.{Completion}
 use Rattle.model.specs.Completions.Completion.{Goes, Prints, Creates, Throws, Raises, Denies, Faults, Waits}
 use Rattle.model.specs.Turns.{refusal}
 use Rattle.model.specs.Table.Next.{completion}
-use Rattle.model.specs.Machines.{Machine}
 use Rattle.model.specs.Collector.Places.{slots_of, entries_at, words_of, root_at, word_at}
 use Rattle.model.specs.Collector.Places.Place.{Slot, FrameEntry, MethodMonitor}
 use Rattle.model.specs.Collector.Table.{cell_at, at_phase, append_step}
 use Rattle.join.specs.OnCells.{nobody, on_cells}
 
--- What turns do on cells: a machine of the same definitions, whose references are numbers of cells and one more, in its
--- grey list too. What an instruction comes to is told by the instruction table itself; what follows looks at a cell, or
--- writes one, where the account's definitions speak of births. The next birth is a number beside the machine, since the
--- world on cells doesn't tell how many births there were.
+-- What turns do on cells. What an instruction comes to is told by the instruction table itself, on the world on cells;
+-- what follows looks at a cell, or writes one, where the account's definitions speak of births.
+
+-- a world whose references are numbers of cells and one more, the account with such references in its grey list, and the
+-- number of the next birth, which the world on cells doesn't tell
+pub record CellMachine : Type 0 where
+  pub world : World
+  pub account : Account
+  pub births : ℕ
 
 -- ---- shading: one look at a cell, and one write
 
@@ -112,10 +116,11 @@ swept_on w a (Frames t d j) = w
 swept_on w a (Mark q) = w
 swept_on w a (Append p) = emptied w p (cell_at a.cells p)
 
-unfoldable pub collected_on : HeapShape → Machine → Machine
-collected_on shape m = record {
-  world = swept_on m.world m.account m.account.phase;
-  account = step_on shape m.world m.account m.account.phase;
+unfoldable pub collected_on : HeapShape → CellMachine → CellMachine
+collected_on shape x = record {
+  world = swept_on x.world x.account x.account.phase;
+  account = step_on shape x.world x.account x.account.phase;
+  births = x.births;
 }
 
 -- ---- a thread's turn, by what its instruction comes to
@@ -124,78 +129,92 @@ collected_on shape m = record {
 abbrev pub birth_in : Account → ℕ → ℕ → Account
 birth_in a c birth = record a { cells = slice_set a.cells c (Taken birth Grey); grey = a.grey ++ suc c ∷ [] }
 
--- what was written is shaded; a fault leaves the account of before, and no cell is taken
-abbrev pub carried_unless : Machine → Account → Effect → Option (Fault × ℕ) → Machine
-carried_unless m a e None = record { world = e.after; account = shade_cells a e.writes }
-carried_unless m a e (Some fault) = record { world = e.after; account = m.account }
+-- what was written is shaded; a fault leaves the machine as it was but for itself, and no cell is taken
+abbrev pub carried_unless : CellMachine → Account → ℕ → Effect → Option (Fault × ℕ) → CellMachine
+carried_unless x a births e None = record { world = e.after; account = shade_cells a e.writes; births = births }
+carried_unless x a births e (Some fault) = record { world = e.after; account = x.account; births = x.births }
 
-abbrev pub carried_on : Machine → Account → Effect → Machine
-carried_on m a e = carried_unless m a e e.after.fault
+abbrev pub carried_on : CellMachine → Account → ℕ → Effect → CellMachine
+carried_on x a births e = carried_unless x a births e e.after.fault
+
+abbrev pub faulted_on : CellMachine → ℕ → Fault → CellMachine
+faulted_on x t fault = record { world = with_fault x.world t fault; account = x.account; births = x.births }
 
 -- the new object is in its cell, and its reference on the stack; F2 where it has no room
-abbrev pub created_with_on : Machine → ℕ → ℕ → ℕ → Account → Contents → Result Moved Abrupt → Machine
-created_with_on m birth t c a contents (Err abrupt) = record { world = with_fault m.world t StackFull; account = m.account }
-created_with_on m birth t c a contents (Ok moved) = record {
+abbrev pub created_with_on : CellMachine → ℕ → ℕ → Account → Contents → Result Moved Abrupt → CellMachine
+created_with_on x t c a contents (Err abrupt) = faulted_on x t StackFull
+created_with_on x t c a contents (Ok moved) = record {
   world =
-      with_thread (with_object m.world (suc c) (made_of contents)) t
-      (Live (with_running (frames_at m.world t) moved.frame));
-  account = shade_cells (birth_in a c birth) moved.writes;
+      with_thread (with_object x.world (suc c) (made_of contents)) t
+      (Live (with_running (frames_at x.world t) moved.frame));
+  account = shade_cells (birth_in a c x.births) moved.writes;
+  births = x.births + 1;
 }
 
-abbrev pub created_in : Machine → ℕ → ℕ → ℕ → ℕ → Contents → ℕ → Account → Option Frame → Machine
-created_in m birth t next taken contents c a None =
-    record { world = with_fault m.world t NoInstruction; account = m.account }
-created_in m birth t next taken contents c a (Some f) =
-    created_with_on m birth t c a contents (replaced_if_room next f taken (Ref (Some (suc c)) ∷ []))
+abbrev pub created_in : CellMachine → ℕ → ℕ → ℕ → Contents → ℕ → Account → Option Frame → CellMachine
+created_in x t next taken contents c a None = faulted_on x t NoInstruction
+created_in x t next taken contents c a (Some f) =
+    created_with_on x t c a contents (replaced_if_room next f taken (Ref (Some (suc c)) ∷ []))
 
 -- by the cell that is taken, if one has room, else the OutOfMemoryError is thrown
-abbrev pub created_at : List ClassListing → Machine → ℕ → ℕ → ℕ → ℕ → Contents → Option (ℕ × Account) → Machine
-created_at program m birth t next taken contents None =
-    carried_on m m.account (thrown program m.world m.world t 1)
-created_at program m birth t next taken contents (Some cell) =
-    created_in m birth t next taken contents cell.0 cell.1 (running (frames_at m.world t))
+abbrev pub created_at : List ClassListing → CellMachine → ℕ → ℕ → ℕ → Contents → Option (ℕ × Account) → CellMachine
+created_at program x t next taken contents None =
+    carried_on x x.account x.births (thrown program x.world x.world t 1)
+created_at program x t next taken contents (Some cell) =
+    created_in x t next taken contents cell.0 cell.1 (running (frames_at x.world t))
 
 -- an exception is made and thrown, in a world that may differ from the machine's in its class states
-abbrev pub raised_at : List ClassListing → Machine → World → ℕ → ℕ → Exception → Option (ℕ × Account) → Machine
-raised_at program m w birth t exception None = carried_on m m.account (thrown program m.world w t 1)
-raised_at program m w birth t exception (Some cell) =
-    carried_on m (birth_in cell.1 cell.0 birth)
-    (thrown program m.world (with_object w (suc cell.0) (plain_object (exception_class exception))) t (suc cell.0))
+abbrev pub raised_at : List ClassListing → CellMachine → World → ℕ → Exception → Option (ℕ × Account) → CellMachine
+raised_at program x w t exception None = carried_on x x.account x.births (thrown program x.world w t 1)
+raised_at program x w t exception (Some cell) =
+    carried_on x (birth_in cell.1 cell.0 x.births) (x.births + 1)
+    (thrown program x.world (with_object w (suc cell.0) (plain_object (exception_class exception))) t (suc cell.0))
 
-unfoldable pub turned_on : List ClassListing → Machine → ℕ → ℕ → Completion → Machine
-turned_on program m birth t (Goes after writes) = record { world = after; account = shade_cells m.account writes }
-turned_on program m birth t (Prints after bytes) =
-    record { world = with_output after (after.output ++ bytes); account = m.account }
-turned_on program m birth t (Creates next taken contents) =
-    created_at program m birth t next taken contents (take_cell m.account (words_in contents))
-turned_on program m birth t (Throws r) = carried_on m m.account (thrown program m.world m.world t r)
-turned_on program m birth t (Raises exception) =
-    raised_at program m m.world birth t exception (take_cell m.account 0)
-turned_on program m birth t (Denies states) =
-    raised_at program m (with_class_states m.world states) birth t NoClassDefFound (take_cell m.account 0)
-turned_on program m birth t (Faults fault) = record { world = with_fault m.world t fault; account = m.account }
-turned_on program m birth t Waits = m
+unfoldable pub turned_on : List ClassListing → CellMachine → ℕ → Completion → CellMachine
+turned_on program x t (Goes after writes) =
+    record { world = after; account = shade_cells x.account writes; births = x.births }
+turned_on program x t (Prints after bytes) =
+    record { world = with_output after (after.output ++ bytes); account = x.account; births = x.births }
+turned_on program x t (Creates next taken contents) =
+    created_at program x t next taken contents (take_cell x.account (words_in contents))
+turned_on program x t (Throws r) = carried_on x x.account x.births (thrown program x.world x.world t r)
+turned_on program x t (Raises exception) = raised_at program x x.world t exception (take_cell x.account 0)
+turned_on program x t (Denies states) =
+    raised_at program x (with_class_states x.world states) t NoClassDefFound (take_cell x.account 0)
+turned_on program x t (Faults fault) = faulted_on x t fault
+turned_on program x t Waits = x
 
 -- ---- an actor's turn, unless it is refused
 
-abbrev pub acted_on : List ClassListing → HeapShape → Machine → ℕ → Actor → Machine
-acted_on program shape m birth (Thread t) = turned_on program m birth t (completion program m.world t)
-acted_on program shape m birth Collector = collected_on shape m
+abbrev pub acted_on : List ClassListing → HeapShape → CellMachine → Actor → CellMachine
+acted_on program shape x (Thread t) = turned_on program x t (completion program x.world t)
+acted_on program shape x Collector = collected_on shape x
 
-abbrev pub counted_on : Machine → Machine
-counted_on m = record { world = counted m.world; account = m.account }
+abbrev pub counted_on : CellMachine → CellMachine
+counted_on x = record { world = counted x.world; account = x.account; births = x.births }
 
-abbrev pub unless_refused_on : List ClassListing → HeapShape → Machine → ℕ → Actor → Option Turn → Machine
-unless_refused_on program shape m birth actor (Some refused) = m
-unless_refused_on program shape m birth actor None = counted_on (acted_on program shape m birth actor)
+abbrev pub unless_refused_on : List ClassListing → HeapShape → CellMachine → Actor → Option Turn → CellMachine
+unless_refused_on program shape x actor (Some refused) = x
+unless_refused_on program shape x actor None = counted_on (acted_on program shape x actor)
 
-unfoldable pub moved_on : List ClassListing → HeapShape → Limits → Machine → ℕ → Actor → Machine
-moved_on program shape limits m birth actor =
-    unless_refused_on program shape m birth actor (refusal program limits m.world actor)
+unfoldable pub moved_on : List ClassListing → HeapShape → Limits → CellMachine → Actor → CellMachine
+moved_on program shape limits x actor = unless_refused_on program shape x actor (refusal program limits x.world actor)
 
--- the opening: each birth is named by itself
-abbrev pub opening_on : List ClassListing → HeapShape → Machine
+-- one turn for each actor in order, whatever each comes to
+abbrev pub moved_on_by_all : List ClassListing → HeapShape → Limits → CellMachine → List Actor → CellMachine
+moved_on_by_all program shape limits x [] = x
+moved_on_by_all program shape limits x (actor ∷ actors) =
+    moved_on_by_all program shape limits (moved_on program shape limits x actor) actors
+
+-- ---- the opening: births 1 and 2 are in the first two cells, so that each birth is named by itself
+
+abbrev pub opening_on : List ClassListing → HeapShape → CellMachine
 opening_on program shape = record {
   world = on_cells (λ b. b) (opening_account shape).cells (opening_world program);
   account = opening_account shape;
+  births = 3;
 }
+
+-- the machine on cells after one turn for each actor
+unfoldable pub cells_after : List ClassListing → HeapShape → Limits → List Actor → CellMachine
+cells_after program shape limits actors = moved_on_by_all program shape limits (opening_on program shape) actors
