@@ -9,9 +9,10 @@ pub mod Lists
 pub mod Monitors
 pub mod Naming
 pub mod NewBirths
-pub mod Observers
 pub mod Places
 pub mod Reached
+pub mod ReadingBack
+pub mod Runs
 pub mod Shading
 pub mod Table
 pub mod Turns
