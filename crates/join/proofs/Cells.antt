@@ -1,7 +1,7 @@
 use Rattle.std.proofs.Common.{◌≡◌, inl, inr, ℕ, zero, suc, List, [], ◌∷◌, map, set, slice_get, Some, refl, ◌∙◌, ap, arith}
 use Rattle.model.specs.declared.colours.Colour.{Colour}
-use Rattle.model.specs.Accounts.{Cell}
-use Rattle.model.specs.Accounts.Cell.{Free, Taken}
+use Rattle.model.specs.declared.colours.Cell.{Cell}
+use Rattle.model.specs.declared.colours.Cell.TheVariants.{Free, Taken}
 use Rattle.model.specs.Worlds.{World, Object, Contents}
 use Rattle.model.specs.Worlds.Contents.{Instance, Array}
 use Rattle.model.specs.Objects.{object_at, class_at, class_of, with_object}

@@ -6,8 +6,8 @@ use Rattle.model.specs.declared.colours.Phase.{Phase}
 use Rattle.model.specs.declared.colours.Phase.TheVariants.{Idle, Statics, Frames, Mark, Append}
 use Rattle.model.specs.declared.journals.HeapShape.{HeapShape}
 use Rattle.model.specs.Accounts.{Account, shade}
-use Rattle.model.specs.Accounts.{Cell}
-use Rattle.model.specs.Accounts.Cell.{Free, Taken}
+use Rattle.model.specs.declared.colours.Cell.{Cell}
+use Rattle.model.specs.declared.colours.Cell.TheVariants.{Free, Taken}
 use Rattle.model.specs.Worlds.{World, frames_at, next_birth}
 use Rattle.model.specs.Machines.{Machine}
 use Rattle.model.specs.Collector.Places.{root_at, word_at, words_of, slots_of, entries_at}

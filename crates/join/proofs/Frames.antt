@@ -7,7 +7,7 @@ use Rattle.model.specs.declared.places.MethodPlace.{MethodPlace}
 use Rattle.model.specs.declared.values.Value.{Value}
 use Rattle.model.specs.declared.values.Value.TheVariants.{Int, Long, Ref}
 use Rattle.model.specs.declared.values.Entry.TheVariants.{Unset, Holds, UpperHalf}
-use Rattle.model.specs.Accounts.{Cell}
+use Rattle.model.specs.declared.colours.Cell.{Cell}
 use Rattle.model.specs.Values.{units_of_all}
 use Rattle.model.specs.Frames.{Frame, running, running_frame, no_frame, with_running, callers, units_of_frames, has_room_for, within_limits}
 use Rattle.model.specs.Locals.{argument_entries, arguments_on, called_frame, frames_of_call}

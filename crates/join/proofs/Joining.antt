@@ -14,8 +14,8 @@ use Rattle.model.specs.declared.turns.Turn.TheVariants.{NotReady, OutputFull, St
 use Rattle.model.specs.ClassListings.{ClassListing}
 use Rattle.model.specs.Limits.{ShapeFits}
 use Rattle.model.specs.Accounts.{Account, opening_account}
-use Rattle.model.specs.Accounts.{Cell}
-use Rattle.model.specs.Accounts.Cell.{Free, Taken}
+use Rattle.model.specs.declared.colours.Cell.{Cell}
+use Rattle.model.specs.declared.colours.Cell.TheVariants.{Free, Taken}
 use Rattle.model.specs.Worlds.{World, Thread, lives, is_live, counted, opening_world, opening_objects, next_birth}
 use Rattle.model.specs.Worlds.Thread.{Live, Ended}
 use Rattle.model.specs.Completions.{Completion, waits, prints}

@@ -1,5 +1,5 @@
 use Rattle.std.proofs.Common.{◌≡◌, ℕ, List, [], ◌∷◌, map, Bool, true, false, if◌then◌else◌, Option, Some, None, refl, sym, ◌∙◌, ap}
-use Rattle.model.specs.Accounts.{Cell}
+use Rattle.model.specs.declared.colours.Cell.{Cell}
 use Rattle.model.specs.Worlds.{World, Object, Monitor}
 use Rattle.model.specs.Objects.{object_at}
 use Rattle.model.specs.Monitors.{is_owner, exited, monitor_of, with_monitor_if, with_monitor_of, released, released_all}

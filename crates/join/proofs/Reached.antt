@@ -2,7 +2,7 @@ use Rattle.std.proofs.Common.{◌≡◌, ℕ, Some}
 use Rattle.model.specs.declared.colours.Colour.{Colour}
 use Rattle.model.specs.declared.journals.HeapShape.{HeapShape}
 use Rattle.model.specs.Accounts.{Account}
-use Rattle.model.specs.Accounts.Cell.{Taken}
+use Rattle.model.specs.declared.colours.Cell.TheVariants.{Taken}
 use Rattle.model.specs.Worlds.{World, next_birth}
 use Rattle.model.specs.Collector.Places.{Reach, Place, root_at}
 use Rattle.model.specs.Collector.Table.{cell_at}

@@ -3,8 +3,8 @@ use Rattle.std.proofs.lemmas.List.{map-append, set-get_or, map-id}
 use Rattle.model.specs.declared.colours.Colour.{Colour}
 use Rattle.model.specs.declared.colours.Colour.TheVariants.{White, Grey, Black}
 use Rattle.model.specs.Accounts.{Account, tint, has_white, shade, shade_all}
-use Rattle.model.specs.Accounts.{Cell}
-use Rattle.model.specs.Accounts.Cell.{Free, Taken}
+use Rattle.model.specs.declared.colours.Cell.{Cell}
+use Rattle.model.specs.declared.colours.Cell.TheVariants.{Free, Taken}
 use Rattle.model.specs.Worlds.{World, Object}
 use Rattle.model.specs.Collector.Table.{cell_at, blackened}
 use Rattle.model.proofs.CollectorLemmas.Cells.{held_before, after, white_where, white_nowhere}

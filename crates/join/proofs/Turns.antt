@@ -13,7 +13,7 @@ use Rattle.model.specs.declared.values.Value.TheVariants.{Ref}
 use Rattle.model.specs.ClassListings.{ClassListing}
 use Rattle.model.specs.Classes.Exceptions.{exception_class}
 use Rattle.model.specs.Accounts.{Account, first_cell, or_larger, take_cell, with_new as with_birth, shade_all}
-use Rattle.model.specs.Accounts.{Cell}
+use Rattle.model.specs.declared.colours.Cell.{Cell}
 use Rattle.model.specs.Frames.{Frame, Moved, running, with_running, replaced_if_room}
 use Rattle.model.specs.Worlds.{World, Contents, Object, frames_at, next_birth, with_thread, with_class_states, with_fault, with_output, plain_object}
 use Rattle.model.specs.Worlds.Thread.{Live}

@@ -5,7 +5,7 @@ use Rattle.model.specs.declared.turns.ClassState.TheVariants.{Failed}
 use Rattle.model.specs.declared.turns.Mark.{Mark}
 use Rattle.model.specs.declared.turns.Mark.TheVariants.{Unmarked, Waiting, Failing}
 use Rattle.model.specs.ClassListings.{ClassListing}
-use Rattle.model.specs.Accounts.{Cell}
+use Rattle.model.specs.declared.colours.Cell.{Cell}
 use Rattle.model.specs.Frames.{Frame}
 use Rattle.model.specs.Worlds.{World, frames_at, with_thread, with_class_states}
 use Rattle.model.specs.Worlds.Thread.{Live, Ended}

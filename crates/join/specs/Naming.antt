@@ -5,8 +5,8 @@ use Rattle.model.specs.declared.values.Entry.{Entry}
 use Rattle.model.specs.declared.values.Entry.TheVariants.{Unset, Holds, UpperHalf}
 use Rattle.model.specs.declared.turns.Abrupt.{Abrupt}
 use Rattle.model.specs.declared.colours.Colour.{Colour}
-use Rattle.model.specs.Accounts.{Cell}
-use Rattle.model.specs.Accounts.Cell.{Taken}
+use Rattle.model.specs.declared.colours.Cell.{Cell}
+use Rattle.model.specs.declared.colours.Cell.TheVariants.{Taken}
 use Rattle.model.specs.Frames.{Frame, Moved}
 use Rattle.model.specs.Worlds.{Thread, FieldValue, Contents, Object}
 use Rattle.model.specs.Worlds.Thread.{Live, Ended}

@@ -1,8 +1,8 @@
 use Rattle.std.specs.Prelude.{◌≡◌, ℕ, zero, suc, List, map}
 use Rattle.std.specs.Option.{option_map}
 use Rattle.model.specs.declared.colours.Colour.{Colour}
-use Rattle.model.specs.Accounts.{Cell}
-use Rattle.model.specs.Accounts.Cell.{Free, Taken}
+use Rattle.model.specs.declared.colours.Cell.{Cell}
+use Rattle.model.specs.declared.colours.Cell.TheVariants.{Free, Taken}
 use Rattle.model.specs.Worlds.{World, next_birth}
 use Rattle.model.specs.Objects.{object_at}
 use Rattle.model.specs.Machines.{Machine}

@@ -15,8 +15,9 @@ use Rattle.model.specs.declared.turns.Turn.{Turn}
 use Rattle.model.specs.declared.values.Value.TheVariants.{Ref}
 use Rattle.model.specs.ClassListings.{ClassListing}
 use Rattle.model.specs.Classes.Exceptions.{exception_class}
-use Rattle.model.specs.Accounts.{Cell, Account, take_cell, opening_account}
-use Rattle.model.specs.Accounts.Cell.{Free, Taken}
+use Rattle.model.specs.Accounts.{Account, take_cell, opening_account}
+use Rattle.model.specs.declared.colours.Cell.{Cell}
+use Rattle.model.specs.declared.colours.Cell.TheVariants.{Free, Taken}
 use Rattle.model.specs.Frames.{Frame, Moved, running, with_running, replaced_if_room}
 use Rattle.model.specs.Worlds.{World, Contents, frames_at, with_thread, with_fault, with_output, with_class_states, counted, plain_object, opening_world}
 use Rattle.model.specs.Worlds.Thread.{Live}

@@ -7,7 +7,7 @@ use Rattle.model.specs.declared.turns.Fault.{Fault}
 use Rattle.model.specs.declared.values.Value.{Value}
 use Rattle.model.specs.declared.values.Value.TheVariants.{Int, Long, Ref}
 use Rattle.model.specs.Stores.{Storage, storage_kind, kept}
-use Rattle.model.specs.Accounts.{Cell}
+use Rattle.model.specs.declared.colours.Cell.{Cell}
 use Rattle.model.specs.Frames.{both, int_on, ref_on, running, replaced}
 use Rattle.model.specs.Locals.{value_on}
 use Rattle.model.specs.Worlds.{Contents}

@@ -6,7 +6,7 @@ use Rattle.model.specs.declared.instructions.Identity.{Identity}
 use Rattle.model.specs.declared.instructions.Identity.TheVariants.{Same, Different}
 use Rattle.model.specs.declared.instructions.Test.{Test}
 use Rattle.model.specs.declared.instructions.Test.TheVariants.{Always, Zero, Ints, Refs, Null}
-use Rattle.model.specs.Accounts.{Cell}
+use Rattle.model.specs.declared.colours.Cell.{Cell}
 use Rattle.model.specs.Worlds.{World}
 use Rattle.model.specs.Collector.Places.{ref_of, Reach}
 use Rattle.model.specs.Collector.Table.{cell_at}

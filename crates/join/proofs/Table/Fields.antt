@@ -14,7 +14,7 @@ use Rattle.model.specs.Stores.Storage.{Ints, Longs, References}
 use Rattle.model.specs.Classes.Types.{is_subtype}
 use Rattle.model.specs.Classes.Resolution.{resolved_field}
 use Rattle.model.specs.Classes.Search.{Declared}
-use Rattle.model.specs.Accounts.{Cell}
+use Rattle.model.specs.declared.colours.Cell.{Cell}
 use Rattle.model.specs.Frames.{both, ref_on, running, replaced_if_room}
 use Rattle.model.specs.Locals.{value_on}
 use Rattle.model.specs.Worlds.{World, FieldValue, Contents}

@@ -7,7 +7,7 @@ use Rattle.model.specs.declared.places.MethodPlace.{MethodPlace}
 use Rattle.model.specs.ClassListings.{ClassListing}
 use Rattle.model.specs.CodeListings.{CodeListing}
 use Rattle.model.specs.Programs.{code_at}
-use Rattle.model.specs.Accounts.{Cell}
+use Rattle.model.specs.declared.colours.Cell.{Cell}
 use Rattle.model.specs.Frames.{Frame, opening_frame, within_limits}
 use Rattle.model.specs.Worlds.{with_thread, with_class_states}
 use Rattle.model.specs.Worlds.Thread.{Live}

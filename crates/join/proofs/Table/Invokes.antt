@@ -19,7 +19,7 @@ use Rattle.model.specs.Classes.Selection.{selected}
 use Rattle.model.specs.Classes.Types.{is_subtype}
 use Rattle.model.specs.Callees.{CodedMethod, Callee, callee_of}
 use Rattle.model.specs.Callees.Callee.{Own, Coded, NoCode}
-use Rattle.model.specs.Accounts.{Cell}
+use Rattle.model.specs.declared.colours.Cell.{Cell}
 use Rattle.model.specs.Values.{births_of}
 use Rattle.model.specs.Frames.{Frame, ref_on, running, running_frame, with_running, has_room_for}
 use Rattle.model.specs.Locals.{value_on, arguments_on, frames_of_call}

@@ -3,7 +3,7 @@ use Rattle.model.specs.declared.turns.Fault.{Fault}
 use Rattle.model.specs.declared.turns.Exception.TheVariants.{IllegalMonitorState}
 use Rattle.model.specs.declared.instructions.MonitorOperation.{MonitorOperation}
 use Rattle.model.specs.declared.instructions.MonitorOperation.TheVariants.{Enter, Exit}
-use Rattle.model.specs.Accounts.{Cell}
+use Rattle.model.specs.declared.colours.Cell.{Cell}
 use Rattle.model.specs.Frames.{ref_on, running, replaced}
 use Rattle.model.specs.Worlds.{World}
 use Rattle.model.specs.Monitors.{is_owner, entered, exited, monitor_of, with_monitor_of}

@@ -5,7 +5,7 @@ use Rattle.model.specs.declared.instructions.Instruction.TheVariants.{Nop, Const
 use Rattle.model.specs.declared.turns.Mark.{Mark}
 use Rattle.model.specs.declared.turns.Mark.TheVariants.{Unmarked, Waiting, Failing}
 use Rattle.model.specs.ClassListings.{ClassListing}
-use Rattle.model.specs.Accounts.{Cell}
+use Rattle.model.specs.declared.colours.Cell.{Cell}
 use Rattle.model.specs.Frames.{Frame, running, replaced}
 use Rattle.model.specs.Programs.{instruction_of}
 use Rattle.model.specs.Worlds.{World, frames_at}

@@ -4,7 +4,7 @@ use Rattle.model.specs.declared.instructions.ClassOperation.TheVariants.{New, Ch
 use Rattle.model.specs.declared.turns.Fault.{Fault}
 use Rattle.model.specs.declared.turns.Fault.TheVariants.{WrongClass}
 use Rattle.model.specs.declared.values.Value.TheVariants.{Int, Ref}
-use Rattle.model.specs.Accounts.{Cell}
+use Rattle.model.specs.declared.colours.Cell.{Cell}
 use Rattle.model.specs.Classes.Types.{is_subtype}
 use Rattle.model.specs.Frames.{ref_on, running, replaced}
 use Rattle.model.specs.Completions.{Site, frames_in, moves_in}

@@ -5,7 +5,7 @@ use Rattle.model.specs.declared.values.Value.{Value}
 use Rattle.model.specs.declared.listings.Placed.{Placed}
 use Rattle.model.specs.declared.turns.Fault.{Fault}
 use Rattle.model.specs.declared.turns.Abrupt.{Abrupt}
-use Rattle.model.specs.Accounts.{Cell}
+use Rattle.model.specs.declared.colours.Cell.{Cell}
 use Rattle.model.specs.Frames.{Frame, Moved, running, with_running, callers}
 use Rattle.model.specs.Locals.{value_on}
 use Rattle.model.specs.Programs.{method_at, instruction_of}

@@ -9,7 +9,7 @@ use Rattle.model.specs.declared.turns.Fault.{Fault}
 use Rattle.model.specs.Stores.{storage_of, descriptor_kind, kept}
 use Rattle.model.specs.Classes.Resolution.{resolved_field}
 use Rattle.model.specs.Classes.Search.{Declared}
-use Rattle.model.specs.Accounts.{Cell}
+use Rattle.model.specs.declared.colours.Cell.{Cell}
 use Rattle.model.specs.Frames.{replaced_if_room}
 use Rattle.model.specs.Locals.{value_on}
 use Rattle.model.specs.Completions.{Site, completes}
