@@ -24,7 +24,7 @@ use Rattle.model.specs.ClassListings.{ClassListing}
 use Rattle.model.specs.Classes.Builtin.{builtin_classes}
 use Rattle.model.specs.Classes.Search.{upwards}
 use Rattle.model.specs.Accounts.{after_turn}
-use Rattle.model.specs.Accounts.Cell.{Taken}
+use Rattle.model.specs.declared.colours.Cell.TheVariants.{Taken}
 use Rattle.model.specs.Table.Next.{Listed, completion, next}
 use Rattle.model.specs.Turns.{refusal}
 use Rattle.model.specs.Machines.{Recorded, machine_of, after_turn_by, answer_to, after_turns, opened}

@@ -14,8 +14,8 @@ use Rattle.model.specs.declared.turns.ClassState.{ClassState}
 use Rattle.model.specs.Classes.Named.{is_named, class_named}
 use Rattle.model.specs.Initialisation.{state_at}
 use Rattle.model.specs.declared.views.CellView.{CellView}
-use Rattle.model.specs.Accounts.{Cell}
-use Rattle.model.specs.Accounts.Cell.{Free, Taken}
+use Rattle.model.specs.declared.colours.Cell.{Cell}
+use Rattle.model.specs.declared.colours.Cell.TheVariants.{Free, Taken}
 use Rattle.model.specs.ClassListings.{ClassListing}
 use Rattle.model.specs.Collector.Reached.{is_reached}
 use Rattle.model.specs.Objects.{object_at}

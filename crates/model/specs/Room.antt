@@ -1,7 +1,7 @@
 use Rattle.std.specs.Prelude.{◌≡◌, ℕ, ◌+◌, ◌<◌, ◌≤◌, nat_lt, if◌then◌else◌}
 use Rattle.model.specs.declared.journals.HeapShape.{HeapShape}
 use Rattle.model.specs.Accounts.{Account}
-use Rattle.model.specs.Accounts.Cell.{Free}
+use Rattle.model.specs.declared.colours.Cell.TheVariants.{Free}
 use Rattle.model.specs.Collector.Table.{cell_at}
 
 -- What is free in a heap, told of its cells alone.

@@ -9,6 +9,13 @@ pub enum Colour {
     Black,
 }
 
+/// What a cell of the heap holds: nothing, or the object of a birth in a colour.
+#[derive(Clone, Copy, Debug, PartialEq, Eq)]
+pub enum Cell {
+    Free,
+    Taken { birth: u32, colour: Colour },
+}
+
 /// Where the collector's cycle stands: at a static slot, at a thread's frame's entry (a frame's method monitor comes
 /// after its last entry), at a word of the front grey cell, at a cell to be given back or whitened.
 #[derive(Clone, Copy, PartialEq, Eq)]

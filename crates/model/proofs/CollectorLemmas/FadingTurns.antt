@@ -2,7 +2,7 @@ use Rattle.std.proofs.Common.{◌≡◌, inl, inr, ℕ, ◌<◌, List, [], ◌�
 use Rattle.model.specs.declared.colours.Colour.TheVariants.{Grey}
 use Rattle.model.specs.declared.journals.HeapShape.{HeapShape}
 use Rattle.model.specs.Accounts.{Account, shade, shade_all, take_cell, in_cell, new_object}
-use Rattle.model.specs.Accounts.Cell.{Taken}
+use Rattle.model.specs.declared.colours.Cell.TheVariants.{Taken}
 use Rattle.model.specs.Worlds.{World, next_birth}
 use Rattle.model.specs.Collector.Invariant.{In, Tidy}
 use Rattle.model.specs.Collector.Changes.{Change, IsNew, births_after, Fresh, Allowed, RoomFor, changed}

@@ -3,8 +3,9 @@ use Rattle.model.specs.declared.colours.Colour.{Colour}
 use Rattle.model.specs.declared.colours.Colour.TheVariants.{White, Grey, Black}
 use Rattle.model.specs.declared.colours.Phase.TheVariants.{Idle}
 use Rattle.model.specs.declared.journals.HeapShape.{HeapShape}
-use Rattle.model.specs.Accounts.{Cell, Account, numbers_up, empty_account, opening_account, placed, take_cell}
-use Rattle.model.specs.Accounts.Cell.{Free, Taken}
+use Rattle.model.specs.Accounts.{Account, numbers_up, empty_account, opening_account, placed, take_cell}
+use Rattle.model.specs.declared.colours.Cell.{Cell}
+use Rattle.model.specs.declared.colours.Cell.TheVariants.{Free, Taken}
 use Rattle.model.specs.ClassListings.{ClassListing}
 use Rattle.model.specs.Frames.{Frame}
 use Rattle.model.specs.Programs.{main_in}

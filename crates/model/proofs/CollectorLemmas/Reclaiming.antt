@@ -8,7 +8,7 @@ use Rattle.model.specs.declared.turns.Actor.{Actor}
 use Rattle.model.specs.declared.turns.Actor.TheVariants.{Thread, Collector}
 use Rattle.model.specs.declared.turns.Turn.{Turn}
 use Rattle.model.specs.ClassListings.{ClassListing}
-use Rattle.model.specs.Accounts.Cell.{Taken}
+use Rattle.model.specs.declared.colours.Cell.TheVariants.{Taken}
 use Rattle.model.specs.Worlds.{World, next_birth, counted}
 use Rattle.model.specs.Turns.{refusal, choice_of}
 use Rattle.model.specs.Table.Next.{next, asked}

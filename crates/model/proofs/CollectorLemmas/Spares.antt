@@ -2,8 +2,9 @@ use Rattle.std.proofs.Common.{◌≡◌, inl, inr, ℕ, ◌<◌, ◌≤◌, List
 use Rattle.model.specs.declared.colours.Colour.{Colour}
 use Rattle.model.specs.declared.colours.Phase.{Phase}
 use Rattle.model.specs.declared.journals.HeapShape.{HeapShape}
-use Rattle.model.specs.Accounts.{Cell, Account}
-use Rattle.model.specs.Accounts.Cell.{Free, Taken}
+use Rattle.model.specs.Accounts.{Account}
+use Rattle.model.specs.declared.colours.Cell.{Cell}
+use Rattle.model.specs.declared.colours.Cell.TheVariants.{Free, Taken}
 use Rattle.model.specs.Collector.Table.{cell_at, at_phase}
 use Rattle.model.specs.Collector.Invariant.{In, Spare, Tidy}
 use Rattle.model.proofs.CollectorLemmas.Lists.{In-left, In-last, In-push_cases, Distinct-push}

@@ -2,8 +2,9 @@ use Rattle.std.proofs.Common.{◌≡◌, ◌⊎◌, inl, inr, ℕ, ◌+◌, ◌�
 use Rattle.model.specs.declared.colours.Colour.TheVariants.{White, Grey, Black}
 use Rattle.model.specs.declared.colours.Phase.{Phase}
 use Rattle.model.specs.declared.journals.HeapShape.{HeapShape}
-use Rattle.model.specs.Accounts.{Cell, Account, take_cell, in_cell, new_object, shade_all}
-use Rattle.model.specs.Accounts.Cell.{Taken}
+use Rattle.model.specs.Accounts.{Account, take_cell, in_cell, new_object, shade_all}
+use Rattle.model.specs.declared.colours.Cell.{Cell}
+use Rattle.model.specs.declared.colours.Cell.TheVariants.{Taken}
 use Rattle.model.specs.Worlds.{World, next_birth}
 use Rattle.model.specs.Collector.Places.{Place, root_at, word_at}
 use Rattle.model.specs.Collector.Places.Place.{MemoryError}

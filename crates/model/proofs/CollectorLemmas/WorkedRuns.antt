@@ -11,7 +11,7 @@ use Rattle.model.specs.declared.turns.Actor.{Actor}
 use Rattle.model.specs.declared.turns.Actor.TheVariants.{Thread, Collector}
 use Rattle.model.specs.ClassListings.{ClassListing}
 use Rattle.model.specs.Accounts.{shade, after_turn}
-use Rattle.model.specs.Accounts.Cell.{Taken}
+use Rattle.model.specs.declared.colours.Cell.TheVariants.{Taken}
 use Rattle.model.specs.Turns.{refusal}
 use Rattle.model.specs.Table.Next.{completion, next}
 use Rattle.model.specs.Machines.{opening_machine, machine_of, after_turn_by}

@@ -13,7 +13,7 @@ use Rattle.model.specs.declared.turns.Turn.TheVariants.{Stopped}
 use Rattle.model.specs.declared.values.Value.{Value}
 use Rattle.model.specs.declared.values.Value.TheVariants.{Int, Ref}
 use Rattle.model.specs.Accounts.{Account, after_turn, shade}
-use Rattle.model.specs.Accounts.Cell.{Free, Taken}
+use Rattle.model.specs.declared.colours.Cell.TheVariants.{Free, Taken}
 use Rattle.model.specs.ClassListings.{ClassListing}
 use Rattle.model.specs.Classes.Builtin.{builtin_classes}
 use Rattle.model.specs.Classes.Search.{upwards, interfaces_from}

@@ -19,7 +19,7 @@ use Rattle.model.specs.Accounts.{after_turn, shade}
 use Rattle.model.specs.Machines.{machine_of, opened}
 use Rattle.model.specs.Observers.{status_in, class_state_of}
 use Rattle.model.specs.declared.turns.Status.TheVariants.{Stuck}
-use Rattle.model.specs.Accounts.Cell.{Free, Taken}
+use Rattle.model.specs.declared.colours.Cell.TheVariants.{Free, Taken}
 use Rattle.model.specs.Frames.{Frame}
 use Rattle.model.specs.Worlds.{World, Thread, Object, plain_object}
 use Rattle.model.specs.ClassListings.{ClassListing}

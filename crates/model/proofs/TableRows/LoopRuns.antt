@@ -7,7 +7,7 @@ use Rattle.model.specs.declared.colours.Colour.TheVariants.{White, Grey}
 use Rattle.model.specs.declared.colours.Phase.TheVariants.{Idle}
 use Rattle.model.proofs.TableRows.Listings.{return, ample}
 use Rattle.model.proofs.TableRows.Stages.{class_of, small, main_at, world, thread, account, stage, then}
-use Rattle.model.specs.Accounts.Cell.{Free, Taken}
+use Rattle.model.specs.declared.colours.Cell.TheVariants.{Free, Taken}
 use Rattle.model.specs.Accounts.{after_turn, shade}
 use Rattle.model.specs.ClassListings.{ClassListing}
 use Rattle.model.specs.Classes.Builtin.{builtin_classes}

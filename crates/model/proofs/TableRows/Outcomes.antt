@@ -25,8 +25,9 @@ use Rattle.model.specs.declared.turns.ClassState.{ClassState}
 use Rattle.model.specs.declared.turns.Mark.TheVariants.{Failing}
 use Rattle.model.specs.declared.values.Value.{Value}
 use Rattle.model.specs.declared.values.Value.TheVariants.{Int}
-use Rattle.model.specs.Accounts.{Account, Cell}
-use Rattle.model.specs.Accounts.Cell.{Free, Taken}
+use Rattle.model.specs.Accounts.{Account}
+use Rattle.model.specs.declared.colours.Cell.{Cell}
+use Rattle.model.specs.declared.colours.Cell.TheVariants.{Free, Taken}
 use Rattle.model.specs.ClassListings.{ClassListing}
 use Rattle.model.specs.CodeListings.{CodeListing}
 use Rattle.model.specs.Collector.Runs.{advance_if, moved_by, moved_by_all}

@@ -14,7 +14,8 @@ use Rattle.model.specs.declared.turns.Mark.TheVariants.{Unmarked}
 use Rattle.model.specs.declared.values.Entry.{Entry}
 use Rattle.model.specs.declared.values.Value.{Value}
 use Rattle.model.specs.ClassListings.{ClassListing}
-use Rattle.model.specs.Accounts.{Cell, Account}
+use Rattle.model.specs.Accounts.{Account}
+use Rattle.model.specs.declared.colours.Cell.{Cell}
 use Rattle.model.specs.Worlds.{World, Thread, Object, opening_objects}
 use Rattle.model.specs.Worlds.Thread.{Live}
 use Rattle.model.specs.Machines.{Machine}

@@ -3,8 +3,9 @@ use Rattle.model.specs.declared.colours.Colour.TheVariants.{White, Grey, Black}
 use Rattle.model.specs.declared.colours.Phase.{Phase}
 use Rattle.model.specs.declared.colours.Phase.TheVariants.{Idle, Statics, Frames, Mark, Append}
 use Rattle.model.specs.declared.journals.HeapShape.{HeapShape}
-use Rattle.model.specs.Accounts.{Cell, Account, shade}
-use Rattle.model.specs.Accounts.Cell.{Free, Taken}
+use Rattle.model.specs.Accounts.{Account, shade}
+use Rattle.model.specs.declared.colours.Cell.{Cell}
+use Rattle.model.specs.declared.colours.Cell.TheVariants.{Free, Taken}
 use Rattle.model.specs.Worlds.{World, frames_at}
 use Rattle.model.specs.Collector.Places.{root_at, word_at, words_of, slots_of, entries_at}
 use Rattle.model.specs.Collector.Places.Place.{Slot, FrameEntry, MethodMonitor}

@@ -1,0 +1,165 @@
+use Rattle.std.proofs.Common.{◌≡◌, ℕ, suc, List, map, slice_get, Option, Some, None, refl, sym, ◌∙◌, ap, subst}
+use Rattle.std.specs.Option.{option_map}
+use Rattle.model.specs.declared.colours.Colour.{Colour}
+use Rattle.model.specs.declared.values.Value.{Value}
+use Rattle.model.specs.declared.values.Value.TheVariants.{Int, Long, Ref}
+use Rattle.model.specs.declared.values.Entry.{Entry}
+use Rattle.model.specs.declared.values.Entry.TheVariants.{Unset, Holds, UpperHalf}
+use Rattle.model.specs.declared.journals.HeapShape.{HeapShape}
+use Rattle.model.specs.Accounts.{Account}
+use Rattle.model.specs.declared.colours.Cell.{Cell}
+use Rattle.model.specs.declared.colours.Cell.TheVariants.{Taken}
+use Rattle.model.specs.Frames.{Frame}
+use Rattle.model.specs.Worlds.{World, Thread, FieldValue, Contents, Object, next_birth}
+use Rattle.model.specs.Worlds.Thread.{Live, Ended}
+use Rattle.model.specs.Worlds.Contents.{Instance, Array}
+use Rattle.model.specs.Objects.{object_at}
+use Rattle.model.specs.Machines.{Machine}
+use Rattle.model.specs.Collector.Places.{Reach, root_at, slots_of, contents_refs}
+use Rattle.model.specs.Collector.Places.Place.{Slot}
+use Rattle.model.specs.Collector.Places.Reach.{at_root}
+use Rattle.model.specs.Collector.Table.{cell_at}
+use Rattle.model.specs.Collector.Invariant.{Invariant}
+use Rattle.model.proofs.CollectorLemmas.Moving.{AllMay}
+use Rattle.model.proofs.CollectorLemmas.Known.{ref_may, locals_known, stack_known, monitor_known, word_known}
+use Rattle.join.specs.Naming.{Naming, named_ref, named_value, named_entry, named_frame, named_thread, Named, named_field, named_contents, named_object}
+use Rattle.join.specs.OnCells.{on_cells, InCell, held_object}
+use Rattle.join.specs.Joined.{named_account, Joined}
+use Rattle.join.specs.ReadBack.{birth_read, ReadsBack}
+use Rattle.join.specs.TurnsOnCells.{CellMachine}
+use Rattle.join.proofs.Agreeing.{threads_agree, fields_agree, contents_agree}
+use Rattle.join.proofs.Reached.{reached_in_cell, in_cell_at}
+use Rattle.join.proofs.Lists.{map-after, map-same}
+use Rattle.join.proofs.Cells.{mapped_at}
+
+-- what is read of the machine on cells is the ideal machine: a birth's reference leads back to the birth
+
+birth_back : (h : Naming) (cells : List Cell) (w : World) (b : ℕ) → InCell h cells w b → birth_read cells (h b) ≡ b
+birth_back h cells w b s = rw (s.named, s.held) refl
+
+-- ---- one naming after another, and the naming by itself
+
+module _ (h g : Naming) where
+  abbrev both : ℕ → ℕ
+  both b = g (h b)
+
+  ref_after : (r : Option ℕ) → named_ref g (named_ref h r) ≡ named_ref both r
+  ref_after None = refl
+  ref_after (Some b) = refl
+
+  value_after : (v : Value) → named_value g (named_value h v) ≡ named_value both v
+  value_after (Int z) = refl
+  value_after (Long z) = refl
+  value_after (Ref r) = ap Ref (ref_after r)
+
+  entry_after : (e : Entry) → named_entry g (named_entry h e) ≡ named_entry both e
+  entry_after Unset = refl
+  entry_after (Holds v) = ap Holds (value_after v)
+  entry_after UpperHalf = refl
+
+  frame_after : (f : Frame) → named_frame g (named_frame h f) ≡ named_frame both f
+  frame_after f = rw (map-after (named_entry h) (named_entry g) (named_entry both) entry_after f.locals, map-after (named_value h) (named_value g) (named_value both) value_after f.stack, ref_after f.monitor) refl
+
+  thread_after : (t : Thread) → named_thread g (named_thread h t) ≡ named_thread both t
+  thread_after (Live frames) = ap Live (map-after (named_frame h) (named_frame g) (named_frame both) frame_after frames)
+  thread_after (Ended by) = refl
+
+  field_after : (f : FieldValue) → named_field g (named_field h f) ≡ named_field both f
+  field_after f = ap (λ (v : Value). let y : FieldValue = record f { value = v } in y) (value_after f.value)
+
+  contents_after : (c : Contents) → named_contents g (named_contents h c) ≡ named_contents both c
+  contents_after (Instance class fields) = ap (Instance class) (map-after (named_field h) (named_field g) (named_field both) field_after fields)
+  contents_after (Array element values) = ap (Array element) (map-after (named_value h) (named_value g) (named_value both) value_after values)
+
+ref_same : (r : Option ℕ) → named_ref (λ b. b) r ≡ r
+ref_same None = refl
+ref_same (Some b) = refl
+
+value_same : (v : Value) → named_value (λ b. b) v ≡ v
+value_same (Int z) = refl
+value_same (Long z) = refl
+value_same (Ref r) = ap Ref (ref_same r)
+
+entry_same : (e : Entry) → named_entry (λ b. b) e ≡ e
+entry_same Unset = refl
+entry_same (Holds v) = ap Holds (value_same v)
+entry_same UpperHalf = refl
+
+frame_same : (f : Frame) → named_frame (λ b. b) f ≡ f
+frame_same f = rw (map-same (named_entry (λ b. b)) entry_same f.locals, map-same (named_value (λ b. b)) value_same f.stack, ref_same f.monitor) refl
+
+thread_same : (t : Thread) → named_thread (λ b. b) t ≡ t
+thread_same (Live frames) = ap Live (map-same (named_frame (λ b. b)) frame_same frames)
+thread_same (Ended by) = refl
+
+field_same : (f : FieldValue) → named_field (λ b. b) f ≡ f
+field_same f = ap (λ (v : Value). let y : FieldValue = record f { value = v } in y) (value_same f.value)
+
+contents_same : (c : Contents) → named_contents (λ b. b) c ≡ c
+contents_same (Instance class fields) = ap (Instance class) (map-same (named_field (λ b. b)) field_same fields)
+contents_same (Array element values) = ap (Array element) (map-same (named_value (λ b. b)) value_same values)
+
+-- ---- the parts, read
+
+module _ (h : Naming) (shape : HeapShape) (w : World) (a : Account) (named : Named h a.cells) (i : Invariant shape w (next_birth w) a) where
+  abbrev read : Naming
+  read = birth_read a.cells
+
+  abbrev back : Naming
+  back b = read (h b)
+
+  back_same : (b : ℕ) → Reach w b → back b ≡ b
+  back_same b r = birth_back h a.cells w b (reached_in_cell h shape w a named i b r)
+
+  threads_read : map (named_thread read) (on_cells h a.cells w).threads ≡ w.threads
+  threads_read =
+      map-after (named_thread h) (named_thread read) (named_thread back) (thread_after h read) w.threads
+      ∙ threads_agree back (λ b. b) (Reach w) back_same w.threads (λ t d f e. record { locals = locals_known w t d f e; stack = stack_known w t d f e; monitor = λ b k. monitor_known w t d b f e k })
+      ∙ map-same (named_thread (λ b. b)) thread_same w.threads
+
+  slots_known : AllMay (Reach w) (slots_of w)
+  unfolding root_at
+  slots_known = ref_may (Reach w) (slots_of w) (λ s b e. at_root (Slot s) e)
+
+  slots_read : map (named_field read) (on_cells h a.cells w).statics.fields ≡ w.statics.fields
+  slots_read =
+      map-after (named_field h) (named_field read) (named_field back) (field_after h read) w.statics.fields
+      ∙ fields_agree back (λ b. b) (Reach w) back_same w.statics.fields slots_known
+      ∙ map-same (named_field (λ b. b)) field_same w.statics.fields
+
+  contents_read : (b : ℕ) (o : Object) → Reach w b → slice_get w.objects b ≡ Some o → named_contents read (named_contents h o.contents) ≡ o.contents
+  contents_read b o r made =
+      contents_after h read o.contents
+      ∙ contents_agree back (λ b. b) (Reach w) back_same o.contents (ref_may (Reach w) (contents_refs o.contents) (λ k b' e. word_known w b k b' o r made e))
+      ∙ contents_same o.contents
+
+  -- whatever cell holds the birth
+  object_read : (c b : ℕ) (x : Colour) → cell_at a.cells c ≡ Taken b x → Reach w b → option_map (named_object read) (object_at (on_cells h a.cells w) (suc c)) ≡ object_at w b
+  object_read c b x held r =
+      let s = in_cell_at h shape w a named i c b x held in
+      rw (mapped_at (held_object h w.objects) a.cells c b x held, s.made)
+      (ap (λ (k : Contents). let y : Object = record s.object { contents = k } in Some y) (contents_read b s.object r s.made))
+
+-- ---- the whole
+
+pub joined_reads : (h : Naming) (shape : HeapShape) (on : CellMachine) (m : Machine) → Invariant shape m.world (next_birth m.world) m.account → Joined h on m → ReadsBack on m
+joined_reads h shape on m i j =
+    let w = m.world in
+    let a = m.account in
+    subst (λ x. ReadsBack x m) (sym (same on j))
+    (record {
+      threads = threads_read h shape w a j.named i;
+      slots = slots_read h shape w a j.named i;
+      states = refl;
+      output = refl;
+      fault = refl;
+      rows = refl;
+      births = refl;
+      cells = refl;
+      phase = refl;
+      reached = λ b r. (let s = reached_in_cell h shape w a j.named i b r in record { cell = s.cell; colour = s.colour; held = s.held });
+      objects = λ b r s. object_read h shape w a j.named i s.cell b s.colour s.held r;
+    })
+  where
+    same : (x : CellMachine) → Joined h x m → x ≡ record { world = on_cells h m.account.cells m.world; account = named_account h m.account; births = next_birth m.world }
+    same x k = rw (k.world, k.account, k.births) refl

@@ -1,0 +1,16 @@
+pub mod Arrays
+pub mod Branches
+pub mod Constants
+pub mod Fields
+pub mod Initialisation
+pub mod Invokes
+pub mod Locals
+pub mod Monitors
+pub mod Next
+pub mod Numbers
+pub mod Objects
+pub mod Returns
+pub mod Stacks
+pub mod Statics
+pub mod Switches
+pub mod Threads
