@@ -1,4 +1,4 @@
-use Rattle.std.proofs.Common.{◌≡◌, ◌≤◌, ◌+◌, List, [], ◌∷◌}
+use Rattle.std.proofs.Common.{List, [], ◌∷◌}
 use Rattle.model.specs.declared.journals.HeapShape.{HeapShape}
 use Rattle.model.specs.declared.journals.Limits.{Limits}
 use Rattle.model.specs.declared.turns.Actor.{Actor}
@@ -11,8 +11,9 @@ use Rattle.join.specs.Runs.{EachRun}
 use Rattle.join.specs.Joined.{Joint, Bounded}
 use Rattle.join.specs.ReadBack.{ReadsBack}
 use Rattle.join.specs.TurnsOnCells.{CellMachine, moved_on, moved_on_by_all, opening_on, cells_after}
-use Rattle.join.proofs.Joining.{opening_bounded, turn_joins, turn_bounds, opening_joins}
-use Rattle.join.proofs.ReadingBack.{joined_reads}
+use Rattle.join.proofs.Joining.{turn_joins, turn_bounds}
+use Rattle.join.proofs.Opening.{opening_joins, opening_bounded}
+use Rattle.join.proofs.ReadingBack.{reads_back}
 
 -- every list of turns keeps the join
 
@@ -43,11 +44,11 @@ run_keeps program shape limits actors fits =
 
 -- ---- what is promised of every run
 
-pub run_joins : EachRun Joint
+pub run_joins : EachRun (λ program limits on m. Joint on m)
 run_joins program shape limits actors fits = (run_keeps program shape limits actors fits).joint
 
 pub run_reads_back : EachRun ReadsBack
 unfolding Holds
 run_reads_back program shape limits actors fits =
     let k = run_keeps program shape limits actors fits in
-    joined_reads k.joint.naming shape (cells_after program shape limits actors) (machine_after program shape limits actors) k.holds k.joint.joined
+    reads_back program shape limits (cells_after program shape limits actors) (machine_after program shape limits actors) k.holds k.bound k.joint

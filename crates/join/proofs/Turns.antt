@@ -51,7 +51,7 @@ use Rattle.join.proofs.Frames.{running_named, frames_on_cells, running_on_cells,
 
 -- ---- taking a cell doesn't look at the grey list
 
-abbrev named_choice : (ℕ → ℕ) → ℕ × Account → ℕ × Account
+abbrev pub named_choice : (ℕ → ℕ) → ℕ × Account → ℕ × Account
 named_choice h cell = (cell.0, named_account h cell.1)
 
 or_on_cells : (h : Naming) (fits : Bool) (put on : List ℕ → Account) (o : Option (ℕ × List ℕ)) (further : Option (ℕ × Account)) → ((cs : List ℕ) → on cs ≡ named_account h (put cs)) → or_larger fits on o (option_map (named_choice h) further) ≡ option_map (named_choice h) (or_larger fits put o further)
@@ -59,7 +59,7 @@ or_on_cells h true put on (Some cell) further k = ap (λ a. Some (cell.0, a)) (k
 or_on_cells h true put on None further k = refl
 or_on_cells h false put on o further k = refl
 
-take_on_cells : (h : Naming) (a : Account) (words : ℕ) → take_cell (named_account h a) words ≡ option_map (named_choice h) (take_cell a words)
+pub take_on_cells : (h : Naming) (a : Account) (words : ℕ) → take_cell (named_account h a) words ≡ option_map (named_choice h) (take_cell a words)
 take_on_cells h a words =
     let large = or_on_cells h (nat_le words 256) (λ cs. record a { large = cs }) (λ cs. record (named_account h a) { large = cs }) (first_cell a.large) None (λ cs. refl) in
     let medium = or_on_cells h (nat_le words 32) (λ cs. record a { medium = cs }) (λ cs. record (named_account h a) { medium = cs }) (first_cell a.medium) (or_larger (nat_le words 256) (λ cs. record a { large = cs }) (first_cell a.large) None) (λ cs. refl) in

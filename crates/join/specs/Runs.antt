@@ -9,7 +9,6 @@ use Rattle.model.specs.Worlds.{opening_world}
 use Rattle.model.specs.Collector.Runs.{Holds, moved_by, machine_after}
 use Rattle.join.specs.TurnsOnCells.{CellMachine, moved_on, opening_on, cells_after}
 use Rattle.join.specs.Joined.{Joint, Bounded}
-use Rattle.join.specs.ReadBack.{ReadsBack}
 
 -- What is promised of the machine on cells: of the opening and of each turn, and so of every run.
 
@@ -22,16 +21,16 @@ abbrev pub OpeningIsBounded : Type 0
 OpeningIsBounded = (program : List ClassListing) → Bounded (opening_world program)
 
 -- what an actor's turn leaves, where the machines were joined and the invariant of three colours holds
-abbrev pub EachTurn : (HeapShape → CellMachine → Machine → Type 0) → Type 0
+abbrev pub EachTurn : (CellMachine → Machine → Type 0) → Type 0
 EachTurn P =
     (program : List ClassListing) (shape : HeapShape) (limits : Limits) (on : CellMachine) (m : Machine) (actor : Actor) →
     Holds shape m → Bounded m.world → Joint on m →
-    P shape (moved_on program shape limits on actor) (moved_by program shape limits m actor)
+    P (moved_on program shape limits on actor) (moved_by program shape limits m actor)
 
 -- what holds of both after every list of turns, for every program, accepted or not, every heap shape that fits and all
 -- limits
-abbrev pub EachRun : (CellMachine → Machine → Type 0) → Type 0
+abbrev pub EachRun : (List ClassListing → Limits → CellMachine → Machine → Type 0) → Type 0
 EachRun P =
     (program : List ClassListing) (shape : HeapShape) (limits : Limits) (actors : List Actor) →
     ShapeFits shape.small shape.medium shape.large →
-    P (cells_after program shape limits actors) (machine_after program shape limits actors)
+    P program limits (cells_after program shape limits actors) (machine_after program shape limits actors)

@@ -1,9 +1,12 @@
-use Rattle.std.specs.Prelude.{ℕ, zero, suc, ◌+◌, List, [], ◌∷◌, ◌++◌, length, slice_set, nat_lt, Bool, true, false, Option, Some, None, Result, Ok, Err}
+use Rattle.std.specs.Prelude.{ℕ, zero, suc, ◌+◌, List, [], ◌∷◌, ◌++◌, length, slice_set, nat_lt, Bool, true, false, Option, Some, None, if◌then◌else◌, Result, Ok, Err}
 use Rattle.model.specs.declared.colours.Colour.TheVariants.{White, Grey, Black}
 use Rattle.model.specs.declared.colours.Phase.{Phase}
 use Rattle.model.specs.declared.colours.Phase.TheVariants.{Idle, Statics, Frames, Mark, Append}
 use Rattle.model.specs.declared.journals.HeapShape.{HeapShape}
 use Rattle.model.specs.declared.journals.Limits.{Limits}
+use Rattle.model.specs.declared.journals.Outcome.{Outcome}
+use Rattle.model.specs.declared.journals.Outcome.TheVariants.{Done, Object as GotObject, NoRoom as FoundNoRoom}
+use Rattle.model.specs.declared.journals.Row.{Row}
 use Rattle.model.specs.declared.turns.Abrupt.{Abrupt}
 use Rattle.model.specs.declared.turns.Actor.{Actor}
 use Rattle.model.specs.declared.turns.Actor.TheVariants.{Thread, Collector}
@@ -15,7 +18,7 @@ use Rattle.model.specs.declared.turns.Turn.{Turn}
 use Rattle.model.specs.declared.values.Value.TheVariants.{Ref}
 use Rattle.model.specs.ClassListings.{ClassListing}
 use Rattle.model.specs.Classes.Exceptions.{exception_class}
-use Rattle.model.specs.Accounts.{Cell, Account, take_cell, opening_account}
+use Rattle.model.specs.Accounts.{Cell, Account, take_cell, has_room, opening_account}
 use Rattle.model.specs.Accounts.Cell.{Free, Taken}
 use Rattle.model.specs.Frames.{Frame, Moved, running, with_running, replaced_if_room}
 use Rattle.model.specs.Worlds.{World, Contents, frames_at, with_thread, with_fault, with_output, with_class_states, counted, plain_object, opening_world}
@@ -25,8 +28,9 @@ use Rattle.model.specs.Results.{Effect}
 use Rattle.model.specs.Unwinding.{thrown}
 use Rattle.model.specs.Completions.{Completion}
 use Rattle.model.specs.Completions.Completion.{Goes, Prints, Creates, Throws, Raises, Denies, Faults, Waits}
-use Rattle.model.specs.Turns.{refusal}
-use Rattle.model.specs.Table.Next.{completion}
+use Rattle.model.specs.Turns.{refusal, is_fault}
+use Rattle.model.specs.Table.Next.{completion, asked}
+use Rattle.model.specs.Machines.{outcome_by}
 use Rattle.model.specs.Collector.Places.{slots_of, entries_at, words_of, root_at, word_at}
 use Rattle.model.specs.Collector.Places.Place.{Slot, FrameEntry, MethodMonitor}
 use Rattle.model.specs.Collector.Table.{cell_at, at_phase, append_step}
@@ -199,6 +203,31 @@ unless_refused_on program shape x actor None = counted_on (acted_on program shap
 
 unfoldable pub moved_on : List ClassListing → HeapShape → Limits → CellMachine → Actor → CellMachine
 moved_on program shape limits x actor = unless_refused_on program shape x actor (refusal program limits x.world actor)
+
+-- ---- the row of a turn
+
+abbrev pub faults_on : List ClassListing → CellMachine → ℕ → Bool
+faults_on program x t = is_fault (turned_on program x t (completion program x.world t)).world
+
+-- what comes of a turn that asks for so many words, unless it faults
+abbrev pub outcome_if_on : Account → Option ℕ → Outcome
+outcome_if_on a None = Done
+outcome_if_on a (Some words) = if has_room a words then GotObject else FoundNoRoom
+
+abbrev pub outcome_on : List ClassListing → CellMachine → Actor → Outcome
+outcome_on program x (Thread t) = outcome_by (faults_on program x t) (outcome_if_on x.account (asked program x.world t))
+outcome_on program x Collector = Done
+
+abbrev pub row_if_on : List ClassListing → CellMachine → Actor → ℕ → Option Turn → Option Row
+row_if_on program x actor worker (Some refused) = None
+row_if_on program x actor worker None =
+    Some (record { actor = actor; outcome = outcome_on program x actor; worker = worker })
+
+-- the row that an actor's turn makes, if it makes one
+abbrev pub row_on : List ClassListing → Limits → CellMachine → Actor → ℕ → Option Row
+row_on program limits x actor worker = row_if_on program x actor worker (refusal program limits x.world actor)
+
+-- ---- a run
 
 -- one turn for each actor in order, whatever each comes to
 abbrev pub moved_on_by_all : List ClassListing → HeapShape → Limits → CellMachine → List Actor → CellMachine

@@ -9,8 +9,8 @@ ghost use Rattle.join.specs.Runs.{EachRun, EachTurn, OpeningIsBounded, OpeningIs
 pub fn turns_on_cells_are_ideal_turns()
     ensures opening { OpeningIsJoined }
     ensures opening_bounded { OpeningIsBounded }
-    ensures turn { EachTurn (λ shape on m. Joint on m) }
-    ensures turn_bounded { EachTurn (λ shape on m. Bounded m.world) }
-    ensures run { EachRun Joint }
+    ensures turn { EachTurn (λ on m. Joint on m) }
+    ensures turn_bounded { EachTurn (λ on m. Bounded m.world) }
+    ensures run { EachRun (λ program limits on m. Joint on m) }
     ensures read_back { EachRun ReadsBack }
 {}

@@ -113,15 +113,15 @@ module _ (h : Naming) (cells : List Cell) (s : Site) (u : ReachedInCells h cells
   field_got_on_cells member (Ok None) k = refl
   field_got_on_cells member (Ok (Some b)) k = let t = u.reached b (k b refl) in ap (word_got image (h b)) (place_on_cells member b t) ∙ got_on_cells b t (field_place s member b)
 
-  put_home_at : (descriptor : List ℕ) (v : Value) (b : ℕ) → InCell h cells s.world b → (place : Option ℕ) → word_put image descriptor (named_value h v) (h b) place ≡ completion_on h cells (word_put s descriptor v b place)
-  put_home_at descriptor v b k None = refl
-  put_home_at descriptor v b k (Some place) =
+  put_at_on_cells : (descriptor : List ℕ) (v : Value) (b : ℕ) → InCell h cells s.world b → (place : Option ℕ) → word_put image descriptor (named_value h v) (h b) place ≡ completion_on h cells (word_put s descriptor v b place)
+  put_at_on_cells descriptor v b k None = refl
+  put_at_on_cells descriptor v b k (Some place) =
       puts_on_cells h cells (with_word s.world b place (kept (storage_of descriptor) v)) _ s 2 v
       (ap (with_word (on_cells h cells s.world) (h b) place) (kept_named h (storage_of descriptor) v) ∙ with_word_on_cells h cells s.world u b place (kept (storage_of descriptor) v) k)
 
   put_in_on_cells : (member : Member) (v : Value) (r : Option ℕ) → ((b : ℕ) → r ≡ Some b → Reach s.world b) → field_put_in image member (named_value h v) (named_ref h r) ≡ completion_on h cells (field_put_in s member v r)
   put_in_on_cells member v None k = refl
-  put_in_on_cells member v (Some b) k = let t = u.reached b (k b refl) in ap (word_put image member.descriptor (named_value h v) (h b)) (place_on_cells member b t) ∙ put_home_at member.descriptor v b t (field_place s member b)
+  put_in_on_cells member v (Some b) k = let t = u.reached b (k b refl) in ap (word_put image member.descriptor (named_value h v) (h b)) (place_on_cells member b t) ∙ put_at_on_cells member.descriptor v b t (field_place s member b)
 
   abbrev pair : Value × Option ℕ → Value × Option ℕ
   pair p = (named_value h p.0, named_ref h p.1)

@@ -1,4 +1,5 @@
-use Rattle.join.proofs.Joining.{turn_joins, turn_bounds, opening_joins, opening_bounded}
+use Rattle.join.proofs.Joining.{turn_joins, turn_bounds}
+use Rattle.join.proofs.Opening.{opening_joins, opening_bounded}
 use Rattle.join.proofs.Runs.{run_joins, run_reads_back}
 use Rattle.join.proofs.turns_on_cells_are_ideal_turns.Goals as goal
 
