@@ -20,3 +20,4 @@ pub mod Shading
 pub mod Table
 pub mod Turns
 pub mod Unwinding
+pub mod WorkedRuns
