@@ -50,7 +50,7 @@ ideal_by program m t c choice = ideal_carried m.account (next_birth m.world) (ob
 unfoldable pub ideal_turned : List ClassListing → Machine → ℕ → Completion → Machine
 ideal_turned program m t c = ideal_by program m t c (chosen m.account (asks c))
 
--- ---- that is the turn
+-- ---- so told it is the turn of the ideal machine
 
 module _ (program : List ClassListing) (shape : HeapShape) (limits : Limits) (m : Machine) (t : ℕ) where
   abbrev effect : Choice → Effect

@@ -27,8 +27,6 @@ use Rattle.join.proofs.Refusals.{refusal_on_cells}
 
 -- each turn of an actor keeps the join
 
--- ---- a turn
-
 joined_counted : (h : Naming) (x : CellMachine) (m : Machine) → Joined h x m → Joined h (counted_on x) (counted_in m)
 joined_counted h x m j = record { world = ap counted j.world; account = j.account; births = j.births; named = j.named; memory_error = j.memory_error; stack_error = j.stack_error }
 

@@ -20,4 +20,5 @@ pub mod Shading
 pub mod Table
 pub mod Turns
 pub mod Unwinding
+pub mod Words
 pub mod WorkedRuns

@@ -27,7 +27,8 @@ use Rattle.join.proofs.Cells.{mapped_alike}
 use Rattle.join.proofs.Agreeing.{FrameMay, threads_agree, fields_agree, contents_agree, nowhere_named}
 use Rattle.join.proofs.Lists.{get-older, get-newest}
 
--- a birth comes into a free cell
+-- a birth comes into a free cell: the naming with it agrees with the one before on every birth that was made, and words
+-- lead to such births alone, in garbage too. So the world on cells changes in that one cell
 
 may_all : (P Q : ℕ → Type 0) (rs : List (Option ℕ)) → ((b : ℕ) → P b → Q b) → AllMay P rs → AllMay Q rs
 may_all P Q [] f k = tt
@@ -117,7 +118,7 @@ module _ (h : Naming) (shape : HeapShape) (w : World) (a : Account) (named : Nam
         ∙ ap (λ ts. record (on_cells naming_with cells_with (with_new w new)) { threads = ts; objects = nobody ∷ set (map (held_object h w.objects) a.cells) c new }) (sym threads)
         ∙ ap (λ fs. record (with_object (on_cells h a.cells w) (suc c) new) { statics = record { fields = fs; states = w.statics.states } }) (sym slots)
 
-    -- what stood stands
+    -- what stood in a cell stands there
     pub in_cell_with : (new : Object) (b : ℕ) → InCell h a.cells w b → InCell naming_with cells_with (with_new w new) b
     in_cell_with new b s =
         let l = i.tidy.born s.cell b s.colour s.held in

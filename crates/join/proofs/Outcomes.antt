@@ -25,7 +25,7 @@ use Rattle.join.proofs.Refusals.{asked_on_cells, refusal_on_cells}
 use Rattle.join.proofs.Joining.{turned, reached_joined}
 use Rattle.join.proofs.Choices.{by_room, chosen, ideal_unless, ideal_turned}
 
--- the row of a turn on cells is that of the ideal turn
+-- the row of a turn, read off the cells: it faults where the ideal turn does, and free cells are the same on both sides
 
 ideal_world : (a : Account) (birth : ℕ) (object : Option ℕ) (e : Effect) (o : Option (Fault × ℕ)) → (ideal_unless a birth object e o).world ≡ e.after
 ideal_world a birth object e None = refl

@@ -15,7 +15,7 @@ use Rattle.join.proofs.Joining.{turn_joins, turn_bounds}
 use Rattle.join.proofs.Opening.{opening_joins, opening_bounded}
 use Rattle.join.proofs.ReadingBack.{reads_back}
 
--- every list of turns keeps the join
+-- every list of turns keeps the join: each turn does, beside the invariant of three colours and the bound
 
 -- what each turn keeps
 record Keeps (shape : HeapShape) (on : CellMachine) (m : Machine) : Type 0 where

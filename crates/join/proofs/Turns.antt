@@ -47,7 +47,8 @@ use Rattle.join.proofs.Agreeing.{frame_agrees}
 use Rattle.join.proofs.NewBirths.{naming_with, cells_with, old_name, new_name, named_with, frame_may, new_on_cells, in_cell_with, in_cell_new, refs_with, born_before}
 use Rattle.join.proofs.Frames.{running_named, frames_on_cells, running_on_cells, thread_on_cells}
 
--- a thread's turn on cells is the ideal turn
+-- a thread's turn on cells is the ideal turn, case by case of what its instruction comes to. Where an object is made the
+-- naming after the turn has one birth more; in each other case it stays
 
 -- ---- taking a cell doesn't look at the grey list
 
