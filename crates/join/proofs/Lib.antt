@@ -18,6 +18,7 @@ pub mod Refusals
 pub mod Runs
 pub mod Shading
 pub mod Table
+pub mod Taking
 pub mod Turns
 pub mod Unwinding
 pub mod Words

@@ -20,10 +20,10 @@ use Rattle.model.specs.Collector.Runs.{Holds}
 use Rattle.join.specs.Joined.{named_account, Joint, Bounded}
 use Rattle.join.specs.Naming.{Naming}
 use Rattle.join.specs.TurnsOnCells.{CellMachine, faults_on, outcome_if_on, outcome_on, row_if_on, row_on}
-use Rattle.join.proofs.Turns.{named_choice, take_on_cells}
 use Rattle.join.proofs.Refusals.{asked_on_cells, refusal_on_cells}
 use Rattle.join.proofs.Joining.{turned, reached_joined}
 use Rattle.join.proofs.Choices.{by_room, chosen, ideal_unless, ideal_turned}
+use Rattle.join.proofs.Taking.{named_taken, take_on_cells}
 
 -- the row of a turn, read off the cells: it faults where the ideal turn does, and free cells are the same on both sides
 
@@ -34,7 +34,7 @@ ideal_world a birth object e (Some fault) = refl
 room_named : (h : Naming) (a : Account) (words : ℕ) → has_room (named_account h a) words ≡ has_room a words
 room_named h a words = ap is_some (take_on_cells h a words) ∙ go (take_cell a words)
   where
-    go : (o : Option (ℕ × Account)) → is_some (option_map (named_choice h) o) ≡ is_some o
+    go : (o : Option (ℕ × Account)) → is_some (option_map (named_taken h) o) ≡ is_some o
     go None = refl
     go (Some cell) = refl
 

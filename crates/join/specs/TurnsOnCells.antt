@@ -30,7 +30,7 @@ use Rattle.model.specs.Completions.{Completion}
 use Rattle.model.specs.Completions.Completion.{Goes, Prints, Creates, Throws, Raises, Denies, Faults, Waits}
 use Rattle.model.specs.Turns.{refusal, is_fault}
 use Rattle.model.specs.Table.Next.{completion, asked}
-use Rattle.model.specs.Machines.{outcome_by}
+use Rattle.model.specs.Machines.{outcome_by, told_of}
 use Rattle.model.specs.Collector.Places.{slots_of, entries_at, words_of, root_at, word_at}
 use Rattle.model.specs.Collector.Places.Place.{Slot, FrameEntry, MethodMonitor}
 use Rattle.model.specs.Collector.Table.{cell_at, at_phase, append_step}
@@ -226,6 +226,15 @@ row_if_on program x actor worker None =
 -- the row that an actor's turn makes, if it makes one
 abbrev pub row_on : List ClassListing → Limits → CellMachine → Actor → ℕ → Option Row
 row_on program limits x actor worker = row_if_on program x actor worker (refusal program limits x.world actor)
+
+-- what an actor's turn answers
+abbrev pub answer_if_on : CellMachine → Option Turn → Turn
+answer_if_on after (Some refused) = refused
+answer_if_on after None = told_of after.world.fault
+
+abbrev pub answer_on : List ClassListing → HeapShape → Limits → CellMachine → Actor → Turn
+answer_on program shape limits x actor =
+    answer_if_on (moved_on program shape limits x actor) (refusal program limits x.world actor)
 
 -- ---- a run
 
