@@ -22,8 +22,8 @@ use Rattle.model.specs.Collector.Runs.{moved_by}
 use Rattle.model.proofs.CollectorLemmas.FindingRoom.{chooses_by_room}
 use Rattle.model.proofs.CollectorLemmas.Rooms.{room_is_listed}
 
--- a thread's turn in the ideal machine, told by what its instruction comes to and without outcomes: as on cells, what was
--- written is shaded, and a fault leaves the account
+-- a thread's turn in the ideal machine, told by what its instruction comes to and without outcomes: as on cells, what
+-- was written is shaded, and a fault leaves the account
 
 abbrev pub by_room : Bool → Choice
 by_room true = NewObject

@@ -48,8 +48,8 @@ use Rattle.join.proofs.NewBirths.{naming_with, cells_with, old_name, new_name, n
 use Rattle.join.proofs.Frames.{running_named, frames_on_cells, running_on_cells, thread_on_cells}
 use Rattle.join.proofs.Taking.{named_taken, take_on_cells}
 
--- a thread's turn on cells is the ideal turn, case by case of what its instruction comes to. Where an object is made the
--- naming after the turn has one birth more; in each other case it stays
+-- a thread's turn on cells is the ideal turn, case by case of what its instruction comes to. Where an object is made
+-- the naming after the turn has one birth more; in each other case it stays
 
 -- ---- what a turn without a new object comes to
 

@@ -17,7 +17,8 @@ use Rattle.model.specs.Collector.Table.{cell_at}
 use Rattle.join.specs.Naming.{Naming, named_field, named_thread, named_object}
 use Rattle.join.specs.TurnsOnCells.{CellMachine, row_on}
 
--- What can be read of a machine on cells: with the birth in its cell in place of each reference, it is the ideal machine.
+-- What can be read of a machine on cells: with the birth in its cell in place of each reference, it is the ideal
+-- machine.
 
 abbrev pub birth_of : Cell → ℕ
 birth_of Free = zero

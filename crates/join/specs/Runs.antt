@@ -23,7 +23,8 @@ OpeningIsBounded = (program : List ClassListing) → Bounded (opening_world prog
 -- what an actor's turn leaves, where the machines were joined and the invariant of three colours holds
 abbrev pub EachTurn : (CellMachine → Machine → Type 0) → Type 0
 EachTurn P =
-    (program : List ClassListing) (shape : HeapShape) (limits : Limits) (on : CellMachine) (m : Machine) (actor : Actor) →
+    (program : List ClassListing) (shape : HeapShape) (limits : Limits) →
+    (on : CellMachine) (m : Machine) (actor : Actor) →
     Holds shape m → Bounded m.world → Joint on m →
     P (moved_on program shape limits on actor) (moved_by program shape limits m actor)
 

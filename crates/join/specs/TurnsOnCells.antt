@@ -39,8 +39,8 @@ use Rattle.join.specs.OnCells.{nobody, on_cells}
 -- What turns do on cells. What an instruction comes to is told by the instruction table itself, on the world on cells;
 -- what follows looks at a cell, or writes one, where the account's definitions speak of births.
 
--- a world whose references are numbers of cells and one more, the account with such references in its grey list, and the
--- number of the next birth, which the world on cells doesn't tell
+-- a world whose references are numbers of cells and one more, the account with such references in its grey list, and
+-- the number of the next birth, which the world on cells doesn't tell
 pub record CellMachine : Type 0 where
   pub world : World
   pub account : Account

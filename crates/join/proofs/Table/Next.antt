@@ -39,8 +39,8 @@ use Rattle.join.proofs.Table.Constants.{constant_named}
 use Rattle.join.proofs.Table.Locals.{local_named}
 use Rattle.join.proofs.Table.Throws.{threw_on_cells}
 
--- the whole table comes to the same on cells: what a thread's instruction comes to there is the image of what it comes to
--- in the ideal world
+-- the whole table comes to the same on cells: what a thread's instruction comes to there is the image of what it comes
+-- to in the ideal world
 
 module _ (h : Naming) (cells : List Cell) where
   family_on_cells : (s : Site) → ReachedInCells h cells s.world → running (frames_in s) ≡ Some s.frame → (i : Listed) → by_family (site_on h cells s) i ≡ completion_on h cells (by_family s i)
