@@ -1,6 +1,7 @@
-use Rattle.std.proofs.Common.{◌≡◌, ℕ, suc, List, map, slice_get, Option, Some, None, refl, ◌∙◌, ap}
+use Rattle.std.proofs.Common.{◌≡◌, inl, inr, ℕ, suc, List, [], ◌∷◌, map, slice_get, Option, Some, None, refl, ◌∙◌, ap}
 use Rattle.std.specs.Option.{option_map}
 use Rattle.model.specs.declared.colours.Colour.{Colour}
+use Rattle.model.specs.declared.colours.Colour.TheVariants.{Grey}
 use Rattle.model.specs.declared.values.Value.{Value}
 use Rattle.model.specs.declared.values.Value.TheVariants.{Int, Long, Ref}
 use Rattle.model.specs.declared.values.Entry.{Entry}
@@ -24,12 +25,12 @@ use Rattle.model.specs.Collector.Places.{Reach, root_at, slots_of, contents_refs
 use Rattle.model.specs.Collector.Places.Place.{Slot}
 use Rattle.model.specs.Collector.Places.Reach.{at_root}
 use Rattle.model.specs.Collector.Table.{cell_at}
-use Rattle.model.specs.Collector.Invariant.{Invariant}
+use Rattle.model.specs.Collector.Invariant.{Invariant, In}
 use Rattle.model.proofs.CollectorLemmas.Moving.{AllMay}
 use Rattle.model.proofs.CollectorLemmas.Known.{ref_may, locals_known, stack_known, monitor_known, word_known}
 use Rattle.join.specs.Naming.{Naming, named_ref, named_value, named_entry, named_frame, named_thread, Named, named_field, named_contents, named_object}
 use Rattle.join.specs.OnCells.{on_cells, InCell, held_object}
-use Rattle.join.specs.Joined.{Bounded, Joint}
+use Rattle.join.specs.Joined.{Bounded, Joint, named_account}
 use Rattle.join.specs.ReadBack.{birth_read, ReadsBack}
 use Rattle.join.specs.TurnsOnCells.{CellMachine}
 use Rattle.join.proofs.Agreeing.{threads_agree, fields_agree, contents_agree}
@@ -141,6 +142,15 @@ module _ (h : Naming) (shape : HeapShape) (w : World) (a : Account) (named : Nam
       ∙ contents_agree back (λ b. b) (Reach w) back_same o.contents (ref_may (Reach w) (contents_refs o.contents) (λ k b' e. word_known w b k b' o r made e))
       ∙ contents_same o.contents
 
+  grey_read : (bs : List ℕ) → ((b : ℕ) → In b bs → InCell h a.cells w b) → map read (map h bs) ≡ bs
+  grey_read [] k = refl
+  grey_read (b ∷ bs) k = rw (birth_back h a.cells w b (k b (inl refl)), grey_read bs (λ d l. k d (inr l))) refl
+
+  account_read : named_account read (named_account h a) ≡ a
+  account_read =
+      ap (λ (bs : List ℕ). let x : Account = record a { grey = bs } in x)
+      (grey_read a.grey (λ b l. (let g = i.tidy.only_grey b l in in_cell_at h shape w a named i g.0 b Grey g.1)))
+
   -- whatever cell holds the birth
   object_read : (c b : ℕ) (x : Colour) → cell_at a.cells c ≡ Taken b x → Reach w b → option_map (named_object read) (object_at (on_cells h a.cells w) (suc c)) ≡ object_at w b
   object_read c b x held r =
@@ -168,8 +178,7 @@ reads_back program shape limits on m i bound joint =
       fault = ap (λ (x : World). x.fault) j.world;
       rows = ap (λ (x : World). x.rows) j.world;
       births = j.births;
-      cells = cells;
-      phase = ap (λ (x : Account). x.phase) j.account;
+      account = rw j.account (account_read h shape w a j.named i);
       reached = λ b r. (let s = reached_in_cell h shape w a j.named i b r in record { cell = s.cell; colour = s.colour; held = rw cells s.held });
       objects = λ b r s. (let held = s.held in rw (cells, j.world) (object_read h shape w a j.named i s.cell b s.colour (rw (← cells) held) r));
       status = ap (status_in program) j.world ∙ status_on_cells h a.cells program limits w u;

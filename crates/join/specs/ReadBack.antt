@@ -16,6 +16,7 @@ use Rattle.model.specs.Collector.Places.{Reach}
 use Rattle.model.specs.Collector.Table.{cell_at}
 use Rattle.join.specs.Naming.{Naming, named_field, named_thread, named_object}
 use Rattle.join.specs.TurnsOnCells.{CellMachine, row_on}
+use Rattle.join.specs.Joined.{named_account}
 
 -- What can be read of a machine on cells: with the birth in its cell in place of each reference, it is the ideal
 -- machine.
@@ -43,8 +44,8 @@ pub record ReadsBack (program : List ClassListing) (limits : Limits) (x : CellMa
   pub fault : x.world.fault ≡ m.world.fault
   pub rows : x.world.rows ≡ m.world.rows
   pub births : x.births ≡ next_birth m.world
-  pub cells : x.account.cells ≡ m.account.cells
-  pub phase : x.account.phase ≡ m.account.phase
+  -- cells and colours, free lists and the phase as they stand, and the grey births
+  pub account : named_account (birth_read x.account.cells) x.account ≡ m.account
   -- each birth that a path reaches has a cell, and there its object
   pub reached : (b : ℕ) → Reach m.world b → HasCell x b
   pub objects :

@@ -20,7 +20,7 @@ ghost use Rattle.join.specs.Runs.{EachRun, EachTurn, EachTurnIsShown, OpeningIsB
 ///
 /// So the machines are joined after every list of turns; and what is read off the cells then, with the birth in its
 /// cell in place of each reference, is the ideal machine: its threads, static fields, class states, output and fault,
-/// the objects that paths reach, the status, and the refusal or the row of each turn to come.
+/// the objects that paths reach, the account, the status, and the refusal or the row of each turn to come.
 pub fn turns_on_cells_are_ideal_turns()
     ensures opening { OpeningIsJoined }
     ensures opening_bounded { OpeningIsBounded }
