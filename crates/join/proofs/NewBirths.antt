@@ -38,6 +38,7 @@ module _ (h : Naming) (shape : HeapShape) (w : World) (a : Account) (named : Nam
   pub born_before : (b : ℕ) → Reach w b → b < next_birth w
   born_before b r = let k = reach_kept shape w (next_birth w) a b i r in i.tidy.born k.cell b k.colour k.held
 
+  -- what a turn may write keeps the bound
   pub bounded_after : (c : Change) → Bounded w → Allowed w c → Bounded c.after
   bounded_after c bound al b k b' e =
       let n = al.counted in
@@ -52,6 +53,8 @@ module _ (h : Naming) (shape : HeapShape) (w : World) (a : Account) (named : Nam
       fresh None n (inr s) = omega (arith, n, s)
       fresh (Some words) n (inl s) = omega (arith, n, s)
       fresh (Some words) n (inr s) = omega (arith, n, s)
+
+  -- ---- the naming with the new birth
 
   module _ (bound : Bounded w) (c : ℕ) (free : cell_at a.cells c ≡ Free) (within : c < length a.cells) where
     abbrev pub naming_with : ℕ → ℕ
@@ -83,6 +86,8 @@ module _ (h : Naming) (shape : HeapShape) (w : World) (a : Account) (named : Nam
       | inr s ↦ sym (old_name b (i.tidy.born d b x s)) ∙ named d b x s
     ]
 
+    -- ---- what leads to births that were made has one image under both
+
     pub frame_may : (t d : ℕ) (f : Frame) → slice_get (frames_at w t) d ≡ Some f → FrameMay h naming_with (λ b. b < next_birth w) old_name f
     frame_may t d f e = record {
       locals = may_all (Reach w) _ (map entry_ref f.locals) born_before (locals_known w t d f e);
@@ -105,6 +110,8 @@ module _ (h : Naming) (shape : HeapShape) (w : World) (a : Account) (named : Nam
     held_alike : (new : Object) (z : Cell) → ((b : ℕ) (x : Colour) → z ≡ Taken b x → b < next_birth w) → held_object naming_with (w.objects ++ new ∷ []) z ≡ held_object h w.objects z
     held_alike new Free k = refl
     held_alike new (Taken b x) k = ap (λ r. named_object naming_with (object_or_nobody r)) (get-older w.objects new b (k b x refl)) ∙ held_if b (slice_get w.objects b) refl
+
+    -- ---- the world with the new object
 
     pub new_on_cells : (new : Object) → LeadNowhere (contents_refs new.contents) → on_cells naming_with cells_with (with_new w new) ≡ with_object (on_cells h a.cells w) (suc c) new
     new_on_cells new empty =
