@@ -12,7 +12,7 @@ use Rattle.model.specs.Collector.Moves.{LeadNowhere}
 use Rattle.model.proofs.CollectorLemmas.Moving.{AllMay}
 use Rattle.join.specs.Naming.{Naming, named_ref, named_value, named_entry, named_field, named_frame, named_thread, named_contents}
 
--- two namings that agree on some births name matches what leads to these alone
+-- two namings that agree on some births have one image of what leads to these alone
 
 module _ (h g : Naming) (P : ℕ → Type 0) (same : (b : ℕ) → P b → h b ≡ g b) where
   pub ref_agrees : (r : Option ℕ) → ((b : ℕ) → r ≡ Some b → P b) → named_ref h r ≡ named_ref g r

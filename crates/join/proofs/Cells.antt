@@ -12,9 +12,9 @@ use Rattle.join.specs.Naming.{Naming, named_object, named_contents, Named}
 use Rattle.join.specs.OnCells.{held_object, nobody, on_cells, InCell}
 use Rattle.join.proofs.Lists.{get-set_same, get-set_other}
 
--- an object is read in its cell, and written image alone
+-- an object is read in its cell, and written in that cell alone
 
--- ---- lists
+-- ---- lists of cells
 
 pub mapped_at : (f : Cell → Object) (cells : List Cell) (c b : ℕ) (x : Colour) → cell_at cells c ≡ Taken b x → slice_get (map f cells) c ≡ Some (f (Taken b x))
 mapped_at f [] c b x e = absurd (cc)

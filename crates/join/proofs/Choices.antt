@@ -22,8 +22,8 @@ use Rattle.model.specs.Collector.Runs.{moved_by}
 use Rattle.model.proofs.CollectorLemmas.FindingRoom.{chooses_by_room}
 use Rattle.model.proofs.CollectorLemmas.Rooms.{room_is_listed}
 
--- a thread's turn in the ideal machine, told by what its instruction comes to and without outcomes: as on cells, what was
--- written is shaded, and a fault leaves the account
+-- a thread's turn in the ideal machine, told by what its instruction comes to and without outcomes: as on cells, what
+-- was written is shaded, and a fault leaves the account
 
 abbrev pub by_room : Bool → Choice
 by_room true = NewObject
@@ -50,7 +50,7 @@ ideal_by program m t c choice = ideal_carried m.account (next_birth m.world) (ob
 unfoldable pub ideal_turned : List ClassListing → Machine → ℕ → Completion → Machine
 ideal_turned program m t c = ideal_by program m t c (chosen m.account (asks c))
 
--- ---- that is the turn
+-- ---- so told it is the turn of the ideal machine
 
 module _ (program : List ClassListing) (shape : HeapShape) (limits : Limits) (m : Machine) (t : ℕ) where
   abbrev effect : Choice → Effect

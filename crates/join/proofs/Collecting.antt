@@ -26,7 +26,8 @@ use Rattle.join.proofs.Places.{entries_on_cells, slots_on_cells, slot_on_cells, 
 use Rattle.join.proofs.Reached.{in_cell_at, kept_in_cell, reached_in_cell, root_in_cell}
 use Rattle.join.proofs.Frames.{frames_on_cells}
 
--- a collector's step on cells is the table's step on births
+-- a collector's step on cells is the table's step on births. It moves nobody: the naming stays, and the world on cells
+-- changes in the cell that is given back alone
 
 -- ---- what a step does to the account
 

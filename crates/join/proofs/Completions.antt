@@ -17,7 +17,8 @@ use Rattle.join.specs.OnCells.{on_cells, completion_on, site_on}
 use Rattle.join.proofs.Naming.{replaced_named, births_named}
 use Rattle.join.proofs.Frames.{running_named, frames_on_cells, thread_on_cells}
 
--- an instruction that changes the running frame alone comes to the same on cells
+-- what the families share: an instruction that changes the running frame alone, or puts one word, or raises an
+-- exception, comes to the same on cells
 
 module _ (h : Naming) where
   module _ (cells : List Cell) where

@@ -18,7 +18,7 @@ use Rattle.join.specs.OnCells.{on_cells}
 use Rattle.join.proofs.Naming.{units_named}
 use Rattle.join.proofs.Lists.{reverse-map}
 
--- a thread's frames under a naming
+-- a thread's frames under a naming: as many, in as much room, with the same methods, pcs and marks
 
 module _ (h : Naming) where
   pub running_named : (fs : List Frame) (f : Frame) → with_running (map (named_frame h) fs) (named_frame h f) ≡ map (named_frame h) (with_running fs f)

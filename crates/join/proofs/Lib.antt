@@ -9,11 +9,17 @@ pub mod Lists
 pub mod Monitors
 pub mod Naming
 pub mod NewBirths
+pub mod Opening
+pub mod Outcomes
 pub mod Places
 pub mod Reached
 pub mod ReadingBack
+pub mod Refusals
 pub mod Runs
 pub mod Shading
 pub mod Table
+pub mod Taking
 pub mod Turns
 pub mod Unwinding
+pub mod Words
+pub mod WorkedRuns

@@ -12,7 +12,7 @@ use Rattle.model.specs.Frames.{Frame, Moved, top_of, as_int, as_long, as_ref, in
 use Rattle.model.specs.Locals.{of_kind, as_kind, value_on}
 use Rattle.join.specs.Naming.{Naming, named_ref, named_value, named_frame, named_moved, named_result}
 
--- what an instruction finds on a stack and leaves image, under another naming of references
+-- what an instruction finds on a stack and leaves there, under a naming: tests look at kinds and lengths, which stay
 
 module _ (h : Naming) where
   -- ---- an answer under the naming

@@ -27,7 +27,8 @@ use Rattle.join.proofs.Cells.{mapped_alike}
 use Rattle.join.proofs.Agreeing.{FrameMay, threads_agree, fields_agree, contents_agree, nowhere_named}
 use Rattle.join.proofs.Lists.{get-older, get-newest}
 
--- a birth comes into a free cell
+-- a birth comes into a free cell: the naming with it agrees with the one before on every birth that was made, and words
+-- lead to such births alone, in garbage too. So the world on cells changes in that one cell
 
 may_all : (P Q : ℕ → Type 0) (rs : List (Option ℕ)) → ((b : ℕ) → P b → Q b) → AllMay P rs → AllMay Q rs
 may_all P Q [] f k = tt
@@ -37,6 +38,7 @@ module _ (h : Naming) (shape : HeapShape) (w : World) (a : Account) (named : Nam
   pub born_before : (b : ℕ) → Reach w b → b < next_birth w
   born_before b r = let k = reach_kept shape w (next_birth w) a b i r in i.tidy.born k.cell b k.colour k.held
 
+  -- what a turn may write keeps the bound
   pub bounded_after : (c : Change) → Bounded w → Allowed w c → Bounded c.after
   bounded_after c bound al b k b' e =
       let n = al.counted in
@@ -51,6 +53,8 @@ module _ (h : Naming) (shape : HeapShape) (w : World) (a : Account) (named : Nam
       fresh None n (inr s) = omega (arith, n, s)
       fresh (Some words) n (inl s) = omega (arith, n, s)
       fresh (Some words) n (inr s) = omega (arith, n, s)
+
+  -- ---- the naming with the new birth
 
   module _ (bound : Bounded w) (c : ℕ) (free : cell_at a.cells c ≡ Free) (within : c < length a.cells) where
     abbrev pub naming_with : ℕ → ℕ
@@ -82,6 +86,8 @@ module _ (h : Naming) (shape : HeapShape) (w : World) (a : Account) (named : Nam
       | inr s ↦ sym (old_name b (i.tidy.born d b x s)) ∙ named d b x s
     ]
 
+    -- ---- what leads to births that were made has one image under both
+
     pub frame_may : (t d : ℕ) (f : Frame) → slice_get (frames_at w t) d ≡ Some f → FrameMay h naming_with (λ b. b < next_birth w) old_name f
     frame_may t d f e = record {
       locals = may_all (Reach w) _ (map entry_ref f.locals) born_before (locals_known w t d f e);
@@ -105,6 +111,8 @@ module _ (h : Naming) (shape : HeapShape) (w : World) (a : Account) (named : Nam
     held_alike new Free k = refl
     held_alike new (Taken b x) k = ap (λ r. named_object naming_with (object_or_nobody r)) (get-older w.objects new b (k b x refl)) ∙ held_if b (slice_get w.objects b) refl
 
+    -- ---- the world with the new object
+
     pub new_on_cells : (new : Object) → LeadNowhere (contents_refs new.contents) → on_cells naming_with cells_with (with_new w new) ≡ with_object (on_cells h a.cells w) (suc c) new
     new_on_cells new empty =
         let threads = threads_agree h naming_with (λ b. b < next_birth w) old_name w.threads frame_may in
@@ -117,7 +125,7 @@ module _ (h : Naming) (shape : HeapShape) (w : World) (a : Account) (named : Nam
         ∙ ap (λ ts. record (on_cells naming_with cells_with (with_new w new)) { threads = ts; objects = nobody ∷ set (map (held_object h w.objects) a.cells) c new }) (sym threads)
         ∙ ap (λ fs. record (with_object (on_cells h a.cells w) (suc c) new) { statics = record { fields = fs; states = w.statics.states } }) (sym slots)
 
-    -- what stood stands
+    -- what stood in a cell stands there
     pub in_cell_with : (new : Object) (b : ℕ) → InCell h a.cells w b → InCell naming_with cells_with (with_new w new) b
     in_cell_with new b s =
         let l = i.tidy.born s.cell b s.colour s.held in

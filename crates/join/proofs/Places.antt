@@ -18,7 +18,7 @@ use Rattle.join.proofs.Cells.{object_in_cell}
 use Rattle.join.proofs.Lists.{reverse-map}
 use Rattle.join.proofs.Frames.{frames_on_cells}
 
--- what the collector sees on cells is what it sees in the ideal world, as references
+-- what the collector looks at: each place on cells has the reference of the birth that it has in the ideal world
 
 module _ (h : Naming) where
   pub ref_at_named : (rs : List (Option ℕ)) (k : ℕ) → ref_at (map (named_ref h) rs) k ≡ named_ref h (ref_at rs k)
@@ -36,7 +36,7 @@ module _ (h : Naming) where
   entry_ref_named (Holds v) = value_ref v
   entry_ref_named UpperHalf = refl
 
-  -- a list whose elements lead on under the naming as they did
+  -- a list whose elements lead to the names of what they led to
   through : {A : Type 0} (f : A → A) (g : A → Option ℕ) → ((x : A) → g (f x) ≡ named_ref h (g x)) → (xs : List A) → map g (map f xs) ≡ map (named_ref h) (map g xs)
   through f g k [] = refl
   through f g k (x ∷ xs) = rw (k x, through f g k xs) refl

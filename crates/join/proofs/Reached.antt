@@ -12,7 +12,8 @@ use Rattle.join.specs.Naming.{Naming, Named}
 use Rattle.join.specs.OnCells.{InCell, ReachedInCells}
 use Rattle.join.proofs.Lists.{get-within}
 
--- where the collector's invariant holds, what is reachable stands in a cell
+-- where the collector's invariant holds, what paths reach stands in a cell: it is kept, and what is kept has a cell.
+-- This is the one place where phases and colours count
 
 module _ (h : Naming) (shape : HeapShape) (w : World) (a : Account) (named : Named h a.cells) (i : Invariant shape w (next_birth w) a) where
   pub in_cell_at : (c b : ℕ) (x : Colour) → cell_at a.cells c ≡ Taken b x → InCell h a.cells w b

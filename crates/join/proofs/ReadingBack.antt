@@ -1,10 +1,11 @@
-use Rattle.std.proofs.Common.{◌≡◌, ℕ, suc, List, map, slice_get, Option, Some, None, refl, sym, ◌∙◌, ap, subst}
+use Rattle.std.proofs.Common.{◌≡◌, inl, inr, ℕ, suc, List, [], ◌∷◌, map, slice_get, Option, Some, None, refl, ◌∙◌, ap}
 use Rattle.std.specs.Option.{option_map}
 use Rattle.model.specs.declared.colours.Colour.{Colour}
+use Rattle.model.specs.declared.colours.Colour.TheVariants.{Grey}
 use Rattle.model.specs.declared.values.Value.{Value}
 use Rattle.model.specs.declared.values.Value.TheVariants.{Int, Long, Ref}
 use Rattle.model.specs.declared.values.Entry.{Entry}
-use Rattle.model.specs.declared.values.Entry.TheVariants.{Unset, Holds, UpperHalf}
+use Rattle.model.specs.declared.values.Entry.TheVariants.{Unset, Holds as HoldsValue, UpperHalf}
 use Rattle.model.specs.declared.journals.HeapShape.{HeapShape}
 use Rattle.model.specs.Accounts.{Account}
 use Rattle.model.specs.declared.colours.Cell.{Cell}
@@ -14,23 +15,32 @@ use Rattle.model.specs.Worlds.{World, Thread, FieldValue, Contents, Object, next
 use Rattle.model.specs.Worlds.Thread.{Live, Ended}
 use Rattle.model.specs.Worlds.Contents.{Instance, Array}
 use Rattle.model.specs.Objects.{object_at}
+use Rattle.model.specs.declared.journals.Limits.{Limits}
+use Rattle.model.specs.ClassListings.{ClassListing}
+use Rattle.model.specs.Observers.{status_in}
+use Rattle.model.specs.Ready.{is_ready, thread_numbers}
+use Rattle.model.specs.Turns.{overflows, refusal}
+use Rattle.model.specs.Collector.Runs.{Holds}
 use Rattle.model.specs.Machines.{Machine}
 use Rattle.model.specs.Collector.Places.{Reach, root_at, slots_of, contents_refs}
 use Rattle.model.specs.Collector.Places.Place.{Slot}
 use Rattle.model.specs.Collector.Places.Reach.{at_root}
 use Rattle.model.specs.Collector.Table.{cell_at}
-use Rattle.model.specs.Collector.Invariant.{Invariant}
+use Rattle.model.specs.Collector.Invariant.{Invariant, In}
 use Rattle.model.proofs.CollectorLemmas.Moving.{AllMay}
 use Rattle.model.proofs.CollectorLemmas.Known.{ref_may, locals_known, stack_known, monitor_known, word_known}
 use Rattle.join.specs.Naming.{Naming, named_ref, named_value, named_entry, named_frame, named_thread, Named, named_field, named_contents, named_object}
 use Rattle.join.specs.OnCells.{on_cells, InCell, held_object}
-use Rattle.join.specs.Joined.{named_account, Joined}
+use Rattle.join.specs.Joined.{Bounded, Joint, named_account}
 use Rattle.join.specs.ReadBack.{birth_read, ReadsBack}
 use Rattle.join.specs.TurnsOnCells.{CellMachine}
 use Rattle.join.proofs.Agreeing.{threads_agree, fields_agree, contents_agree}
 use Rattle.join.proofs.Reached.{reached_in_cell, in_cell_at}
 use Rattle.join.proofs.Lists.{map-after, map-same}
 use Rattle.join.proofs.Cells.{mapped_at}
+use Rattle.join.proofs.Refusals.{ready_on_cells, overflows_on_cells, numbers_on_cells, status_on_cells, refusal_on_cells}
+use Rattle.join.proofs.Outcomes.{rows_on_cells}
+use Rattle.join.proofs.Joining.{reached_joined}
 
 -- what is read of the machine on cells is the ideal machine: a birth's reference leads back to the birth
 
@@ -54,7 +64,7 @@ module _ (h g : Naming) where
 
   entry_after : (e : Entry) → named_entry g (named_entry h e) ≡ named_entry both e
   entry_after Unset = refl
-  entry_after (Holds v) = ap Holds (value_after v)
+  entry_after (HoldsValue v) = ap HoldsValue (value_after v)
   entry_after UpperHalf = refl
 
   frame_after : (f : Frame) → named_frame g (named_frame h f) ≡ named_frame both f
@@ -82,7 +92,7 @@ value_same (Ref r) = ap Ref (ref_same r)
 
 entry_same : (e : Entry) → named_entry (λ b. b) e ≡ e
 entry_same Unset = refl
-entry_same (Holds v) = ap Holds (value_same v)
+entry_same (HoldsValue v) = ap HoldsValue (value_same v)
 entry_same UpperHalf = refl
 
 frame_same : (f : Frame) → named_frame (λ b. b) f ≡ f
@@ -133,6 +143,15 @@ module _ (h : Naming) (shape : HeapShape) (w : World) (a : Account) (named : Nam
       ∙ contents_agree back (λ b. b) (Reach w) back_same o.contents (ref_may (Reach w) (contents_refs o.contents) (λ k b' e. word_known w b k b' o r made e))
       ∙ contents_same o.contents
 
+  grey_read : (bs : List ℕ) → ((b : ℕ) → In b bs → InCell h a.cells w b) → map read (map h bs) ≡ bs
+  grey_read [] k = refl
+  grey_read (b ∷ bs) k = rw (birth_back h a.cells w b (k b (inl refl)), grey_read bs (λ d l. k d (inr l))) refl
+
+  account_read : named_account read (named_account h a) ≡ a
+  account_read =
+      ap (λ (bs : List ℕ). let x : Account = record a { grey = bs } in x)
+      (grey_read a.grey (λ b l. (let g = i.tidy.only_grey b l in in_cell_at h shape w a named i g.0 b Grey g.1)))
+
   -- whatever cell holds the birth
   object_read : (c b : ℕ) (x : Colour) → cell_at a.cells c ≡ Taken b x → Reach w b → option_map (named_object read) (object_at (on_cells h a.cells w) (suc c)) ≡ object_at w b
   object_read c b x held r =
@@ -142,24 +161,31 @@ module _ (h : Naming) (shape : HeapShape) (w : World) (a : Account) (named : Nam
 
 -- ---- the whole
 
-pub joined_reads : (h : Naming) (shape : HeapShape) (on : CellMachine) (m : Machine) → Invariant shape m.world (next_birth m.world) m.account → Joined h on m → ReadsBack on m
-joined_reads h shape on m i j =
+pub reads_back : (program : List ClassListing) (shape : HeapShape) (limits : Limits) (on : CellMachine) (m : Machine) → Holds shape m → Bounded m.world → Joint on m → ReadsBack program limits on m
+unfolding Holds
+reads_back program shape limits on m i bound joint =
+    let h = joint.naming in
+    let j = joint.joined in
     let w = m.world in
     let a = m.account in
-    subst (λ x. ReadsBack x m) (sym (same on j))
-    (record {
-      threads = threads_read h shape w a j.named i;
-      slots = slots_read h shape w a j.named i;
-      states = refl;
-      output = refl;
-      fault = refl;
-      rows = refl;
-      births = refl;
-      cells = refl;
-      phase = refl;
-      reached = λ b r. (let s = reached_in_cell h shape w a j.named i b r in record { cell = s.cell; colour = s.colour; held = s.held });
-      objects = λ b r s. object_read h shape w a j.named i s.cell b s.colour s.held r;
-    })
-  where
-    same : (x : CellMachine) → Joined h x m → x ≡ record { world = on_cells h m.account.cells m.world; account = named_account h m.account; births = next_birth m.world }
-    same x k = rw (k.world, k.account, k.births) refl
+    let u = reached_joined program shape limits on m i bound joint in
+    let cells = ap (λ (x : Account). x.cells) j.account in
+    let known = rows_on_cells program shape limits on m i bound joint in
+    record {
+      threads = rw (cells, j.world) (threads_read h shape w a j.named i);
+      slots = rw (cells, j.world) (slots_read h shape w a j.named i);
+      states = ap (λ (x : World). x.statics.states) j.world;
+      output = ap (λ (x : World). x.output) j.world;
+      fault = ap (λ (x : World). x.fault) j.world;
+      rows = ap (λ (x : World). x.rows) j.world;
+      births = j.births;
+      account = rw j.account (account_read h shape w a j.named i);
+      reached = λ b r. (let s = reached_in_cell h shape w a j.named i b r in record { cell = s.cell; colour = s.colour; held = rw cells s.held });
+      objects = λ b r s. (let held = s.held in rw (cells, j.world) (object_read h shape w a j.named i s.cell b s.colour (rw (← cells) held) r));
+      status = ap (status_in program) j.world ∙ status_on_cells h a.cells program limits w u;
+      threads_numbered = ap thread_numbers j.world ∙ numbers_on_cells h a.cells program limits w u;
+      ready = λ t. ap (λ x. is_ready program x t) j.world ∙ ready_on_cells h a.cells program limits w u t;
+      overflowing = λ t. ap (λ x. overflows program limits x t) j.world ∙ overflows_on_cells h a.cells program limits w u t;
+      refusals = λ actor. ap (λ x. refusal program limits x actor) j.world ∙ refusal_on_cells h a.cells program limits w u actor;
+      row = known;
+    }

@@ -15,7 +15,8 @@ use Rattle.join.specs.TurnsOnCells.{shade_at, shade_cell, shade_cells}
 use Rattle.join.specs.Joined.{named_account}
 use Rattle.join.proofs.Cells.{mapped_set}
 
--- shading a birth is shading its cell
+-- shading a birth, told by a change of every cell, is shading its cell: no other cell holds the birth, since a naming
+-- has one cell for it
 
 -- a change of every cell that concerns one birth alone is a write of one cell
 pub written : (h : Naming) (g : Cell → Cell) (cells : List Cell) (c b : ℕ) (x : Colour) → Named h cells → ((z : Cell) → ((y : Colour) → z ≡ Taken b y → ⊥) → z ≡ g z) → cell_at cells c ≡ Taken b x → map g cells ≡ set cells c (g (Taken b x))

@@ -1,5 +1,6 @@
 pub mod Arrays
 pub mod Branches
+pub mod Builtins
 pub mod Constants
 pub mod Fields
 pub mod Initialisation
@@ -14,3 +15,4 @@ pub mod Stacks
 pub mod Statics
 pub mod Switches
 pub mod Threads
+pub mod Throws

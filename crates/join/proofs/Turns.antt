@@ -1,4 +1,4 @@
-use Rattle.std.proofs.Common.{◌≡◌, ◌⊎◌, inl, inr, ℕ, suc, ◌+◌, ◌-◌, List, [], ◌∷◌, ◌++◌, length, map, slice_get, nat_le, Bool, true, false, is_some, Option, Some, None, Result, Ok, Err, refl, sym, ◌∙◌, ap, subst}
+use Rattle.std.proofs.Common.{◌≡◌, ◌⊎◌, inl, inr, ℕ, suc, ◌+◌, ◌-◌, List, [], ◌∷◌, ◌++◌, length, map, slice_get, is_some, Option, Some, None, Result, Ok, Err, refl, sym, ◌∙◌, ap, subst}
 use Rattle.std.specs.Option.{option_map}
 use Rattle.std.proofs.lemmas.List.{map-append}
 use Rattle.model.specs.declared.colours.Colour.TheVariants.{Grey}
@@ -12,7 +12,7 @@ use Rattle.model.specs.declared.turns.Fault.TheVariants.{NoInstruction, StackFul
 use Rattle.model.specs.declared.values.Value.TheVariants.{Ref}
 use Rattle.model.specs.ClassListings.{ClassListing}
 use Rattle.model.specs.Classes.Exceptions.{exception_class}
-use Rattle.model.specs.Accounts.{Account, first_cell, or_larger, take_cell, with_new as with_birth, shade_all}
+use Rattle.model.specs.Accounts.{Account, take_cell, with_new as with_birth, shade_all}
 use Rattle.model.specs.declared.colours.Cell.{Cell}
 use Rattle.model.specs.Frames.{Frame, Moved, running, with_running, replaced_if_room}
 use Rattle.model.specs.Worlds.{World, Contents, Object, frames_at, next_birth, with_thread, with_class_states, with_fault, with_output, plain_object}
@@ -46,27 +46,10 @@ use Rattle.join.proofs.Unwinding.{thrown_on_cells}
 use Rattle.join.proofs.Agreeing.{frame_agrees}
 use Rattle.join.proofs.NewBirths.{naming_with, cells_with, old_name, new_name, named_with, frame_may, new_on_cells, in_cell_with, in_cell_new, refs_with, born_before}
 use Rattle.join.proofs.Frames.{running_named, frames_on_cells, running_on_cells, thread_on_cells}
+use Rattle.join.proofs.Taking.{named_taken, take_on_cells}
 
--- a thread's turn on cells is the ideal turn
-
--- ---- taking a cell doesn't look at the grey list
-
-abbrev named_choice : (ℕ → ℕ) → ℕ × Account → ℕ × Account
-named_choice h cell = (cell.0, named_account h cell.1)
-
-or_on_cells : (h : Naming) (fits : Bool) (put on : List ℕ → Account) (o : Option (ℕ × List ℕ)) (further : Option (ℕ × Account)) → ((cs : List ℕ) → on cs ≡ named_account h (put cs)) → or_larger fits on o (option_map (named_choice h) further) ≡ option_map (named_choice h) (or_larger fits put o further)
-or_on_cells h true put on (Some cell) further k = ap (λ a. Some (cell.0, a)) (k cell.1)
-or_on_cells h true put on None further k = refl
-or_on_cells h false put on o further k = refl
-
-take_on_cells : (h : Naming) (a : Account) (words : ℕ) → take_cell (named_account h a) words ≡ option_map (named_choice h) (take_cell a words)
-take_on_cells h a words =
-    let large = or_on_cells h (nat_le words 256) (λ cs. record a { large = cs }) (λ cs. record (named_account h a) { large = cs }) (first_cell a.large) None (λ cs. refl) in
-    let medium = or_on_cells h (nat_le words 32) (λ cs. record a { medium = cs }) (λ cs. record (named_account h a) { medium = cs }) (first_cell a.medium) (or_larger (nat_le words 256) (λ cs. record a { large = cs }) (first_cell a.large) None) (λ cs. refl) in
-    let small = or_on_cells h (nat_le words 4) (λ cs. record a { small = cs }) (λ cs. record (named_account h a) { small = cs }) (first_cell a.small) (or_larger (nat_le words 32) (λ cs. record a { medium = cs }) (first_cell a.medium) (or_larger (nat_le words 256) (λ cs. record a { large = cs }) (first_cell a.large) None)) (λ cs. refl) in
-    ap (λ o. or_larger (nat_le words 4) (λ cs. record (named_account h a) { small = cs }) (first_cell a.small) (or_larger (nat_le words 32) (λ cs. record (named_account h a) { medium = cs }) (first_cell a.medium) o)) large
-    ∙ ap (λ o. or_larger (nat_le words 4) (λ cs. record (named_account h a) { small = cs }) (first_cell a.small) o) medium
-    ∙ small
+-- a thread's turn on cells is the ideal turn, case by case of what its instruction comes to. Where an object is made
+-- the naming after the turn has one birth more; in each other case it stays
 
 -- ---- what a turn without a new object comes to
 
@@ -282,7 +265,7 @@ module _ (h : Naming) (shape : HeapShape) (m : Machine) (i : Invariant shape m.w
   -- ---- the turn, whatever the instruction comes to
 
   module _ (bound : Bounded w) (none : w.fault ≡ None) (program : List ClassListing) (u : ℕ) where
-    created_turn : (next taken : ℕ) (contents : Contents) → LeadNowhere (contents_refs contents) → (o : Option (ℕ × Account)) → take_cell a (words_in contents) ≡ o → Joint (created_at program on u next taken contents (option_map (named_choice h) o)) (ideal_by program m u (Creates next taken contents) (by_room (is_some o)))
+    created_turn : (next taken : ℕ) (contents : Contents) → LeadNowhere (contents_refs contents) → (o : Option (ℕ × Account)) → take_cell a (words_in contents) ≡ o → Joint (created_at program on u next taken contents (option_map (named_taken h) o)) (ideal_by program m u (Creates next taken contents) (by_room (is_some o)))
     created_turn next taken contents empty None e = memory_thrown program u w.statics.states (effect_lawful program w u NoRoom (Creates next taken contents) empty)
     created_turn next taken contents empty (Some cell) e =
         subst (λ o. Joint (created_in on u next taken contents cell.0 (named_account h cell.1) o) (ideal_by program m u (Creates next taken contents) NewObject)) (sym (running_on_cells h a.cells w u))
@@ -292,7 +275,7 @@ module _ (h : Naming) (shape : HeapShape) (m : Machine) (i : Invariant shape m.w
     raised_turn : (exception : Exception) (states : List ClassState) → let v = with_class_states w states in
         Lawful w None (thrown program w v u 1) → Lawful w (Some 0) (thrown program w (with_new v (plain_object (exception_class exception))) u n) →
         (o : Option (ℕ × Account)) → take_cell a 0 ≡ o →
-        Joint (raised_at program on (with_class_states on.world states) u exception (option_map (named_choice h) o)) (ideal_carried a n (object_of (by_room (is_some o)) (Some 0)) (raised program w v u exception (by_room (is_some o))))
+        Joint (raised_at program on (with_class_states on.world states) u exception (option_map (named_taken h) o)) (ideal_carried a n (object_of (by_room (is_some o)) (Some 0)) (raised program w v u exception (by_room (is_some o))))
     raised_turn exception states l k None e = memory_thrown program u states l
     raised_turn exception states l k (Some cell) e = raised_joint bound 0 cell e program u exception states none k
 

@@ -24,10 +24,11 @@ use Rattle.join.proofs.Monitors.{MonitorInCell, MonitorsInCells, all_released, r
 use Rattle.join.proofs.Lists.{reverse-map}
 use Rattle.join.proofs.Frames.{frames_on_cells, thread_on_cells}
 
--- a throwable does the same on cells
+-- a throwable does the same on cells: where it lands is told by methods, pcs and marks, and the frames on its way hold
+-- monitors of births that paths reach
 
 module _ (h : Naming) where
-  -- ---- the way: which frames handle it is told by their methods, pcs and marks
+  -- ---- the way
 
   handler_named : (program : List ClassListing) (class : List ℕ) (f : Frame) (mark : Mark) → handler_of program class (named_frame h f) mark ≡ handler_of program class f mark
   handler_named program class f Unmarked = refl

@@ -16,8 +16,8 @@ use Rattle.model.specs.Unwinding.Landing.{Handled, Stopped, Unhandled}
 use Rattle.model.specs.Collector.Table.{cell_at}
 
 -- Births under other names. The machine will hold references, numbers of cells and one more; the ideal world holds
--- births. A naming tells of each birth the reference that it got when it was made. It never forgets: the collector takes
--- a birth out of its cell, and not out of the naming, so that what leads to a lost birth keeps its image too.
+-- births. A naming tells of each birth the reference that it got when it was made. It never forgets: the collector
+-- takes a birth out of its cell, and not out of the naming, so that what leads to a lost birth keeps its image too.
 
 abbrev pub Naming : Type 0
 Naming = ℕ → ℕ

@@ -11,8 +11,8 @@ use Rattle.model.specs.Collector.Places.{Reach}
 use Rattle.model.specs.Collector.Table.{cell_at}
 use Rattle.join.specs.Naming.{Naming, Named, named_field, named_frame, named_thread, named_object}
 
--- The world on cells: a world of the same definitions, in which an object stands at the number of its cell and one more.
--- So 0 is nobody's on both sides, and births 1 and 2, in the first two cells, are 1 and 2 on both.
+-- The world on cells: a world of the same definitions, in which an object stands at the number of its cell and one
+-- more. So 0 is nobody's on both sides, and births 1 and 2, in the first two cells, are 1 and 2 on both.
 
 -- ---- objects come into cells
 
@@ -64,7 +64,8 @@ site_on h cells s = record {
 abbrev pub effect_on : Naming → List Cell → Effect → Effect
 effect_on h cells e = record { after = on_cells h cells e.after; writes = map h e.writes }
 
--- an effect on cells, and one of the ideal world: both a fault, of the world before on its side, or one the other's image
+-- an effect on cells, and one of the ideal world: both a fault, of the world before on its side, or one the other's
+-- image
 pub data Matches (h : Naming) (cells : List Cell) (on before : World) (t : ℕ) (e f : Effect) : Type 0 where
   faults : (fault : Fault) → e ≡ faulted on t fault → f ≡ faulted before t fault → Matches h cells on before t e f
   matches : e ≡ effect_on h cells f → f.after.fault ≡ before.fault → Matches h cells on before t e f

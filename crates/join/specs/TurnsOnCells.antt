@@ -1,9 +1,12 @@
-use Rattle.std.specs.Prelude.{ℕ, zero, suc, ◌+◌, List, [], ◌∷◌, ◌++◌, length, slice_set, nat_lt, Bool, true, false, Option, Some, None, Result, Ok, Err}
+use Rattle.std.specs.Prelude.{ℕ, zero, suc, ◌+◌, List, [], ◌∷◌, ◌++◌, length, slice_set, nat_lt, Bool, true, false, Option, Some, None, if◌then◌else◌, Result, Ok, Err}
 use Rattle.model.specs.declared.colours.Colour.TheVariants.{White, Grey, Black}
 use Rattle.model.specs.declared.colours.Phase.{Phase}
 use Rattle.model.specs.declared.colours.Phase.TheVariants.{Idle, Statics, Frames, Mark, Append}
 use Rattle.model.specs.declared.journals.HeapShape.{HeapShape}
 use Rattle.model.specs.declared.journals.Limits.{Limits}
+use Rattle.model.specs.declared.journals.Outcome.{Outcome}
+use Rattle.model.specs.declared.journals.Outcome.TheVariants.{Done, Object as GotObject, NoRoom as FoundNoRoom}
+use Rattle.model.specs.declared.journals.Row.{Row}
 use Rattle.model.specs.declared.turns.Abrupt.{Abrupt}
 use Rattle.model.specs.declared.turns.Actor.{Actor}
 use Rattle.model.specs.declared.turns.Actor.TheVariants.{Thread, Collector}
@@ -15,7 +18,7 @@ use Rattle.model.specs.declared.turns.Turn.{Turn}
 use Rattle.model.specs.declared.values.Value.TheVariants.{Ref}
 use Rattle.model.specs.ClassListings.{ClassListing}
 use Rattle.model.specs.Classes.Exceptions.{exception_class}
-use Rattle.model.specs.Accounts.{Account, take_cell, opening_account}
+use Rattle.model.specs.Accounts.{Account, take_cell, has_room, opening_account}
 use Rattle.model.specs.declared.colours.Cell.{Cell}
 use Rattle.model.specs.declared.colours.Cell.TheVariants.{Free, Taken}
 use Rattle.model.specs.Frames.{Frame, Moved, running, with_running, replaced_if_room}
@@ -26,8 +29,9 @@ use Rattle.model.specs.Results.{Effect}
 use Rattle.model.specs.Unwinding.{thrown}
 use Rattle.model.specs.Completions.{Completion}
 use Rattle.model.specs.Completions.Completion.{Goes, Prints, Creates, Throws, Raises, Denies, Faults, Waits}
-use Rattle.model.specs.Turns.{refusal}
-use Rattle.model.specs.Table.Next.{completion}
+use Rattle.model.specs.Turns.{refusal, is_fault}
+use Rattle.model.specs.Table.Next.{completion, asked}
+use Rattle.model.specs.Machines.{outcome_by, told_of}
 use Rattle.model.specs.Collector.Places.{slots_of, entries_at, words_of, root_at, word_at}
 use Rattle.model.specs.Collector.Places.Place.{Slot, FrameEntry, MethodMonitor}
 use Rattle.model.specs.Collector.Table.{cell_at, at_phase, append_step}
@@ -36,8 +40,8 @@ use Rattle.join.specs.OnCells.{nobody, on_cells}
 -- What turns do on cells. What an instruction comes to is told by the instruction table itself, on the world on cells;
 -- what follows looks at a cell, or writes one, where the account's definitions speak of births.
 
--- a world whose references are numbers of cells and one more, the account with such references in its grey list, and the
--- number of the next birth, which the world on cells doesn't tell
+-- a world whose references are numbers of cells and one more, the account with such references in its grey list, and
+-- the number of the next birth, which the world on cells doesn't tell
 pub record CellMachine : Type 0 where
   pub world : World
   pub account : Account
@@ -200,6 +204,40 @@ unless_refused_on program shape x actor None = counted_on (acted_on program shap
 
 unfoldable pub moved_on : List ClassListing → HeapShape → Limits → CellMachine → Actor → CellMachine
 moved_on program shape limits x actor = unless_refused_on program shape x actor (refusal program limits x.world actor)
+
+-- ---- the row of a turn
+
+abbrev pub faults_on : List ClassListing → CellMachine → ℕ → Bool
+faults_on program x t = is_fault (turned_on program x t (completion program x.world t)).world
+
+-- what comes of a turn that asks for so many words, unless it faults
+abbrev pub outcome_if_on : Account → Option ℕ → Outcome
+outcome_if_on a None = Done
+outcome_if_on a (Some words) = if has_room a words then GotObject else FoundNoRoom
+
+abbrev pub outcome_on : List ClassListing → CellMachine → Actor → Outcome
+outcome_on program x (Thread t) = outcome_by (faults_on program x t) (outcome_if_on x.account (asked program x.world t))
+outcome_on program x Collector = Done
+
+abbrev pub row_if_on : List ClassListing → CellMachine → Actor → ℕ → Option Turn → Option Row
+row_if_on program x actor worker (Some refused) = None
+row_if_on program x actor worker None =
+    Some (record { actor = actor; outcome = outcome_on program x actor; worker = worker })
+
+-- the row that an actor's turn makes, if it makes one
+abbrev pub row_on : List ClassListing → Limits → CellMachine → Actor → ℕ → Option Row
+row_on program limits x actor worker = row_if_on program x actor worker (refusal program limits x.world actor)
+
+-- what an actor's turn answers
+abbrev pub answer_if_on : CellMachine → Option Turn → Turn
+answer_if_on after (Some refused) = refused
+answer_if_on after None = told_of after.world.fault
+
+abbrev pub answer_on : List ClassListing → HeapShape → Limits → CellMachine → Actor → Turn
+answer_on program shape limits x actor =
+    answer_if_on (moved_on program shape limits x actor) (refusal program limits x.world actor)
+
+-- ---- a run
 
 -- one turn for each actor in order, whatever each comes to
 abbrev pub moved_on_by_all : List ClassListing → HeapShape → Limits → CellMachine → List Actor → CellMachine

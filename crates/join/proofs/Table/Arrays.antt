@@ -25,9 +25,9 @@ use Rattle.join.specs.OnCells.{site_on, completion_on, InCell, ReachedInCells}
 use Rattle.join.proofs.Cells.{contents_in_cell, class_in_cell}
 use Rattle.join.proofs.Naming.{renamed, ref_on_named, int_on_named, ref_below_named, value_on_named, pair_named, replaced_named}
 use Rattle.join.proofs.Completions.{moves_on_cells, puts_on_cells}
-use Rattle.join.proofs.Table.Fields.{word_named, kept_named, with_word_on_cells}
+use Rattle.join.proofs.Words.{word_named, kept_named, with_word_on_cells}
 
--- arrays come to the same on cells
+-- arrays come to the same on cells: a birth's elements stand in its cell's object in the same order
 
 module _ (h : Naming) where
   index_named : (z : ℤ) (c : Contents) → index_in z (named_contents h c) ≡ index_in z c
@@ -67,7 +67,7 @@ module _ (h : Naming) (cells : List Cell) (s : Site) (u : ReachedInCells h cells
   measured_on_cells (Ok None) k = refl
   measured_on_cells (Ok (Some b)) k = ap (length_of image) (contents_in_cell h cells s.world b (u.reached b (k b refl))) ∙ length_on_cells (contents_at s.world b)
 
-  -- ---- a place in an array: what is done image is the same, then so is the whole
+  -- ---- a place in an array, and what is done there
 
   place_on_cells : (kind : ElementKind) (z : ℤ) (b : ℕ) → InCell h cells s.world b → element_place image.world kind z (Some (h b)) ≡ if_array (is_array_of kind (contents_at s.world b)) (indexed (h b) (index_in z (contents_at s.world b)))
   place_on_cells kind z b k =

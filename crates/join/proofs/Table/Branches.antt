@@ -18,7 +18,8 @@ use Rattle.join.specs.Naming.{Naming, named_ref, named_value, named_frame, named
 use Rattle.join.specs.OnCells.{InCell, ReachedInCells}
 use Rattle.join.proofs.Naming.{renamed, ref_on_named, ref_below_named, int_on_named, pair_named, replaced_named}
 
--- branches come to the same on cells: two reachable births stand in two cells
+-- branches come to the same on cells: two births that paths reach stand in two cells, so two references are one exactly
+-- where the births are one
 
 module _ (h : Naming) where
   branched_named : (next target : ℕ) (f : Frame) (n : ℕ) (r : Result Bool Fault) → branched_on next target (named_frame h f) n r ≡ named_result h (branched_on next target f n r)

@@ -8,7 +8,7 @@ use Rattle.model.specs.Table.Constants.{constant_value, constant}
 use Rattle.join.specs.Naming.{Naming, named_frame, named_result}
 use Rattle.join.proofs.Naming.{if_room_named}
 
--- constants come to the same under a naming
+-- constants come to the same under a naming: none is a birth
 
 module _ (h : Naming) where
   pub constant_named : (next : ℕ) (c : Constant ℤ ℤ) (f : Frame) → constant next c (named_frame h f) ≡ named_result h (constant next c f)

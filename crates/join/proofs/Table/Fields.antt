@@ -1,91 +1,35 @@
-use Rattle.std.proofs.Common.{◌≡◌, ℕ, zero, suc, ◌+◌, List, [], ◌∷◌, map, drop, not, if◌then◌else◌, Option, Some, None, Result, Ok, Err, refl, sym, ◌∙◌, ap}
-use Rattle.std.specs.List.{prefix_len}
+use Rattle.std.proofs.Common.{◌≡◌, ℕ, List, [], ◌∷◌, map, drop, Option, Some, None, Result, Ok, Err, refl, ◌∙◌, ap}
 use Rattle.std.specs.Option.{option_and_then}
-use Rattle.std.proofs.lemmas.List.{map-set, length-map}
 use Rattle.model.specs.declared.listings.Field.{Field}
 use Rattle.model.specs.declared.names.Member.{Member}
 use Rattle.model.specs.declared.instructions.Access.{Access}
 use Rattle.model.specs.declared.instructions.Access.TheVariants.{Get, Put}
 use Rattle.model.specs.declared.values.Value.{Value}
-use Rattle.model.specs.declared.values.Value.TheVariants.{Int, Long, Ref}
 use Rattle.model.specs.declared.turns.Fault.{Fault}
-use Rattle.model.specs.Stores.{Storage, storage_of, descriptor_kind, kept}
-use Rattle.model.specs.Stores.Storage.{Ints, Longs, References}
+use Rattle.model.specs.Stores.{storage_of, descriptor_kind, kept}
 use Rattle.model.specs.Classes.Types.{is_subtype}
 use Rattle.model.specs.Classes.Resolution.{resolved_field}
 use Rattle.model.specs.Classes.Search.{Declared}
 use Rattle.model.specs.declared.colours.Cell.{Cell}
 use Rattle.model.specs.Frames.{both, ref_on, running, replaced_if_room}
 use Rattle.model.specs.Locals.{value_on}
-use Rattle.model.specs.Worlds.{World, FieldValue, Contents}
-use Rattle.model.specs.Worlds.Contents.{Instance, Array}
-use Rattle.model.specs.Objects.{class_at, with_object}
+use Rattle.model.specs.Worlds.{Contents}
+use Rattle.model.specs.Objects.{class_at}
 use Rattle.model.specs.Completions.{Site, frames_in, completes}
-use Rattle.model.specs.Words.{is_field, field_index, value_at, with_value_at, contents_at, word_of, with_word_in, with_word_of, with_word}
+use Rattle.model.specs.Words.{field_index, contents_at, word_of, with_word}
 use Rattle.model.specs.Table.Fields.{fields_in, word_place, if_subclass, field_place, word_got, field_got, word_put, field_put_in, field_put, field_accessed}
 use Rattle.model.specs.Collector.Places.{ref_of, Reach}
 use Rattle.model.proofs.CollectorLemmas.Moving.{AllMay}
 use Rattle.model.proofs.CollectorLemmas.Known.{stack_known}
 use Rattle.model.proofs.CollectorLemmas.Words.{ref_on-known, both-second}
-use Rattle.join.specs.Naming.{Naming, named_ref, named_value, named_field, named_contents, named_object, named_frame}
+use Rattle.join.specs.Naming.{Naming, named_ref, named_value, named_contents, named_frame}
 use Rattle.join.specs.OnCells.{site_on, completion_on, on_cells, InCell, ReachedInCells}
-use Rattle.join.proofs.Cells.{object_in_cell, contents_in_cell, class_in_cell, put_on_cells}
+use Rattle.join.proofs.Cells.{contents_in_cell, class_in_cell}
 use Rattle.join.proofs.Naming.{renamed, ref_on_named, ref_below_named, value_on_named, pair_named, if_room_named}
 use Rattle.join.proofs.Completions.{completes_on_cells, puts_on_cells}
+use Rattle.join.proofs.Words.{word_named, kept_named, place_named, with_word_on_cells, fields_named}
 
--- getfield and putfield come to the same on cells
-
--- ---- words
-
-module _ (h : Naming) where
-  pub value_named : (fields : List FieldValue) (k : ℕ) → value_at (map (named_field h) fields) k ≡ named_value h (value_at fields k)
-  value_named [] k = refl
-  value_named (f ∷ fs) zero = refl
-  value_named (f ∷ fs) (suc k) = value_named fs k
-
-  element_named : (element : List ℕ) (values : List Value) (k : ℕ) → word_of (Array element (map (named_value h) values)) k ≡ named_value h (word_of (Array element values) k)
-  element_named element [] k = refl
-  element_named element (v ∷ vs) zero = refl
-  element_named element (v ∷ vs) (suc k) = element_named element vs k
-
-  pub word_named : (c : Contents) (k : ℕ) → word_of (named_contents h c) k ≡ named_value h (word_of c k)
-  word_named (Instance class fields) k = value_named fields k
-  word_named (Array element values) k = element_named element values k
-
-  pub with_value_named : (fields : List FieldValue) (k : ℕ) (v : Value) → with_value_at (map (named_field h) fields) k (named_value h v) ≡ map (named_field h) (with_value_at fields k v)
-  with_value_named [] k v = refl
-  with_value_named (f ∷ fs) zero v = refl
-  with_value_named (f ∷ fs) (suc k) v = ap (λ rest. named_field h f ∷ rest) (with_value_named fs k v)
-
-  pub with_word_named : (c : Contents) (k : ℕ) (v : Value) → with_word_in (named_contents h c) k (named_value h v) ≡ named_contents h (with_word_in c k v)
-  with_word_named (Instance class fields) k v = ap (Instance class) (with_value_named fields k v)
-  with_word_named (Array element values) k v = ap (Array element) (sym (map-set (named_value h) values k v))
-
-  pub kept_named : (storage : Storage) (v : Value) → kept storage (named_value h v) ≡ named_value h (kept storage v)
-  kept_named (Ints type) (Int z) = refl
-  kept_named (Ints type) (Long z) = refl
-  kept_named (Ints type) (Ref r) = refl
-  kept_named Longs v = refl
-  kept_named References v = refl
-
-  prefix_named : (field : Declared Field) (fields : List FieldValue) → prefix_len (λ x. not (is_field field x)) (map (named_field h) fields) ≡ prefix_len (λ x. not (is_field field x)) fields
-  prefix_named field [] = refl
-  prefix_named field (f ∷ fs) = ap (λ (n : ℕ). if not (is_field field f) then 1 + n else zero) (prefix_named field fs)
-
-  pub place_named : (field : Declared Field) (fields : List FieldValue) → field_index (map (named_field h) fields) field ≡ field_index fields field
-  place_named field fields = rw (prefix_named field fields, length-map fields (named_field h)) refl
-
-  fields_named : (c : Contents) → fields_in (named_contents h c) ≡ map (named_field h) (fields_in c)
-  fields_named (Instance class fields) = refl
-  fields_named (Array element values) = refl
-
-  module _ (cells : List Cell) (w : World) (u : ReachedInCells h cells w) where
-    pub with_word_on_cells : (b place : ℕ) (v : Value) → InCell h cells w b → with_word (on_cells h cells w) (h b) place (named_value h v) ≡ on_cells h cells (with_word w b place v)
-    with_word_on_cells b place v s =
-        ap (with_word_of (on_cells h cells w) (h b) place (named_value h v)) (object_in_cell h cells w b s)
-        ∙ ap (λ c. with_object (on_cells h cells w) (h b) (record (named_object h s.object) { contents = c })) (with_word_named s.object.contents place v)
-        ∙ sym (put_on_cells h cells w b (record s.object { contents = with_word_in s.object.contents place v }) u.named s)
-        ∙ ap (λ o. on_cells h cells (with_word_of w b place v o)) (sym s.made)
+-- getfield and putfield come to the same on cells: a birth's fields stand in its cell's object in the same order
 
 module _ (h : Naming) (cells : List Cell) (s : Site) (u : ReachedInCells h cells s.world) where
   abbrev image : Site
@@ -113,15 +57,15 @@ module _ (h : Naming) (cells : List Cell) (s : Site) (u : ReachedInCells h cells
   field_got_on_cells member (Ok None) k = refl
   field_got_on_cells member (Ok (Some b)) k = let t = u.reached b (k b refl) in ap (word_got image (h b)) (place_on_cells member b t) ∙ got_on_cells b t (field_place s member b)
 
-  put_home_at : (descriptor : List ℕ) (v : Value) (b : ℕ) → InCell h cells s.world b → (place : Option ℕ) → word_put image descriptor (named_value h v) (h b) place ≡ completion_on h cells (word_put s descriptor v b place)
-  put_home_at descriptor v b k None = refl
-  put_home_at descriptor v b k (Some place) =
+  put_at_on_cells : (descriptor : List ℕ) (v : Value) (b : ℕ) → InCell h cells s.world b → (place : Option ℕ) → word_put image descriptor (named_value h v) (h b) place ≡ completion_on h cells (word_put s descriptor v b place)
+  put_at_on_cells descriptor v b k None = refl
+  put_at_on_cells descriptor v b k (Some place) =
       puts_on_cells h cells (with_word s.world b place (kept (storage_of descriptor) v)) _ s 2 v
       (ap (with_word (on_cells h cells s.world) (h b) place) (kept_named h (storage_of descriptor) v) ∙ with_word_on_cells h cells s.world u b place (kept (storage_of descriptor) v) k)
 
   put_in_on_cells : (member : Member) (v : Value) (r : Option ℕ) → ((b : ℕ) → r ≡ Some b → Reach s.world b) → field_put_in image member (named_value h v) (named_ref h r) ≡ completion_on h cells (field_put_in s member v r)
   put_in_on_cells member v None k = refl
-  put_in_on_cells member v (Some b) k = let t = u.reached b (k b refl) in ap (word_put image member.descriptor (named_value h v) (h b)) (place_on_cells member b t) ∙ put_home_at member.descriptor v b t (field_place s member b)
+  put_in_on_cells member v (Some b) k = let t = u.reached b (k b refl) in ap (word_put image member.descriptor (named_value h v) (h b)) (place_on_cells member b t) ∙ put_at_on_cells member.descriptor v b t (field_place s member b)
 
   abbrev pair : Value × Option ℕ → Value × Option ℕ
   pair p = (named_value h p.0, named_ref h p.1)

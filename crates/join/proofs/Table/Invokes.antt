@@ -39,10 +39,10 @@ use Rattle.join.proofs.Cells.{class_in_cell}
 use Rattle.join.proofs.Naming.{renamed, ref_on_named, value_on_named, births_named}
 use Rattle.join.proofs.Completions.{raises_on_cells}
 use Rattle.join.proofs.Monitors.{monitor_of_on_cells, with_monitor_on_cells}
-use Rattle.join.proofs.Table.Threads.{builtin_on_cells}
 use Rattle.join.proofs.Frames.{running_named, arguments_on_named, run_named, call_named, room_named, frames_on_cells, thread_on_cells}
+use Rattle.join.proofs.Table.Builtins.{builtin_on_cells}
 
--- calls come to the same on cells
+-- calls come to the same on cells: which method runs is told by classes, and whether it may by a monitor and the limits
 
 module _ (h : Naming) where
   -- ---- arguments

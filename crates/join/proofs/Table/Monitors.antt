@@ -18,7 +18,7 @@ use Rattle.join.proofs.Monitors.{monitor_of_on_cells, with_monitor_on_cells}
 use Rattle.join.proofs.Naming.{renamed, ref_on_named, replaced_named}
 use Rattle.join.proofs.Completions.{moves_on_cells}
 
--- monitorenter and monitorexit come to the same on cells
+-- monitorenter and monitorexit come to the same on cells: a birth's monitor is that of its cell's object
 
 module _ (h : Naming) (cells : List Cell) where
   module _ (s : Site) (u : ReachedInCells h cells s.world) where

@@ -29,7 +29,7 @@ use Rattle.join.proofs.Table.Returns.{returned_on_cells}
 use Rattle.join.proofs.Table.Statics.{static_on_cells}
 use Rattle.join.proofs.Table.Fields.{field_on_cells}
 use Rattle.join.proofs.Table.Arrays.{array_on_cells}
-use Rattle.join.proofs.Table.Objects.{class_operated_on_cells, threw_on_cells}
+use Rattle.join.proofs.Table.Objects.{class_operated_on_cells}
 use Rattle.join.proofs.Table.Invokes.{invoked_on_cells}
 use Rattle.join.proofs.Table.Monitors.{monitor_operated_on_cells}
 use Rattle.join.proofs.Frames.{running_on_cells}
@@ -37,8 +37,10 @@ use Rattle.join.proofs.Table.Numbers.{number_named}
 use Rattle.join.proofs.Table.Switches.{table_named, lookup_named}
 use Rattle.join.proofs.Table.Constants.{constant_named}
 use Rattle.join.proofs.Table.Locals.{local_named}
+use Rattle.join.proofs.Table.Throws.{threw_on_cells}
 
--- the whole table comes to the same on cells
+-- the whole table comes to the same on cells: what a thread's instruction comes to there is the image of what it comes
+-- to in the ideal world
 
 module _ (h : Naming) (cells : List Cell) where
   family_on_cells : (s : Site) → ReachedInCells h cells s.world → running (frames_in s) ≡ Some s.frame → (i : Listed) → by_family (site_on h cells s) i ≡ completion_on h cells (by_family s i)

@@ -16,7 +16,7 @@ use Rattle.model.specs.Table.Numbers.{number_value, operands_of, operand_of, ope
 use Rattle.join.specs.Naming.{Naming, named_value, named_frame, named_moved, named_result}
 use Rattle.join.proofs.Naming.{int_on_named, long_on_named, replaced_named, if_room_named}
 
--- numbers come to the same under a naming
+-- numbers come to the same under a naming: they hold no births
 
 module _ (h : Naming) where
   number_same : (kind : NumberKind) (z : ℤ) → named_value h (number_value kind z) ≡ number_value kind z

@@ -1,16 +1,13 @@
-use Rattle.std.proofs.Common.{◌≡◌, ℕ, pos, List, [], ◌∷◌, Bool, true, false, if◌then◌else◌, codes, Option, Some, None, Result, Ok, Err, refl, ◌∙◌, ap}
+use Rattle.std.proofs.Common.{◌≡◌, ℕ, pos, List, [], ◌∷◌, Bool, true, false, Option, Some, None, Result, Ok, Err, refl, ◌∙◌, ap}
 use Rattle.model.specs.declared.instructions.ClassOperation.{ClassOperation}
 use Rattle.model.specs.declared.instructions.ClassOperation.TheVariants.{New, CheckCast, InstanceOf}
 use Rattle.model.specs.declared.turns.Fault.{Fault}
-use Rattle.model.specs.declared.turns.Fault.TheVariants.{WrongClass}
 use Rattle.model.specs.declared.values.Value.TheVariants.{Int, Ref}
 use Rattle.model.specs.declared.colours.Cell.{Cell}
 use Rattle.model.specs.Classes.Types.{is_subtype}
 use Rattle.model.specs.Frames.{ref_on, running, replaced}
 use Rattle.model.specs.Completions.{Site, frames_in, moves_in}
-use Rattle.model.specs.Completions.Completion.{Throws, Faults}
 use Rattle.model.specs.Table.Objects.{is_instance, cast_if, cast, told_if, tested, class_operated}
-use Rattle.model.specs.Table.Throws.{throws, threw}
 use Rattle.model.specs.Collector.Places.{Reach}
 use Rattle.model.proofs.CollectorLemmas.Known.{stack_known}
 use Rattle.model.proofs.CollectorLemmas.Words.{ref_on-known}
@@ -20,13 +17,13 @@ use Rattle.join.proofs.Cells.{class_in_cell}
 use Rattle.join.proofs.Naming.{renamed, ref_on_named, replaced_named}
 use Rattle.join.proofs.Completions.{moves_on_cells}
 
--- new, checkcast, instanceof and athrow come to the same on cells
+-- new, checkcast and instanceof come to the same on cells: a birth has the class of its cell's object
 
 module _ (h : Naming) (cells : List Cell) (s : Site) (u : ReachedInCells h cells s.world) where
   abbrev image : Site
   image = site_on h cells s
 
-  instance_on_cells : (name : List ℕ) (b : ℕ) → InCell h cells s.world b → is_instance image name (h b) ≡ is_instance s name b
+  pub instance_on_cells : (name : List ℕ) (b : ℕ) → InCell h cells s.world b → is_instance image name (h b) ≡ is_instance s name b
   instance_on_cells name b k = ap (λ class. is_subtype s.program class name) (class_in_cell h cells s.world b k)
 
   cast_if_on_cells : (b : ℕ) (is : Bool) → cast_if image (h b) is ≡ completion_on h cells (cast_if s b is)
@@ -36,10 +33,6 @@ module _ (h : Naming) (cells : List Cell) (s : Site) (u : ReachedInCells h cells
   told_on_cells : (is : Bool) → told_if image is ≡ completion_on h cells (told_if s is)
   told_on_cells true = ap (moves_in image.world image) (replaced_named h s.next s.frame 1 (Int (pos 1) ∷ [])) ∙ moves_on_cells h cells s.world s (replaced s.next s.frame 1 (Int (pos 1) ∷ []))
   told_on_cells false = ap (moves_in image.world image) (replaced_named h s.next s.frame 1 (Int (pos 0) ∷ [])) ∙ moves_on_cells h cells s.world s (replaced s.next s.frame 1 (Int (pos 0) ∷ []))
-
-  throw_if_on_cells : (b : ℕ) (is : Bool) → (if is then Throws (h b) else Faults WrongClass) ≡ completion_on h cells (if is then Throws b else Faults WrongClass)
-  throw_if_on_cells b true = refl
-  throw_if_on_cells b false = refl
 
   cast_on_cells : (name : List ℕ) (r : Result (Option ℕ) Fault) → ((b : ℕ) → r ≡ Ok (Some b) → Reach s.world b) → cast image name (renamed h (named_ref h) r) ≡ completion_on h cells (cast s name r)
   cast_on_cells name (Err fault) k = refl
@@ -51,19 +44,11 @@ module _ (h : Naming) (cells : List Cell) (s : Site) (u : ReachedInCells h cells
   tested_on_cells name (Ok None) k = told_on_cells false
   tested_on_cells name (Ok (Some b)) k = ap (told_if image) (instance_on_cells name b (u.reached b (k b refl))) ∙ told_on_cells (is_instance s name b)
 
-  throws_on_cells : (r : Result (Option ℕ) Fault) → ((b : ℕ) → r ≡ Ok (Some b) → Reach s.world b) → throws image (renamed h (named_ref h) r) ≡ completion_on h cells (throws s r)
-  throws_on_cells (Err fault) k = refl
-  throws_on_cells (Ok None) k = refl
-  throws_on_cells (Ok (Some b)) k = ap (λ (is : Bool). if is then Throws (h b) else Faults WrongClass) (instance_on_cells (codes "java/lang/Throwable") b (u.reached b (k b refl))) ∙ throw_if_on_cells b _
-
   module _ (e : running (frames_in s) ≡ Some s.frame) where
-    known : (b : ℕ) → ref_on s.frame.stack ≡ Ok (Some b) → Reach s.world b
-    known b k = ref_on-known (Reach s.world) s.frame.stack b (stack_known s.world s.thread _ s.frame e) k
+    pub operand_reached : (b : ℕ) → ref_on s.frame.stack ≡ Ok (Some b) → Reach s.world b
+    operand_reached b k = ref_on-known (Reach s.world) s.frame.stack b (stack_known s.world s.thread _ s.frame e) k
 
     pub class_operated_on_cells : (operation : ClassOperation) (name : List ℕ) → class_operated image operation name ≡ completion_on h cells (class_operated s operation name)
     class_operated_on_cells New name = refl
-    class_operated_on_cells CheckCast name = rw (ref_on_named h s.frame.stack) (cast_on_cells name _ known)
-    class_operated_on_cells InstanceOf name = rw (ref_on_named h s.frame.stack) (tested_on_cells name _ known)
-
-    pub threw_on_cells : threw image ≡ completion_on h cells (threw s)
-    threw_on_cells = rw (ref_on_named h s.frame.stack) (throws_on_cells _ known)
+    class_operated_on_cells CheckCast name = rw (ref_on_named h s.frame.stack) (cast_on_cells name _ operand_reached)
+    class_operated_on_cells InstanceOf name = rw (ref_on_named h s.frame.stack) (tested_on_cells name _ operand_reached)

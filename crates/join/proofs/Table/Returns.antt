@@ -24,7 +24,7 @@ use Rattle.join.proofs.Completions.{abruptly_on_cells}
 use Rattle.join.proofs.Monitors.{released_on_cells}
 use Rattle.join.proofs.Frames.{running_named, callers_named, top_running, frames_on_cells, thread_on_cells}
 
--- returns come to the same on cells
+-- returns come to the same on cells: the method monitor that is given back is that of a birth that a path reaches
 
 module _ (h : Naming) where
   past_named : (f : Frame) (result : Option Value) (invoke : Option Placed) → past_invoke (named_frame h f) (option_map (named_value h) result) invoke ≡ named_result h (past_invoke f result invoke)

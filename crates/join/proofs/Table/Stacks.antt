@@ -11,7 +11,7 @@ use Rattle.model.specs.Table.Stacks.Units.{One, Two}
 use Rattle.join.specs.Naming.{Naming, named_value, named_frame, named_result}
 use Rattle.join.proofs.Naming.{renamed, top_named, pair_named, replaced_named, if_room_named}
 
--- rearrangements come to the same under another naming
+-- rearrangements come to the same under a naming: a value takes as many units as its image
 
 module _ (h : Naming) where
   abbrev named : List Value → List Value

@@ -19,9 +19,9 @@ use Rattle.join.specs.Naming.{Naming, named_value, named_field}
 use Rattle.join.specs.OnCells.{site_on, completion_on, on_cells, ReachedInCells}
 use Rattle.join.proofs.Naming.{renamed, value_on_named, if_room_named}
 use Rattle.join.proofs.Completions.{completes_on_cells, puts_on_cells}
-use Rattle.join.proofs.Table.Fields.{value_named, with_value_named, place_named, kept_named}
+use Rattle.join.proofs.Words.{value_named, with_value_named, kept_named, place_named}
 
--- getstatic and putstatic come to the same on cells
+-- getstatic and putstatic come to the same on cells: static fields stand in the same order
 
 module _ (h : Naming) (cells : List Cell) (s : Site) (u : ReachedInCells h cells s.world) where
   abbrev image : Site

@@ -6,7 +6,7 @@ use Rattle.model.specs.Table.Switches.{table_switched_on, lookup_switched_on, ta
 use Rattle.join.specs.Naming.{Naming, named_frame, named_result}
 use Rattle.join.proofs.Naming.{int_on_named, replaced_named}
 
--- switches come to the same under a naming
+-- switches come to the same under a naming: they look at an int
 
 module _ (h : Naming) where
   table_on : (table : Table ℕ) (f : Frame) (r : Result ℤ Fault) → table_switched_on table (named_frame h f) r ≡ named_result h (table_switched_on table f r)

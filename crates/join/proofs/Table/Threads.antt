@@ -1,36 +1,31 @@
-use Rattle.std.proofs.Common.{◌≡◌, ℕ, ℤ, List, [], ◌∷◌, length, map, slice_get, nat_le, codes, is_some, Bool, true, false, if◌then◌else◌, Option, Some, None, Result, Ok, Err, refl, sym, ◌∙◌, ap}
+use Rattle.std.proofs.Common.{◌≡◌, ℕ, List, [], ◌∷◌, length, map, slice_get, nat_le, codes, is_some, Bool, true, false, if◌then◌else◌, Option, Some, None, Result, Ok, Err, refl, sym, ◌∙◌, ap}
 use Rattle.std.specs.Option.{option_map}
 use Rattle.std.proofs.lemmas.List.{map-append, length-map}
 use Rattle.std.proofs.lemmas.Option.{slice_get-map}
-use Rattle.model.specs.declared.builtins.Builtin.{Builtin}
-use Rattle.model.specs.declared.builtins.Builtin.TheVariants.{PrintInt, PrintLong, PutByte, Initialize, RunThread, StartThread, JoinThread}
 use Rattle.model.specs.declared.turns.Fault.{Fault}
 use Rattle.model.specs.declared.values.Value.TheVariants.{Ref}
 use Rattle.model.specs.declared.colours.Cell.{Cell}
 use Rattle.model.specs.Callees.{Callee, callee_of}
 use Rattle.model.specs.Callees.Callee.{Own, Coded, NoCode}
 use Rattle.model.specs.Classes.Selection.{selected}
-use Rattle.model.specs.Frames.{running, replaced}
+use Rattle.model.specs.Frames.{replaced}
 use Rattle.model.specs.Locals.{called_frame}
-use Rattle.model.specs.Printing.{decimal_line, low_byte}
 use Rattle.model.specs.Worlds.{World, Thread, Object, lives}
 use Rattle.model.specs.Worlds.Thread.{Live, Ended}
 use Rattle.model.specs.Objects.{object_at, class_of, with_object}
-use Rattle.model.specs.Completions.{Completion, Site, frames_in, with_frame, moves_in}
-use Rattle.model.specs.Completions.Completion.{Goes, Prints, Waits}
+use Rattle.model.specs.Completions.{Completion, Site, with_frame, moves_in}
+use Rattle.model.specs.Completions.Completion.{Goes, Waits}
 use Rattle.model.specs.Table.Threads.{with_more, numbered, thread_added, begins, start_if, starts, started, has_live_thread, thread_if, joined}
-use Rattle.model.specs.Table.Builtins.{prints_on, does_nothing, builtin_call}
+use Rattle.model.specs.Table.Builtins.{does_nothing}
 use Rattle.model.specs.Collector.Places.{Reach}
-use Rattle.model.proofs.CollectorLemmas.Known.{stack_known}
-use Rattle.model.proofs.CollectorLemmas.Words.{ref_on-known}
 use Rattle.join.specs.Naming.{Naming, named_ref, named_thread, named_contents, named_object}
 use Rattle.join.specs.OnCells.{site_on, completion_on, on_cells, InCell, ReachedInCells}
 use Rattle.join.proofs.Cells.{object_in_cell, put_on_cells, class_named}
-use Rattle.join.proofs.Naming.{renamed, ref_on_named, int_on_named, long_on_named, replaced_named}
+use Rattle.join.proofs.Naming.{renamed, replaced_named}
 use Rattle.join.proofs.Completions.{frame_on_cells, moves_on_cells}
 use Rattle.join.proofs.Frames.{called_named}
 
--- starting and joining threads, and the machine's other own methods, come to the same on cells
+-- starting and joining threads come to the same on cells: an object's thread is that of its cell's object
 
 module _ (h : Naming) where
   module _ (cells : List Cell) (s : Site) (u : ReachedInCells h cells s.world) where
@@ -40,15 +35,7 @@ module _ (h : Naming) where
     abbrev image_of : Completion → Completion
     image_of c = completion_on h cells c
 
-    -- ---- what prints, and what does nothing
-
-    prints_on_cells : (bytes : ℤ → List ℕ) (r : Result ℤ Fault) → prints_on image bytes r ≡ image_of (prints_on s bytes r)
-    prints_on_cells bytes (Err fault) = refl
-    prints_on_cells bytes (Ok z) =
-        ap (λ f. Prints (with_frame image.world image f) (bytes z)) (ap (λ m. m.frame) (replaced_named h s.next s.frame 1 []))
-        ∙ ap (λ w. Prints w (bytes z)) (frame_on_cells h cells s.world s (replaced s.next s.frame 1 []).frame)
-
-    nothing_on_cells : does_nothing image ≡ image_of (does_nothing s)
+    pub nothing_on_cells : does_nothing image ≡ image_of (does_nothing s)
     nothing_on_cells = ap (moves_in image.world image) (replaced_named h s.next s.frame 1 []) ∙ moves_on_cells h cells s.world s (replaced s.next s.frame 1 [])
 
     -- ---- a thread is started
@@ -91,7 +78,7 @@ module _ (h : Naming) where
         ∙ ap (λ class. start_if (begins image (h b) (named_object h o) (callee_of s.program (selected s.program class (codes "run") (codes "()V")))) (is_some o.thread) (nat_le 64 (length s.world.threads))) (class_named h o.contents)
         ∙ start_on_cells _ _ (is_some o.thread) (nat_le 64 (length s.world.threads)) (begins_on_cells b o (callee_of s.program (selected s.program (class_of o.contents) (codes "run") (codes "()V"))) k)
 
-    started_on_cells : (r : Result (Option ℕ) Fault) → ((b : ℕ) → r ≡ Ok (Some b) → Reach s.world b) → started image (renamed h (named_ref h) r) ≡ image_of (started s r)
+    pub started_on_cells : (r : Result (Option ℕ) Fault) → ((b : ℕ) → r ≡ Ok (Some b) → Reach s.world b) → started image (renamed h (named_ref h) r) ≡ image_of (started s r)
     started_on_cells (Err fault) k = refl
     started_on_cells (Ok None) k = refl
     started_on_cells (Ok (Some b)) k = let t = u.reached b (k b refl) in ap (starts image (h b)) (object_in_cell h cells s.world b t) ∙ starts_on_cells b t ∙ ap (λ o. image_of (starts s b o)) (sym t.made)
@@ -111,19 +98,10 @@ module _ (h : Naming) where
     join_on_cells true = refl
     join_on_cells false = nothing_on_cells
 
-    joined_on_cells : (r : Result (Option ℕ) Fault) → ((b : ℕ) → r ≡ Ok (Some b) → Reach s.world b) → joined image (renamed h (named_ref h) r) ≡ image_of (joined s r)
+    pub joined_on_cells : (r : Result (Option ℕ) Fault) → ((b : ℕ) → r ≡ Ok (Some b) → Reach s.world b) → joined image (renamed h (named_ref h) r) ≡ image_of (joined s r)
     joined_on_cells (Err fault) k = refl
     joined_on_cells (Ok None) k = refl
     joined_on_cells (Ok (Some b)) k =
         let t = u.reached b (k b refl) in
         ap (λ live. if live then Waits else does_nothing image) (ap (λ o. has_live_thread image.world (thread_if o)) (object_in_cell h cells s.world b t) ∙ has_on_cells t.object.thread ∙ ap (λ o. has_live_thread s.world (thread_if o)) (sym t.made))
         ∙ join_on_cells (has_live_thread s.world (thread_if (object_at s.world b)))
-
-    pub builtin_on_cells : running (frames_in s) ≡ Some s.frame → (builtin : Builtin) → builtin_call image builtin ≡ image_of (builtin_call s builtin)
-    builtin_on_cells e PrintInt = rw (int_on_named h s.frame.stack) (prints_on_cells decimal_line _)
-    builtin_on_cells e PrintLong = rw (long_on_named h s.frame.stack) (prints_on_cells decimal_line _)
-    builtin_on_cells e PutByte = rw (int_on_named h s.frame.stack) (prints_on_cells low_byte _)
-    builtin_on_cells e Initialize = nothing_on_cells
-    builtin_on_cells e RunThread = nothing_on_cells
-    builtin_on_cells e StartThread = rw (ref_on_named h s.frame.stack) (started_on_cells _ (λ b k. ref_on-known (Reach s.world) s.frame.stack b (stack_known s.world s.thread _ s.frame e) k))
-    builtin_on_cells e JoinThread = rw (ref_on_named h s.frame.stack) (joined_on_cells _ (λ b k. ref_on-known (Reach s.world) s.frame.stack b (stack_known s.world s.thread _ s.frame e) k))
