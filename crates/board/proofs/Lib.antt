@@ -1,0 +1,6 @@
+pub mod MarkLaws
+pub mod Keeping
+pub mod Allowed
+pub mod Shared
+pub mod Looking
+pub mod NewSeats
