@@ -4,3 +4,5 @@ pub mod Allowed
 pub mod Shared
 pub mod Looking
 pub mod NewSeats
+pub mod SeatLists
+pub mod Visits

@@ -30,6 +30,7 @@ pub record Looked (w n : ℕ) (before after : View) : Type 0 where
   pub own : (k : ℕ) → (mark_of after.marks k).own ≡ (mark_of before.marks k).own
   pub later : (k : ℕ) → (mark_of before.marks k).seen ≤ (mark_of after.marks k).seen
   pub now : (mark_of after.marks w).seen ≡ n
+  pub others : (k : ℕ) → k ≢ w → (mark_of after.marks k).seen ≡ (mark_of before.marks k).seen
   pub stop : after.stop ≡ before.stop
 
 same_own : (n : ℕ) (o : Option ℕ) → IfSome o (λ c. n ≡ c) → option_map (λ _. n) o ≡ o
@@ -47,6 +48,7 @@ look_tells v w n stands = record {
   own = each_changed (λ k m. m.own ≡ (mark_of v.marks k).own) (found n) v.marks w (same_own n (mark_of v.marks w).own stands.1) (λ k ne. refl);
   later = λ k. seen_later v w n k stands.0;
   now = ap (λ (m : Mark). m.seen) (mark_of-found v.marks w n);
+  others = each_changed (λ k m. k ≢ w → m.seen ≡ (mark_of v.marks k).seen) (found n) v.marks w (λ never. absurd (never refl)) (λ k ne again. refl);
   stop = refl;
 }
 

@@ -1,5 +1,5 @@
 -- What a contract says of boards and seats.
-use Rattle.std.specs.Prelude.{◌≡◌, ◌≤◌, ◌≢◌, ◌<◌, ℕ, Bool, true, false, List, length, slice_index, slice_get, Some}
+use Rattle.std.specs.Prelude.{◌≡◌, ◌≤◌, ◌<◌, ℕ, Bool, true, false, List, length, slice_index, slice_get, Some}
 use Rattle.board.specs.declared.boards.Board.{Board}
 use Rattle.board.specs.declared.seats.BoardSeat.{BoardSeat}
 use Rattle.board.specs.declared.views.View.{View}
@@ -45,14 +45,13 @@ pub record IsNewSeat (board : Board) (worker : ℕ) (seat : BoardSeat) : Type 0 
 abbrev pub AreNewSeats : Board → List BoardSeat → Type 0
 AreNewSeats board seats = (w : ℕ) (seat : BoardSeat) → slice_get seats w ≡ Some seat → IsNewSeat board w seat
 
--- after a meeting with b, a has seen b's count, and of every other worker and of the stop what either had seen
+-- after a meeting of a and b, a has seen b's count, and of every worker and of the stop what either had seen
 pub record HasMet (a b after : BoardSeat) : Type 0 where
   pub same : IsSameSeat a after
   pub count : count_of after ≡ count_of a
-  pub kept : Remembers a after
+  pub mine : Remembers a after
+  pub yours : Remembers b after
   pub exact : seen_of after (worker_of b) ≡ count_of b
-  pub told : (w : ℕ) → w ≢ worker_of a → seen_of b w ≤ seen_of after w
-  pub told_stop : saw_stop b ≡ true → saw_stop after ≡ true
 
 -- a seat for each worker of this board, in order
 pub record AreAllSeats (board : Board) (seats : List BoardSeat) : Type 0 where
