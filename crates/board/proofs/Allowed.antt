@@ -1,5 +1,5 @@
 -- Each step of a seat is allowed: the rule is kept, and the seat is told what is so.
-use Rattle.std.proofs.Common.{◌≡◌, ◌≢◌, ◌<◌, ◌≤◌, ◌+◌, ◌%◌, ◌^◌, ℕ, Bool, true, false, ◌||◌, not, List, [], ◌∷◌, length, set, refl, ap, sym, ◌∙◌, subst, arith, bit_or, length-set, eq-eqb}
+use Rattle.std.proofs.Common.{◌≡◌, ◌≢◌, ◌<◌, ◌≤◌, ◌+◌, ◌%◌, ◌^◌, ℕ, Bool, true, false, ◌||◌, not, List, length, set, refl, ap, sym, ◌∙◌, subst, arith, bit_or, length-set, eq-eqb}
 use Rattle.std.specs.Prelude.{slice_index, nat_eq, Option, None, Some}
 use Rattle.std.specs.Option.{is_some}
 use Rattle.std.proofs.lemmas.List.{set-get_or, get_or-set_same, get_or-set_other}
@@ -12,7 +12,7 @@ use lib.ListN.{get_elem?}
 use Rattle.atomic_table.specs.Table.{State, Me, keeps, step, Allows}
 use Rattle.board.specs.declared.views.Mark.{Mark}
 use Rattle.board.specs.declared.views.View.{View}
-use Rattle.board.specs.Marks.{mark_of, changed, found, Stands}
+use Rattle.board.specs.Marks.{mark_of, found, Stands}
 use Rattle.board.specs.Rule.{Fits, IsKept, count_found, stop_found, FindsCount, AddsOne, FindsStop, SetsStop}
 use Rattle.board.proofs.MarkLaws.{each_changed, stands_found, stands_risen, owned_is, some_found, own_count}
 use Rattle.board.proofs.Keeping.{steps, Owns}

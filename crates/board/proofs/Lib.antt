@@ -6,3 +6,4 @@ pub mod Looking
 pub mod NewSeats
 pub mod SeatLists
 pub mod Visits
+pub mod Returned

@@ -1,14 +1,12 @@
 -- What a seat knows after a step.
-use Rattle.std.proofs.Common.{◌≡◌, ◌≢◌, ◌<◌, ◌≤◌, ◌+◌, ℕ, Bool, true, false, List, [], ◌∷◌, refl, ap, sym, ◌∙◌, subst, arith, le_refl}
+use Rattle.std.proofs.Common.{◌≡◌, ◌≢◌, ◌≤◌, ◌+◌, ℕ, [], refl, ap, sym, ◌∙◌, subst, arith, le_refl}
 use Rattle.std.specs.Prelude.{Option, None, Some, IfSome, option_map}
-use mathlib.Core.Logic.{dite}
-use native.Mathlib.Decide.{ℕ_discrete}
 use mathlib.Core.Option.{none}
 use Rattle.atomic_table.specs.Table.{Me, step}
 use Rattle.board.specs.declared.views.Mark.{Mark}
 use Rattle.board.specs.declared.views.View.{View}
 use Rattle.board.specs.declared.seats.BoardSeat.{BoardSeat}
-use Rattle.board.specs.Marks.{mark_of, changed, found, Stands}
+use Rattle.board.specs.Marks.{mark_of, found, Stands}
 use Rattle.board.specs.Rule.{count_found, FindsCount, AddsOne}
 use Rattle.board.proofs.MarkLaws.{each_changed, mark_of-found, owned_is}
 

@@ -1,11 +1,11 @@
 -- What becomes of each worker's mark, and which counts a mark is right of.
-use Rattle.std.proofs.Common.{◌≡◌, ◌≢◌, ◌≤◌, ◌<◌, ℕ, zero, suc, max, Bool, true, false, List, [], ◌∷◌, map, replicate, refl, ap, sym, ◌∙◌, subst, arith, le_refl, ◌⊎◌, inl, inr}
+use Rattle.std.proofs.Common.{◌≡◌, ◌≢◌, ◌≤◌, ℕ, zero, suc, max, true, List, [], ◌∷◌, map, refl, ap, sym, ◌∙◌, subst, arith, le_refl, ◌⊎◌, inl, inr}
 use Rattle.std.specs.Prelude.{Option, None, Some, IfSome, option_map}
 use Rattle.std.specs.Option.{option_or, is_some}
 use mathlib.Core.Logic.{dite}
 use native.Mathlib.Decide.{ℕ_discrete}
 use Rattle.board.specs.declared.views.Mark.{Mark}
-use Rattle.board.specs.Marks.{unmarked, mark_of, changed, found, released, without, only, joined, together, Stands, is_own}
+use Rattle.board.specs.Marks.{unmarked, mark_of, changed, found, released, without, only, joined, together, Stands}
 
 mark_of-changed : (f : Mark → Mark) (ms : List Mark) (w : ℕ) → mark_of (changed f ms w) w ≡ f (mark_of ms w)
 mark_of-changed f [] zero = refl
@@ -78,6 +78,12 @@ own-without_it ms w = ap (λ (m : Mark). m.own) (mark_of-changed released ms w)
 
 pub own-only : (ms : List Mark) (w k : ℕ) → k ≢ w → (mark_of (only ms w) k).own ≡ None
 own-only ms w k ne = ap (λ (m : Mark). m.own) (mark_of-changed_else (λ _. mark_of ms w) (map released ms) w k ne ∙ mark_of-released ms k)
+
+pub own-together : (ms ns : List Mark) (w : ℕ) → (mark_of (together ms ns) w).own ≡ option_or (mark_of ms w).own (mark_of ns w).own
+own-together ms ns w = ap (λ (m : Mark). m.own) (mark_of-together ms ns w)
+
+pub seen-together : (ms ns : List Mark) (w : ℕ) → ((mark_of ms w).seen ≤ (mark_of (together ms ns) w).seen) × ((mark_of ns w).seen ≤ (mark_of (together ms ns) w).seen)
+seen-together ms ns = each_together (λ w m. ((mark_of ms w).seen ≤ m.seen) × ((mark_of ns w).seen ≤ m.seen)) ms ns (λ w. (omega arith, omega arith))
 
 -- ---- the mark of a worker whose count is n
 

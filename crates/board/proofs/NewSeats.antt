@@ -1,9 +1,9 @@
 -- The seats are cut off one by one from the view that owns all counts.
-use Rattle.std.proofs.Common.{◌≡◌, ◌≢◌, ◌<◌, ◌≤◌, ◌+◌, ℕ, zero, suc, Bool, true, false, List, [], ◌∷◌, length, replicate, refl, ap, sym, ◌∙◌, subst, arith}
-use Rattle.std.specs.Prelude.{Option, None, Some, slice_get}
+use Rattle.std.proofs.Common.{◌≡◌, ◌≢◌, ◌<◌, ◌+◌, ℕ, zero, suc, replicate, refl, ap, ◌∙◌, arith}
+use Rattle.std.specs.Prelude.{None, Some}
 use Rattle.board.specs.declared.views.Mark.{Mark}
 use Rattle.board.specs.declared.views.View.{View}
-use Rattle.board.specs.Marks.{mark_of, without, only}
+use Rattle.board.specs.Marks.{mark_of, only}
 use Rattle.board.specs.Rule.{unseated, seated, seats_left}
 use Rattle.board.specs.Seats.{IsNextSeat}
 use Rattle.board.proofs.MarkLaws.{mark_of-only, seen-without, seen-only, own-without, own-only}

@@ -1,12 +1,12 @@
 -- Lists of seats by their places.
-use Rattle.std.proofs.Common.{◌≡◌, ◌<◌, ◌+◌, ℕ, zero, suc, List, [], ◌∷◌, ◌++◌, length, refl, ap, sym, ◌∙◌, subst, arith, ◌⊎◌, inl, inr, ⊎_elim}
-use Rattle.std.specs.Prelude.{Option, None, Some, slice_get, unwrap_or}
+use Rattle.std.proofs.Common.{◌≡◌, ◌+◌, ℕ, zero, suc, List, [], ◌∷◌, ◌++◌, length, refl, ap, sym, ◌∙◌, subst, arith, ◌⊎◌, inl, inr, ⊎_elim}
+use Rattle.std.specs.Prelude.{Option, Some, slice_get, unwrap_or}
 use Rattle.std.proofs.lemmas.Option.{none-some}
 use Rattle.board.specs.declared.boards.Board.{Board}
 use Rattle.board.specs.declared.seats.BoardSeat.{BoardSeat}
 use Rattle.board.specs.Seats.{IsNewSeat, AreNewSeats}
 
-inside : {A : Type 0} (a b : A) → Some a ≡ Some b → a ≡ b
+pub inside : {A : Type 0} (a b : A) → Some a ≡ Some b → a ≡ b
 inside a b e = ap (λ (o : Option _). unwrap_or o a) e
 
 pub at_end : {A : Type 0} (xs : List A) (last x : A) (i : ℕ) → slice_get (xs ++ last ∷ []) i ≡ Some x → (slice_get xs i ≡ Some x) ⊎ ((i ≡ length xs) × (last ≡ x))

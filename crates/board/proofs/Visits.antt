@@ -1,5 +1,5 @@
 -- What two seats know once one has looked at every word with what both know and own.
-use Rattle.std.proofs.Common.{◌≡◌, ◌≢◌, ◌<◌, ◌≤◌, ◌+◌, max, ℕ, Bool, true, false, ◌||◌, not, nat_eq, List, [], ◌∷◌, refl, ap, sym, ◌∙◌, subst, arith, le_refl}
+use Rattle.std.proofs.Common.{◌≡◌, ◌≢◌, ◌<◌, ◌≤◌, ◌+◌, ℕ, Bool, true, false, ◌||◌, not, nat_eq, [], refl, ap, sym, ◌∙◌, subst, arith, le_refl}
 use Rattle.std.specs.Prelude.{Option, None, Some}
 use Rattle.std.specs.Option.{option_or}
 use mathlib.Core.Logic.{dite}
@@ -8,10 +8,10 @@ use Rattle.atomic_table.specs.Table.{Me}
 use Rattle.board.specs.declared.views.Mark.{Mark}
 use Rattle.board.specs.declared.views.View.{View}
 use Rattle.board.specs.declared.seats.BoardSeat.{BoardSeat}
-use Rattle.board.specs.Marks.{mark_of, without, only, together}
+use Rattle.board.specs.Marks.{mark_of, without, only}
 use Rattle.board.specs.Rule.{LooksRound, hosting, host_after, guest_after, stop_found}
 use Rattle.board.specs.Seats.{HasMet, Remembers, seen_of}
-use Rattle.board.proofs.MarkLaws.{mark_of-together, mark_of-only, seen-without, seen-only, own-without, own-without_it, own-only, each_together}
+use Rattle.board.proofs.MarkLaws.{mark_of-only, own-together, seen-together, seen-without, seen-only, own-without, own-without_it, own-only}
 use Rattle.board.proofs.Looking.{Holds, Looked, own_count_found}
 
 -- ---- looking round
@@ -48,25 +48,19 @@ round_goes_on w n before mid after round look = record {
 
 -- ---- the visit
 
-pub seen_together : (ms ns : List Mark) (w : ℕ) → ((mark_of ms w).seen ≤ (mark_of (together ms ns) w).seen) × ((mark_of ns w).seen ≤ (mark_of (together ms ns) w).seen)
-seen_together ms ns = each_together (λ w m. ((mark_of ms w).seen ≤ m.seen) × ((mark_of ns w).seen ≤ m.seen)) ms ns (λ w. (omega arith, omega arith))
-
 module _ (workers a b m n : ℕ) (host guest : Me ℕ View) (h : Holds host a m) (g : Holds guest b n) (apart : a ≢ b) (a_in : a < workers) (b_in : b < workers)
     (u : View) (round : LooksRound workers (hosting host.0 guest.0) u) where
   abbrev all : View
   all = hosting host.0 guest.0
 
-  own_of : (w : ℕ) → (mark_of all.marks w).own ≡ option_or (mark_of host.0.marks w).own (mark_of guest.0.marks w).own
-  own_of w = ap (λ (x : Mark). x.own) (mark_of-together host.0.marks guest.0.marks w)
-
   all_own_a : (mark_of all.marks a).own ≡ Some m
-  all_own_a = own_of a ∙ ap (λ (o : Option ℕ). option_or o (mark_of guest.0.marks a).own) h.own
+  all_own_a = own-together host.0.marks guest.0.marks a ∙ ap (λ (o : Option ℕ). option_or o (mark_of guest.0.marks a).own) h.own
 
   all_own_b : (mark_of all.marks b).own ≡ Some n
-  all_own_b = own_of b ∙ (ap (λ (o : Option ℕ). option_or o (mark_of guest.0.marks b).own) (h.no_other b (λ e. apart (sym e))) ∙ g.own)
+  all_own_b = own-together host.0.marks guest.0.marks b ∙ (ap (λ (o : Option ℕ). option_or o (mark_of guest.0.marks b).own) (h.no_other b (λ e. apart (sym e))) ∙ g.own)
 
   own_else : (w : ℕ) → w ≢ a → w ≢ b → (mark_of u.marks w).own ≡ None
-  own_else w x y = round.own w ∙ (own_of w ∙ (ap (λ (o : Option ℕ). option_or o (mark_of guest.0.marks w).own) (h.no_other w x) ∙ g.no_other w y))
+  own_else w x y = round.own w ∙ (own-together host.0.marks guest.0.marks w ∙ (ap (λ (o : Option ℕ). option_or o (mark_of guest.0.marks w).own) (h.no_other w x) ∙ g.no_other w y))
 
   pub seen_a : (mark_of u.marks a).seen ≡ m
   seen_a = round.exact a m a_in all_own_a
@@ -83,13 +77,13 @@ module _ (workers a b m n : ℕ) (host guest : Me ℕ View) (h : Holds host a m)
 
   pub as_host : (v : View) → Sees v → ((w : ℕ) → (mark_of host.0.marks w).seen ≤ (mark_of v.marks w).seen) × (host.0.stop ≡ true → v.stop ≡ true)
   as_host v sees = (
-    (λ w. let e = sees.0 w in let x = (seen_together host.0.marks guest.0.marks w).0 in let y = round.later w in omega arith),
+    (λ w. let e = sees.0 w in let x = (seen-together host.0.marks guest.0.marks w).0 in let y = round.later w in omega arith),
     (λ e. sees.1 ∙ round.stop (or_left host.0.stop guest.0.stop e)),
   )
 
   pub as_guest : (v : View) → Sees v → ((w : ℕ) → (mark_of guest.0.marks w).seen ≤ (mark_of v.marks w).seen) × (guest.0.stop ≡ true → v.stop ≡ true)
   as_guest v sees = (
-    (λ w. let e = sees.0 w in let x = (seen_together host.0.marks guest.0.marks w).1 in let y = round.later w in omega arith),
+    (λ w. let e = sees.0 w in let x = (seen-together host.0.marks guest.0.marks w).1 in let y = round.later w in omega arith),
     (λ e. sees.1 ∙ round.stop (or_right host.0.stop guest.0.stop e)),
   )
 

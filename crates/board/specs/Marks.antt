@@ -1,5 +1,5 @@
 -- What a seat knows of each worker's count. A list of marks says nothing of the workers past its end.
-use Rattle.std.specs.Prelude.{◌≡◌, ℕ, zero, suc, ◌≤◌, max, List, [], ◌∷◌, map, Option, None, Some, IfSome, Bool, option_map}
+use Rattle.std.specs.Prelude.{◌≡◌, ℕ, zero, suc, ◌≤◌, max, List, [], ◌∷◌, map, None, IfSome, Bool, option_map}
 use Rattle.std.specs.Option.{option_or, is_some}
 use Rattle.board.specs.declared.views.Mark.{Mark}
 

@@ -1,9 +1,8 @@
 -- What the board's words and the seats' views have to do with each other, and what each step tells its seat.
-use Rattle.std.specs.Prelude.{◌≡◌, ◌≢◌, ◌≤◌, ◌<◌, ℕ, ◌+◌, List, [], length, slice_index, replicate, Bool, true, false, ◌||◌, nat_eq, not, None, Some}
+use Rattle.std.specs.Prelude.{◌≡◌, ◌≢◌, ◌≤◌, ◌<◌, ℕ, ◌+◌, List, [], length, slice_index, replicate, true, false, ◌||◌, nat_eq, not, Some}
 use mathlib.Core.Option.{some}
 use lib.ListN.{get_elem?}
 use Rattle.atomic_table.specs.Table.{State, Me, Step}
-use Rattle.board.specs.declared.views.Mark.{Mark}
 use Rattle.board.specs.declared.views.View.{View}
 use Rattle.board.specs.Marks.{mark_of, changed, found, without, only, together, is_own, Stands}
 

@@ -1,4 +1,4 @@
-use Rattle.std.proofs.Common.{◌≡◌, refl, sym, ◌∙◌, ap, subst, ℕ, List, [], rules}
+use Rattle.std.proofs.Common.{refl, sym, ◌∙◌, ap, subst, ℕ, List, [], rules}
 use Rattle.atomic_table.specs.Table.{Me, opening}
 use Rattle.board.specs.declared.views.View.{View}
 use Rattle.board.specs.Seats.{IsNextSeat}

@@ -1,4 +1,4 @@
-use Rattle.std.proofs.Common.{◌≡◌, refl, sym, ◌∙◌, ap, subst, ℕ, ◌+◌, ◌<◌, arith}
+use Rattle.std.proofs.Common.{sym, ◌∙◌, ap, subst, ℕ, ◌+◌, ◌<◌, arith}
 use Rattle.atomic_table.specs.Table.{Me}
 use Rattle.board.specs.declared.views.View.{View}
 use Rattle.board.specs.Marks.{mark_of}

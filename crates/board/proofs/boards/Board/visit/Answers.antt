@@ -1,4 +1,4 @@
-use Rattle.std.proofs.Common.{◌≡◌, ◌∙◌, sym, ap, arith, refl, ℕ}
+use Rattle.std.proofs.Common.{◌∙◌, sym, ap, arith, refl, ℕ}
 use Rattle.atomic_table.specs.Table.{Me}
 use Rattle.board.specs.declared.views.View.{View}
 use Rattle.board.proofs.Looking.{holds}
