@@ -61,8 +61,8 @@ module _ (workers slots id : ℕ) (v : View) (cs : List (ℕ × ℕ)) where
   fits_risen s kept here w count new own up there j t ne at = let fits = kept.fits j t at in record {
     counts = λ k. dite (ℕ_discrete k w)
         (λ e. subst (λ (i : ℕ). Stands (slice_index new (i + 1)) (mark_of t.marks i)) (sym e)
-            (stands_risen (slice_index s.words (w + 1)) (slice_index new (w + 1)) (mark_of t.marks w) up
-                (foreign (mark_of t.marks w).own (λ o. ne (kept.apart j id t v at here w o (own_count (mark_of v.marks w).own count own)))) (fits.counts w)))
+        (stands_risen (slice_index s.words (w + 1)) (slice_index new (w + 1)) (mark_of t.marks w) up
+        (foreign (mark_of t.marks w).own (λ o. ne (kept.apart j id t v at here w o (own_count (mark_of v.marks w).own count own)))) (fits.counts w)))
         (λ differs. subst (λ (x : ℕ). Stands x (mark_of t.marks k)) (sym (there (k + 1) (λ e. differs (omega arith)))) (fits.counts k));
     stop = λ e. λ z. fits.stop e (sym (there 0 (λ h. omega arith)) ∙ z);
   }

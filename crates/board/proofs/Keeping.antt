@@ -39,9 +39,9 @@ pub steps : (S : Type 0) (workers id : ℕ) (v u : View) (words : List ℕ) (s :
 steps S workers id v u words s kept here long mine others own = kept_so S workers s (record { words = words; homes = s.homes; views = set s.views id u }) (λ w i. i) kept long
     (λ j t at. ⊎_elim (λ h. subst (Fits words) h.1 mine) (λ h. others j t h.0 h.1) (at_set s.views id j u t at))
     (λ j t w at o. ⊎_elim
-        (λ h. (id, v, here, own w (owns_same u t w h.1 o), h.0))
-        (λ h. (j, t, h.1, o, refl))
-        (at_set s.views id j u t at))
+    (λ h. (id, v, here, own w (owns_same u t w h.1 o), h.0))
+    (λ h. (j, t, h.1, o, refl))
+    (at_set s.views id j u t at))
 
 -- ---- two views become one
 
@@ -67,19 +67,19 @@ joins S workers id v other w both fit own s kept here ne there =
     let was : get_elem? s.views other ≡ some w = ⊎_elim (λ h. absurd (ne h.0)) (λ h. h.1) (at_set s.views id other both w there) in
     kept_so S workers s (record { words = s.words; homes = s.homes; views = set (set s.views id both) other spent }) (λ x i. sent other id i) kept kept.long
     (λ j u at. ⊎_elim
-        (λ h. subst (Fits s.words) h.1 (fits_spent s.words))
-        (λ h. ⊎_elim (λ k. subst (Fits s.words) k.1 (fit s.words (kept.fits id v here) (kept.fits other w was))) (λ k. kept.fits j u k.1) (at_set s.views id j both u h.1))
-        (at_set (set s.views id both) other j spent u at))
+    (λ h. subst (Fits s.words) h.1 (fits_spent s.words))
+    (λ h. ⊎_elim (λ k. subst (Fits s.words) k.1 (fit s.words (kept.fits id v here) (kept.fits other w was))) (λ k. kept.fits j u k.1) (at_set s.views id j both u h.1))
+    (at_set (set s.views id both) other j spent u at))
     (λ j u x at o. ⊎_elim
-        (λ h. absurd (owns_nothing x (owns_same spent u x h.1 o)))
-        (λ h. ⊎_elim
-            (λ k. ⊎_elim
-                (λ mine. (id, v, here, mine, k.0 ∙ sym (sent_else other id id (λ e. ne (sym e)))))
-                (λ yours. (other, w, was, yours, k.0 ∙ sym (sent_it other id)))
-                (own x (owns_same both u x k.1 o)))
-            (λ k. (j, u, k.1, o, sym (sent_else other id j h.0)))
-            (at_set s.views id j both u h.1))
-        (at_set (set s.views id both) other j spent u at))
+    (λ h. absurd (owns_nothing x (owns_same spent u x h.1 o)))
+    (λ h. ⊎_elim
+    (λ k. ⊎_elim
+    (λ mine. (id, v, here, mine, k.0 ∙ sym (sent_else other id id (λ e. ne (sym e)))))
+    (λ yours. (other, w, was, yours, k.0 ∙ sym (sent_it other id)))
+    (own x (owns_same both u x k.1 o)))
+    (λ k. (j, u, k.1, o, sym (sent_else other id j h.0)))
+    (at_set s.views id j both u h.1))
+    (at_set (set s.views id both) other j spent u at))
 
 -- ---- a view is cut in two
 
@@ -110,15 +110,15 @@ splits S workers id v left right fit own_left own_right apart s kept here =
     let pair = fit s.words (kept.fits id v here) in
     kept_so S workers s (record { words = s.words; homes = s.homes; views = set s.views id left ++ right ∷ [] }) (λ w i. moved (is_own right.marks w) id new i) kept kept.long
     (λ j u at. ⊎_elim
-        (λ h. ⊎_elim (λ k. subst (Fits s.words) k.1 pair.0) (λ k. kept.fits j u k.1) (at_set s.views id j left u h))
-        (λ h. subst (Fits s.words) h.1 pair.1)
-        (at_end (set s.views id left) right u j at))
+    (λ h. ⊎_elim (λ k. subst (Fits s.words) k.1 pair.0) (λ k. kept.fits j u k.1) (at_set s.views id j left u h))
+    (λ h. subst (Fits s.words) h.1 pair.1)
+    (at_end (set s.views id left) right u j at))
     (λ j u w at o. ⊎_elim
-        (λ h. ⊎_elim
-            (λ k. let mine = owns_same left u w k.1 o in
-                (id, v, here, own_left w mine, k.0 ∙ sym (ap (λ (b : Bool). moved b id new id) (not_true (is_own right.marks w) (apart w mine)))))
-            (λ k. (j, u, k.1, o, sym (moved_else (is_own right.marks w) id new j k.0)))
-            (at_set s.views id j left u h))
-        (λ h. let yours = owns_same right u w h.1 o in
-            (id, v, here, own_right w yours, (h.0 ∙ length-set s.views id left) ∙ sym (ap (λ (b : Bool). moved b id new id) yours ∙ sent_it id new)))
-        (at_end (set s.views id left) right u j at))
+    (λ h. ⊎_elim
+    (λ k. let mine = owns_same left u w k.1 o in
+    (id, v, here, own_left w mine, k.0 ∙ sym (ap (λ (b : Bool). moved b id new id) (not_true (is_own right.marks w) (apart w mine)))))
+    (λ k. (j, u, k.1, o, sym (moved_else (is_own right.marks w) id new j k.0)))
+    (at_set s.views id j left u h))
+    (λ h. let yours = owns_same right u w h.1 o in
+    (id, v, here, own_right w yours, (h.0 ∙ length-set s.views id left) ∙ sym (ap (λ (b : Bool). moved b id new id) yours ∙ sent_it id new)))
+    (at_end (set s.views id left) right u j at))

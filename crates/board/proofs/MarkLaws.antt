@@ -90,9 +90,6 @@ seen-together ms ns = each_together (λ w m. ((mark_of ms w).seen ≤ m.seen) ×
 pub stands_released : (n : ℕ) (m : Mark) → Stands n m → Stands n (released m)
 stands_released n m is = (is.0, tt)
 
-pub stands_unmarked : (n : ℕ) → Stands n unmarked
-stands_unmarked n = (omega arith, tt)
-
 owned_either : (n : ℕ) (o p : Option ℕ) → IfSome o (λ c. n ≡ c) → IfSome p (λ c. n ≡ c) → IfSome (option_or o p) (λ c. n ≡ c)
 owned_either n None p x y = y
 owned_either n (Some c) p x y = x

@@ -1,16 +1,15 @@
 -- The seats come back one by one, the last first, and then each count is looked at.
-use Rattle.std.proofs.Common.{◌≡◌, ◌≢◌, ◌<◌, ◌≤◌, ◌+◌, ℕ, List, [], ◌∷◌, ◌++◌, length, set, refl, ap, sym, ◌∙◌, subst, arith}
+use Rattle.std.proofs.Common.{◌≡◌, ◌≢◌, ◌<◌, ◌≤◌, ◌+◌, ℕ, List, [], ◌∷◌, ◌++◌, length, set, ap, sym, ◌∙◌, subst, arith}
 use Rattle.std.specs.Prelude.{Option, Some, slice_get, slice_index}
 use Rattle.std.specs.Option.{option_or}
 use Rattle.std.proofs.lemmas.List.{get_or-set_same, get_or-set_other}
-use Rattle.std.proofs.lemmas.Option.{slice_get_within}
 use mathlib.Core.Logic.{dite}
 use native.Mathlib.Decide.{ℕ_discrete}
 use Rattle.board.specs.declared.boards.Board.{Board}
 use Rattle.board.specs.declared.seats.BoardSeat.{BoardSeat}
 use Rattle.board.specs.declared.views.View.{View}
 use Rattle.board.specs.Marks.{mark_of}
-use Rattle.board.specs.Rule.{hosting, spent}
+use Rattle.board.specs.Rule.{hosting}
 use Rattle.board.specs.Seats.{AreAllSeats, IsSeatOf, count_of, seen_of}
 use Rattle.board.specs.Gathering.{IsGathered}
 use Rattle.board.proofs.MarkLaws.{own-together, seen-together}
@@ -20,13 +19,6 @@ use Rattle.board.proofs.Looking.{Looked, own_count_found}
 -- the seats that are left are the first ones
 abbrev pub AreFirst : List BoardSeat → List BoardSeat → Type 0
 AreFirst left seats = (w : ℕ) (seat : BoardSeat) → slice_get left w ≡ Some seat → slice_get seats w ≡ Some seat
-
-pub none_gathered : (seats : List BoardSeat) → IsGathered (length seats) seats spent
-none_gathered seats = record {
-  own = λ w seat le at. absurd (let lt = slice_get_within seats w seat at in omega arith);
-  not_yet = λ w lt. refl;
-  seen = λ i w seat le at. absurd (let lt = slice_get_within seats i seat at in omega arith);
-}
 
 module _ (board : Board) (seats left rest : List BoardSeat) (last : BoardSeat) (v : View) (all : AreAllSeats board seats) (first : AreFirst left seats) (is : left ≡ rest ++ last ∷ [])
     (before : IsGathered (length left) seats v) where
@@ -52,7 +44,7 @@ module _ (board : Board) (seats left rest : List BoardSeat) (last : BoardSeat) (
   one_gathered = record {
     own = λ w seat le at. own-together v.marks last.seat.me.0.marks w ∙ dite (ℕ_discrete w (length rest))
         (λ e. ap (λ (o : Option ℕ). option_or o (mark_of last.seat.me.0.marks w).own) (before.not_yet w (let l = one_less in omega arith))
-            ∙ (own_last w e ∙ ap (λ (s : BoardSeat). Some s.count) (is_last w seat e at)))
+        ∙ (own_last w e ∙ ap (λ (s : BoardSeat). Some s.count) (is_last w seat e at)))
         (λ ne. ap (λ (o : Option ℕ). option_or o (mark_of last.seat.me.0.marks w).own) (before.own w seat (let l = one_less in omega arith) at));
     not_yet = λ w lt. own-together v.marks last.seat.me.0.marks w
         ∙ (ap (λ (o : Option ℕ). option_or o (mark_of last.seat.me.0.marks w).own) (before.not_yet w (let l = one_less in omega arith)) ∙ last.no_other w (λ e. let l = worker_is in omega arith));

@@ -1,5 +1,5 @@
 -- What two seats know once one has looked at every word with what both know and own.
-use Rattle.std.proofs.Common.{◌≡◌, ◌≢◌, ◌<◌, ◌≤◌, ◌+◌, ℕ, Bool, true, false, ◌||◌, not, nat_eq, [], refl, ap, sym, ◌∙◌, subst, arith, le_refl}
+use Rattle.std.proofs.Common.{◌≡◌, ◌≢◌, ◌<◌, ◌≤◌, ◌+◌, ℕ, Bool, true, false, ◌||◌, [], refl, ap, sym, ◌∙◌, subst, arith}
 use Rattle.std.specs.Prelude.{Option, None, Some}
 use Rattle.std.specs.Option.{option_or}
 use mathlib.Core.Logic.{dite}
@@ -7,10 +7,8 @@ use native.Mathlib.Decide.{ℕ_discrete}
 use Rattle.atomic_table.specs.Table.{Me}
 use Rattle.board.specs.declared.views.Mark.{Mark}
 use Rattle.board.specs.declared.views.View.{View}
-use Rattle.board.specs.declared.seats.BoardSeat.{BoardSeat}
 use Rattle.board.specs.Marks.{mark_of, without, only}
-use Rattle.board.specs.Rule.{LooksRound, hosting, host_after, guest_after, stop_found}
-use Rattle.board.specs.Seats.{HasMet, Remembers, seen_of}
+use Rattle.board.specs.Rule.{LooksRound, hosting, host_after, guest_after}
 use Rattle.board.proofs.MarkLaws.{mark_of-only, own-together, seen-together, seen-without, seen-only, own-without, own-without_it, own-only}
 use Rattle.board.proofs.Looking.{Holds, Looked, own_count_found}
 
@@ -23,16 +21,6 @@ or_right false b e = e
 or_left : (a b : Bool) → a ≡ true → (a || b) ≡ true
 or_left true b e = refl
 or_left false b e = absurd (cc)
-
-pub round_begins : (v u : View) (n : ℕ) → u ≡ stop_found v n → LooksRound 0 v u
-round_begins v u n is = subst (LooksRound 0 v) (sym is) (record {
-  worker = refl;
-  guest = refl;
-  own = λ w. refl;
-  later = λ w. le_refl (mark_of v.marks w).seen;
-  exact = λ w count lt own. absurd (omega arith);
-  stop = λ e. or_right (not (nat_eq n 0)) v.stop e;
-})
 
 pub round_goes_on : (w n : ℕ) (before mid after : View) → LooksRound w before mid → Looked w n mid after → LooksRound (w + 1) before after
 round_goes_on w n before mid after round look = record {
@@ -114,18 +102,3 @@ module _ (workers a b m n : ℕ) (host guest : Me ℕ View) (h : Holds host a m)
 pub round_of_both : (workers : ℕ) (host guest handed joined : Me ℕ View) (u : View) → handed ≡ (guest.0, []) → joined ≡ (hosting host.0 handed.0, host.1) → LooksRound workers joined.0 u → LooksRound workers (hosting host.0 guest.0) u
 round_of_both workers host guest handed joined u over in_it round =
     subst (λ (v : View). LooksRound workers v u) (ap (λ (m : Me ℕ View). m.0) in_it ∙ ap (λ (m : Me ℕ View). hosting host.0 m.0) over) round
-
--- ---- one meeting after another
-
-remembers_still : (a b c : BoardSeat) → Remembers a b → Remembers b c → Remembers a c
-remembers_still a b c x y = ((λ w. let p = x.0 w in let q = y.0 w in omega arith), (λ e. y.1 (x.1 e)))
-
--- b has met a, then b's a again
-pub met_again : (a b a1 b1 a2 : BoardSeat) → HasMet a b a1 → HasMet b a b1 → HasMet a1 b1 a2 → HasMet a b a2
-met_again a b a1 b1 a2 first back again = record {
-  same = (again.same.0 ∙ first.same.0, again.same.1 ∙ first.same.1);
-  count = again.count ∙ first.count;
-  mine = remembers_still a a1 a2 first.mine again.mine;
-  yours = remembers_still b a1 a2 first.yours again.mine;
-  exact = ap (seen_of a2) (sym back.same.1) ∙ (again.exact ∙ back.count);
-}

@@ -19,3 +19,6 @@ pub mod views;
 pub use boards::Board;
 pub use error::BoardError;
 pub use seats::BoardSeat;
+
+#[cfg(test)]
+mod tests;

@@ -27,7 +27,7 @@ invariant_of-host c =
     let after = c.split_seat.ensures in
     let round = round_of_both _ c.args.host.now.seat.me c.args.guest.now.seat.me _ _ _ c.split_seat-handed.ensures.4 c.join_seat.ensures.2 c.look_round.ensures.view in
     let new = host_holds _ _ _ _ _ _ _ h g c.requires.apart c.requires.host.1 c.requires.guest.1 _ round c.split_seat.new.seat.me (ap (λ (m : Me ℕ View). m.0) after.2)
-        (ap (λ (m : Me ℕ View). m.1) after.2 ∙ (c.look_round.ensures.table.1 ∙ (ap (λ (m : Me ℕ View). m.1) c.join_seat.ensures.2 ∙ h.no_slot))) in
+    (ap (λ (m : Me ℕ View). m.1) after.2 ∙ (c.look_round.ensures.table.1 ∙ (ap (λ (m : Me ℕ View). m.1) c.join_seat.ensures.2 ∙ h.no_slot))) in
     record { no_slot = new.no_slot; worker_is = new.worker_is; own = new.own; no_other = new.no_other }
 
 pub invariant_of-guest : goal.invariant_of-guest
