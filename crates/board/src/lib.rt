@@ -5,16 +5,16 @@
 //! or takes memory.
 #![tactic(auto)]
 
-pub mod boards;
+mod boards;
 mod closing;
-pub mod error;
+mod error;
 mod meeting;
 mod observers;
-pub mod rule;
+mod rule;
 mod seating;
-pub mod seats;
+mod seats;
 mod steps;
-pub mod views;
+mod views;
 
 pub use boards::Board;
 pub use error::BoardError;

@@ -17,9 +17,9 @@ impl TableRule<u8, View, usize> for CountsRule {
 }
 
 /// The next worker gets its seat.
-pub struct Seats;
+pub struct GivesSeat;
 
-impl Split<View> for Seats {
+impl Split<View> for GivesSeat {
     ghost left = { seats_left };
 
     ghost right = { seated };

@@ -5,7 +5,7 @@ ghost use Rattle.board.specs.Marks.{mark_of};
 
 use crate::boards::Board;
 use crate::error::BoardError;
-use crate::rule::Seats;
+use crate::rule::GivesSeat;
 use crate::seats::BoardSeat;
 use crate::views::View;
 use atomic_table::{Seat, Table};
@@ -67,6 +67,6 @@ impl Board {
         ensures rights { IsNextSeat self.now.workers (worker + 1) rights.new.me.0 }
         ensures seat { IsNewSeat self.now worker result }
     {
-        seat_with(self.table.shared.split_seat::<Seats>(rights), worker, 0)
+        seat_with(self.table.shared.split_seat::<GivesSeat>(rights), worker, 0)
     }
 }

@@ -35,6 +35,12 @@ fn counts_of(
     Ok(board.close(vec![in alloc; first, second]?))
 }
 
+/// For boards, which threads share.
+fn is_shared<T: Sync>(_value: &T) {}
+
+/// For seats, which threads take along.
+fn is_sent<T: Send>(_value: &T) {}
+
 #[test]
 fn seats_see_each_other_without_meeting(rt: HostRuntime) -> Result<(), Fail> {
     let (board, mut first, mut second) = board_of_two(rt.alloc())?;
