@@ -13,7 +13,7 @@ use Rattle.atomic_table.specs.Table.{State, Me, keeps, step, Allows}
 use Rattle.board.specs.declared.views.Mark.{Mark}
 use Rattle.board.specs.declared.views.View.{View}
 use Rattle.board.specs.Marks.{mark_of, found, Stands}
-use Rattle.board.specs.Rule.{Fits, IsKept, count_found, stop_found, FindsCount, AddsOne, FindsStop, SetsStop}
+use Rattle.board.specs.Rule.{GuestIsOther, Fits, IsKept, count_found, stop_found, FindsCount, AddsOne, FindsStop, SetsStop}
 use Rattle.board.proofs.MarkLaws.{each_changed, stands_found, stands_risen, owned_is, some_found, own_count}
 use Rattle.board.proofs.Keeping.{steps, Owns}
 
@@ -25,6 +25,7 @@ fits_found old new v w n fits here there = record {
       (subst (λ (x : ℕ). Stands x (found n (mark_of v.marks w))) (sym here) (stands_found n (mark_of v.marks w)))
       (λ k ne. subst (λ (x : ℕ). Stands x (mark_of v.marks k)) (sym (there (k + 1) (λ e. ne (omega arith)))) (fits.counts k));
   stop = λ e. λ z. fits.stop e (sym (there 0 (λ h. omega arith)) ∙ z);
+  guest = fits.guest;
 }
 
 owns_found : (v : View) (w n k : ℕ) → Owns (count_found v w n) k → Owns v k
@@ -65,6 +66,7 @@ module _ (workers slots id : ℕ) (v : View) (cs : List (ℕ × ℕ)) where
         (foreign (mark_of t.marks w).own (λ o. ne (kept.apart j id t v at here w o (own_count (mark_of v.marks w).own count own)))) (fits.counts w)))
         (λ differs. subst (λ (x : ℕ). Stands x (mark_of t.marks k)) (sym (there (k + 1) (λ e. differs (omega arith)))) (fits.counts k));
     stop = λ e. λ z. fits.stop e (sym (there 0 (λ h. omega arith)) ∙ z);
+    guest = fits.guest;
   }
 
   pub pulse_allowed : (w count : ℕ) → w < workers → (mark_of v.marks w).own ≡ Some count → count < 18446744073709551615
@@ -98,14 +100,15 @@ set_or_seen n b true e old h = old h
 set_or_seen n b false e old h = not_zero n e
 
 fits_stop : (words : List ℕ) (v : View) → Fits words v → Fits words (stop_found v (slice_index words 0))
-fits_stop words v fits = record { counts = fits.counts; stop = set_or_seen (slice_index words 0) v.stop (nat_eq (slice_index words 0) 0) refl fits.stop }
+fits_stop words v fits = record { counts = fits.counts; stop = set_or_seen (slice_index words 0) v.stop (nat_eq (slice_index words 0) 0) refl fits.stop; guest = fits.guest }
 
 -- the stop's word isn't 0 any more
-fits_stopped : (words : List ℕ) (n : ℕ) (v u : View) → 0 < length words → n ≢ 0 → Fits words v → u.marks ≡ v.marks → Fits (set words 0 n) u
-fits_stopped words n v u room ne fits same = record {
+fits_stopped : (words : List ℕ) (n : ℕ) (v u : View) → 0 < length words → n ≢ 0 → Fits words v → u.marks ≡ v.marks → GuestIsOther u → Fits (set words 0 n) u
+fits_stopped words n v u room ne fits same guest = record {
   counts = λ w. subst (λ (x : ℕ). Stands x (mark_of u.marks w)) (sym (get_or-set_other words 0 (w + 1) n 0 (λ e. omega arith)))
       (subst (λ (ms : List Mark). Stands (slice_index words (w + 1)) (mark_of ms w)) (sym same) (fits.counts w));
   stop = λ _. λ z. ne (sym (get_or-set_same words 0 n 0 room) ∙ z);
+  guest = guest;
 }
 
 module _ (workers slots id : ℕ) (v : View) (cs : List (ℕ × ℕ)) where
@@ -119,7 +122,7 @@ module _ (workers slots id : ℕ) (v : View) (cs : List (ℕ × ℕ)) where
         tt,
         subst (λ (words : List ℕ). IsKept ℕ workers (record { words = words; homes = s.homes; views = set s.views id (stop_found v n) })) (sym same)
             (steps ℕ workers id v (stop_found v n) s.words s kept here kept.long (fits_stop s.words v fits) (λ j t ne at. kept.fits j t at) (λ w o. o)),
-        (fits.stop, refl),
+        (fits.stop, fits.guest, refl),
       )
 
   pub ask_allowed : Allows (IsKept ℕ workers) slots id (v, cs) 0 (λ n. bit_or n 1) (SetsStop (step slots 0 1 0 none) (v, cs))
@@ -131,7 +134,7 @@ module _ (workers slots id : ℕ) (v : View) (cs : List (ℕ × ℕ)) where
         keeps,
         tt,
         steps ℕ workers id v (stop_found v 1) (set s.words 0 n) s kept here (length-set s.words 0 n ∙ kept.long)
-            (fits_stopped s.words n v (stop_found v 1) room set_now (kept.fits id v here) refl)
-            (λ j t ne at. fits_stopped s.words n t t room set_now (kept.fits j t at) refl) (λ w o. o),
+            (fits_stopped s.words n v (stop_found v 1) room set_now (kept.fits id v here) refl (kept.fits id v here).guest)
+            (λ j t ne at. fits_stopped s.words n t t room set_now (kept.fits j t at) refl (kept.fits j t at).guest) (λ w o. o),
         refl,
       )

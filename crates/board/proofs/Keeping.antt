@@ -56,19 +56,19 @@ sent_else : (from to i : ℕ) → i ≢ from → sent from to i ≡ i
 sent_else from to i ne = ap (λ (b : Bool). if b then to else i) (ne_eqb i from ne)
 
 fits_spent : (words : List ℕ) → Fits words spent
-fits_spent words = record { counts = λ w. (omega arith, tt); stop = λ e. absurd (cc) }
+fits_spent words = record { counts = λ w. (omega arith, tt); stop = λ e. absurd (cc); guest = tt }
 
 owns_nothing : (w : ℕ) → Owns spent w → ⊥
 owns_nothing w e = cc
 
-pub joins : (S : Type 0) (workers id : ℕ) (v : View) (other : ℕ) (w both : View) → ((words : List ℕ) → Fits words v → Fits words w → Fits words both)
+pub joins : (S : Type 0) (workers id : ℕ) (v : View) (other : ℕ) (w both : View) → ((words : List ℕ) → ((x : ℕ) → Owns v x → Owns w x → ⊥) → Fits words v → Fits words w → Fits words both)
     → ((x : ℕ) → Owns both x → Owns v x ⊎ Owns w x) → Joins (IsKept S workers) id v other w both spent
 joins S workers id v other w both fit own s kept here ne there =
     let was : get_elem? s.views other ≡ some w = ⊎_elim (λ h. absurd (ne h.0)) (λ h. h.1) (at_set s.views id other both w there) in
     kept_so S workers s (record { words = s.words; homes = s.homes; views = set (set s.views id both) other spent }) (λ x i. sent other id i) kept kept.long
     (λ j u at. ⊎_elim
     (λ h. subst (Fits s.words) h.1 (fits_spent s.words))
-    (λ h. ⊎_elim (λ k. subst (Fits s.words) k.1 (fit s.words (kept.fits id v here) (kept.fits other w was))) (λ k. kept.fits j u k.1) (at_set s.views id j both u h.1))
+    (λ h. ⊎_elim (λ k. subst (Fits s.words) k.1 (fit s.words (λ x a b. ne (kept.apart other id w v was here x b a)) (kept.fits id v here) (kept.fits other w was))) (λ k. kept.fits j u k.1) (at_set s.views id j both u h.1))
     (at_set (set s.views id both) other j spent u at))
     (λ j u x at o. ⊎_elim
     (λ h. absurd (owns_nothing x (owns_same spent u x h.1 o)))

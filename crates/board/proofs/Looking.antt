@@ -1,14 +1,14 @@
 -- What a seat knows after a step.
-use Rattle.std.proofs.Common.{◌≡◌, ◌≢◌, ◌≤◌, ◌+◌, ℕ, [], refl, ap, sym, ◌∙◌, subst, arith, le_refl}
+use Rattle.std.proofs.Common.{true, ◌≡◌, ◌≢◌, ◌≤◌, ◌+◌, ℕ, [], refl, ap, sym, ◌∙◌, subst, arith, le_refl}
 use Rattle.std.specs.Prelude.{Option, None, Some, IfSome, option_map}
 use mathlib.Core.Option.{none}
 use Rattle.atomic_table.specs.Table.{Me, step}
 use Rattle.board.specs.declared.views.Mark.{Mark}
 use Rattle.board.specs.declared.views.View.{View}
 use Rattle.board.specs.declared.seats.BoardSeat.{BoardSeat}
-use Rattle.board.specs.Marks.{mark_of, found, Stands}
+use Rattle.board.specs.Marks.{is_own, mark_of, found, Stands}
 use Rattle.board.specs.Rule.{count_found, FindsCount, AddsOne}
-use Rattle.board.proofs.MarkLaws.{each_changed, mark_of-found, owned_is}
+use Rattle.board.proofs.MarkLaws.{own_count, each_changed, mark_of-found, owned_is}
 
 -- what a seat's fields say of what it knows
 pub record Holds (me : Me ℕ View) (worker count : ℕ) : Type 0 where
@@ -19,6 +19,9 @@ pub record Holds (me : Me ℕ View) (worker count : ℕ) : Type 0 where
 
 pub holds : (seat : BoardSeat) → Holds seat.seat.me seat.worker seat.count
 holds seat = record { no_slot = seat.no_slot; worker_is = seat.worker_is; own = seat.own; no_other = seat.no_other }
+
+pub owns_its : (me : Me ℕ View) (worker count : ℕ) → Holds me worker count → is_own me.0.marks me.0.worker ≡ true
+owns_its me worker count held = own_count (mark_of me.0.marks me.0.worker).own count (ap (λ (w : ℕ). (mark_of me.0.marks w).own) held.worker_is ∙ held.own)
 
 -- one count was looked at, and n was found
 pub record Looked (w n : ℕ) (before after : View) : Type 0 where

@@ -53,14 +53,15 @@ pub record HasMet (a b after : BoardSeat) : Type 0 where
   pub yours : Remembers b after
   pub exact : seen_of after (worker_of b) ≡ count_of b
 
--- a seat for each worker of this board, in order
+-- a seat of this board for each worker, in any order
 pub record AreAllSeats (board : Board) (seats : List BoardSeat) : Type 0 where
   pub all : length seats ≡ workers_of board
-  pub mine : (w : ℕ) (seat : BoardSeat) → slice_get seats w ≡ Some seat → IsSeatOf board seat × (worker_of seat ≡ w)
+  pub mine : (i : ℕ) (seat : BoardSeat) → slice_get seats i ≡ Some seat → IsSeatOf board seat
+  pub once : (i j : ℕ) (a b : BoardSeat) → slice_get seats i ≡ Some a → slice_get seats j ≡ Some b → worker_of a ≡ worker_of b → i ≡ j
 
 -- each worker's count is that of its seat
 abbrev pub AreCounts : List BoardSeat → List ℕ → Type 0
-AreCounts seats counts = (w : ℕ) (seat : BoardSeat) → slice_get seats w ≡ Some seat → slice_index counts w ≡ count_of seat
+AreCounts seats counts = (i : ℕ) (seat : BoardSeat) → slice_get seats i ≡ Some seat → slice_index counts (worker_of seat) ≡ count_of seat
 
 -- no worker's count is below what any seat has seen of it
 abbrev pub ReachAllSeen : ℕ → List BoardSeat → List ℕ → Type 0

@@ -4,13 +4,13 @@ ghost use Rattle.board.specs.Seats.{AreAllSeats, AreCounts, ReachAllSeen, worker
 ghost use Rattle.board.specs.Gathering.{IsGathered};
 
 use crate::boards::Board;
-use crate::rule::{Looks, TakesIn};
+use crate::rule::{Looks, Gathers};
 use crate::seats::BoardSeat;
 use crate::views::View;
 use atomic_table::Seat;
 
 impl Board {
-    /// Takes back all seats, in the workers' order, and gives each worker's count, 0 past the last worker. No count is below
+    /// Takes back all seats, in any order, and gives each worker's count, 0 past the last worker. No count is below
     /// what any seat has seen of it.
     pub fn close(self, seats: Vec<BoardSeat>) -> [u64; 9]
         requires { AreAllSeats self seats.items }
@@ -36,7 +36,7 @@ impl Board {
             unreachable!()
         };
         while let Some(BoardSeat { seat, .. }) = seats.pop() {
-            self.table.shared.join_seat::<TakesIn>(&mut all, seat);
+            self.table.shared.join_seat::<Gathers>(&mut all, seat);
         }
         all
     }

@@ -1,6 +1,6 @@
 //! Two seats meet.
-ghost use Rattle.std.specs.Prelude.{◌≡◌, ◌≢◌};
-ghost use Rattle.board.specs.Seats.{IsSeatOf, HasMet, worker_of};
+ghost use Rattle.std.specs.Prelude.{◌≡◌};
+ghost use Rattle.board.specs.Seats.{IsSeatOf, HasMet};
 ghost use Rattle.board.specs.Rule.{LooksRound};
 
 use crate::boards::Board;
@@ -10,12 +10,11 @@ use crate::views::View;
 use atomic_table::Seat;
 
 impl Board {
-    /// Two seats of different workers learn what the other knows: the other's count exactly, and of every other worker and
+    /// Each of two seats learns what the other knows: the other's count exactly, and of every other worker and
     /// of the stop at least what either has seen. Each of the two loads every word itself.
     pub fn meet(&self, a: &mut BoardSeat, b: &mut BoardSeat)
         requires a { IsSeatOf self.now a.old }
         requires b { IsSeatOf self.now b.old }
-        requires apart { worker_of a.old ≢ worker_of b.old }
         ensures a { HasMet a.old b.old a.new }
         ensures b { HasMet b.old a.old b.new }
     {
@@ -27,7 +26,6 @@ impl Board {
     fn visit(&self, host: &mut BoardSeat, guest: &mut BoardSeat)
         requires host { IsSeatOf self.now host.old }
         requires guest { IsSeatOf self.now guest.old }
-        requires apart { worker_of host.old ≢ worker_of guest.old }
         ensures host { HasMet host.old guest.old host.new }
         ensures guest { HasMet guest.old host.old guest.new }
     {

@@ -1,5 +1,5 @@
 //! The rule that the board's words and the seats' views keep, and what each step tells its seat.
-ghost use Rattle.board.specs.Rule.{IsKept, unseated, spent, seated, seats_left, hosting, host_after, guest_after};
+ghost use Rattle.board.specs.Rule.{IsKept, unseated, spent, seated, seats_left, hosting, gathered, host_after, guest_after};
 
 use crate::views::View;
 use atomic_table::{Join, Play, Split, TableRule};
@@ -34,11 +34,20 @@ impl Split<View> for HandsOver {
     ghost right = { λ v. v };
 }
 
-/// A seat takes in what another knows and owns.
+/// A seat takes in what another knows and owns, as its guest.
 pub struct TakesIn;
 
 impl Join<View> for TakesIn {
     ghost both = { hosting };
+
+    ghost spent = { spent };
+}
+
+/// A seat takes in what another knows and owns, for good.
+pub struct Gathers;
+
+impl Join<View> for Gathers {
+    ghost both = { gathered };
 
     ghost spent = { spent };
 }

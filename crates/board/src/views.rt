@@ -10,10 +10,10 @@ pub struct Mark {
 }
 
 /// What a seat knows: the worker whose seat it is, a mark for each worker from worker 0 on, and whether it has seen the
-/// stop. `guest` is the worker whose seat it stands for besides, while two seats meet.
+/// stop. `guest` is the worker for whose seat it stands besides, while two seats meet.
 pub struct View {
     pub worker: u64,
-    pub guest: u64,
+    pub guest: Option<u64>,
     pub marks: LinkedList<Mark>,
     pub stop: bool,
 }
