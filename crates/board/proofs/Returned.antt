@@ -76,7 +76,7 @@ pub one_counted : (seats : List BoardSeat) (counts : List ℕ) (w n : ℕ) (befo
 one_counted seats counts w n before after room all look counted = record {
   is = λ i seat lt at. dite (ℕ_discrete seat.worker w)
       (λ e. ap (slice_index (set counts w n)) e
-          ∙ (here ∙ own_count_found w n before after seat.count look (ap (λ (k : ℕ). (mark_of before.marks k).own) (sym e) ∙ all.own i seat (omega arith) at)))
+      ∙ (here ∙ own_count_found w n before after seat.count look (ap (λ (k : ℕ). (mark_of before.marks k).own) (sym e) ∙ all.own i seat (omega arith) at)))
       (λ ne. there seat.worker ne ∙ counted.is i seat (omega arith) at);
   seen = λ i j seat at lt. dite (ℕ_discrete j w)
       (λ e. subst (λ (x : ℕ). seen_of seat x ≤ slice_index (set counts w n) x) (sym e) (let a = all.seen i w seat (omega arith) at in let b = look.stands.0 in let c = here in omega arith))

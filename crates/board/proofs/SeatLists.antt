@@ -4,7 +4,7 @@ use Rattle.std.specs.Prelude.{Option, Some, slice_get, unwrap_or}
 use Rattle.std.proofs.lemmas.Option.{none-some}
 use Rattle.board.specs.declared.boards.Board.{Board}
 use Rattle.board.specs.declared.seats.BoardSeat.{BoardSeat}
-use Rattle.board.specs.Seats.{IsNewSeat, AreNewSeats}
+use Rattle.board.specs.Seats.{IsSeatOf, IsNewSeat, AreNewSeats, AreAllSeats, worker_of, workers_of}
 
 pub inside : {A : Type 0} (a b : A) → Some a ≡ Some b → a ≡ b
 inside a b e = ap (λ (o : Option _). unwrap_or o a) e
@@ -33,3 +33,12 @@ one_more board seats more seat n is long all new w x at = ⊎_elim
 pub longer : {A : Type 0} (xs : List A) (last : A) → length (xs ++ last ∷ []) ≡ length xs + 1
 longer [] last = refl
 longer (y ∷ ys) last = let e = longer ys last in omega arith
+
+-- seats in the workers' order are all seats
+pub all_in_order : (board : Board) (seats : List BoardSeat) → length seats ≡ workers_of board
+    → ((w : ℕ) (seat : BoardSeat) → slice_get seats w ≡ Some seat → IsSeatOf board seat × (worker_of seat ≡ w)) → AreAllSeats board seats
+all_in_order board seats long at = record {
+  all = long;
+  mine = λ i seat e. (at i seat e).0;
+  once = λ i j a b x y same. sym (at i a x).1 ∙ (same ∙ (at j b y).1);
+}

@@ -80,7 +80,7 @@ module _ (workers id : ℕ) (v : View) (other : ℕ) (w : View) where
         guest = guest apart;
       })
       (λ x o. each_together (λ k m. is_some m.own ≡ true → Owns v k ⊎ Owns w k) v.marks w.marks (λ k. some_either (mark_of v.marks k).own (mark_of w.marks k).own) x
-          (subst (λ (ms : List Mark). is_some (mark_of ms x).own ≡ true) marks o))
+      (subst (λ (ms : List Mark). is_some (mark_of ms x).own ≡ true) marks o))
 
   -- both views own their own workers' counts, so these are two workers
   pub take_in_allowed : Owns v v.worker → Owns w w.worker → Joins (IsKept ℕ workers) id v other w (hosting v w) spent

@@ -20,7 +20,8 @@ pub record Fits (words : List ℕ) (v : View) : Type 0 where
 pub record IsKept (S : Type 0) (workers : ℕ) (s : State S View) : Type 0 where
   pub long : length s.words ≡ workers + 1
   pub fits : (seat : ℕ) (v : View) → get_elem? s.views seat ≡ some v → Fits s.words v
-  pub apart : (i j : ℕ) (u v : View) → get_elem? s.views i ≡ some u → get_elem? s.views j ≡ some v → (w : ℕ) → is_own u.marks w ≡ true → is_own v.marks w ≡ true → i ≡ j
+  pub apart : (i j : ℕ) (u v : View) → get_elem? s.views i ≡ some u → get_elem? s.views j ≡ some v
+      → (w : ℕ) → is_own u.marks w ≡ true → is_own v.marks w ≡ true → i ≡ j
 
 -- ---- how views come about
 
@@ -39,7 +40,7 @@ seated v = record { worker = v.worker; guest = None; marks = only v.marks v.work
 abbrev pub seats_left : View → View
 seats_left v = record { worker = v.worker + 1; guest = None; marks = without v.marks v.worker; stop = v.stop }
 
--- a seat that has taken in another's view, as its guest or for good; then what is left to the host, and what the guest goes with
+-- a seat that has taken in another's view, as its guest or for good
 abbrev pub hosting : View → View → View
 hosting v w = record { worker = v.worker; guest = Some w.worker; marks = together v.marks w.marks; stop = v.stop || w.stop }
 
@@ -49,13 +50,14 @@ gathered v w = record { worker = v.worker; guest = None; marks = together v.mark
 abbrev pub guest_of : View → ℕ
 guest_of v = unwrap_or v.guest 0
 
+-- what is left to the host, and what the guest goes with
 abbrev pub host_after : View → View
 host_after v = record { worker = v.worker; guest = None; marks = without v.marks (guest_of v); stop = v.stop }
 
 abbrev pub guest_after : View → View
 guest_after v = record { worker = guest_of v; guest = None; marks = only v.marks (guest_of v); stop = v.stop }
 
--- ---- what a step tells: the number found is right by the view before, and the view after has it. Worker w's word is w + 1
+-- ---- what a step tells: the number found is right by the view before, and the view after has it
 
 abbrev pub count_found : View → ℕ → ℕ → View
 count_found v w n = record { worker = v.worker; guest = v.guest; marks = changed (found n) v.marks w; stop = v.stop }
@@ -65,10 +67,12 @@ stop_found v n = record { worker = v.worker; guest = v.guest; marks = v.marks; s
 
 module _ {S : Type 0} where
   abbrev pub FindsCount : Step S → Me S View → ℕ → Me S View → Type 0
-  FindsCount s me n after = (w : ℕ) → s.word ≡ w + 1 → Stands n (mark_of me.0.marks w) × (after ≡ (count_found me.0 w n, me.1))
+  FindsCount s me n after = (w : ℕ) → s.word ≡ w + 1
+      → Stands n (mark_of me.0.marks w) × (after ≡ (count_found me.0 w n, me.1))
 
   abbrev pub AddsOne : Step S → Me S View → ℕ → Me S View → Type 0
-  AddsOne s me n after = (w : ℕ) → s.word ≡ w + 1 → Stands n (mark_of me.0.marks w) × (after ≡ (count_found me.0 w (n + 1), me.1))
+  AddsOne s me n after = (w : ℕ) → s.word ≡ w + 1
+      → Stands n (mark_of me.0.marks w) × (after ≡ (count_found me.0 w (n + 1), me.1))
 
   abbrev pub FindsStop : Step S → Me S View → ℕ → Me S View → Type 0
   FindsStop s me n after = (me.0.stop ≡ true → n ≢ 0) × GuestIsOther me.0 × (after ≡ (stop_found me.0 n, me.1))

@@ -57,15 +57,18 @@ pub record HasMet (a b after : BoardSeat) : Type 0 where
 pub record AreAllSeats (board : Board) (seats : List BoardSeat) : Type 0 where
   pub all : length seats ≡ workers_of board
   pub mine : (i : ℕ) (seat : BoardSeat) → slice_get seats i ≡ Some seat → IsSeatOf board seat
-  pub once : (i j : ℕ) (a b : BoardSeat) → slice_get seats i ≡ Some a → slice_get seats j ≡ Some b → worker_of a ≡ worker_of b → i ≡ j
+  pub once : (i j : ℕ) (a b : BoardSeat) → slice_get seats i ≡ Some a → slice_get seats j ≡ Some b
+      → worker_of a ≡ worker_of b → i ≡ j
 
 -- each worker's count is that of its seat
 abbrev pub AreCounts : List BoardSeat → List ℕ → Type 0
-AreCounts seats counts = (i : ℕ) (seat : BoardSeat) → slice_get seats i ≡ Some seat → slice_index counts (worker_of seat) ≡ count_of seat
+AreCounts seats counts = (i : ℕ) (seat : BoardSeat) → slice_get seats i ≡ Some seat
+    → slice_index counts (worker_of seat) ≡ count_of seat
 
 -- no worker's count is below what any seat has seen of it
 abbrev pub ReachAllSeen : ℕ → List BoardSeat → List ℕ → Type 0
-ReachAllSeen workers seats counts = (i w : ℕ) (seat : BoardSeat) → slice_get seats i ≡ Some seat → w < workers → seen_of seat w ≤ slice_index counts w
+ReachAllSeen workers seats counts = (i w : ℕ) (seat : BoardSeat) → slice_get seats i ≡ Some seat → w < workers
+    → seen_of seat w ≤ slice_index counts w
 
 -- the view from which the seats of the workers from next on are cut off
 pub record IsNextSeat (workers next : ℕ) (v : View) : Type 0 where

@@ -4,7 +4,7 @@ ghost use Rattle.board.specs.Seats.{AreAllSeats, AreCounts, ReachAllSeen, worker
 ghost use Rattle.board.specs.Gathering.{IsGathered};
 
 use crate::boards::Board;
-use crate::rule::{Looks, Gathers};
+use crate::rule::{Gathers, Looks};
 use crate::seats::BoardSeat;
 use crate::views::View;
 use atomic_table::Seat;

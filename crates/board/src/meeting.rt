@@ -10,8 +10,8 @@ use crate::views::View;
 use atomic_table::Seat;
 
 impl Board {
-    /// Each of two seats learns what the other knows: the other's count exactly, and of every other worker and
-    /// of the stop at least what either has seen. Each of the two loads every word itself.
+    /// Each of two seats learns what the other knows: the other's count exactly, and of every worker and of the stop at
+    /// least what either has seen. Each of the two loads every word itself.
     pub fn meet(&self, a: &mut BoardSeat, b: &mut BoardSeat)
         requires a { IsSeatOf self.now a.old }
         requires b { IsSeatOf self.now b.old }

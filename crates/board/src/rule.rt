@@ -1,5 +1,6 @@
 //! The rule that the board's words and the seats' views keep, and what each step tells its seat.
-ghost use Rattle.board.specs.Rule.{IsKept, unseated, spent, seated, seats_left, hosting, gathered, host_after, guest_after};
+ghost use Rattle.board.specs.Rule.{IsKept, unseated, seated, seats_left};
+ghost use Rattle.board.specs.Rule.{spent, hosting, gathered, host_after, guest_after};
 
 use crate::views::View;
 use atomic_table::{Join, Play, Split, TableRule};

@@ -32,7 +32,8 @@ fn seat_with(seat: Seat<u8, View>, worker: usize, count: u64) -> BoardSeat
 fn unseated_board(alloc: Global, workers: usize) -> Result<(Board, Seat<u8, View>), AllocError>
     requires { (0 < workers) × (workers ≤ 9) }
     ensures board { IfOk result (λ made. workers_of made.0 ≡ workers) }
-    ensures rights { IfOk result (λ made. (made.1.table_id ≡ made.0.table.shared.table_id) × (made.1.me.1 ≡ []) × IsNextSeat workers 0 made.1.me.0) }
+    ensures table { IfOk result (λ made. (made.1.table_id ≡ made.0.table.shared.table_id) × (made.1.me.1 ≡ [])) }
+    ensures rights { IfOk result (λ made. IsNextSeat workers 0 made.1.me.0) }
 {
     let words = vec![in alloc; 0u64; workers + 1]?;
     let (table, rights) = Table::of_words(alloc, words.as_slice(), &workers)?;
@@ -40,8 +41,8 @@ fn unseated_board(alloc: Global, workers: usize) -> Result<(Board, Seat<u8, View
 }
 
 impl Board {
-    /// A board for 1 to 9 workers, and a seat for each of them, in order: every count is 0, and no stop is set. B1 exactly
-    /// where the number of workers isn't 1 to 9, else B2 where memory runs out.
+    /// A board for 1 to 9 workers, and a seat for each of them, in order: every count is 0, and no stop is set. B1
+    /// exactly where the number of workers isn't 1 to 9, else B2 where memory runs out. No other call takes memory.
     pub fn new(alloc: Global, workers: usize) -> Result<(Board, Vec<BoardSeat>), BoardError>
         ensures workers { IfOk result (λ made. (workers_of made.0 ≡ workers) × (vec_len made.1 ≡ workers)) }
         ensures seats { IfOk result (λ made. AreNewSeats made.0 made.1.items) }

@@ -5,8 +5,8 @@ ghost use Rattle.board.specs.Marks.{mark_of};
 use crate::views::View;
 use atomic_table::Seat;
 
-/// A worker's right to change its count, and what it has seen of the others. A contract speaks of its worker, its count,
-/// what it has seen of each worker and whether it has seen the stop.
+/// A worker's right to change its count, and what it has seen of the others. A contract speaks of its worker, its
+/// count, what it has seen of each worker and whether it has seen the stop.
 #[derive(Drop)]
 pub struct BoardSeat {
     pub(crate) seat: Seat<u8, View>,

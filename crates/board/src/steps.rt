@@ -1,6 +1,7 @@
 //! The calls of one seat. Each is one atomic step.
 ghost use Rattle.std.specs.Prelude.{◌≡◌, ◌<◌, ◌≤◌, ◌+◌, ◌^◌, ◌-◌, true};
-ghost use Rattle.board.specs.Seats.{IsSeatOf, IsSameSeat, Remembers, count_of, worker_of, workers_of, seen_of, saw_stop};
+ghost use Rattle.board.specs.Seats.{IsSeatOf, IsSameSeat, Remembers, seen_of, saw_stop};
+ghost use Rattle.board.specs.Seats.{count_of, worker_of, workers_of};
 
 use crate::boards::Board;
 use crate::rule::{AsksStop, Looks, LooksForStop, Pulses};
@@ -24,8 +25,8 @@ impl Board {
         *count += 1;
     }
 
-    /// A worker's count as it is now, which may have risen since the seat saw it last. Of the seat's own worker it is the
-    /// seat's count.
+    /// A worker's count as it is now, which may have risen since the seat saw it last. Of the seat's own worker it is
+    /// the seat's count.
     pub fn read(&self, seat: &mut BoardSeat, worker: usize) -> u64
         requires mine { IsSeatOf self.now seat.old }
         requires worker { worker < workers_of self.now }

@@ -19,7 +19,7 @@ fn board_of_two(alloc: Global) -> Result<(Board, BoardSeat, BoardSeat), BoardErr
     Ok((board, first, second))
 }
 
-/// The counts with which a board for two workers ends.
+/// The counts with which a board for two workers ends. The seats come back in another order.
 fn counts_of(
     alloc: Global,
     board: Board,
@@ -32,7 +32,7 @@ fn counts_of(
     requires second { IsSeatOf board second }
     requires second_worker { worker_of second ≡ 1 }
 {
-    Ok(board.close(vec![in alloc; first, second]?))
+    Ok(board.close(vec![in alloc; second, first]?))
 }
 
 /// For boards, which threads share.

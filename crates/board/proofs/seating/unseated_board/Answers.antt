@@ -14,5 +14,4 @@ of_words-requires c =
 
 pub returns-clause-rights : goal.returns-clause-rights
 returns-clause-rights c =
-    let me = c.in_ok-table.ensures.4 in
-    (c.in_ok-table.ensures.2, ap (λ (m : Me ℕ View). m.1) me, subst (IsNextSeat c.args.workers 0) (sym (ap (λ (m : Me ℕ View). m.0) me)) (opening_is c.args.workers))
+    subst (IsNextSeat c.args.workers 0) (sym (ap (λ (m : Me ℕ View). m.0) c.in_ok-table.ensures.4)) (opening_is c.args.workers)

@@ -13,9 +13,13 @@ split_seat-handed-requires c = let words = c.args.self.now.words_are in (c.requi
 pub join_seat-requires : goal.join_seat-requires
 join_seat-requires c =
     let words = c.args.self.now.words_are in
-    let handed = c.split_seat-handed.ensures in
-    (c.requires.host.0, handed.3 ∙ c.requires.guest.0, ap (λ (m : Me ℕ View). m.1) handed.4, omega arith,
-      take_in_allowed _ _ _ _ _ (owns_its _ _ _ (holds c.args.host.now)) (subst (λ (m : Me ℕ View). is_own m.0.marks m.0.worker ≡ true) (sym handed.4) (owns_its _ _ _ (holds c.args.guest.now))))
+    let handed = c.split_seat-handed.ensures in (
+      c.requires.host.0,
+      handed.3 ∙ c.requires.guest.0,
+      ap (λ (m : Me ℕ View). m.1) handed.4,
+      omega arith,
+      take_in_allowed _ _ _ _ _ (owns_its _ _ _ (holds c.args.host.now)) (subst (λ (m : Me ℕ View). is_own m.0.marks m.0.worker ≡ true) (sym handed.4) (owns_its _ _ _ (holds c.args.guest.now))),
+    )
 
 pub split_seat-requires : goal.split_seat-requires
 split_seat-requires c =
