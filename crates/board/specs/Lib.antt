@@ -1,0 +1,4 @@
+pub mod Marks
+pub mod Rule
+pub mod Seats
+pub mod Gathering
