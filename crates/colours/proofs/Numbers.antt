@@ -7,8 +7,8 @@ use Rattle.model.specs.Accounts.{numbers_up, empty_account}
 use Rattle.model.specs.Limits.{ShapeFits}
 use Rattle.circular_buffer.specs.Buffer.{Buffer, buffer}
 use Rattle.colours.specs.declared.free_lists.FreeLists.{FreeLists}
-use Rattle.colours.specs.FreeLists.{account_of}
-use Rattle.colours.specs.Sound.{free_in, grey_in, total, free_at, one_if, times, Sound, HasRoomForAll}
+use Rattle.colours.specs.FreeLists.{all_free}
+use Rattle.colours.specs.Sound.{free_in, grey_in, total, free_at, one_if, times, Sound, AreKept}
 use Rattle.colours.proofs.Counting.{one_if-other}
 
 -- rising numbers, and the account in which all cells are free
@@ -123,15 +123,15 @@ empty_is_sound shape fits =
         omega (arith, s, m, l)
 
 -- the parts of which the code makes it
-pub opens : (shape : HeapShape) (cells : List Cell) (free : FreeLists) (queue : Buffer ℕ) → let n = shape.small + shape.medium + shape.large in ShapeFits shape.small shape.medium shape.large → cells ≡ replicate n Free → free.small ≡ buffer (numbers_up 0 shape.small) n → free.medium ≡ buffer (numbers_up shape.small shape.medium) n → free.large ≡ buffer (numbers_up (shape.small + shape.medium) shape.large) n → queue ≡ buffer [] n → Sound (account_of cells free queue Idle) × HasRoomForAll cells free queue
-opens shape cells free queue fits is small medium large grey =
+pub opens : (shape : HeapShape) (cells : List Cell) (free : FreeLists) (queue : Buffer ℕ) → let n = shape.small + shape.medium + shape.large in ShapeFits shape.small shape.medium shape.large → cells ≡ replicate n Free → free ≡ all_free shape n → queue ≡ buffer [] n → AreKept cells free queue Idle
+opens shape cells free queue fits is lists grey =
     let n = shape.small + shape.medium + shape.large in
     let same : n ≡ length cells = sym (ap length is ∙ length-free n) in (
-      rw (is, small, medium, large, grey) (empty_is_sound shape fits),
+      rw (is, lists, grey) (empty_is_sound shape fits),
       record {
-        small = ap (λ (q : Buffer ℕ). q.capacity) small ∙ same;
-        medium = ap (λ (q : Buffer ℕ). q.capacity) medium ∙ same;
-        large = ap (λ (q : Buffer ℕ). q.capacity) large ∙ same;
+        small = ap (λ (f : FreeLists). f.small.capacity) lists ∙ same;
+        medium = ap (λ (f : FreeLists). f.medium.capacity) lists ∙ same;
+        large = ap (λ (f : FreeLists). f.large.capacity) lists ∙ same;
         grey = ap (λ (q : Buffer ℕ). q.capacity) grey ∙ same;
       },
     )

@@ -2,12 +2,14 @@ use Rattle.std.specs.Prelude.{◌≡◌, ◌≤◌, ℕ, zero, suc, ◌+◌, Lis
 use Rattle.model.specs.declared.colours.Cell.{Cell}
 use Rattle.model.specs.declared.colours.Cell.TheVariants.{Free, Taken}
 use Rattle.model.specs.declared.colours.Colour.TheVariants.{White, Grey, Black}
+use Rattle.model.specs.declared.colours.Phase.{Phase}
 use Rattle.model.specs.Accounts.{Account}
 use Rattle.circular_buffer.specs.Buffer.{Buffer}
 use Rattle.colours.specs.declared.free_lists.FreeLists.{FreeLists}
+use Rattle.colours.specs.FreeLists.{account_of}
 
 -- What the code keeps true of an account, whoever calls it. It is told by counting, so that a step changes two numbers by
--- one. Who holds `Tidy` of an account knows more, and no call asks for it.
+-- one. `Tidy` says more, and no call asks for it.
 
 -- ---- how many cells are free, and how many are grey
 
@@ -63,3 +65,7 @@ pub record HasRoomForAll (cells : List Cell) (free : FreeLists) (queue : Buffer 
   pub medium : free.medium.capacity ≡ length cells
   pub large : free.large.capacity ≡ length cells
   pub grey : queue.capacity ≡ length cells
+
+-- what holds of the parts
+abbrev pub AreKept : List Cell → FreeLists → Buffer ℕ → Phase → Type 0
+AreKept cells free queue phase = Sound (account_of cells free queue phase) × HasRoomForAll cells free queue

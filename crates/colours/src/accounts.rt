@@ -17,9 +17,9 @@ use model::journals::HeapShape;
 use std::alloc::{AllocError, Global};
 use std::marker::Model;
 
-/// Which cell holds which birth in which colour, the free cells of each size, the grey list and the collector's phase. Cells
-/// are numbered from 0; a contract sees the account of the definitions, with references in its grey list: the number of a
-/// cell and one more. Every call but `new` takes constant time and no memory.
+/// Which cell holds which birth in which colour, the free cells of each size, the grey list and the collector's phase.
+/// Cells are numbered from 0. A contract sees the account of the definitions, with references in its grey list: the
+/// number of a cell and one more. Every call but `new` takes constant time and no memory.
 #[derive(Drop)]
 pub struct Account {
     cells: Vec<Cell>,
@@ -31,13 +31,13 @@ pub struct Account {
 impl Model for Account {
     ghost use Rattle.model.specs.Accounts.{Account};
     ghost use Rattle.colours.specs.FreeLists.{account_of};
-    ghost use Rattle.colours.specs.Sound.{Sound, HasRoomForAll};
+    ghost use Rattle.colours.specs.Sound.{AreKept};
 
     ghost Value = { Account };
 
     ghost view = { λ a. account_of a.cells.items a.free a.grey a.phase };
 
-    ghost invariant = { λ a. Sound (account_of a.cells.items a.free a.grey a.phase) × HasRoomForAll a.cells.items a.free a.grey };
+    ghost invariant = { λ a. AreKept a.cells.items a.free a.grey a.phase };
 }
 
 impl Account {
@@ -125,8 +125,8 @@ impl Account {
         self.grey.front().copied()
     }
 
-    /// Shades the cell of a reference, if it has one: white, it turns grey, and its reference goes to the end of the grey
-    /// list. Any other is left.
+    /// Shades the cell of a reference: where it is white it turns grey, and the reference goes to the end of the grey
+    /// list. A cell of another colour, a free one, and the reference 0 that no cell has, are left.
     pub fn shade(&mut self, reference: u32)
         ensures { self.new ≡ shade_cell self.old reference }
     {
@@ -146,9 +146,16 @@ impl Account {
         }
     }
 
-    /// A birth of so many words comes into the front cell of the smallest size that has a free cell for it: that cell is
-    /// told. It is grey, and its reference goes to the end of the grey list. `None` exactly where no free cell has room, and
-    /// then nothing changes.
+    /// Whether a free cell has so many words.
+    pub fn has_room(&self, words: u32) -> bool
+        ensures { result ≡ has_room self.now words }
+    {
+        self.free.have_room(words)
+    }
+
+    /// A birth of so many words comes into the front cell of the smallest size that has a free cell for it: that cell
+    /// is told. It is grey, and its reference goes to the end of the grey list. `None` exactly where no free cell has
+    /// room, and then nothing changes.
     pub fn create(&mut self, words: u32, birth: u32) -> Option<u32>
         ensures cell { result ≡ taken_cell (take_cell self.old words) }
         ensures account { self.new ≡ born_in self.old birth (take_cell self.old words) }
@@ -163,8 +170,8 @@ impl Account {
         Some(cell)
     }
 
-    /// The cell of the front reference turns black, and the reference leaves the grey list. Where nothing is grey, nothing
-    /// changes.
+    /// The cell of the front reference turns black, and the reference leaves the grey list. Where nothing is grey,
+    /// nothing changes.
     pub fn blacken(&mut self)
         ensures { self.new ≡ front_blackened self.old self.old.grey }
     {
@@ -182,8 +189,9 @@ impl Account {
         }
     }
 
-    /// Appends at a cell, and goes to the next: a white cell is given back, at the end of the list of its size; a black one
-    /// turns white; any other is left. Past the last cell the cycle ends, and the collector is idle.
+    /// Appends at a cell of a heap of this shape, and goes to the next: a white cell is given back, at the end of the
+    /// list of its size; a black one turns white; any other is left. Past the last cell the cycle ends, and the
+    /// collector is idle.
     pub fn append(&mut self, shape: HeapShape, cell: u32)
         ensures { self.new ≡ append_step shape self.old cell (nat_lt cell (length self.old.cells)) }
     {

@@ -1,7 +1,6 @@
 //! The free cells by size, each list first in, first out.
-ghost use Rattle.std.specs.Prelude.{◌≡◌, ◌+◌, ◌<◌, ◌≤◌, ◌^◌, length, IfOk, IfNone, option_map};
-ghost use Rattle.circular_buffer.specs.Buffer.{buffer};
-ghost use Rattle.model.specs.Accounts.{Account, numbers_up, take_cell};
+ghost use Rattle.std.specs.Prelude.{◌≡◌, ◌+◌, ◌<◌, ◌≤◌, ◌^◌, length, IfOk, IfNone};
+ghost use Rattle.model.specs.Accounts.{Account, has_room};
 ghost use Rattle.model.specs.Collector.Table.{with_free};
 
 use crate::queues::{numbers, pop_if, push};
@@ -18,15 +17,13 @@ pub(crate) struct FreeLists {
 }
 
 impl FreeLists {
-    ghost use Rattle.colours.specs.FreeLists.{listing, capacities};
+    ghost use Rattle.colours.specs.FreeLists.{all_free, listing, capacities, Takes};
 
-    /// All cells of a heap are free, and each list has room for all `cells`. `AllocError` where there is no memory.
+    /// All cells of a heap are free, and each list has room for `cells`. `AllocError` where there is no memory.
     pub(crate) fn new(alloc: Global, shape: HeapShape, cells: usize) -> Result<Self, AllocError>
         requires all { shape.small + shape.medium + shape.large ≤ cells }
         requires fits { cells < 2 ^ 32 }
-        ensures small { IfOk result (λ free. free.small ≡ buffer (numbers_up 0 shape.small) cells) }
-        ensures medium { IfOk result (λ free. free.medium ≡ buffer (numbers_up shape.small shape.medium) cells) }
-        ensures large { IfOk result (λ free. free.large ≡ buffer (numbers_up (shape.small + shape.medium) shape.large) cells) }
+        ensures { IfOk result (λ free. free ≡ all_free shape cells) }
     {
         let small = numbers(alloc, 0, shape.small, cells)?;
         let medium = numbers(alloc, shape.small, shape.medium, cells)?;
@@ -38,9 +35,19 @@ impl FreeLists {
         })
     }
 
-    /// Takes the front cell of the smallest size that has a free cell of so many words; none leaves where there is none.
+    /// Whether a cell of so many words is free.
+    pub(crate) fn have_room(&self, words: u32) -> bool
+        ensures { (a : Account) → result ≡ has_room (listing a self.now) words }
+    {
+        words <= 4 && !self.small.is_empty()
+            || words <= 32 && !self.medium.is_empty()
+            || words <= 256 && !self.large.is_empty()
+    }
+
+    /// Takes the front cell of the smallest size that has a free cell of so many words. `None` where there is none, and
+    /// then the lists stay.
     pub(crate) fn take(&mut self, words: u32) -> Option<u32>
-        ensures taken { (a : Account) → take_cell (listing a self.old) words ≡ option_map (λ c. (c, listing a self.new)) result }
+        ensures taken { Takes self.old words result self.new }
         ensures left { IfNone result (self.new ≡ self.old) }
         ensures room { capacities self.new ≡ capacities self.old }
     {

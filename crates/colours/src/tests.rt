@@ -11,13 +11,15 @@ const SHAPE: HeapShape = HeapShape {
     large: 1,
 };
 
-/// Births 1 and 2 take the small cells, so birth 3 finds a medium one, birth 4 of 40 words the large one, and birth 5 none.
+/// Births 1 and 2 take the small cells, so birth 3 finds the medium one, birth 4 of 40 words the large one, and birth 5
+/// none.
 #[test]
 fn creates(rt: HostRuntime) -> Result<(), Fail> {
     let mut account = Account::new(rt.alloc(), SHAPE)?;
     assert_eq!(rt; account.cells(), 4);
     assert_eq!(rt; account.front(), None);
     assert_eq!(rt; account.create(4, 3), Some(2));
+    assert!(rt; account.has_room(256));
     assert_eq!(rt; account.create(40, 4), Some(3));
     assert_eq!(rt; account.create(0, 5), None);
     assert_eq!(rt; account.front(), Some(3));
