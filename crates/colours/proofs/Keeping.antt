@@ -1,10 +1,9 @@
-use Rattle.std.proofs.Common.{◌≡◌, ◌⊎◌, inl, inr, ℕ, zero, suc, ◌+◌, ◌<◌, ◌≤◌, Bool, true, false, List, [], ◌∷◌, ◌++◌, length, set, nat_le, nat_lt, drop, slice_get, option_map, Option, Some, None, refl, sym, ◌∙◌, ap, arith, length-set}
+use Rattle.std.proofs.Common.{◌≡◌, ◌⊎◌, inl, inr, ℕ, ◌+◌, ◌<◌, ◌≤◌, Bool, true, false, List, [], ◌∷◌, ◌++◌, length, set, nat_le, nat_lt, drop, slice_get, option_map, Option, Some, refl, sym, ◌∙◌, ap, arith, length-set}
 use Rattle.std.proofs.lemmas.List.{length-append}
 use Rattle.circular_buffer.specs.Buffer.{Buffer, buffer}
 use Rattle.model.specs.declared.colours.Cell.{Cell}
 use Rattle.model.specs.declared.colours.Cell.TheVariants.{Free, Taken}
 use Rattle.model.specs.declared.colours.Colour.{Colour}
-use Rattle.model.specs.declared.colours.Colour.TheVariants.{White, Grey, Black}
 use Rattle.model.specs.declared.colours.Phase.{Phase}
 use Rattle.model.specs.declared.journals.HeapShape.{HeapShape}
 use Rattle.model.specs.Accounts.{Account, first_cell, or_larger, take_cell}
@@ -12,7 +11,7 @@ use Rattle.model.specs.Collector.Table.{cell_at, listed_in, with_free}
 use Rattle.model.proofs.CollectorLemmas.Cells.{same_or_not, taken_within}
 use Rattle.colours.specs.declared.free_lists.FreeLists.{FreeLists}
 use Rattle.colours.specs.FreeLists.{listing, capacities, account_of}
-use Rattle.colours.specs.Sound.{free_in, grey_in, total, free_at, one_if, times, times_listed, how_many_listed, Sound, HasRoomForAll}
+use Rattle.colours.specs.Sound.{free_in, grey_in, free_at, one_if, times, times_listed, how_many_listed, Sound, HasRoomForAll}
 use Rattle.colours.proofs.Counting.{one_if-same, one_if-other, times-push, free_in_one, grey_in_one, total-set, total-fewer, free_at_cell, free_at_within, free_at_free, free_at_one, free_at-set_same, free_at-set_other}
 
 -- each step on an account keeps it sound

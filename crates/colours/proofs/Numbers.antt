@@ -1,4 +1,4 @@
-use Rattle.std.proofs.Common.{◌≡◌, ◌⊎◌, inl, inr, ℕ, zero, suc, ◌+◌, ◌-◌, ◌<◌, ◌≤◌, Bool, true, false, List, [], ◌∷◌, ◌++◌, length, replicate, nat_lt, nat_eq, refl, sym, ◌∙◌, ap, arith, append_assoc, ltb-true, ltb-false}
+use Rattle.std.proofs.Common.{◌≡◌, ℕ, zero, suc, ◌+◌, ◌<◌, ◌≤◌, Bool, true, false, List, [], ◌∷◌, ◌++◌, length, replicate, nat_lt, nat_eq, refl, sym, ◌∙◌, ap, arith, append_assoc, ltb-true, ltb-false}
 use Rattle.model.specs.declared.colours.Cell.{Cell}
 use Rattle.model.specs.declared.colours.Cell.TheVariants.{Free}
 use Rattle.model.specs.declared.colours.Phase.TheVariants.{Idle}
@@ -8,7 +8,7 @@ use Rattle.model.specs.Limits.{ShapeFits}
 use Rattle.circular_buffer.specs.Buffer.{Buffer, buffer}
 use Rattle.colours.specs.declared.free_lists.FreeLists.{FreeLists}
 use Rattle.colours.specs.FreeLists.{all_free}
-use Rattle.colours.specs.Sound.{free_in, grey_in, total, free_at, one_if, times, Sound, AreKept}
+use Rattle.colours.specs.Sound.{free_in, total, free_at, one_if, times, Sound, AreKept}
 use Rattle.colours.proofs.Counting.{one_if-other}
 
 -- rising numbers, and the account in which all cells are free

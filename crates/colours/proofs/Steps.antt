@@ -1,4 +1,4 @@
-use Rattle.std.proofs.Common.{◌≡◌, ℕ, ◌+◌, List, [], ◌∷◌, length, slice_get, nat_lt, if◌then◌else◌, Bool, true, false, Option, Some, None, refl, sym, ap}
+use Rattle.std.proofs.Common.{◌≡◌, ℕ, ◌+◌, List, [], ◌∷◌, length, slice_get, nat_lt, true, false, Option, Some, None, refl}
 use Rattle.model.specs.declared.colours.Phase.TheVariants.{Mark, Append}
 use Rattle.model.specs.Accounts.{Account}
 use Rattle.model.specs.Worlds.{World}

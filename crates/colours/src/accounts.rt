@@ -138,10 +138,11 @@ impl Account {
             colour: Colour::White,
         } = self.cell(cell)
         {
-            self.cells[cell as usize] = Cell::Taken {
+            let shaded = Cell::Taken {
                 birth,
                 colour: Colour::Grey,
             };
+            self.cells[cell as usize] = shaded;
             push(&mut self.grey, reference);
         }
     }

@@ -1,4 +1,4 @@
-use Rattle.std.proofs.Common.{◌≡◌, arith, refl, sym, ◌∙◌, ap, length-set}
+use Rattle.std.proofs.Common.{◌≡◌, arith, refl, ap, length-set}
 use Rattle.model.specs.declared.colours.Cell.TheVariants.{Taken}
 use Rattle.model.specs.declared.colours.Colour.TheVariants.{White, Grey}
 use Rattle.model.specs.Collector.Table.{cell_at}
