@@ -1,0 +1,11 @@
+//! The collector: one step at a time, beside the threads (Dijkstra, Lamport, Martin, Scholten and Steffens,
+//! CACM 21(11), 1978).
+#![tactic(auto)]
+
+pub mod references;
+pub mod steps;
+#[cfg(test)]
+mod tests;
+
+pub use references::References;
+pub use steps::collect_step;
