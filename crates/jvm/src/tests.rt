@@ -397,24 +397,11 @@ const NO_METHODS: &[u8] =
 const BELOW_ITSELF: &[u8] =
     b"\xca\xfe\xba\xbe\0\0\01\0\x03\x01\0\x01E\x07\0\x01\0 \0\x02\0\x02\0\0\0\0\0\0\0\0";
 
-/// Texts and class files of one class that break a rule of loading.
+/// Class files of one class that break a rule of loading, byte by byte.
 #[test]
-fn broken_rules_of_loading_are_told(rt: HostRuntime) -> Result<(), Fail> {
+fn class_files_that_break_a_rule_are_told(rt: HostRuntime) -> Result<(), Fail> {
     for (source, answer) in [
-        (
-            b".class vm/Sys\n.super java/lang/Object\n".as_slice(),
-            b"jvm: load: L11 in class vm/Sys\n".as_slice(),
-        ),
-        (b".class E\n.super F\n", b"jvm: load: L2 in class E\n"),
-        (BELOW_ITSELF, b"jvm: load: L3 in class E\n"),
-        (
-            b".class E\n.super java/lang/Error\n.implements java/lang/Thread\n",
-            b"jvm: load: L4 in class E\n",
-        ),
-        (
-            b".class E\n.super java/lang/Object\n.field x I\n.field x J\n.field x I\n",
-            b"jvm: load: L5 in class E\n",
-        ),
+        (BELOW_ITSELF, b"jvm: load: L3 in class E\n".as_slice()),
         (NO_METHODS, b"jvm: load: L9 in class E\n"),
     ] {
         check(
@@ -426,6 +413,89 @@ fn broken_rules_of_loading_are_told(rt: HostRuntime) -> Result<(), Fail> {
             b"",
             answer,
         )?;
+    }
+    Ok(())
+}
+
+/// The class file that `jvm asm` makes of a text.
+fn assembled(alloc: Global, text: &[u8]) -> Result<Vec<u8>, Fail> {
+    let mut files = TwoFiles {
+        name: "a.j",
+        text,
+        out: "a.class",
+        written: Vec::new(alloc),
+    };
+    let command = options(alloc, ["jvm", "asm", "a.j", "a.class"].as_slice())?;
+    let mut input = b"".as_slice();
+    let mut written = Vec::new(alloc);
+    let mut told = Vec::new(alloc);
+    let status = execute(
+        alloc,
+        &command,
+        &mut files,
+        &mut input,
+        &mut written,
+        &mut told,
+    );
+    if status == 0 {
+        Ok(files.written)
+    } else {
+        Err("not assembled")?
+    }
+}
+
+/// The rules of loading that a text can break today, told of the text and of its class file. A class is there twice where
+/// its file is named twice.
+#[test]
+fn broken_rules_of_loading_are_told(rt: HostRuntime) -> Result<(), Fail> {
+    let once = ["run", "a.j"];
+    let twice = ["run", "a.j", "a.j"];
+    for (words, text, answer) in [
+        (
+            once.as_slice(),
+            b".class vm/Sys\n.super java/lang/Object\n".as_slice(),
+            b"jvm: load: L11 in class vm/Sys\n".as_slice(),
+        ),
+        (twice.as_slice(), EMPTY_MAIN, b"jvm: load: L1 in class E\n"),
+        (
+            once.as_slice(),
+            b".class E\n.super F\n",
+            b"jvm: load: L2 in class E\n",
+        ),
+        (
+            once.as_slice(),
+            b".class E\n.super E\n",
+            b"jvm: load: L3 in class E\n",
+        ),
+        (
+            once.as_slice(),
+            b".class E\n.super java/lang/Error\n.implements java/lang/Thread\n",
+            b"jvm: load: L4 in class E\n",
+        ),
+        (
+            once.as_slice(),
+            b".class E\n.super java/lang/Object\n.field x I\n.field x J\n.field x I\n",
+            b"jvm: load: L5 in class E\n",
+        ),
+        (
+            once.as_slice(),
+            b".class E\n.super java/lang/Object\n.method native n()V\n.end method\n",
+            b"jvm: load: L10 in class E\n",
+        ),
+        (
+            once.as_slice(),
+            b".class E\n.super java/lang/Object\n.method static main()V\n.limit stack 4000\n.limit locals 97\nreturn\n.end method\n",
+            b"jvm: load: L8 in class E\n",
+        ),
+        (
+            once.as_slice(),
+            b".class E\n.super java/lang/Object\n",
+            b"jvm: load: L9 in class E\n",
+        ),
+    ] {
+        check(&rt, rt.alloc(), words, text, 2, b"", answer)?;
+        let file = assembled(rt.alloc(), text)?;
+        check(&rt, rt.alloc(), words, file.as_slice(), 2, b"", answer)?;
     }
     Ok(())
 }
