@@ -1,0 +1,46 @@
+use Rattle.std.proofs.Common.{◌≡◌, ◌≤◌, length, Some, None, refl, ◌∙◌, ap, arith}
+use Rattle.std.proofs.lemmas.List.{with_items_is}
+use Rattle.std.proofs.lemmas.Option.{slice_get_within}
+use Rattle.cells.specs.declared.headers.Header.{Header}
+use Rattle.cells.proofs.LayoutLemmas.{laid_out-set_for, looked_up, stands_at}
+use Rattle.cells.proofs.WordLemmas.{fill_told}
+use Rattle.cells.proofs.CellLemmas.{placed, nowhere, enough}
+use Rattle.cells.proofs.cells.Cells.place.Goals as goal
+
+pub fill-requires : goal.fill-requires
+fill-requires g c =
+    let found = looked_up _ _ _ _ _ c.deref.ensures.value c.header_at.ensures c.in-Some.is in
+    let at = stands_at _ _ _ _ _ _ c.args.cell _ c.self.invariant found (omega arith) in
+    let fits : c.args.count ≤ c.in-Some.header.room = enough _ _ _ _ _ _ _ c.self.view_is at.0.room_is c.requires.room in
+    let within = at.1 in
+    rw c.deref_mut.ensures.value (omega (arith, fits, within))
+
+pub index_mut-requires : goal.index_mut-requires
+index_mut-requires g c =
+    let found = looked_up _ _ _ _ _ c.deref.ensures.value c.header_at.ensures c.in-Some.is in
+    let within = slice_get_within c.self.inside.headers.items c.args.cell c.in-Some.header found in
+    omega (arith, within)
+
+pub invariant_of-self : goal.invariant_of-self
+invariant_of-self g c =
+    let found = looked_up _ _ _ _ _ c.deref.ensures.value c.header_at.ensures c.in-Some.is in
+    let at = stands_at _ _ _ _ _ _ c.args.cell _ c.self.invariant found (omega arith) in
+    let fits : c.args.count ≤ c.in-Some.header.room = enough _ _ _ _ _ _ _ c.self.view_is at.0.room_is c.requires.room in
+    let kept = with_items_is c.self.inside.words c.fill.new.words (omega arith) in
+    let long : length c.fill.new.words ≡ length c.self.inside.words.items = omega arith in
+    laid_out-set_for _ _ _ _ _ _ _ c.self.invariant (ap length kept ∙ long) found refl refl fits (λ some. cc some)
+
+pub returns-in-Some : goal.returns-in-Some
+returns-in-Some g c =
+    let found = looked_up _ _ _ _ _ c.deref.ensures.value c.header_at.ensures c.in-Some.is in
+    let at = stands_at _ _ _ _ _ _ c.args.cell _ c.self.invariant found (omega arith) in
+    let fits : c.args.count ≤ c.in-Some.header.room = enough _ _ _ _ _ _ _ c.self.view_is at.0.room_is c.requires.room in
+    let kept = with_items_is c.self.inside.words c.fill.new.words (omega arith) in
+    let filled = fill_told _ _ _ c.in-Some.header.base c.args.count c.args.zero c.fill.ensures c.deref_mut.ensures.value in
+    let header = ap (λ m. let h : Header _ = record { base = c.in-Some.header.base; room = c.in-Some.header.room; length = c.args.count; kind = Some c.args.kind; monitor = m; thread = None } in h) c.free.ensures in
+    rw (← c.self.view_is) (placed _ _ _ _ _ _ _ c.in-Some.header _ c.args.kind c.args.zero c.self.invariant found fits (kept ∙ filled) header)
+
+pub returns-in_default : goal.returns-in_default
+returns-in_default g c =
+    let missing = looked_up _ _ _ _ _ c.deref.ensures.value c.header_at.ensures c.in_default.is in
+    rw (← c.self.view_is) (nowhere _ _ _ _ _ missing)
