@@ -19,6 +19,7 @@ pub mod Limits
 pub mod Locals
 pub mod Machines
 pub mod Monitors
+pub mod Naming
 pub mod Objects
 pub mod Observers
 pub mod Printing

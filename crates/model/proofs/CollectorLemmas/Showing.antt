@@ -15,7 +15,8 @@ use Rattle.model.specs.Worlds.Thread.{Live, Ended}
 use Rattle.model.specs.Worlds.Contents.{Instance, Array}
 use Rattle.model.specs.Objects.{object_at}
 use Rattle.model.specs.Shows.{Held, HeapCell, held_in, birth_in, reference_read, value_read, entry_read, field_read, frame_read, thread_read, all_read, values_in, HasCell, Shows}
-use Rattle.model.specs.Heaps.{home, placed_ref, placed_value, placed_entry, placed_field, placed_frame, placed_thread, placed_object, placed_cell, heap_of}
+use Rattle.model.specs.Heaps.{home, placed_object, placed_cell, heap_of}
+use Rattle.model.specs.Naming.{named_ref, named_value, named_entry, named_field, named_frame, named_thread}
 use Rattle.model.specs.Collector.Places.{ref_of, entry_ref, field_ref, contents_refs, slots_of, root_at, word_at, Reach}
 use Rattle.model.specs.Collector.Places.Place.{Slot}
 use Rattle.model.specs.Collector.Places.Reach.{at_root, by_word}
@@ -72,32 +73,32 @@ module _ (hs : List HeapCell) (cells : List Cell) where
   abbrev Homed : ℕ → Type 0
   Homed b = birth_in hs (home cells b) ≡ Some b
 
-  ref_back : (r : Option ℕ) → ((b : ℕ) → r ≡ Some b → Homed b) → reference_read hs (placed_ref cells r) ≡ Some r
+  ref_back : (r : Option ℕ) → ((b : ℕ) → r ≡ Some b → Homed b) → reference_read hs (named_ref (home cells) r) ≡ Some r
   ref_back None h = refl
   ref_back (Some b) h = rw (h b refl) refl
 
-  value_back : (v : Value) → ((b : ℕ) → ref_of v ≡ Some b → Homed b) → value_read hs (placed_value cells v) ≡ Some v
+  value_back : (v : Value) → ((b : ℕ) → ref_of v ≡ Some b → Homed b) → value_read hs (named_value (home cells) v) ≡ Some v
   value_back (Int z) h = refl
   value_back (Long z) h = refl
   value_back (Ref r) h = rw (ref_back r h) refl
 
-  entry_back : (e : Entry) → ((b : ℕ) → entry_ref e ≡ Some b → Homed b) → entry_read hs (placed_entry cells e) ≡ Some e
+  entry_back : (e : Entry) → ((b : ℕ) → entry_ref e ≡ Some b → Homed b) → entry_read hs (named_entry (home cells) e) ≡ Some e
   entry_back Unset h = refl
   entry_back (Holds v) h = rw (value_back v h) refl
   entry_back UpperHalf h = refl
 
-  field_back : (f : FieldValue) → ((b : ℕ) → field_ref f ≡ Some b → Homed b) → field_read hs (placed_field cells f) ≡ Some f
+  field_back : (f : FieldValue) → ((b : ℕ) → field_ref f ≡ Some b → Homed b) → field_read hs (named_field (home cells) f) ≡ Some f
   field_back f h = rw (value_back f.value h) refl
 
-  values_back : (vs : List Value) → AllMay Homed (map ref_of vs) → all_read (value_read hs) (map (placed_value cells) vs) ≡ Some vs
+  values_back : (vs : List Value) → AllMay Homed (map ref_of vs) → all_read (value_read hs) (map (named_value (home cells)) vs) ≡ Some vs
   values_back [] h = refl
   values_back (v ∷ vs) h = rw (value_back v h.0, values_back vs h.1) refl
 
-  entries_back : (es : List Entry) → AllMay Homed (map entry_ref es) → all_read (entry_read hs) (map (placed_entry cells) es) ≡ Some es
+  entries_back : (es : List Entry) → AllMay Homed (map entry_ref es) → all_read (entry_read hs) (map (named_entry (home cells)) es) ≡ Some es
   entries_back [] h = refl
   entries_back (e ∷ es) h = rw (entry_back e h.0, entries_back es h.1) refl
 
-  fields_back : (fs : List FieldValue) → AllMay Homed (map field_ref fs) → all_read (field_read hs) (map (placed_field cells) fs) ≡ Some fs
+  fields_back : (fs : List FieldValue) → AllMay Homed (map field_ref fs) → all_read (field_read hs) (map (named_field (home cells)) fs) ≡ Some fs
   fields_back [] h = refl
   fields_back (f ∷ fs) h = rw (field_back f h.0, fields_back fs h.1) refl
 
@@ -107,18 +108,18 @@ module _ (hs : List HeapCell) (cells : List Cell) where
     stack : AllMay Homed (map ref_of f.stack)
     monitor : (b : ℕ) → f.monitor ≡ Some b → Homed b
 
-  frame_back : (f : Frame) → HomedFrame f → frame_read hs (placed_frame cells f) ≡ Some f
+  frame_back : (f : Frame) → HomedFrame f → frame_read hs (named_frame (home cells) f) ≡ Some f
   frame_back f h = rw (entries_back f.locals h.locals, values_back f.stack h.stack, ref_back f.monitor h.monitor) refl
 
-  frames_back : (fs : List Frame) → ((d : ℕ) (f : Frame) → slice_get fs d ≡ Some f → HomedFrame f) → all_read (frame_read hs) (map (placed_frame cells) fs) ≡ Some fs
+  frames_back : (fs : List Frame) → ((d : ℕ) (f : Frame) → slice_get fs d ≡ Some f → HomedFrame f) → all_read (frame_read hs) (map (named_frame (home cells)) fs) ≡ Some fs
   frames_back [] h = refl
   frames_back (f ∷ fs) h = rw (frame_back f (h 0 f refl), frames_back fs (λ d. h (suc d))) refl
 
-  thread_back : (t : Thread) → ((d : ℕ) (f : Frame) → slice_get (frames_of (Some t)) d ≡ Some f → HomedFrame f) → thread_read hs (placed_thread cells t) ≡ Some t
+  thread_back : (t : Thread) → ((d : ℕ) (f : Frame) → slice_get (frames_of (Some t)) d ≡ Some f → HomedFrame f) → thread_read hs (named_thread (home cells) t) ≡ Some t
   thread_back (Live frames) h = rw (frames_back frames h) refl
   thread_back (Ended by) h = refl
 
-  threads_back : (ts : List Thread) → ((t d : ℕ) (f : Frame) → slice_get (frames_of (slice_get ts t)) d ≡ Some f → HomedFrame f) → all_read (thread_read hs) (map (placed_thread cells) ts) ≡ Some ts
+  threads_back : (ts : List Thread) → ((t d : ℕ) (f : Frame) → slice_get (frames_of (slice_get ts t)) d ≡ Some f → HomedFrame f) → all_read (thread_read hs) (map (named_thread (home cells)) ts) ≡ Some ts
   threads_back [] h = refl
   threads_back (t ∷ ts) h = rw (thread_back t (h 0), threads_back ts (λ u. h (suc u))) refl
 
