@@ -52,7 +52,7 @@ row_line row = turn_text row ++ 32 ∷ number_text row.worker 10
 abbrev pub row_line_1 : Row → List ℕ
 row_line_1 row = turn_text row ++ 10 ∷ []
 
-pub lines_of_rows : (Row → List ℕ) → List Row → List ℕ
+abbrev pub lines_of_rows : (Row → List ℕ) → List Row → List ℕ
 lines_of_rows line [] = []
 lines_of_rows line (row ∷ rows) = line row ++ lines_of_rows line rows
 
