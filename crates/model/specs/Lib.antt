@@ -14,6 +14,7 @@ pub mod Faults
 pub mod Frames
 pub mod Heaps
 pub mod Initialisation
+pub mod JournalTexts
 pub mod Journals
 pub mod Limits
 pub mod Locals

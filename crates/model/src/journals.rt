@@ -87,7 +87,7 @@ impl Model for Journal {
 }
 
 impl Journal {
-    ghost use Rattle.std.specs.Prelude.{◌≡◌, ◌<◌, IfOk, length};
+    ghost use Rattle.std.specs.Prelude.{◌≡◌, ◌<◌, IfOk, MatchResult, length};
     ghost use Rattle.model.specs.Journals.{HeadFits, AreOfWorkers, blank, with_row};
 
     /// A journal with no row, and room for all that the limit allows. `AllocError` where there is no memory for them.
@@ -150,5 +150,15 @@ impl Journal {
             Ok(()) => {}
             Err(_) => unreachable!(),
         }
+    }
+
+    /// Adds a row past the limit too, as a stored journal may have it. `AllocError` where there is no memory for it; the
+    /// journal is then as it was.
+    pub fn add(&mut self, row: Row) -> Result<(), AllocError>
+        requires worker { row.worker < self.old.workers }
+        ensures { MatchResult result (λ _. self.new ≡ with_row self.old row) (λ _. self.new ≡ self.old) }
+    {
+        self.rows.push(row)?;
+        Ok(())
     }
 }

@@ -1,6 +1,7 @@
 //! Worlds: a program, its heap's shape and limits, and the turns that it makes.
 #![tactic(auto)]
 
+pub mod journal_texts;
 #[cfg(test)]
 mod tests;
 pub mod worlds;
