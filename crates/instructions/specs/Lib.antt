@@ -1,4 +1,6 @@
 pub mod Acting
 pub mod Allowed
 pub mod Going
+pub mod Heaps
 pub mod Loaded
+pub mod Shown

@@ -2,6 +2,8 @@
 #![tactic(auto)]
 
 mod acting;
+mod heaps;
+pub mod kinds;
 mod printing;
 pub mod state;
 #[cfg(test)]

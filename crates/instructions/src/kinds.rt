@@ -1,0 +1,18 @@
+//! What objects are of.
+
+use loader::operations::TypeNumber;
+
+/// What an object is of: a class, by its number, or arrays of an element type.
+#[derive(Clone, Copy, PartialEq, Eq)]
+pub enum Kind {
+    Instance(u16),
+    Array(TypeNumber),
+}
+
+/// Whether a thread runs, or how it ended: by its last return, or by an exception of a kind.
+#[derive(Clone, Copy, PartialEq, Eq)]
+pub enum Course {
+    Live,
+    Returned,
+    Threw(Kind),
+}
