@@ -2,40 +2,20 @@
 ghost use Rattle.std.specs.Prelude.{◌≡◌, ◌&&◌, not};
 ghost use Rattle.std.specs.List.{list_all};
 ghost use Rattle.model.specs.Programs.{builtin_of, is_class_initializer};
-ghost use Rattle.model.specs.Served.{serves_constant, serves_number, serves_call, serves_invocation, is_served, serves_rows, serves_code, serves_fields, serves_methods, serves};
+ghost use Rattle.model.specs.Served.{serves_constant, serves_call, serves_invocation, is_served, serves_rows, serves_code, serves_methods, serves};
 ghost use Rattle.model.specs.declared.listings.Placed.{Placed as PlacedAt};
 
 use crate::own_methods::builtin_of;
 use crate::programs::is_class_initializer;
-use bitflags::Flags;
 use model::builtins::Builtin;
-use model::flags::FieldFlags;
-use model::instructions::{
-    Constant, Instruction, Invocation, NumberKind, NumberOperation, Operator,
-};
-use model::listings::{ExceptionRow, Field, Listed, Listing, Method, Placed};
+use model::instructions::{Constant, Instruction, Invocation};
+use model::listings::{ExceptionRow, Listed, Listing, Method, Placed};
 use model::names::Member;
 
 fn serves_constant(constant: &Constant<i32, i64>) -> bool
     ensures { result ≡ serves_constant constant.now }
 {
-    match constant {
-        Constant::SmallInt(_) | Constant::Byte(_) | Constant::Short(_) | Constant::Int(_, _) =>
-            true,
-        Constant::Null | Constant::SmallLong(_) | Constant::Long(_) => false,
-    }
-}
-
-fn serves_number(operation: NumberOperation) -> bool
-    ensures { result ≡ serves_number operation }
-{
-    match operation {
-        NumberOperation::Binary(NumberKind::Int, Operator::Add) => true,
-        NumberOperation::Binary(_, _)
-        | NumberOperation::Negate(_)
-        | NumberOperation::Convert(_)
-        | NumberOperation::CompareLongs => false,
-    }
+    !matches!(constant, Constant::Long(_))
 }
 
 /// Whether a member is one of the machine's own methods that it carries out.
@@ -59,15 +39,15 @@ fn is_served(instruction: &Listed) -> bool
     ensures { result ≡ is_served instruction.now }
 {
     match instruction {
-        Instruction::Nop => true,
+        Instruction::Nop
+        | Instruction::Local(_)
+        | Instruction::Stack(_)
+        | Instruction::Number(_)
+        | Instruction::Branch(_, _) => true,
         Instruction::Constant(constant) => serves_constant(constant),
-        Instruction::Number(operation) => serves_number(*operation),
         Instruction::Return(kind) => kind.is_none(),
         Instruction::Invoke(invocation, member) => serves_invocation(*invocation, member),
-        Instruction::Local(_)
-        | Instruction::Stack(_)
-        | Instruction::Branch(_, _)
-        | Instruction::TableSwitch(_)
+        Instruction::TableSwitch(_)
         | Instruction::LookupSwitch(_)
         | Instruction::Static(_, _)
         | Instruction::Field(_, _)
@@ -102,14 +82,6 @@ fn serves_code(method: &Method) -> bool
     }
 }
 
-fn serves_fields(fields: &[Field]) -> bool
-    ensures { result ≡ serves_fields fields.now }
-{
-    fields
-        .iter()
-        .all(|field| !field.flags.contains(FieldFlags::STATIC))
-}
-
 /// Whether the machine runs the method: it is no class initializer, and its code is served.
 fn serves_method(method: &Method) -> bool
     ensures { result ≡ (not (is_class_initializer method.now) && serves_code method.now.code) }
@@ -123,10 +95,10 @@ fn serves_methods(methods: &[Method]) -> bool
     methods.iter().all(|method| serves_method(method))
 }
 
-/// Whether the machine carries out all code of the class, and the class has no static field and no initializer.
+/// Whether the machine carries out all code of the class, and the class has no initializer.
 #[tactic(auto, unfolding(model::specs::Served::serves))]
 pub fn serves(class: &Listing) -> bool
     ensures { result ≡ serves class.now }
 {
-    serves_fields(&class.fields) && serves_methods(&class.methods)
+    serves_methods(&class.methods)
 }

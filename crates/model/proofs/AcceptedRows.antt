@@ -1,7 +1,6 @@
 -- Worked rows: which small lists of listings are programs, and what the others are refused for.
 use Rattle.std.specs.Prelude.{◌≡◌, ℕ, List, [], ◌∷◌, Option, Some, None, codes, refl}
-use Rattle.model.specs.declared.instructions.Constant.TheVariants.{Null}
-use Rattle.model.specs.declared.instructions.Instruction.TheVariants.{Nop, Constant, Return}
+use Rattle.model.specs.declared.instructions.Instruction.TheVariants.{Nop, Return, Throw}
 use Rattle.model.specs.declared.listings.Method.{Method}
 use Rattle.model.specs.declared.refusals.LoadRule.{LoadRule}
 use Rattle.model.specs.declared.refusals.LoadRule.TheVariants.{ClassTwice, MissingSuperclass, Cycle, WrongSuperclass, MemberTwice, LimitPassed, NoMain, RefusedMember, BuiltinName}
@@ -132,9 +131,9 @@ unfolding serves builtin_classes is_within has_builtin_name is_class_twice has_m
 no_thread = refl
 
 -- an instruction that the machine doesn't carry out yet
-null_constant : refusal_of (program_with (codes "X") (method 9 (codes "f") (codes "()V") (code_of 1 0 (Constant Null)) ∷ []) ∷ []) ≡ names_class RefusedMember (codes "X")
+throwing : refusal_of (program_with (codes "X") (method 9 (codes "f") (codes "()V") (code_of 1 0 Throw) ∷ []) ∷ []) ≡ names_class RefusedMember (codes "X")
 unfolding serves builtin_classes is_within has_builtin_name is_class_twice has_missing_parent has_wrong_parent is_on_cycle has_member_twice has_refused_member has_unresolved has_bad_row fields_within is_too_large first_past_limits refusal_of
-null_constant = refl
+throwing = refl
 
 -- a frame of 4,096 units, and one of 4,097
 frame_of_4096_units : refusal_of (program_with (codes "X") (method 9 (codes "f") (codes "()V") (code_of 96 4000 Nop) ∷ []) ∷ []) ≡ None

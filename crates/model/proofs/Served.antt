@@ -1,57 +1,46 @@
--- What the machine carries out so far, in the words of the instruction table: no such instruction asks for a cell, waits or
--- throws, and main's return ends its thread.
-use Rattle.std.proofs.Common.{◌≡◌, ℕ, zero, suc, ℤ, List, [], ◌∷◌, Option, Some, None, Result, Ok, Err, Bool, true, false, is_none, nat_le, refl, arith, le-ltb, ap, sym, ◌∙◌, subst}
-use Rattle.std.specs.Prelude.{codes, ◌+◌, ◌++◌, ◌&&◌, ◌==◌, not, cond, drop, filter, length, map, position, replicate, slice_get, slice_index_or, if◌then◌else◌}
+-- What the machine carries out so far, in the words of the instruction table: main's return ends its thread, and so does
+-- what is thrown in it.
+use Rattle.std.proofs.Common.{◌≡◌, ℕ, zero, suc, List, [], ◌∷◌, Option, Some, None, Bool, true, false, refl, arith, le-ltb, ap, sym, ◌∙◌}
+use Rattle.std.specs.Prelude.{codes, ◌+◌, ◌++◌, ◌&&◌, ◌==◌, not, cond, length, map, position, replicate, reverse, slice_get, slice_index_or}
 use Rattle.std.specs.List.{find, list_all, list_any, position_or_len}
 use Rattle.std.specs.Str.{bytes_eq}
-use Rattle.std.specs.Option.{option_and_then}
+use Rattle.std.specs.Option.{option_and_then, option_map}
 use Rattle.model.specs.declared.names.Member.{Member}
-use Rattle.model.specs.declared.values.Value.{Value}
 use Rattle.model.specs.declared.builtins.Builtin.{Builtin}
 use Rattle.model.specs.declared.builtins.Builtin.TheVariants.{PrintInt, PrintLong, PutByte, Initialize, RunThread, StartThread, JoinThread}
-use Rattle.model.specs.declared.listings.Field.{Field as FieldListing}
 use Rattle.model.specs.declared.listings.Method.{Method}
 use Rattle.model.specs.declared.listings.Placed.{Placed}
 use Rattle.model.specs.declared.places.MethodPlace.{MethodPlace}
-use Rattle.model.specs.declared.instructions.Constant.{Constant as ConstantOf}
-use Rattle.model.specs.declared.instructions.NumberKind.TheVariants.{Int as Ints, Long as Longs}
-use Rattle.model.specs.declared.instructions.Operator.TheVariants.{Add, Sub, Mul, Div, Rem, Shl, Shr, Ushr, And, Or, Xor}
-use Rattle.model.specs.declared.instructions.NumberOperation.{NumberOperation}
-use Rattle.model.specs.declared.instructions.NumberOperation.TheVariants.{Binary, Negate, Convert, CompareLongs}
 use Rattle.model.specs.declared.instructions.Invocation.TheVariants.{Virtual, Special, Static, Interface}
 use Rattle.model.specs.declared.instructions.Instruction.TheVariants.{Nop, Constant, Local, Stack, Number, Branch, TableSwitch, LookupSwitch, Return, Static as StaticField, Field, Array, Class, Invoke, Throw, Monitor}
-use Rattle.model.specs.declared.turns.Fault.{Fault}
-use Rattle.model.specs.declared.turns.Fault.TheVariants.{NoInstruction, StackFull}
-use Rattle.model.specs.declared.turns.Abrupt.{Abrupt}
+use Rattle.model.specs.declared.turns.Fault.TheVariants.{NoInstruction}
 use Rattle.model.specs.declared.turns.ClassState.{ClassState}
 use Rattle.model.specs.declared.turns.ClassState.TheVariants.{Done}
 use Rattle.model.specs.declared.turns.Mark.TheVariants.{Unmarked}
-use Rattle.model.specs.declared.turns.Abrupt.TheVariants.{Fault as Faulted, Throw as Thrown}
 use Rattle.model.specs.ClassListings.{ClassListing}
 use Rattle.model.specs.CodeListings.{CodeListing}
-use Rattle.model.specs.Frames.{Frame, IsPlain, Moved, running, int_on, two_ints_on, push_all, replaced}
-use Rattle.model.specs.Values.{units_of_all}
-use Rattle.model.specs.Classes.Flags.{is_static_field}
-use Rattle.model.specs.Initialisation.{Chain, chain_if, chain_from, chain_of, declares_initializer, wants_initialising, state_if, first_claim, claimed_states, callers_waiting, main_frames, opening_frames}
+use Rattle.model.specs.Frames.{Frame, IsPlain, running, int_on}
+use Rattle.model.specs.Initialisation.{Chain, runs_initializer, chain_if, chain_from, chain_of, declares_initializer, wants_initialising, state_if, first_claim, claimed_states, callers_waiting, main_frames, opening_frames}
 use Rattle.model.specs.Classes.Named.{is_named, listed, class_named, superclass_in, or_else}
 use Rattle.model.specs.Classes.Search.{Declared, superclasses}
 use Rattle.model.specs.Classes.Resolution.{resolved_method}
 use Rattle.model.specs.Table.Initialisation.{declarer, after_initialising}
 use Rattle.model.specs.Programs.{is_class_initializer, empty_initializer, method_in, builtin_of, code_at, instruction_of, main_in, method_at, placed_at}
-use Rattle.model.specs.Worlds.{World, frames_at, is_live, opening_slot, opening_slots, opening_slots_of, with_thread}
+use Rattle.model.specs.Worlds.{World, frames_at, with_thread}
 use Rattle.model.specs.Worlds.Thread.{Ended}
-use Rattle.model.specs.Completions.{Completion, Site, asks, waits, frames_in, completes}
+use Rattle.model.specs.Completions.{Completion, Site, frames_in}
 use Rattle.model.specs.Completions.Completion.{Goes, Faults}
 use Rattle.model.specs.Printing.{decimal_line}
 use Rattle.model.specs.Table.Builtins.{prints_on}
-use Rattle.model.specs.Table.Constants.{constant, constant_value}
-use Rattle.model.specs.Table.Numbers.{number, binary_on}
 use Rattle.model.specs.Monitors.{released}
 use Rattle.model.specs.Table.Returns.{initialised_if, left_world, returned}
-use Rattle.model.specs.Table.Next.{Listed, by_family, at_site, at_instruction, at_mark, at_frame, completion, asked}
-use Rattle.model.specs.Ready.{is_ready}
+use Rattle.model.specs.Table.Next.{Listed, by_family, at_site, at_instruction, at_mark, at_frame, completion}
 use Rattle.model.proofs.OwnMethods.{is_print, print_resolved, print_called, main_gives, main_initializes}
-use Rattle.model.specs.Served.{serves_number, serves_call, is_served, serves_rows, serves_code, serves_methods, serves_fields, serves, ServedProgram}
+use Rattle.model.specs.Served.{serves_call, is_plain, is_served, serves_rows, serves_code, serves_methods, serves}
+use Rattle.model.specs.Unwinding.{fits, handler_in, handler_of, thrown, unwound, way_of}
+use Rattle.model.specs.Unwinding.Landing.{Unhandled}
+use Rattle.model.specs.Objects.{class_at}
+use Rattle.model.specs.declared.listings.ExceptionRow.{ExceptionRow}
 
 -- ---- the cases of what is served
 
@@ -65,67 +54,28 @@ print_served (Some RunThread) e = cc
 print_served (Some StartThread) e = cc
 print_served (Some JoinThread) e = cc
 
-number_cases : (P : NumberOperation → Type 0) → P (Binary Ints Add) → (operation : NumberOperation) → serves_number operation ≡ true → P operation
-number_cases P sum (Binary Ints Add) e = sum
-number_cases P sum (Binary Ints Sub) e = cc
-number_cases P sum (Binary Ints Mul) e = cc
-number_cases P sum (Binary Ints Div) e = cc
-number_cases P sum (Binary Ints Rem) e = cc
-number_cases P sum (Binary Ints Shl) e = cc
-number_cases P sum (Binary Ints Shr) e = cc
-number_cases P sum (Binary Ints Ushr) e = cc
-number_cases P sum (Binary Ints And) e = cc
-number_cases P sum (Binary Ints Or) e = cc
-number_cases P sum (Binary Ints Xor) e = cc
-number_cases P sum (Binary Longs operator) e = cc
-number_cases P sum (Negate kind) e = cc
-number_cases P sum (Convert conversion) e = cc
-number_cases P sum CompareLongs e = cc
-
--- what holds of these five holds of all that is served
-pub served_cases : (P : Listed → Type 0) → P Nop → ((c : ConstantOf ℤ ℤ) → P (Constant c)) → P (Number (Binary Ints Add)) → P (Return None) → ((m : Member) → builtin_of m ≡ Some PrintInt → P (Invoke Static m)) → (i : Listed) → is_served i ≡ true → P i
-served_cases P nop constants sum ends prints Nop e = nop
-served_cases P nop constants sum ends prints (Constant c) e = constants c
-served_cases P nop constants sum ends prints (Number operation) e = number_cases (λ (o : NumberOperation). P (Number o)) sum operation e
-served_cases P nop constants sum ends prints (Return None) e = ends
-served_cases P nop constants sum ends prints (Return (Some kind)) e = cc
-served_cases P nop constants sum ends prints (Invoke Static m) e = prints m (print_served (builtin_of m) e)
-served_cases P nop constants sum ends prints (Invoke Virtual m) e = cc
-served_cases P nop constants sum ends prints (Invoke Special m) e = cc
-served_cases P nop constants sum ends prints (Invoke (Interface count) m) e = cc
-served_cases P nop constants sum ends prints (Local access) e = cc
-served_cases P nop constants sum ends prints (Stack operation) e = cc
-served_cases P nop constants sum ends prints (Branch test target) e = cc
-served_cases P nop constants sum ends prints (TableSwitch table) e = cc
-served_cases P nop constants sum ends prints (LookupSwitch lookup) e = cc
-served_cases P nop constants sum ends prints (StaticField access m) e = cc
-served_cases P nop constants sum ends prints (Field access m) e = cc
-served_cases P nop constants sum ends prints (Array operation) e = cc
-served_cases P nop constants sum ends prints (Class operation name) e = cc
-served_cases P nop constants sum ends prints Throw e = cc
-served_cases P nop constants sum ends prints (Monitor operation) e = cc
-
--- ---- constants and the sum of ints throw nothing
-
-abbrev pub ThrowsNothing : Result Moved Abrupt → Type 0
-ThrowsNothing (Ok moved) = Unit {0}
-ThrowsNothing (Err (Faulted fault)) = Unit {0}
-ThrowsNothing (Err (Thrown exception)) = ⊥
-
-room-throws_nothing : (next : ℕ) (f : Frame) (n : ℕ) (vs : List Value) (b : Bool) → ThrowsNothing (if b then Ok (replaced next f n vs) else Err (Faulted StackFull))
-room-throws_nothing next f n vs true = tt
-room-throws_nothing next f n vs false = tt
-
-pub constant-throws_nothing : (next : ℕ) (c : ConstantOf ℤ ℤ) (f : Frame) → ThrowsNothing (constant next c f)
-constant-throws_nothing next c f =
-    room-throws_nothing next f 0 (constant_value c ∷ []) (nat_le (units_of_all (push_all (constant_value c ∷ []) (drop 0 f.stack))) f.room)
-
-sum-throws_nothing : (next : ℕ) (f : Frame) (r : Result (ℤ × ℤ) Fault) → ThrowsNothing (binary_on next f Ints Add r)
-sum-throws_nothing next f (Ok operands) = tt
-sum-throws_nothing next f (Err fault) = tt
-
-pub number-throws_nothing : (next : ℕ) (f : Frame) → ThrowsNothing (number next (Binary Ints Add) f)
-number-throws_nothing next f = sum-throws_nothing next f (two_ints_on f.stack)
+-- what holds of plain instructions, of main's return and of the print holds of all that is served
+pub served_cases : (P : Listed → Type 0) → ((i : Listed) → is_plain i ≡ true → P i) → P (Return None) → ((m : Member) → builtin_of m ≡ Some PrintInt → P (Invoke Static m)) → (i : Listed) → is_served i ≡ true → P i
+served_cases P plain ends prints Nop e = plain Nop refl
+served_cases P plain ends prints (Constant c) e = plain (Constant c) e
+served_cases P plain ends prints (Local access) e = plain (Local access) refl
+served_cases P plain ends prints (Stack operation) e = plain (Stack operation) refl
+served_cases P plain ends prints (Number operation) e = plain (Number operation) refl
+served_cases P plain ends prints (Branch test target) e = plain (Branch test target) refl
+served_cases P plain ends prints (Return None) e = ends
+served_cases P plain ends prints (Return (Some kind)) e = cc
+served_cases P plain ends prints (Invoke Static m) e = prints m (print_served (builtin_of m) e)
+served_cases P plain ends prints (Invoke Virtual m) e = cc
+served_cases P plain ends prints (Invoke Special m) e = cc
+served_cases P plain ends prints (Invoke (Interface count) m) e = cc
+served_cases P plain ends prints (TableSwitch table) e = cc
+served_cases P plain ends prints (LookupSwitch lookup) e = cc
+served_cases P plain ends prints (StaticField access m) e = cc
+served_cases P plain ends prints (Field access m) e = cc
+served_cases P plain ends prints (Array operation) e = cc
+served_cases P plain ends prints (Class operation name) e = cc
+served_cases P plain ends prints Throw e = cc
+served_cases P plain ends prints (Monitor operation) e = cc
 
 -- ---- at an instruction of main
 
@@ -171,34 +121,29 @@ print_used program m named none =
     ap (λ (m : Member). declarer (resolved_method program m)) (is_print m named)
     ∙ ap (λ (found : Option (Declared Method)). declarer found) (print_resolved program none)
 
+plain_used : (s : Site) (i : Listed) → is_plain i ≡ true → at_site s i ≡ by_family s i
+plain_used s Nop e = refl
+plain_used s (Constant c) e = refl
+plain_used s (Local access) e = refl
+plain_used s (Stack operation) e = refl
+plain_used s (Number operation) e = refl
+plain_used s (Branch test target) e = refl
+plain_used s (TableSwitch table) e = cc
+plain_used s (LookupSwitch lookup) e = cc
+plain_used s (Return kind) e = cc
+plain_used s (StaticField access m) e = cc
+plain_used s (Field access m) e = cc
+plain_used s (Array operation) e = cc
+plain_used s (Class operation name) e = cc
+plain_used s (Invoke invocation m) e = cc
+plain_used s Throw e = cc
+plain_used s (Monitor operation) e = cc
+
 pub at_site_is : (s : Site) → listed s.program (codes "vm/Sys") ≡ None → (i : Listed) → is_served i ≡ true → at_site s i ≡ by_family s i
 at_site_is s none i e =
-    served_cases (λ (i : Listed). at_site s i ≡ by_family s i) refl (λ c. refl) refl refl
+    served_cases (λ (i : Listed). at_site s i ≡ by_family s i) (plain_used s) refl
     (λ m named. ap (λ (class : Option (List ℕ)). after_initialising s class (by_family s (Invoke Static m))) (print_used s.program m named none)
     ∙ unlisted_used s (codes "vm/Sys") (by_family s (Invoke Static m)) none) i e
-
--- neither asks for a cell nor waits
-abbrev pub IsQuiet : Completion → Type 0
-IsQuiet c = (asks c ≡ None) × (waits c ≡ false)
-
-completes-quiet : (s : Site) (r : Result Moved Abrupt) → ThrowsNothing r → IsQuiet (completes s r)
-completes-quiet s (Ok moved) e = (refl, refl)
-completes-quiet s (Err (Faulted fault)) e = (refl, refl)
-completes-quiet s (Err (Thrown exception)) e = absurd e
-
-prints_on-quiet : (s : Site) (r : Result ℤ Fault) → IsQuiet (prints_on s decimal_line r)
-prints_on-quiet s (Ok z) = (refl, refl)
-prints_on-quiet s (Err fault) = (refl, refl)
-
-family-quiet : (s : Site) → IsInMain s → (i : Listed) → is_served i ≡ true → IsQuiet (by_family s i)
-family-quiet s main i e =
-    served_cases (λ (i : Listed). IsQuiet (by_family s i))
-    (refl, refl)
-    (λ c. completes-quiet s (constant s.next c s.frame) (constant-throws_nothing s.next c s.frame))
-    (completes-quiet s (number s.next (Binary Ints Add) s.frame) (number-throws_nothing s.next s.frame))
-    (subst IsQuiet (sym (returned_is s main)) (refl, refl))
-    (λ m named. subst IsQuiet (sym (printed_is s m named main.unhidden)) (prints_on-quiet s (int_on s.frame.stack)))
-    i e
 
 -- ---- all code of a program that is served is
 
@@ -226,7 +171,7 @@ and_then-some f (Some x) y e = (x, refl, e)
 
 methods_served : (c : ClassListing) → serves c ≡ true → serves_methods c.methods ≡ true
 unfolding serves
-methods_served c e = (both (serves_fields c.fields) (serves_methods c.methods) e).1
+methods_served c e = e
 
 -- so is the initializer of a class that declares none
 empty_served : (b : Bool) (m : Method) → cond b (Some empty_initializer) None ≡ Some m → serves_code m.code ≡ true
@@ -254,76 +199,54 @@ instruction_served program f i served there =
 
 -- ---- a thread that has ended, or runs main alone
 
-pub record IsAtMain (program : List ClassListing) (w : World) (t : ℕ) (f : Frame) : Type 0 where
-  pub served : ServedProgram program
-  pub alone : frames_at w t ≡ f ∷ []
-  pub main_is : main_in program ≡ Some f.method
-  pub plain : IsPlain f
-
-abbrev site_at : List ClassListing → World → ℕ → Frame → ℕ → Site
-site_at program w t f n = record { program = program; world = w; thread = t; frame = f; next = n }
-
-in_main : (program : List ClassListing) (w : World) (t : ℕ) (f : Frame) (n : ℕ) → IsAtMain program w t f → IsInMain (site_at program w t f n)
-in_main program w t f n at = record { alone = at.alone; main_is = at.main_is; plain = at.plain; unhidden = at.served.unhidden }
-
 -- what it comes to
 pub completion-main : (program : List ClassListing) (w : World) (t : ℕ) (f : Frame) → frames_at w t ≡ f ∷ [] → f.mark ≡ Unmarked → completion program w t ≡ at_instruction program w t f (instruction_of program f)
 unfolding completion
 completion-main program w t f e unmarked = ap (λ (frames : List Frame). at_frame program w t (running frames)) e ∙ ap (at_mark program w t f) unmarked
 
-completion-none : (program : List ClassListing) (w : World) (t : ℕ) → frames_at w t ≡ [] → completion program w t ≡ Faults NoInstruction
+pub completion-none : (program : List ClassListing) (w : World) (t : ℕ) → frames_at w t ≡ [] → completion program w t ≡ Faults NoInstruction
 unfolding completion
 completion-none program w t e = rw e
 
-pub main-quiet : (program : List ClassListing) (w : World) (t : ℕ) (f : Frame) → IsAtMain program w t f → IsQuiet (completion program w t)
-main-quiet program w t f at = subst IsQuiet (sym (completion-main program w t f at.alone at.plain.1)) (by_instruction (instruction_of program f) refl) where
-  by_instruction : (i : Option Placed) → instruction_of program f ≡ i → IsQuiet (at_instruction program w t f i)
-  by_instruction None e = (refl, refl)
-  by_instruction (Some i) e =
-      let s = site_at program w t f i.next in
-      let served = instruction_served program f i at.served.code e in
-      subst IsQuiet (sym (at_site_is s at.served.unhidden i.instruction served)) (family-quiet s (in_main program w t f i.next at) i.instruction served)
+-- ---- a throwable ends main's thread: no frame handles it, none is an initializer, and no monitor is given back
 
-pub none-quiet : (program : List ClassListing) (w : World) (t : ℕ) → frames_at w t ≡ [] → IsQuiet (completion program w t)
-none-quiet program w t e = subst IsQuiet (sym (completion-none program w t e)) (refl, refl)
+rows_none : (program : List ClassListing) (class : List ℕ) (pc : ℕ) (rows : List ExceptionRow) → serves_rows rows ≡ true → find (fits program class pc) rows ≡ None
+rows_none program class pc [] e = refl
+rows_none program class pc (r ∷ rs) e = cc
 
--- ---- what is quiet
+handler_none : (program : List ClassListing) (class : List ℕ) (pc : ℕ) (code : Option CodeListing) → serves_code code ≡ true → handler_in program class pc code ≡ None
+handler_none program class pc None e = refl
+handler_none program class pc (Some code) e =
+    let rows = (both (serves_rows code.rows) (list_all (λ (i : Placed). is_served i.instruction) code.instructions) e).0 in
+    ap (option_map (λ (row : ExceptionRow). row.handler)) (rows_none program class pc code.rows rows)
 
-ready-not : (a b : Bool) → (a && b && true) ≡ (a && b)
-ready-not true true = refl
-ready-not true false = refl
-ready-not false b = refl
+code_at-served : (program : List ClassListing) (place : MethodPlace) → list_all serves program ≡ true → (o : Option CodeListing) → code_at program place ≡ o → serves_code o ≡ true
+code_at-served program place served None e = refl
+code_at-served program place served (Some code) e = code_served program place code served e
 
--- a thread that doesn't wait is ready where it lives and there was no fault
-pub quiet-ready : (program : List ClassListing) (w : World) (t : ℕ) → IsQuiet (completion program w t) → is_ready program w t ≡ (is_none w.fault && is_live w t)
-quiet-ready program w t quiet = ap (λ (b : Bool). is_none w.fault && is_live w t && not b) quiet.1 ∙ ready-not (is_none w.fault) (is_live w t)
+module _ (program : List ClassListing) (f : Frame) (served : list_all serves program ≡ true) (main_is : main_in program ≡ Some f.method) (plain : IsPlain f) where
+  handles_none : (class : List ℕ) → handler_of program class f f.mark ≡ None
+  handles_none class =
+      ap (handler_of program class f) plain.1
+      ∙ handler_none program class f.pc (code_at program f.method) (code_at-served program f.method served (code_at program f.method) refl)
 
-pub quiet-asked : (program : List ClassListing) (w : World) (t : ℕ) → IsQuiet (completion program w t) → asked program w t ≡ None
-quiet-asked program w t quiet = quiet.0
+  initializes_none : runs_initializer program f ≡ false
+  initializes_none = main_initializes program f.method main_is
 
--- ---- a program that is served has no static field
+  main_way : (class : List ℕ) → way_of program class (f ∷ []) ≡ record { landing = Unhandled; left = f ∷ [] }
+  main_way class = rw (handles_none class, initializes_none) refl
+
+  pub thrown_in_main : (before w : World) (t birth : ℕ) → frames_at w t ≡ f ∷ [] → thrown program before w t birth ≡ record { after = with_thread w t (Ended (Some (class_at w birth))); writes = [] }
+  thrown_in_main before w t birth alone =
+      ap (λ (frames : List Frame). unwound program before w t birth (class_at w birth) (way_of program (class_at w birth) (reverse frames))) alone
+      ∙ ap (unwound program before w t birth (class_at w birth)) (main_way (class_at w birth))
+      ∙ rw (plain.0, initializes_none) refl
+
+-- ---- a program that is served has no class to initialise
 
 not-false : (b : Bool) → not b ≡ true → b ≡ false
 not-false true e = cc
 not-false false e = refl
-
-no_static : (fields : List FieldListing) → serves_fields fields ≡ true → filter is_static_field fields ≡ []
-no_static [] e = refl
-no_static (f ∷ fs) e =
-    let one = both (not (is_static_field f)) (serves_fields fs) e in
-    rw (not-false (is_static_field f) one.0) (no_static fs one.1)
-
-slots-none : (c : ClassListing) → serves c ≡ true → opening_slots_of c ≡ []
-unfolding serves
-slots-none c e = ap (map (opening_slot c.name)) (no_static c.fields (both (serves_fields c.fields) (serves_methods c.methods) e).0)
-
-pub opening_slots-none : (program : List ClassListing) → list_all serves program ≡ true → opening_slots program ≡ []
-opening_slots-none [] e = refl
-opening_slots-none (c ∷ cs) e =
-    let one = both (serves c) (list_all serves cs) e in
-    rw (slots-none c one.0) (opening_slots-none cs one.1)
-
--- ---- a program that is served has no class to initialise
 
 declares_none : (methods : List Method) → serves_methods methods ≡ true → list_any is_class_initializer methods ≡ false
 declares_none [] e = refl
