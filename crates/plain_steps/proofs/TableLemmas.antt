@@ -29,9 +29,10 @@ use Rattle.model.specs.Table.Constants.{constant as pushed}
 use Rattle.model.specs.Table.Locals.{local as accessed}
 use Rattle.model.specs.Table.Numbers.{number as computed}
 use Rattle.model.specs.Table.Stacks.{rearranged}
+use Rattle.model.specs.Served.{is_plain}
 use Rattle.model.specs.Table.Next.{Listed, by_family}
 use Rattle.loader.specs.declared.operations.Operation.{Operation}
-use Rattle.loader.specs.declared.operations.Operation.TheVariants.{Aside, Lconst}
+use Rattle.loader.specs.declared.operations.Operation.TheVariants.{Aside, AconstNull, Iconst, Lconst, Nop}
 use Rattle.loader.specs.PlainOperations.{plain_operation, is_32_bits, constant_operation, local_operation, stack_operation, number_operation, branch_operation, return_operation}
 use Rattle.plain_steps.specs.PlainMoves.{plain_move, family_move}
 use Rattle.plain_steps.specs.Told.{told_with, moved_with}
@@ -163,6 +164,32 @@ module _ (next : ℕ) (f : Frame) where
   family_moves (instruction.Invoke i member) op = λ is direct. absurd (cc is)
   family_moves instruction.Throw op = λ is direct. absurd (cc is)
   family_moves (instruction.Monitor m) op = λ is direct. absurd (cc is)
+
+  -- a plain instruction's operation stands whole in its step, and moves the frame as its family does
+  pub direct_move : (i : Listed) → is_plain i ≡ true → (op : Operation) × (m : Result Moved Abrupt) × (plain_operation i ≡ Some op) × (plain_move next op f ≡ Some m)
+  unfolding plain_move
+  direct_move instruction.Nop e = (Nop, Ok (replaced next f 0 []), refl, refl)
+  direct_move (instruction.Constant constant.Null) e = (AconstNull, pushed next constant.Null f, refl, refl)
+  direct_move (instruction.Constant (constant.SmallInt n)) e = (constant_operation (constant.SmallInt n), pushed next (constant.SmallInt n) f, refl, refl)
+  direct_move (instruction.Constant (constant.SmallLong n)) e = (constant_operation (constant.SmallLong n), pushed next (constant.SmallLong n) f, refl, refl)
+  direct_move (instruction.Constant (constant.Byte z)) e = (Iconst z, pushed next (constant.Byte z) f, refl, refl)
+  direct_move (instruction.Constant (constant.Short z)) e = (Iconst z, pushed next (constant.Short z) f, refl, refl)
+  direct_move (instruction.Constant (constant.Int width z)) e = (Iconst z, pushed next (constant.Int width z) f, refl, refl)
+  direct_move (instruction.Constant (constant.Long z)) e = cc
+  direct_move (instruction.Local a) e = (local_operation a, accessed next a f, refl, local_moves a)
+  direct_move (instruction.Stack s) e = (stack_operation s, rearranged next s f, refl, stack_moves s)
+  direct_move (instruction.Number n) e = (number_operation n, computed next n f, refl, number_moves n)
+  direct_move (instruction.Branch t target) e = (branch_operation t target, branched next t target f, refl, branch_moves t target)
+  direct_move (instruction.TableSwitch table) e = cc
+  direct_move (instruction.LookupSwitch lookup) e = cc
+  direct_move (instruction.Return k) e = cc
+  direct_move (instruction.Static a member) e = cc
+  direct_move (instruction.Field a member) e = cc
+  direct_move (instruction.Array a) e = cc
+  direct_move (instruction.Class c name) e = cc
+  direct_move (instruction.Invoke i member) e = cc
+  direct_move instruction.Throw e = cc
+  direct_move (instruction.Monitor m) e = cc
 
   -- what has a move here doesn't stand aside
   moves_here : (op : Operation) (m : Result Moved Abrupt) → plain_move next op f ≡ Some m → op ≢ Aside
