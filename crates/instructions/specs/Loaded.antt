@@ -1,49 +1,60 @@
-use Rattle.std.specs.Prelude.{◌≡◌, ◌≤◌, ℕ, List, [], ◌∷◌, Bool, true, false, Option, Some, None, Result, Ok, Err}
+use Rattle.std.specs.Prelude.{◌≡◌, ◌≤◌, ◌+◌, ℕ, List, [], ◌∷◌, length, replicate, Option, Some, None}
+use Rattle.model.specs.declared.journals.HeapShape.{HeapShape}
 use Rattle.model.specs.declared.journals.Limits.{Limits}
 use Rattle.model.specs.declared.turns.ClassState.{ClassState}
+use Rattle.model.specs.declared.turns.ClassState.TheVariants.{Done}
 use Rattle.model.specs.declared.turns.Fault.{Fault}
+use Rattle.model.specs.declared.values.Value.{Value}
 use Rattle.model.specs.ClassListings.{ClassListing}
 use Rattle.model.specs.Frames.{Frame, IsPlain}
 use Rattle.model.specs.Programs.{main_in}
-use Rattle.model.specs.Worlds.{World, Thread, counted, opening_objects, opening_world}
-use Rattle.model.specs.Worlds.Thread.{Live, Ended}
-use Rattle.model.specs.Effects.Choice.{NewObject}
 use Rattle.model.specs.Served.{ServedProgram}
-use Rattle.model.specs.Table.Next.{next}
-use Rattle.instructions.specs.Acting.{Parts}
+use Rattle.model.specs.Table.Next.{completion}
+use Rattle.model.specs.Worlds.{World, opening_slots}
+use Rattle.cells.specs.Objects.{StoredObject}
+use Rattle.join.specs.TurnsOnCells.{CellMachine, collected_on, counted_on, opening_on, turned_on}
+use Rattle.instructions.specs.declared.kinds.Course.{Course}
+use Rattle.instructions.specs.declared.kinds.Course.TheVariants.{Live, Returned, Threw}
+use Rattle.instructions.specs.declared.kinds.Kind.{Kind}
+use Rattle.instructions.specs.Heaps.{HeapValue}
+use Rattle.instructions.specs.Shown.{keyed, objects_shown, thread_shown}
 
--- a program that runs: its classes, its limits, and the world that its threads have made
+-- a program that runs: its classes, its limits, the heap's shape, and the machine on cells that its turns have made
 pub record Loaded : Type 0 where
   pub program : List ClassListing
   pub limits : Limits
-  pub world : World
+  pub shape : HeapShape
+  pub machine : CellMachine
 
 -- a program that has made no turn
-abbrev pub fresh : List ClassListing → Limits → Loaded
-fresh program limits = record { program = program; limits = limits; world = opening_world program }
+abbrev pub fresh : List ClassListing → Limits → HeapShape → Loaded
+fresh program limits shape = record { program = program; limits = limits; shape = shape; machine = opening_on program shape }
 
 -- the same after a turn of a thread
 abbrev pub after_step : Loaded → ℕ → Loaded
-after_step s t = record s { world = counted (next s.program s.world t NewObject).after }
+after_step s t = record s { machine = counted_on (turned_on s.program s.machine t (completion s.program s.machine.world t)) }
 
--- the same after a turn of the collector, which counts a row and changes nothing else of the ideal world
+-- the same after a turn of the collector
 abbrev pub after_collection : Loaded → Loaded
-after_collection s = record s { world = counted s.world }
+after_collection s = record s { machine = counted_on (collected_on s.shape s.machine) }
 
--- ---- how the parts of the state show a world: there is one thread, and no object but the first two births
+-- ---- how the parts of the state show a machine on cells: there is one thread
 
-abbrev pub thread_shown : Bool → List Frame → Thread
-thread_shown true frames = Ended None
-thread_shown false frames = Live frames
-
-abbrev pub world_shown : Bool → List Frame → List ClassState → List ℕ → Option (Fault × ℕ) → ℕ → World
-world_shown ended frames states output fault rows = record {
-  threads = thread_shown ended frames ∷ [];
-  statics = record { fields = []; states = states };
+abbrev pub world_shown : List ClassListing → Course → List Frame → List Value → List ClassState → List (Option (StoredObject Kind)) → List ℕ → Option (Fault × ℕ) → ℕ → World
+world_shown program course frames slots states objects output fault rows = record {
+  threads = thread_shown program course frames ∷ [];
+  statics = record { fields = keyed (opening_slots program) slots; states = states };
   output = output;
-  objects = opening_objects;
+  objects = objects_shown program objects;
   fault = fault;
   rows = rows;
+}
+
+abbrev pub machine_shown : List ClassListing → Course → List Frame → List Value → List ClassState → HeapValue → List ℕ → Option (Fault × ℕ) → ℕ → CellMachine
+machine_shown program course frames slots states heap output fault rows = record {
+  world = world_shown program course frames slots states heap.objects output fault rows;
+  account = heap.account;
+  births = heap.births;
 }
 
 -- the thread runs main alone
@@ -53,17 +64,18 @@ pub record RunsMain (program : List ClassListing) (frames : List Frame) : Type 0
   pub main_is : main_in program ≡ Some frame.method
   pub plain : IsPlain frame
 
-abbrev pub RunsMainUnlessEnded : List ClassListing → Bool → List Frame → Type 0
-RunsMainUnlessEnded program true frames = Unit {0}
-RunsMainUnlessEnded program false frames = RunsMain program frames
+abbrev pub RunsMainUnlessEnded : List ClassListing → Course → List Frame → Type 0
+RunsMainUnlessEnded program Live frames = RunsMain program frames
+RunsMainUnlessEnded program Returned frames = Unit {0}
+RunsMainUnlessEnded program (Threw kind) frames = Unit {0}
 
--- what holds of the parts: the machine carries out all code of the program, and the thread runs its main or has ended
-pub record IsSound (program : List ClassListing) (limits : Limits) (ended : Bool) (frames : List Frame) (capacity : ℕ) : Type 0 where
+-- what holds of the parts: the machine carries out all code of the program, the thread runs its main or has ended, and a
+-- turn makes one birth at most
+pub record IsSound (program : List ClassListing) (limits : Limits) (course : Course) (frames : List Frame) (slots : List Value) (states : List ClassState) (heap : HeapValue) (rows capacity : ℕ) : Type 0 where
   pub served : ServedProgram program
   pub room : limits.output ≤ capacity
-  pub main : RunsMainUnlessEnded program ended frames
-
--- a world after a turn of its one thread
-abbrev pub world_after : World → Result Parts Fault → World
-world_after w (Ok parts) = record w { threads = thread_shown parts.ended parts.frames ∷ []; output = parts.output }
-world_after w (Err fault) = record w { fault = Some (fault, 0) }
+  pub steps : limits.steps ≤ 16777215
+  pub main : RunsMainUnlessEnded program course frames
+  pub initialised : states ≡ replicate (length program) Done
+  pub slots_are : length slots ≡ length (opening_slots program)
+  pub births : heap.births ≤ rows + 3

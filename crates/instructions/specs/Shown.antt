@@ -76,7 +76,12 @@ objects_shown program objects = nobody ∷ map (object_shown program) objects
 
 -- ---- a world of one thread
 
+-- the class of what is thrown; what is no object has none
+abbrev pub kind_name_if : List ClassListing → Option Kind → List ℕ
+kind_name_if program None = []
+kind_name_if program (Some kind) = kind_name program kind
+
 abbrev pub thread_shown : List ClassListing → Course → List Frame → Thread
 thread_shown program Live frames = LiveThread frames
 thread_shown program Returned frames = Ended None
-thread_shown program (Threw kind) frames = Ended (Some (kind_name program kind))
+thread_shown program (Threw kind) frames = Ended (Some (kind_name_if program kind))

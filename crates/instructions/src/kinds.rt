@@ -9,10 +9,10 @@ pub enum Kind {
     Array(TypeNumber),
 }
 
-/// Whether a thread runs, or how it ended: by its last return, or by an exception of a kind.
+/// Whether a thread runs, or how it ended: by its last return, or by a throwable of this kind. What is no object has none.
 #[derive(Clone, Copy, PartialEq, Eq)]
 pub enum Course {
     Live,
     Returned,
-    Threw(Kind),
+    Threw(Option<Kind>),
 }

@@ -4,7 +4,9 @@
 mod acting;
 mod heaps;
 pub mod kinds;
+mod machines;
 mod printing;
 pub mod state;
 #[cfg(test)]
 mod tests;
+mod throwing;
