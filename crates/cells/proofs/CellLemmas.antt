@@ -1,5 +1,4 @@
-use Rattle.std.proofs.Common.{◌≡◌, ℕ, zero, suc, ◌+◌, ◌≤◌, ◌<◌, List, [], ◌∷◌, ◌++◌, length, map, take, drop, set, slice_get, Option, Some, None, refl, sym, ◌∙◌, ap, arith}
-use Rattle.std.specs.Prelude.{replicate}
+use Rattle.std.proofs.Common.{◌≡◌, ℕ, zero, suc, ◌+◌, ◌≤◌, ◌<◌, List, [], ◌∷◌, length, map, take, drop, set, slice_get, Option, Some, None, refl, sym, ◌∙◌, ap, arith}
 use Rattle.std.specs.Option.{option_map}
 use Rattle.std.proofs.lemmas.List.{map-set, set_past}
 use Rattle.std.proofs.lemmas.Option.{slice_get-map}
@@ -8,9 +7,9 @@ use Rattle.model.specs.declared.journals.HeapShape.{HeapShape}
 use Rattle.model.specs.Room.{words_of_cell}
 use Rattle.model.specs.Worlds.{Monitor, free_monitor}
 use Rattle.cells.specs.declared.headers.Header.{Header}
-use Rattle.cells.specs.Objects.{StoredObject, CellsValue, new_object, object_if, words_if, word_set, monitor_set, thread_set, with_object, with_word, with_monitor, with_thread, words_at}
+use Rattle.cells.specs.Objects.{StoredObject, CellsValue, made_object, object_if, words_if, word_set, monitor_set, thread_set, with_object, with_word, with_monitor, with_thread, words_at}
 use Rattle.cells.specs.Layout.{AreLaidOut, used_words, stored_as, stored_in, cells_in}
-use Rattle.cells.proofs.WordLemmas.{SameOutside, set_same, set_used, fill_same, fill_used}
+use Rattle.cells.proofs.WordLemmas.{SameOutside, set_same, set_used, overwritten, overwrite_same, overwrite_used}
 use Rattle.cells.proofs.LayoutLemmas.{stands_at, changed, object_found}
 
 -- What contracts see of a heap after each change.
@@ -97,16 +96,16 @@ unwritten cells cell index v past =
 
 -- ---- a new object
 
-pub placed : {K : Type 0} (shape : HeapShape) (room : ℕ → ℕ) (words new : List Value) (hs : List (Header K)) (cell count : ℕ) (h h' : Header K) (kind : K) (v : Value) → AreLaidOut room 0 0 hs (length words) → slice_get hs cell ≡ Some h → count ≤ h.room → new ≡ take h.base words ++ replicate count v ++ drop (h.base + count) words → h' ≡ record { base = h.base; room = h.room; length = count; kind = Some kind; monitor = free_monitor; thread = None } → cells_in shape new (set hs cell h') ≡ with_object (cells_in shape words hs) cell (Some (new_object kind count v))
-placed shape room words new hs cell count h h' kind v laid found fits is header_is =
+pub placed : {K : Type 0} (shape : HeapShape) (room : ℕ → ℕ) (words new vs : List Value) (hs : List (Header K)) (cell count : ℕ) (h h' : Header K) (kind : K) → AreLaidOut room 0 0 hs (length words) → slice_get hs cell ≡ Some h → length vs ≡ count → count ≤ h.room → new ≡ overwritten words h.base count vs → h' ≡ record { base = h.base; room = h.room; length = count; kind = Some kind; monitor = free_monitor; thread = None } → cells_in shape new (set hs cell h') ≡ with_object (cells_in shape words hs) cell (Some (made_object kind vs))
+placed shape room words new vs hs cell count h h' kind laid found long fits is header_is =
     let at = stands_at room 0 0 hs (length words) cell (0 + cell) h laid found refl in
     let within = at.1 in
-    let fill : h.base + count ≤ length words = omega (arith, within, fits) in
-    let same : SameOutside h.base (h.base + count) words new = rw is (fill_same words h.base count v fill) in
-    let used : take count (drop h.base new) ≡ replicate count v = rw is (fill_used words h.base count v fill) in
+    let inside : h.base + count ≤ length words = omega (arith, within, fits) in
+    let same : SameOutside h.base (h.base + count) words new = rw is (overwrite_same words h.base count vs long inside) in
+    let used : take count (drop h.base new) ≡ vs = rw is (overwrite_used words h.base count vs long inside) in
     with_objects shape _ _
     (changed room 0 0 hs (length words) cell h.base (h.base + count) h h' words new laid found same (omega arith) (omega (arith, fits))
-    ∙ ap (λ o. set (map (stored_in words) hs) cell o) (ap (stored_in new) header_is ∙ ap (λ (ws : List Value). Some (let y : StoredObject _ = record { kind = kind; words = ws; monitor = free_monitor; thread = None } in y)) used))
+    ∙ ap (λ o. set (map (stored_in words) hs) cell o) (ap (stored_in new) header_is ∙ ap (λ ws. Some (made_object kind ws)) used))
 
 -- ---- what a caller promised, told of the fields
 

@@ -6,6 +6,7 @@ use Rattle.std.specs.Option.{option_map}
 use Rattle.model.specs.declared.values.Value.{Value}
 use Rattle.model.specs.declared.journals.HeapShape.{HeapShape}
 use Rattle.model.specs.Room.{words_of_cell}
+use Rattle.model.specs.Worlds.{free_monitor}
 use Rattle.cells.specs.declared.headers.Header.{Header}
 use Rattle.cells.specs.Objects.{object_if, words_if}
 use Rattle.cells.specs.Layout.{Stands, AreLaidOut, used_words, stored_as, stored_in}
@@ -147,6 +148,11 @@ looked_up xs ys n r o same looked is = ap (λ zs. slice_get zs n) (sym same) ∙
 pub laid_out-set_for : {K : Type 0} (room : ℕ → ℕ) (hs : List (Header K)) (words new : List Value) (cell : ℕ) (h h' : Header K) → AreLaidOut room 0 0 hs (length words) → length new ≡ length words → slice_get hs cell ≡ Some h → h'.base ≡ h.base → h'.room ≡ h.room → h'.length ≤ h.room → (h'.kind ≡ None → h'.length ≡ 0) → AreLaidOut room 0 0 (set hs cell h') (length new)
 laid_out-set_for room hs words new cell h h' laid same found base_is room_is fits nobody =
     rw same (laid_out-set room 0 0 hs (length words) cell h h' laid found base_is room_is fits nobody)
+
+-- with a new object in it
+pub laid_out-occupied : {K : Type 0} (room : ℕ → ℕ) (hs : List (Header K)) (words new : List Value) (cell count : ℕ) (h h' : Header K) (kind : K) → AreLaidOut room 0 0 hs (length words) → length new ≡ length words → slice_get hs cell ≡ Some h → count ≤ h.room → h' ≡ record { base = h.base; room = h.room; length = count; kind = Some kind; monitor = free_monitor; thread = None } → AreLaidOut room 0 0 (set hs cell h') (length new)
+laid_out-occupied room hs words new cell count h h' kind laid same found fits is =
+    rw is (laid_out-set_for room hs words new cell h _ laid same found refl refl fits (λ none. cc none))
 
 -- ---- cells as they are laid out
 

@@ -1,6 +1,5 @@
 use Rattle.std.proofs.Common.{◌≡◌, ℕ, suc, ◌+◌, ◌-◌, ◌≤◌, ◌<◌, List, ◌++◌, length, take, drop, set, sym, ◌∙◌, ap, arith, length-append, length-drop, append_assoc}
-use Rattle.std.specs.Prelude.{replicate}
-use Rattle.std.proofs.lemmas.List.{take-take, take-set, take_at, drop-drop, drop-take, drop-set-lt, drop-set-add, drop_at, length-set, length-take-le, length-replicate}
+use Rattle.std.proofs.lemmas.List.{take-take, take-set, take_at, drop-drop, drop-take, drop-set-lt, drop-set-add, drop_at, length-set, length-take-le}
 use Rattle.std.proofs.Math.Seq.{take-set-lt}
 use Rattle.model.specs.declared.values.Value.{Value}
 
@@ -39,31 +38,31 @@ pub set_used : (words : List Value) (base count index : ℕ) (v : Value) → ind
 set_used words base count index v within =
     ap (take count) (drop-set-add base words index v) ∙ take-set-lt count (drop base words) index v within
 
--- ---- some words are made the same
+-- ---- some words are written
 
-abbrev pub filled : List Value → ℕ → ℕ → Value → List Value
-filled words base count v = take base words ++ replicate count v ++ drop (base + count) words
+abbrev pub overwritten : List Value → ℕ → ℕ → List Value → List Value
+overwritten words base count vs = take base words ++ vs ++ drop (base + count) words
 
-length-filled : (words : List Value) (base count : ℕ) (v : Value) → base + count ≤ length words → length (take base words ++ replicate count v) ≡ base + count
-length-filled words base count v within =
-    omega (arith, length-append (take base words) (replicate count v), length-take-le base words (omega arith), length-replicate count v)
+length-overwritten : (words : List Value) (base count : ℕ) (vs : List Value) → length vs ≡ count → base + count ≤ length words → length (take base words ++ vs) ≡ base + count
+length-overwritten words base count vs long within =
+    omega (arith, long, length-append (take base words) vs, length-take-le base words (omega arith))
 
-pub fill_same : (words : List Value) (base count : ℕ) (v : Value) → base + count ≤ length words → SameOutside base (base + count) words (filled words base count v)
-fill_same words base count v within = record {
+pub overwrite_same : (words : List Value) (base count : ℕ) (vs : List Value) → length vs ≡ count → base + count ≤ length words → SameOutside base (base + count) words (overwritten words base count vs)
+overwrite_same words base count vs long within = record {
   long =
-      omega (arith, length-append (take base words ++ replicate count v) (drop (base + count) words), length-filled words base count v within, length-drop (base + count) words);
+      omega (arith, length-append (take base words ++ vs) (drop (base + count) words), length-overwritten words base count vs long within, length-drop (base + count) words);
   below =
-      ap (take base) (append_assoc (take base words) (replicate count v) (drop (base + count) words))
-      ∙ take_at (take base words) (replicate count v ++ drop (base + count) words) base (length-take-le base words (omega arith));
-  above = drop_at (take base words ++ replicate count v) (drop (base + count) words) (base + count) (length-filled words base count v within);
+      ap (take base) (append_assoc (take base words) vs (drop (base + count) words))
+      ∙ take_at (take base words) (vs ++ drop (base + count) words) base (length-take-le base words (omega arith));
+  above = drop_at (take base words ++ vs) (drop (base + count) words) (base + count) (length-overwritten words base count vs long within);
 }
 
-pub fill_used : (words : List Value) (base count : ℕ) (v : Value) → base + count ≤ length words → take count (drop base (filled words base count v)) ≡ replicate count v
-fill_used words base count v within =
-    ap (λ ws. take count (drop base ws)) (append_assoc (take base words) (replicate count v) (drop (base + count) words))
-    ∙ ap (take count) (drop_at (take base words) (replicate count v ++ drop (base + count) words) base (length-take-le base words (omega arith)))
-    ∙ take_at (replicate count v) (drop (base + count) words) count (length-replicate count v)
+pub overwrite_used : (words : List Value) (base count : ℕ) (vs : List Value) → length vs ≡ count → base + count ≤ length words → take count (drop base (overwritten words base count vs)) ≡ vs
+overwrite_used words base count vs long within =
+    ap (λ ws. take count (drop base ws)) (append_assoc (take base words) vs (drop (base + count) words))
+    ∙ ap (take count) (drop_at (take base words) (vs ++ drop (base + count) words) base (length-take-le base words (omega arith)))
+    ∙ take_at vs (drop (base + count) words) count long
 
 -- the same of words that are told twice
-pub fill_told : (new words told : List Value) (base count : ℕ) (v : Value) → new ≡ filled told base count v → told ≡ words → new ≡ filled words base count v
-fill_told new words told base count v is same = is ∙ ap (λ ws. filled ws base count v) same
+pub overwrite_told : (new words told : List Value) (base count : ℕ) (vs : List Value) → new ≡ overwritten told base count vs → told ≡ words → new ≡ overwritten words base count vs
+overwrite_told new words told base count vs is same = is ∙ ap (λ ws. overwritten ws base count vs) same

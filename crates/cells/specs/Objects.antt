@@ -24,8 +24,12 @@ abbrev pub empty_cells : {K : Type 0} → HeapShape → CellsValue K
 empty_cells shape = record { shape = shape; objects = replicate (shape.small + shape.medium + shape.large) None }
 
 -- an object as it is made: no thread has its monitor, and none was started on it
+abbrev pub made_object : {K : Type 0} → K → List Value → StoredObject K
+made_object kind words = record { kind = kind; words = words; monitor = free_monitor; thread = None }
+
+-- so many words, all the same
 abbrev pub new_object : {K : Type 0} → K → ℕ → Value → StoredObject K
-new_object kind count zero = record { kind = kind; words = replicate count zero; monitor = free_monitor; thread = None }
+new_object kind count zero = made_object kind (replicate count zero)
 
 -- ---- what a cell holds
 

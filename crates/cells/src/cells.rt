@@ -2,9 +2,9 @@
 ghost use Rattle.std.specs.Prelude.{◌≡◌, ◌≤◌, ◌<◌, ◌↔◌, IsTrue, IfOk, Some, None, ◌+◌, ◌++◌, length, slice_get, take, drop, replicate};
 ghost use Rattle.model.specs.Limits.{ShapeFits};
 ghost use Rattle.model.specs.Room.{words_of_cell};
-ghost use Rattle.cells.specs.Objects.{empty_cells, new_object, kind_at, words_at, monitor_at, thread_at, with_object, with_word, with_monitor, with_thread};
+ghost use Rattle.cells.specs.Objects.{empty_cells, made_object, new_object, kind_at, words_at, monitor_at, thread_at, with_object, with_word, with_monitor, with_thread};
 
-use crate::headers::{Header, header_at, room_of, vacant};
+use crate::headers::{Header, header_at, occupied, room_of, vacant};
 use crate::monitors::Monitor;
 use model::journals::HeapShape;
 use model::values::Value;
@@ -154,13 +154,19 @@ impl<K: Copy> Cells<K> {
     {
         if let Some(header) = header_at(&self.headers, cell) {
             fill(&mut self.words, header.base, count, zero);
-            self.headers[cell as usize] = Header {
-                length: count as u16,
-                kind: Some(kind),
-                monitor: Monitor::free(),
-                thread: None,
-                ..header
-            };
+            self.headers[cell as usize] = occupied(header, kind, count as u16);
+        }
+    }
+
+    /// Puts a new object with these words into a cell with nobody: nobody's monitor, and no thread.
+    pub fn place_all(&mut self, cell: u32, kind: K, words: &[Value])
+        requires nobody { slice_get self.old.objects cell ≡ Some None }
+        requires room { length words.now ≤ words_of_cell self.old.shape cell }
+        ensures { self.new ≡ with_object self.old cell (Some (made_object kind words.now)) }
+    {
+        if let Some(header) = header_at(&self.headers, cell) {
+            write(&mut self.words, header.base, words);
+            self.headers[cell as usize] = occupied(header, kind, words.len() as u16);
         }
     }
 
@@ -205,6 +211,15 @@ impl<K: Copy> Cells<K> {
             self.headers[cell as usize].thread = thread;
         }
     }
+}
+
+/// Writes these words from one on.
+fn write(words: &mut [Value], base: u32, values: &[Value])
+    requires { base + length values.now ≤ length words.old }
+    ensures { words.new ≡ take base words.old ++ values.now ++ drop (base + length values.now) words.old }
+{
+    let from = base as usize;
+    words[from..from + values.len()].copy_from_slice(values);
 }
 
 /// Makes so many words from this one on the same.

@@ -33,6 +33,17 @@ pub fn vacant<K: Copy>(base: u32, room: u16) -> Header<K>
     }
 }
 
+/// The header of the same cell with a new object of so many words.
+pub fn occupied<K: Copy>(cell: Header<K>, kind: K, length: u16) -> Header<K>
+    ensures { result ≡ record { base = cell.base; room = cell.room; length = length; kind = Some kind; monitor = free_monitor; thread = None } }
+{
+    Header {
+        length,
+        kind: Some(kind),
+        ..vacant(cell.base, cell.room)
+    }
+}
+
 /// How many words a cell of this number has.
 pub fn room_of(shape: HeapShape, cell: u32) -> u16
     requires { ShapeFits shape.small shape.medium shape.large }

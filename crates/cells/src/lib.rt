@@ -2,7 +2,7 @@
 //!
 //! A contract sees `Cells<K>` as a `CellsValue K` of `Rattle.cells.specs.Objects`: the heap's shape, and of each cell the
 //! object that it holds, if any (its kind, the words that it uses, its monitor, and the thread that was started on it). No
-//! call but `new` takes memory, and all but `new` and `place` take constant time. With v for the value before the call:
+//! call but `new` takes memory, and all but `new`, `place` and `place_all` take constant time. With v for the value before the call:
 //!
 //! | call | what it ensures |
 //! |---|---|
@@ -13,6 +13,7 @@
 //! | `words(cell)`, `length(cell)` | `words_at v cell`, and its length |
 //! | `word(cell, i)` | `slice_get (words_at v cell) i` |
 //! | `place(cell, kind, n, zero)` | in a cell with nobody and room for n words: `with_object v cell (Some (new_object kind n zero))` |
+//! | `place_all(cell, kind, words)` | in a cell with nobody and room for the words: `with_object v cell (Some (made_object kind words))` |
 //! | `clear(cell)` | `with_object v cell None` |
 //! | `put(cell, i, value)` | `with_word v cell i value`; true exactly where there is such a word |
 //! | `set_monitor(cell, m)`, `set_thread(cell, t)` | `with_monitor v cell m`, `with_thread v cell t` |

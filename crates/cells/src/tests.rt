@@ -57,3 +57,14 @@ fn places_again(rt: HostRuntime) -> Result<(), Fail> {
     assert!(rt; cells.thread(2) == None);
     Ok(())
 }
+
+/// An object is placed with words of its own.
+#[test]
+fn places_words(rt: HostRuntime) -> Result<(), Fail> {
+    let mut cells = Cells::new(rt.alloc(), SHAPE)?;
+    cells.place_all(1, 'a', [Value::Int(5), Value::Long(6)].as_slice());
+    assert_eq!(rt; cells.length(1), 2);
+    assert!(rt; cells.word(1, 0) == Some(Value::Int(5)));
+    assert!(rt; cells.word(1, 1) == Some(Value::Long(6)));
+    Ok(())
+}

@@ -1,4 +1,4 @@
-use Rattle.std.proofs.Common.{◌≡◌, ℕ, zero, suc, ◌+◌, ◌<◌, ◌≤◌, Bool, true, false, List, [], ◌∷◌, ◌++◌, length, set, nat_eq, refl, ap, arith, eqb-true, eq-eqb}
+use Rattle.std.proofs.Common.{◌≡◌, ℕ, zero, suc, ◌+◌, ◌<◌, ◌≤◌, Bool, true, false, List, [], ◌∷◌, ◌++◌, length, set, slice_get, Some, nat_eq, refl, ap, arith, eqb-true, eq-eqb}
 use Rattle.model.specs.declared.colours.Cell.{Cell}
 use Rattle.model.specs.declared.colours.Cell.TheVariants.{Free, Taken}
 use Rattle.model.specs.declared.colours.Colour.TheVariants.{White, Grey, Black}
@@ -70,6 +70,11 @@ free_at_within (x ∷ cells) (suc c) l = let k = free_at_within cells c l in ome
 
 pub free_at_free : (cells : List Cell) (c : ℕ) → 1 ≤ free_at cells c → cell_at cells c ≡ Free
 free_at_free cells c l = let e = free_at_cell cells c (free_at_within cells c l) in free_by (cell_at cells c) (omega (arith, e, l))
+
+pub free_at_found : (cells : List Cell) (c : ℕ) → 1 ≤ free_at cells c → slice_get cells c ≡ Some Free
+free_at_found [] c l = absurd (omega arith)
+free_at_found (x ∷ cells) zero l = ap Some (free_by x l)
+free_at_found (x ∷ cells) (suc c) l = free_at_found cells c l
 
 pub free_at_one : (cells : List Cell) (c : ℕ) → free_at cells c ≤ 1
 free_at_one [] c = omega arith

@@ -12,7 +12,7 @@ use Rattle.model.proofs.CollectorLemmas.Cells.{same_or_not, taken_within}
 use Rattle.colours.specs.declared.free_lists.FreeLists.{FreeLists}
 use Rattle.colours.specs.FreeLists.{listing, capacities, account_of}
 use Rattle.colours.specs.Sound.{free_in, grey_in, free_at, one_if, times, times_listed, how_many_listed, Sound, HasRoomForAll}
-use Rattle.colours.proofs.Counting.{one_if-same, one_if-other, times-push, free_in_one, grey_in_one, total-set, total-fewer, free_at_cell, free_at_within, free_at_free, free_at_one, free_at-set_same, free_at-set_other}
+use Rattle.colours.proofs.Counting.{one_if-same, one_if-other, times-push, free_in_one, grey_in_one, total-set, total-fewer, free_at_cell, free_at_within, free_at_free, free_at_found, free_at_one, free_at-set_same, free_at-set_other}
 
 -- each step on an account keeps it sound
 
@@ -97,11 +97,12 @@ pub record Leaves (a : Account) (c : ℕ) (b : Account) : Type 0 where
   pub times : (d : ℕ) → times_listed d a ≡ one_if d c + times_listed d b
   pub fewer : how_many_listed a ≡ how_many_listed b + 1
 
-front_taken : (fits : Bool) (without : List ℕ → Account) (free : List ℕ) (larger : Option (ℕ × Account)) (r : ℕ × Account) → or_larger fits without (first_cell free) larger ≡ Some r → ((cs : List ℕ) × (free ≡ r.0 ∷ cs) × (r.1 ≡ without cs)) ⊎ (larger ≡ Some r)
+-- the front cell of a list that fits, or what the greater sizes have
+pub front_taken : (fits : Bool) (without : List ℕ → Account) (free : List ℕ) (larger : Option (ℕ × Account)) (r : ℕ × Account) → or_larger fits without (first_cell free) larger ≡ Some r → ((cs : List ℕ) × (free ≡ r.0 ∷ cs) × (r.1 ≡ without cs) × (fits ≡ true)) ⊎ (larger ≡ Some r)
 front_taken true without (c ∷ cs) larger r e =
     let k : (c, without cs) ≡ r = cc in
     let f : r.0 ≡ c = sym (ap (λ (p : ℕ × Account). p.0) k) in
-    inl (cs, rw f refl, sym (ap (λ (p : ℕ × Account). p.1) k))
+    inl (cs, rw f refl, sym (ap (λ (p : ℕ × Account). p.1) k), refl)
 front_taken true without [] larger r e = inr e
 front_taken false without free larger r e = inr e
 
@@ -141,6 +142,9 @@ is_free a c b h k = let t = k.times c in let one = one_if-same c in let m = h.li
 
 pub is_within : (a : Account) (c : ℕ) (b : Account) → Sound a → Leaves a c b → c < length a.cells
 is_within a c b h k = free_at_within a.cells c (is_free a c b h k)
+
+pub is_free_there : (a : Account) (c : ℕ) (b : Account) → Sound a → Leaves a c b → slice_get a.cells c ≡ Some Free
+is_free_there a c b h k = free_at_found a.cells c (is_free a c b h k)
 
 pub is_not_grey : (a : Account) (c : ℕ) (b : Account) → Sound a → Leaves a c b → grey_in (cell_at a.cells c) ≡ 0
 is_not_grey a c b h k = let free = free_at_free a.cells c (is_free a c b h k) in rw free refl

@@ -1,5 +1,6 @@
 //! The account of the heap.
-ghost use Rattle.std.specs.Prelude.{◌≡◌, ◌+◌, ◌<◌, ◌≤◌, length, nat_lt, slice_get, is_some, IfOk};
+ghost use Rattle.std.specs.Prelude.{◌≡◌, ◌+◌, ◌<◌, ◌≤◌, length, nat_lt, slice_get, is_some, Some, IfOk};
+ghost use Rattle.std.specs.Option.{IfSome};
 ghost use Rattle.model.specs.declared.colours.Cell.TheVariants.{Free, Taken};
 ghost use Rattle.model.specs.declared.colours.Colour.TheVariants.{White, Black};
 ghost use Rattle.model.specs.Accounts.{empty_account, opening_account, placed, take_cell, has_room};
@@ -154,13 +155,14 @@ impl Account {
         self.free.have_room(words)
     }
 
-    /// A birth of so many words comes into the front cell of the smallest size that has a free cell for it: that cell
-    /// is told. It is grey, and its reference goes to the end of the grey list. `None` exactly where no free cell has
-    /// room, and then nothing changes.
+    /// A birth of so many words comes into the front cell of the smallest size that has a free cell for it: that cell,
+    /// which was free, is told. It is grey, and its reference goes to the end of the grey list. `None` exactly where no
+    /// free cell has room, and then nothing changes.
     pub fn create(&mut self, words: u32, birth: u32) -> Option<u32>
         ensures cell { result ≡ taken_cell (take_cell self.old words) }
         ensures account { self.new ≡ born_in self.old birth (take_cell self.old words) }
         ensures room { is_some result ≡ has_room self.old words }
+        ensures free { IfSome result (λ cell. slice_get self.old.cells cell ≡ Some Free) }
     {
         let cell = self.free.take(words)?;
         self.cells[cell as usize] = Cell::Taken {

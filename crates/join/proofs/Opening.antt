@@ -28,7 +28,7 @@ two_named n zero b x e = (let k : 1 ≡ b = cc in sym k)
 two_named n (suc zero) b x e = (let k : 2 ≡ b = cc in sym k)
 two_named n (suc (suc c)) b x e = absurd (no_birth n c b x e)
 
-two_cells : (s m l : ℕ) → 2 ≤ s + m + l → (n : ℕ) × ((opening_account (record { small = s; medium = m; large = l })).cells ≡ Taken 1 White ∷ Taken 2 White ∷ replicate n Free)
+pub two_cells : (s m l : ℕ) → 2 ≤ s + m + l → (n : ℕ) × ((opening_account (record { small = s; medium = m; large = l })).cells ≡ Taken 1 White ∷ Taken 2 White ∷ replicate n Free)
 two_cells (suc (suc s)) m l two = (s + m + l, let k : suc (suc s) + m + l ≡ suc (suc (s + m + l)) = omega arith in rw k refl)
 two_cells (suc zero) (suc m) l two = (m + l, let k : suc zero + suc m + l ≡ suc (suc (m + l)) = omega arith in rw k refl)
 two_cells (suc zero) zero (suc l) two = (l, let k : suc zero + zero + suc l ≡ suc (suc l) = omega arith in rw k refl)

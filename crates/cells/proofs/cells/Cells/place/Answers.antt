@@ -1,9 +1,9 @@
 use Rattle.std.proofs.Common.{◌≡◌, ◌≤◌, length, Some, None, refl, ◌∙◌, ap, arith}
-use Rattle.std.proofs.lemmas.List.{with_items_is}
+use Rattle.std.proofs.lemmas.List.{with_items_is, length-replicate}
+use Rattle.std.specs.Prelude.{replicate}
 use Rattle.std.proofs.lemmas.Option.{slice_get_within}
-use Rattle.cells.specs.declared.headers.Header.{Header}
-use Rattle.cells.proofs.LayoutLemmas.{laid_out-set_for, looked_up, stands_at}
-use Rattle.cells.proofs.WordLemmas.{fill_told}
+use Rattle.cells.proofs.LayoutLemmas.{laid_out-occupied, looked_up, stands_at}
+use Rattle.cells.proofs.WordLemmas.{overwrite_told}
 use Rattle.cells.proofs.CellLemmas.{placed, nowhere, enough}
 use Rattle.cells.proofs.cells.Cells.place.Goals as goal
 
@@ -28,7 +28,7 @@ invariant_of-self g c =
     let fits : c.args.count ≤ c.in-Some.header.room = enough _ _ _ _ _ _ _ c.self.view_is at.0.room_is c.requires.room in
     let kept = with_items_is c.self.inside.words c.fill.new.words (omega arith) in
     let long : length c.fill.new.words ≡ length c.self.inside.words.items = omega arith in
-    laid_out-set_for _ _ _ _ _ _ _ c.self.invariant (ap length kept ∙ long) found refl refl fits (λ some. cc some)
+    laid_out-occupied _ _ _ _ _ _ _ _ _ c.self.invariant (ap length kept ∙ long) found fits c.occupied.ensures
 
 pub returns-in-Some : goal.returns-in-Some
 returns-in-Some g c =
@@ -36,9 +36,8 @@ returns-in-Some g c =
     let at = stands_at _ _ _ _ _ _ c.args.cell _ c.self.invariant found (omega arith) in
     let fits : c.args.count ≤ c.in-Some.header.room = enough _ _ _ _ _ _ _ c.self.view_is at.0.room_is c.requires.room in
     let kept = with_items_is c.self.inside.words c.fill.new.words (omega arith) in
-    let filled = fill_told _ _ _ c.in-Some.header.base c.args.count c.args.zero c.fill.ensures c.deref_mut.ensures.value in
-    let header = ap (λ m. let h : Header _ = record { base = c.in-Some.header.base; room = c.in-Some.header.room; length = c.args.count; kind = Some c.args.kind; monitor = m; thread = None } in h) c.free.ensures in
-    rw (← c.self.view_is) (placed _ _ _ _ _ _ _ c.in-Some.header _ c.args.kind c.args.zero c.self.invariant found fits (kept ∙ filled) header)
+    let filled = overwrite_told _ _ _ c.in-Some.header.base c.args.count (replicate c.args.count c.args.zero) c.fill.ensures c.deref_mut.ensures.value in
+    rw (← c.self.view_is) (placed _ _ _ _ _ _ _ _ c.in-Some.header _ c.args.kind c.self.invariant found (length-replicate _ _) fits (kept ∙ filled) c.occupied.ensures)
 
 pub returns-in_default : goal.returns-in_default
 returns-in_default g c =

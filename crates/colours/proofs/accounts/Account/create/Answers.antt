@@ -1,6 +1,6 @@
 use Rattle.std.proofs.Common.{◌+◌, arith, refl, length-set}
 use Rattle.model.specs.declared.colours.Colour.TheVariants.{Grey}
-use Rattle.colours.proofs.Keeping.{takes, takes_leave, is_within, is_not_grey, room_for_grey, pushed, came, room_kept}
+use Rattle.colours.proofs.Keeping.{takes, takes_leave, is_within, is_free_there, is_not_grey, room_for_grey, pushed, came, room_kept}
 use Rattle.colours.proofs.accounts.Account.create.Goals as goal
 
 pub index_mut-requires : goal.index_mut-requires
@@ -47,3 +47,9 @@ pub returns-clause-room : goal.returns-clause-room
 returns-clause-room c =
     let in_self = c.self.inside in
     rw (← c.self.view_is, takes in_self.cells.items in_self.free c.take.new.self in_self.grey in_self.phase c.args.words c.in_ok-cell.cell _ c.take.ensures.taken c.in_ok-cell.was) refl
+
+pub returns-clause-free : goal.returns-clause-free
+returns-clause-free c =
+    let in_self = c.self.inside in
+    let out = takes_leave in_self.cells.items in_self.free c.take.new.self in_self.grey in_self.phase c.args.words c.in_ok-cell.cell _ c.take.ensures.taken c.in_ok-cell.was in
+    rw (← c.self.view_is) (is_free_there _ _ _ c.self.invariant.0 out)
