@@ -2,6 +2,8 @@ pub mod ActingLemmas
 pub mod Keeping
 pub mod OpeningState
 pub mod Refusing
+pub mod Running
 pub mod Stepping
+pub mod Throwing
 pub mod Turning
 pub mod Waiting

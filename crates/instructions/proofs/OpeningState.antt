@@ -1,5 +1,5 @@
 -- The parts of a new state show the opening world.
-use Rattle.std.proofs.Common.{◌≡◌, ℕ, List, [], ◌∷◌, ◌++◌, length, replicate, ◌+◌, ◌≤◌, Some, None, true, false, refl, sym, ap, ◌∙◌, arith, le-leb}
+use Rattle.std.proofs.Common.{◌≡◌, ℕ, List, [], ◌∷◌, ◌++◌, length, map, replicate, ◌+◌, ◌≤◌, Some, None, true, false, refl, sym, ap, ◌∙◌, arith, le-leb}
 use Rattle.std.proofs.lemmas.List.{length-replicate}
 use Rattle.model.specs.declared.journals.Limits.{Limits}
 use Rattle.model.specs.declared.places.MethodPlace.{MethodPlace}
@@ -13,9 +13,23 @@ use Rattle.model.specs.Initialisation.{main_frames, opening_frames}
 use Rattle.model.specs.Worlds.{opening_fits}
 use Rattle.model.specs.declared.values.Entry.TheVariants.{Unset}
 use Rattle.model.specs.Served.{ServedProgram}
-use Rattle.model.proofs.Served.{opening_slots-none, claimed-done, main-alone}
+use Rattle.model.proofs.Served.{claimed-done, main-alone}
 use Rattle.loader.specs.Steps.{IsMain}
-use Rattle.instructions.specs.Loaded.{fresh, world_shown}
+use Rattle.model.specs.declared.journals.HeapShape.{HeapShape}
+use Rattle.model.specs.declared.values.Value.{Value}
+use Rattle.model.specs.Limits.{ShapeFits}
+use Rattle.model.specs.Naming.{named_field, named_thread}
+use Rattle.model.specs.Worlds.{FieldValue, Thread, opening_slots}
+use Rattle.model.specs.Worlds.Thread.{Live}
+use Rattle.loader.specs.declared.static_slots.Slot.{Slot}
+use Rattle.loader.specs.StaticSlots.{slot_of, static_slots}
+use Rattle.join.proofs.Lists.{map-same}
+use Rattle.join.proofs.ReadingBack.{field_same, thread_same}
+use Rattle.instructions.specs.declared.kinds.Course.TheVariants.{Live as LiveCourse}
+use Rattle.instructions.specs.Heaps.{HeapValue, opening_heap}
+use Rattle.instructions.specs.Loaded.{fresh, machine_shown}
+use Rattle.instructions.specs.Shown.{keyed}
+use Rattle.instructions.proofs.ShownLemmas.{opening_objects}
 
 started : (program : List ClassListing) (place : MethodPlace) (code : CodeListing) → main_in program ≡ Some place → code_at program place ≡ Some code → main_frames program (main_in program) ≡ opening_frame place code.max_locals code.max_stack ∷ []
 started program place code m e = rw (m, e) refl
@@ -35,7 +49,18 @@ opening_within program place locals stack served main found fits =
     ap within_limits (opening_is program place locals stack served main found)
     ∙ le-leb (length (replicate locals Unset) + stack + 0) 4096 (omega (arith, length_is))
 
-pub opening_shown : (program : List ClassListing) (limits : Limits) (place : MethodPlace) (locals stack : ℕ) (frames : List Frame) (states : List ClassState) (output : List ℕ) → ServedProgram program → IsMain program locals stack → main_in program ≡ Some place → frames ≡ [] ++ opening_frame place locals stack ∷ [] → states ≡ replicate (length program) Done → output ≡ [] → record { program = program; limits = limits; world = world_shown false frames states output None 0 } ≡ fresh program limits
-opening_shown program limits place locals stack frames states output served main found entered done empty =
+-- the slots of a program open with its static fields' values
+keyed-opening : (program : List ClassListing) (keys : List FieldValue) → keyed keys (map (λ (s : Slot). s.opening) (map (slot_of program) keys)) ≡ keys
+keyed-opening program [] = refl
+keyed-opening program (k ∷ keys) = ap (λ (rest : List FieldValue). k ∷ rest) (keyed-opening program keys)
+
+opening_threads : (program : List ClassListing) (frames : List Frame) → frames ≡ opening_frames program → Live frames ∷ [] ≡ map (named_thread (λ b. b)) (Live (opening_frames program) ∷ [])
+opening_threads program frames e = ap (λ (t : Thread). t ∷ []) (sym (thread_same (Live (opening_frames program)) ∙ ap Live (sym e)))
+
+pub opening_shown : (program : List ClassListing) (limits : Limits) (shape : HeapShape) (place : MethodPlace) (locals stack : ℕ) (frames : List Frame) (slots : List Value) (states : List ClassState) (heap : HeapValue) (output : List ℕ) → ShapeFits shape.small shape.medium shape.large → ServedProgram program → IsMain program locals stack → main_in program ≡ Some place → frames ≡ [] ++ opening_frame place locals stack ∷ [] → slots ≡ map (λ (s : Slot). s.opening) (static_slots program) → states ≡ replicate (length program) Done → heap ≡ opening_heap program shape → output ≡ [] → record { program = program; limits = limits; shape = heap.shape; machine = machine_shown program LiveCourse frames slots states heap output None 0 } ≡ fresh program limits shape
+opening_shown program limits shape place locals stack frames slots states heap output fits served main found entered opens done heaps empty =
     let open_is = opening_is program place locals stack served main found in
-    rw (entered, done, empty, sym (claimed-done program served.code), sym open_is, opening_slots-none program served.code) refl
+    let threads = opening_threads program frames (entered ∙ sym open_is) in
+    let fields : keyed (opening_slots program) slots ≡ map (named_field (λ b. b)) (opening_slots program) =
+    ap (keyed (opening_slots program)) opens ∙ keyed-opening program (opening_slots program) ∙ sym (map-same (named_field (λ b. b)) field_same (opening_slots program)) in
+    rw (heaps, done, empty, fields, threads, sym (claimed-done program served.code), opening_objects program shape fits) refl

@@ -3,7 +3,7 @@ use Rattle.std.proofs.Common.{◌≡◌, ◌<◌, ◌≤◌, ◌+◌, ℕ, List,
 use Rattle.std.specs.Prelude.{if◌then◌else◌, ◌&&◌, not}
 use Rattle.model.specs.declared.journals.Limits.{Limits}
 use Rattle.model.specs.declared.turns.Actor.{Actor}
-use Rattle.model.specs.declared.turns.Actor.TheVariants.{Thread, Collector}
+use Rattle.model.specs.declared.turns.Actor.TheVariants.{Thread}
 use Rattle.model.specs.declared.turns.Fault.{Fault}
 use Rattle.model.specs.declared.turns.Turn.{Turn}
 use Rattle.model.specs.declared.turns.Turn.TheVariants.{NotReady, OutputFull, StepLimit}
@@ -42,30 +42,30 @@ fits : (limit : ℕ) (output : List ℕ) (o : Option (List ℕ)) → passes limi
 fits limit output None e = tt
 fits limit output (Some line) e = ltb-false limit (length output + length line) e
 
-pub allowed : (s : Loaded) (t : ℕ) → refusal s.program s.limits s.world (Thread t) ≡ None → IsAllowed s t
+pub allowed : (s : Loaded) (t : ℕ) → refusal s.program s.limits s.machine.world (Thread t) ≡ None → IsAllowed s t
 unfolding refusal
 allowed s t e =
-    let none : s.world.fault ≡ None = faultless s.program s.limits s.world (Thread t) s.world.fault e in
-    let rest : refusal_after s.program s.limits s.world (Thread t) None ≡ None = ap (refusal_after s.program s.limits s.world (Thread t)) (sym none) ∙ e in
-    let steps = counted (nat_le s.limits.steps s.world.rows) (thread_refusal s.program s.limits s.world t) rest in
-    let ready = unrefused (is_ready s.program s.world t) (overflows s.program s.limits s.world t) steps.1 in
+    let none : s.machine.world.fault ≡ None = faultless s.program s.limits s.machine.world (Thread t) s.machine.world.fault e in
+    let rest : refusal_after s.program s.limits s.machine.world (Thread t) None ≡ None = ap (refusal_after s.program s.limits s.machine.world (Thread t)) (sym none) ∙ e in
+    let steps = counted (nat_le s.limits.steps s.machine.world.rows) (thread_refusal s.program s.limits s.machine.world t) rest in
+    let ready = unrefused (is_ready s.program s.machine.world t) (overflows s.program s.limits s.machine.world t) steps.1 in
     record {
       faultless = none;
-      counted = leb-false s.limits.steps s.world.rows steps.0;
+      counted = leb-false s.limits.steps s.machine.world.rows steps.0;
       live =
-          second_holds (is_none s.world.fault) (is_live s.world t)
-          (first_holds (is_none s.world.fault && is_live s.world t) (not (waits (completion s.program s.world t))) ready.0);
-      fits = fits s.limits.output s.world.output (print_of s.program s.world t) ready.1;
+          second_holds (is_none s.machine.world.fault) (is_live s.machine.world t)
+          (first_holds (is_none s.machine.world.fault && is_live s.machine.world t) (not (waits (completion s.program s.machine.world t))) ready.0);
+      fits = fits s.limits.output s.machine.world.output (print_of s.program s.machine.world t) ready.1;
     }
 
--- the collector's turn is refused by a fault and at the limit of steps alone
-pub collector_faultless : (program : List ClassListing) (limits : Limits) (w : World) → refusal program limits w Collector ≡ None → w.fault ≡ None
+-- no actor's turn is allowed after a fault, or at the limit of steps
+pub unrefused_faultless : (program : List ClassListing) (limits : Limits) (w : World) (actor : Actor) → refusal program limits w actor ≡ None → w.fault ≡ None
 unfolding refusal
-collector_faultless program limits w e = faultless program limits w Collector w.fault e
+unrefused_faultless program limits w actor e = faultless program limits w actor w.fault e
 
-pub collector_counted : (program : List ClassListing) (limits : Limits) (w : World) → refusal program limits w Collector ≡ None → w.rows < limits.steps
+pub unrefused_counted : (program : List ClassListing) (limits : Limits) (w : World) (actor : Actor) → refusal program limits w actor ≡ None → w.rows < limits.steps
 unfolding refusal
-collector_counted program limits w e =
-    let none : w.fault ≡ None = faultless program limits w Collector w.fault e in
-    let rest : refusal_after program limits w Collector None ≡ None = ap (refusal_after program limits w Collector) (sym none) ∙ e in
-    leb-false limits.steps w.rows (counted (nat_le limits.steps w.rows) (actor_refusal program limits w Collector) rest).0
+unrefused_counted program limits w actor e =
+    let none : w.fault ≡ None = faultless program limits w actor w.fault e in
+    let rest : refusal_after program limits w actor None ≡ None = ap (refusal_after program limits w actor) (sym none) ∙ e in
+    leb-false limits.steps w.rows (counted (nat_le limits.steps w.rows) (actor_refusal program limits w actor) rest).0

@@ -1,37 +1,28 @@
 -- What a step of the one thread comes to is what the instruction table says.
-use Rattle.std.proofs.Common.{◌≡◌, ℕ, ℤ, List, [], ◌∷◌, Option, Some, None, Result, Ok, Err, Bool, true, false, codes, ◌≢◌, refl, ap, sym, ◌∙◌}
+use Rattle.std.proofs.Common.{◌≡◌, ℕ, ℤ, List, [], ◌∷◌, Option, Some, None, Result, Ok, Err, true, false, codes, refl, ap, sym, ◌∙◌}
 use Rattle.std.specs.Option.{option_map, option_and_then}
 use Rattle.model.specs.declared.names.Member.{Member}
-use Rattle.model.specs.declared.builtins.Builtin.{Builtin}
 use Rattle.model.specs.declared.builtins.Builtin.TheVariants.{PrintInt}
 use Rattle.model.specs.declared.listings.Placed.{Placed}
-use Rattle.model.specs.declared.instructions.Constant.{Constant as Constants}
 use Rattle.model.specs.declared.instructions.Constant.TheVariants as constants
-use Rattle.model.specs.declared.instructions.NumberKind.TheVariants.{Int as Ints}
-use Rattle.model.specs.declared.instructions.Operator.TheVariants.{Add}
-use Rattle.model.specs.declared.instructions.NumberOperation.TheVariants.{Binary}
-use Rattle.model.specs.declared.instructions.Instruction.TheVariants.{Nop, Constant, Number, Return, Invoke}
+use Rattle.model.specs.declared.instructions.Instruction.TheVariants.{Return, Invoke}
 use Rattle.model.specs.declared.instructions.Invocation.TheVariants.{Static}
 use Rattle.model.specs.declared.turns.Abrupt.{Abrupt}
 use Rattle.model.specs.declared.turns.Abrupt.TheVariants.{Fault as Faulted, Throw as Thrown}
 use Rattle.model.specs.declared.turns.Exception.{Exception}
 use Rattle.model.specs.declared.turns.Exception.TheVariants as exception
 use Rattle.model.specs.declared.turns.Fault.{Fault}
-use Rattle.model.specs.declared.turns.Fault.TheVariants.{NoInstruction}
 use Rattle.model.specs.ClassListings.{ClassListing}
 use Rattle.model.specs.CodeListings.{CodeListing}
 use Rattle.model.specs.Completions.{Completion, Site, completes, prints, raises, waits}
-use Rattle.model.specs.Completions.Completion.{Faults}
-use Rattle.model.specs.Frames.{Frame, IsPlain, Moved, int_on, replaced}
+use Rattle.model.specs.Frames.{Frame, IsPlain, Moved, int_on}
 use Rattle.model.specs.Printing.{decimal_line, line_of}
 use Rattle.model.specs.Classes.Named.{listed}
 use Rattle.model.specs.Classes.Resolution.{resolved_method}
 use Rattle.model.specs.Classes.Special.{superclass_at}
 use Rattle.model.specs.Programs.{builtin_of, code_at, instruction_of, main_in, placed_at}
-use Rattle.model.specs.Served.{is_served, serves_constant, ServedProgram}
+use Rattle.model.specs.Served.{is_plain, is_served, ServedProgram}
 use Rattle.model.specs.Table.Builtins.{prints_on}
-use Rattle.model.specs.Table.Constants.{constant}
-use Rattle.model.specs.Table.Numbers.{number}
 use Rattle.model.specs.Table.Next.{Listed, completion, by_family, at_instruction}
 use Rattle.model.specs.Turns.{print_of}
 use Rattle.model.specs.Worlds.{World, frames_at}
@@ -42,11 +33,10 @@ use Rattle.loader.specs.declared.operations.Operation.{Operation}
 use Rattle.loader.specs.declared.operations.Operation.TheVariants as operation
 use Rattle.loader.specs.Operations.{operation_of, or_resolved}
 use Rattle.loader.specs.ResolvedOperations.{static_call}
-use Rattle.loader.specs.PlainOperations.{plain_operation, constant_operation}
 use Rattle.loader.specs.Steps.{step_of, step_in}
 use Rattle.loader.specs.StepLists.{step_or_none}
 use Rattle.plain_steps.specs.PlainMoves.{plain_move}
-use Rattle.plain_steps.proofs.TableLemmas.{by_family-plain, family_moves}
+use Rattle.plain_steps.proofs.TableLemmas.{by_family-plain, direct_move}
 use Rattle.instructions.specs.Acting.{moved_or, operated, operated_else, printed_by, site_of, standing, stepped}
 
 -- the step of an instruction in code of a class that has this superclass, if there is one
@@ -59,16 +49,6 @@ print_operation : (program : List ClassListing) (superclass : List ℕ) (m : Mem
 print_operation program superclass m named unhidden =
     ap (λ (m : Member). static_call program (resolved_method program m)) (is_print m named)
     ∙ ap (static_call program) (print_resolved program unhidden)
-
--- a served constant stands in its step
-stands_here : (c : Constants ℤ ℤ) → serves_constant c ≡ true → constant_operation c ≢ operation.Aside
-stands_here constants.Null e = absurd (cc e)
-stands_here (constants.SmallInt k) e = λ aside. cc aside
-stands_here (constants.SmallLong k) e = absurd (cc e)
-stands_here (constants.Byte z) e = λ aside. cc aside
-stands_here (constants.Short z) e = λ aside. cc aside
-stands_here (constants.Int width z) e = λ aside. cc aside
-stands_here (constants.Long z) e = absurd (cc e)
 
 -- ---- what is no plain move
 
@@ -172,27 +152,15 @@ module _ (program : List ClassListing) (w : World) (f : Frame) where
   abbrev Agrees : ℕ → Listed → Type 0
   Agrees n i = by_family (site n) i ≡ operated (site n) (operation_of program above i)
 
-  plain_agrees : (n : ℕ) (i : Listed) (op : Operation) (m : Result Moved Abrupt) → plain_operation i ≡ Some op → plain_move n op f ≡ Some m → Agrees n i
-  plain_agrees n i op m plain is =
-      by_family-plain (site n) i op m plain is ∙ sym (ap (λ o. moved_or (site n) o (operated_else (site n) op)) is)
-      ∙ sym (ap (λ o. operated (site n) (or_resolved program above i o)) plain)
+  plain_agrees : (n : ℕ) (i : Listed) → is_plain i ≡ true → Agrees n i
+  plain_agrees n i e =
+      let d = direct_move n f i e in
+      by_family-plain (site n) i d.0 d.1 d.2 d.3 ∙ sym (ap (λ o. moved_or (site n) o (operated_else (site n) d.0)) d.3)
+      ∙ sym (ap (λ o. operated (site n) (or_resolved program above i o)) d.2)
 
   -- where the operation has no plain move
   else_is : (n : ℕ) (op : Operation) → plain_move n op f ≡ None → operated_else (site n) op ≡ operated (site n) op
   else_is n op is = sym (ap (λ o. moved_or (site n) o (operated_else (site n) op)) is)
-
-  constant_agrees : (n : ℕ) (c : Constants ℤ ℤ) → serves_constant c ≡ true → Agrees n (Constant c)
-  constant_agrees n c served =
-      plain_agrees n (Constant c) (constant_operation c) (constant n c f) refl
-      (family_moves n f (Constant c) (constant_operation c) refl (stands_here c served))
-
-  sum_agrees : (n : ℕ) → Agrees n (Number (Binary Ints Add))
-  sum_agrees n =
-      plain_agrees n (Number (Binary Ints Add)) operation.Iadd (number n (Binary Ints Add) f) refl
-      (family_moves n f (Number (Binary Ints Add)) operation.Iadd refl (λ e. cc e))
-
-  nop_agrees : (n : ℕ) → Agrees n Nop
-  nop_agrees n = plain_agrees n Nop operation.Nop (Ok (replaced n f 0 [])) refl (family_moves n f Nop operation.Nop refl (λ e. cc e))
 
   returned_agrees : (n : ℕ) → IsInMain (site n) → Agrees n (Return None)
   returned_agrees n main = returned_is (site n) main ∙ else_is n operation.Return (return_stays n f)
@@ -204,9 +172,7 @@ module _ (program : List ClassListing) (w : World) (f : Frame) where
 
   family_agrees : (n : ℕ) → IsInMain (site n) → (i : Listed) → is_served i ≡ true → Agrees n i
   family_agrees n main i served =
-      served_cases (λ (i : Listed). is_served i ≡ true → Agrees n i) (λ e. nop_agrees n)
-      (λ c e. constant_agrees n c e) (λ e. sum_agrees n)
-      (λ e. returned_agrees n main) (λ m named e. printed_agrees n main m named) i served served
+      served_cases (Agrees n) (plain_agrees n) (returned_agrees n main) (printed_agrees n main) i served
 
   module _ (served : ServedProgram program) (main_is : main_in program ≡ Some f.method) (plain : IsPlain f) (alone : frames_at w 0 ≡ f ∷ []) where
     in_main : (n : ℕ) → IsInMain (site n)

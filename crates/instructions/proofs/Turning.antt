@@ -1,133 +1,147 @@
--- A turn on the parts of the state.
-use Rattle.std.proofs.Common.{◌≡◌, ◌≤◌, ◌+◌, ℕ, zero, suc, ℤ, List, [], ◌∷◌, length, Option, Some, None, IfSome, Result, Ok, Err, Bool, true, false, refl, ap, sym, ◌∙◌, arith, subst}
-use Rattle.std.specs.Prelude.{slice_get}
-use Rattle.model.specs.declared.journals.Limits.{Limits}
+-- A turn on the parts of the state is the turn of the machine on cells.
+use Rattle.std.proofs.Common.{◌≡◌, ◌<◌, ◌≤◌, ◌+◌, ℕ, zero, suc, List, [], ◌∷◌, length, Option, Some, None, IfSome, Result, Ok, Err, Bool, true, false, refl, ap, sym, ◌∙◌, arith, subst}
+use Rattle.std.specs.Prelude.{vec_capacity, slice_get}
+use Rattle.model.specs.declared.journals.Outcome.{Outcome}
+use Rattle.model.specs.declared.journals.Outcome.TheVariants.{Fault as FaultOutcome}
 use Rattle.model.specs.declared.turns.Actor.TheVariants.{Thread}
-use Rattle.model.specs.declared.turns.ClassState.{ClassState}
 use Rattle.model.specs.declared.turns.Fault.{Fault}
-use Rattle.model.specs.declared.turns.Abrupt.{Abrupt}
-use Rattle.model.specs.ClassListings.{ClassListing}
-use Rattle.model.specs.Frames.{Frame, IsPlain, Moved, int_on, replaced, running_frame}
-use Rattle.model.specs.Programs.{main_in}
-use Rattle.model.specs.Served.{ServedProgram}
-use Rattle.model.specs.Worlds.{World, lives, counted}
+use Rattle.model.specs.Completions.{Completion}
+use Rattle.model.specs.Frames.{Frame, running_frame}
+use Rattle.model.specs.Table.Next.{completion}
 use Rattle.model.specs.Turns.{refusal, print_of}
-use Rattle.loader.specs.declared.operations.Operation.{Operation}
-use Rattle.loader.specs.declared.operations.Operation.TheVariants as operation
-use Rattle.loader.specs.declared.programs.Step.{Step}
-use Rattle.instructions.specs.Acting.{Parts, moved_in, printed_in, moved_or, acted, acted_at, acted_else, printed_at, standing, told_parts}
-use Rattle.instructions.specs.Going.{IsGoing}
-use Rattle.instructions.specs.Loaded.{Loaded, RunsMainUnlessEnded, thread_shown, world_shown, world_after, after_step}
-use Rattle.plain_steps.specs.PlainMoves.{plain_move}
-use Rattle.instructions.proofs.Keeping.{KeepsPlace, KeepsPlaceIfSome, plain_keeps}
+use Rattle.model.specs.Worlds.{lives}
+use Rattle.join.specs.TurnsOnCells.{CellMachine, counted_on, faulted_on, outcome_on, turned_on}
+use Rattle.instructions.specs.declared.acting.Turned.{Turned}
+use Rattle.instructions.specs.declared.kinds.Course.{Course}
+use Rattle.instructions.specs.declared.kinds.Course.TheVariants.{Live, Returned, Threw}
+use Rattle.instructions.specs.declared.machines.Machine.{Machine}
+use Rattle.instructions.specs.declared.state.State.{State}
+use Rattle.instructions.specs.Acting.{HasRoomFor, Stays, Turns, operated, printed_by, shown, site_of, standing, stepped, told, turned}
+use Rattle.instructions.specs.Loaded.{IsSound, Loaded, RunsMain, RunsMainUnlessEnded, after_step, machine_shown}
+use Rattle.instructions.specs.Shown.{thread_shown}
 use Rattle.instructions.proofs.Refusing.{allowed}
-use Rattle.instructions.proofs.Stepping.{next_shown, print_shown_at, step_stands}
+use Rattle.instructions.proofs.Running.{RunThreads, operated_runs, runs_shown, turned_births}
+use Rattle.instructions.proofs.Stepping.{completion_stepped}
+use Rattle.instructions.proofs.Waiting.{now, told_in}
 
 -- ---- a thread that nothing refuses is the first, and lives
 
-first_lives : (ended : Bool) (frames : List Frame) (t : ℕ) → lives (slice_get (thread_shown ended frames ∷ []) t) ≡ true → (ended ≡ false) × (t ≡ 0)
-first_lives true frames zero e = cc
-first_lives true frames (suc t) e = cc
-first_lives false frames zero e = (refl, refl)
-first_lives false frames (suc t) e = cc
+first_lives : (a : State) (course : Course) (t : ℕ) → lives (slice_get (thread_shown a.program course a.machine.frames ∷ []) t) ≡ true → (course ≡ Live) × (t ≡ 0)
+first_lives a Live zero e = (refl, refl)
+first_lives a Live (suc t) e = cc
+first_lives a Returned zero e = cc
+first_lives a Returned (suc t) e = cc
+first_lives a (Threw kind) zero e = cc
+first_lives a (Threw kind) (suc t) e = cc
 
--- ---- what an operation leaves runs main or has ended
+abbrev pub Sound : State → Type 0
+Sound a = IsSound a.program a.limits a.course a.machine.frames a.machine.slots.items a.states.items a.machine.heap a.rows (vec_capacity a.machine.output)
 
-abbrev RunsOn : List ClassListing → Result Parts Fault → Type 0
-RunsOn program (Ok parts) = RunsMainUnlessEnded program parts.ended parts.frames
-RunsOn program (Err fault) = Unit {0}
+-- what contracts see of the state
+abbrev pub loaded : State → Loaded
+loaded a = record { program = a.program; limits = a.limits; shape = a.machine.heap.shape; machine = machine_shown a.program a.course a.machine.frames a.machine.slots.items a.states.items a.machine.heap a.machine.output.items a.fault a.rows }
 
-module _ (program : List ClassListing) (f : Frame) (main_is : main_in program ≡ Some f.method) (plain : IsPlain f) where
-  moved_runs : (output : List ℕ) (r : Result Moved Abrupt) → KeepsPlace f r → RunsOn program (moved_in (f ∷ []) output r)
-  moved_runs output (Ok moved) e = record { frame = moved.frame; alone = refl; main_is = main_is ∙ ap Some (sym e.0); plain = (e.1 ∙ plain.0, e.2 ∙ plain.1) }
-  moved_runs output (Err abrupt) e = tt
+-- the step at which the thread stands
+abbrev pub step_here : State → Frame
+step_here a = running_frame a.machine.frames
 
-  printed_runs : (output : List ℕ) (next : ℕ) (r : Result ℤ Fault) → RunsOn program (printed_in (f ∷ []) output next r)
-  printed_runs output next (Ok z) = record { frame = (replaced next f 1 []).frame; alone = refl; main_is = main_is; plain = plain }
-  printed_runs output next (Err fault) = tt
+-- a state whose thread has a turn
+pub record IsGoing (a : State) (t : ℕ) : Type 0 where
+  pub lives : a.course ≡ Live
+  pub first : t ≡ 0
+  pub main : RunsMain a.program a.machine.frames
+  pub faultless : a.fault ≡ None
+  pub counted : a.rows < a.limits.steps
+  pub fits : HasRoomFor a.machine (printed_by (step_here a) (standing a.program (step_here a)).operation)
 
-  else_runs : (output : List ℕ) (next : ℕ) (op : Operation) → RunsOn program (acted_else (f ∷ []) output next op)
-  else_runs output next operation.Return = tt
-  else_runs output next operation.PrintInt = printed_runs output next (int_on f.stack)
-  else_runs output next _ = tt
+runs_live : (a : State) (course : Course) → course ≡ Live → RunsMainUnlessEnded a.program course a.machine.frames → RunsMain a.program a.machine.frames
+runs_live a Live e runs = runs
+runs_live a Returned e runs = cc
+runs_live a (Threw kind) e runs = cc
 
-  acted_runs : (output : List ℕ) (next : ℕ) (op : Operation) → RunsOn program (acted (f ∷ []) output next op)
-  acted_runs output next op = by_move (plain_move next op f) (plain_keeps next op f) where
-    by_move : (o : Option (Result Moved Abrupt)) → KeepsPlaceIfSome f o → RunsOn program (moved_or (f ∷ []) output o (acted_else (f ∷ []) output next op))
-    by_move (Some m) kept = moved_runs output m kept
-    by_move None kept = else_runs output next op
+room_for : (limit capacity before : ℕ) (o : Option (List ℕ)) → limit ≤ capacity → IfSome o (λ line. before + length line ≤ limit) → IfSome o (λ line. before + length line ≤ capacity)
+room_for limit capacity before None room h = tt
+room_for limit capacity before (Some line) room h = omega arith
 
-  acted_at_runs : (output : List ℕ) (step : Step) → RunsOn program (acted_at (f ∷ []) output step)
-  acted_at_runs output step = acted_runs output step.next step.operation
+pub going : (a : State) (t : ℕ) → Sound a → refusal a.program a.limits (now a) (Thread t) ≡ None → IsGoing a t
+going a t sound e =
+    let may = allowed (loaded a) t e in
+    let first = first_lives a a.course t may.live in
+    let fits = subst (λ o. IfSome o (λ line. length a.machine.output.items + length line ≤ a.limits.output)) (told_in a sound a.course sound.main t may.live) may.fits in
+    record {
+      lives = first.0;
+      first = first.1;
+      main = runs_live a a.course first.0 sound.main;
+      faultless = may.faultless;
+      counted = may.counted;
+      fits = room_for a.limits.output (vec_capacity a.machine.output) (length a.machine.output.items) (printed_by (step_here a) (standing a.program (step_here a)).operation) sound.room fits;
+    }
 
-module _ (program : List ClassListing) (limits : Limits) (states : List ClassState) (output : List ℕ) (rows capacity : ℕ) where
-  abbrev state : Bool → List Frame → Option (Fault × ℕ) → Loaded
-  state ended frames fault = record { program = program; limits = limits; world = world_shown ended frames states output fault rows }
+module _ (a : State) (t : ℕ) (sound : Sound a) (g : IsGoing a t) where
+  -- the machine on cells before the turn
+  abbrev before : CellMachine
+  before = shown a.program a.states.items a.rows a.machine Live
 
-  -- what the table prints is what the step prints
-  printed_alike : (f : Frame) → ServedProgram program → main_in program ≡ Some f.method → IsPlain f → print_of program (world_shown false (f ∷ []) states output None rows) 0 ≡ printed_at (f ∷ []) (standing program f)
-  printed_alike f served main_is plain = print_shown_at program f states output None rows served main_is plain ∙ ap (printed_at (f ∷ [])) (sym (step_stands program f))
+  abbrev comes_to : Completion
+  comes_to = completion a.program before.world 0
 
-  pub going : (ended : Bool) (frames : List Frame) (fault : Option (Fault × ℕ)) (t : ℕ) → ServedProgram program → limits.output ≤ capacity → RunsMainUnlessEnded program ended frames → refusal program limits (world_shown ended frames states output fault rows) (Thread t) ≡ None → IsGoing program limits ended frames output fault rows capacity t
-  going true frames fault t served room main e =
-      let may = allowed (state true frames fault) t e in absurd (cc (first_lives true frames t may.live).0)
-  going false frames fault t served room main e =
-      let may = allowed (state false frames fault) t e in
-      let first = first_lives false frames t may.live in
-      let fits = subst (λ (k : ℕ). IfSome (print_of program (world_shown false frames states output fault rows) k) (λ line. length output + length line ≤ limits.output)) first.1 may.fits in
-      let fits_none = subst (λ (o : Option (Fault × ℕ)). IfSome (print_of program (world_shown false frames states output o rows) 0) (λ line. length output + length line ≤ limits.output)) may.faultless fits in
-      let fits_here = subst (λ (fs : List Frame). IfSome (print_of program (world_shown false fs states output None rows) 0) (λ line. length output + length line ≤ limits.output)) main.alone fits_none in
-      record {
-        served = served;
-        lives = refl;
-        first = first.1;
-        frame = main.frame;
-        alone = main.alone;
-        main_is = main.main_is;
-        plain = main.plain;
-        faultless = may.faultless;
-        counted = may.counted;
-        fits = within main.frame (subst (λ (o : Option (List ℕ)). IfSome o (λ line. length output + length line ≤ limits.output)) (printed_alike main.frame served main.main_is main.plain) fits_here) main.alone;
-      }
-    where
-      room_for : (o : Option (List ℕ)) → limits.output ≤ capacity → IfSome o (λ line. length output + length line ≤ limits.output) → IfSome o (λ line. length output + length line ≤ capacity)
-      room_for None room h = tt
-      room_for (Some line) room h = omega arith
+  steps : comes_to ≡ stepped a.program before.world (step_here a) (standing a.program (step_here a))
+  steps =
+      completion_stepped a.program before.world g.main.frame sound.served g.main.main_is g.main.plain g.main.alone
+      ∙ ap (λ frames. stepped a.program before.world (running_frame frames) (standing a.program (running_frame frames))) (sym g.main.alone)
 
-      within : (f : Frame) → IfSome (printed_at (f ∷ []) (standing program f)) (λ line. length output + length line ≤ limits.output) → frames ≡ f ∷ [] → IfSome (printed_at frames (standing program (running_frame frames))) (λ line. length output + length line ≤ capacity)
-      within f h alone = subst (λ (fs : List Frame). IfSome (printed_at fs (standing program (running_frame fs))) (λ line. length output + length line ≤ capacity)) (sym alone) (room_for (printed_at (f ∷ []) (standing program f)) room h)
+  abbrev seen : CellMachine → Loaded
+  seen machine = record { program = a.program; limits = a.limits; shape = a.machine.heap.shape; machine = machine }
 
-  -- a turn that was done: what it leaves runs main or has ended, and shows the world after the table's turn
-  pub done_runs : (frames : List Frame) (fault : Option (Fault × ℕ)) (t : ℕ) (ended after_ended : Bool) (after_frames : List Frame) (after_output : List ℕ) → IsGoing program limits ended frames output fault rows capacity t → told_parts (Ok after_ended) after_frames after_output ≡ acted_at frames output (standing program (running_frame frames)) → RunsMainUnlessEnded program after_ended after_frames
-  done_runs frames fault t ended after_ended after_frames after_output g e =
-      let here : told_parts (Ok after_ended) after_frames after_output ≡ acted_at (g.frame ∷ []) output (standing program g.frame) =
-      e ∙ ap (λ (fs : List Frame). acted_at fs output (standing program (running_frame fs))) g.alone in
-      subst (RunsOn program) (sym here) (acted_at_runs program g.frame g.main_is g.plain output (standing program g.frame))
+  after_is : after_step (loaded a) t ≡ seen (counted_on (turned_on a.program before 0 comes_to))
+  after_is = rw (g.lives, g.first, g.faultless) refl
 
-  turned : (f : Frame) → (state false (f ∷ []) None).world ≡ world_shown false (f ∷ []) states output None rows
-  turned f = refl
+  outcome_is : outcome_on a.program (loaded a).machine (Thread t) ≡ (turned a.program before comes_to).1
+  outcome_is = rw (g.lives, g.first, g.faultless) refl
 
-  after_of : (f : Frame) → ServedProgram program → main_in program ≡ Some f.method → IsPlain f → after_step (state false (f ∷ []) None) 0 ≡ record { program = program; limits = limits; world = counted (world_after (world_shown false (f ∷ []) states output None rows) (acted_at (f ∷ []) output (standing program f))) }
-  after_of f served main_is plain =
-      ap (λ (after : World). let s : Loaded = record { program = program; limits = limits; world = counted after } in s)
-      (next_shown program f states output None rows served main_is plain ∙ ap (λ (step : Step). world_after (world_shown false (f ∷ []) states output None rows) (acted_at (f ∷ []) output step)) (sym (step_stands program f)))
+  abbrev HasTurned : Machine → Result Turned Fault → Type 0
+  HasTurned m result = Turns a.program a.machine m result (λ w. stepped a.program w (step_here a) (standing a.program (step_here a)))
 
-  state_is : (ended : Bool) (frames : List Frame) (fault : Option (Fault × ℕ)) (t : ℕ) → (g : IsGoing program limits ended frames output fault rows capacity t) → after_step (state ended frames fault) t ≡ after_step (state false (g.frame ∷ []) None) 0
-  state_is ended frames fault t g = rw (g.lives, g.alone, g.faultless, g.first) refl
+  told_is : (m : Machine) (result : Result Turned Fault) → HasTurned m result → told before (shown a.program a.states.items a.rows m) result ≡ turned a.program before comes_to
+  told_is m result has = has a.states.items a.rows ∙ sym (ap (turned a.program before) steps)
 
-  pub done_shown : (frames : List Frame) (fault : Option (Fault × ℕ)) (t : ℕ) (ended after_ended : Bool) (after_frames : List Frame) (after_output : List ℕ) → IsGoing program limits ended frames output fault rows capacity t → told_parts (Ok after_ended) after_frames after_output ≡ acted_at frames output (standing program (running_frame frames)) → record { program = program; limits = limits; world = world_shown after_ended after_frames states after_output fault (rows + 1) } ≡ after_step (record { program = program; limits = limits; world = world_shown ended frames states output fault rows }) t
-  done_shown frames fault t ended after_ended after_frames after_output g e =
-      let here : told_parts (Ok after_ended) after_frames after_output ≡ acted_at (g.frame ∷ []) output (standing program g.frame) =
-      e ∙ ap (λ (fs : List Frame). acted_at fs output (standing program (running_frame fs))) g.alone in
-      ap (λ (o : Option (Fault × ℕ)). let s : Loaded = record { program = program; limits = limits; world = world_shown after_ended after_frames states after_output o (rows + 1) } in s) g.faultless
-      ∙ ap (λ (r : Result Parts Fault). let s : Loaded = record { program = program; limits = limits; world = counted (world_after (world_shown false (g.frame ∷ []) states output None rows) r) } in s) here
-      ∙ sym (after_of g.frame g.served g.main_is g.plain) ∙ sym (state_is ended frames fault t g)
+  runs : RunThreads a.program (turned_on a.program before 0 comes_to).world.threads
+  runs =
+      let step = standing a.program (step_here a) in
+      let here : step_here a ≡ g.main.frame = ap running_frame g.main.alone in
+      subst (λ c. RunThreads a.program (turned_on a.program before 0 c).world.threads) (sym steps)
+      (subst (λ f. RunThreads a.program (turned_on a.program before 0 (operated (site_of a.program before.world f step.next) step.operation)).world.threads) (sym here)
+      (operated_runs a.program g.main.frame sound.served g.main.main_is g.main.plain before (rw g.main.alone refl) refl step.next step.operation))
 
-  pub fault_shown : (frames : List Frame) (fault : Option (Fault × ℕ)) (t : ℕ) (ended : Bool) (kind : Fault) (after_frames : List Frame) (after_output : List ℕ) → IsGoing program limits ended frames output fault rows capacity t → told_parts (Err kind) after_frames after_output ≡ acted_at frames output (standing program (running_frame frames)) → record { program = program; limits = limits; world = world_shown ended frames states output (Some (kind, t)) (rows + 1) } ≡ after_step (record { program = program; limits = limits; world = world_shown ended frames states output fault rows }) t
-  fault_shown frames fault t ended kind after_frames after_output g e =
-      let here : told_parts (Err kind) after_frames after_output ≡ acted_at (g.frame ∷ []) output (standing program g.frame) =
-      e ∙ ap (λ (fs : List Frame). acted_at fs output (standing program (running_frame fs))) g.alone in
-      let parts : world_shown ended frames states output (Some (kind, t)) (rows + 1) ≡ world_shown false (g.frame ∷ []) states output (Some (kind, 0)) (rows + 1) = rw (g.lives, g.alone, g.first) refl in
-      ap (λ (w : World). let s : Loaded = record { program = program; limits = limits; world = w } in s) parts
-      ∙ ap (λ (r : Result Parts Fault). let s : Loaded = record { program = program; limits = limits; world = counted (world_after (world_shown false (g.frame ∷ []) states output None rows) r) } in s) here
-      ∙ sym (after_of g.frame g.served g.main_is g.plain) ∙ sym (state_is ended frames fault t g)
+  -- ---- a turn that is done
+
+  module _ (m : Machine) (done : Turned) (has : HasTurned m (Ok done)) (shape : m.heap.shape ≡ a.machine.heap.shape) where
+    pub done_shown : record { program = a.program; limits = a.limits; shape = m.heap.shape; machine = machine_shown a.program done.course m.frames m.slots.items a.states.items m.heap m.output.items a.fault (a.rows + 1) } ≡ after_step (loaded a) t
+    done_shown =
+        rw (shape, g.faultless) (ap (λ (x : CellMachine × Outcome). seen (counted_on x.0)) (told_is m (Ok done) has))
+        ∙ sym after_is
+
+    pub done_outcome : done.outcome ≡ outcome_on a.program (loaded a).machine (Thread t)
+    done_outcome = ap (λ (x : CellMachine × Outcome). x.1) (told_is m (Ok done) has) ∙ sym outcome_is
+
+    pub done_runs : RunsMainUnlessEnded a.program done.course m.frames
+    done_runs =
+        runs_shown a.program done.course m.frames
+        (subst (λ (x : CellMachine × Outcome). RunThreads a.program x.0.world.threads) (sym (told_is m (Ok done) has)) runs)
+
+    pub done_births : m.heap.births ≤ a.machine.heap.births + 1
+    done_births =
+        subst (λ (x : CellMachine × Outcome). x.0.births ≤ a.machine.heap.births + 1) (sym (told_is m (Ok done) has))
+        (turned_births a.program before 0 comes_to)
+
+  -- ---- a turn at fault
+
+  module _ (m : Machine) (fault : Fault) (has : HasTurned m (Err fault)) (stays : Stays a.machine m) where
+    pub fault_shown : record { program = a.program; limits = a.limits; shape = m.heap.shape; machine = machine_shown a.program a.course m.frames m.slots.items a.states.items m.heap m.output.items (Some (fault, t)) (a.rows + 1) } ≡ after_step (loaded a) t
+    fault_shown =
+        rw (stays.0, stays.1, stays.2, stays.3, g.lives, g.first)
+        (ap (λ (x : CellMachine × Outcome). seen (counted_on x.0)) (told_is m (Err fault) has))
+        ∙ sym after_is
+
+    pub fault_outcome : FaultOutcome ≡ outcome_on a.program (loaded a).machine (Thread t)
+    fault_outcome = ap (λ (x : CellMachine × Outcome). x.1) (told_is m (Err fault) has) ∙ sym outcome_is

@@ -1,26 +1,24 @@
--- No thread of a state waits or asks for a cell: it has ended, or runs main, all of whose code is carried out.
+-- No thread of a state waits: it has ended, or runs main, all of whose code is carried out.
 use Rattle.std.proofs.Common.{◌≡◌, ℕ, zero, suc, List, [], ◌∷◌, Option, Some, None, Bool, true, false, is_none, refl, ap, sym, ◌∙◌, ◌+◌, subst}
-use Rattle.std.specs.Prelude.{◌&&◌, ◌||◌, ◌++◌, drop, take, length, nat_lt, not}
+use Rattle.std.specs.Prelude.{◌&&◌, ◌||◌, ◌++◌, drop, take, length, nat_lt, not, vec_capacity}
 use Rattle.std.specs.List.{find, list_any}
 use Rattle.std.specs.Option.{option_map}
-use Rattle.model.specs.declared.journals.Limits.{Limits}
-use Rattle.model.specs.declared.turns.ClassState.{ClassState}
-use Rattle.model.specs.declared.turns.Fault.{Fault}
 use Rattle.model.specs.declared.turns.Status.TheVariants.{Running}
 use Rattle.model.specs.ClassListings.{ClassListing}
-use Rattle.model.specs.Frames.{Frame, IsPlain, running_frame}
+use Rattle.model.specs.Frames.{running_frame}
 use Rattle.model.specs.Completions.{waits}
 use Rattle.model.specs.Observers.{cyclic_from, status_by, status_in}
 use Rattle.model.specs.Ready.{is_ready, thread_numbers}
-use Rattle.model.specs.Programs.{main_in}
-use Rattle.model.specs.Served.{ServedProgram}
 use Rattle.model.specs.Turns.{overflows, passes, print_of}
-use Rattle.model.specs.Table.Next.{asked, completion}
+use Rattle.model.specs.Table.Next.{completion}
 use Rattle.model.specs.Worlds.{World, is_live}
-use Rattle.model.proofs.Served.{IsQuiet, main-quiet, none-quiet, quiet-asked, quiet-ready}
-use Rattle.instructions.specs.Acting.{printed_at, standing}
-use Rattle.instructions.specs.Loaded.{IsSound, world_shown}
-use Rattle.instructions.proofs.Stepping.{print_shown_at, step_stands}
+use Rattle.model.proofs.Served.{completion-none}
+use Rattle.instructions.specs.declared.kinds.Course.{Course}
+use Rattle.instructions.specs.declared.kinds.Course.TheVariants.{Live, Returned, Threw}
+use Rattle.instructions.specs.declared.state.State.{State}
+use Rattle.instructions.specs.Acting.{printed_by, standing}
+use Rattle.instructions.specs.Loaded.{IsSound, RunsMainUnlessEnded, world_shown}
+use Rattle.instructions.proofs.Stepping.{never_waits, print_stepped}
 
 -- a thread that is ready lives
 pub ready_lives : (program : List ClassListing) (w : World) (t : ℕ) → is_ready program w t ≡ true → is_live w t ≡ true
@@ -44,6 +42,11 @@ found : (p : ℕ → Bool) (start : ℕ) → p 0 ≡ true → Some 0 ≡ find p 
 found p zero e = rw e refl
 found p (suc n) e = found_front p (take n []) e ∙ ap (λ (xs : List ℕ). find p (xs ++ take (suc n) (0 ∷ []))) (sym (drop_nil n))
 
+ready-not : (a b : Bool) → (a && b && true) ≡ (a && b)
+ready-not true true = refl
+ready-not true false = refl
+ready-not false b = refl
+
 -- whether so many bytes more pass a limit
 abbrev pub passes_with : ℕ → List ℕ → Option ℕ → Bool
 passes_with limit output None = false
@@ -53,64 +56,70 @@ passes-length : (limit : ℕ) (output : List ℕ) (line : Option (List ℕ)) →
 passes-length limit output None = refl
 passes-length limit output (Some line) = refl
 
-module _ (program : List ClassListing) (limits : Limits) (states : List ClassState) (output : List ℕ) (fault : Option (Fault × ℕ)) (rows capacity : ℕ) where
-  abbrev shown : Bool → List Frame → World
-  shown ended frames = world_shown ended frames states output fault rows
+module _ (a : State) where
+  -- the world that the state shows, the thread being in some course
+  abbrev pub in_course : Course → World
+  in_course course = world_shown a.program course a.machine.frames a.machine.slots.items a.states.items a.machine.heap.objects a.machine.output.items a.fault a.rows
 
-  quiet : (ended : Bool) (frames : List Frame) → IsSound program limits ended frames capacity → (t : ℕ) → IsQuiet (completion program (shown ended frames) t)
-  quiet true frames sound zero = none-quiet program (shown true frames) 0 refl
-  quiet true frames sound (suc t) = none-quiet program (shown true frames) (suc t) refl
-  quiet false frames sound zero =
-      main-quiet program (shown false frames) 0 sound.main.frame
-      (record { served = sound.served; alone = sound.main.alone; main_is = sound.main.main_is; plain = sound.main.plain })
-  quiet false frames sound (suc t) = none-quiet program (shown false frames) (suc t) refl
+  abbrev pub now : World
+  now = in_course a.course
 
-  pub asks_none : (ended : Bool) (frames : List Frame) → IsSound program limits ended frames capacity → (t : ℕ) → asked program (shown ended frames) t ≡ None
-  asks_none ended frames sound t = quiet-asked program (shown ended frames) t (quiet ended frames sound t)
+  module _ (sound : IsSound a.program a.limits a.course a.machine.frames a.machine.slots.items a.states.items a.machine.heap a.rows (vec_capacity a.machine.output)) where
+    waits_in : (course : Course) → RunsMainUnlessEnded a.program course a.machine.frames → (t : ℕ) → waits (completion a.program (in_course course) t) ≡ false
+    waits_in Live main zero = never_waits a.program (in_course Live) main.frame sound.served main.main_is main.plain main.alone
+    waits_in Live main (suc t) = ap waits (completion-none a.program (in_course Live) (suc t) refl)
+    waits_in Returned main zero = ap waits (completion-none a.program (in_course Returned) 0 refl)
+    waits_in Returned main (suc t) = ap waits (completion-none a.program (in_course Returned) (suc t) refl)
+    waits_in (Threw kind) main zero = ap waits (completion-none a.program (in_course (Threw kind)) 0 refl)
+    waits_in (Threw kind) main (suc t) = ap waits (completion-none a.program (in_course (Threw kind)) (suc t) refl)
 
-  pub ready_shown : (ended : Bool) (frames : List Frame) → IsSound program limits ended frames capacity → (t : ℕ) → is_ready program (shown ended frames) t ≡ (is_none fault && is_live (shown ended frames) t)
-  ready_shown ended frames sound t = quiet-ready program (shown ended frames) t (quiet ended frames sound t)
+    pub ready_shown : (t : ℕ) → is_ready a.program now t ≡ (is_none a.fault && is_live now t)
+    ready_shown t =
+        ap (λ (b : Bool). is_none a.fault && is_live now t && not b) (waits_in a.course sound.main t)
+        ∙ ready-not (is_none a.fault) (is_live now t)
 
-  -- the one thread is ready where it lives and there was no fault
-  one_ready : (ended : Bool) (frames : List Frame) → IsSound program limits ended frames capacity → fault ≡ None → ended ≡ false → is_ready program (shown ended frames) 0 ≡ true
-  one_ready ended frames sound none lives = ready_shown ended frames sound 0 ∙ rw (none, lives) refl
+    pub lives_ready : a.fault ≡ None → (t : ℕ) → is_live now t ≡ is_ready a.program now t
+    lives_ready none t = sym (ready_shown t ∙ rw none refl)
 
-  -- and then it is the first, from wherever on
-  pub first_ready : (ended : Bool) (frames : List Frame) → IsSound program limits ended frames capacity → fault ≡ None → ended ≡ false → (start : ℕ) → Some 0 ≡ find (is_ready program (shown ended frames)) (cyclic_from start (thread_numbers (shown ended frames)))
-  first_ready ended frames sound none lives start = found (is_ready program (shown ended frames)) start (one_ready ended frames sound none lives)
+    lives_first : (course : Course) → course ≡ Live → is_live (in_course course) 0 ≡ true
+    lives_first course e = rw e refl
 
-  pub is_running : (ended : Bool) (frames : List Frame) → IsSound program limits ended frames capacity → fault ≡ None → ended ≡ false → Running ≡ status_in program (shown ended frames)
-  is_running ended frames sound none lives =
-      ap (λ (ready : Bool). status_by false true (ready || false)) (sym (one_ready ended frames sound none lives))
-      ∙ by_parts ended none lives
-    where
-      by_parts : (ended : Bool) → fault ≡ None → ended ≡ false → status_by false true (list_any (is_ready program (shown ended frames)) (0 ∷ [])) ≡ status_in program (shown ended frames)
-      by_parts true none lives = cc
-      by_parts false none lives = rw none refl
+    -- the one thread is ready where it lives and there was no fault
+    one_ready : a.fault ≡ None → a.course ≡ Live → is_ready a.program now 0 ≡ true
+    one_ready none lives = ready_shown 0 ∙ ap (λ b. is_none a.fault && b) (lives_first a.course lives) ∙ rw none refl
 
-  pub lives_ready : (ended : Bool) (frames : List Frame) → IsSound program limits ended frames capacity → fault ≡ None → (t : ℕ) → is_live (shown ended frames) t ≡ is_ready program (shown ended frames) t
-  lives_ready ended frames sound none t = sym (ready_shown ended frames sound t ∙ rw none refl)
+    -- and then it is the first, from wherever on
+    pub first_ready : a.fault ≡ None → a.course ≡ Live → (start : ℕ) → Some 0 ≡ find (is_ready a.program now) (cyclic_from start (thread_numbers now))
+    first_ready none lives start = found (is_ready a.program now) start (one_ready none lives)
 
-  -- a thread that lives has one frame
-  pub lives_alone : (ended : Bool) (frames : List Frame) → IsSound program limits ended frames capacity → (t : ℕ) → is_live (shown ended frames) t ≡ true → length frames ≡ 1
-  lives_alone true frames sound zero lives = cc
-  lives_alone true frames sound (suc t) lives = cc
-  lives_alone false frames sound t lives = rw sound.main.alone refl
+    pub is_running : a.fault ≡ None → a.course ≡ Live → Running ≡ status_in a.program now
+    is_running none lives =
+        sym (rw (none, lives_first a.course lives) (ap (λ (ready : Bool). status_by false true (ready || false)) (one_ready none lives)))
 
-  -- it prints what its step does
-  told_in : (f : Frame) → ServedProgram program → main_in program ≡ Some f.method → IsPlain f → print_of program (shown false (f ∷ [])) 0 ≡ printed_at (f ∷ []) (standing program f)
-  told_in f served main_is plain = print_shown_at program f states output fault rows served main_is plain ∙ ap (printed_at (f ∷ [])) (sym (step_stands program f))
+    -- a thread that lives has one frame
+    alone_in : (course : Course) → RunsMainUnlessEnded a.program course a.machine.frames → (t : ℕ) → is_live (in_course course) t ≡ true → length a.machine.frames ≡ 1
+    alone_in Live main t e = rw main.alone refl
+    alone_in Returned main zero e = cc
+    alone_in Returned main (suc t) e = cc
+    alone_in (Threw kind) main zero e = cc
+    alone_in (Threw kind) main (suc t) e = cc
 
-  told : (ended : Bool) (frames : List Frame) → IsSound program limits ended frames capacity → (t : ℕ) → is_live (shown ended frames) t ≡ true → print_of program (shown ended frames) t ≡ printed_at frames (standing program (running_frame frames))
-  told true frames sound zero lives = cc
-  told true frames sound (suc t) lives = cc
-  told false frames sound zero lives =
-      subst (λ (fs : List Frame). print_of program (shown false fs) 0 ≡ printed_at fs (standing program (running_frame fs))) (sym sound.main.alone)
-      (told_in sound.main.frame sound.served sound.main.main_is sound.main.plain)
-  told false frames sound (suc t) lives = cc
+    pub lives_alone : (t : ℕ) → is_live now t ≡ true → length a.machine.frames ≡ 1
+    lives_alone t e = alone_in a.course sound.main t e
 
-  pub overflows_shown : (ended : Bool) (frames : List Frame) → IsSound program limits ended frames capacity → (t : ℕ) → is_live (shown ended frames) t ≡ true → (n : Option ℕ) → n ≡ option_map length (printed_at frames (standing program (running_frame frames))) → passes_with limits.output output n ≡ overflows program limits (shown ended frames) t
-  overflows_shown ended frames sound t lives n is =
-      ap (passes_with limits.output output) is
-      ∙ sym (passes-length limits.output output (printed_at frames (standing program (running_frame frames))))
-      ∙ ap (passes limits.output output) (sym (told ended frames sound t lives))
+    -- it prints what its step does
+    told_in : (course : Course) → RunsMainUnlessEnded a.program course a.machine.frames → (t : ℕ) → is_live (in_course course) t ≡ true → print_of a.program (in_course course) t ≡ printed_by (running_frame a.machine.frames) (standing a.program (running_frame a.machine.frames)).operation
+    told_in Live main zero e =
+        print_stepped a.program (in_course Live) main.frame sound.served main.main_is main.plain main.alone
+        ∙ ap (λ frames. printed_by (running_frame frames) (standing a.program (running_frame frames)).operation) (sym main.alone)
+    told_in Live main (suc t) e = cc
+    told_in Returned main zero e = cc
+    told_in Returned main (suc t) e = cc
+    told_in (Threw kind) main zero e = cc
+    told_in (Threw kind) main (suc t) e = cc
+
+    pub overflows_shown : (t : ℕ) → is_live now t ≡ true → (n : Option ℕ) → n ≡ option_map length (printed_by (running_frame a.machine.frames) (standing a.program (running_frame a.machine.frames)).operation) → passes_with a.limits.output a.machine.output.items n ≡ overflows a.program a.limits now t
+    overflows_shown t lives n is =
+        ap (passes_with a.limits.output a.machine.output.items) is
+        ∙ sym (passes-length a.limits.output a.machine.output.items (printed_by (running_frame a.machine.frames) (standing a.program (running_frame a.machine.frames)).operation))
+        ∙ ap (passes a.limits.output a.machine.output.items) (sym (told_in a.course sound.main t lives))

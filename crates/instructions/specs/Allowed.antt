@@ -5,7 +5,7 @@ use Rattle.instructions.specs.Loaded.{Loaded}
 
 -- nothing refuses a thread's turn
 pub record IsAllowed (s : Loaded) (t : ℕ) : Type 0 where
-  pub faultless : s.world.fault ≡ None
-  pub counted : s.world.rows < s.limits.steps
-  pub live : is_live s.world t ≡ true
-  pub fits : IfSome (print_of s.program s.world t) (λ line. length s.world.output + length line ≤ s.limits.output)
+  pub faultless : s.machine.world.fault ≡ None
+  pub counted : s.machine.world.rows < s.limits.steps
+  pub live : is_live s.machine.world t ≡ true
+  pub fits : IfSome (print_of s.program s.machine.world t) (λ line. length s.machine.world.output + length line ≤ s.limits.output)

@@ -1,6 +1,5 @@
 pub mod Acting
 pub mod Allowed
-pub mod Going
 pub mod Heaps
 pub mod Loaded
 pub mod Shown

@@ -1,7 +1,9 @@
 //! What a thread's turn works on.
 
 use crate::heaps::Heap;
+use crate::kinds::Course;
 use frames::Frames;
+use loader::programs::Program;
 use model::values::Value;
 
 /// What a turn of the thread reads and changes: its frames, the static fields, the heap and the output.
@@ -11,4 +13,25 @@ pub(crate) struct Machine {
     pub(crate) slots: Vec<Value>,
     pub(crate) heap: Heap,
     pub(crate) output: Vec<u8>,
+}
+
+impl Machine {
+    ghost use Rattle.std.specs.Prelude.{◌≡◌};
+    ghost use Rattle.instructions.specs.Heaps.{collected};
+
+    /// The collector's turn.
+    pub(crate) fn collect(&mut self, program: &Program, course: Course)
+        ensures heap { self.new.heap ≡ collected program.now course self.old.frames self.old.slots.items self.old.heap }
+        ensures frames { self.new.frames ≡ self.old.frames }
+        ensures slots { self.new.slots ≡ self.old.slots }
+        ensures output { self.new.output ≡ self.old.output }
+    {
+        let Machine {
+            frames,
+            slots,
+            heap,
+            output: _,
+        } = self;
+        heap.collect(program, course, frames, slots.as_slice());
+    }
 }

@@ -36,6 +36,7 @@ impl Machine {
         ensures step { Leaves program.now self.old self.new result (λ w. raises exception) }
         ensures capacity { vec_capacity self.old.output ≤ vec_capacity self.new.output }
         ensures slots { self.new.slots.items ≡ self.old.slots.items }
+        ensures shape { self.new.heap.shape ≡ self.old.heap.shape }
     {
         if exception == Exception::StackOverflow {
             return self.throw(2, Outcome::Done);
@@ -55,6 +56,7 @@ impl Machine {
         ensures kept { OnErr result (Stays self.old self.new) }
         ensures capacity { vec_capacity self.old.output ≤ vec_capacity self.new.output }
         ensures slots { self.new.slots.items ≡ self.old.slots.items }
+        ensures shape { self.new.heap.shape ≡ self.old.heap.shape }
     {
         match abrupt {
             Abrupt::Fault(fault) => Err(fault),

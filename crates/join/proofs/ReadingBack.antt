@@ -98,11 +98,11 @@ entry_same UpperHalf = refl
 frame_same : (f : Frame) → named_frame (λ b. b) f ≡ f
 frame_same f = rw (map-same (named_entry (λ b. b)) entry_same f.locals, map-same (named_value (λ b. b)) value_same f.stack, ref_same f.monitor) refl
 
-thread_same : (t : Thread) → named_thread (λ b. b) t ≡ t
+pub thread_same : (t : Thread) → named_thread (λ b. b) t ≡ t
 thread_same (Live frames) = ap Live (map-same (named_frame (λ b. b)) frame_same frames)
 thread_same (Ended by) = refl
 
-field_same : (f : FieldValue) → named_field (λ b. b) f ≡ f
+pub field_same : (f : FieldValue) → named_field (λ b. b) f ≡ f
 field_same f = ap (λ (v : Value). let y : FieldValue = record f { value = v } in y) (value_same f.value)
 
 contents_same : (c : Contents) → named_contents (λ b. b) c ≡ c

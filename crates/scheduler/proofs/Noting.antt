@@ -1,103 +1,123 @@
--- A thread's turn on the state, and its row in the journal.
-use Rattle.std.proofs.Common.{◌≡◌, ◌<◌, ◌+◌, ℕ, List, [], ◌∷◌, ◌++◌, length, None, refl, ap, sym, ◌∙◌, arith, length-append}
+-- An actor's turn on the state, and its row in the journal: the state is joined to what the journal stands for again.
+use Rattle.std.proofs.Common.{◌≡◌, ◌<◌, ◌≤◌, ◌+◌, ℕ, List, [], ◌∷◌, ◌++◌, length, Some, None, refl, ap, sym, subst, ◌∙◌, arith, length-append}
 use Rattle.model.specs.declared.journals.HeapShape.{HeapShape}
 use Rattle.model.specs.declared.journals.Limits.{Limits}
-use Rattle.model.specs.declared.journals.Outcome.{Outcome}
-use Rattle.model.specs.declared.journals.Outcome.TheVariants.{Done}
 use Rattle.model.specs.declared.journals.Row.{Row}
+use Rattle.model.specs.declared.turns.Actor.{Actor}
 use Rattle.model.specs.declared.turns.Actor.TheVariants.{Thread, Collector}
 use Rattle.model.specs.ClassListings.{ClassListing}
-use Rattle.model.specs.Results.{Effect}
-use Rattle.model.specs.Effects.Choice.{NewObject}
+use Rattle.model.specs.Collector.Runs.{Holds}
+use Rattle.model.specs.Effects.{Choice}
 use Rattle.model.specs.Journals.{JournalValue, blank, with_row}
-use Rattle.model.specs.Worlds.{World, counted}
-use Rattle.model.specs.Table.Next.{asked, next}
-use Rattle.model.specs.Turns.{refusal, choice_of, choice_by, ideal_step, unless_refused}
-use Rattle.model.specs.Machines.{Machine, machine_of, machine_of-noted, told_of}
+use Rattle.model.specs.Limits.{ShapeFits}
+use Rattle.model.specs.Worlds.{World}
+use Rattle.model.specs.Turns.{refusal, choice_by, acted, unless_refused}
+use Rattle.model.specs.Machines.{Machine, Recorded, after_turn_by, answer_to, machine_of, machine_of-noted, noted, opening_machine, outcome_of, row_for, told_of, with_row as recorded_with}
 use Rattle.model.specs.Observers.{ideal, after_actor, after_last}
-use Rattle.model.proofs.NextKeeps.{next-rows, next-choice}
-use Rattle.instructions.specs.Loaded.{Loaded, after_step, after_collection, fresh}
-use Rattle.instructions.proofs.Refusing.{allowed, collector_counted, collector_faultless}
+use Rattle.model.proofs.NextKeeps.{next-rows}
+use Rattle.model.proofs.CollectorLemmas.Running.{opening_holds, recorded_keeps}
+use Rattle.join.specs.Joined.{Bounded, Joint}
+use Rattle.join.specs.ReadBack.{ReadsBack}
+use Rattle.join.specs.Runs.{TurnIsShown}
+use Rattle.join.specs.TurnsOnCells.{CellMachine, acted_on, counted_on, moved_on, outcome_on, row_on}
+use Rattle.join.proofs.Opening.{opening_bounded, opening_joins}
+use Rattle.join.proofs.ReadingBack.{reads_back}
+use Rattle.join.proofs.Runs.{turn_is_shown}
+use Rattle.instructions.specs.Loaded.{Loaded, fresh}
+use Rattle.instructions.proofs.Refusing.{unrefused_counted}
 use Rattle.scheduler.specs.Worlds.{recorded, IsOf}
 
 after_last-push : (n : ℕ) (rows : List Row) (row : Row) → after_last n (rows ++ row ∷ []) ≡ after_actor (after_last n rows) row.actor
 after_last-push n [] row = refl
 after_last-push n (r ∷ rows) row = after_last-push (after_actor n r.actor) rows row
 
-module _ (s : Loaded) (j : JournalValue) (k : ℕ) (is : IsOf s j k) (t : ℕ) where
-  -- nothing refuses the thread's turn
-  abbrev pub Unrefused : Type 0
-  Unrefused = refusal s.program j.limits (ideal (recorded s j)) (Thread t) ≡ None
-
-  on_state : Unrefused → refusal s.program s.limits s.world (Thread t) ≡ None
-  on_state e = ap (λ (l : Limits). refusal s.program l s.world (Thread t)) is.limits_are ∙ ap (λ (w : World). refusal s.program j.limits w (Thread t)) is.world_is ∙ e
-
-  asked_none : asked s.program s.world t ≡ None → asked s.program (ideal (recorded s j)) t ≡ None
-  asked_none none = ap (λ (w : World). asked s.program w t) (sym is.world_is) ∙ none
-
-  -- so there is room for a row
-  pub row_fits : Unrefused → length j.rows < j.limits.steps
-  row_fits e =
-      let h = (allowed s t (on_state e)).counted in
-      let rows = is.rows_are in
-      let steps = ap (λ (l : Limits). l.steps) is.limits_are in
-      omega (arith, h, rows, steps)
-
-  step_world : (o : Outcome) → Unrefused → asked s.program s.world t ≡ None → ideal_step s.program j.limits (ideal (recorded s j)) (Thread t) (choice_of s.program (ideal (recorded s j)) t o) ≡ counted (next s.program s.world t NewObject).after
-  step_world o e none =
-      ap (unless_refused s.program (ideal (recorded s j)) (Thread t) (choice_of s.program (ideal (recorded s j)) t o)) e
-      ∙ ap (λ (effect : Effect). counted effect.after) (next-choice s.program (ideal (recorded s j)) t (choice_of s.program (ideal (recorded s j)) t o) NewObject (asked_none none))
-      ∙ ap (λ (w : World). counted (next s.program w t NewObject).after) (sym is.world_is)
-
-  -- after the turn and its row the state is again what the journal stands for
-  pub noted_is : (worker : ℕ) (o : Outcome) → Unrefused → asked s.program s.world t ≡ None → IsOf (after_step s t) (with_row j (record { actor = Thread t; outcome = o; worker = worker })) (t + 1)
-  noted_is worker o e none =
-      let row : Row = record { actor = Thread t; outcome = o; worker = worker } in
-      record {
-        limits_are = is.limits_are;
-        rows_are =
-            ap (λ (n : ℕ). n + 1) (next-rows s.program s.world t NewObject ∙ is.rows_are) ∙ sym (length-append j.rows (row ∷ []));
-        world_is = sym (ap (λ (m : Machine). m.world) (machine_of-noted (recorded s j) row) ∙ step_world o e none);
-        next_is = sym (after_last-push 0 j.rows row);
-      }
-
--- the answer to a turn is told by the state's fault
-pub answer_is : (s : Loaded) (j : JournalValue) (k : ℕ) → IsOf s j k → told_of s.world.fault ≡ told_of (ideal (recorded s j)).fault
-answer_is s j k is = ap (λ (w : World). told_of w.fault) is.world_is
-
--- ---- a collector's turn
+-- an actor changes nothing of the count of rows
+acted-rows : (program : List ClassListing) (w : World) (actor : Actor) (choice : Choice) → (acted program w actor choice).rows ≡ w.rows
+acted-rows program w (Thread t) choice = next-rows program w t choice
+acted-rows program w Collector choice = refl
 
 module _ (s : Loaded) (j : JournalValue) (k : ℕ) (is : IsOf s j k) where
-  abbrev pub MayCollect : Type 0
-  MayCollect = refusal s.program j.limits (ideal (recorded s j)) Collector ≡ None
+  abbrev v : Recorded
+  v = recorded s j
 
-  pub may_collect : MayCollect → refusal s.program s.limits s.world Collector ≡ None
-  may_collect e = ap (λ (l : Limits). refusal s.program l s.world Collector) is.limits_are ∙ ap (λ (w : World). refusal s.program j.limits w Collector) is.world_is ∙ e
+  -- what is read off the cells
+  pub back : ReadsBack s.program j.limits s.machine (machine_of v)
+  back = reads_back s.program j.shape j.limits s.machine (machine_of v) is.holds is.bounded is.joint
 
-  pub collector_row_fits : MayCollect → length j.rows < j.limits.steps
-  collector_row_fits e =
-      let h = collector_counted s.program s.limits s.world (may_collect e) in
-      let rows = is.rows_are in
-      let steps = ap (λ (l : Limits). l.steps) is.limits_are in
-      omega (arith, h, rows, steps)
+  pub refusal_is : (actor : Actor) → refusal s.program s.limits s.machine.world actor ≡ refusal s.program j.limits (ideal v) actor
+  refusal_is actor = ap (λ (l : Limits). refusal s.program l s.machine.world actor) is.limits_are ∙ back.refusals actor
 
-  pub collected_is : (worker : ℕ) → MayCollect → IsOf (after_collection s) (with_row j (record { actor = Collector; outcome = Done; worker = worker })) k
-  collected_is worker e =
-      let row : Row = record { actor = Collector; outcome = Done; worker = worker } in
-      record {
-        limits_are = is.limits_are;
-        rows_are = ap (λ (n : ℕ). n + 1) is.rows_are ∙ sym (length-append j.rows (row ∷ []));
-        world_is = sym (
-            ap (λ (m : Machine). m.world) (machine_of-noted (recorded s j) row)
-            ∙ ap (unless_refused s.program (ideal (recorded s j)) Collector (choice_by s.program (ideal (recorded s j)) Collector Done)) e
-            ∙ ap (λ (w : World). counted w) (sym is.world_is));
-        next_is = is.next_is ∙ sym (after_last-push 0 j.rows row);
-      }
+  -- ---- a turn that nothing refuses
 
-  pub collected_faultless : MayCollect → s.world.fault ≡ None
-  collected_faultless e = collector_faultless s.program s.limits s.world (may_collect e)
+  module _ (actor : Actor) (worker : ℕ) (e : refusal s.program j.limits (ideal v) actor ≡ None) where
+    on_cells : refusal s.program j.limits s.machine.world actor ≡ None
+    on_cells = back.refusals actor ∙ e
 
--- a new state is what a blank journal stands for
-pub opened_is : (program : List ClassListing) (shape : HeapShape) (limits : Limits) → IsOf (fresh program limits) (blank shape limits 1) 0
+    -- so there is room for a row
+    pub row_fits : length j.rows < j.limits.steps
+    row_fits = let h = unrefused_counted s.program j.limits s.machine.world actor on_cells in let rows = is.rows_are in omega (arith, h, rows)
+
+    abbrev pub row : Row
+    row = record { actor = actor; outcome = outcome_on s.program s.machine actor; worker = worker }
+
+    shown : TurnIsShown v s.machine actor worker
+    shown = turn_is_shown v s.machine actor worker is.holds is.bounded is.joint
+
+    row_is : row_for v actor worker ≡ Some row
+    row_is = sym shown.row ∙ rw on_cells refl
+
+    after_is : after_turn_by v actor worker ≡ noted v row
+    unfolding after_turn_by
+    after_is = ap (recorded_with v) row_is
+
+    -- the outcome on cells is the outcome
+    pub outcome_is : outcome_on s.program s.machine actor ≡ outcome_of s.program (machine_of v) actor
+    outcome_is = let ideal_row : row_for v actor worker ≡ Some (record { actor = actor; outcome = outcome_of s.program (machine_of v) actor; worker = worker }) = rw e refl in cc (row_is, ideal_row)
+
+    -- the state after the turn
+    abbrev pub after : Loaded
+    after = record s { machine = counted_on (acted_on s.program j.shape s.machine actor) }
+
+    moved_is : moved_on s.program j.shape j.limits s.machine actor ≡ counted_on (acted_on s.program j.shape s.machine actor)
+    unfolding moved_on
+    moved_is = rw on_cells refl
+
+    joint_after : Joint after.machine (machine_of (noted v row))
+    joint_after = subst (λ m. Joint after.machine (machine_of m)) after_is (subst (λ x. Joint x (machine_of (after_turn_by v actor worker))) moved_is shown.joint)
+
+    rows_after : (machine_of (noted v row)).world.rows ≡ (machine_of v).world.rows + 1
+    rows_after =
+        ap (λ (m : Machine). m.world.rows) (machine_of-noted v row)
+        ∙ ap (λ r. (unless_refused s.program (ideal v) actor (choice_by s.program (ideal v) actor row.outcome) r).rows) e
+        ∙ ap (λ (n : ℕ). n + 1) (acted-rows s.program (ideal v) actor (choice_by s.program (ideal v) actor row.outcome))
+
+    pub noted_is : IsOf after (with_row j row) (after_actor k actor)
+    noted_is = record {
+      limits_are = is.limits_are;
+      shape_is = is.shape_is;
+      rows_are =
+          ap (λ (w : World). w.rows) joint_after.joined.world ∙ rows_after
+          ∙ ap (λ (n : ℕ). n + 1) (sym back.rows ∙ is.rows_are) ∙ sym (length-append j.rows (row ∷ []));
+      joint = joint_after;
+      holds = subst (λ (u : Recorded). Holds j.shape (machine_of u)) after_is (recorded_keeps v actor worker is.holds);
+      bounded = subst (λ (u : Recorded). Bounded (machine_of u).world) after_is shown.bounded;
+      next_is = ap (λ (n : ℕ). after_actor n actor) is.next_is ∙ sym (after_last-push 0 j.rows row);
+    }
+
+  -- the answer to a turn is told by the state's fault
+  pub answer_is : told_of s.machine.world.fault ≡ told_of (ideal v).fault
+  answer_is = ap told_of back.fault
+
+-- ---- the opening
+
+pub opened_is : (program : List ClassListing) (shape : HeapShape) (limits : Limits) → ShapeFits shape.small shape.medium shape.large → IsOf (fresh program limits shape) (blank shape limits 1) 0
 unfolding machine_of
-opened_is program shape limits = record { limits_are = refl; rows_are = refl; world_is = refl; next_is = refl }
+opened_is program shape limits fits = record {
+  limits_are = refl;
+  shape_is = refl;
+  rows_are = refl;
+  joint = opening_joins program shape fits;
+  holds = opening_holds program shape fits.0;
+  bounded = opening_bounded program;
+  next_is = refl;
+}

@@ -1,16 +1,22 @@
 use Rattle.std.specs.Prelude.{◌≡◌, ℕ, length}
+use Rattle.model.specs.Collector.Runs.{Holds}
 use Rattle.model.specs.Journals.{JournalValue}
 use Rattle.model.specs.Machines.{Recorded, machine_of}
 use Rattle.model.specs.Observers.{after_last}
+use Rattle.join.specs.Joined.{Bounded, Joint}
 use Rattle.instructions.specs.Loaded.{Loaded}
 
 -- what a running state and a journal are to a caller: its program, and the journal
 abbrev pub recorded : Loaded → JournalValue → Recorded
 recorded state journal = record { program = state.program; journal = journal }
 
--- the state is what its program and the journal stand for, and the thread to look at first is the one behind the last
+-- the state's machine on cells is joined to the ideal machine for which its program and the journal stand, which meets the
+-- invariant of three colours, and the thread to look at first is the one behind the last
 pub record IsOf (state : Loaded) (journal : JournalValue) (next : ℕ) : Type 0 where
   pub limits_are : state.limits ≡ journal.limits
-  pub rows_are : state.world.rows ≡ length journal.rows
-  pub world_is : state.world ≡ (machine_of (recorded state journal)).world
+  pub shape_is : state.shape ≡ journal.shape
+  pub rows_are : state.machine.world.rows ≡ length journal.rows
+  pub joint : Joint state.machine (machine_of (recorded state journal))
+  pub holds : Holds journal.shape (machine_of (recorded state journal))
+  pub bounded : Bounded (machine_of (recorded state journal)).world
   pub next_is : next ≡ after_last 0 journal.rows

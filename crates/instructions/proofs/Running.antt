@@ -1,0 +1,135 @@
+-- What a turn of main leaves: a thread that runs main alone or has ended, and one birth more at most.
+use Rattle.std.proofs.Common.{◌≡◌, ◌≤◌, ◌+◌, ℕ, ℤ, List, [], ◌∷◌, Option, Some, None, Result, Ok, Err, Bool, true, false, refl, ap, sym, ◌∙◌, subst, arith}
+use Rattle.model.specs.declared.turns.Abrupt.{Abrupt}
+use Rattle.model.specs.declared.turns.Abrupt.TheVariants.{Fault as Faulted, Throw as Thrown}
+use Rattle.model.specs.declared.turns.Exception.{Exception}
+use Rattle.model.specs.declared.turns.Exception.TheVariants as exception
+use Rattle.model.specs.declared.turns.Fault.{Fault}
+use Rattle.model.specs.ClassListings.{ClassListing}
+use Rattle.model.specs.Accounts.{Account, take_cell}
+use Rattle.model.specs.Completions.{Completion, Site, completes, raises}
+use Rattle.model.specs.Completions.Completion.{Goes, Prints, Creates, Throws, Raises, Denies, Faults, Waits}
+use Rattle.model.specs.Frames.{Frame, IsPlain, Moved, int_on, replaced, replaced_if_room, running}
+use Rattle.model.specs.Printing.{decimal_line}
+use Rattle.model.specs.Programs.{main_in}
+use Rattle.model.specs.Results.{Effect}
+use Rattle.model.specs.Served.{ServedProgram}
+use Rattle.model.specs.Table.Builtins.{prints_on}
+use Rattle.model.specs.Unwinding.{thrown}
+use Rattle.model.specs.Worlds.{World, Contents, Thread, frames_at}
+use Rattle.model.specs.Worlds.Thread.{Live as LiveThread, Ended}
+use Rattle.model.specs.Objects.{words_in}
+use Rattle.join.specs.TurnsOnCells.{CellMachine, carried_on, carried_unless, created_at, created_in, created_with_on, raised_at, turned_on}
+use Rattle.loader.specs.declared.operations.Operation.{Operation}
+use Rattle.loader.specs.declared.operations.Operation.TheVariants as operation
+use Rattle.plain_steps.specs.PlainMoves.{plain_move}
+use Rattle.instructions.specs.declared.kinds.Course.{Course}
+use Rattle.instructions.specs.declared.kinds.Course.TheVariants.{Live, Returned, Threw}
+use Rattle.instructions.specs.Acting.{moved_or, operated, operated_else, site_of}
+use Rattle.instructions.specs.Loaded.{RunsMain, RunsMainUnlessEnded}
+use Rattle.instructions.specs.Shown.{thread_shown}
+use Rattle.instructions.proofs.Keeping.{KeepsPlace, KeepsPlaceIfSome, plain_keeps}
+use Rattle.instructions.proofs.Throwing.{carried}
+
+-- ---- births
+
+carried_births : (x : CellMachine) (a : Account) (births : ℕ) (e : Effect) (o : Option (Fault × ℕ)) → x.births ≤ births → births ≤ x.births + 1 → (carried_unless x a births e o).births ≤ x.births + 1
+carried_births x a births e None least most = most
+carried_births x a births e (Some fault) least most = omega arith
+
+made_births : (x : CellMachine) (t c : ℕ) (a : Account) (contents : Contents) (r : Result Moved Abrupt) → (created_with_on x t c a contents r).births ≤ x.births + 1
+made_births x t c a contents (Ok moved) = omega arith
+made_births x t c a contents (Err e) = omega arith
+
+created_births : (x : CellMachine) (t next taken c : ℕ) (contents : Contents) (a : Account) (o : Option Frame) → (created_in x t next taken contents c a o).births ≤ x.births + 1
+created_births x t next taken c contents a None = omega arith
+created_births x t next taken c contents a (Some f) = made_births x t c a contents _
+
+at_births : (program : List ClassListing) (x : CellMachine) (t next taken : ℕ) (contents : Contents) (o : Option (ℕ × Account)) → (created_at program x t next taken contents o).births ≤ x.births + 1
+at_births program x t next taken contents None = carried_births x x.account x.births (thrown program x.world x.world t 1) _ (omega arith) (omega arith)
+at_births program x t next taken contents (Some cell) = created_births x t next taken cell.0 contents cell.1 (running (frames_at x.world t))
+
+raised_births : (program : List ClassListing) (x : CellMachine) (w : World) (t : ℕ) (e : Exception) (o : Option (ℕ × Account)) → (raised_at program x w t e o).births ≤ x.births + 1
+raised_births program x w t e None = carried_births x x.account x.births (thrown program x.world w t 1) _ (omega arith) (omega arith)
+raised_births program x w t e (Some cell) = carried_births x _ (x.births + 1) _ _ (omega arith) (omega arith)
+
+pub turned_births : (program : List ClassListing) (x : CellMachine) (t : ℕ) (c : Completion) → (turned_on program x t c).births ≤ x.births + 1
+unfolding turned_on
+turned_births program x t (Goes after writes) = omega arith
+turned_births program x t (Prints after bytes) = omega arith
+turned_births program x t (Creates next taken contents) = at_births program x t next taken contents (take_cell x.account (words_in contents))
+turned_births program x t (Throws r) = carried_births x x.account x.births (thrown program x.world x.world t r) _ (omega arith) (omega arith)
+turned_births program x t (Raises e) = raised_births program x x.world t e (take_cell x.account 0)
+turned_births program x t (Denies states) = raised_births program x _ t exception.NoClassDefFound (take_cell x.account 0)
+turned_births program x t (Faults fault) = omega arith
+turned_births program x t Waits = omega arith
+
+-- ---- the thread
+
+abbrev pub RunsThread : List ClassListing → Thread → Type 0
+RunsThread program (LiveThread frames) = RunsMain program frames
+RunsThread program (Ended by) = Unit {0}
+
+abbrev pub RunThreads : List ClassListing → List Thread → Type 0
+RunThreads program [] = Unit {0}
+RunThreads program (thread ∷ threads) = RunsThread program thread
+
+-- as the parts have it
+pub runs_shown : (program : List ClassListing) (course : Course) (frames : List Frame) → RunsThread program (thread_shown program course frames) → RunsMainUnlessEnded program course frames
+runs_shown program Live frames runs = runs
+runs_shown program Returned frames runs = tt
+runs_shown program (Threw kind) frames runs = tt
+
+module _ (program : List ClassListing) (f : Frame) (served : ServedProgram program) (main_is : main_in program ≡ Some f.method) (plain : IsPlain f) (x : CellMachine) (alone : x.world.threads ≡ LiveThread (f ∷ []) ∷ []) (none : x.world.fault ≡ None) where
+  abbrev Runs : Completion → Type 0
+  Runs c = RunThreads program (turned_on program x 0 c).world.threads
+
+  main_runs : RunsThread program (LiveThread (f ∷ []))
+  main_runs = record { frame = f; alone = refl; main_is = main_is; plain = plain }
+
+  before_runs : RunThreads program x.world.threads
+  before_runs = subst (RunThreads program) (sym alone) main_runs
+
+  carried_runs : (a : Account) (births : ℕ) (w : World) (r : ℕ) → w.threads ≡ LiveThread (f ∷ []) ∷ [] → w.fault ≡ None → RunThreads program (carried_on x a births (thrown program x.world w 0 r)).world.threads
+  carried_runs a births w r same faultless = rw (carried program f served main_is plain x a births w r same faultless, same) tt
+
+  raised_runs : (e : Exception) (o : Option (ℕ × Account)) → RunThreads program (raised_at program x x.world 0 e o).world.threads
+  raised_runs e None = carried_runs x.account x.births x.world 1 alone none
+  raised_runs e (Some cell) = carried_runs _ (x.births + 1) _ _ alone none
+
+  raises_runs : (e : Exception) → Runs (raises e)
+  unfolding turned_on
+  raises_runs exception.Arithmetic = raised_runs exception.Arithmetic (take_cell x.account 0)
+  raises_runs exception.NullPointer = raised_runs exception.NullPointer (take_cell x.account 0)
+  raises_runs exception.ClassCast = raised_runs exception.ClassCast (take_cell x.account 0)
+  raises_runs exception.NegativeArraySize = raised_runs exception.NegativeArraySize (take_cell x.account 0)
+  raises_runs exception.ArrayStore = raised_runs exception.ArrayStore (take_cell x.account 0)
+  raises_runs exception.IllegalMonitorState = raised_runs exception.IllegalMonitorState (take_cell x.account 0)
+  raises_runs exception.ArrayIndexOutOfBounds = raised_runs exception.ArrayIndexOutOfBounds (take_cell x.account 0)
+  raises_runs exception.IllegalThreadState = raised_runs exception.IllegalThreadState (take_cell x.account 0)
+  raises_runs exception.StackOverflow = carried_runs x.account x.births x.world 2 alone none
+  raises_runs exception.ExceptionInInitializer = raised_runs exception.ExceptionInInitializer (take_cell x.account 0)
+  raises_runs exception.NoClassDefFound = raised_runs exception.NoClassDefFound (take_cell x.account 0)
+
+  completes_runs : (n : ℕ) (r : Result Moved Abrupt) → KeepsPlace f r → Runs (completes (site_of program x.world f n) r)
+  unfolding turned_on
+  completes_runs n (Ok moved) kept = rw (alone) (record { frame = moved.frame; alone = refl; main_is = main_is ∙ ap Some (sym kept.0); plain = (kept.1 ∙ plain.0, kept.2 ∙ plain.1) })
+  completes_runs n (Err (Faulted fault)) kept = before_runs
+  completes_runs n (Err (Thrown e)) kept = raises_runs e
+
+  prints_runs : (n : ℕ) (r : Result ℤ Fault) → Runs (prints_on (site_of program x.world f n) decimal_line r)
+  unfolding turned_on
+  prints_runs n (Ok z) = rw alone (record { frame = (replaced n f 1 []).frame; alone = refl; main_is = main_is; plain = plain })
+  prints_runs n (Err fault) = before_runs
+
+  else_runs : (n : ℕ) (op : Operation) → Runs (operated_else (site_of program x.world f n) op)
+  unfolding turned_on
+  else_runs n operation.Return = rw alone tt
+  else_runs n operation.PrintInt = prints_runs n (int_on f.stack)
+  else_runs n _ = before_runs
+
+  pub operated_runs : (n : ℕ) (op : Operation) → Runs (operated (site_of program x.world f n) op)
+  operated_runs n op = by_move (plain_move n op f) (plain_keeps n op f) where
+    by_move : (o : Option (Result Moved Abrupt)) → KeepsPlaceIfSome f o → Runs (moved_or (site_of program x.world f n) o (operated_else (site_of program x.world f n) op))
+    by_move (Some m) kept = completes_runs n m kept
+    by_move None kept = else_runs n op
