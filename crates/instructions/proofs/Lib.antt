@@ -1,9 +1,13 @@
 pub mod ActingLemmas
+pub mod AgreeLemmas
 pub mod Keeping
+pub mod KeyedLemmas
+pub mod LookedLemmas
 pub mod OpeningState
 pub mod Refusing
 pub mod Running
+pub mod ShownLemmas
 pub mod Stepping
-pub mod Throwing
+pub mod Throwables
 pub mod Turning
 pub mod Waiting

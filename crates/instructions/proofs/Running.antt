@@ -29,7 +29,7 @@ use Rattle.instructions.specs.Acting.{moved_or, operated, operated_else, site_of
 use Rattle.instructions.specs.Loaded.{RunsMain, RunsMainUnlessEnded}
 use Rattle.instructions.specs.Shown.{thread_shown}
 use Rattle.instructions.proofs.Keeping.{KeepsPlace, KeepsPlaceIfSome, plain_keeps}
-use Rattle.instructions.proofs.Throwing.{carried}
+use Rattle.instructions.proofs.Throwables.{carried}
 
 -- ---- births
 

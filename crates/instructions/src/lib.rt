@@ -5,6 +5,7 @@ mod acting;
 mod heaps;
 pub mod kinds;
 mod machines;
+mod names;
 mod printing;
 pub mod state;
 #[cfg(test)]

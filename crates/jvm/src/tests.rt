@@ -375,18 +375,17 @@ fn texts_that_do_not_assemble_are_told(rt: HostRuntime) -> Result<(), Fail> {
         b"",
         b"jvm: a.j: J1 at line 1\n",
     )?;
-    // the machine doesn't carry out branches yet
+    // `goto_w` reaches it
     let farther = far_branch(rt.alloc(), "goto_w")?;
     let text = farther.as_str().as_bytes();
-    let answer = b"jvm: load: L10 in class E\n".as_slice();
     check(
         &rt,
         rt.alloc(),
         ["run", "a.j"].as_slice(),
         text,
-        2,
+        0,
         b"",
-        answer,
+        b"",
     )
 }
 

@@ -31,6 +31,7 @@ E main()V@9,0,0 f()V@9,0,0 f(I)V@9,1,0 x:I x:J y:I => accepted
 E main()V@9,96,4000 => accepted
 E main()V@9,0,0 f(IJ)V@9,3,0 g(IJ)V@1,4,0 => accepted
 E main()V@9,0,0 f()V@33,1,0 run()V@33,1,0 => accepted
+E main()V@9,0,0; X x:I@8 => accepted
 ";
 
 /// Each rule alone, broken by the first class, by one in the middle and by the last.
@@ -55,7 +56,6 @@ E main()V@9,0,0; X f()V@41,0,0 => L10 in class X
 E main()V@9,0,0; X ^java/lang/Thread; T ^X run()V@33,1,0 => L10 in class T
 E main()V@9,0,0; X <clinit>()V@1,1,0 => L10 in class X
 E main()V@9,0,0; X <clinit>(I)V@8,1,0 => L10 in class X
-E main()V@9,0,0; X x:I@8 => L10 in class X
 X main()V@9,97,4000 => L8 in class X
 E main()V@9,0,0; X f(IJ)V@9,2,0 => L8 in class X
 E main()V@9,0,0; X f(IJ)V@1,3,0 => L8 in class X

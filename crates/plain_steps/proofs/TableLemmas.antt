@@ -1,5 +1,5 @@
 -- what a plain step comes to in the instruction table
-use Rattle.std.proofs.Common.{◌≡◌, ◌≢◌, ℕ, ℤ, Bool, true, false, List, Option, Some, None, Result, Ok, Err, refl, ap, sym, subst, ◌∙◌, cond}
+use Rattle.std.proofs.Common.{[], ◌≡◌, ◌≢◌, ℕ, ℤ, Bool, true, false, List, Option, Some, None, Result, Ok, Err, refl, ap, sym, subst, ◌∙◌, cond}
 use Rattle.model.specs.declared.values.Kind.{Kind}
 use Rattle.model.specs.declared.values.Kind.TheVariants as kind
 use Rattle.model.specs.declared.instructions.Comparison.TheVariants as comparison
@@ -19,7 +19,7 @@ use Rattle.model.specs.declared.instructions.StackOperation.TheVariants as stack
 use Rattle.model.specs.declared.instructions.Test.{Test}
 use Rattle.model.specs.declared.instructions.Test.TheVariants as test
 use Rattle.model.specs.declared.turns.Abrupt.{Abrupt}
-use Rattle.model.specs.Frames.{Frame, Moved, with_running}
+use Rattle.model.specs.Frames.{Frame, Moved, replaced, with_running}
 use Rattle.model.specs.Worlds.{with_thread}
 use Rattle.model.specs.Worlds.Thread.{Live}
 use Rattle.model.specs.Completions.{Completion, Site, frames_in, completes, completes_abruptly}
