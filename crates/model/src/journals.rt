@@ -87,7 +87,7 @@ impl Model for Journal {
 }
 
 impl Journal {
-    ghost use Rattle.std.specs.Prelude.{◌≡◌, ◌<◌, IfOk, MatchResult, length};
+    ghost use Rattle.std.specs.Prelude.{◌≡◌, ◌<◌, ◌≤◌, [], IfOk, MatchResult, length};
     ghost use Rattle.model.specs.Journals.{HeadFits, AreOfWorkers, blank, with_row};
 
     /// A journal with no row, and room for all that the limit allows. `AllocError` where there is no memory for them.
@@ -138,6 +138,16 @@ impl Journal {
         ensures workers { AreOfWorkers self.now.workers self.now.rows }
     {
         self.rows.as_slice()
+    }
+
+    /// Sets the number of workers, from 1 to 9, of a journal that has no row yet. It takes no memory.
+    pub fn set_workers(&mut self, workers: u8)
+        requires empty { self.old.rows ≡ [] }
+        requires one { 1 ≤ workers }
+        requires nine { workers ≤ 9 }
+        ensures { self.new ≡ blank self.old.shape self.old.limits workers }
+    {
+        self.workers = workers;
     }
 
     /// Adds a row. It takes no memory.
