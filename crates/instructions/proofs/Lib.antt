@@ -1,7 +1,11 @@
 pub mod ActingLemmas
+pub mod AgreeLemmas
 pub mod Keeping
+pub mod KeyedLemmas
+pub mod LookedLemmas
 pub mod OpeningState
 pub mod Refusing
+pub mod ShownLemmas
 pub mod Stepping
 pub mod Turning
 pub mod Waiting

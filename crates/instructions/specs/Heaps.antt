@@ -5,10 +5,11 @@ use Rattle.model.specs.declared.turns.Exception.{Exception}
 use Rattle.model.specs.declared.turns.Exception.TheVariants.{Arithmetic, NullPointer, ClassCast, NegativeArraySize, ArrayStore, IllegalMonitorState, ArrayIndexOutOfBounds, IllegalThreadState, StackOverflow, ExceptionInInitializer, NoClassDefFound}
 use Rattle.model.specs.declared.values.Value.{Value}
 use Rattle.model.specs.ClassListings.{ClassListing}
-use Rattle.model.specs.Accounts.{Account, take_cell, opening_account}
+use Rattle.model.specs.Accounts.{Account, opening_account}
 use Rattle.model.specs.Frames.{Frame}
-use Rattle.model.specs.Worlds.{World, free_monitor, opening_slots}
-use Rattle.cells.specs.Objects.{StoredObject, object_if, words_if, word_set}
+use Rattle.model.specs.Worlds.{World, opening_slots}
+use Rattle.model.specs.Collector.Places.{ref_of}
+use Rattle.cells.specs.Objects.{StoredObject, made_object, object_if, words_if, word_set}
 use Rattle.collector.specs.Freed.{freed_cell}
 use Rattle.join.specs.TurnsOnCells.{birth_in, shade_cell_if, shade_cells, step_on}
 use Rattle.instructions.specs.declared.kinds.Kind.{Kind}
@@ -53,7 +54,7 @@ memory_error_kind program = own_class program 16
 
 -- an object as it is made
 abbrev pub made : Kind → List Value → StoredObject Kind
-made kind words = record { kind = kind; words = words; monitor = free_monitor; thread = None }
+made kind words = made_object kind words
 
 -- births 1 and 2 are in the first two cells
 abbrev pub opening_stored : List ClassListing → HeapShape → List (Option (StoredObject Kind))
@@ -108,18 +109,26 @@ written h (suc cell) index v =
 
 -- ---- the collector's turn
 
+-- the reference that a value is, if there is a value
+abbrev pub ref_if : Option Value → Option ℕ
+ref_if None = None
+ref_if (Some value) = ref_of value
+
 -- what the collector looks at: the thread's frames, the static fields and the objects
-abbrev pub looked_at : List ClassListing → Course → List Frame → List Value → HeapValue → World
-looked_at program course frames slots h = record {
+abbrev pub world_looked_at : List ClassListing → Course → List Frame → List Value → List (Option (StoredObject Kind)) → World
+world_looked_at program course frames slots objects = record {
   threads = thread_shown program course frames ∷ [];
   statics = record { fields = keyed (opening_slots program) slots; states = [] };
   output = [];
-  objects = objects_shown program h.objects;
+  objects = objects_shown program objects;
   fault = None;
   rows = 0;
 }
 
-abbrev pub cleared : List (Option (StoredObject Kind)) → Option ℕ → List (Option (StoredObject Kind))
+abbrev pub looked_at : List ClassListing → Course → List Frame → List Value → HeapValue → World
+looked_at program course frames slots h = world_looked_at program course frames slots h.objects
+
+abbrev pub cleared : {K : Type 0} → List (Option (StoredObject K)) → Option ℕ → List (Option (StoredObject K))
 cleared objects None = objects
 cleared objects (Some cell) = slice_set objects cell None
 

@@ -2,5 +2,6 @@ pub mod Acting
 pub mod Allowed
 pub mod Going
 pub mod Heaps
+pub mod HeapsAgree
 pub mod Loaded
 pub mod Shown

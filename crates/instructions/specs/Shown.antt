@@ -1,14 +1,11 @@
-use Rattle.std.specs.Prelude.{ℕ, zero, suc, ◌-◌, List, [], ◌∷◌, ◌++◌, map, replicate, slice_get, nat_le, Option, Some, None, if◌then◌else◌}
-use Rattle.model.specs.declared.turns.ClassState.{ClassState}
-use Rattle.model.specs.declared.turns.Fault.{Fault}
+use Rattle.std.specs.Prelude.{ℕ, ◌-◌, List, [], ◌∷◌, ◌++◌, map, replicate, slice_get, nat_le, Option, Some, None, if◌then◌else◌}
 use Rattle.model.specs.declared.values.Value.{Value}
 use Rattle.model.specs.declared.values.Value.TheVariants.{Ref}
 use Rattle.model.specs.ClassListings.{ClassListing}
-use Rattle.model.specs.Accounts.{Account}
 use Rattle.model.specs.Classes.Layout.{layout}
 use Rattle.model.specs.Frames.{Frame}
 use Rattle.model.specs.Words.{unwritten}
-use Rattle.model.specs.Worlds.{World, Thread, FieldValue, Contents, Object, opening_slots}
+use Rattle.model.specs.Worlds.{Thread, FieldValue, Contents, Object}
 use Rattle.model.specs.Worlds.Thread.{Live as LiveThread, Ended}
 use Rattle.model.specs.Worlds.Contents.{Instance as InstanceOf, Array as ArrayOf}
 use Rattle.resolve.specs.Numbers.{class_names}
@@ -47,7 +44,7 @@ kind_name program (Array type) = 91 ∷ type_name program type
 
 -- ---- values with their keys
 
-abbrev nameless : FieldValue
+abbrev pub nameless : FieldValue
 nameless = record { class = []; name = []; descriptor = []; value = Ref None }
 
 -- each value under its key; those that no key is left for have none

@@ -3,14 +3,20 @@ ghost use Rattle.std.specs.Prelude.{◌≡◌, ◌+◌, ◌<◌, ◌≤◌, ◌^
 ghost use Rattle.model.specs.Accounts.{has_room, take_cell};
 ghost use Rattle.model.specs.Limits.{ShapeFits};
 ghost use Rattle.join.specs.ReadBack.{birth_read};
-ghost use Rattle.instructions.specs.Heaps.{all_shaded, collected, created, exception_kind, kind_held, opening_heap, reference_taken, shaded, words_held, written};
+ghost use Rattle.instructions.specs.Heaps.{all_shaded, collected, created, exception_kind, exception_place, kind_held, memory_error_kind, own_class, opening_heap, reference_taken, shaded, words_held, written};
+
+mod looking;
+#[cfg(test)]
+mod tests;
 
 use crate::kinds::{Course, Kind};
 use cells::Cells;
+use collector::collect_step;
 use colours::accounts::Account;
 use frames::Frames;
 use loader::programs::Program;
-use model::colours::Phase;
+use looking::Looked;
+use model::colours::{Cell, Phase};
 use model::journals::HeapShape;
 use model::turns::Exception;
 use model::values::Value;
@@ -29,40 +35,60 @@ pub(crate) struct Heap {
 
 impl Model for Heap {
     ghost use Rattle.instructions.specs.Heaps.{HeapValue};
+    ghost use Rattle.instructions.specs.HeapsAgree.{Agree};
 
     ghost Value = { HeapValue };
 
     ghost view = { λ a. record { shape = a.cells.shape; account = a.account; objects = a.cells.objects; births = a.births } };
+
+    ghost invariant = { λ a. Agree a.cells.shape a.account a.cells.objects };
 }
 
 impl Heap {
     /// A heap that holds OutOfMemoryError and StackOverflowError alone. `AllocError` where there is no memory for it.
-    pub(crate) fn new(alloc: Global, program: &Program, shape: HeapShape) -> Result<Heap, AllocError>
+    pub(crate) fn new(
+        alloc: Global,
+        program: &Program,
+        shape: HeapShape,
+    ) -> Result<Heap, AllocError>
         requires { ShapeFits shape.small shape.medium shape.large }
         ensures { IfOk result (λ heap. heap ≡ opening_heap program.now shape) }
     {
-        todo!()
+        let account = Account::new(alloc, shape)?;
+        let mut cells = Cells::new(alloc, shape)?;
+        let stack_error = exception_kind(program, Exception::StackOverflow);
+        cells.place_all(0, memory_error_kind(program), &[]);
+        cells.place_all(1, stack_error, &[]);
+        Ok(Heap {
+            account,
+            cells,
+            births: 3,
+        })
     }
 
     /// Shades what a reference leads to.
     pub(crate) fn shade(&mut self, reference: Option<u32>)
         ensures { self.new ≡ shaded self.old reference }
     {
-        todo!()
+        if let Some(reference) = reference {
+            self.account.shade(reference);
+        }
     }
 
     /// Shades what a turn wrote, in the order of writing.
     pub(crate) fn shade_all(&mut self, written: &Written)
         ensures { self.new ≡ all_shaded self.old written.now }
     {
-        todo!()
+        for reference in written.as_slice() {
+            self.shade(Some(*reference));
+        }
     }
 
     /// Whether a free cell has so many words.
     pub(crate) fn has_room(&self, words: u32) -> bool
         ensures { result ≡ has_room self.now.account words }
     {
-        todo!()
+        self.account.has_room(words)
     }
 
     /// A new object with these words, grey, in the front cell of the smallest size that has a free cell for it: its
@@ -72,57 +98,88 @@ impl Heap {
         ensures reference { result ≡ reference_taken (take_cell self.old.account (length words.now)) }
         ensures heap { self.new ≡ created self.old kind words.now (take_cell self.old.account (length words.now)) }
     {
-        todo!()
+        if words.len() > 256 {
+            return None; // more than any cell has
+        }
+        let cell = self.account.create(words.len() as u32, self.births)?;
+        self.cells.place_all(cell, kind, words);
+        self.births += 1;
+        Some(cell + 1)
     }
 
     /// What the object of a reference is of. `None` where there is no object.
     pub(crate) fn kind(&self, reference: u32) -> Option<Kind>
         ensures { result ≡ kind_held self.now reference }
     {
-        todo!()
+        self.cells.kind(reference.checked_sub(1)?)
     }
 
     /// A word of the object of a reference. `None` past its last word, and where there is no object.
     pub(crate) fn word(&self, reference: u32, index: u32) -> Option<Value>
         ensures { result ≡ slice_get (words_held self.now reference) index }
     {
-        todo!()
+        self.cells.word(reference.checked_sub(1)?, index)
     }
 
     /// Writes a word of the object of a reference. Where there is none, nothing changes.
     pub(crate) fn put(&mut self, reference: u32, index: u32, value: Value)
         ensures { self.new ≡ written self.old reference index value }
     {
-        todo!()
+        if let Some(cell) = reference.checked_sub(1) {
+            self.cells.put(cell, index, value);
+        }
     }
 
     /// The birth to which a reference leads: 0 where there is no object.
     pub(crate) fn birth(&self, reference: u32) -> u32
         ensures { result ≡ birth_read self.now.account.cells reference }
     {
-        todo!()
+        let Some(cell) = reference.checked_sub(1) else {
+            return 0;
+        };
+        match self.account.cell(cell) {
+            Cell::Free => 0,
+            Cell::Taken { birth, colour: _ } => birth,
+        }
     }
 
     /// Where the collector stands.
     pub(crate) fn phase(&self) -> Phase
         ensures { result ≡ self.now.account.phase }
     {
-        todo!()
+        self.account.phase()
     }
 
     /// The number of the next birth.
     pub(crate) fn births(&self) -> u32
         ensures { result ≡ self.now.births }
     {
-        todo!()
+        self.births
     }
 
     /// The collector's turn: one look at one place of the thread's frames, the static fields or the objects, or one cell
     /// given back or whitened (CACM 21(11)).
-    pub(crate) fn collect(&mut self, program: &Program, course: Course, frames: &Frames, slots: &[Value])
+    pub(crate) fn collect(
+        &mut self,
+        program: &Program,
+        course: Course,
+        frames: &Frames,
+        slots: &[Value],
+    )
+        requires { length slots.now < 2 ^ 32 }
         ensures { self.new ≡ collected program.now course frames.now slots.now self.old }
     {
-        todo!()
+        let looked = Looked {
+            program,
+            course,
+            frames,
+            slots,
+            cells: &self.cells,
+        };
+        let shape = self.cells.shape();
+        if let Some(cell) = collect_step(&mut self.account, &looked, shape) {
+            self.cells.clear(cell);
+        }
     }
 }
 
@@ -130,5 +187,40 @@ impl Heap {
 pub(crate) fn exception_kind(program: &Program, exception: Exception) -> Kind
     ensures { result ≡ exception_kind program.now exception }
 {
-    todo!()
+    own_class(program, exception_place(exception))
+}
+
+/// What birth 1 is of: OutOfMemoryError.
+fn memory_error_kind(program: &Program) -> Kind
+    ensures { result ≡ memory_error_kind program.now }
+{
+    own_class(program, 16)
+}
+
+/// The place of an exception's class among the machine's own.
+fn exception_place(exception: Exception) -> u16
+    ensures place { result ≡ exception_place exception }
+    ensures few { result < 25 }
+{
+    match exception {
+        Exception::Arithmetic => 5,
+        Exception::NullPointer => 6,
+        Exception::ClassCast => 7,
+        Exception::NegativeArraySize => 8,
+        Exception::ArrayStore => 9,
+        Exception::IllegalMonitorState => 10,
+        Exception::ArrayIndexOutOfBounds => 12,
+        Exception::IllegalThreadState => 14,
+        Exception::StackOverflow => 17,
+        Exception::ExceptionInInitializer => 19,
+        Exception::NoClassDefFound => 20,
+    }
+}
+
+/// The machine's own class at a place, by its number.
+fn own_class(program: &Program, place: u16) -> Kind
+    requires { place < 25 }
+    ensures { result ≡ own_class program.now place }
+{
+    Kind::Instance(program.listings().len() as u16 + place)
 }
