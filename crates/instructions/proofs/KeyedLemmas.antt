@@ -21,7 +21,12 @@ values-keyed (k ∷ keys) [] = refl
 values-keyed [] (v ∷ vs) = ap (λ ws. v ∷ ws) (values-keyed [] vs)
 values-keyed (k ∷ keys) (v ∷ vs) = ap (λ ws. v ∷ ws) (values-keyed keys vs)
 
--- and lead where the values lead
+-- keys have their own values
+pub keyed-own : (keys : List FieldValue) → keyed keys (map (λ (f : FieldValue). f.value) keys) ≡ keys
+keyed-own [] = refl
+keyed-own (k ∷ keys) = ap (λ fs. k ∷ fs) (keyed-own keys)
+
+-- they lead where the values lead
 pub refs-keyed : (keys : List FieldValue) (vs : List Value) → map field_ref (keyed keys vs) ≡ map ref_of vs
 refs-keyed [] [] = refl
 refs-keyed (k ∷ keys) [] = refl

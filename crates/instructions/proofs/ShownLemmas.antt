@@ -28,9 +28,14 @@ use Rattle.join.specs.TurnsOnCells.{CellMachine, collected_on, opening_on, step_
 use Rattle.join.proofs.Opening.{two_cells}
 use Rattle.instructions.specs.declared.kinds.Course.{Course}
 use Rattle.instructions.specs.declared.kinds.Kind.{Kind}
-use Rattle.instructions.specs.Heaps.{HeapValue, cleared, collected, exception_kind, looked_at, memory_error_kind, opening_stored, own_class}
-use Rattle.instructions.specs.Shown.{class_name, kind_name, keyed, name_or_none, object_shown, objects_shown, thread_shown}
+use Rattle.instructions.specs.declared.kinds.Kind.TheVariants.{Instance, Array}
+use Rattle.instructions.specs.Heaps.{HeapValue, cleared, collected, exception_kind, looked_at, made, memory_error_kind, opening_stored, own_class}
+use Rattle.instructions.specs.Shown.{class_name, contents_shown, field_keys, kind_name, keyed, name_or_none, object_shown, objects_shown, thread_shown}
 use Rattle.instructions.proofs.AgreeLemmas.{cells_number}
+use Rattle.instructions.proofs.KeyedLemmas.{length-keyed}
+use Rattle.model.specs.Objects.{class_of, made_of, words_in}
+use Rattle.std.specs.Option.{option_map}
+use Rattle.std.proofs.lemmas.Option.{slice_get-map}
 
 -- What changes of a heap are on the world that it shows.
 
@@ -38,6 +43,23 @@ use Rattle.instructions.proofs.AgreeLemmas.{cells_number}
 
 pub shown-set : (program : List ClassListing) (objects : List (Option (StoredObject Kind))) (c : ℕ) (o : Option (StoredObject Kind)) → objects_shown program (set objects c o) ≡ set (objects_shown program objects) (suc c) (object_shown program o)
 shown-set program objects c o = ap (λ os. nobody ∷ os) (map-set (object_shown program) objects c o)
+
+pub shown-get : (program : List ClassListing) (objects : List (Option (StoredObject Kind))) (c : ℕ) → slice_get (objects_shown program objects) (suc c) ≡ option_map (object_shown program) (slice_get objects c)
+shown-get program objects c = slice_get-map (object_shown program) objects c
+
+-- ---- one object
+
+pub words-shown : (program : List ClassListing) (kind : Kind) (words : List Value) → words_in (contents_shown program kind words) ≡ length words
+words-shown program (Instance class) words = length-keyed (field_keys program class) words
+words-shown program (Array type) words = refl
+
+pub class-shown : (program : List ClassListing) (kind : Kind) (words : List Value) → class_of (contents_shown program kind words) ≡ kind_name program kind
+class-shown program (Instance class) words = refl
+class-shown program (Array type) words = refl
+
+-- a new object
+pub made-shown : (program : List ClassListing) (kind : Kind) (words : List Value) → object_shown program (Some (made kind words)) ≡ made_of (contents_shown program kind words)
+made-shown program kind words = refl
 
 -- ---- the machine's own classes
 

@@ -1,4 +1,4 @@
-use Rattle.std.proofs.Common.{◌≡◌, ◌+◌, ◌<◌, length, arith}
+use Rattle.std.proofs.Common.{length, arith}
 use Rattle.std.proofs.lemmas.Option.{slice_get_within}
 use Rattle.model.specs.declared.colours.Cell.TheVariants.{Free}
 use Rattle.instructions.proofs.AgreeLemmas.{came_agree, nobody_in_free}
