@@ -29,7 +29,7 @@ use Rattle.instructions.specs.declared.kinds.Course.TheVariants.{Live as LiveCou
 use Rattle.instructions.specs.Heaps.{HeapValue, opening_heap}
 use Rattle.instructions.specs.Loaded.{fresh, machine_shown}
 use Rattle.instructions.specs.Shown.{keyed}
-use Rattle.instructions.proofs.ShownLemmas.{opening_objects}
+use Rattle.instructions.proofs.ShownLemmas.{opening_shown as opening_objects}
 
 started : (program : List ClassListing) (place : MethodPlace) (code : CodeListing) → main_in program ≡ Some place → code_at program place ≡ Some code → main_frames program (main_in program) ≡ opening_frame place code.max_locals code.max_stack ∷ []
 started program place code m e = rw (m, e) refl

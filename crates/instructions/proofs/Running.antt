@@ -1,5 +1,5 @@
 -- What a turn of main leaves: a thread that runs main alone or has ended, and one birth more at most.
-use Rattle.std.proofs.Common.{◌≡◌, ◌≤◌, ◌+◌, ℕ, ℤ, List, [], ◌∷◌, Option, Some, None, Result, Ok, Err, Bool, true, false, refl, ap, sym, ◌∙◌, subst, arith}
+use Rattle.std.proofs.Common.{◌≡◌, ◌≤◌, ◌+◌, ℕ, suc, ℤ, List, [], ◌∷◌, Option, Some, None, Result, Ok, Err, Bool, true, false, refl, ap, sym, ◌∙◌, subst, arith}
 use Rattle.model.specs.declared.turns.Abrupt.{Abrupt}
 use Rattle.model.specs.declared.turns.Abrupt.TheVariants.{Fault as Faulted, Throw as Thrown}
 use Rattle.model.specs.declared.turns.Exception.{Exception}
@@ -16,10 +16,11 @@ use Rattle.model.specs.Results.{Effect}
 use Rattle.model.specs.Served.{ServedProgram}
 use Rattle.model.specs.Table.Builtins.{prints_on}
 use Rattle.model.specs.Unwinding.{thrown}
-use Rattle.model.specs.Worlds.{World, Contents, Thread, frames_at}
+use Rattle.model.specs.Worlds.{World, Contents, Thread, frames_at, plain_object, with_class_states}
 use Rattle.model.specs.Worlds.Thread.{Live as LiveThread, Ended}
-use Rattle.model.specs.Objects.{words_in}
-use Rattle.join.specs.TurnsOnCells.{CellMachine, carried_on, carried_unless, created_at, created_in, created_with_on, raised_at, turned_on}
+use Rattle.model.specs.Classes.Exceptions.{exception_class}
+use Rattle.model.specs.Objects.{with_object, words_in}
+use Rattle.join.specs.TurnsOnCells.{CellMachine, birth_in, carried_on, carried_unless, created_at, created_in, created_with_on, raised_at, turned_on}
 use Rattle.loader.specs.declared.operations.Operation.{Operation}
 use Rattle.loader.specs.declared.operations.Operation.TheVariants as operation
 use Rattle.plain_steps.specs.PlainMoves.{plain_move}
@@ -51,7 +52,9 @@ at_births program x t next taken contents (Some cell) = created_births x t next 
 
 raised_births : (program : List ClassListing) (x : CellMachine) (w : World) (t : ℕ) (e : Exception) (o : Option (ℕ × Account)) → (raised_at program x w t e o).births ≤ x.births + 1
 raised_births program x w t e None = carried_births x x.account x.births (thrown program x.world w t 1) _ (omega arith) (omega arith)
-raised_births program x w t e (Some cell) = carried_births x _ (x.births + 1) _ _ (omega arith) (omega arith)
+raised_births program x w t e (Some cell) =
+    carried_births x (birth_in cell.1 cell.0 x.births) (x.births + 1)
+    (thrown program x.world (with_object w (suc cell.0) (plain_object (exception_class e))) t (suc cell.0)) _ (omega arith) (omega arith)
 
 pub turned_births : (program : List ClassListing) (x : CellMachine) (t : ℕ) (c : Completion) → (turned_on program x t c).births ≤ x.births + 1
 unfolding turned_on
@@ -60,7 +63,8 @@ turned_births program x t (Prints after bytes) = omega arith
 turned_births program x t (Creates next taken contents) = at_births program x t next taken contents (take_cell x.account (words_in contents))
 turned_births program x t (Throws r) = carried_births x x.account x.births (thrown program x.world x.world t r) _ (omega arith) (omega arith)
 turned_births program x t (Raises e) = raised_births program x x.world t e (take_cell x.account 0)
-turned_births program x t (Denies states) = raised_births program x _ t exception.NoClassDefFound (take_cell x.account 0)
+turned_births program x t (Denies states) =
+    raised_births program x (with_class_states x.world states) t exception.NoClassDefFound (take_cell x.account 0)
 turned_births program x t (Faults fault) = omega arith
 turned_births program x t Waits = omega arith
 
@@ -95,7 +99,8 @@ module _ (program : List ClassListing) (f : Frame) (served : ServedProgram progr
 
   raised_runs : (e : Exception) (o : Option (ℕ × Account)) → RunThreads program (raised_at program x x.world 0 e o).world.threads
   raised_runs e None = carried_runs x.account x.births x.world 1 alone none
-  raised_runs e (Some cell) = carried_runs _ (x.births + 1) _ _ alone none
+  raised_runs e (Some cell) =
+      carried_runs (birth_in cell.1 cell.0 x.births) (x.births + 1) (with_object x.world (suc cell.0) (plain_object (exception_class e))) (suc cell.0) alone none
 
   raises_runs : (e : Exception) → Runs (raises e)
   unfolding turned_on

@@ -15,18 +15,20 @@ use Rattle.instructions.specs.declared.acting.Turned.{Turned}
 use Rattle.instructions.specs.declared.kinds.Course.{Course}
 use Rattle.instructions.specs.declared.kinds.Course.TheVariants.{Live, Returned, Threw}
 use Rattle.instructions.specs.declared.machines.Machine.{Machine}
-use Rattle.instructions.specs.declared.state.State.{State}
+use Rattle.instructions.specs.declared.state.State.TheInside.{Inside}
 use Rattle.instructions.specs.Acting.{HasRoomFor, Stays, Turns, operated, printed_by, shown, site_of, standing, stepped, told, turned}
-use Rattle.instructions.specs.Loaded.{IsSound, Loaded, RunsMain, RunsMainUnlessEnded, after_step, machine_shown}
+use Rattle.instructions.specs.Loaded.{IsSound, Loaded, RunsMain, RunsMainUnlessEnded, after_collection, after_step, machine_shown}
+use Rattle.instructions.specs.Heaps.{collected}
 use Rattle.instructions.specs.Shown.{thread_shown}
 use Rattle.instructions.proofs.Refusing.{allowed}
 use Rattle.instructions.proofs.Running.{RunThreads, operated_runs, runs_shown, turned_births}
+use Rattle.instructions.proofs.ShownLemmas.{collected_shown as collected_on_shown}
 use Rattle.instructions.proofs.Stepping.{completion_stepped}
 use Rattle.instructions.proofs.Waiting.{now, told_in}
 
 -- ---- a thread that nothing refuses is the first, and lives
 
-first_lives : (a : State) (course : Course) (t : ℕ) → lives (slice_get (thread_shown a.program course a.machine.frames ∷ []) t) ≡ true → (course ≡ Live) × (t ≡ 0)
+first_lives : (a : Inside) (course : Course) (t : ℕ) → lives (slice_get (thread_shown a.program course a.machine.frames ∷ []) t) ≡ true → (course ≡ Live) × (t ≡ 0)
 first_lives a Live zero e = (refl, refl)
 first_lives a Live (suc t) e = cc
 first_lives a Returned zero e = cc
@@ -34,19 +36,19 @@ first_lives a Returned (suc t) e = cc
 first_lives a (Threw kind) zero e = cc
 first_lives a (Threw kind) (suc t) e = cc
 
-abbrev pub Sound : State → Type 0
+abbrev pub Sound : Inside → Type 0
 Sound a = IsSound a.program a.limits a.course a.machine.frames a.machine.slots.items a.states.items a.machine.heap a.rows (vec_capacity a.machine.output)
 
 -- what contracts see of the state
-abbrev pub loaded : State → Loaded
+abbrev pub loaded : Inside → Loaded
 loaded a = record { program = a.program; limits = a.limits; shape = a.machine.heap.shape; machine = machine_shown a.program a.course a.machine.frames a.machine.slots.items a.states.items a.machine.heap a.machine.output.items a.fault a.rows }
 
 -- the step at which the thread stands
-abbrev pub step_here : State → Frame
+abbrev pub step_here : Inside → Frame
 step_here a = running_frame a.machine.frames
 
 -- a state whose thread has a turn
-pub record IsGoing (a : State) (t : ℕ) : Type 0 where
+pub record IsGoing (a : Inside) (t : ℕ) : Type 0 where
   pub lives : a.course ≡ Live
   pub first : t ≡ 0
   pub main : RunsMain a.program a.machine.frames
@@ -54,7 +56,7 @@ pub record IsGoing (a : State) (t : ℕ) : Type 0 where
   pub counted : a.rows < a.limits.steps
   pub fits : HasRoomFor a.machine (printed_by (step_here a) (standing a.program (step_here a)).operation)
 
-runs_live : (a : State) (course : Course) → course ≡ Live → RunsMainUnlessEnded a.program course a.machine.frames → RunsMain a.program a.machine.frames
+runs_live : (a : Inside) (course : Course) → course ≡ Live → RunsMainUnlessEnded a.program course a.machine.frames → RunsMain a.program a.machine.frames
 runs_live a Live e runs = runs
 runs_live a Returned e runs = cc
 runs_live a (Threw kind) e runs = cc
@@ -63,7 +65,7 @@ room_for : (limit capacity before : ℕ) (o : Option (List ℕ)) → limit ≤ c
 room_for limit capacity before None room h = tt
 room_for limit capacity before (Some line) room h = omega arith
 
-pub going : (a : State) (t : ℕ) → Sound a → refusal a.program a.limits (now a) (Thread t) ≡ None → IsGoing a t
+pub going : (a : Inside) (t : ℕ) → Sound a → refusal a.program a.limits (now a) (Thread t) ≡ None → IsGoing a t
 going a t sound e =
     let may = allowed (loaded a) t e in
     let first = first_lives a a.course t may.live in
@@ -77,7 +79,7 @@ going a t sound e =
       fits = room_for a.limits.output (vec_capacity a.machine.output) (length a.machine.output.items) (printed_by (step_here a) (standing a.program (step_here a)).operation) sound.room fits;
     }
 
-module _ (a : State) (t : ℕ) (sound : Sound a) (g : IsGoing a t) where
+module _ (a : Inside) (t : ℕ) (sound : Sound a) (g : IsGoing a t) where
   -- the machine on cells before the turn
   abbrev before : CellMachine
   before = shown a.program a.states.items a.rows a.machine Live
@@ -145,3 +147,10 @@ module _ (a : State) (t : ℕ) (sound : Sound a) (g : IsGoing a t) where
 
     pub fault_outcome : FaultOutcome ≡ outcome_on a.program (loaded a).machine (Thread t)
     fault_outcome = ap (λ (x : CellMachine × Outcome). x.1) (told_is m (Err fault) has) ∙ sym outcome_is
+
+-- ---- a turn of the collector
+
+pub collected_shown : (a : Inside) → record { program = a.program; limits = a.limits; shape = a.machine.heap.shape; machine = machine_shown a.program a.course a.machine.frames a.machine.slots.items a.states.items (collected a.program a.course a.machine.frames a.machine.slots.items a.machine.heap) a.machine.output.items a.fault (a.rows + 1) } ≡ after_collection (loaded a)
+collected_shown a =
+    ap (λ (x : CellMachine). let s : Loaded = record { program = a.program; limits = a.limits; shape = a.machine.heap.shape; machine = counted_on x } in s)
+    (sym (collected_on_shown a.program a.course a.machine.frames a.machine.slots.items a.states.items a.machine.output.items a.fault a.rows a.machine.heap))

@@ -1,21 +1,21 @@
 -- No thread of a state waits: it has ended, or runs main, all of whose code is carried out.
 use Rattle.std.proofs.Common.{◌≡◌, ℕ, zero, suc, List, [], ◌∷◌, Option, Some, None, Bool, true, false, is_none, refl, ap, sym, ◌∙◌, ◌+◌, subst}
-use Rattle.std.specs.Prelude.{◌&&◌, ◌||◌, ◌++◌, drop, take, length, nat_lt, not, vec_capacity}
-use Rattle.std.specs.List.{find, list_any}
+use Rattle.std.specs.Prelude.{◌&&◌, ◌||◌, ◌++◌, drop, take, length, nat_lt, not, is_some, vec_capacity}
+use Rattle.std.specs.List.{find}
 use Rattle.std.specs.Option.{option_map}
 use Rattle.model.specs.declared.turns.Status.TheVariants.{Running}
 use Rattle.model.specs.ClassListings.{ClassListing}
 use Rattle.model.specs.Frames.{running_frame}
 use Rattle.model.specs.Completions.{waits}
 use Rattle.model.specs.Observers.{cyclic_from, status_by, status_in}
-use Rattle.model.specs.Ready.{is_ready, thread_numbers}
+use Rattle.model.specs.Ready.{is_ready, some_is_ready, some_lives}
 use Rattle.model.specs.Turns.{overflows, passes, print_of}
 use Rattle.model.specs.Table.Next.{completion}
 use Rattle.model.specs.Worlds.{World, is_live}
 use Rattle.model.proofs.Served.{completion-none}
 use Rattle.instructions.specs.declared.kinds.Course.{Course}
 use Rattle.instructions.specs.declared.kinds.Course.TheVariants.{Live, Returned, Threw}
-use Rattle.instructions.specs.declared.state.State.{State}
+use Rattle.instructions.specs.declared.state.State.TheInside.{Inside}
 use Rattle.instructions.specs.Acting.{printed_by, standing}
 use Rattle.instructions.specs.Loaded.{IsSound, RunsMainUnlessEnded, world_shown}
 use Rattle.instructions.proofs.Stepping.{never_waits, print_stepped}
@@ -38,9 +38,34 @@ drop_nil (suc n) = refl
 found_front : (p : ℕ → Bool) (rest : List ℕ) → p 0 ≡ true → Some 0 ≡ find p (0 ∷ rest)
 found_front p rest e = rw e refl
 
-found : (p : ℕ → Bool) (start : ℕ) → p 0 ≡ true → Some 0 ≡ find p (cyclic_from start (0 ∷ []))
+-- the one thread is found from wherever on, where it is sought
+pub found : (p : ℕ → Bool) (start : ℕ) → p 0 ≡ true → Some 0 ≡ find p (cyclic_from start (0 ∷ []))
 found p zero e = rw e refl
 found p (suc n) e = found_front p (take n []) e ∙ ap (λ (xs : List ℕ). find p (xs ++ take (suc n) (0 ∷ []))) (sym (drop_nil n))
+
+take_nil : (n : ℕ) → take n (let none : List ℕ = [] in none) ≡ []
+take_nil zero = refl
+take_nil (suc n) = refl
+
+not_found_alone : (p : ℕ → Bool) → p 0 ≡ false → None ≡ find p (0 ∷ [])
+not_found_alone p e = rw e refl
+
+pub not_found : (p : ℕ → Bool) (start : ℕ) → p 0 ≡ false → None ≡ find p (cyclic_from start (0 ∷ []))
+not_found p zero e = not_found_alone p e
+not_found p (suc n) e =
+    not_found_alone p e ∙ ap (λ (xs : List ℕ). find p (0 ∷ xs)) (sym (take_nil n))
+    ∙ ap (λ (xs : List ℕ). find p (xs ++ take (suc n) (0 ∷ []))) (sym (drop_nil n))
+
+-- ---- whether one of one thread is held by the output
+
+pub held_if_ready : (ready full : Bool) → ready ≡ true → full ≡ ((ready && full) || false)
+held_if_ready true true e = refl
+held_if_ready true false e = refl
+held_if_ready false full e = cc
+
+pub held_unless_ready : (ready full : Bool) → ready ≡ false → false ≡ ((ready && full) || false)
+held_unless_ready true full e = cc
+held_unless_ready false full e = refl
 
 ready-not : (a b : Bool) → (a && b && true) ≡ (a && b)
 ready-not true true = refl
@@ -56,7 +81,7 @@ passes-length : (limit : ℕ) (output : List ℕ) (line : Option (List ℕ)) →
 passes-length limit output None = refl
 passes-length limit output (Some line) = refl
 
-module _ (a : State) where
+module _ (a : Inside) where
   -- the world that the state shows, the thread being in some course
   abbrev pub in_course : Course → World
   in_course course = world_shown a.program course a.machine.frames a.machine.slots.items a.states.items a.machine.heap.objects a.machine.output.items a.fault a.rows
@@ -88,13 +113,11 @@ module _ (a : State) where
     one_ready : a.fault ≡ None → a.course ≡ Live → is_ready a.program now 0 ≡ true
     one_ready none lives = ready_shown 0 ∙ ap (λ b. is_none a.fault && b) (lives_first a.course lives) ∙ rw none refl
 
-    -- and then it is the first, from wherever on
-    pub first_ready : a.fault ≡ None → a.course ≡ Live → (start : ℕ) → Some 0 ≡ find (is_ready a.program now) (cyclic_from start (thread_numbers now))
-    first_ready none lives start = found (is_ready a.program now) start (one_ready none lives)
-
     pub is_running : a.fault ≡ None → a.course ≡ Live → Running ≡ status_in a.program now
     is_running none lives =
-        sym (rw (none, lives_first a.course lives) (ap (λ (ready : Bool). status_by false true (ready || false)) (one_ready none lives)))
+        sym (ap (λ fault. status_by (is_some fault) (some_lives now) (some_is_ready a.program now)) none
+        ∙ ap (λ b. status_by false (b || false) (some_is_ready a.program now)) (lives_first a.course lives)
+        ∙ ap (λ b. status_by false true (b || false)) (one_ready none lives))
 
     -- a thread that lives has one frame
     alone_in : (course : Course) → RunsMainUnlessEnded a.program course a.machine.frames → (t : ℕ) → is_live (in_course course) t ≡ true → length a.machine.frames ≡ 1
@@ -108,7 +131,7 @@ module _ (a : State) where
     lives_alone t e = alone_in a.course sound.main t e
 
     -- it prints what its step does
-    told_in : (course : Course) → RunsMainUnlessEnded a.program course a.machine.frames → (t : ℕ) → is_live (in_course course) t ≡ true → print_of a.program (in_course course) t ≡ printed_by (running_frame a.machine.frames) (standing a.program (running_frame a.machine.frames)).operation
+    pub told_in : (course : Course) → RunsMainUnlessEnded a.program course a.machine.frames → (t : ℕ) → is_live (in_course course) t ≡ true → print_of a.program (in_course course) t ≡ printed_by (running_frame a.machine.frames) (standing a.program (running_frame a.machine.frames)).operation
     told_in Live main zero e =
         print_stepped a.program (in_course Live) main.frame sound.served main.main_is main.plain main.alone
         ∙ ap (λ frames. printed_by (running_frame frames) (standing a.program (running_frame frames)).operation) (sym main.alone)

@@ -1,4 +1,4 @@
-use Rattle.std.specs.Prelude.{◌≡◌, ◌≤◌, ◌+◌, ℕ, List, [], ◌∷◌, length, replicate, Option, Some, None}
+use Rattle.std.specs.Prelude.{◌≡◌, ◌<◌, ◌≤◌, ◌+◌, ◌^◌, ℕ, List, [], ◌∷◌, length, replicate, Option, Some, None}
 use Rattle.model.specs.declared.journals.HeapShape.{HeapShape}
 use Rattle.model.specs.declared.journals.Limits.{Limits}
 use Rattle.model.specs.declared.turns.ClassState.{ClassState}
@@ -77,5 +77,6 @@ pub record IsSound (program : List ClassListing) (limits : Limits) (course : Cou
   pub steps : limits.steps ≤ 16777215
   pub main : RunsMainUnlessEnded program course frames
   pub initialised : states ≡ replicate (length program) Done
+  pub few_slots : length slots < 2 ^ 32
   pub slots_are : length slots ≡ length (opening_slots program)
   pub births : heap.births ≤ rows + 3

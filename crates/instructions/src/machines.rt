@@ -16,11 +16,12 @@ pub(crate) struct Machine {
 }
 
 impl Machine {
-    ghost use Rattle.std.specs.Prelude.{◌≡◌};
+    ghost use Rattle.std.specs.Prelude.{◌≡◌, ◌<◌, ◌^◌, length};
     ghost use Rattle.instructions.specs.Heaps.{collected};
 
     /// The collector's turn.
     pub(crate) fn collect(&mut self, program: &Program, course: Course)
+        requires { length self.old.slots.items < 2 ^ 32 }
         ensures heap { self.new.heap ≡ collected program.now course self.old.frames self.old.slots.items self.old.heap }
         ensures frames { self.new.frames ≡ self.old.frames }
         ensures slots { self.new.slots ≡ self.old.slots }

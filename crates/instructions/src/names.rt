@@ -16,7 +16,8 @@ fn class_name(alloc: Global, program: &Program, class: u16) -> Result<Name, Allo
     let listings = program.listings();
     let class = class as usize;
     if class < listings.len() {
-        return listings[class].name.share();
+        let listing = &listings[class];
+        return listing.name.share();
     }
     let own = builtin_classes(alloc)?;
     match own.get(class - listings.len()) {
@@ -35,7 +36,7 @@ fn add_last_element(
     ensures { OnOk result (name.new.items ≡ name.old.items ++ last_element program.now element) }
 {
     if element >= 32_768 {
-        name.push(element as u8)?;
+        name.push((element % 256) as u8)?;
     } else {
         name.push(b'L')?;
         name.extend_from_slice(class_name(alloc, program, element)?.as_bytes())?;

@@ -42,21 +42,19 @@ fn named_entry(heap: &Heap, entry: Entry) -> Entry
 fn named_entries(alloc: Global, heap: &Heap, entries: &[Entry]) -> Result<Vec<Entry>, AllocError>
     ensures { IfOk result (λ named. named.items ≡ map (named_entry (birth_read heap.now.account.cells)) entries.now) }
 {
-    let mut named = Vec::with_capacity(alloc, entries.len())?;
-    for entry in entries {
-        named.push(named_entry(heap, *entry))?;
-    }
-    Ok(named)
+    entries
+        .iter()
+        .map(|entry| named_entry(heap, *entry))
+        .collect(alloc)
 }
 
 fn named_values(alloc: Global, heap: &Heap, values: &[Value]) -> Result<Vec<Value>, AllocError>
     ensures { IfOk result (λ named. named.items ≡ map (named_value (birth_read heap.now.account.cells)) values.now) }
 {
-    let mut named = Vec::with_capacity(alloc, values.len())?;
-    for value in values {
-        named.push(named_value(heap, *value))?;
-    }
-    Ok(named)
+    values
+        .iter()
+        .map(|value| named_value(heap, *value))
+        .collect(alloc)
 }
 
 fn named_frame(alloc: Global, heap: &Heap, frame: &FrameView) -> Result<FrameView, AllocError>

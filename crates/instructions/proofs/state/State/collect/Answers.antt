@@ -2,6 +2,7 @@
 use Rattle.std.proofs.Common.{◌<◌, arith}
 use Rattle.model.specs.declared.turns.Actor.TheVariants.{Collector}
 use Rattle.instructions.proofs.Refusing.{unrefused_counted}
+use Rattle.instructions.proofs.Turning.{collected_shown}
 use Rattle.instructions.proofs.Waiting.{now}
 use Rattle.instructions.proofs.state.State.collect.Goals as goal
 
@@ -9,3 +10,8 @@ pub overflow_add-self : goal.overflow_add-self
 overflow_add-self c =
     let h : c.self.inside.rows < c.self.inside.limits.steps = unrefused_counted c.self.inside.program c.self.inside.limits (now c.self.inside) Collector (rw (← c.self.view_is) at c.requires) in
     omega (arith, h)
+
+pub returns : goal.returns
+returns c =
+    rw (c.collect.ensures.heap, c.collect.ensures.frames, c.collect.ensures.slots, c.collect.ensures.output, ← c.self.view_is)
+    (collected_shown c.self.inside)

@@ -7,7 +7,7 @@ print_length-requires c = lives_alone c.self.inside c.self.invariant c.args.thre
 
 pub returns-in-Some : goal.returns-in-Some
 returns-in-Some c =
-    rw (← c.self.view_is)
+    rw (c.output.ensures, ← c.self.view_is)
     (overflows_shown c.self.inside c.self.invariant c.args.thread (rw (← c.self.view_is) at c.requires) (Some c.in-Some.length) c.in-Some.ensures.length)
 
 pub returns-in-None : goal.returns-in-None
