@@ -5,10 +5,10 @@ use Rattle.std.proofs.lemmas.Option.{slice_get-map}
 use Rattle.model.specs.ClassListings.{ClassListing}
 use Rattle.model.specs.Classes.Builtin.{builtin_classes}
 use Rattle.model.specs.Classes.Layout.{layout}
-use Rattle.model.specs.Classes.Subclasses.{is_subclass}
+use Rattle.model.specs.Classes.Types.{is_subtype}
 use Rattle.loader.specs.ClassFacts.{ClassFacts}
 use Rattle.resolve.specs.Numbers.{all_classes, class_names, class_number}
-use Rattle.loader.specs.ClassTables.{class_facts, class_tables, is_below, is_subclass_in, superclass_in, word_of, words_if, words_in}
+use Rattle.loader.specs.ClassTables.{class_facts, class_tables, is_below, is_subtype_in, superclass_in, word_of, words_if, words_in}
 
 read : {A : Type 0} (f : Option ClassFacts → A) (program : List ClassListing) (n : ℕ) (class : Option ClassListing) → slice_get (all_classes program) n ≡ class
     → f (slice_get (class_tables program) n) ≡ f (option_map (class_facts program) class)
@@ -27,10 +27,10 @@ found-at f [] n name at = cc
 found-at f (x ∷ xs) zero name at = cc
 found-at f (x ∷ xs) (suc n) name at = found-at f xs n name at
 
-pub subclass-names : (program : List ClassListing) (n above : ℕ) (c : ClassListing) (name : List ℕ) → slice_get (all_classes program) n ≡ Some c
-    → slice_get (class_names program) above ≡ Some name → is_subclass_in (class_tables program) n above ≡ is_subclass program c.name name
-subclass-names program n above c name at other =
-    read (is_below above) program n (Some c) at ∙ found-at (is_subclass program c.name) (class_names program) above name other
+pub subtype-names : (program : List ClassListing) (n above : ℕ) (c : ClassListing) (name : List ℕ) → slice_get (all_classes program) n ≡ Some c
+    → slice_get (class_names program) above ≡ Some name → is_subtype_in (class_tables program) n above ≡ is_subtype program c.name name
+subtype-names program n above c name at other =
+    read (is_below above) program n (Some c) at ∙ found-at (is_subtype program c.name) (class_names program) above name other
 
 -- the class of a number has the name of the number
 pub name-at : (program : List ClassListing) (n : ℕ) → slice_get (class_names program) n ≡ option_map (λ (c : ClassListing). c.name) (slice_get (all_classes program) n)

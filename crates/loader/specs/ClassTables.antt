@@ -1,15 +1,17 @@
 use Rattle.std.specs.Prelude.{ℕ, List, [], ◌++◌, map, slice_get, slice_index_or, Bool, false, Option, Some, None}
 use Rattle.std.specs.Option.{option_and_then}
 use Rattle.model.specs.declared.listings.Field.{Field}
+use Rattle.model.specs.declared.values.Value.{Value}
 use Rattle.model.specs.ClassListings.{ClassListing}
+use Rattle.model.specs.Stores.{default_in}
 use Rattle.model.specs.Classes.Layout.{layout}
 use Rattle.model.specs.Classes.Search.{Declared}
-use Rattle.model.specs.Classes.Subclasses.{is_subclass}
+use Rattle.model.specs.Classes.Types.{is_subtype}
 use Rattle.loader.specs.declared.class_tables.Word.{Word}
 use Rattle.loader.specs.ClassFacts.{ClassFacts}
 use Rattle.resolve.specs.Numbers.{all_classes, class_names, class_number}
 use Rattle.loader.specs.ClassNumbers.{class_place}
-use Rattle.loader.specs.Storages.{descriptor_storage}
+use Rattle.loader.specs.Storages.{descriptor_storage, shown_storage}
 
 -- ---- what is known of each class of a program, by its number
 
@@ -21,7 +23,7 @@ abbrev pub class_facts : List ClassListing → ClassListing → ClassFacts
 class_facts program c = record {
   superclass = class_number program c.superclass;
   words = map (word_of program) (layout program c.name);
-  above = map (is_subclass program c.name) (class_names program);
+  above = map (is_subtype program c.name) (class_names program);
 }
 
 abbrev pub class_tables : List ClassListing → List ClassFacts
@@ -43,9 +45,17 @@ words_if (Some facts) = facts.words
 abbrev pub words_in : List ClassFacts → ℕ → List Word
 words_in tables class = words_if (slice_get tables class)
 
+-- what a word holds before it is written
+abbrev pub opening_word : Word → Value
+opening_word word = default_in (shown_storage word.storage)
+
+-- the words of a new object of a class
+abbrev pub defaults_in : List ClassFacts → ℕ → List Value
+defaults_in tables class = map opening_word (words_in tables class)
+
 abbrev pub is_below : ℕ → Option ClassFacts → Bool
 is_below above None = false
 is_below above (Some facts) = slice_index_or facts.above above false
 
-abbrev pub is_subclass_in : List ClassFacts → ℕ → ℕ → Bool
-is_subclass_in tables class above = is_below above (slice_get tables class)
+abbrev pub is_subtype_in : List ClassFacts → ℕ → ℕ → Bool
+is_subtype_in tables class above = is_below above (slice_get tables class)

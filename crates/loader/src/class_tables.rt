@@ -1,12 +1,13 @@
-//! What a turn asks of classes, by their numbers: superclasses, the words of objects, subclasses.
+//! What a turn asks of classes, by their numbers: superclasses, the words of objects, subtypes.
 ghost use Rattle.std.specs.Prelude.{◌≡◌, map, IfOk, OnOk};
-ghost use Rattle.model.specs.Classes.Subclasses.{is_subclass};
-ghost use Rattle.loader.specs.ClassTables.{class_facts, class_tables, is_subclass_in, superclass_in, with_classes, word_of, words_in};
+ghost use Rattle.model.specs.Classes.Types.{is_subtype};
+ghost use Rattle.loader.specs.ClassTables.{class_facts, class_tables, defaults_in, is_subtype_in, opening_word, superclass_in, with_classes, word_of, words_in};
 ghost use Rattle.loader.specs.ClassNumbers.{names_now};
 
 use crate::class_numbers::ClassNumbers;
-use crate::storages::{Storage, storage_of};
+use crate::storages::{Storage, default_in, storage_of};
 use model::listings::{Field, Listing};
+use model::values::Value;
 use resolve::builtins::builtin_classes;
 use resolve::classes::Classes;
 use resolve::found::Found;
@@ -25,16 +26,22 @@ pub struct Word {
 pub struct ClassTable {
     superclass: Option<usize>,
     words: Vec<Word>,
-    /// for each class whether this one is a subclass of it
+    /// what the words hold before they are written
+    defaults: Vec<Value>,
+    /// for each class whether this one is a subtype of it
     above: Vec<bool>,
 }
 
 impl Model for ClassTable {
+    ghost use Rattle.std.specs.Prelude.{◌≡◌, map};
     ghost use Rattle.loader.specs.ClassFacts.{ClassFacts};
+    ghost use Rattle.loader.specs.ClassTables.{opening_word};
 
     ghost Value = { ClassFacts };
 
     ghost view = { λ a. record { superclass = a.superclass; words = a.words.items; above = a.above.items } };
+
+    ghost invariant = { λ a. a.defaults.items ≡ map opening_word a.words.items };
 }
 
 /// What is known of each class of a program by its number, the machine's own behind those of the program. A contract
@@ -73,18 +80,29 @@ fn words_of(
     Ok(words)
 }
 
-/// For each of these classes whether a class is a subclass of it.
+/// What these words hold before they are written.
+fn defaults_of(alloc: Global, words: &[Word]) -> Result<Vec<Value>, AllocError>
+    ensures { IfOk result (λ defaults. defaults.items ≡ map opening_word words.now) }
+{
+    let mut defaults = Vec::new(alloc);
+    for word in words {
+        defaults.push(default_in(word.storage))?;
+    }
+    Ok(defaults)
+}
+
+/// For each of these classes whether a class is a subtype of it.
 fn classes_above(
     alloc: Global,
     classes: &Classes<'_>,
     name: &[u8],
     names: &[&[u8]],
 ) -> Result<Vec<bool>, AllocError>
-    ensures { IfOk result (λ above. above.items ≡ map (is_subclass classes.now name.now) (names_now names.now)) }
+    ensures { IfOk result (λ above. above.items ≡ map (is_subtype classes.now name.now) (names_now names.now)) }
 {
     let mut above = Vec::new(alloc);
     for other in names {
-        above.push(classes.is_subclass(name, *other))?;
+        above.push(classes.is_subtype(name, *other))?;
     }
     Ok(above)
 }
@@ -100,10 +118,12 @@ fn class_table(
     let name = class.name.as_bytes();
     let fields = classes.layout(alloc, name)?;
     let words = words_of(alloc, numbers, &fields)?;
+    let defaults = defaults_of(alloc, &words)?;
     let above = classes_above(alloc, classes, name, numbers.names())?;
     Ok(ClassTable {
         superclass: numbers.number(class.superclass.as_bytes()),
         words,
+        defaults,
         above,
     })
 }
@@ -154,10 +174,21 @@ impl ClassTables {
         }
     }
 
-    /// Whether a class is a subclass of another: the same, or below it through superclasses and superinterfaces. No
-    /// where there is no such class.
-    pub fn is_subclass(&self, class: usize, above: usize) -> bool
-        ensures { result ≡ is_subclass_in self.now class above }
+    /// What the words of a new object of a class hold, before they are written (JVMS 2.3, 2.4). None where there is no
+    /// such class.
+    pub fn defaults(&self, class: usize) -> &[Value]
+        ensures { result.now ≡ defaults_in self.now class }
+    {
+        match self.classes.get(class) {
+            Some(table) => &table.defaults,
+            None => &[],
+        }
+    }
+
+    /// Whether a class is a subtype of another (JVMS 6.5, instanceof): the same, or below it through superclasses and
+    /// superinterfaces. No where there is no such class.
+    pub fn is_subtype(&self, class: usize, above: usize) -> bool
+        ensures { result ≡ is_subtype_in self.now class above }
     {
         match self.classes.get(class) {
             Some(table) => table.above.get(above).copied().unwrap_or(false),

@@ -1,17 +1,15 @@
 //! The static fields of a program, each in a slot (JVMS 2.5.4, 4.7.2, 5.5).
 ghost use Rattle.std.specs.Prelude.{◌≡◌, ◌++◌, map, IfOk, OnOk};
-ghost use Rattle.model.specs.declared.values.Value.TheVariants.{Int as IntValue};
-ghost use Rattle.model.specs.Stores.{default_in, kept};
 ghost use Rattle.model.specs.Worlds.{opening_slot, opening_value};
 ghost use Rattle.loader.specs.StaticSlots.{slot_of, static_slots, statics_in};
 ghost use Rattle.loader.specs.Storages.{shown_storage};
 
 use crate::class_numbers::ClassNumbers;
-use crate::storages::{Storage, storage_of};
+use crate::storages::{Storage, default_in, kept, storage_of};
 use bitflags::Flags;
 use model::flags::FieldFlags;
 use model::listings::{Constant, Field, Listing};
-use model::values::{IntType, Value};
+use model::values::Value;
 use resolve::classes::Classes;
 use std::alloc::{AllocError, Global};
 use std::marker::Model;
@@ -39,37 +37,14 @@ impl Model for StaticSlots {
     ghost view = { λ a. a.slots.items };
 }
 
-/// What is there before it is written.
-fn default_in(storage: Storage) -> Value
-    ensures { result ≡ default_in (shown_storage storage) }
-{
-    match storage {
-        Storage::Byte | Storage::Char | Storage::Short | Storage::Int => Value::Int(0),
-        Storage::Long => Value::Long(0),
-        Storage::Ref => Value::Ref(None),
-    }
-}
-
-/// What is kept of an int.
-fn kept(storage: Storage, int: i32) -> i32
-    ensures { kept (shown_storage storage) (IntValue int) ≡ IntValue result }
-{
-    match storage {
-        Storage::Byte => values::truncate(IntType::Byte, int),
-        Storage::Char => values::truncate(IntType::Char, int),
-        Storage::Short => values::truncate(IntType::Short, int),
-        Storage::Int | Storage::Long | Storage::Ref => int,
-    }
-}
-
 /// What a static field holds at first: its constant, as a store keeps it, or else null or 0.
 fn opening_value(storage: Storage, constant: Option<Constant>) -> Value
     ensures { result ≡ opening_value (shown_storage storage) constant }
 {
     match constant {
         None => default_in(storage),
-        Some(Constant::Int(int)) => Value::Int(kept(storage, int)),
-        Some(Constant::Long(long)) => Value::Long(long),
+        Some(Constant::Int(int)) => kept(storage, Value::Int(int)),
+        Some(Constant::Long(long)) => kept(storage, Value::Long(long)),
     }
 }
 

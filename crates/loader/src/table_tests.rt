@@ -87,7 +87,7 @@ fn classes_by_number(rt: HostRuntime) -> Result<(), Fail> {
         (26, 26, false),
     ] {
         assert_eq!(rt;
-            tables.is_subclass(class, above),
+            tables.is_subtype(class, above),
             is_below,
             "{class} below {above}"
         );
