@@ -1,7 +1,17 @@
 pub mod ActingLemmas
+pub mod ByNumberLemmas
+pub mod CodeResolves
+pub mod HeldLemmas
+pub mod Initialised
 pub mod Keeping
+pub mod KeyedFields
+pub mod Layouts
+pub mod ListPlaces
 pub mod OpeningState
 pub mod Refusing
+pub mod ResolvedFields
 pub mod Stepping
+pub mod StoredLemmas
 pub mod Turning
+pub mod Upwards
 pub mod Waiting
