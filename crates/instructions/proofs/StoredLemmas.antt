@@ -1,0 +1,49 @@
+-- Objects keep all words of their classes: as they are made, written and freed.
+use Rattle.std.proofs.Common.{ℕ, zero, suc, List, [], ◌∷◌, set, slice_get, Option, Some, None, ◌∙◌, length-set}
+use Rattle.std.specs.Option.{option_map}
+use Rattle.std.proofs.lemmas.List.{length-map}
+use Rattle.model.specs.declared.values.Value.{Value}
+use Rattle.model.specs.ClassListings.{ClassListing}
+use Rattle.loader.specs.declared.class_tables.Word.{Word}
+use Rattle.loader.specs.ClassTables.{class_tables, defaults_in, opening_word, words_in}
+use Rattle.cells.specs.Objects.{StoredObject, object_if, word_set}
+use Rattle.instructions.specs.declared.kinds.Kind.{Kind}
+use Rattle.instructions.specs.declared.kinds.Kind.TheVariants.{Instance, Array}
+use Rattle.instructions.specs.ByNumbers.{AreStored, HoldsStored, IsStored}
+use Rattle.instructions.specs.Heaps.{cleared}
+
+module _ (program : List ClassListing) where
+  -- a new object of a class has its words
+  pub defaults-stored : (class : ℕ) → IsStored program (Instance class) (defaults_in (class_tables program) class)
+  defaults-stored class = length-map {A = Word} {B = Value} (words_in (class_tables program) class) opening_word
+
+  pub held-stored : (objects : List (Option (StoredObject Kind))) (cell : ℕ) → AreStored program objects
+      → HoldsStored program (object_if (slice_get objects cell))
+  held-stored [] cell stored = tt
+  held-stored (o ∷ os) zero stored = stored.0
+  held-stored (o ∷ os) (suc cell) stored = held-stored os cell stored.1
+
+  -- one cell gets another object, or none
+  pub set-stored : (objects : List (Option (StoredObject Kind))) (cell : ℕ) (o : Option (StoredObject Kind))
+      → AreStored program objects → HoldsStored program o
+      → AreStored program (set objects cell o)
+  set-stored [] cell o stored new = tt
+  set-stored (x ∷ xs) zero o stored new = (new, stored.1)
+  set-stored (x ∷ xs) (suc cell) o stored new = (stored.0, set-stored xs cell o stored.1 new)
+
+  word-stored : (kind : Kind) (words : List Value) (index : ℕ) (v : Value) → IsStored program kind words
+      → IsStored program kind (set words index v)
+  word-stored (Instance class) words index v fits = length-set words index v ∙ fits
+  word-stored (Array type) words index v fits = tt
+
+  -- a word is written
+  pub written-stored : (o : Option (StoredObject Kind)) (index : ℕ) (v : Value) → HoldsStored program o
+      → HoldsStored program (option_map (word_set index v) o)
+  written-stored None index v fits = tt
+  written-stored (Some object) index v fits = word-stored object.kind object.words index v fits
+
+  -- a cell is freed
+  pub cleared-stored : (objects : List (Option (StoredObject Kind))) (cell : Option ℕ) → AreStored program objects
+      → AreStored program (cleared objects cell)
+  cleared-stored objects None stored = stored
+  cleared-stored objects (Some cell) stored = set-stored objects cell None stored tt
