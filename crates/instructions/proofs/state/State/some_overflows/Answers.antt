@@ -14,4 +14,4 @@ pub returns-else-is_ready : goal.returns-else-is_ready
 returns-else-is_ready c =
     let s = c.args.self.now in
     rw c.is_ready.ensures.one
-    (held_unless_ready (is_ready s.program s.machine.world 0) (overflows s.program s.limits s.machine.world 0) (sym c.is_ready.ensures.ready ∙ c.if-is_ready.false))
+    (c.if-is_ready.false ∙ held_unless_ready (is_ready s.program s.machine.world 0) (overflows s.program s.limits s.machine.world 0) (sym c.is_ready.ensures.ready ∙ c.if-is_ready.false))

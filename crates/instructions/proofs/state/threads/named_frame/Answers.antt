@@ -15,9 +15,10 @@ named_view h f stack locals' stack' monitor' stack_is locals_are values_are moni
 pub returns : goal.returns
 returns c =
     let h = birth_read c.args.heap.now.account.cells in
+    let i = c.frame.inside in
+    let f : Frame = record { method = i.method; pc = i.pc; locals = i.locals.items; stack = reverse i.stack.items; room = i.room; monitor = i.monitor; mark = i.mark } in
     rw (← c.frame.view_is)
-    (named_view h c.args.frame.now c.frame.inside.stack.items c.in_ok-named_entries.field-0.items c.in_ok-named_values.field-0.items c.named_reference.result
-    (rw (← c.frame.view_is) refl)
-    (rw (← c.frame.view_is) (c.in_ok-named_entries.ensures ∙ ap (map (named_entry h)) c.deref.ensures.value))
+    (named_view h f i.stack.items c.in_ok-named_entries.field-0.items c.in_ok-named_values.field-0.items c.named_reference.result refl
+    (c.in_ok-named_entries.ensures ∙ ap (map (named_entry h)) c.deref.ensures.value)
     (c.in_ok-named_values.ensures ∙ ap (map (named_value h)) c.deref-2.ensures.value)
-    (rw (← c.frame.view_is) c.named_reference.ensures))
+    c.named_reference.ensures)
