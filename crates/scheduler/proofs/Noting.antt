@@ -1,5 +1,10 @@
 -- An actor's turn on the state, and its row in the journal: the state is joined to what the journal stands for again.
-use Rattle.std.proofs.Common.{◌≡◌, ◌<◌, ◌≤◌, ◌+◌, ℕ, List, [], ◌∷◌, ◌++◌, length, Some, None, refl, ap, sym, subst, ◌∙◌, arith, length-append}
+use Rattle.std.proofs.Common.{◌≡◌, ◌<◌, ◌≤◌, ◌+◌, ℕ, zero, suc, List, [], ◌∷◌, ◌++◌, length, Option, Some, None, Bool, cond, refl, ap, sym, subst, ◌∙◌, arith, length-append}
+use Rattle.std.specs.Prelude.{◌&&◌, ◌||◌, map, slice_get}
+use Rattle.std.specs.List.{find, list_any}
+use Rattle.std.specs.Option.{option_map}
+use Rattle.model.specs.declared.journals.Outcome.{Outcome}
+use Rattle.model.specs.declared.journals.Outcome.TheVariants.{Done}
 use Rattle.model.specs.declared.journals.HeapShape.{HeapShape}
 use Rattle.model.specs.declared.journals.Limits.{Limits}
 use Rattle.model.specs.declared.journals.Row.{Row}
@@ -10,14 +15,16 @@ use Rattle.model.specs.Collector.Runs.{Holds}
 use Rattle.model.specs.Effects.{Choice}
 use Rattle.model.specs.Journals.{JournalValue, blank, with_row}
 use Rattle.model.specs.Limits.{ShapeFits}
-use Rattle.model.specs.Worlds.{World}
-use Rattle.model.specs.Turns.{refusal, choice_by, acted, unless_refused}
+use Rattle.model.specs.Worlds.{World, Thread as ThreadOf}
+use Rattle.model.specs.Turns.{overflows, refusal, choice_by, acted, unless_refused}
 use Rattle.model.specs.Machines.{Machine, Recorded, after_turn_by, answer_to, machine_of, machine_of-noted, noted, opening_machine, outcome_of, row_for, told_of, with_row as recorded_with}
-use Rattle.model.specs.Observers.{ideal, after_actor, after_last}
+use Rattle.model.specs.Naming.{named_thread}
+use Rattle.model.specs.Observers.{ideal, after_actor, after_last, cyclic_from, is_held_by_output, pick_of, thread_of}
+use Rattle.model.specs.Ready.{is_ready, thread_numbers}
 use Rattle.model.proofs.NextKeeps.{next-rows}
 use Rattle.model.proofs.CollectorLemmas.Running.{opening_holds, recorded_keeps}
 use Rattle.join.specs.Joined.{Bounded, Joint}
-use Rattle.join.specs.ReadBack.{ReadsBack}
+use Rattle.join.specs.ReadBack.{ReadsBack, birth_read}
 use Rattle.join.specs.Runs.{TurnIsShown}
 use Rattle.join.specs.TurnsOnCells.{CellMachine, acted_on, counted_on, moved_on, outcome_on, row_on}
 use Rattle.join.proofs.Opening.{opening_bounded, opening_joins}
@@ -70,17 +77,24 @@ module _ (s : Loaded) (j : JournalValue) (k : ℕ) (is : IsOf s j k) where
     unfolding after_turn_by
     after_is = ap (recorded_with v) row_is
 
+    abbrev outcome_in : Option Row → Outcome
+    outcome_in None = Done
+    outcome_in (Some r) = r.outcome
+
+    ideal_row : row_for v actor worker ≡ Some (record { actor = actor; outcome = outcome_of s.program (machine_of v) actor; worker = worker })
+    ideal_row = rw e refl
+
     -- the outcome on cells is the outcome
     pub outcome_is : outcome_on s.program s.machine actor ≡ outcome_of s.program (machine_of v) actor
-    outcome_is = let ideal_row : row_for v actor worker ≡ Some (record { actor = actor; outcome = outcome_of s.program (machine_of v) actor; worker = worker }) = rw e refl in cc (row_is, ideal_row)
+    outcome_is = ap outcome_in (sym row_is ∙ ideal_row)
 
     -- the state after the turn
     abbrev pub after : Loaded
-    after = record s { machine = counted_on (acted_on s.program j.shape s.machine actor) }
+    after = record s { machine = counted_on (acted_on s.program s.shape s.machine actor) }
 
-    moved_is : moved_on s.program j.shape j.limits s.machine actor ≡ counted_on (acted_on s.program j.shape s.machine actor)
+    moved_is : moved_on s.program j.shape j.limits s.machine actor ≡ counted_on (acted_on s.program s.shape s.machine actor)
     unfolding moved_on
-    moved_is = rw on_cells refl
+    moved_is = rw on_cells (ap (λ (shape : HeapShape). counted_on (acted_on s.program shape s.machine actor)) (sym is.shape_is))
 
     joint_after : Joint after.machine (machine_of (noted v row))
     joint_after = subst (λ m. Joint after.machine (machine_of m)) after_is (subst (λ x. Joint x (machine_of (after_turn_by v actor worker))) moved_is shown.joint)
@@ -107,6 +121,50 @@ module _ (s : Loaded) (j : JournalValue) (k : ℕ) (is : IsOf s j k) where
   -- the answer to a turn is told by the state's fault
   pub answer_is : told_of s.machine.world.fault ≡ told_of (ideal v).fault
   answer_is = ap told_of back.fault
+
+-- ---- what observers answer
+
+find-same : (p q : ℕ → Bool) → ((n : ℕ) → p n ≡ q n) → (ns : List ℕ) → find p ns ≡ find q ns
+find-same p q same [] = refl
+find-same p q same (n ∷ ns) = ap (λ b. cond b (Some n) (find p ns)) (same n) ∙ ap (cond (q n) (Some n)) (find-same p q same ns)
+
+any-same : (p q : ℕ → Bool) → ((n : ℕ) → p n ≡ q n) → (ns : List ℕ) → list_any p ns ≡ list_any q ns
+any-same p q same [] = refl
+any-same p q same (n ∷ ns) = ap (λ b. b || list_any p ns) (same n) ∙ ap (λ b. q n || b) (any-same p q same ns)
+
+got-mapped : {A B : Type 0} (f : A → B) (xs : List A) (n : ℕ) → option_map f (slice_get xs n) ≡ slice_get (map f xs) n
+got-mapped f [] n = refl
+got-mapped f (x ∷ xs) zero = refl
+got-mapped f (x ∷ xs) (suc n) = got-mapped f xs n
+
+module _ (s : Loaded) (j : JournalValue) (k : ℕ) (is : IsOf s j k) where
+  abbrev r : Recorded
+  r = recorded s j
+
+  abbrev read : ReadsBack s.program j.limits s.machine (machine_of r)
+  read = back s j k is
+
+  pub pick_is : find (is_ready s.program s.machine.world) (cyclic_from k (thread_numbers s.machine.world)) ≡ pick_of r
+  pick_is =
+      ap (λ ns. find (is_ready s.program s.machine.world) (cyclic_from k ns)) read.threads_numbered
+      ∙ ap (λ n. find (is_ready s.program s.machine.world) (cyclic_from n (thread_numbers (ideal r)))) is.next_is
+      ∙ find-same (is_ready s.program s.machine.world) (is_ready s.program (ideal r)) read.ready (cyclic_from (after_last 0 j.rows) (thread_numbers (ideal r)))
+
+  held_is : (t : ℕ) → is_held_by_output s.program s.limits s.machine.world t ≡ is_held_by_output s.program j.limits (ideal r) t
+  held_is t =
+      ap (λ (l : Limits). is_held_by_output s.program l s.machine.world t) is.limits_are
+      ∙ ap (λ b. b && overflows s.program j.limits s.machine.world t) (read.ready t)
+      ∙ ap (λ b. is_ready s.program (ideal r) t && b) (read.overflowing t)
+
+  pub some_held_is : list_any (is_held_by_output s.program s.limits s.machine.world) (thread_numbers s.machine.world) ≡ list_any (is_held_by_output s.program j.limits (ideal r)) (thread_numbers (ideal r))
+  some_held_is =
+      ap (list_any (is_held_by_output s.program s.limits s.machine.world)) read.threads_numbered
+      ∙ any-same (is_held_by_output s.program s.limits s.machine.world) (is_held_by_output s.program j.limits (ideal r)) held_is (thread_numbers (ideal r))
+
+  pub thread_is : (t : ℕ) → option_map (named_thread (birth_read s.machine.account.cells)) (slice_get s.machine.world.threads t) ≡ thread_of r t
+  thread_is t =
+      got-mapped (named_thread (birth_read s.machine.account.cells)) s.machine.world.threads t
+      ∙ ap (λ (threads : List ThreadOf). slice_get threads t) read.threads
 
 -- ---- the opening
 
