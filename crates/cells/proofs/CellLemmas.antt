@@ -96,7 +96,11 @@ unwritten cells cell index v past =
 
 -- ---- a new object
 
-pub placed : {K : Type 0} (shape : HeapShape) (room : ℕ → ℕ) (words new vs : List Value) (hs : List (Header K)) (cell count : ℕ) (h h' : Header K) (kind : K) → AreLaidOut room 0 0 hs (length words) → slice_get hs cell ≡ Some h → length vs ≡ count → count ≤ h.room → new ≡ overwritten words h.base count vs → h' ≡ record { base = h.base; room = h.room; length = count; kind = Some kind; monitor = free_monitor; thread = None } → cells_in shape new (set hs cell h') ≡ with_object (cells_in shape words hs) cell (Some (made_object kind vs))
+pub placed : {K : Type 0} (shape : HeapShape) (room : ℕ → ℕ) (words new vs : List Value) (hs : List
+    (Header K)) (cell count : ℕ) (h h' : Header K) (kind : K) → AreLaidOut room 0 0 hs (length words)
+    → slice_get hs cell ≡ Some h → length vs ≡ count → count ≤ h.room → new ≡ overwritten words h.base count vs
+    → h' ≡ record { base = h.base; room = h.room; length = count; kind = Some kind; monitor = free_monitor; thread = None }
+    → cells_in shape new (set hs cell h') ≡ with_object (cells_in shape words hs) cell (Some (made_object kind vs))
 placed shape room words new vs hs cell count h h' kind laid found long fits is header_is =
     let at = stands_at room 0 0 hs (length words) cell (0 + cell) h laid found refl in
     let within = at.1 in

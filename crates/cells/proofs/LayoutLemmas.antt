@@ -150,7 +150,11 @@ laid_out-set_for room hs words new cell h h' laid same found base_is room_is fit
     rw same (laid_out-set room 0 0 hs (length words) cell h h' laid found base_is room_is fits nobody)
 
 -- with a new object in it
-pub laid_out-occupied : {K : Type 0} (room : ℕ → ℕ) (hs : List (Header K)) (words new : List Value) (cell count : ℕ) (h h' : Header K) (kind : K) → AreLaidOut room 0 0 hs (length words) → length new ≡ length words → slice_get hs cell ≡ Some h → count ≤ h.room → h' ≡ record { base = h.base; room = h.room; length = count; kind = Some kind; monitor = free_monitor; thread = None } → AreLaidOut room 0 0 (set hs cell h') (length new)
+pub laid_out-occupied : {K : Type 0} (room : ℕ → ℕ) (hs : List
+    (Header K)) (words new : List Value) (cell count : ℕ) (h h' : Header K) (kind : K)
+    → AreLaidOut room 0 0 hs (length words) → length new ≡ length words → slice_get hs cell ≡ Some h → count ≤ h.room
+    → h' ≡ record { base = h.base; room = h.room; length = count; kind = Some kind; monitor = free_monitor; thread = None }
+    → AreLaidOut room 0 0 (set hs cell h') (length new)
 laid_out-occupied room hs words new cell count h h' kind laid same found fits is =
     rw is (laid_out-set_for room hs words new cell h _ laid same found refl refl fits (λ none. cc none))
 

@@ -43,11 +43,13 @@ set_used words base count index v within =
 abbrev pub overwritten : List Value → ℕ → ℕ → List Value → List Value
 overwritten words base count vs = take base words ++ vs ++ drop (base + count) words
 
-length-overwritten : (words : List Value) (base count : ℕ) (vs : List Value) → length vs ≡ count → base + count ≤ length words → length (take base words ++ vs) ≡ base + count
+length-overwritten : (words : List Value) (base count : ℕ) (vs : List Value) → length vs ≡ count
+    → base + count ≤ length words → length (take base words ++ vs) ≡ base + count
 length-overwritten words base count vs long within =
     omega (arith, long, length-append (take base words) vs, length-take-le base words (omega arith))
 
-pub overwrite_same : (words : List Value) (base count : ℕ) (vs : List Value) → length vs ≡ count → base + count ≤ length words → SameOutside base (base + count) words (overwritten words base count vs)
+pub overwrite_same : (words : List Value) (base count : ℕ) (vs : List Value) → length vs ≡ count
+    → base + count ≤ length words → SameOutside base (base + count) words (overwritten words base count vs)
 overwrite_same words base count vs long within = record {
   long =
       omega (arith, length-append (take base words ++ vs) (drop (base + count) words), length-overwritten words base count vs long within, length-drop (base + count) words);
@@ -57,12 +59,14 @@ overwrite_same words base count vs long within = record {
   above = drop_at (take base words ++ vs) (drop (base + count) words) (base + count) (length-overwritten words base count vs long within);
 }
 
-pub overwrite_used : (words : List Value) (base count : ℕ) (vs : List Value) → length vs ≡ count → base + count ≤ length words → take count (drop base (overwritten words base count vs)) ≡ vs
+pub overwrite_used : (words : List Value) (base count : ℕ) (vs : List Value) → length vs ≡ count
+    → base + count ≤ length words → take count (drop base (overwritten words base count vs)) ≡ vs
 overwrite_used words base count vs long within =
     ap (λ ws. take count (drop base ws)) (append_assoc (take base words) vs (drop (base + count) words))
     ∙ ap (take count) (drop_at (take base words) (vs ++ drop (base + count) words) base (length-take-le base words (omega arith)))
     ∙ take_at vs (drop (base + count) words) count long
 
 -- the same of words that are told twice
-pub overwrite_told : (new words told : List Value) (base count : ℕ) (vs : List Value) → new ≡ overwritten told base count vs → told ≡ words → new ≡ overwritten words base count vs
+pub overwrite_told : (new words told : List Value) (base count : ℕ) (vs : List Value)
+    → new ≡ overwritten told base count vs → told ≡ words → new ≡ overwritten words base count vs
 overwrite_told new words told base count vs is same = is ∙ ap (λ ws. overwritten ws base count vs) same

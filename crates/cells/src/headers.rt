@@ -35,7 +35,14 @@ pub fn vacant<K: Copy>(base: u32, room: u16) -> Header<K>
 
 /// The header of the same cell with a new object of so many words.
 pub fn occupied<K: Copy>(cell: Header<K>, kind: K, length: u16) -> Header<K>
-    ensures { result ≡ record { base = cell.base; room = cell.room; length = length; kind = Some kind; monitor = free_monitor; thread = None } }
+    ensures { result ≡ record {
+      base = cell.base;
+      room = cell.room;
+      length = length;
+      kind = Some kind;
+      monitor = free_monitor;
+      thread = None;
+    } }
 {
     Header {
         length,

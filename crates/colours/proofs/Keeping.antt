@@ -98,7 +98,9 @@ pub record Leaves (a : Account) (c : ℕ) (b : Account) : Type 0 where
   pub fewer : how_many_listed a ≡ how_many_listed b + 1
 
 -- the front cell of a list that fits, or what the greater sizes have
-pub front_taken : (fits : Bool) (without : List ℕ → Account) (free : List ℕ) (larger : Option (ℕ × Account)) (r : ℕ × Account) → or_larger fits without (first_cell free) larger ≡ Some r → ((cs : List ℕ) × (free ≡ r.0 ∷ cs) × (r.1 ≡ without cs) × (fits ≡ true)) ⊎ (larger ≡ Some r)
+pub front_taken : (fits : Bool) (without : List ℕ → Account) (free : List ℕ) (larger : Option
+    (ℕ × Account)) (r : ℕ × Account) → or_larger fits without (first_cell free) larger ≡ Some r
+    → ((cs : List ℕ) × (free ≡ r.0 ∷ cs) × (r.1 ≡ without cs) × (fits ≡ true)) ⊎ (larger ≡ Some r)
 front_taken true without (c ∷ cs) larger r e =
     let k : (c, without cs) ≡ r = cc in
     let f : r.0 ≡ c = sym (ap (λ (p : ℕ × Account). p.0) k) in

@@ -35,11 +35,15 @@ refs-keyed (k ∷ keys) (v ∷ vs) = ap (λ rs. ref_of v ∷ rs) (refs-keyed key
 
 -- ---- the value at a place
 
-pub value-keyed : (keys : List FieldValue) (vs : List Value) (n : ℕ) → option_map (λ (f : FieldValue). f.value) (slice_get (keyed keys vs) n) ≡ slice_get vs n
-value-keyed keys vs n = sym (slice_get-map (λ (f : FieldValue). f.value) (keyed keys vs) n) ∙ ap (λ ws. slice_get ws n) (values-keyed keys vs)
+pub value-keyed : (keys : List FieldValue) (vs : List Value) (n : ℕ)
+    → option_map (λ (f : FieldValue). f.value) (slice_get (keyed keys vs) n) ≡ slice_get vs n
+value-keyed keys vs n =
+    sym (slice_get-map (λ (f : FieldValue). f.value) (keyed keys vs) n)
+    ∙ ap (λ ws. slice_get ws n) (values-keyed keys vs)
 
 -- under the key of its place
-pub keyed-found : (keys : List FieldValue) (vs : List Value) (n : ℕ) (k : FieldValue) (v : Value) → slice_get keys n ≡ Some k → slice_get vs n ≡ Some v → slice_get (keyed keys vs) n ≡ Some (record k { value = v })
+pub keyed-found : (keys : List FieldValue) (vs : List Value) (n : ℕ) (k : FieldValue) (v : Value)
+    → slice_get keys n ≡ Some k → slice_get vs n ≡ Some v → slice_get (keyed keys vs) n ≡ Some (record k { value = v })
 keyed-found [] vs n k v key value = absurd (cc)
 keyed-found (x ∷ keys) [] n k v key value = absurd (cc)
 keyed-found (x ∷ keys) (w ∷ vs) zero k v key value =
@@ -50,7 +54,8 @@ keyed-found (x ∷ keys) (w ∷ vs) (suc n) k v key value = keyed-found keys vs 
 
 -- ---- another value at a place
 
-pub keyed-set : (keys : List FieldValue) (vs : List Value) (n : ℕ) (f : FieldValue) (v : Value) → slice_get (keyed keys vs) n ≡ Some f → keyed keys (set vs n v) ≡ set (keyed keys vs) n (record f { value = v })
+pub keyed-set : (keys : List FieldValue) (vs : List Value) (n : ℕ) (f : FieldValue) (v : Value)
+    → slice_get (keyed keys vs) n ≡ Some f → keyed keys (set vs n v) ≡ set (keyed keys vs) n (record f { value = v })
 keyed-set [] [] n f v found = absurd (cc)
 keyed-set (k ∷ keys) [] n f v found = absurd (cc)
 keyed-set [] (w ∷ vs) zero f v found =

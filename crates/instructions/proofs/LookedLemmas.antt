@@ -1,15 +1,12 @@
-use Rattle.std.proofs.Common.{◌≡◌, ℕ, zero, suc, List, [], ◌∷◌, length, map, slice_get, slice_index_or, Option, Some, None, refl, sym, ◌∙◌, ap}
-use Rattle.std.specs.Option.{option_map}
+use Rattle.std.proofs.Common.{◌≡◌, ℕ, zero, suc, List, [], ◌∷◌, length, map, slice_get, Option, Some, None, refl, sym, ◌∙◌, ap}
 use Rattle.std.proofs.lemmas.List.{length-map}
-use Rattle.std.proofs.lemmas.Option.{slice_get-map}
 use Rattle.model.specs.declared.values.Value.{Value}
 use Rattle.model.specs.ClassListings.{ClassListing}
 use Rattle.model.specs.Frames.{Frame}
-use Rattle.model.specs.Worlds.{FieldValue, Object, opening_slots}
+use Rattle.model.specs.Worlds.{opening_slots}
 use Rattle.model.specs.Collector.Places.{field_ref, object_refs, ref_at, ref_of, root_at, word_at, words_of}
 use Rattle.model.specs.Collector.Places.Place.{Slot}
 use Rattle.cells.specs.Objects.{StoredObject, object_if, words_if}
-use Rattle.join.specs.OnCells.{nobody}
 use Rattle.instructions.specs.declared.kinds.Course.{Course}
 use Rattle.instructions.specs.declared.kinds.Kind.{Kind}
 use Rattle.instructions.specs.declared.kinds.Kind.TheVariants.{Instance, Array}
@@ -26,38 +23,51 @@ at_place (v ∷ vs) (suc n) = at_place vs n
 
 -- ---- static fields
 
-pub slots_number : (program : List ClassListing) (slots : List Value) → length slots ≡ length (map field_ref (keyed (opening_slots program) slots))
-slots_number program slots = sym (length-map (keyed (opening_slots program) slots) field_ref ∙ length-keyed (opening_slots program) slots)
+pub slots_number : (program : List ClassListing) (slots : List Value)
+    → length slots ≡ length (map field_ref (keyed (opening_slots program) slots))
+slots_number program slots =
+    sym (length-map (keyed (opening_slots program) slots) field_ref ∙ length-keyed (opening_slots program) slots)
 
-pub slot_is : (program : List ClassListing) (course : Course) (frames : List Frame) (slots : List Value) (objects : List (Option (StoredObject Kind))) (n : ℕ) → ref_if (slice_get slots n) ≡ root_at (world_looked_at program course frames slots objects) (Slot n)
+pub slot_is : (program : List ClassListing) (course : Course) (frames : List Frame) (slots : List Value) (objects : List
+    (Option (StoredObject Kind))) (n : ℕ)
+    → ref_if (slice_get slots n) ≡ root_at (world_looked_at program course frames slots objects) (Slot n)
 unfolding root_at
-slot_is program course frames slots objects n = at_place slots n ∙ ap (λ rs. ref_at rs n) (sym (refs-keyed (opening_slots program) slots))
+slot_is program course frames slots objects n =
+    at_place slots n ∙ ap (λ rs. ref_at rs n) (sym (refs-keyed (opening_slots program) slots))
 
 -- ---- words
 
-shown_refs : (program : List ClassListing) (o : Option (StoredObject Kind)) → object_refs (Some (object_shown program o)) ≡ map ref_of (words_if o)
+shown_refs : (program : List ClassListing) (o : Option (StoredObject Kind))
+    → object_refs (Some (object_shown program o)) ≡ map ref_of (words_if o)
 shown_refs program None = refl
 shown_refs program (Some o) = go o.kind
   where
-    go : (kind : Kind) → object_refs (Some (object_shown program (Some (record o { kind = kind })))) ≡ map ref_of o.words
+    go : (kind : Kind)
+        → object_refs (Some (object_shown program (Some (record o { kind = kind })))) ≡ map ref_of o.words
     go (Instance class) = refs-keyed (field_keys program class) o.words
     go (Array type) = refl
 
-words_are : (program : List ClassListing) (objects : List (Option (StoredObject Kind))) (c : ℕ) → words_of (objects_shown program objects) (suc c) ≡ map ref_of (words_if (object_if (slice_get objects c)))
+words_are : (program : List ClassListing) (objects : List (Option (StoredObject Kind))) (c : ℕ)
+    → words_of (objects_shown program objects) (suc c) ≡ map ref_of (words_if (object_if (slice_get objects c)))
 words_are program [] c = refl
 words_are program (o ∷ objects) zero = shown_refs program o
 words_are program (o ∷ objects) (suc c) = words_are program objects c
 
-pub words_number : (program : List ClassListing) (objects : List (Option (StoredObject Kind))) (c : ℕ) → length (words_if (object_if (slice_get objects c))) ≡ length (words_of (objects_shown program objects) (suc c))
+pub words_number : (program : List ClassListing) (objects : List (Option (StoredObject Kind))) (c : ℕ)
+    → length (words_if (object_if (slice_get objects c))) ≡ length (words_of (objects_shown program objects) (suc c))
 words_number program objects c =
     sym (ap length (words_are program objects c) ∙ length-map (words_if (object_if (slice_get objects c))) ref_of)
 
-pub word_is : (program : List ClassListing) (course : Course) (frames : List Frame) (slots : List Value) (objects : List (Option (StoredObject Kind))) (c n : ℕ) → ref_if (slice_get (words_if (object_if (slice_get objects c))) n) ≡ word_at (world_looked_at program course frames slots objects) (suc c) n
+pub word_is : (program : List ClassListing) (course : Course) (frames : List Frame) (slots : List Value) (objects : List
+    (Option (StoredObject Kind))) (c n : ℕ)
+    → ref_if (slice_get (words_if (object_if (slice_get objects c))) n)
+    ≡ word_at (world_looked_at program course frames slots objects) (suc c) n
 unfolding word_at
 word_is program course frames slots objects c n =
     at_place (words_if (object_if (slice_get objects c))) n ∙ ap (λ rs. ref_at rs n) (sym (words_are program objects c))
 
-pub no_word : (program : List ClassListing) (course : Course) (frames : List Frame) (slots : List Value) (objects : List (Option (StoredObject Kind))) (n : ℕ) → None ≡ word_at (world_looked_at program course frames slots objects) 0 n
+pub no_word : (program : List ClassListing) (course : Course) (frames : List Frame) (slots : List Value) (objects : List
+    (Option (StoredObject Kind))) (n : ℕ) → None ≡ word_at (world_looked_at program course frames slots objects) 0 n
 unfolding word_at
 no_word program course frames slots objects n = refl
 
