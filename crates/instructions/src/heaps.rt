@@ -1,7 +1,10 @@
 //! The heap: objects in cells, and the account of the cells.
 ghost use Rattle.std.specs.Prelude.{◌≡◌, ◌+◌, ◌<◌, ◌≤◌, ◌^◌, length, slice_get, IfOk};
 ghost use Rattle.model.specs.Accounts.{has_room, take_cell};
+ghost use Rattle.std.specs.Option.{option_map};
 ghost use Rattle.model.specs.Limits.{ShapeFits};
+ghost use Rattle.model.specs.Observers.{cell_view};
+ghost use Rattle.model.specs.Room.{words_of_cell};
 ghost use Rattle.join.specs.ReadBack.{birth_read};
 ghost use Rattle.instructions.specs.Heaps.{all_shaded, collected, created, exception_kind, exception_place, kind_held, memory_error_kind, own_class, opening_heap, reference_taken, shaded, words_held, written};
 
@@ -20,6 +23,7 @@ use model::colours::{Cell, Phase};
 use model::journals::HeapShape;
 use model::turns::Exception;
 use model::values::Value;
+use model::views::CellView;
 use plain_steps::Written;
 use std::alloc::{AllocError, Global};
 use std::marker::Model;
@@ -141,6 +145,23 @@ impl Heap {
             Cell::Free => 0,
             Cell::Taken { birth, colour: _ } => birth,
         }
+    }
+
+    /// A cell: how many words it has, and the birth and the colour that it holds, if it holds one. `None` past the last cell.
+    pub(crate) fn cell(&self, cell: u32) -> Option<CellView>
+        ensures { result ≡ option_map (cell_view (words_of_cell self.now.shape cell)) (slice_get self.now.account.cells cell) }
+    {
+        if cell as usize >= self.account.cells() {
+            return None;
+        }
+        let held = match self.account.cell(cell) {
+            Cell::Free => None,
+            Cell::Taken { birth, colour } => Some((birth, colour)),
+        };
+        Some(CellView {
+            words: u32::from(self.cells.room(cell)),
+            held,
+        })
     }
 
     /// Where the collector stands.

@@ -8,7 +8,7 @@ use model::flags::{ClassFlags, MethodFlags};
 use model::instructions::{
     Constant, Instruction, Invocation, NumberKind, NumberOperation, Operator, SmallInt, Width,
 };
-use model::journals::Limits;
+use model::journals::{HeapShape, Limits, Outcome};
 use model::listings::{Code, Listed, Listing, Method, Placed};
 use model::names::{Member, Name};
 use model::turns::{Actor, Fault, Status, Turn};
@@ -16,6 +16,12 @@ use model::values::Value;
 use model::views::{ThreadState, ThreadView};
 use std::alloc::{AllocError, Global};
 use std::test::Fail;
+
+const TWO_CELLS: HeapShape = HeapShape {
+    small: 2,
+    medium: 0,
+    large: 0,
+};
 
 const ADD: NumberOperation = NumberOperation::Binary(NumberKind::Int, Operator::Add);
 
@@ -135,7 +141,7 @@ fn sum_wraps_and_is_printed(rt: HostRuntime) -> Result<(), Fail> {
         steps: 5,
         output: 12,
     };
-    let mut state = State::new(rt.alloc(), wrapping_sum(rt.alloc())?, limits)?;
+    let mut state = State::new(rt.alloc(), wrapping_sum(rt.alloc())?, TWO_CELLS, limits)?;
     assert_eq!(rt; state.program().listings().len(), 1);
     assert!(rt; state.is_live(0));
     assert!(rt; !state.is_live(1));
@@ -179,7 +185,7 @@ fn eleven_bytes_do_not_take_the_sum(rt: HostRuntime) -> Result<(), Fail> {
         steps: 9,
         output: 11,
     };
-    let mut state = State::new(rt.alloc(), wrapping_sum(rt.alloc())?, limits)?;
+    let mut state = State::new(rt.alloc(), wrapping_sum(rt.alloc())?, TWO_CELLS, limits)?;
     assert_eq!(rt; turn(&mut state), None);
     assert_eq!(rt; turn(&mut state), None);
     assert_eq!(rt; turn(&mut state), None);
@@ -196,7 +202,7 @@ fn missing_operand_is_a_fault(rt: HostRuntime) -> Result<(), Fail> {
         steps: 9,
         output: 0,
     };
-    let mut state = State::new(rt.alloc(), missing_operand(rt.alloc())?, limits)?;
+    let mut state = State::new(rt.alloc(), missing_operand(rt.alloc())?, TWO_CELLS, limits)?;
     assert_eq!(rt; turn(&mut state), None);
     assert_eq!(rt; turn(&mut state), None);
     assert_eq!(rt; state.fault(), Some((Fault::StackEmpty, 0)));

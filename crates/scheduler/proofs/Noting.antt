@@ -19,7 +19,9 @@ use Rattle.model.specs.Worlds.{World, Thread as ThreadOf}
 use Rattle.model.specs.Turns.{overflows, refusal, choice_by, acted, unless_refused}
 use Rattle.model.specs.Machines.{Machine, Recorded, after_turn_by, answer_to, machine_of, machine_of-noted, noted, opening_machine, outcome_of, row_for, told_of, with_row as recorded_with}
 use Rattle.model.specs.Naming.{named_thread}
-use Rattle.model.specs.Observers.{ideal, after_actor, after_last, cyclic_from, is_held_by_output, pick_of, thread_of}
+use Rattle.model.specs.Accounts.{Account}
+use Rattle.model.specs.Observers.{ideal, after_actor, after_last, cell_of, cell_view, cyclic_from, is_held_by_output, phase_of, pick_of, thread_of}
+use Rattle.model.specs.Room.{words_of_cell}
 use Rattle.model.specs.Ready.{is_ready, thread_numbers}
 use Rattle.model.proofs.NextKeeps.{next-rows}
 use Rattle.model.proofs.CollectorLemmas.Running.{opening_holds, recorded_keeps}
@@ -160,6 +162,14 @@ module _ (s : Loaded) (j : JournalValue) (k : ℕ) (is : IsOf s j k) where
   some_held_is =
       ap (list_any (is_held_by_output s.program s.limits s.machine.world)) read.threads_numbered
       ∙ any-same (is_held_by_output s.program s.limits s.machine.world) (is_held_by_output s.program j.limits (ideal r)) held_is (thread_numbers (ideal r))
+
+  pub phase_is : s.machine.account.phase ≡ phase_of r
+  phase_is = ap (λ (a : Account). a.phase) read.account
+
+  pub cell_is : (c : ℕ) → option_map (cell_view (words_of_cell s.shape c)) (slice_get s.machine.account.cells c) ≡ cell_of r c
+  cell_is c =
+      ap (λ (shape : HeapShape). option_map (cell_view (words_of_cell shape c)) (slice_get s.machine.account.cells c)) is.shape_is
+      ∙ ap (λ (a : Account). option_map (cell_view (words_of_cell j.shape c)) (slice_get a.cells c)) read.account
 
   pub thread_is : (t : ℕ) → option_map (named_thread (birth_read s.machine.account.cells)) (slice_get s.machine.world.threads t) ≡ thread_of r t
   thread_is t =
