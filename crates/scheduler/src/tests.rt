@@ -3,6 +3,7 @@
 use crate::worlds::{World, WorldError};
 use loader::accept;
 use loader::programs::Program;
+use model::colours::{Colour, Phase};
 use model::flags::{ClassFlags, MethodFlags};
 use model::instructions::{
     Constant, Instruction, Invocation, NumberKind, NumberOperation, Operator, SmallInt, Width,
@@ -12,11 +13,13 @@ use model::listings::{Code, Listed, Listing, Method, Placed};
 use model::names::{Member, Name};
 use model::turns::{Actor, Fault, Status, Turn};
 use model::values::Value;
-use model::views::{ThreadState, ThreadView};
+use model::views::{CellView, ThreadState, ThreadView};
 use std::alloc::{AllocError, Global};
 use std::test::Fail;
 
 const ADD: NumberOperation = NumberOperation::Binary(NumberKind::Int, Operator::Add);
+
+const DIVIDE: NumberOperation = NumberOperation::Binary(NumberKind::Int, Operator::Div);
 
 const TWO_CELLS: HeapShape = HeapShape {
     small: 2,
@@ -29,6 +32,18 @@ const MAIN: Actor = Actor::Thread(0);
 const DONE: Row = Row {
     actor: Actor::Thread(0),
     outcome: Outcome::Done,
+    worker: 0,
+};
+
+const OBJECT: Row = Row {
+    actor: Actor::Thread(0),
+    outcome: Outcome::Object,
+    worker: 0,
+};
+
+const NO_ROOM: Row = Row {
+    actor: Actor::Thread(0),
+    outcome: Outcome::NoRoom,
     worker: 0,
 };
 
@@ -115,6 +130,24 @@ fn missing_operand(alloc: Global) -> Result<Program, Fail> {
     program_of(alloc, 2, code)
 }
 
+/// `iconst_1`, `iconst_0`, `idiv`, `return`
+fn division_by_zero(alloc: Global) -> Result<Program, Fail> {
+    let mut code = Vec::new(alloc);
+    add(
+        &mut code,
+        1,
+        Instruction::Constant(Constant::SmallInt(SmallInt::One)),
+    )?;
+    add(
+        &mut code,
+        1,
+        Instruction::Constant(Constant::SmallInt(SmallInt::Zero)),
+    )?;
+    add(&mut code, 1, Instruction::Number(DIVIDE))?;
+    add(&mut code, 1, Instruction::Return(None))?;
+    program_of(alloc, 2, code)
+}
+
 /// `nop`, and no return
 fn no_return(alloc: Global) -> Result<Program, Fail> {
     let mut code = Vec::new(alloc);
@@ -163,6 +196,25 @@ fn has_ended(thread: &Option<ThreadView>) -> bool {
         Some(view) => matches!(&view.state, ThreadState::Ended(None)),
         None => false,
     }
+}
+
+/// Whether a thread has ended by an exception of this class.
+fn threw(thread: &Option<ThreadView>, class: &str) -> bool {
+    match thread {
+        Some(view) => match &view.state {
+            ThreadState::Ended(Some(name)) => name.is(class),
+            ThreadState::Ended(None) | ThreadState::Live(_) => false,
+        },
+        None => false,
+    }
+}
+
+/// A cell of four words that holds this birth in this colour.
+fn held(birth: u32, colour: Colour) -> Option<CellView> {
+    Some(CellView {
+        words: 4,
+        held: Some((birth, colour)),
+    })
 }
 
 #[test]
@@ -274,7 +326,14 @@ fn the_collector_has_a_row(rt: HostRuntime) -> Result<(), Fail> {
         outcome: Outcome::Done,
         worker: 0,
     };
+    assert!(rt; world.phase() == Phase::Idle);
+    assert_eq!(rt; world.heap(0), held(1, Colour::White));
     assert_eq!(rt; world.turn(Actor::Collector), Turn::Done);
+    assert!(rt; world.phase() == Phase::Statics { slot: 0 });
+    assert_eq!(rt; world.heap(0), held(1, Colour::Grey));
+    assert_eq!(rt; world.heap(1), held(2, Colour::Grey));
+    assert_eq!(rt; world.heap(2), None);
+    assert_eq!(rt; world.next_birth(), 3);
     assert_eq!(rt; world.turn(MAIN), Turn::Done);
     assert_eq!(rt; world.turn(Actor::Collector), Turn::Done);
     assert_eq!(rt;
@@ -282,6 +341,51 @@ fn the_collector_has_a_row(rt: HostRuntime) -> Result<(), Fail> {
         [collected, DONE, collected].as_slice()
     );
     assert_eq!(rt; world.pick(), Some(0));
+    Ok(())
+}
+
+/// The exception is birth 3, grey in the third cell, and ends the thread, so that nothing leads to it. The first cycle keeps
+/// it: one step shades births 1 and 2, three find no slot, no frame and no other thread, three blacken, one finds nothing grey,
+/// three whiten, and one ends it. The second blackens births 1 and 2 alone: its tenth step frees the cell.
+#[test]
+fn an_exception_is_garbage(rt: HostRuntime) -> Result<(), Fail> {
+    let shape = HeapShape {
+        small: 3,
+        medium: 0,
+        large: 0,
+    };
+    let limits = Limits {
+        steps: 100,
+        output: 0,
+    };
+    let mut world = World::new(rt.alloc(), division_by_zero(rt.alloc())?, shape, limits)?;
+    world.run([MAIN, MAIN, MAIN].as_slice());
+    assert_eq!(rt; world.journal().rows(), [DONE, DONE, OBJECT].as_slice());
+    assert!(rt; threw(&world.thread(0)?, "java/lang/ArithmeticException"));
+    assert_eq!(rt; world.status(), Status::Finished);
+    assert_eq!(rt; world.next_birth(), 4);
+    assert_eq!(rt; world.heap(2), held(3, Colour::Grey));
+    world.run([Actor::Collector; 21].as_slice());
+    assert!(rt; world.phase() == Phase::Append { cell: 2 });
+    assert_eq!(rt; world.heap(2), held(3, Colour::White));
+    world.run([Actor::Collector].as_slice());
+    assert_eq!(rt;
+        world.heap(2),
+        Some(CellView {
+            words: 4,
+            held: None
+        })
+    );
+    Ok(())
+}
+
+#[test]
+fn no_free_cell_is_out_of_memory(rt: HostRuntime) -> Result<(), Fail> {
+    let mut world = world_of(rt.alloc(), division_by_zero(rt.alloc())?, 0)?;
+    world.run([MAIN, MAIN, MAIN].as_slice());
+    assert_eq!(rt; world.journal().rows(), [DONE, DONE, NO_ROOM].as_slice());
+    assert!(rt; threw(&world.thread(0)?, "java/lang/OutOfMemoryError"));
+    assert_eq!(rt; world.next_birth(), 3);
     Ok(())
 }
 
