@@ -1,5 +1,6 @@
 -- The seats that a board gives its workers can be taken along, and those that come home can be given back to it.
-use Rattle.std.proofs.Common.{◌≡◌, ◌<◌, ◌∙◌, ℕ, zero, suc, List, [], ◌∷◌, All, refl, sym, subst}
+use Rattle.std.proofs.Common.{◌≡◌, ◌<◌, ◌∙◌, ℕ, zero, suc, List, [], ◌∷◌, ◌++◌, length, get_or, All, refl, ap, sym, subst, arith, length-append}
+use Rattle.std.proofs.lemmas.List.{get_or_push}
 use Rattle.std.specs.Prelude.{slice_get, Some}
 use Rattle.std.proofs.lemmas.Option.{slice_get-get_or, none-some}
 use Rattle.board.specs.declared.boards.Board.{Board}
@@ -40,3 +41,21 @@ module _ (board : Board) (seats home : List BoardSeat) (all : AreAllSeats board 
 
   pub all_home : AreAllSeats board home
   all_home = record { all = as_long IsSameSeat seats home same ∙ all.all; mine = mine; once = once }
+
+-- ---- a fact on each seat, without the last one
+
+module _ {A : Type 0} where
+  within : (xs : List A) (x d : A) (k : ℕ) → k < length xs → get_or (xs ++ x ∷ []) k d ≡ get_or xs k d
+  within [] x d k lt = absurd (omega arith)
+  within (y ∷ xs) x d zero lt = refl
+  within (y ∷ xs) x d (suc k) lt = within xs x d k (omega arith)
+
+  pub all_but_last : (P : A → Type 0) (all xs : List A) (x : A) → all ≡ xs ++ x ∷ [] → All P all → All P xs
+  all_but_last P all xs x is h k d lt =
+      let l = length-append xs (x ∷ []) in
+      subst P (ap (λ (zs : List A). get_or zs k d) is ∙ within xs x d k lt) (h k d (rw is (omega arith)))
+
+  pub of_last : (P : A → Type 0) (all xs : List A) (x : A) → all ≡ xs ++ x ∷ [] → All P all → P x
+  of_last P all xs x is h =
+      let l = length-append xs (x ∷ []) in
+      subst P (ap (λ (zs : List A). get_or zs (length xs) x) is ∙ get_or_push xs x x (length xs) refl) (h (length xs) x (rw is (omega arith)))

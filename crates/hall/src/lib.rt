@@ -18,3 +18,6 @@ pub use error::HallError;
 pub use halls::Hall;
 pub use roles::Role;
 pub use shares::{Share, Shared};
+
+#[cfg(test)]
+mod tests;
