@@ -3,6 +3,7 @@ ghost use Rattle.board.specs.Seats.{IsSeatOf, IsSameSeat};
 ghost use Rattle.hall.specs.Homes.{IsLater};
 
 use crate::halls::Hall;
+use crate::patience::Patience;
 use crate::shares::Share;
 use board::{Board, BoardSeat};
 use model::turns::{Status, Turn};
@@ -18,7 +19,7 @@ pub trait Gate {
 
 /// Takes turns of the share's role, each behind the gate and followed by a pulse where it was done, until a stop is asked,
 /// or the world isn't running, or the turn was `OutputFull`, `StepLimit` or `Stopped`; in these last cases it asks for a
-/// stop. It takes no memory.
+/// stop. A carrier that sees no row of the collector's for a while yields to it. It takes no memory.
 pub fn carry<L: Ledger, G: Gate, R: Wait>(
     rt: &R,
     hall: &Hall<L>,
@@ -32,12 +33,14 @@ pub fn carry<L: Ledger, G: Gate, R: Wait>(
     ensures seat { IsSameSeat seat.old seat.new }
 {
     let mut turn: u64 = 1;
+    let mut patience = Patience::new(share.role(), hall.collector());
     for _round in rt.forever() {
         gate.before(seat.worker(), turn);
         turn = turn.saturating_add(1);
         if is_last_turn(rt, hall, board, share, seat) {
             break;
         }
+        patience.give_way(board, seat);
     }
 }
 

@@ -27,6 +27,7 @@ pub struct Hall<L: Ledger> {
     shape: HeapShape,
     limits: Limits,
     workers: u8,
+    collector: Option<usize>,
 }
 
 impl<L: Ledger> Model for Hall<L> {
@@ -101,8 +102,16 @@ impl<L: Ledger> Hall<L> {
             shape,
             limits,
             workers,
+            collector: roles
+                .iter()
+                .position(|role| matches!(role, Role::Collector)),
         };
         Ok((hall, shares))
+    }
+
+    // The worker that collects, if one does nothing else.
+    pub(crate) fn collector(&self) -> Option<usize> {
+        self.collector
     }
 
     /// One turn of the share's role under the lock, for which it waits, and how the world stands then. The share counts the
@@ -129,6 +138,7 @@ impl<L: Ledger> Hall<L> {
             shape,
             limits,
             workers,
+            ..
         } = self;
         let all = gathered(shares).ok_or(HallError::World)?;
         let world = lock.into_inner().into_world(all);

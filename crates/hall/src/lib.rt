@@ -8,6 +8,7 @@ mod carrying;
 mod driving;
 mod error;
 mod halls;
+mod patience;
 mod roles;
 mod shares;
 mod turns;
