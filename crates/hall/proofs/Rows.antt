@@ -1,0 +1,246 @@
+-- How many rows a turn of an actor, and then of a role, adds to the journal, and whose they are.
+use Rattle.std.proofs.Common.{◌≡◌, ◌≤◌, ◌<◌, ◌+◌, ◌-◌, ℕ, zero, suc, Bool, true, false, List, [], ◌∷◌, ◌++◌, length, All, Option, Some, None, if◌then◌else◌, nat_lt, refl, ap, sym, subst, ◌∙◌, arith, append-nil, append_assoc, length-append}
+use Rattle.std.proofs.lemmas.List.Elements.{All-append, All-nil}
+use Rattle.std.specs.Prelude.{nat_le}
+use Rattle.model.specs.declared.journals.Limits.{Limits}
+use Rattle.model.specs.declared.journals.Row.{Row}
+use Rattle.model.specs.declared.turns.Actor.{Actor}
+use Rattle.model.specs.declared.turns.Actor.TheVariants.{Thread, Collector}
+use Rattle.model.specs.declared.turns.Fault.{Fault as FaultKind}
+use Rattle.model.specs.declared.turns.Turn.{Turn}
+use Rattle.model.specs.declared.turns.Turn.TheVariants.{Done, NotReady, Stopped, Fault, OutputFull, StepLimit}
+use Rattle.model.specs.ClassListings.{ClassListing}
+use Rattle.model.specs.Worlds.{World}
+use Rattle.model.specs.Ready.{is_ready}
+use Rattle.model.specs.Turns.{overflows, actor_refusal, refusal_after, refusal}
+use Rattle.model.specs.Machines.{Recorded, machine_of, told_of, row_unless_refused, with_row, answer_unless_refused, after_turn_by, answer_to}
+use Rattle.model.specs.Observers.{pick_of, status_of, is_running}
+use Rattle.hall.specs.declared.roles.Role.{Role}
+use Rattle.hall.specs.declared.roles.Role.TheVariants.{Both, Carrier, Collector as Collecting}
+use Rattle.hall.specs.Roles.{carried, carried_answer, last_is_collector, swept_once, swept, swept_after, after_allowed, answer_allowed, after_role, answer_role}
+use Rattle.hall.specs.Shares.{ShareValue, counted_on, with_rows, rows_by, Rises, Takes, CountsRows}
+
+-- ---- a refused turn makes no row, and any other makes one
+
+abbrev MakesNone : Option Turn → Type 0
+MakesNone None = Unit {0}
+MakesNone (Some t) = rows_by t ≡ 0
+
+thread_none : (ready full : Bool) → MakesNone (if ready then (if full then Some OutputFull else None) else Some NotReady)
+thread_none true true = refl
+thread_none true false = tt
+thread_none false full = refl
+
+module _ (program : List ClassListing) (limits : Limits) (w : World) where
+  actor_none : (actor : Actor) → MakesNone (actor_refusal program limits w actor)
+  actor_none (Thread t) = thread_none (is_ready program w t) (overflows program limits w t)
+  actor_none Collector = tt
+
+  limit_none : (actor : Actor) (full : Bool) → MakesNone (if full then Some StepLimit else actor_refusal program limits w actor)
+  limit_none actor true = refl
+  limit_none actor false = actor_none actor
+
+  fault_none : (actor : Actor) (fault : Option (FaultKind × ℕ)) → MakesNone (refusal_after program limits w actor fault)
+  fault_none actor (Some fault) = refl
+  fault_none actor None = limit_none actor (nat_le limits.steps w.rows)
+
+  refused_none : (actor : Actor) → MakesNone (refusal program limits w actor)
+  unfolding refusal
+  refused_none actor = fault_none actor w.fault
+
+told_one : (fault : Option (FaultKind × ℕ)) → 1 ≡ rows_by (told_of fault)
+told_one None = refl
+told_one (Some fault) = refl
+
+-- ---- rows of one worker
+
+-- w is v with so many rows more, all of this worker
+pub record Adds (v w : Recorded) (worker n : ℕ) : Type 0 where
+  pub rows : List Row
+  pub world_is : w ≡ with_rows v rows
+  pub own : All (λ (row : Row). row.worker ≡ worker) rows
+  pub long : length rows ≡ n
+
+adds_none : (v : Recorded) (worker n : ℕ) → n ≡ 0 → Adds v v worker n
+adds_none v worker n none = record {
+  rows = [];
+  world_is = ap (λ (rows : List Row). record v { journal = record v.journal { rows = rows } }) (sym (append-nil v.journal.rows));
+  own = All-nil (λ (row : Row). row.worker ≡ worker);
+  long = sym none;
+}
+
+one_own : (worker : ℕ) (row : Row) → row.worker ≡ worker → All (λ (r : Row). r.worker ≡ worker) (row ∷ [])
+one_own worker row same zero d h = same
+one_own worker row same (suc k) d h = absurd (omega arith)
+
+adds_one : (v : Recorded) (row : Row) (n : ℕ) → 1 ≡ n → Adds v (with_rows v (row ∷ [])) row.worker n
+adds_one v row n one = record { rows = row ∷ []; world_is = refl; own = one_own row.worker row refl; long = one }
+
+pub adds_on : (u v w : Recorded) (worker m n : ℕ) → Adds u v worker m → Adds v w worker n → Adds u w worker (m + n)
+adds_on u v w worker m n a b = record {
+  rows = a.rows ++ b.rows;
+  world_is =
+      b.world_is ∙ ap (λ (x : Recorded). with_rows x b.rows) a.world_is
+      ∙ ap (λ (rows : List Row). record u { journal = record u.journal { rows = rows } }) (append_assoc u.journal.rows a.rows b.rows);
+  own = All-append (λ (row : Row). row.worker ≡ worker) a.rows b.rows a.own b.own;
+  long = length-append a.rows b.rows ∙ (let p = a.long in let q = b.long in omega arith);
+}
+
+pub adds_length : (v w : Recorded) (worker n : ℕ) → Adds v w worker n → length w.journal.rows ≡ length v.journal.rows + n
+adds_length v w worker n a =
+    ap (λ (x : Recorded). length x.journal.rows) a.world_is
+    ∙ length-append v.journal.rows a.rows
+    ∙ ap (λ (k : ℕ). length v.journal.rows + k) a.long
+
+-- ---- an actor's turn
+
+by_refusal : (v after : Recorded) (actor : Actor) (worker : ℕ) (refused : Option Turn) → MakesNone refused
+    → Adds v (with_row v (row_unless_refused v.program (machine_of v) actor worker refused)) worker (rows_by (answer_unless_refused after refused))
+by_refusal v after actor worker None none = adds_one v _ _ (told_one (machine_of after).world.fault)
+by_refusal v after actor worker (Some t) none = adds_none v worker _ none
+
+-- a turn adds a row of its worker where its answer says so, and else nothing
+pub turn_adds : (v : Recorded) (actor : Actor) (worker : ℕ) → Adds v (after_turn_by v actor worker) worker (rows_by (answer_to v actor worker))
+unfolding after_turn_by answer_to
+turn_adds v actor worker =
+    by_refusal v (after_turn_by v actor worker) actor worker
+    (refusal v.program v.journal.limits (machine_of v).world actor)
+    (refused_none v.program v.journal.limits (machine_of v).world actor)
+
+module _ (v w : Recorded) (actor : Actor) (worker : ℕ) (t : Turn) (is : w ≡ after_turn_by v actor worker) (answer : t ≡ answer_to v actor worker) where
+  pub turn_length : length v.journal.rows + rows_by t ≡ length w.journal.rows
+  turn_length = sym (rw (is, answer) (adds_length v (after_turn_by v actor worker) worker (rows_by (answer_to v actor worker)) (turn_adds v actor worker)))
+
+  pub turn_counts : (before after : ShareValue) → after ≡ counted_on before (rows_by t) → CountsRows v w before after
+  turn_counts before after e = record {
+    workers_is = ap (λ (x : Recorded). x.journal.workers) (is ∙ (turn_adds v actor worker).world_is);
+    worker_is = ap (λ (s : ShareValue). s.worker) e;
+    role_is = ap (λ (s : ShareValue). s.role) e;
+    count_is = (let c : after.count ≡ before.count + rows_by t = ap (λ (s : ShareValue). s.count) e in let l = turn_length in omega arith);
+  }
+
+-- ---- a role's turn
+
+carried_adds : (v : Recorded) (worker : ℕ) (picked : Option ℕ) → Adds v (carried v worker picked) worker (rows_by (carried_answer v worker picked))
+carried_adds v worker None = adds_none v worker 0 refl
+carried_adds v worker (Some t) = turn_adds v (Thread t) worker
+
+small : (t : Turn) → rows_by t ≤ 1
+small Done = omega arith
+small (Fault f) = omega arith
+small NotReady = omega arith
+small Stopped = omega arith
+small OutputFull = omega arith
+small StepLimit = omega arith
+
+-- the same of at most so many rows
+record AddsFew (v w : Recorded) (worker most : ℕ) : Type 0 where
+  n : ℕ
+  few : n ≤ most
+  adds : Adds v w worker n
+
+once_if : (v : Recorded) (worker : ℕ) (running : Bool) → AddsFew v (if running then after_turn_by v Collector worker else v) worker 1
+once_if v worker true = record { n = rows_by (answer_to v Collector worker); few = small (answer_to v Collector worker); adds = turn_adds v Collector worker }
+once_if v worker false = record { n = 0; few = omega arith; adds = adds_none v worker 0 refl }
+
+swept_adds : (worker n : ℕ) (v : Recorded) → AddsFew v (swept v worker n) worker n
+swept_adds worker zero v = record { n = 0; few = omega arith; adds = adds_none v worker 0 refl }
+swept_adds worker (suc n) v =
+    let once = once_if v worker (is_running (status_of v)) in
+    let rest = swept_adds worker n (swept_once v worker) in
+    record {
+      n = once.n + rest.n;
+      few = (let f = once.few in let g = rest.few in omega arith);
+      adds = adds_on v (swept_once v worker) (swept v worker (suc n)) worker once.n rest.n once.adds rest.adds;
+    }
+
+-- w is v with the rows of a role's turn with this answer
+record RoleAdds (v w : Recorded) (role : Role) (answer : Turn) (worker : ℕ) : Type 0 where
+  n : ℕ
+  rises : Rises role answer n
+  adds : Adds v w worker n
+
+rises_one : (role : Role) (t : Turn) → Rises role t (rows_by t)
+rises_one role Done = (omega arith, omega arith)
+rises_one role (Fault f) = refl
+rises_one role NotReady = refl
+rises_one role Stopped = refl
+rises_one role OutputFull = refl
+rises_one role StepLimit = refl
+
+-- one turn is a turn of any role
+role_once : (v w : Recorded) (role : Role) (t : Turn) (worker : ℕ) → Adds v w worker (rows_by t) → RoleAdds v w role t worker
+role_once v w role t worker adds = record { n = rows_by t; rises = rises_one role t; adds = adds }
+
+both_adds : (v u : Recorded) (gc worker : ℕ) (t : Turn) → Adds v u worker (rows_by t) → RoleAdds v (swept_after t u worker gc) (Both gc) t worker
+both_adds v u gc worker Done a =
+    let rest = swept_adds worker gc u in
+    record { n = 1 + rest.n; rises = (omega arith, (let f = rest.few in omega arith)); adds = adds_on v u (swept u worker gc) worker 1 rest.n a rest.adds }
+both_adds v u gc worker (Fault f) a = role_once v u (Both gc) (Fault f) worker a
+both_adds v u gc worker NotReady a = role_once v u (Both gc) NotReady worker a
+both_adds v u gc worker Stopped a = role_once v u (Both gc) Stopped worker a
+both_adds v u gc worker OutputFull a = role_once v u (Both gc) OutputFull worker a
+both_adds v u gc worker StepLimit a = role_once v u (Both gc) StepLimit worker a
+
+collected_if : (v : Recorded) (worker : ℕ) (last : Bool)
+    → RoleAdds v (if last then v else after_turn_by v Collector worker) Collecting (if last then NotReady else answer_to v Collector worker) worker
+collected_if v worker true = role_once v v Collecting NotReady worker (adds_none v worker 0 refl)
+collected_if v worker false = role_once v _ Collecting (answer_to v Collector worker) worker (turn_adds v Collector worker)
+
+allowed_adds : (v : Recorded) (role : Role) (worker : ℕ) → RoleAdds v (after_allowed v role worker) role (answer_allowed v role worker) worker
+allowed_adds v Carrier worker = role_once v _ Carrier (carried_answer v worker (pick_of v)) worker (carried_adds v worker (pick_of v))
+allowed_adds v Collecting worker = collected_if v worker (last_is_collector v)
+allowed_adds v (Both gc) worker = both_adds v (carried v worker (pick_of v)) gc worker (carried_answer v worker (pick_of v)) (carried_adds v worker (pick_of v))
+
+known_adds : (v : Recorded) (role : Role) (worker : ℕ) (known : Bool)
+    → RoleAdds v (if known then after_allowed v role worker else v) role (if known then answer_allowed v role worker else NotReady) worker
+known_adds v role worker true = allowed_adds v role worker
+known_adds v role worker false = role_once v v role NotReady worker (adds_none v worker 0 refl)
+
+role_adds : (v : Recorded) (role : Role) (worker : ℕ) → RoleAdds v (after_role v role worker) role (answer_role v role worker) worker
+unfolding after_role answer_role
+role_adds v role worker = known_adds v role worker (nat_lt worker v.journal.workers)
+
+-- ---- shares
+
+share_same : (a b : ShareValue) → a.worker ≡ b.worker → a.role ≡ b.role → a.count ≡ b.count → a ≡ b
+share_same a b p q r i = record { worker = p i; role = q i; count = r i }
+
+-- a share that counted the new rows of a role's turn
+takes : (v w : Recorded) (answer : Turn) (before after : ShareValue) → RoleAdds v w before.role answer before.worker → CountsRows v w before after → Takes v w answer before after
+takes v w answer before after role counts =
+    let a = role.adds in
+    let grown = adds_length v w before.worker role.n a in
+    record {
+      rows = a.rows;
+      world_is = a.world_is;
+      own = a.own;
+      rises = subst (Rises before.role answer) (sym a.long) role.rises;
+      share_is =
+          share_same after (counted_on before (length a.rows)) counts.worker_is counts.role_is
+          (let c = counts.count_is in let l = a.long in omega arith);
+    }
+
+pub role_takes : (v w : Recorded) (answer : Turn) (before after : ShareValue) → w ≡ after_role v before.role before.worker → answer ≡ answer_role v before.role before.worker
+    → CountsRows v w before after → Takes v w answer before after
+role_takes v w answer before after is told counts =
+    takes v w answer before after (rw (is, told) (role_adds v before.role before.worker)) counts
+
+-- ---- counting step by step
+
+pub counts_none : (v : Recorded) (share : ShareValue) → CountsRows v v share share
+counts_none v share = record { workers_is = refl; worker_is = refl; role_is = refl; count_is = refl }
+
+pub counts_on : (u v w : Recorded) (a b c : ShareValue) → CountsRows u v a b → CountsRows v w b c → CountsRows u w a c
+counts_on u v w a b c x y = record {
+  workers_is = y.workers_is ∙ x.workers_is;
+  worker_is = y.worker_is ∙ x.worker_is;
+  role_is = y.role_is ∙ x.role_is;
+  count_is = (let p = x.count_is in let q = y.count_is in omega arith);
+}
+
+pub swept_more : (v : Recorded) (worker n i : ℕ) → i < n → swept v worker (n - i) ≡ swept (swept_once v worker) worker (n - (i + 1))
+swept_more v worker n i lt = let e : n - i ≡ suc (n - (i + 1)) = omega arith in ap (swept v worker) e
+
+pub still_known : (v w : Recorded) (a b : ShareValue) → CountsRows v w a b → a.worker < v.journal.workers → b.worker < w.journal.workers
+still_known v w a b x known = let p = x.worker_is in let q = x.workers_is in omega arith

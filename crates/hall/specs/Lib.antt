@@ -1,0 +1,4 @@
+pub mod Roles
+pub mod Shares
+pub mod Heads
+pub mod Homes

@@ -1,0 +1,78 @@
+-- What a worker of a role does under the lock, on a world as contracts see it.
+use Rattle.std.specs.Prelude.{ℕ, zero, suc, ◌-◌, Bool, true, false, Option, Some, None, nat_lt, length, slice_get, if◌then◌else◌}
+use Rattle.model.specs.declared.journals.Row.{Row}
+use Rattle.model.specs.declared.turns.Actor.{Actor}
+use Rattle.model.specs.declared.turns.Actor.TheVariants.{Thread, Collector}
+use Rattle.model.specs.declared.turns.Turn.{Turn}
+use Rattle.model.specs.declared.turns.Turn.TheVariants.{Done, NotReady, Stopped, Fault, OutputFull, StepLimit}
+use Rattle.model.specs.Machines.{Recorded, after_turn_by, answer_to}
+use Rattle.model.specs.Observers.{pick_of, status_of, is_running}
+use Rattle.hall.specs.declared.roles.Role.{Role}
+use Rattle.hall.specs.declared.roles.Role.TheVariants.{Both, Carrier, Collector as Collecting}
+
+-- ---- a turn of the picked thread
+
+abbrev pub carried : Recorded → ℕ → Option ℕ → Recorded
+carried v worker None = v
+carried v worker (Some t) = after_turn_by v (Thread t) worker
+
+abbrev pub carried_answer : Recorded → ℕ → Option ℕ → Turn
+carried_answer v worker None = NotReady
+carried_answer v worker (Some t) = answer_to v (Thread t) worker
+
+-- ---- a collector's turn, unless the last row is the collector's
+
+abbrev pub is_collector : Actor → Bool
+is_collector Collector = true
+is_collector (Thread t) = false
+
+abbrev pub is_of_collector : Option Row → Bool
+is_of_collector None = false
+is_of_collector (Some row) = is_collector row.actor
+
+-- whether the journal's last row is the collector's
+abbrev pub last_is_collector : Recorded → Bool
+last_is_collector v = is_of_collector (slice_get v.journal.rows (length v.journal.rows - 1))
+
+abbrev pub collected : Recorded → ℕ → Recorded
+collected v worker = if last_is_collector v then v else after_turn_by v Collector worker
+
+abbrev pub collected_answer : Recorded → ℕ → Turn
+collected_answer v worker = if last_is_collector v then NotReady else answer_to v Collector worker
+
+-- ---- so many collector turns, each if the status is Running
+
+abbrev pub swept_once : Recorded → ℕ → Recorded
+swept_once v worker = if is_running (status_of v) then after_turn_by v Collector worker else v
+
+abbrev pub swept : Recorded → ℕ → ℕ → Recorded
+swept v worker zero = v
+swept v worker (suc n) = swept (swept_once v worker) worker n
+
+-- they follow a thread's turn that was done
+abbrev pub swept_after : Turn → Recorded → ℕ → ℕ → Recorded
+swept_after Done v worker gc = swept v worker gc
+swept_after NotReady v worker gc = v
+swept_after Stopped v worker gc = v
+swept_after (Fault f) v worker gc = v
+swept_after OutputFull v worker gc = v
+swept_after StepLimit v worker gc = v
+
+-- ---- a turn of a role
+
+abbrev pub after_allowed : Recorded → Role → ℕ → Recorded
+after_allowed v Carrier worker = carried v worker (pick_of v)
+after_allowed v Collecting worker = collected v worker
+after_allowed v (Both gc) worker = swept_after (carried_answer v worker (pick_of v)) (carried v worker (pick_of v)) worker gc
+
+abbrev pub answer_allowed : Recorded → Role → ℕ → Turn
+answer_allowed v Carrier worker = carried_answer v worker (pick_of v)
+answer_allowed v Collecting worker = collected_answer v worker
+answer_allowed v (Both gc) worker = carried_answer v worker (pick_of v)
+
+-- the world after a turn of a role by a worker, and what it answers; a worker that the journal doesn't know does nothing
+unfoldable pub after_role : Recorded → Role → ℕ → Recorded
+after_role v role worker = if nat_lt worker v.journal.workers then after_allowed v role worker else v
+
+unfoldable pub answer_role : Recorded → Role → ℕ → Turn
+answer_role v role worker = if nat_lt worker v.journal.workers then answer_allowed v role worker else NotReady

@@ -1,0 +1,92 @@
+//! A worker's turns, one after another.
+ghost use Rattle.board.specs.Seats.{IsSeatOf, IsSameSeat};
+ghost use Rattle.hall.specs.Homes.{IsLater};
+
+use crate::halls::Hall;
+use crate::patience::Patience;
+use crate::shares::Share;
+use board::{Board, BoardSeat};
+use model::turns::{Status, Turn};
+use std::sync::Wait;
+use std::sync::ledger::Ledger;
+
+/// Who is told of each turn before it is taken, and may hold it up.
+pub trait Gate {
+    /// Called by a worker without the lock, before its turn of this number. Turns count from 1, and stay at the greatest
+    /// number.
+    fn before(&self, worker: usize, turn: u64);
+}
+
+/// Takes turns of the share's role, each behind the gate and followed by a pulse where it was done, until a stop is asked,
+/// or the world isn't running, or the turn was `OutputFull`, `StepLimit` or `Stopped`; in these last cases it asks for a
+/// stop. A carrier that sees no row of the collector's for a while yields to it. It takes no memory.
+pub fn carry<L: Ledger, G: Gate, R: Wait>(
+    rt: &R,
+    hall: &Hall<L>,
+    board: &Board,
+    gate: &G,
+    share: &mut Share<L>,
+    seat: &mut BoardSeat,
+)
+    requires { IsSeatOf board.now seat.old }
+    ensures share { IsLater share.old share.new }
+    ensures seat { IsSameSeat seat.old seat.new }
+{
+    let mut turn: u64 = 1;
+    let mut patience = Patience::new(share.role(), hall.collector());
+    for _round in rt.forever() {
+        gate.before(seat.worker(), turn);
+        turn = turn.saturating_add(1);
+        if is_last_turn(rt, hall, board, share, seat) {
+            break;
+        }
+        patience.give_way(board, seat);
+    }
+}
+
+// Takes a turn, tells the board of it, and answers whether it was the worker's last.
+fn is_last_turn<L: Ledger, R: Wait>(
+    rt: &R,
+    hall: &Hall<L>,
+    board: &Board,
+    share: &mut Share<L>,
+    seat: &mut BoardSeat,
+) -> bool
+    requires { IsSeatOf board.now seat.old }
+    ensures share { IsLater share.old share.new }
+    ensures seat { IsSameSeat seat.old seat.new }
+{
+    let (answer, status) = hall.turn_for(rt, share);
+    if answer == Turn::Done {
+        pulse(board, seat);
+    }
+    if board.stop_asked(seat) {
+        return true;
+    }
+    let over = is_over(answer, status);
+    if over {
+        board.ask_stop(seat);
+    }
+    over
+}
+
+// A pulse, unless the seat's count is the greatest number.
+fn pulse(board: &Board, seat: &mut BoardSeat)
+    requires { IsSeatOf board.now seat.old }
+    ensures { IsSameSeat seat.old seat.new }
+{
+    if seat.count() < u64::MAX {
+        board.pulse(seat);
+    }
+}
+
+// Whether no worker has more to do after a turn with this answer.
+fn is_over(answer: Turn, status: Status) -> bool {
+    match answer {
+        Turn::OutputFull | Turn::StepLimit | Turn::Stopped => true,
+        Turn::Done | Turn::NotReady | Turn::Fault(_) => match status {
+            Status::Running => false,
+            Status::Finished | Status::Stuck | Status::Faulted => true,
+        },
+    }
+}

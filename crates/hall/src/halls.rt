@@ -1,0 +1,183 @@
+//! Halls: a world under a lock, and the shares of its workers.
+ghost use Rattle.std.specs.Prelude.{◌≡◌, ◌<◌, ◌≤◌, ◌↔◌, [], true, IfOk, IfSome, IsErrOf, length, vec_len, sum_by};
+ghost use Rattle.scheduler.specs.Workers.{with_workers};
+ghost use Rattle.hall.specs.Heads.{head_of};
+ghost use Rattle.hall.specs.Shares.{Counts, dealt};
+
+use crate::error::HallError;
+use crate::roles::Role;
+use crate::shares::{Share, Shared};
+use loader::programs::Program;
+use model::journals::{HeapShape, Limits};
+use model::turns::{Status, Turn};
+use scheduler::worlds::World;
+use std::alloc::{AllocError, Global};
+use std::marker::Model;
+use std::sync::ledger::{Blank, Ledger};
+use std::sync::{Mutex, Wait, ledger};
+
+const MOST_WORKERS: usize = 9;
+
+/// A world that workers share under one lock. A contract sees what no turn changes of it: the program, the heap's shape,
+/// the limits and the number of workers.
+#[derive(Drop)]
+pub struct Hall<L: Ledger> {
+    lock: Mutex<Shared<L>>,
+    program: Program,
+    shape: HeapShape,
+    limits: Limits,
+    workers: u8,
+    collector: Option<usize>,
+}
+
+impl<L: Ledger> Model for Hall<L> {
+    ghost use Rattle.hall.specs.Heads.{Head};
+
+    ghost Value = { Head };
+
+    ghost view = { λ a. record { program = a.program; shape = a.shape; limits = a.limits; workers = a.workers } };
+}
+
+// A share for each role, worker by worker.
+fn deal<L: Ledger>(
+    alloc: Global,
+    roles: &[Role],
+    mut all: ledger::Share<L>,
+) -> Result<Vec<Share<L>>, AllocError>
+    requires parts { all.parts ≡ length roles.now }
+    requires none { all.amount ≡ 0 }
+    requires few { length roles.now ≤ 9 }
+    ensures { IfOk result (λ shares. shares.items ≡ dealt 0 roles.now) }
+{
+    let mut shares = Vec::with_capacity(alloc, roles.len())?;
+    for worker in 0..roles.len() {
+        shares.push(Share::new(worker as u8, roles[worker], all.split_off(1, 0)))?;
+    }
+    Ok(shares)
+}
+
+// The parts of all shares as one.
+fn gathered<L: Ledger>(mut shares: Vec<Share<L>>) -> Option<ledger::Share<L>>
+    ensures parts { IfSome result (λ all. all.parts ≡ vec_len shares) }
+    ensures amount { IfSome result (λ all. all.amount ≡ sum_by (λ s. s.count) shares.items) }
+{
+    let mut all = shares.pop()?.into_part();
+    while let Some(share) = shares.pop() {
+        all.merge(share.into_part());
+    }
+    Some(all)
+}
+
+impl<L: Ledger> Hall<L> {
+    /// A hall for a world that has made no turn, which then has a worker for each role, and the workers' shares in the
+    /// order of the roles. The blank, a ledger that isn't open yet, has a part for each role. H1 exactly where the number of
+    /// roles isn't 1 to 9, else H2 where memory runs out.
+    pub fn new(
+        alloc: Global,
+        blank: Blank,
+        mut world: World,
+        roles: &[Role],
+    ) -> Result<(Hall<L>, Vec<Share<L>>), HallError>
+        requires name { blank.name ≡ L.name }
+        requires parts { blank.parts ≡ L.parts }
+        requires one_each { blank.parts ≡ length roles.now }
+        requires empty { world.journal.rows ≡ [] }
+        ensures hall { IfOk result (λ made. made.0 ≡ head_of (with_workers world (length roles.now))) }
+        ensures shares { IfOk result (λ made. made.1.items ≡ dealt 0 roles.now) }
+        ensures number { IsErrOf result HallError.Roles ↔ (¬ ((0 < length roles.now) × (length roles.now ≤ 9))) }
+    {
+        if roles.len() == 0 || roles.len() > MOST_WORKERS {
+            return Err(HallError::Roles);
+        }
+        let workers = roles.len() as u8;
+        world.set_workers(workers);
+        let program = world.program().copy()?;
+        let shape = world.journal().shape();
+        let limits = world.journal().limits();
+        let (book, all) = blank.open::<L>();
+        let shares = deal(alloc, roles, all)?;
+        let hall = Hall {
+            lock: Mutex::new(Shared::new(world, book)),
+            program,
+            shape,
+            limits,
+            workers,
+            collector: roles
+                .iter()
+                .position(|role| matches!(role, Role::Collector)),
+        };
+        Ok((hall, shares))
+    }
+
+    // The worker that collects, if one does nothing else.
+    pub(crate) fn collector(&self) -> Option<usize> {
+        self.collector
+    }
+
+    /// One turn of the share's role under the lock, for which it waits, and how the world stands then. The share counts the
+    /// rows that the turn made.
+    pub fn turn_for<R: Wait>(&self, rt: &R, share: &mut Share<L>) -> (Turn, Status)
+        ensures { Counts result.0 share.old share.new }
+    {
+        let mut shared = self.lock.lock(rt);
+        let answer = shared.turn_as(share);
+        (answer, shared.status())
+    }
+
+    /// Takes back all shares, in any order, and gives the world. Its journal has as many rows as the shares counted
+    /// together. H4 where the world isn't of the hall's program, shape, limits and number of workers, which no call brings
+    /// about.
+    pub fn close(self, shares: Vec<Share<L>>) -> Result<World, HallError>
+        requires { vec_len shares ≡ L.parts }
+        ensures world { IfOk result (λ world. head_of world ≡ self) }
+        ensures rows { IfOk result (λ world. length world.journal.rows ≡ sum_by (λ s. s.count) shares.items) }
+    {
+        let Hall {
+            lock,
+            program,
+            shape,
+            limits,
+            workers,
+            ..
+        } = self;
+        let all = gathered(shares).ok_or(HallError::World)?;
+        let world = lock.into_inner().into_world(all);
+        if has_head(&world, &program, shape, limits, workers) {
+            Ok(world)
+        } else {
+            Err(HallError::World)
+        }
+    }
+}
+
+// Whether a world is of this program, shape, limits and number of workers.
+fn has_head(world: &World, program: &Program, shape: HeapShape, limits: Limits, workers: u8) -> bool
+    ensures { result ≡ true → head_of world.now ≡ record { program = program.now; shape = shape; limits = limits; workers = workers } }
+{
+    let journal = world.journal();
+    if !is_program(world.program(), program) || !is_shape(journal.shape(), shape) {
+        return false;
+    }
+    if !are_limits(journal.limits(), limits) {
+        return false;
+    }
+    journal.workers() == workers
+}
+
+fn is_program(a: &Program, b: &Program) -> bool
+    ensures { result ≡ true → a.now ≡ b.now }
+{
+    a == b
+}
+
+fn is_shape(a: HeapShape, b: HeapShape) -> bool
+    ensures { result ≡ true → a ≡ b }
+{
+    a == b
+}
+
+fn are_limits(a: Limits, b: Limits) -> bool
+    ensures { result ≡ true → a ≡ b }
+{
+    a == b
+}

@@ -1,0 +1,141 @@
+//! What a worker has, and what lies under the lock.
+ghost use Rattle.std.specs.Prelude.{◌≡◌, ◌+◌, [], length};
+ghost use Rattle.hall.specs.Shares.{counted_on, rows_by};
+
+use crate::roles::Role;
+use model::turns::Turn;
+use scheduler::worlds::World;
+use std::marker::Model;
+use std::sync::ledger;
+use std::sync::ledger::{Book, Ledger};
+
+/// A worker's share of the journal: its number, its role and how many rows it has made. A contract sees these three.
+#[derive(Drop)]
+pub struct Share<L: Ledger> {
+    worker: u8,
+    role: Role,
+    count: u64,
+    part: ledger::Share<L>,
+}
+
+impl<L: Ledger> Model for Share<L> {
+    ghost use Rattle.std.specs.Prelude.{◌≡◌};
+    ghost use Rattle.hall.specs.Shares.{ShareValue};
+
+    ghost Value = { ShareValue };
+
+    ghost view = { λ a. record { worker = a.worker; role = a.role; count = a.count } };
+
+    ghost invariant = { λ a. (a.part.parts ≡ 1) × (a.part.amount ≡ a.count) };
+}
+
+impl<L: Ledger> Share<L> {
+    // The share of a worker that has made no row.
+    pub(crate) fn new(worker: u8, role: Role, part: ledger::Share<L>) -> Share<L>
+        requires part { part.parts ≡ 1 }
+        requires none { part.amount ≡ 0 }
+        ensures { result ≡ record { worker = worker; role = role; count = 0 } }
+    {
+        Share {
+            worker,
+            role,
+            count: 0,
+            part,
+        }
+    }
+
+    /// The worker's number, from 0 on.
+    pub fn worker(&self) -> u8
+        ensures { result ≡ self.now.worker }
+    {
+        self.worker
+    }
+
+    /// What the worker does.
+    pub fn role(&self) -> Role
+        ensures { result ≡ self.now.role }
+    {
+        self.role
+    }
+
+    /// How many rows of the journal the worker has made.
+    pub fn count(&self) -> u64
+        ensures { result ≡ self.now.count }
+    {
+        self.count
+    }
+
+    // Counts the row of an actor's turn with this answer, if it made one, here and in the book. With it the journal has so
+    // many rows.
+    pub(crate) fn note(&mut self, book: &mut Book<L>, answer: Turn, rows: usize)
+        requires { book.old.total + rows_by answer ≡ rows }
+        ensures total { book.new.total ≡ rows }
+        ensures share { self.new ≡ counted_on self.old (rows_by answer) }
+    {
+        match answer {
+            Turn::Done | Turn::Fault(_) => self.note_row(book, rows),
+            Turn::NotReady | Turn::Stopped | Turn::OutputFull | Turn::StepLimit => {}
+        }
+    }
+
+    // Counts a row more. With it the journal has so many rows.
+    fn note_row(&mut self, book: &mut Book<L>, rows: usize)
+        requires { book.old.total + 1 ≡ rows }
+        ensures total { book.new.total ≡ rows }
+        ensures share { self.new ≡ counted_on self.old 1 }
+    {
+        let Share { count, part, .. } = self;
+        book.audit(part);
+        book.add(part, 1);
+        *count += 1;
+    }
+
+    // The part of the ledger.
+    pub(crate) fn into_part(self) -> ledger::Share<L>
+        ensures part { result.parts ≡ 1 }
+        ensures amount { result.amount ≡ self.count }
+    {
+        let Share { part, .. } = self;
+        part
+    }
+}
+
+/// The world under the lock, and the book of its rows. A contract sees the world.
+#[derive(Drop)]
+pub struct Shared<L: Ledger> {
+    pub(crate) world: World,
+    pub(crate) book: Book<L>,
+}
+
+impl<L: Ledger> Model for Shared<L> {
+    ghost use Rattle.std.specs.Prelude.{◌≡◌, length};
+    ghost use Rattle.model.specs.Machines.{Recorded};
+
+    ghost Value = { Recorded };
+
+    ghost view = { λ a. a.world };
+
+    ghost invariant = { λ a. length a.world.journal.rows ≡ a.book.total };
+}
+
+impl<L: Ledger> Shared<L> {
+    // A world that has made no turn, and a book that is empty.
+    pub(crate) fn new(world: World, book: Book<L>) -> Shared<L>
+        requires world { world.journal.rows ≡ [] }
+        requires book { book.total ≡ 0 }
+        ensures { result ≡ world }
+    {
+        Shared { world, book }
+    }
+
+    // The world. All parts of the ledger have counted its rows.
+    pub(crate) fn into_world(self, mut all: ledger::Share<L>) -> World
+        requires { all.parts ≡ L.parts }
+        ensures world { result ≡ self }
+        ensures rows { length self.journal.rows ≡ all.amount }
+    {
+        let Shared { world, mut book } = self;
+        book.audit(&mut all);
+        world
+    }
+}

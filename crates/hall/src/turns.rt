@@ -1,0 +1,156 @@
+//! What is done under the lock.
+ghost use Rattle.std.specs.Prelude.{◌≡◌, ◌<◌};
+ghost use Rattle.model.specs.Machines.{after_turn_by, answer_to};
+ghost use Rattle.model.specs.Observers.{status_of, pick_of};
+ghost use Rattle.hall.specs.Roles.{after_role, answer_role, carried, carried_answer, collected, collected_answer};
+ghost use Rattle.hall.specs.Roles.{last_is_collector, swept, swept_once, swept_after, after_allowed, answer_allowed};
+ghost use Rattle.hall.specs.Shares.{Takes, CountsRows};
+
+use crate::roles::Role;
+use crate::shares::{Share, Shared};
+use model::turns::{Actor, Status, Turn};
+use std::sync::ledger::Ledger;
+
+impl<L: Ledger> Shared<L> {
+    /// How the world stands.
+    pub fn status(&self) -> Status
+        ensures { result ≡ status_of self.now }
+    {
+        self.world.status()
+    }
+
+    // Whether the journal's last row is the collector's.
+    fn last_is_collector(&self) -> bool
+        ensures { result ≡ last_is_collector self.now }
+    {
+        match self.world.journal().rows().last() {
+            Some(row) => match row.actor {
+                Actor::Collector => true,
+                Actor::Thread(_) => false,
+            },
+            None => false,
+        }
+    }
+
+    // One turn of an actor by this worker, counted where it makes a row.
+    fn make(&mut self, share: &mut Share<L>, actor: Actor) -> Turn
+        requires { share.old.worker < self.old.journal.workers }
+        ensures world { self.new ≡ after_turn_by self.old actor share.old.worker }
+        ensures answer { result ≡ answer_to self.old actor share.old.worker }
+        ensures share { CountsRows self.old self.new share.old share.new }
+    {
+        let Shared { world, book } = self;
+        let answer = world.turn_by(actor, share.worker());
+        let rows = world.journal().rows().len();
+        share.note(book, answer, rows);
+        answer
+    }
+
+    // A turn of the picked thread.
+    fn carry(&mut self, share: &mut Share<L>) -> Turn
+        requires { share.old.worker < self.old.journal.workers }
+        ensures world { self.new ≡ carried self.old share.old.worker (pick_of self.old) }
+        ensures answer { result ≡ carried_answer self.old share.old.worker (pick_of self.old) }
+        ensures share { CountsRows self.old self.new share.old share.new }
+    {
+        match self.world.pick() {
+            None => Turn::NotReady,
+            Some(thread) => self.make(share, Actor::Thread(thread)),
+        }
+    }
+
+    // A collector's turn, unless the last row is the collector's.
+    fn collect(&mut self, share: &mut Share<L>) -> Turn
+        requires { share.old.worker < self.old.journal.workers }
+        ensures world { self.new ≡ collected self.old share.old.worker }
+        ensures answer { result ≡ collected_answer self.old share.old.worker }
+        ensures share { CountsRows self.old self.new share.old share.new }
+    {
+        if self.last_is_collector() {
+            Turn::NotReady
+        } else {
+            self.make(share, Actor::Collector)
+        }
+    }
+
+    // A collector's turn, if the world is running.
+    fn sweep_once(&mut self, share: &mut Share<L>)
+        requires { share.old.worker < self.old.journal.workers }
+        ensures world { self.new ≡ swept_once self.old share.old.worker }
+        ensures share { CountsRows self.old self.new share.old share.new }
+    {
+        match self.status() {
+            Status::Running => {
+                let _ = self.make(share, Actor::Collector);
+            }
+            Status::Finished | Status::Stuck | Status::Faulted => {}
+        }
+    }
+
+    // So many collector turns, while the world is running.
+    fn sweep(&mut self, share: &mut Share<L>, gc: u32)
+        requires { share.old.worker < self.old.journal.workers }
+        ensures world { self.new ≡ swept self.old share.old.worker gc }
+        ensures share { CountsRows self.old self.new share.old share.new }
+    {
+        for _turn in 0..gc {
+            self.sweep_once(share);
+        }
+    }
+
+    // A turn of the picked thread and, where it was done, so many collector turns.
+    fn carry_and_sweep(&mut self, share: &mut Share<L>, gc: u32) -> Turn
+        requires { share.old.worker < self.old.journal.workers }
+        ensures world { self.new ≡ swept_after result (carried self.old share.old.worker (pick_of self.old)) share.old.worker gc }
+        ensures answer { result ≡ carried_answer self.old share.old.worker (pick_of self.old) }
+        ensures share { CountsRows self.old self.new share.old share.new }
+    {
+        let answer = self.carry(share);
+        match answer {
+            Turn::Done => self.sweep(share, gc),
+            Turn::NotReady | Turn::Stopped | Turn::Fault(_) | Turn::OutputFull | Turn::StepLimit =>
+                {}
+        }
+        answer
+    }
+
+    // One turn of the share's role, by a worker that the journal knows.
+    fn turn_of_role(&mut self, share: &mut Share<L>) -> Turn
+        requires { share.old.worker < self.old.journal.workers }
+        ensures world { self.new ≡ after_allowed self.old share.old.role share.old.worker }
+        ensures answer { result ≡ answer_allowed self.old share.old.role share.old.worker }
+        ensures share { CountsRows self.old self.new share.old share.new }
+    {
+        match share.role() {
+            Role::Carrier => self.carry(share),
+            Role::Collector => self.collect(share),
+            Role::Both { gc } => self.carry_and_sweep(share, gc),
+        }
+    }
+
+    // The same by any worker.
+    #[tactic(auto, unfolding(crate::specs::Roles::after_role, crate::specs::Roles::answer_role))]
+    fn turn_if_known(&mut self, share: &mut Share<L>) -> Turn
+        ensures world { self.new ≡ after_role self.old share.old.role share.old.worker }
+        ensures answer { result ≡ answer_role self.old share.old.role share.old.worker }
+        ensures share { CountsRows self.old self.new share.old share.new }
+    {
+        if share.worker() < self.world.journal().workers() {
+            self.turn_of_role(share)
+        } else {
+            Turn::NotReady
+        }
+    }
+
+    /// One turn of the share's role, by the share's worker: `Both` and `Carrier` take a turn of the picked thread,
+    /// `NotReady` where there is none; after a done one `Both` takes its collector turns, each if the world is running. A
+    /// `Collector` takes a collector turn, `NotReady` where the last row is the collector's. The share counts the rows that
+    /// were added. A worker that isn't below the journal's number of workers does nothing, `NotReady`.
+    pub fn turn_as(&mut self, share: &mut Share<L>) -> Turn
+        ensures world { self.new ≡ after_role self.old share.old.role share.old.worker }
+        ensures answer { result ≡ answer_role self.old share.old.role share.old.worker }
+        ensures takes { Takes self.old self.new result share.old share.new }
+    {
+        self.turn_if_known(share)
+    }
+}
