@@ -10,6 +10,7 @@ use jasmin::Fault as TextFault;
 use loader::LoadError;
 use model::journals::{HeapShape, Limits};
 use model::turns::{Actor, Status, Turn};
+use model::views::ThreadState;
 use scheduler::worlds::{World, WorldError};
 use std::alloc::{AllocError, Global};
 use std::io::{Read, Write};
@@ -143,13 +144,40 @@ fn carry_on(world: &mut World, gc: u32) {
     }
 }
 
+/// A line for each thread that was ended by an exception, by number, each but the first behind `jvm: `; empty where there is
+/// none. `AllocError` where memory runs out.
+fn exceptions_told(alloc: Global, world: &World) -> Result<String, AllocError> {
+    let mut lines = String::new(alloc);
+    for thread in 0..=u8::MAX {
+        let Some(view) = world.thread(thread)? else {
+            break;
+        };
+        if let ThreadState::Ended(Some(class)) = &view.state {
+            if !lines.is_empty() {
+                lines.push_str("\njvm: ")?;
+            }
+            let line = format!(in alloc; "thread {thread} ended by {class}")?;
+            lines.push_str(line.as_str())?;
+        }
+    }
+    Ok(lines)
+}
+
+/// How a world ends whose threads have all ended.
+fn finished(alloc: Global, world: &World) -> Ending {
+    match exceptions_told(alloc, world) {
+        Ok(lines) if lines.is_empty() => Ending::good(),
+        lines => Ending::told(1, lines),
+    }
+}
+
 /// How a world that was run ends the command.
 fn ended(alloc: Global, world: &World) -> Ending {
     match (world.fault(), world.status()) {
         (Some((fault, thread)), _) => {
             Ending::told(3, format!(in alloc; "fault {fault} in thread {thread}"))
         }
-        (None, Status::Finished) => Ending::good(),
+        (None, Status::Finished) => finished(alloc, world),
         (None, Status::Stuck) => Ending::told(5, format!(in alloc; "stuck")),
         (None, _) => {
             if world.output_full() {

@@ -107,6 +107,12 @@ const EMPTY_MAIN: &[u8] =
 const SUM: &[u8] =
     b".class public A\n.super java/lang/Object\n.method public static main()V\n.limit stack 2\n.limit locals 0\nldc 2147483647\niconst_1\niadd\ninvokestatic vm/Sys/print(I)V\nreturn\n.end method\n";
 
+const COUNTDOWN: &[u8] =
+    b".class L\n.super java/lang/Object\n.method static main()V\n.limit stack 1\n.limit locals 1\niconst_3\nistore_0\nA:\niload_0\ninvokestatic vm/Sys/print(I)V\niinc 0 -1\niload_0\nifgt A\nreturn\n.end method\n";
+
+const DIVISION: &[u8] =
+    b".class D\n.super java/lang/Object\n.method static main()V\n.limit stack 2\n.limit locals 0\niconst_1\niconst_0\nidiv\nreturn\n.end method\n";
+
 const MISSING_OPERAND: &[u8] =
     b".class A\n.super java/lang/Object\n.method static main()V\n.limit stack 2\n.limit locals 0\niconst_1\niadd\n.end method\n";
 
@@ -386,6 +392,41 @@ fn texts_that_do_not_assemble_are_told(rt: HostRuntime) -> Result<(), Fail> {
         0,
         b"",
         b"",
+    )
+}
+
+#[test]
+fn a_loop_and_an_exception(rt: HostRuntime) -> Result<(), Fail> {
+    let run = ["run", "a.j"];
+    check(
+        &rt,
+        rt.alloc(),
+        run.as_slice(),
+        COUNTDOWN,
+        0,
+        b"3\n2\n1\n",
+        b"",
+    )?;
+    check(
+        &rt,
+        rt.alloc(),
+        run.as_slice(),
+        DIVISION,
+        1,
+        b"",
+        b"jvm: thread 0 ended by java/lang/ArithmeticException\n",
+    )?;
+    let scarce = [
+        "run", "--small", "2", "--medium", "0", "--large", "0", "a.j",
+    ];
+    check(
+        &rt,
+        rt.alloc(),
+        scarce.as_slice(),
+        DIVISION,
+        1,
+        b"",
+        b"jvm: thread 0 ended by java/lang/OutOfMemoryError\n",
     )
 }
 
