@@ -48,7 +48,11 @@ impl Machine {
     }
 
     /// What an instruction comes to that doesn't complete: a fault, or an exception.
-    pub(crate) fn complete_abruptly(&mut self, program: &Program, abrupt: Abrupt) -> Result<Turned, Fault>
+    pub(crate) fn complete_abruptly(
+        &mut self,
+        program: &Program,
+        abrupt: Abrupt,
+    ) -> Result<Turned, Fault>
         requires served { ServedProgram program.now }
         requires main { RunsMain program.now self.old.frames }
         requires births { self.old.heap.births + 1 < 2 ^ 32 }
