@@ -1,2 +1,3 @@
+pub mod JournalReading
 pub mod Noting
 pub mod RowLines

@@ -1,1 +1,2 @@
+pub mod JournalReading
 pub mod Worlds
