@@ -51,7 +51,7 @@ abbrev shape : ℕ → ℕ → ℕ → HeapShape
 shape small medium large = record { small = small; medium = medium; large = large }
 
 abbrev recorded : HeapShape → List Row → Recorded
-recorded heap rows = record { program = program; journal = record { shape = heap; limits = ample; workers = 1; rows = rows; room = ample.steps } }
+recorded heap rows = record { program = program; journal = record { shape = heap; limits = ample; workers = 1; rows = rows } }
 
 abbrev done : Row
 done = record { actor = Thread 0; outcome = Done; worker = 0 }

@@ -65,15 +65,14 @@ pub struct Row {
 }
 
 /// A journal: the heap's shape, the limits, the number of workers (1 to 9) and the rows, one for each turn that was done
-/// or at fault, in order. Its shape and limits are in range, and each row's worker is below the number of workers. It has
-/// memory for `room` rows: a new journal for as many as the limit allows, one that was read for none but its own.
+/// or at fault, in order. Its shape and limits are in range, each row's worker is below the number of workers, and there
+/// is room for as many rows as the limit allows.
 #[derive(Drop)]
 pub struct Journal {
     shape: HeapShape,
     limits: Limits,
     workers: u8,
     rows: Vec<Row>,
-    room: u32,
 }
 
 impl Model for Journal {
@@ -82,14 +81,14 @@ impl Model for Journal {
 
     ghost Value = { JournalValue };
 
-    ghost view = { λ a. record { shape = a.shape; limits = a.limits; workers = a.workers; rows = a.rows.items; room = a.room } };
+    ghost view = { λ a. record { shape = a.shape; limits = a.limits; workers = a.workers; rows = a.rows.items } };
 
-    ghost invariant = { λ a. HeadFits a.shape a.limits a.workers × (a.room ≤ vec_capacity a.rows) × AreOfWorkers a.workers a.rows.items };
+    ghost invariant = { λ a. HeadFits a.shape a.limits a.workers × (a.limits.steps ≤ vec_capacity a.rows) × AreOfWorkers a.workers a.rows.items };
 }
 
 impl Journal {
     ghost use Rattle.std.specs.Prelude.{◌≡◌, ◌<◌, IfOk, MatchResult, length};
-    ghost use Rattle.model.specs.Journals.{HeadFits, AreOfWorkers, blank, stored, with_row};
+    ghost use Rattle.model.specs.Journals.{HeadFits, AreOfWorkers, blank, with_row};
 
     /// A journal with no row, and room for all that the limit allows. `AllocError` where there is no memory for them.
     pub fn new(
@@ -106,23 +105,7 @@ impl Journal {
             limits,
             workers,
             rows: Vec::with_capacity(alloc, limits.steps as usize)?,
-            room: limits.steps,
         })
-    }
-
-    /// A journal with these rows, which takes no memory.
-    pub fn stored(shape: HeapShape, limits: Limits, workers: u8, rows: Vec<Row>) -> Journal
-        requires head { HeadFits shape limits workers }
-        requires workers { AreOfWorkers workers rows.items }
-        ensures { result ≡ stored shape limits workers rows.items }
-    {
-        Journal {
-            shape,
-            limits,
-            workers,
-            rows,
-            room: 0,
-        }
     }
 
     /// The heap's shape.
@@ -157,9 +140,9 @@ impl Journal {
         self.rows.as_slice()
     }
 
-    /// Adds a row for which there is room. It takes no memory.
+    /// Adds a row. It takes no memory.
     pub fn note(&mut self, row: Row)
-        requires room { length self.old.rows < self.old.room }
+        requires room { length self.old.rows < self.old.limits.steps }
         requires worker { row.worker < self.old.workers }
         ensures { self.new ≡ with_row self.old row }
     {
@@ -169,7 +152,7 @@ impl Journal {
         }
     }
 
-    /// Adds a row past the limit and the room too. `AllocError` where there is no memory for it; the
+    /// Adds a row past the limit too, as a stored journal may have it. `AllocError` where there is no memory for it; the
     /// journal is then as it was.
     pub fn add(&mut self, row: Row) -> Result<(), AllocError>
         requires worker { row.worker < self.old.workers }

@@ -36,12 +36,12 @@ module _ (s : Loaded) (j : JournalValue) (k : ℕ) (is : IsOf s j k) (t : ℕ) w
   asked_none none = ap (λ (w : World). asked s.program w t) (sym is.world_is) ∙ none
 
   -- so there is room for a row
-  pub row_fits : Unrefused → length j.rows < j.room
+  pub row_fits : Unrefused → length j.rows < j.limits.steps
   row_fits e =
       let h = (allowed s t (on_state e)).counted in
       let rows = is.rows_are in
-      let room = ap (λ (l : Limits). l.steps) is.limits_are ∙ sym is.room_is in
-      omega (arith, h, rows, room)
+      let steps = ap (λ (l : Limits). l.steps) is.limits_are in
+      omega (arith, h, rows, steps)
 
   step_world : (o : Outcome) → Unrefused → asked s.program s.world t ≡ None → ideal_step s.program j.limits (ideal (recorded s j)) (Thread t) (choice_of s.program (ideal (recorded s j)) t o) ≡ counted (next s.program s.world t NewObject).after
   step_world o e none =
@@ -55,7 +55,6 @@ module _ (s : Loaded) (j : JournalValue) (k : ℕ) (is : IsOf s j k) (t : ℕ) w
       let row : Row = record { actor = Thread t; outcome = o; worker = worker } in
       record {
         limits_are = is.limits_are;
-        room_is = is.room_is;
         rows_are =
             ap (λ (n : ℕ). n + 1) (next-rows s.program s.world t NewObject ∙ is.rows_are) ∙ sym (length-append j.rows (row ∷ []));
         world_is = sym (ap (λ (m : Machine). m.world) (machine_of-noted (recorded s j) row) ∙ step_world o e none);
@@ -75,19 +74,18 @@ module _ (s : Loaded) (j : JournalValue) (k : ℕ) (is : IsOf s j k) where
   pub may_collect : MayCollect → refusal s.program s.limits s.world Collector ≡ None
   may_collect e = ap (λ (l : Limits). refusal s.program l s.world Collector) is.limits_are ∙ ap (λ (w : World). refusal s.program j.limits w Collector) is.world_is ∙ e
 
-  pub collector_row_fits : MayCollect → length j.rows < j.room
+  pub collector_row_fits : MayCollect → length j.rows < j.limits.steps
   collector_row_fits e =
       let h = collector_counted s.program s.limits s.world (may_collect e) in
       let rows = is.rows_are in
-      let room = ap (λ (l : Limits). l.steps) is.limits_are ∙ sym is.room_is in
-      omega (arith, h, rows, room)
+      let steps = ap (λ (l : Limits). l.steps) is.limits_are in
+      omega (arith, h, rows, steps)
 
   pub collected_is : (worker : ℕ) → MayCollect → IsOf (after_collection s) (with_row j (record { actor = Collector; outcome = Done; worker = worker })) k
   collected_is worker e =
       let row : Row = record { actor = Collector; outcome = Done; worker = worker } in
       record {
         limits_are = is.limits_are;
-        room_is = is.room_is;
         rows_are = ap (λ (n : ℕ). n + 1) is.rows_are ∙ sym (length-append j.rows (row ∷ []));
         world_is = sym (
             ap (λ (m : Machine). m.world) (machine_of-noted (recorded s j) row)
@@ -102,4 +100,4 @@ module _ (s : Loaded) (j : JournalValue) (k : ℕ) (is : IsOf s j k) where
 -- a new state is what a blank journal stands for
 pub opened_is : (program : List ClassListing) (shape : HeapShape) (limits : Limits) → IsOf (fresh program limits) (blank shape limits 1) 0
 unfolding machine_of
-opened_is program shape limits = record { limits_are = refl; rows_are = refl; room_is = refl; world_is = refl; next_is = refl }
+opened_is program shape limits = record { limits_are = refl; rows_are = refl; world_is = refl; next_is = refl }

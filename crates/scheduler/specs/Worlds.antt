@@ -8,11 +8,9 @@ use Rattle.instructions.specs.Loaded.{Loaded}
 abbrev pub recorded : Loaded → JournalValue → Recorded
 recorded state journal = record { program = state.program; journal = journal }
 
--- the state is what its program and the journal stand for, the journal has room for all rows that the limit allows, and
--- the thread to look at first is the one behind the last
+-- the state is what its program and the journal stand for, and the thread to look at first is the one behind the last
 pub record IsOf (state : Loaded) (journal : JournalValue) (next : ℕ) : Type 0 where
   pub limits_are : state.limits ≡ journal.limits
   pub rows_are : state.world.rows ≡ length journal.rows
-  pub room_is : journal.room ≡ journal.limits.steps
   pub world_is : state.world ≡ (machine_of (recorded state journal)).world
   pub next_is : next ≡ after_last 0 journal.rows

@@ -4,7 +4,7 @@ use Rattle.std.proofs.lemmas.List.{append_assoc, append-nil}
 use Rattle.model.specs.declared.journals.HeapShape.{HeapShape}
 use Rattle.model.specs.declared.journals.Limits.{Limits}
 use Rattle.model.specs.declared.journals.Row.{Row}
-use Rattle.model.specs.Journals.{JournalValue, HeadFits, stored}
+use Rattle.model.specs.Journals.{JournalValue, HeadFits}
 use Rattle.model.specs.JournalTexts.{heap_line, limits_line, workers_line, row_line, row_line_1, lines_of_rows, end_line, journal_text, journal_text_1, IsTextOf}
 use Rattle.scheduler.specs.declared.journal_texts.heads.Head.{Head}
 use Rattle.scheduler.specs.declared.journal_texts.heads.Version.{Version}
@@ -27,9 +27,9 @@ module _ (j h l : List ℕ) where
   in_groups_1 : (r e : List ℕ) → j ++ h ++ l ++ r ++ e ≡ j ++ ((h ++ (l ++ [])) ++ (r ++ e))
   in_groups_1 r e = ap (λ x. x ++ r ++ e) (sym (append-nil (j ++ h ++ l))) ∙ in_groups [] r e
 
-module _ (shape : HeapShape) (limits : Limits) (workers room : ℕ) (rows : List Row) where
+module _ (shape : HeapShape) (limits : Limits) (workers : ℕ) (rows : List Row) where
   abbrev journal : JournalValue
-  journal = record { shape = shape; limits = limits; workers = workers; rows = rows; room = room }
+  journal = record { shape = shape; limits = limits; workers = workers; rows = rows }
 
   abbrev rows_text : Version → List ℕ
   rows_text version = lines_of_rows (line_by version) rows ++ end_line (length rows)
@@ -69,17 +69,17 @@ abbrev Has : Read Head → Type 0
 Has None = ⊥
 Has (Some r) = Leads r
 
-leads_by : (text : List ℕ) (version : Version) (journal : JournalValue) → IsJournal journal → Told version journal.workers → text ≡ grouped journal.shape journal.limits journal.workers journal.room journal.rows version → Has (head_at text)
+leads_by : (text : List ℕ) (version : Version) (journal : JournalValue) → IsJournal journal → Told version journal.workers → text ≡ grouped journal.shape journal.limits journal.workers journal.rows version → Has (head_at text)
 leads_by text version journal is told e =
     let small = small_of version journal.shape journal.limits journal.workers is.head told in
-    let read = ap head_at e ∙ head_back version (journal.shape, (journal.limits, journal.workers)) (rows_text journal.shape journal.limits journal.workers journal.room journal.rows version) small in
+    let read = ap head_at e ∙ head_back version (journal.shape, (journal.limits, journal.workers)) (rows_text journal.shape journal.limits journal.workers journal.rows version) small in
     subst Has (sym read) (is.head, journal.rows, is.rows, refl)
 
 leads : (text : List ℕ) → HasJournal text → Has (head_at text)
 leads text (journal, is, inl e) =
     let nine = is.head.nine in
-    leads_by text Two journal is (omega (arith, nine)) (e ∙ text_2 journal.shape journal.limits journal.workers journal.room journal.rows)
-leads text (journal, is, inr e) = leads_by text One journal is e.1.one (e.0 ∙ text_1 journal.shape journal.limits journal.workers journal.room journal.rows)
+    leads_by text Two journal is (omega (arith, nine)) (e ∙ text_2 journal.shape journal.limits journal.workers journal.rows)
+leads text (journal, is, inr e) = leads_by text One journal is e.1.one (e.0 ∙ text_1 journal.shape journal.limits journal.workers journal.rows)
 
 pub no_head : (text : List ℕ) → IfSome (head_at text) (λ r. ¬ Fits r.0) → ¬ HasJournal text
 no_head text none has = by (head_at text) none (leads text has)
@@ -109,7 +109,7 @@ module _ (text : List ℕ) (head : Head) (rest : List ℕ) (read : head_at text 
         let (_, rows, all, is) = subst Has read (leads text has) in
         other (counted head.version head.workers (told_workers fits) rest got last fit cut over rows all is)
 
-    pub is_journal : last ≡ end_line (length got) → IsTextOf text (stored head.shape head.limits head.workers got)
+    pub is_journal : last ≡ end_line (length got) → IsTextOf text (journal head.shape head.limits head.workers got)
     is_journal end =
         let whole = begins.0 ∙ ap (λ l. first_line head.version ++ (behind_text head.version (parts head) ++ l)) (cut ∙ ap (λ l. lines_of_rows (line_by head.version) got ++ l) end) in
-        is_text head.shape head.limits head.workers 0 got text head.version begins.1.1.1 fit whole
+        is_text head.shape head.limits head.workers got text head.version begins.1.1.1 fit whole

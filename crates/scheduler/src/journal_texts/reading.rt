@@ -9,13 +9,13 @@ use crate::journal_texts::heads::read_head;
 use crate::journal_texts::rows::rows;
 use crate::journal_texts::words::behind;
 use itoa::Buffer;
-use model::journals::Journal;
+use model::stored_journals::StoredJournal;
 use std::alloc::Global;
 
 /// The journal whose text, of either version, this is; version 1 has one worker. It is refused where there is no such
 /// journal, with the first fault of the text (N1, N2, N7, N3, N4), and where memory runs out (N6). It takes time in
 /// proportion to the text, and memory for the rows that it has.
-pub fn read_journal(alloc: Global, text: &[u8]) -> Result<Journal, JournalError>
+pub fn read_journal(alloc: Global, text: &[u8]) -> Result<StoredJournal, JournalError>
     ensures journal { IfOk result (λ journal. IsTextOf text.now journal) }
     ensures refused { IfErr result (λ e. e ≢ JournalError.Memory → ¬ HasJournal text.now) }
 {
@@ -24,7 +24,7 @@ pub fn read_journal(alloc: Global, text: &[u8]) -> Result<Journal, JournalError>
     if !is_end_line(rest, rows.len()) {
         return Err(JournalError::End);
     }
-    Ok(Journal::stored(head.shape, head.limits, head.workers, rows))
+    Ok(StoredJournal::new(head.shape, head.limits, head.workers, rows))
 }
 
 /// Whether a text is the end line behind so many rows, and nothing else.

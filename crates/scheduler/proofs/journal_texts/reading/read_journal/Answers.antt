@@ -22,4 +22,4 @@ returns-then-not-is_end_line-clause-refused c =
 pub returns-clause-journal : goal.returns-clause-journal
 returns-clause-journal c =
     let count = c.len.ensures ∙ c.in_ok-rows.rows.ok.0 in
-    rw (c.stored.ensures) (is_journal c.args.text.now c.in_ok-head.head c.in_ok-head.rest.now c.in_ok-head.ensures.0 c.in_ok-rows.rows.items c.in_ok-rows.rest.now c.in_ok-head.ensures.1 c.in_ok-rows.ensures.1 c.in_ok-rows.ensures.0 (c.if-not-is_end_line.ensures.0 refl ∙ ap end_line count))
+    rw (c.new.ensures) (is_journal c.args.text.now c.in_ok-head.head c.in_ok-head.rest.now c.in_ok-head.ensures.0 c.in_ok-rows.rows.items c.in_ok-rows.rest.now c.in_ok-head.ensures.1 c.in_ok-rows.ensures.1 c.in_ok-rows.ensures.0 (c.if-not-is_end_line.ensures.0 refl ∙ ap end_line count))
