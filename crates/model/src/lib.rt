@@ -14,12 +14,14 @@ pub mod descriptors;
 pub mod flags;
 pub mod good_names;
 pub mod instructions;
+pub mod journal_parts;
 pub mod journals;
 pub mod listings;
 pub mod mnemonics;
 pub mod names;
 pub mod places;
 pub mod refusals;
+pub mod stored_journals;
 #[cfg(test)]
 mod tests;
 pub mod trees;

@@ -1,3 +1,4 @@
+pub mod JournalReading
 pub mod Noting
 pub mod Workers
 pub mod RowLines

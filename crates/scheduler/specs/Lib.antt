@@ -1,2 +1,3 @@
+pub mod JournalReading
 pub mod Worlds
 pub mod Workers

@@ -1,5 +1,10 @@
-//! Journals as texts: written in version 2.
+//! Journals as texts: written in version 2, read in versions 1 and 2.
 
+pub mod errors;
+mod heads;
+pub mod reading;
+mod rows;
 #[cfg(test)]
 mod tests;
+mod words;
 pub mod writing;

@@ -1,10 +1,19 @@
-//! The text of a journal by hand.
+//! Texts of journals by hand, and broken ones against a plain reader.
 ghost use Rattle.std.specs.Prelude.{◌≡◌};
 
+use crate::journal_texts::errors::JournalError;
+use crate::journal_texts::reading::read_journal;
 use crate::journal_texts::writing::write_journal;
 use model::journals::{HeapShape, Journal, Limits, Outcome, Row};
 use model::turns::Actor;
+use std::alloc::{AllocError, Global};
 use std::test::Fail;
+
+/// A text of each version. They have the same rows, but for the workers.
+const FIRST: &str = "JVMJ 1\nheap 2 0 0\nlimits 9 0\n0 d\nc o\n255 n\n7 f\nend 4\n";
+
+const SECOND: &str =
+    "JVMJ 2\nheap 2 0 0\nlimits 9 0\nworkers 3\n0 d 0\nc o 1\n255 n 2\n7 f 0\nend 4\n";
 
 fn row(actor: Actor, outcome: Outcome, worker: u8) -> Row
     ensures { result.worker ≡ worker }
@@ -33,7 +42,305 @@ fn a_journal_is_written(rt: HostRuntime) -> Result<(), Fail> {
     journal.add(row(Actor::Thread(255), Outcome::NoRoom, 2))?;
     journal.add(row(Actor::Thread(7), Outcome::Fault, 0))?;
     let text = write_journal(rt.alloc(), &journal)?;
-    let wanted = "JVMJ 2\nheap 2 0 0\nlimits 9 0\nworkers 3\n0 d 0\nc o 1\n255 n 2\n7 f 0\nend 4\n";
-    assert_eq!(rt; text.as_slice(), wanted.as_bytes());
+    assert_eq!(rt; text.as_slice(), SECOND.as_bytes());
+    Ok(())
+}
+
+/// The text of version 2 of the journal that a text has; empty where it has none.
+fn rewritten(alloc: Global, text: &str) -> Result<Vec<u8>, AllocError> {
+    match read_journal(alloc, text.as_bytes()) {
+        Ok(journal) => write_journal(alloc, &journal),
+        Err(_) => Ok(Vec::new(alloc)),
+    }
+}
+
+/// Texts, and the texts of version 2 of their journals.
+const READ: [(&str, &str); 5] = [
+    (SECOND, SECOND),
+    (
+        FIRST,
+        "JVMJ 2\nheap 2 0 0\nlimits 9 0\nworkers 1\n0 d 0\nc o 0\n255 n 0\n7 f 0\nend 4\n",
+    ),
+    (
+        "JVMJ 1\nheap 65535 0 0\nlimits 16777215 1048576\nend 0\n",
+        "JVMJ 2\nheap 65535 0 0\nlimits 16777215 1048576\nworkers 1\nend 0\n",
+    ),
+    (
+        "JVMJ 2\nheap 0 0 4096\nlimits 1 0\nworkers 9\n0 d 8\n0 d 8\nend 2\n",
+        "JVMJ 2\nheap 0 0 4096\nlimits 1 0\nworkers 9\n0 d 8\n0 d 8\nend 2\n",
+    ),
+    ("JVMJ 2\nheap 1 0 0\nlimits 9 0\nworkers 1\nend 0\n", ""),
+];
+
+#[test]
+fn what_is_read_is_written_again(rt: HostRuntime) -> Result<(), Fail> {
+    for (text, wanted) in READ {
+        let written = rewritten(rt.alloc(), text)?;
+        assert_eq!(rt; written.as_slice(), wanted.as_bytes());
+    }
+    Ok(())
+}
+
+/// Texts behind `JVMJ 2`, and how they are refused.
+const HEADS: [(&str, &str); 24] = [
+    ("", "N1"),
+    (" 2\nheap 2 0 0\n", "N1"),
+    ("\n", "N2"),
+    ("\nheap 2 0\nlimits 9 0\nworkers 1\nend 0\n", "N2"),
+    ("\nheap 2 0 0 0\nlimits 9 0\nworkers 1\nend 0\n", "N2"),
+    ("\nheap 2  0 0\nlimits 9 0\nworkers 1\nend 0\n", "N2"),
+    ("\nheap 2 0 0 \nlimits 9 0\nworkers 1\nend 0\n", "N2"),
+    ("\nheap 2 0 0\r\nlimits 9 0\nworkers 1\nend 0\n", "N2"),
+    ("\nheap 02 0 0\nlimits 9 0\nworkers 1\nend 0\n", "N2"),
+    ("\nheap +2 0 0\nlimits 9 0\nworkers 1\nend 0\n", "N2"),
+    ("\nheap -2 0 0\nlimits 9 0\nworkers 1\nend 0\n", "N2"),
+    (
+        "\nheap 4294967298 0 0\nlimits 9 0\nworkers 1\nend 0\n",
+        "N2",
+    ),
+    ("\nheap 1 0 0\nlimits 9 0\nworkers 0\nend 0\n", "N2"),
+    ("\nheap 65536 0 0\nlimits 9 0\nworkers 1\nend 0\n", "N2"),
+    ("\nheap 0 0 4097\nlimits 9 0\nworkers 1\nend 0\n", "N2"),
+    ("\nheap 2 0 0\nlimits 0 0\nworkers 1\nend 0\n", "N2"),
+    ("\nheap 2 0 0\nlimits 16777216 0\nworkers 1\nend 0\n", "N2"),
+    ("\nheap 2 0 0\nlimits 9 1048577\nworkers 1\nend 0\n", "N2"),
+    ("\nheap 2 0 0\nlimits 9\nworkers 1\nend 0\n", "N2"),
+    ("\nheap 2 0 0\nlimits 9 0\nend 0\n", "N7"),
+    ("\nheap 2 0 0\nlimits 9 0\nworkers 0\nend 0\n", "N7"),
+    ("\nheap 2 0 0\nlimits 9 0\nworkers 10\nx\nend 0\n", "N7"),
+    ("\nheap 2 0 0\nlimits 9 0\nworkers 1 1\nend 0\n", "N7"),
+    ("\nheap 2 0 0\nlimits 9 0\nworkers 1", "N7"),
+];
+
+/// Texts behind a head of two workers, and how they are refused.
+const ROWS: [(&str, &str); 23] = [
+    ("0 d 2\nend 1\n", "N3 at row 1"),
+    ("0 d 1\n256 d 0\nend 3\n", "N3 at row 2"),
+    ("0 d 0\n0 d 00\nend 2\n", "N3 at row 2"),
+    ("C d 0\nend 1\n", "N3 at row 1"),
+    ("c  d 0\nend 1\n", "N3 at row 1"),
+    ("0 x 0\nend 1\n", "N3 at row 1"),
+    ("0 d\nend 1\n", "N3 at row 1"),
+    ("0 d 0 \nend 1\n", "N3 at row 1"),
+    ("0 d 0", "N3 at row 1"),
+    ("\nend 0\n", "N3 at row 1"),
+    ("0 d 0\n\nend 1\n", "N3 at row 2"),
+    (" end 0\n", "N3 at row 1"),
+    ("en", "N3 at row 1"),
+    ("", "N4"),
+    ("0 d 0\n", "N4"),
+    ("0 d 0\nend 0\n", "N4"),
+    ("end 0", "N4"),
+    ("end", "N4"),
+    ("end 00\n", "N4"),
+    ("end 0 \n", "N4"),
+    ("ending\n0 d 0\nend 1\n", "N4"),
+    ("end 0\n\n", "N4"),
+    ("end 0\nend 0\n", "N4"),
+];
+
+/// How the text of a head and of what follows is refused; `read` where it isn't.
+fn refusal(alloc: Global, head: &str, rest: &str) -> Result<String, AllocError> {
+    let mut text = Vec::from_slice(alloc, head.as_bytes())?;
+    text.extend_from_slice(rest.as_bytes())?;
+    match read_journal(alloc, &text) {
+        Ok(_) => String::from_str(alloc, "read"),
+        Err(error) => format!(in alloc; "{error}"),
+    }
+}
+
+#[test]
+fn the_first_fault_is_told(rt: HostRuntime) -> Result<(), Fail> {
+    for (rest, wanted) in HEADS {
+        let told = refusal(rt.alloc(), "JVMJ 2", rest)?;
+        assert_eq!(rt; told.as_str(), wanted);
+    }
+    let two = "JVMJ 2\nheap 2 0 0\nlimits 9 0\nworkers 2\n";
+    for (rest, wanted) in ROWS {
+        let told = refusal(rt.alloc(), two, rest)?;
+        assert_eq!(rt; told.as_str(), wanted);
+    }
+    Ok(())
+}
+
+/// Texts behind a head of version 1, and how they are refused.
+const OLD_ROWS: [(&str, &str); 5] = [
+    ("0 d\nc o\nend 2\n", "read"),
+    ("workers 1\n0 d\nend 1\n", "N3 at row 1"),
+    ("0 d\n0 d 0\nend 2\n", "N3 at row 2"),
+    ("0 d \nend 1\n", "N3 at row 1"),
+    ("0 d\nend 2\n", "N4"),
+];
+
+#[test]
+fn version_1_tells_no_workers(rt: HostRuntime) -> Result<(), Fail> {
+    for (rest, wanted) in OLD_ROWS {
+        let told = refusal(rt.alloc(), "JVMJ 1\nheap 2 0 0\nlimits 9 0\n", rest)?;
+        assert_eq!(rt; told.as_str(), wanted);
+    }
+    Ok(())
+}
+
+// A plain reader: it cuts the text into lines and the lines into words, and tells a fault by its number and its row.
+
+/// The words of a line; none where its newline is missing.
+fn words<'a>(alloc: Global, line: &'a [u8]) -> Result<Vec<&'a [u8]>, AllocError> {
+    let mut words = Vec::new(alloc);
+    if let Some(line) = line.strip_suffix(b"\n") {
+        for word in line.split(|b| *b == b' ') {
+            words.push(word)?;
+        }
+    }
+    Ok(words)
+}
+
+/// The number that a word writes with no leading zero, below ten thousand.
+fn plain_number(word: &[u8]) -> Option<u32> {
+    if word.is_empty() || 4 < word.len() || (1 < word.len() && word.starts_with(b"0")) {
+        return None;
+    }
+    let mut number = 0u32;
+    for b in word {
+        if !b.is_ascii_digit() {
+            return None;
+        }
+        number = number
+            .saturating_mul(10)
+            .saturating_add(u32::from(b.saturating_sub(b'0')));
+    }
+    Some(number)
+}
+
+/// Whether a line's words are this one and so many numbers.
+fn is_line(words: &[&[u8]], first: &[u8], numbers: usize) -> bool {
+    match words {
+        [word, rest @ ..] => {
+            *word == first
+                && rest.len() == numbers
+                && rest.iter().all(|w| plain_number(w).is_some())
+        }
+        [] => false,
+    }
+}
+
+fn is_row(words: &[&[u8]], workers: Option<u32>) -> bool {
+    let (actor, outcome, worker) = match (words, workers) {
+        ([actor, outcome], None) => (*actor, *outcome, true),
+        ([actor, outcome, worker], Some(workers)) => {
+            (
+                *actor,
+                *outcome,
+                plain_number(worker).is_some_and(|w| w < workers),
+            )
+        }
+        _ => return false,
+    };
+    let acts = actor == b"c".as_slice() || plain_number(actor).is_some_and(|t| t < 256);
+    acts && worker && outcome.len() == 1 && b"donf".contains(&outcome[0])
+}
+
+/// A line by its place; empty where there is none.
+fn line_at<'a>(lines: &[&'a [u8]], place: usize) -> &'a [u8] {
+    match lines.get(place) {
+        Some(line) => line,
+        None => b"",
+    }
+}
+
+/// The number of the fault in the first lines, 0 where there is none.
+fn head_fault(alloc: Global, lines: &[&[u8]]) -> Result<u8, AllocError> {
+    let first = line_at(lines, 0);
+    if first != b"JVMJ 1\n".as_slice() && first != b"JVMJ 2\n".as_slice() {
+        return Ok(1);
+    }
+    let heap = words(alloc, line_at(lines, 1))?;
+    let limits = words(alloc, line_at(lines, 2))?;
+    let workers = words(alloc, line_at(lines, 3))?;
+    if !is_line(&heap, b"heap", 3) || !is_line(&limits, b"limits", 2) {
+        return Ok(2);
+    }
+    let two = first == b"JVMJ 2\n".as_slice();
+    Ok(if two && !is_line(&workers, b"workers", 1) {
+        7
+    } else {
+        0
+    })
+}
+
+/// Whether the last line is the end line of so many rows.
+fn is_end(words: &[&[u8]], rows: usize) -> bool {
+    match words {
+        [end, number] => *end == b"end".as_slice()
+            && plain_number(number).is_some_and(|n| n as usize == rows),
+        _ => false,
+    }
+}
+
+/// The fault in the rows and the end line, with its row.
+fn rows_fault(
+    alloc: Global,
+    lines: &[&[u8]],
+    workers: Option<u32>,
+) -> Result<(u8, usize), AllocError> {
+    for (rows, line) in lines.iter().enumerate() {
+        let words = words(alloc, line)?;
+        if line.starts_with(b"end") {
+            let right = is_end(&words, rows) && lines.len() == rows.saturating_add(1);
+            return Ok((if right { 0 } else { 4 }, 0));
+        }
+        if !is_row(&words, workers) {
+            return Ok((3, rows.saturating_add(1)));
+        }
+    }
+    Ok((4, 0))
+}
+
+/// The first fault of a text, with its row; zeros where there is none.
+fn plain_fault(alloc: Global, text: &[u8]) -> Result<(u8, usize), AllocError> {
+    let mut lines = Vec::new(alloc);
+    for line in text.split_inclusive(|b| *b == b'\n') {
+        lines.push(line)?;
+    }
+    let head = head_fault(alloc, &lines)?;
+    if head != 0 {
+        return Ok((head, 0));
+    }
+    if line_at(&lines, 0) == b"JVMJ 1\n".as_slice() {
+        return rows_fault(alloc, lines.get(3..).unwrap_or(&[]), None);
+    }
+    // the texts here have three workers
+    rows_fault(alloc, lines.get(4..).unwrap_or(&[]), Some(3))
+}
+
+/// The fault that is told, with its row.
+fn told_fault(alloc: Global, text: &[u8]) -> (u8, usize) {
+    match read_journal(alloc, text) {
+        Ok(_) => (0, 0),
+        Err(JournalError::Version) => (1, 0),
+        Err(JournalError::Head) => (2, 0),
+        Err(JournalError::Row(row)) => (3, row),
+        Err(JournalError::End) => (4, 0),
+        Err(JournalError::Memory) => (6, 0),
+        Err(JournalError::Workers) => (7, 0),
+    }
+}
+
+fn agrees(alloc: Global, text: &[u8]) -> Result<bool, AllocError> {
+    Ok(plain_fault(alloc, text)? == told_fault(alloc, text))
+}
+
+#[test]
+fn broken_texts_are_told_as_by_a_plain_reader(rt: HostRuntime) -> Result<(), Fail> {
+    for text in [FIRST.as_bytes(), SECOND.as_bytes()] {
+        assert!(rt; agrees(rt.alloc(), text)?);
+        for place in 0..text.len() {
+            assert!(rt; agrees(rt.alloc(), &text[..place])?, "cut at {place}");
+            for byte in [0, 255] {
+                let mut changed = Vec::from_slice(rt.alloc(), text)?;
+                changed[place] = byte;
+                assert!(rt; agrees(rt.alloc(), &changed)?, "{byte} at {place}");
+            }
+        }
+    }
     Ok(())
 }

@@ -3,13 +3,14 @@ ghost use Rattle.std.specs.Prelude.{◌≡◌, ◌+◌, ◌++◌, [], ◌∷◌,
 ghost use Rattle.model.specs.JournalTexts.{outcome_letter, actor_word, number_text, heap_line, limits_line, workers_line, row_line, lines_of_rows, end_line, journal_text};
 
 use itoa::Buffer;
-use model::journals::{HeapShape, Journal, Limits, Outcome, Row};
+use model::journal_parts::JournalParts;
+use model::journals::{HeapShape, Limits, Outcome, Row};
 use model::turns::Actor;
 use std::alloc::{AllocError, Global};
 
 /// A journal's text of version 2. `AllocError` where there is no memory for it.
-pub fn write_journal(alloc: Global, journal: &Journal) -> Result<Vec<u8>, AllocError>
-    ensures { IfOk result (λ text. text.items ≡ journal_text journal.now) }
+pub fn write_journal<J: JournalParts>(alloc: Global, journal: &J) -> Result<Vec<u8>, AllocError>
+    ensures { IfOk result (λ text. text.items ≡ journal_text (J.journal_of journal.now)) }
 {
     let mut text = Vec::from_slice(alloc, b"JVMJ 2\n")?;
     write_heap(&mut text, journal.shape())?;
