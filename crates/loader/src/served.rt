@@ -8,7 +8,7 @@ ghost use Rattle.model.specs.declared.listings.Placed.{Placed as PlacedAt};
 use crate::own_methods::builtin_of;
 use crate::programs::is_class_initializer;
 use model::builtins::Builtin;
-use model::instructions::{Constant, Instruction, Invocation};
+use model::instructions::{ClassOperation, Constant, Instruction, Invocation};
 use model::listings::{ExceptionRow, Listed, Listing, Method, Placed};
 use model::names::Member;
 
@@ -43,14 +43,15 @@ fn is_served(instruction: &Listed) -> bool
         | Instruction::Local(_)
         | Instruction::Stack(_)
         | Instruction::Number(_)
-        | Instruction::Branch(_, _) => true,
+        | Instruction::Branch(_, _)
+        | Instruction::Static(_, _)
+        | Instruction::Field(_, _)
+        | Instruction::Class(ClassOperation::New, _) => true,
         Instruction::Constant(constant) => serves_constant(constant),
         Instruction::Return(kind) => kind.is_none(),
         Instruction::Invoke(invocation, member) => serves_invocation(*invocation, member),
         Instruction::TableSwitch(_)
         | Instruction::LookupSwitch(_)
-        | Instruction::Static(_, _)
-        | Instruction::Field(_, _)
         | Instruction::Array(_)
         | Instruction::Class(_, _)
         | Instruction::Throw

@@ -1,8 +1,8 @@
 -- What the machine carries out so far, in the words of the instruction table: main's return ends its thread, and so does
 -- what is thrown in it.
-use Rattle.std.proofs.Common.{◌≡◌, ℕ, zero, suc, List, [], ◌∷◌, Option, Some, None, Bool, true, false, refl, arith, le-ltb, ap, sym, ◌∙◌}
+use Rattle.std.proofs.Common.{◌≡◌, ℕ, zero, suc, List, [], ◌∷◌, Option, Some, None, Bool, true, false, refl, ap, sym, ◌∙◌}
 use Rattle.std.specs.Prelude.{codes, ◌+◌, ◌++◌, ◌&&◌, ◌==◌, not, cond, length, map, position, replicate, reverse, slice_get, slice_index_or}
-use Rattle.std.specs.List.{find, list_all, list_any, position_or_len}
+use Rattle.std.specs.List.{find, list_all, list_any}
 use Rattle.std.specs.Str.{bytes_eq}
 use Rattle.std.specs.Option.{option_and_then, option_map}
 use Rattle.model.specs.declared.names.Member.{Member}
@@ -22,21 +22,19 @@ use Rattle.model.specs.CodeListings.{CodeListing}
 use Rattle.model.specs.Frames.{Frame, IsPlain, running, int_on}
 use Rattle.model.specs.Initialisation.{Chain, runs_initializer, chain_if, chain_from, chain_of, declares_initializer, wants_initialising, state_if, first_claim, claimed_states, callers_waiting, main_frames, opening_frames}
 use Rattle.model.specs.Classes.Named.{is_named, listed, class_named, superclass_in, or_else}
-use Rattle.model.specs.Classes.Search.{Declared, superclasses}
-use Rattle.model.specs.Classes.Resolution.{resolved_method}
-use Rattle.model.specs.Table.Initialisation.{declarer, after_initialising}
+use Rattle.model.specs.Classes.Search.{superclasses}
 use Rattle.model.specs.Programs.{is_class_initializer, empty_initializer, method_in, builtin_of, code_at, instruction_of, main_in, method_at, placed_at}
 use Rattle.model.specs.Worlds.{World, frames_at, with_thread}
 use Rattle.model.specs.Worlds.Thread.{Ended}
-use Rattle.model.specs.Completions.{Completion, Site, frames_in}
+use Rattle.model.specs.Completions.{Site, frames_in}
 use Rattle.model.specs.Completions.Completion.{Goes, Faults}
 use Rattle.model.specs.Printing.{decimal_line}
 use Rattle.model.specs.Table.Builtins.{prints_on}
 use Rattle.model.specs.Monitors.{released}
 use Rattle.model.specs.Table.Returns.{initialised_if, left_world, returned}
-use Rattle.model.specs.Table.Next.{Listed, by_family, at_site, at_instruction, at_mark, at_frame, completion}
-use Rattle.model.proofs.OwnMethods.{is_print, print_resolved, print_called, main_gives, main_initializes}
-use Rattle.model.specs.Served.{serves_call, is_plain, is_served, serves_rows, serves_code, serves_methods, serves}
+use Rattle.model.specs.Table.Next.{Listed, by_family, at_instruction, at_mark, at_frame, completion}
+use Rattle.model.proofs.OwnMethods.{print_called, main_gives, main_initializes}
+use Rattle.model.specs.Served.{serves_call, goes_by_name, is_plain, is_served, serves_rows, serves_code, serves_methods, serves}
 use Rattle.model.specs.Unwinding.{fits, handler_in, handler_of, thrown, unwound, way_of}
 use Rattle.model.specs.Unwinding.Landing.{Unhandled}
 use Rattle.model.specs.Objects.{class_at}
@@ -54,28 +52,29 @@ print_served (Some RunThread) e = cc
 print_served (Some StartThread) e = cc
 print_served (Some JoinThread) e = cc
 
--- what holds of plain instructions, of main's return and of the print holds of all that is served
-pub served_cases : (P : Listed → Type 0) → ((i : Listed) → is_plain i ≡ true → P i) → P (Return None) → ((m : Member) → builtin_of m ≡ Some PrintInt → P (Invoke Static m)) → (i : Listed) → is_served i ≡ true → P i
-served_cases P plain ends prints Nop e = plain Nop refl
-served_cases P plain ends prints (Constant c) e = plain (Constant c) e
-served_cases P plain ends prints (Local access) e = plain (Local access) refl
-served_cases P plain ends prints (Stack operation) e = plain (Stack operation) refl
-served_cases P plain ends prints (Number operation) e = plain (Number operation) refl
-served_cases P plain ends prints (Branch test target) e = plain (Branch test target) refl
-served_cases P plain ends prints (Return None) e = ends
-served_cases P plain ends prints (Return (Some kind)) e = cc
-served_cases P plain ends prints (Invoke Static m) e = prints m (print_served (builtin_of m) e)
-served_cases P plain ends prints (Invoke Virtual m) e = cc
-served_cases P plain ends prints (Invoke Special m) e = cc
-served_cases P plain ends prints (Invoke (Interface count) m) e = cc
-served_cases P plain ends prints (TableSwitch table) e = cc
-served_cases P plain ends prints (LookupSwitch lookup) e = cc
-served_cases P plain ends prints (StaticField access m) e = cc
-served_cases P plain ends prints (Field access m) e = cc
-served_cases P plain ends prints (Array operation) e = cc
-served_cases P plain ends prints (Class operation name) e = cc
-served_cases P plain ends prints Throw e = cc
-served_cases P plain ends prints (Monitor operation) e = cc
+-- what holds of plain instructions, of those that name a field or a new object's class, of main's return and of the print
+-- holds of all that is served
+pub served_cases : (P : Listed → Type 0) → ((i : Listed) → is_plain i ≡ true → P i) → ((i : Listed) → goes_by_name i ≡ true → P i) → P (Return None) → ((m : Member) → builtin_of m ≡ Some PrintInt → P (Invoke Static m)) → (i : Listed) → is_served i ≡ true → P i
+served_cases P plain named ends prints Nop e = plain Nop refl
+served_cases P plain named ends prints (Constant c) e = plain (Constant c) e
+served_cases P plain named ends prints (Local access) e = plain (Local access) refl
+served_cases P plain named ends prints (Stack operation) e = plain (Stack operation) refl
+served_cases P plain named ends prints (Number operation) e = plain (Number operation) refl
+served_cases P plain named ends prints (Branch test target) e = plain (Branch test target) refl
+served_cases P plain named ends prints (Return None) e = ends
+served_cases P plain named ends prints (Return (Some kind)) e = cc
+served_cases P plain named ends prints (Invoke Static m) e = prints m (print_served (builtin_of m) e)
+served_cases P plain named ends prints (Invoke Virtual m) e = cc
+served_cases P plain named ends prints (Invoke Special m) e = cc
+served_cases P plain named ends prints (Invoke (Interface count) m) e = cc
+served_cases P plain named ends prints (TableSwitch table) e = cc
+served_cases P plain named ends prints (LookupSwitch lookup) e = cc
+served_cases P plain named ends prints (StaticField access m) e = named (StaticField access m) refl
+served_cases P plain named ends prints (Field access m) e = named (Field access m) refl
+served_cases P plain named ends prints (Array operation) e = cc
+served_cases P plain named ends prints (Class operation name) e = named (Class operation name) e
+served_cases P plain named ends prints Throw e = cc
+served_cases P plain named ends prints (Monitor operation) e = cc
 
 -- ---- at an instruction of main
 
@@ -100,50 +99,6 @@ returned_is s main =
 -- a call of the machine's print prints
 pub printed_is : (s : Site) (m : Member) → builtin_of m ≡ Some PrintInt → listed s.program (codes "vm/Sys") ≡ None → by_family s (Invoke Static m) ≡ prints_on s decimal_line (int_on s.frame.stack)
 printed_is s m e none = print_called s m e none
-
--- a class that isn't of the program needs no initialisation, and neither does any other instruction that is served
-find-position : {A : Type 0} (p : A → Bool) (xs : List A) → find p xs ≡ None → position_or_len p xs ≡ length xs
-find-position p [] e = refl
-find-position p (x ∷ xs) e = go (find-position p xs) (p x) refl e
-  where
-    go : (find p xs ≡ None → position_or_len p xs ≡ length xs) → (b : Bool) → p x ≡ b → cond b (Some x) (find p xs) ≡ None → position_or_len p (x ∷ xs) ≡ suc (length xs)
-    go later true s k = absurd (cc)
-    go later false s k = ap (λ (b : Bool). cond (not b) (1 + position_or_len p xs) 0) s ∙ ap (λ (n : ℕ). 1 + n) (later k) ∙ omega arith
-
-unplaced : (program : List ClassListing) (name : List ℕ) → listed program name ≡ None → position (is_named name) program ≡ None
-unplaced program name e = rw (find-position (is_named name) program e, le-ltb (length program) (length program) (omega arith)) refl
-
-unlisted_used : (s : Site) (name : List ℕ) (own : Completion) → listed s.program name ≡ None → after_initialising s (Some name) own ≡ own
-unlisted_used s name own e = rw (unplaced s.program name e) refl
-
-print_used : (program : List ClassListing) (m : Member) → builtin_of m ≡ Some PrintInt → listed program (codes "vm/Sys") ≡ None → declarer (resolved_method program m) ≡ Some (codes "vm/Sys")
-print_used program m named none =
-    ap (λ (m : Member). declarer (resolved_method program m)) (is_print m named)
-    ∙ ap (λ (found : Option (Declared Method)). declarer found) (print_resolved program none)
-
-plain_used : (s : Site) (i : Listed) → is_plain i ≡ true → at_site s i ≡ by_family s i
-plain_used s Nop e = refl
-plain_used s (Constant c) e = refl
-plain_used s (Local access) e = refl
-plain_used s (Stack operation) e = refl
-plain_used s (Number operation) e = refl
-plain_used s (Branch test target) e = refl
-plain_used s (TableSwitch table) e = cc
-plain_used s (LookupSwitch lookup) e = cc
-plain_used s (Return kind) e = cc
-plain_used s (StaticField access m) e = cc
-plain_used s (Field access m) e = cc
-plain_used s (Array operation) e = cc
-plain_used s (Class operation name) e = cc
-plain_used s (Invoke invocation m) e = cc
-plain_used s Throw e = cc
-plain_used s (Monitor operation) e = cc
-
-pub at_site_is : (s : Site) → listed s.program (codes "vm/Sys") ≡ None → (i : Listed) → is_served i ≡ true → at_site s i ≡ by_family s i
-at_site_is s none i e =
-    served_cases (λ (i : Listed). at_site s i ≡ by_family s i) (plain_used s) refl
-    (λ m named. ap (λ (class : Option (List ℕ)). after_initialising s class (by_family s (Invoke Static m))) (print_used s.program m named none)
-    ∙ unlisted_used s (codes "vm/Sys") (by_family s (Invoke Static m)) none) i e
 
 -- ---- all code of a program that is served is
 

@@ -7,6 +7,8 @@ use Rattle.model.specs.declared.builtins.Builtin.TheVariants.{PrintInt, PrintLon
 use Rattle.model.specs.declared.listings.Method.{Method}
 use Rattle.model.specs.declared.listings.Placed.{Placed}
 use Rattle.model.specs.declared.listings.ExceptionRow.{ExceptionRow}
+use Rattle.model.specs.declared.instructions.ClassOperation.{ClassOperation}
+use Rattle.model.specs.declared.instructions.ClassOperation.TheVariants.{New, CheckCast, InstanceOf}
 use Rattle.model.specs.declared.instructions.Constant.{Constant as ConstantOf}
 use Rattle.model.specs.declared.instructions.Constant.TheVariants.{Null, SmallInt, SmallLong, Byte, Short, Int, Long}
 use Rattle.model.specs.declared.instructions.Invocation.{Invocation}
@@ -76,6 +78,31 @@ serves_invocation Special member = false
 serves_invocation Static member = serves_call (builtin_of member)
 serves_invocation (Interface count) member = false
 
+-- objects are made
+abbrev pub serves_class : ClassOperation → Bool
+serves_class New = true
+serves_class CheckCast = false
+serves_class InstanceOf = false
+
+-- instructions that name a field, or the class of a new object
+abbrev pub goes_by_name : Listed → Bool
+goes_by_name Nop = false
+goes_by_name (Constant c) = false
+goes_by_name (Local access) = false
+goes_by_name (Stack operation) = false
+goes_by_name (Number operation) = false
+goes_by_name (Branch test target) = false
+goes_by_name (TableSwitch table) = false
+goes_by_name (LookupSwitch lookup) = false
+goes_by_name (Return kind) = false
+goes_by_name (StaticField access member) = true
+goes_by_name (Field access member) = true
+goes_by_name (Array operation) = false
+goes_by_name (Class operation name) = serves_class operation
+goes_by_name (Invoke invocation member) = false
+goes_by_name Throw = false
+goes_by_name (Monitor operation) = false
+
 abbrev pub is_served : Listed → Bool
 is_served Nop = true
 is_served (Constant c) = serves_constant c
@@ -86,10 +113,10 @@ is_served (Branch test target) = true
 is_served (TableSwitch table) = false
 is_served (LookupSwitch lookup) = false
 is_served (Return kind) = serves_return kind
-is_served (StaticField access member) = false
-is_served (Field access member) = false
+is_served (StaticField access member) = true
+is_served (Field access member) = true
 is_served (Array operation) = false
-is_served (Class operation name) = false
+is_served (Class operation name) = serves_class operation
 is_served (Invoke invocation member) = serves_invocation invocation member
 is_served Throw = false
 is_served (Monitor operation) = false
