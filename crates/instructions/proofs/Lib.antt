@@ -11,6 +11,8 @@ pub mod Layouts
 pub mod ListPlaces
 pub mod LookedLemmas
 pub mod OpeningState
+pub mod OwnWords
+pub mod PushLemmas
 pub mod Refusing
 pub mod ResolvedFields
 pub mod Running

@@ -7,7 +7,9 @@ pub mod kinds;
 mod machines;
 mod names;
 mod printing;
+mod pushes;
 pub mod state;
+mod statics;
 #[cfg(test)]
 mod tests;
 mod throwing;

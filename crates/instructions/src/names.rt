@@ -55,7 +55,11 @@ fn array_name(alloc: Global, program: &Program, element: TypeNumber) -> Result<N
 }
 
 /// The class of what was thrown; empty where it is no object.
-pub(crate) fn kind_name(alloc: Global, program: &Program, kind: Option<Kind>) -> Result<Name, AllocError>
+pub(crate) fn kind_name(
+    alloc: Global,
+    program: &Program,
+    kind: Option<Kind>,
+) -> Result<Name, AllocError>
     ensures { IfOk result (λ name. name ≡ kind_name_if program.now kind) }
 {
     match kind {

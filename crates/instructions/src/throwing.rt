@@ -4,6 +4,7 @@ ghost use Rattle.model.specs.Completions.{completes_abruptly, raises};
 ghost use Rattle.model.specs.Served.{ServedProgram};
 ghost use Rattle.instructions.specs.Acting.{Leaves, Stays, Turns};
 ghost use Rattle.instructions.specs.Heaps.{kind_held};
+ghost use Rattle.instructions.specs.ByNumbers.{AreStored};
 ghost use Rattle.instructions.specs.Loaded.{RunsMain};
 
 use crate::acting::Turned;
@@ -37,6 +38,7 @@ impl Machine {
         ensures capacity { vec_capacity self.old.output ≤ vec_capacity self.new.output }
         ensures slots { self.new.slots.items ≡ self.old.slots.items }
         ensures shape { self.new.heap.shape ≡ self.old.heap.shape }
+        ensures stored { AreStored program.now self.old.heap.objects → AreStored program.now self.new.heap.objects }
     {
         if exception == Exception::StackOverflow {
             return self.throw(2, Outcome::Done);
@@ -48,7 +50,11 @@ impl Machine {
     }
 
     /// What an instruction comes to that doesn't complete: a fault, or an exception.
-    pub(crate) fn complete_abruptly(&mut self, program: &Program, abrupt: Abrupt) -> Result<Turned, Fault>
+    pub(crate) fn complete_abruptly(
+        &mut self,
+        program: &Program,
+        abrupt: Abrupt,
+    ) -> Result<Turned, Fault>
         requires served { ServedProgram program.now }
         requires main { RunsMain program.now self.old.frames }
         requires births { self.old.heap.births + 1 < 2 ^ 32 }
@@ -57,6 +63,7 @@ impl Machine {
         ensures capacity { vec_capacity self.old.output ≤ vec_capacity self.new.output }
         ensures slots { self.new.slots.items ≡ self.old.slots.items }
         ensures shape { self.new.heap.shape ≡ self.old.heap.shape }
+        ensures stored { AreStored program.now self.old.heap.objects → AreStored program.now self.new.heap.objects }
     {
         match abrupt {
             Abrupt::Fault(fault) => Err(fault),

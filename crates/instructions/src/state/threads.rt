@@ -71,7 +71,11 @@ fn named_frame(alloc: Global, heap: &Heap, frame: &FrameView) -> Result<FrameVie
     })
 }
 
-fn named_frames(alloc: Global, heap: &Heap, frames: &[FrameView]) -> Result<Vec<FrameView>, AllocError>
+fn named_frames(
+    alloc: Global,
+    heap: &Heap,
+    frames: &[FrameView],
+) -> Result<Vec<FrameView>, AllocError>
     ensures { IfOk result (λ named. named.items ≡ map (named_frame (birth_read heap.now.account.cells)) frames.now) }
 {
     let mut named = Vec::with_capacity(alloc, frames.len())?;
