@@ -3,6 +3,7 @@ pub mod AgreeLemmas
 pub mod ByNumberLemmas
 pub mod CodeResolves
 pub mod HeldLemmas
+pub mod CreatedLemmas
 pub mod Initialised
 pub mod Keeping
 pub mod KeyedFields

@@ -6,6 +6,7 @@ mod heaps;
 pub mod kinds;
 mod machines;
 mod names;
+mod objects;
 mod printing;
 mod pushes;
 pub mod state;

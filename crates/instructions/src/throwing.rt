@@ -19,7 +19,7 @@ impl Machine {
     ghost use Rattle.instructions.specs.declared.kinds.Course.TheVariants.{Threw};
 
     /// A throwable ends the thread by its class.
-    fn throw(&self, reference: u32, outcome: Outcome) -> Turned
+    pub(crate) fn throw(&self, reference: u32, outcome: Outcome) -> Turned
         ensures { result ≡ record { course = Threw (kind_held self.now.heap reference); outcome = outcome } }
     {
         Turned {
