@@ -3,6 +3,7 @@ pub mod AgreeLemmas
 pub mod ByNumberLemmas
 pub mod CodeResolves
 pub mod HeldLemmas
+pub mod CreatedLemmas
 pub mod Initialised
 pub mod Keeping
 pub mod KeyedFields
@@ -11,6 +12,8 @@ pub mod Layouts
 pub mod ListPlaces
 pub mod LookedLemmas
 pub mod OpeningState
+pub mod OwnWords
+pub mod PushLemmas
 pub mod Refusing
 pub mod ResolvedFields
 pub mod Running

@@ -1,8 +1,12 @@
 -- Objects keep all words of their classes: as they are made, written and freed.
 use Rattle.std.proofs.Common.{ℕ, zero, suc, List, [], ◌∷◌, set, slice_get, Option, Some, None, ◌∙◌, length-set}
+use Rattle.std.specs.Prelude.{◌+◌, replicate}
 use Rattle.std.specs.Option.{option_map}
 use Rattle.std.proofs.lemmas.List.{length-map}
+use Rattle.model.specs.declared.journals.HeapShape.{HeapShape}
+use Rattle.model.specs.declared.turns.Exception.TheVariants.{StackOverflow}
 use Rattle.model.specs.declared.values.Value.{Value}
+use Rattle.model.specs.Accounts.{Account}
 use Rattle.model.specs.ClassListings.{ClassListing}
 use Rattle.loader.specs.declared.class_tables.Word.{Word}
 use Rattle.loader.specs.ClassTables.{class_tables, defaults_in, opening_word, words_in}
@@ -10,7 +14,7 @@ use Rattle.cells.specs.Objects.{StoredObject, object_if, word_set}
 use Rattle.instructions.specs.declared.kinds.Kind.{Kind}
 use Rattle.instructions.specs.declared.kinds.Kind.TheVariants.{Instance, Array}
 use Rattle.instructions.specs.ByNumbers.{AreStored, HoldsStored, IsStored}
-use Rattle.instructions.specs.Heaps.{cleared}
+use Rattle.instructions.specs.Heaps.{HeapValue, cleared, created, exception_kind, made, memory_error_kind, opening_stored}
 
 module _ (program : List ClassListing) where
   -- a new object of a class has its words
@@ -47,3 +51,24 @@ module _ (program : List ClassListing) where
       → AreStored program (cleared objects cell)
   cleared-stored objects None stored = stored
   cleared-stored objects (Some cell) stored = set-stored objects cell None stored tt
+
+  -- a new object comes into a cell
+  pub created-stored : (h : HeapValue) (kind : Kind) (words : List Value) (o : Option (ℕ × Account))
+      → AreStored program h.objects → IsStored program kind words
+      → AreStored program (created h kind words o).objects
+  created-stored h kind words None stored new = stored
+  created-stored h kind words (Some taken) stored new =
+      set-stored h.objects taken.0 (Some (made kind words)) stored new
+
+  nobody-stored : (n : ℕ) → AreStored program (replicate n None)
+  nobody-stored zero = tt
+  nobody-stored (suc n) = (tt, nobody-stored n)
+
+  pub opening-stored : (shape : HeapShape) → IsStored program (memory_error_kind program) []
+      → IsStored program (exception_kind program StackOverflow) []
+      → AreStored program (opening_stored program shape)
+  opening-stored shape first second =
+      let count = shape.small + shape.medium + shape.large in
+      set-stored (set (replicate count None) 0 (Some (made (memory_error_kind program) []))) 1
+      (Some (made (exception_kind program StackOverflow) []))
+      (set-stored (replicate count None) 0 (Some (made (memory_error_kind program) [])) (nobody-stored count) first) second

@@ -1,5 +1,5 @@
 -- A throwable ends main's thread, in the parts as on cells.
-use Rattle.std.proofs.Common.{◌≡◌, ◌≢◌, ℕ, zero, suc, ◌+◌, List, [], ◌∷◌, Option, Some, None, refl, ap, sym, ◌∙◌}
+use Rattle.std.proofs.Common.{◌≡◌, ◌≢◌, ℕ, zero, suc, ◌+◌, List, [], ◌∷◌, length, Option, Some, None, refl, ap, sym, ◌∙◌}
 use Rattle.std.specs.Prelude.{is_some, slice_get, slice_set, if◌then◌else◌}
 use Rattle.std.specs.Option.{option_map}
 use Rattle.model.specs.declared.turns.Exception.{Exception}
@@ -7,32 +7,33 @@ use Rattle.model.specs.declared.turns.Exception.TheVariants as exception
 use Rattle.model.specs.declared.turns.ClassState.{ClassState}
 use Rattle.model.specs.declared.journals.Outcome.{Outcome}
 use Rattle.model.specs.declared.journals.Outcome.TheVariants.{Done, Object as GotObject, NoRoom}
+use Rattle.model.specs.declared.values.Value.{Value}
 use Rattle.model.specs.ClassListings.{ClassListing}
 use Rattle.model.specs.Accounts.{Account, take_cell}
 use Rattle.model.specs.Classes.Exceptions.{exception_class}
 use Rattle.model.specs.Completions.{raises}
-use Rattle.model.specs.Completions.Completion.{Raises}
+use Rattle.model.specs.Completions.Completion.{Creates, Raises}
 use Rattle.model.specs.Frames.{Frame, IsPlain}
-use Rattle.model.specs.Objects.{class_at, class_if}
+use Rattle.model.specs.Objects.{class_at, class_if, words_in}
 use Rattle.model.specs.Machines.{outcome_by}
 use Rattle.model.specs.Programs.{main_in}
 use Rattle.model.specs.Results.{Effect}
 use Rattle.model.specs.Served.{ServedProgram}
 use Rattle.model.specs.Turns.{is_fault}
 use Rattle.model.specs.Unwinding.{thrown}
-use Rattle.model.specs.Worlds.{World, Object, plain_object, with_thread}
+use Rattle.model.specs.Worlds.{World, Contents, Object, plain_object, with_thread}
 use Rattle.model.specs.Worlds.Thread.{Live as LiveThread, Ended}
 use Rattle.model.proofs.Served.{thrown_in_main}
 use Rattle.cells.specs.Objects.{StoredObject, object_if}
-use Rattle.join.specs.TurnsOnCells.{CellMachine, birth_in, carried_on, carried_unless, raised_at, turned_on}
+use Rattle.join.specs.TurnsOnCells.{CellMachine, birth_in, carried_on, carried_unless, created_at, raised_at, turned_on}
 use Rattle.instructions.specs.declared.kinds.Kind.{Kind}
 use Rattle.instructions.specs.declared.kinds.Course.TheVariants.{Live, Threw}
 use Rattle.instructions.specs.declared.machines.Machine.{Machine}
 use Rattle.instructions.specs.Acting.{shown, turned}
 use Rattle.instructions.specs.Heaps.{HeapValue, created, exception_kind, exception_place, kind_held, made, reference_taken}
 use Rattle.instructions.specs.Loaded.{machine_shown}
-use Rattle.instructions.specs.Shown.{kind_name_if, object_shown, objects_shown}
-use Rattle.instructions.proofs.ShownLemmas.{class-shown, exception_name, own_shown, shown-get, shown-set}
+use Rattle.instructions.specs.Shown.{contents_shown, kind_name_if, object_shown, objects_shown}
+use Rattle.instructions.proofs.ShownLemmas.{class-shown, exception_name, own_shown, shown-get, shown-set, words-shown}
 
 -- ---- the class of what a reference leads to
 
@@ -122,6 +123,26 @@ module _ (program : List ClassListing) (f : Frame) (served : ServedProgram progr
     pub raise_none : (e : Exception) (kind : Kind) (heap : HeapValue) (o : Option (ℕ × Account)) → take_cell m.heap.account 0 ≡ o → kind ≡ exception_kind program e → heap ≡ created m.heap kind [] o → None ≡ reference_taken o → (ended heap 1, NoRoom) ≡ turned program x (Raises e)
     raise_none e kind heap (Some cell) taken kind_is heap_is none = cc
     raise_none e kind heap None taken kind_is heap_is none = rw (heap_is, kind_is) (raised_told e None taken)
+
+    -- an object for which no free cell has room
+    abbrev made_by : ℕ → ℕ → Contents → Option (ℕ × Account) → CellMachine × Outcome
+    made_by next taken contents o =
+        (created_at program x 0 next taken contents o, outcome_by (is_fault (created_at program x 0 next taken contents o).world) (if is_some o then GotObject else NoRoom))
+
+    pub no_room_told : (next taken : ℕ) (contents : Contents) → take_cell m.heap.account (words_in contents) ≡ None
+        → (ended m.heap 1, NoRoom) ≡ turned program x (Creates next taken contents)
+    unfolding turned_on
+    no_room_told next taken contents is =
+        sym (ap (made_by next taken contents) is
+        ∙ ap (λ (y : CellMachine). let pair : CellMachine × Outcome = (y, outcome_by (is_fault y.world) NoRoom) in pair) (ends m.heap 1))
+
+    pub new_none : (next : ℕ) (kind : Kind) (words : List Value) (heap : HeapValue) (o : Option (ℕ × Account))
+        → take_cell m.heap.account (length words) ≡ o → heap ≡ created m.heap kind words o → None ≡ reference_taken o
+        → (ended heap 1, NoRoom) ≡ turned program x (Creates next 0 (contents_shown program kind words))
+    new_none next kind words heap (Some cell) taken heap_is none = cc
+    new_none next kind words heap None taken heap_is none =
+        rw heap_is (no_room_told next 0 (contents_shown program kind words)
+        (ap (take_cell m.heap.account) (words-shown program kind words) ∙ taken))
 
 -- what is raised but for StackOverflowError asks for a cell
 pub raises_is : (e : Exception) → e ≢ exception.StackOverflow → raises e ≡ Raises e

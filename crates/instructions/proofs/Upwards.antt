@@ -53,7 +53,7 @@ ends-plus (suc k) n program name h =
 -- ---- where it ends, more steps give nothing more
 
 module _ (program : List ClassListing) where
-  next : (n : ℕ) (name : List ℕ)
+  pub next : (n : ℕ) (name : List ℕ)
       → upwards (suc n) program name ≡ with_superclasses name (λ superclass. upwards n program superclass)
       (class_named program name)
   unfolding upwards
@@ -157,7 +157,7 @@ differ b p q = cc
 
 module _ (program : List ClassListing) (hierarchy : IsHierarchy program)
     (hides : find has_builtin_name program ≡ None) where
-  unlisted : (name : List ℕ) → is_some (builtin name) ≡ true → listed program name ≡ None
+  pub unlisted : (name : List ℕ) → is_some (builtin name) ≡ true → listed program name ≡ None
   unfolding has_builtin_name
   unlisted name own = by (listed program name) refl
     where
@@ -256,7 +256,7 @@ module _ (program : List ClassListing) (hierarchy : IsHierarchy program)
 
   -- ---- going upwards ends
 
-  above-own : (name : List ℕ) (c : ClassListing) → builtin name ≡ Some c → listed program c.superclass ≡ None
+  pub above-own : (name : List ℕ) (c : ClassListing) → builtin name ≡ Some c → listed program c.superclass ≡ None
   above-own name c e =
       by c.superclass
       (either (is_nameless c.superclass) (is_some (builtin c.superclass))

@@ -16,6 +16,7 @@ use Rattle.join.specs.TurnsOnCells.{CellMachine, collected_on, counted_on, openi
 use Rattle.instructions.specs.declared.kinds.Course.{Course}
 use Rattle.instructions.specs.declared.kinds.Course.TheVariants.{Live, Returned, Threw}
 use Rattle.instructions.specs.declared.kinds.Kind.{Kind}
+use Rattle.instructions.specs.ByNumbers.{AreStored}
 use Rattle.instructions.specs.Heaps.{HeapValue}
 use Rattle.instructions.specs.Shown.{keyed, objects_shown, thread_shown}
 
@@ -80,3 +81,4 @@ pub record IsSound (program : List ClassListing) (limits : Limits) (course : Cou
   pub few_slots : length slots < 2 ^ 32
   pub slots_are : length slots ≡ length (opening_slots program)
   pub births : heap.births ≤ rows + 3
+  pub stored : AreStored program heap.objects

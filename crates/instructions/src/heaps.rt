@@ -1,11 +1,12 @@
 //! The heap: objects in cells, and the account of the cells.
-ghost use Rattle.std.specs.Prelude.{◌≡◌, ◌+◌, ◌<◌, ◌≤◌, ◌^◌, length, slice_get, IfOk};
+ghost use Rattle.std.specs.Prelude.{[], ◌≡◌, ◌+◌, ◌<◌, ◌≤◌, ◌^◌, length, slice_get, IfOk};
 ghost use Rattle.model.specs.Accounts.{has_room, take_cell};
 ghost use Rattle.std.specs.Option.{option_map};
 ghost use Rattle.model.specs.Limits.{ShapeFits};
 ghost use Rattle.model.specs.Observers.{cell_view};
 ghost use Rattle.model.specs.Room.{words_of_cell};
 ghost use Rattle.join.specs.ReadBack.{birth_read};
+ghost use Rattle.instructions.specs.ByNumbers.{AreStored, IsStored};
 ghost use Rattle.instructions.specs.Heaps.{all_shaded, collected, created, exception_kind, exception_place, kind_held, memory_error_kind, own_class, opening_heap, reference_taken, shaded, words_held, written};
 
 mod looking;
@@ -19,6 +20,7 @@ use colours::accounts::Account;
 use frames::Frames;
 use loader::programs::Program;
 use looking::Looked;
+pub(crate) use looking::value_at;
 use model::colours::{Cell, Phase};
 use model::journals::HeapShape;
 use model::turns::Exception;
@@ -38,6 +40,7 @@ pub(crate) struct Heap {
 }
 
 impl Model for Heap {
+    ghost use Rattle.instructions.specs.ByNumbers.{AreStored, IsStored};
     ghost use Rattle.instructions.specs.Heaps.{HeapValue};
     ghost use Rattle.instructions.specs.HeapsAgree.{Agree};
 
@@ -56,7 +59,8 @@ impl Heap {
         shape: HeapShape,
     ) -> Result<Heap, AllocError>
         requires { ShapeFits shape.small shape.medium shape.large }
-        ensures { IfOk result (λ heap. heap ≡ opening_heap program.now shape) }
+        ensures heap { IfOk result (λ heap. heap ≡ opening_heap program.now shape) }
+        ensures stored { IfOk result (λ heap. AreStored program.now heap.objects) }
     {
         let account = Account::new(alloc, shape)?;
         let mut cells = Cells::new(alloc, shape)?;
@@ -206,14 +210,16 @@ impl Heap {
 
 /// What an exception that the machine makes is of.
 pub(crate) fn exception_kind(program: &Program, exception: Exception) -> Kind
-    ensures { result ≡ exception_kind program.now exception }
+    ensures kind { result ≡ exception_kind program.now exception }
+    ensures stored { IsStored program.now result [] }
 {
     own_class(program, exception_place(exception))
 }
 
 /// What birth 1 is of: OutOfMemoryError.
 fn memory_error_kind(program: &Program) -> Kind
-    ensures { result ≡ memory_error_kind program.now }
+    ensures kind { result ≡ memory_error_kind program.now }
+    ensures stored { IsStored program.now result [] }
 {
     own_class(program, 16)
 }
@@ -241,7 +247,8 @@ fn exception_place(exception: Exception) -> u16
 /// The machine's own class at a place, by its number.
 fn own_class(program: &Program, place: u16) -> Kind
     requires { place < 25 }
-    ensures { result ≡ own_class program.now place }
+    ensures kind { result ≡ own_class program.now place }
+    ensures stored { IsStored program.now result [] }
 {
     Kind::Instance(program.listings().len() as u16 + place)
 }

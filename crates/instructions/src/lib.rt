@@ -6,8 +6,11 @@ mod heaps;
 pub mod kinds;
 mod machines;
 mod names;
+mod objects;
 mod printing;
+mod pushes;
 pub mod state;
+mod statics;
 #[cfg(test)]
 mod tests;
 mod throwing;

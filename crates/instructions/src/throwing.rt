@@ -4,6 +4,7 @@ ghost use Rattle.model.specs.Completions.{completes_abruptly, raises};
 ghost use Rattle.model.specs.Served.{ServedProgram};
 ghost use Rattle.instructions.specs.Acting.{Leaves, Stays, Turns};
 ghost use Rattle.instructions.specs.Heaps.{kind_held};
+ghost use Rattle.instructions.specs.ByNumbers.{AreStored};
 ghost use Rattle.instructions.specs.Loaded.{RunsMain};
 
 use crate::acting::Turned;
@@ -18,7 +19,7 @@ impl Machine {
     ghost use Rattle.instructions.specs.declared.kinds.Course.TheVariants.{Threw};
 
     /// A throwable ends the thread by its class.
-    fn throw(&self, reference: u32, outcome: Outcome) -> Turned
+    pub(crate) fn throw(&self, reference: u32, outcome: Outcome) -> Turned
         ensures { result ≡ record { course = Threw (kind_held self.now.heap reference); outcome = outcome } }
     {
         Turned {
@@ -37,6 +38,7 @@ impl Machine {
         ensures capacity { vec_capacity self.old.output ≤ vec_capacity self.new.output }
         ensures slots { self.new.slots.items ≡ self.old.slots.items }
         ensures shape { self.new.heap.shape ≡ self.old.heap.shape }
+        ensures stored { AreStored program.now self.old.heap.objects → AreStored program.now self.new.heap.objects }
     {
         if exception == Exception::StackOverflow {
             return self.throw(2, Outcome::Done);
@@ -61,6 +63,7 @@ impl Machine {
         ensures capacity { vec_capacity self.old.output ≤ vec_capacity self.new.output }
         ensures slots { self.new.slots.items ≡ self.old.slots.items }
         ensures shape { self.new.heap.shape ≡ self.old.heap.shape }
+        ensures stored { AreStored program.now self.old.heap.objects → AreStored program.now self.new.heap.objects }
     {
         match abrupt {
             Abrupt::Fault(fault) => Err(fault),

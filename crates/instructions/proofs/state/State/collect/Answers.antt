@@ -1,7 +1,9 @@
 -- The collector's turn on the state's parts is that of the machine on cells.
 use Rattle.std.proofs.Common.{◌<◌, arith}
 use Rattle.model.specs.declared.turns.Actor.TheVariants.{Collector}
+use Rattle.collector.specs.Freed.{freed_cell}
 use Rattle.instructions.proofs.Refusing.{unrefused_counted}
+use Rattle.instructions.proofs.StoredLemmas.{cleared-stored}
 use Rattle.instructions.proofs.Turning.{collected_shown}
 use Rattle.instructions.proofs.Waiting.{now}
 use Rattle.instructions.proofs.state.State.collect.Goals as goal
@@ -15,3 +17,19 @@ pub returns : goal.returns
 returns c =
     rw (c.collect.ensures.heap, c.collect.ensures.frames, c.collect.ensures.slots, c.collect.ensures.output, ← c.self.view_is)
     (collected_shown c.self.inside)
+
+pub invariant_of-self : goal.invariant_of-self
+invariant_of-self c =
+    let a = c.self.inside in
+    let sound = c.self.invariant in
+    rw (c.collect.ensures.heap, c.collect.ensures.frames, c.collect.ensures.slots, c.collect.ensures.output) (record {
+      served = sound.served;
+      room = sound.room;
+      steps = sound.steps;
+      main = sound.main;
+      initialised = sound.initialised;
+      few_slots = sound.few_slots;
+      slots_are = sound.slots_are;
+      births = omega (arith, sound.births);
+      stored = cleared-stored a.program a.machine.heap.objects (freed_cell a.machine.heap.account a.machine.heap.account.phase) sound.stored;
+    })
