@@ -2,6 +2,7 @@ pub mod ActingLemmas
 pub mod AgreeLemmas
 pub mod ByNumberLemmas
 pub mod CodeResolves
+pub mod FieldLemmas
 pub mod HeldLemmas
 pub mod CreatedLemmas
 pub mod Initialised

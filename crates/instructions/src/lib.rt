@@ -2,6 +2,7 @@
 #![tactic(auto)]
 
 mod acting;
+mod fields;
 mod heaps;
 pub mod kinds;
 mod machines;
