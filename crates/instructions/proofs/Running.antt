@@ -1,5 +1,5 @@
 -- What a turn of main leaves: a thread that runs main alone or has ended, and one birth more at most.
-use Rattle.std.proofs.Common.{◌≡◌, ◌≤◌, ◌+◌, ℕ, suc, ℤ, List, [], ◌∷◌, Option, Some, None, Result, Ok, Err, Bool, true, false, refl, ap, sym, ◌∙◌, subst, arith}
+use Rattle.std.proofs.Common.{◌≡◌, ◌≤◌, ◌+◌, ℕ, suc, ℤ, List, [], ◌∷◌, Option, Some, None, Result, Ok, Err, refl, ap, sym, ◌∙◌, subst, arith}
 use Rattle.model.specs.declared.turns.Abrupt.{Abrupt}
 use Rattle.model.specs.declared.turns.Abrupt.TheVariants.{Fault as Faulted, Throw as Thrown}
 use Rattle.model.specs.declared.turns.Exception.{Exception}
@@ -7,7 +7,7 @@ use Rattle.model.specs.declared.turns.Exception.TheVariants as exception
 use Rattle.model.specs.declared.turns.Fault.{Fault}
 use Rattle.model.specs.ClassListings.{ClassListing}
 use Rattle.model.specs.Accounts.{Account, take_cell}
-use Rattle.model.specs.Completions.{Completion, Site, completes, raises}
+use Rattle.model.specs.Completions.{Completion, completes, raises}
 use Rattle.model.specs.Completions.Completion.{Goes, Prints, Creates, Throws, Raises, Denies, Faults, Waits}
 use Rattle.model.specs.Frames.{Frame, IsPlain, Moved, int_on, replaced, replaced_if_room, running}
 use Rattle.model.specs.Printing.{decimal_line}
@@ -29,8 +29,27 @@ use Rattle.instructions.specs.declared.kinds.Course.TheVariants.{Live, Returned,
 use Rattle.instructions.specs.Acting.{moved_or, operated, operated_else, site_of}
 use Rattle.instructions.specs.Loaded.{RunsMain, RunsMainUnlessEnded}
 use Rattle.instructions.specs.Shown.{thread_shown}
-use Rattle.instructions.proofs.Keeping.{KeepsPlace, KeepsPlaceIfSome, plain_keeps}
+use Rattle.instructions.proofs.Keeping.{KeepsPlace, KeepsPlaceIfSome, plain_keeps, replaced_keeps}
 use Rattle.instructions.proofs.Throwables.{carried}
+use Rattle.std.specs.Prelude.{drop, slice_get}
+use Rattle.model.specs.declared.values.Value.{Value}
+use Rattle.model.specs.declared.values.Value.TheVariants.{Ref as RefValue}
+use Rattle.model.specs.Frames.{both, ref_on}
+use Rattle.model.specs.Locals.{value_on}
+use Rattle.model.specs.Objects.{object_at}
+use Rattle.model.specs.Stores.{Storage, kept as kept_value, storage_kind}
+use Rattle.model.specs.Table.Fields.{word_got}
+use Rattle.model.specs.Words.{contents_at, puts, slot_at, with_slot, with_word, with_word_of, word_of}
+use Rattle.model.specs.Worlds.{Object}
+use Rattle.loader.specs.declared.class_tables.Word.{Word}
+use Rattle.loader.specs.declared.static_slots.Slot.{Slot}
+use Rattle.loader.specs.ClassTables.{class_tables, defaults_in, words_in as class_words}
+use Rattle.loader.specs.StaticSlots.{static_slots}
+use Rattle.loader.specs.Storages.{shown_storage}
+use Rattle.instructions.specs.declared.kinds.Kind.TheVariants.{Instance as InstanceKind}
+use Rattle.instructions.specs.ByNumbers.{field_got_at, field_put_at, field_put_if, field_put_into, operated_by_numbers, static_got_if, static_put_at, static_put_if, word_place, word_put_at}
+use Rattle.instructions.specs.Heaps.{HeapValue, held}
+use Rattle.instructions.specs.Shown.{contents_shown}
 
 -- ---- births
 
@@ -127,14 +146,97 @@ module _ (program : List ClassListing) (f : Frame) (served : ServedProgram progr
   prints_runs n (Ok z) = rw alone (record { frame = (replaced n f 1 []).frame; alone = refl; main_is = main_is; plain = plain })
   prints_runs n (Err fault) = before_runs
 
-  else_runs : (n : ℕ) (op : Operation) → Runs (operated_else (site_of program x.world f n) op)
-  unfolding turned_on
-  else_runs n operation.Return = rw alone tt
-  else_runs n operation.PrintInt = prints_runs n (int_on f.stack)
-  else_runs n _ = before_runs
+  -- ---- what names a field or a class
 
-  pub operated_runs : (n : ℕ) (op : Operation) → Runs (operated (site_of program x.world f n) op)
-  operated_runs n op = by_move (plain_move n op f) (plain_keeps n op f) where
-    by_move : (o : Option (Result Moved Abrupt)) → KeepsPlaceIfSome f o → Runs (moved_or (site_of program x.world f n) o (operated_else (site_of program x.world f n) op))
+  puts_runs : (n k : ℕ) (w : World) (v : Value) → w.threads ≡ LiveThread (f ∷ []) ∷ [] → Runs (puts w (site_of program x.world f n) k v)
+  unfolding turned_on
+  puts_runs n k w v same = rw (same, alone) (record { frame = (replaced n f k []).frame; alone = refl; main_is = main_is; plain = plain })
+
+  static_got_runs : (n slot : ℕ) (o : Option Slot) → Runs (static_got_if (site_of program x.world f n) slot o)
+  unfolding turned_on
+  static_got_runs n slot None = before_runs
+  static_got_runs n slot (Some s) = completes_runs n (replaced_if_room n f 0 (slot_at x.world slot ∷ [])) (replaced_keeps n f 0 (slot_at x.world slot ∷ []))
+
+  static_put_runs : (n slot : ℕ) (storage : Storage) (r : Result Value Fault) → Runs (static_put_at (site_of program x.world f n) slot storage r)
+  unfolding turned_on
+  static_put_runs n slot storage (Err fault) = before_runs
+  static_put_runs n slot storage (Ok v) = puts_runs n 1 (with_slot x.world slot (kept_value storage v)) v alone
+
+  static_put_if_runs : (n slot : ℕ) (o : Option Slot) → Runs (static_put_if (site_of program x.world f n) slot o)
+  unfolding turned_on
+  static_put_if_runs n slot None = before_runs
+  static_put_if_runs n slot (Some s) = static_put_runs n slot (shown_storage s.storage) (value_on (storage_kind (shown_storage s.storage)) f.stack)
+
+  word_got_runs : (n birth : ℕ) (o : Option ℕ) → Runs (word_got (site_of program x.world f n) birth o)
+  unfolding turned_on
+  word_got_runs n birth None = before_runs
+  word_got_runs n birth (Some place) = completes_runs n (replaced_if_room n f 1 (word_of (contents_at x.world birth) place ∷ [])) (replaced_keeps n f 1 (word_of (contents_at x.world birth) place ∷ []))
+
+  field_got_runs : (n : ℕ) (h : HeapValue) (class word declarer : ℕ) (r : Result (Option ℕ) Fault) → Runs (field_got_at (site_of program x.world f n) h class word declarer r)
+  unfolding turned_on
+  field_got_runs n h class word declarer (Err fault) = before_runs
+  field_got_runs n h class word declarer (Ok None) = raises_runs exception.NullPointer
+  field_got_runs n h class word declarer (Ok (Some birth)) = word_got_runs n birth (word_place program (held h birth) class word declarer)
+
+  written_threads : (birth place : ℕ) (v : Value) (o : Option Object) → (with_word_of x.world birth place v o).threads ≡ x.world.threads
+  written_threads birth place v None = refl
+  written_threads birth place v (Some o) = refl
+
+  word_put_runs : (n : ℕ) (storage : Storage) (v : Value) (birth : ℕ) (o : Option ℕ) → Runs (word_put_at (site_of program x.world f n) storage v birth o)
+  unfolding turned_on
+  word_put_runs n storage v birth None = before_runs
+  word_put_runs n storage v birth (Some place) =
+      puts_runs n 2 (with_word x.world birth place (kept_value storage v)) v (written_threads birth place (kept_value storage v) (object_at x.world birth) ∙ alone)
+
+  field_put_into_runs : (n : ℕ) (h : HeapValue) (class word declarer : ℕ) (storage : Storage) (v : Value) (o : Option ℕ) → Runs (field_put_into (site_of program x.world f n) h class word declarer storage v o)
+  field_put_into_runs n h class word declarer storage v None = raises_runs exception.NullPointer
+  field_put_into_runs n h class word declarer storage v (Some birth) = word_put_runs n storage v birth (word_place program (held h birth) class word declarer)
+
+  field_put_runs : (n : ℕ) (h : HeapValue) (class word declarer : ℕ) (storage : Storage) (r : Result (Value × Option ℕ) Fault) → Runs (field_put_at (site_of program x.world f n) h class word declarer storage r)
+  unfolding turned_on
+  field_put_runs n h class word declarer storage (Err fault) = before_runs
+  field_put_runs n h class word declarer storage (Ok operands) = field_put_into_runs n h class word declarer storage operands.0 operands.1
+
+  field_put_if_runs : (n : ℕ) (h : HeapValue) (class word declarer : ℕ) (o : Option Word) → Runs (field_put_if (site_of program x.world f n) h class word declarer o)
+  unfolding turned_on
+  field_put_if_runs n h class word declarer None = before_runs
+  field_put_if_runs n h class word declarer (Some declared) =
+      field_put_runs n h class word declarer (shown_storage declared.storage) (both (value_on (storage_kind (shown_storage declared.storage)) f.stack) (ref_on (drop 1 f.stack)))
+
+  made_runs : (c : ℕ) (a : Account) (contents : Contents) (r : Result Moved Abrupt) → KeepsPlace f r → RunThreads program (created_with_on x 0 c a contents r).world.threads
+  made_runs c a contents (Err abrupt) kept = before_runs
+  made_runs c a contents (Ok moved) kept =
+      rw alone (record { frame = moved.frame; alone = refl; main_is = main_is ∙ ap Some (sym kept.0); plain = (kept.1 ∙ plain.0, kept.2 ∙ plain.1) })
+
+  created_runs : (n : ℕ) (contents : Contents) (o : Option (ℕ × Account)) → RunThreads program (created_at program x 0 n 0 contents o).world.threads
+  created_runs n contents None = carried_runs x.account x.births x.world 1 alone none
+  created_runs n contents (Some cell) =
+      let here : running (frames_at x.world 0) ≡ Some f = rw alone refl in
+      subst (λ o. RunThreads program (created_in x 0 n 0 contents cell.0 cell.1 o).world.threads) (sym here)
+      (made_runs cell.0 cell.1 contents (replaced_if_room n f 0 (RefValue (Some (suc cell.0)) ∷ [])) (replaced_keeps n f 0 (RefValue (Some (suc cell.0)) ∷ [])))
+
+  numbered_runs : (n : ℕ) (h : HeapValue) (op : Operation) → Runs (operated_by_numbers (site_of program x.world f n) h op)
+  unfolding turned_on
+  numbered_runs n h (operation.Getstatic slot) = static_got_runs n slot (slice_get (static_slots program) slot)
+  numbered_runs n h (operation.Putstatic slot) = static_put_if_runs n slot (slice_get (static_slots program) slot)
+  numbered_runs n h (operation.Getfield class word declarer) = field_got_runs n h class word declarer (ref_on f.stack)
+  numbered_runs n h (operation.Putfield class word declarer) = field_put_if_runs n h class word declarer (slice_get (class_words (class_tables program) declarer) word)
+  numbered_runs n h (operation.New class) = created_runs n (contents_shown program (InstanceKind class) (defaults_in (class_tables program) class)) (take_cell x.account (words_in (contents_shown program (InstanceKind class) (defaults_in (class_tables program) class))))
+  numbered_runs n h _ = before_runs
+
+  else_runs : (n : ℕ) (h : HeapValue) (op : Operation) → Runs (operated_else (site_of program x.world f n) h op)
+  unfolding turned_on
+  else_runs n h operation.Return = rw alone tt
+  else_runs n h operation.PrintInt = prints_runs n (int_on f.stack)
+  else_runs n h (operation.Getstatic slot) = numbered_runs n h (operation.Getstatic slot)
+  else_runs n h (operation.Putstatic slot) = numbered_runs n h (operation.Putstatic slot)
+  else_runs n h (operation.Getfield a b c) = numbered_runs n h (operation.Getfield a b c)
+  else_runs n h (operation.Putfield a b c) = numbered_runs n h (operation.Putfield a b c)
+  else_runs n h (operation.New class) = numbered_runs n h (operation.New class)
+  else_runs n h _ = before_runs
+
+  pub operated_runs : (n : ℕ) (h : HeapValue) (op : Operation) → Runs (operated (site_of program x.world f n) h op)
+  operated_runs n h op = by_move (plain_move n op f) (plain_keeps n op f) where
+    by_move : (o : Option (Result Moved Abrupt)) → KeepsPlaceIfSome f o → Runs (moved_or (site_of program x.world f n) o (operated_else (site_of program x.world f n) h op))
     by_move (Some m) kept = completes_runs n m kept
-    by_move None kept = else_runs n op
+    by_move None kept = else_runs n h op

@@ -23,7 +23,7 @@ use Rattle.instructions.specs.Shown.{thread_shown}
 use Rattle.instructions.proofs.Refusing.{allowed}
 use Rattle.instructions.proofs.Running.{RunThreads, operated_runs, runs_shown, turned_births}
 use Rattle.instructions.proofs.ShownLemmas.{collected_shown as collected_on_shown}
-use Rattle.instructions.proofs.Stepping.{completion_stepped}
+use Rattle.instructions.proofs.Stepping.{IsKept, completion_stepped}
 use Rattle.instructions.proofs.Waiting.{now, told_in}
 
 -- ---- a thread that nothing refuses is the first, and lives
@@ -87,10 +87,21 @@ module _ (a : Inside) (t : ℕ) (sound : Sound a) (g : IsGoing a t) where
   abbrev comes_to : Completion
   comes_to = completion a.program before.world 0
 
-  steps : comes_to ≡ stepped a.program before.world (step_here a) (standing a.program (step_here a))
+  kept : IsKept a.program before.world a.machine.heap
+  kept = record {
+    accepted = sound.accepted;
+    slots = a.machine.slots.items;
+    objects_are = refl;
+    stored = sound.stored;
+    fields_are = refl;
+    slots_fit = sound.slots_are;
+    initialised = sound.initialised;
+  }
+
+  steps : comes_to ≡ stepped a.program before.world a.machine.heap (step_here a) (standing a.program (step_here a))
   steps =
-      completion_stepped a.program before.world g.main.frame sound.served g.main.main_is g.main.plain g.main.alone
-      ∙ ap (λ frames. stepped a.program before.world (running_frame frames) (standing a.program (running_frame frames))) (sym g.main.alone)
+      completion_stepped a.program before.world a.machine.heap g.main.frame sound.served g.main.main_is g.main.plain g.main.alone kept
+      ∙ ap (λ frames. stepped a.program before.world a.machine.heap (running_frame frames) (standing a.program (running_frame frames))) (sym g.main.alone)
 
   abbrev seen : CellMachine → Loaded
   seen machine = record { program = a.program; limits = a.limits; shape = a.machine.heap.shape; machine = machine }
@@ -102,7 +113,7 @@ module _ (a : Inside) (t : ℕ) (sound : Sound a) (g : IsGoing a t) where
   outcome_is = rw (g.lives, g.first, g.faultless) refl
 
   abbrev HasTurned : Machine → Result Turned Fault → Type 0
-  HasTurned m result = Turns a.program a.machine m result (λ w. stepped a.program w (step_here a) (standing a.program (step_here a)))
+  HasTurned m result = Turns a.program a.machine m result (λ w. stepped a.program w a.machine.heap (step_here a) (standing a.program (step_here a)))
 
   told_is : (m : Machine) (result : Result Turned Fault) → HasTurned m result → told before (shown a.program a.states.items a.rows m) result ≡ turned a.program before comes_to
   told_is m result has = has a.states.items a.rows ∙ sym (ap (turned a.program before) steps)
@@ -112,8 +123,8 @@ module _ (a : Inside) (t : ℕ) (sound : Sound a) (g : IsGoing a t) where
       let step = standing a.program (step_here a) in
       let here : step_here a ≡ g.main.frame = ap running_frame g.main.alone in
       subst (λ c. RunThreads a.program (turned_on a.program before 0 c).world.threads) (sym steps)
-      (subst (λ f. RunThreads a.program (turned_on a.program before 0 (operated (site_of a.program before.world f step.next) step.operation)).world.threads) (sym here)
-      (operated_runs a.program g.main.frame sound.served g.main.main_is g.main.plain before (rw g.main.alone refl) refl step.next step.operation))
+      (subst (λ f. RunThreads a.program (turned_on a.program before 0 (operated (site_of a.program before.world f step.next) a.machine.heap step.operation)).world.threads) (sym here)
+      (operated_runs a.program g.main.frame sound.served g.main.main_is g.main.plain before (rw g.main.alone refl) refl step.next a.machine.heap step.operation))
 
   -- ---- a turn that is done
 

@@ -18,7 +18,7 @@ use Rattle.instructions.specs.declared.kinds.Course.TheVariants.{Live, Returned,
 use Rattle.instructions.specs.declared.state.State.TheInside.{Inside}
 use Rattle.instructions.specs.Acting.{printed_by, standing}
 use Rattle.instructions.specs.Loaded.{IsSound, RunsMainUnlessEnded, world_shown}
-use Rattle.instructions.proofs.Stepping.{never_waits, print_stepped}
+use Rattle.instructions.proofs.Stepping.{IsKept, never_waits, print_stepped}
 
 -- a thread that is ready lives
 pub ready_lives : (program : List ClassListing) (w : World) (t : ℕ) → is_ready program w t ≡ true → is_live w t ≡ true
@@ -90,8 +90,20 @@ module _ (a : Inside) where
   now = in_course a.course
 
   module _ (sound : IsSound a.program a.limits a.course a.machine.frames a.machine.slots.items a.states.items a.machine.heap a.rows (vec_capacity a.machine.output)) where
+    -- the world is one that the code keeps by numbers
+    pub kept : (course : Course) → IsKept a.program (in_course course) a.machine.heap
+    kept course = record {
+      accepted = sound.accepted;
+      slots = a.machine.slots.items;
+      objects_are = refl;
+      stored = sound.stored;
+      fields_are = refl;
+      slots_fit = sound.slots_are;
+      initialised = sound.initialised;
+    }
+
     waits_in : (course : Course) → RunsMainUnlessEnded a.program course a.machine.frames → (t : ℕ) → waits (completion a.program (in_course course) t) ≡ false
-    waits_in Live main zero = never_waits a.program (in_course Live) main.frame sound.served main.main_is main.plain main.alone
+    waits_in Live main zero = never_waits a.program (in_course Live) a.machine.heap main.frame sound.served main.main_is main.plain main.alone (kept Live)
     waits_in Live main (suc t) = ap waits (completion-none a.program (in_course Live) (suc t) refl)
     waits_in Returned main zero = ap waits (completion-none a.program (in_course Returned) 0 refl)
     waits_in Returned main (suc t) = ap waits (completion-none a.program (in_course Returned) (suc t) refl)
@@ -133,7 +145,7 @@ module _ (a : Inside) where
     -- it prints what its step does
     pub told_in : (course : Course) → RunsMainUnlessEnded a.program course a.machine.frames → (t : ℕ) → is_live (in_course course) t ≡ true → print_of a.program (in_course course) t ≡ printed_by (running_frame a.machine.frames) (standing a.program (running_frame a.machine.frames)).operation
     told_in Live main zero e =
-        print_stepped a.program (in_course Live) main.frame sound.served main.main_is main.plain main.alone
+        print_stepped a.program (in_course Live) a.machine.heap main.frame sound.served main.main_is main.plain main.alone (kept Live)
         ∙ ap (λ frames. printed_by (running_frame frames) (standing a.program (running_frame frames)).operation) (sym main.alone)
     told_in Live main (suc t) e = cc
     told_in Returned main zero e = cc

@@ -6,6 +6,7 @@ use Rattle.model.specs.declared.turns.ClassState.TheVariants.{Done}
 use Rattle.model.specs.declared.turns.Fault.{Fault}
 use Rattle.model.specs.declared.values.Value.{Value}
 use Rattle.model.specs.ClassListings.{ClassListing}
+use Rattle.model.specs.Accepted.Refusals.{refusal_of}
 use Rattle.model.specs.Frames.{Frame, IsPlain}
 use Rattle.model.specs.Programs.{main_in}
 use Rattle.model.specs.Served.{ServedProgram}
@@ -16,6 +17,7 @@ use Rattle.join.specs.TurnsOnCells.{CellMachine, collected_on, counted_on, openi
 use Rattle.instructions.specs.declared.kinds.Course.{Course}
 use Rattle.instructions.specs.declared.kinds.Course.TheVariants.{Live, Returned, Threw}
 use Rattle.instructions.specs.declared.kinds.Kind.{Kind}
+use Rattle.instructions.specs.ByNumbers.{AreStored}
 use Rattle.instructions.specs.ByNumbers.{AreStored}
 use Rattle.instructions.specs.Heaps.{HeapValue}
 use Rattle.instructions.specs.Shown.{keyed, objects_shown, thread_shown}
@@ -70,15 +72,16 @@ RunsMainUnlessEnded program Live frames = RunsMain program frames
 RunsMainUnlessEnded program Returned frames = Unit {0}
 RunsMainUnlessEnded program (Threw kind) frames = Unit {0}
 
--- what holds of the parts: the machine carries out all code of the program, the thread runs its main or has ended, and a
--- turn makes one birth at most
+-- what holds of the parts: the machine carries out all code of the program, the thread runs its main or has ended, objects
+-- have all words of their classes, and a turn makes one birth at most
 pub record IsSound (program : List ClassListing) (limits : Limits) (course : Course) (frames : List Frame) (slots : List Value) (states : List ClassState) (heap : HeapValue) (rows capacity : ℕ) : Type 0 where
   pub served : ServedProgram program
+  pub accepted : refusal_of program ≡ None
   pub room : limits.output ≤ capacity
   pub steps : limits.steps ≤ 16777215
   pub main : RunsMainUnlessEnded program course frames
   pub initialised : states ≡ replicate (length program) Done
   pub few_slots : length slots < 2 ^ 32
   pub slots_are : length slots ≡ length (opening_slots program)
-  pub births : heap.births ≤ rows + 3
   pub stored : AreStored program heap.objects
+  pub births : heap.births ≤ rows + 3

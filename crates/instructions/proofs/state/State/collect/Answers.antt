@@ -24,6 +24,7 @@ invariant_of-self c =
     let sound = c.self.invariant in
     rw (c.collect.ensures.heap, c.collect.ensures.frames, c.collect.ensures.slots, c.collect.ensures.output) (record {
       served = sound.served;
+      accepted = sound.accepted;
       room = sound.room;
       steps = sound.steps;
       main = sound.main;
