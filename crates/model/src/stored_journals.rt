@@ -1,6 +1,6 @@
 //! A journal that was stored and read.
 ghost use Rattle.std.specs.Prelude.{◌≡◌};
-ghost use Rattle.model.specs.Journals.{HeadFits, AreOfWorkers};
+ghost use Rattle.model.specs.Journals.{JournalValue, HeadFits, AreOfWorkers};
 
 use crate::journals::{HeapShape, Limits, Row};
 use std::marker::Model;
@@ -16,8 +16,6 @@ pub struct StoredJournal {
 }
 
 impl Model for StoredJournal {
-    ghost use Rattle.model.specs.Journals.{JournalValue, HeadFits, AreOfWorkers};
-
     ghost Value = { JournalValue };
 
     ghost view = { λ a. record { shape = a.shape; limits = a.limits; workers = a.workers; rows = a.rows.items } };
