@@ -3,6 +3,8 @@
 
 mod executing;
 mod files;
+#[cfg(test)]
+mod heap_tests;
 mod launching;
 mod options;
 mod sources;

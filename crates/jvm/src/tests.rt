@@ -83,7 +83,7 @@ fn compare(
 }
 
 /// The same where no file is written.
-fn check(
+pub(crate) fn check(
     rt: &impl Abort,
     alloc: Global,
     words: &[&str],
