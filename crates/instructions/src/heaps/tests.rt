@@ -3,7 +3,7 @@
 
 use super::{Heap, exception_kind};
 use crate::kinds::{Course, Kind};
-use crate::tests::wrapping_sum;
+use crate::tests::empty_main;
 use frames::Frames;
 use model::colours::Phase;
 use model::journals::HeapShape;
@@ -20,7 +20,7 @@ const SHAPE: HeapShape = HeapShape {
 
 #[test]
 fn objects_come_and_go(rt: HostRuntime) -> Result<(), Fail> {
-    let program = wrapping_sum(rt.alloc())?;
+    let program = empty_main(rt.alloc())?;
     let frames = Frames::new(rt.alloc())?;
     let mut heap = Heap::new(rt.alloc(), &program, SHAPE)?;
     assert!(rt;
