@@ -35,12 +35,6 @@ const DONE: Row = Row {
     worker: 0,
 };
 
-const OBJECT: Row = Row {
-    actor: Actor::Thread(0),
-    outcome: Outcome::Object,
-    worker: 0,
-};
-
 const NO_ROOM: Row = Row {
     actor: Actor::Thread(0),
     outcome: Outcome::NoRoom,
@@ -218,11 +212,8 @@ fn held(birth: u32, colour: Colour) -> Option<CellView> {
 }
 
 #[test]
-fn twelve_bytes_take_the_sum(rt: HostRuntime) -> Result<(), Fail> {
+fn a_sum_wraps(rt: HostRuntime) -> Result<(), Fail> {
     let mut world = world_of(rt.alloc(), wrapping_sum(rt.alloc())?, 12)?;
-    assert_eq!(rt; world.status(), Status::Running);
-    assert_eq!(rt; world.pick(), Some(0));
-    assert!(rt; stands_at(&world.thread(0)?, 0, [].as_slice()));
     world.run([MAIN, MAIN, MAIN].as_slice());
     assert!(rt;
         stands_at(
@@ -233,16 +224,28 @@ fn twelve_bytes_take_the_sum(rt: HostRuntime) -> Result<(), Fail> {
     );
     assert_eq!(rt; world.pick(), Some(0));
     assert!(rt; !world.output_full());
-    world.run([MAIN, MAIN].as_slice());
+    Ok(())
+}
+
+#[test]
+fn twelve_bytes_take_the_sum(rt: HostRuntime) -> Result<(), Fail> {
+    let mut world = world_of(rt.alloc(), wrapping_sum(rt.alloc())?, 12)?;
+    world.run([MAIN, MAIN, MAIN, MAIN, MAIN].as_slice());
     assert_eq!(rt; world.output(), b"-2147483648\n".as_slice());
     assert_eq!(rt;
         world.journal().rows(),
         [DONE, DONE, DONE, DONE, DONE].as_slice()
     );
     assert_eq!(rt; world.status(), Status::Finished);
-    assert_eq!(rt; world.pick(), None);
-    assert_eq!(rt; world.fault(), None);
     assert!(rt; has_ended(&world.thread(0)?));
+    Ok(())
+}
+
+#[test]
+fn a_thread_that_ended_has_no_turn(rt: HostRuntime) -> Result<(), Fail> {
+    let mut world = world_of(rt.alloc(), wrapping_sum(rt.alloc())?, 12)?;
+    world.run([MAIN, MAIN, MAIN, MAIN, MAIN].as_slice());
+    assert_eq!(rt; world.pick(), None);
     assert_eq!(rt; world.turn(MAIN), Turn::NotReady);
     assert_eq!(rt; world.program().listings().len(), 1);
     Ok(())
@@ -326,16 +329,7 @@ fn the_collector_has_a_row(rt: HostRuntime) -> Result<(), Fail> {
         outcome: Outcome::Done,
         worker: 0,
     };
-    assert!(rt; world.phase() == Phase::Idle);
-    assert_eq!(rt; world.heap(0), held(1, Colour::White));
-    assert_eq!(rt; world.turn(Actor::Collector), Turn::Done);
-    assert!(rt; world.phase() == Phase::Statics { slot: 0 });
-    assert_eq!(rt; world.heap(0), held(1, Colour::Grey));
-    assert_eq!(rt; world.heap(1), held(2, Colour::Grey));
-    assert_eq!(rt; world.heap(2), None);
-    assert_eq!(rt; world.next_birth(), 3);
-    assert_eq!(rt; world.turn(MAIN), Turn::Done);
-    assert_eq!(rt; world.turn(Actor::Collector), Turn::Done);
+    world.run([Actor::Collector, MAIN, Actor::Collector].as_slice());
     assert_eq!(rt;
         world.journal().rows(),
         [collected, DONE, collected].as_slice()
@@ -344,38 +338,15 @@ fn the_collector_has_a_row(rt: HostRuntime) -> Result<(), Fail> {
     Ok(())
 }
 
-/// The exception is birth 3, grey in the third cell, and ends the thread, so that nothing leads to it. The first cycle keeps
-/// it: one step shades births 1 and 2, three find no slot, no frame and no other thread, three blacken, one finds nothing grey,
-/// three whiten, and one ends it. The second blackens births 1 and 2 alone: its tenth step frees the cell.
+/// Its first step shades births 1 and 2.
 #[test]
-fn an_exception_is_garbage(rt: HostRuntime) -> Result<(), Fail> {
-    let shape = HeapShape {
-        small: 3,
-        medium: 0,
-        large: 0,
-    };
-    let limits = Limits {
-        steps: 100,
-        output: 0,
-    };
-    let mut world = World::new(rt.alloc(), division_by_zero(rt.alloc())?, shape, limits)?;
-    world.run([MAIN, MAIN, MAIN].as_slice());
-    assert_eq!(rt; world.journal().rows(), [DONE, DONE, OBJECT].as_slice());
-    assert!(rt; threw(&world.thread(0)?, "java/lang/ArithmeticException"));
-    assert_eq!(rt; world.status(), Status::Finished);
-    assert_eq!(rt; world.next_birth(), 4);
-    assert_eq!(rt; world.heap(2), held(3, Colour::Grey));
-    world.run([Actor::Collector; 21].as_slice());
-    assert!(rt; world.phase() == Phase::Append { cell: 2 });
-    assert_eq!(rt; world.heap(2), held(3, Colour::White));
-    world.run([Actor::Collector].as_slice());
-    assert_eq!(rt;
-        world.heap(2),
-        Some(CellView {
-            words: 4,
-            held: None
-        })
-    );
+fn the_collector_begins(rt: HostRuntime) -> Result<(), Fail> {
+    let mut world = world_of(rt.alloc(), wrapping_sum(rt.alloc())?, 65_536)?;
+    assert_eq!(rt; world.turn(Actor::Collector), Turn::Done);
+    assert!(rt; world.phase() == Phase::Statics { slot: 0 });
+    assert_eq!(rt; world.heap(1), held(2, Colour::Grey));
+    assert_eq!(rt; world.heap(2), None);
+    assert_eq!(rt; world.next_birth(), 3);
     Ok(())
 }
 
