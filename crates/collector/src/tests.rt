@@ -2,6 +2,11 @@
 ghost use Rattle.std.specs.Prelude.{[], None};
 ghost use Rattle.model.specs.Worlds.{World};
 
+mod plain_heap;
+mod real_heap;
+mod roots;
+mod two_heaps;
+
 use crate::{References, collect_step};
 use colours::accounts::Account;
 use model::colours::{Cell, Phase};
