@@ -12,6 +12,8 @@ KIND is one of
     pool     N texts in the pool, each with its class
     uses     N times `new` and `pop` of one class with a name of 65,535 bytes, 16,000 in a method
     fields   N fields, each with a name of its own
+    statics  N static fields (21,000 at most, since each takes three entries of the pool), each with a name of its own and
+             read three times by code, 16,000 reads in a method; the first method is main, which returns
 """
 import struct
 import sys
@@ -138,6 +140,19 @@ def fields(e, n):
         e.fields.append(u2(0x0008) + u2(e.pool.text(b"f%d" % number)) + u2(kind) + u2(0))
 
 
+def statics(e, n):
+    e.method(e.name, b"\xb1")
+    kind, reads = e.pool.text(b"I"), []
+    for number in range(n):
+        name = e.pool.text(b"f%d" % number)
+        e.fields.append(u2(0x0008) + u2(name) + u2(kind) + u2(0))
+        reads.append(e.pool.add(u1(9), u2(e.this), u2(e.pool.add(u1(12), u2(name), u2(kind)))))
+    reads *= 3
+    for start in range(0, len(reads), 16_000):
+        body = b"".join(b"\xb2" + u2(field) + b"\x57" for field in reads[start : start + 16_000]) + b"\xb1"
+        e.method(e.pool.text(b"m%d" % len(e.methods)), body)
+
+
 KINDS = {
     "names": names,
     "pairs": pairs,
@@ -146,6 +161,7 @@ KINDS = {
     "pool": pool,
     "uses": uses,
     "fields": fields,
+    "statics": statics,
 }
 
 
