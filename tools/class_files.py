@@ -14,6 +14,7 @@ KIND is one of
     fields   N fields, each with a name of its own
     statics  N static fields (21,000 at most, since each takes three entries of the pool), each with a name of its own and
              read three times by code, 16,000 reads in a method; the first method is main, which returns
+    long     one static field with a name of 65,535 bytes, which code reads N times
 """
 import struct
 import sys
@@ -140,17 +141,28 @@ def fields(e, n):
         e.fields.append(u2(0x0008) + u2(e.pool.text(b"f%d" % number)) + u2(kind) + u2(0))
 
 
-def statics(e, n):
+def read(e, numbers):
+    """A main that returns, and methods that read the static fields of these numbers, 16,000 reads in a method."""
     e.method(e.name, b"\xb1")
-    kind, reads = e.pool.text(b"I"), []
-    for number in range(n):
-        name = e.pool.text(b"f%d" % number)
-        e.fields.append(u2(0x0008) + u2(name) + u2(kind) + u2(0))
-        reads.append(e.pool.add(u1(9), u2(e.this), u2(e.pool.add(u1(12), u2(name), u2(kind)))))
-    reads *= 3
-    for start in range(0, len(reads), 16_000):
-        body = b"".join(b"\xb2" + u2(field) + b"\x57" for field in reads[start : start + 16_000]) + b"\xb1"
+    for start in range(0, len(numbers), 16_000):
+        body = b"".join(b"\xb2" + u2(field) + b"\x57" for field in numbers[start : start + 16_000]) + b"\xb1"
         e.method(e.pool.text(b"m%d" % len(e.methods)), body)
+
+
+def static(e, name, kind):
+    """A static field: the number of a reference to it."""
+    name = e.pool.text(name)
+    e.fields.append(u2(0x0008) + u2(name) + u2(kind) + u2(0))
+    return e.pool.add(u1(9), u2(e.this), u2(e.pool.add(u1(12), u2(name), u2(kind))))
+
+
+def statics(e, n):
+    kind = e.pool.text(b"I")
+    read(e, [static(e, b"f%d" % number, kind) for number in range(n)] * 3)
+
+
+def long(e, n):
+    read(e, [static(e, b"a" * 65_535, e.pool.text(b"I"))] * n)
 
 
 KINDS = {
@@ -162,6 +174,7 @@ KINDS = {
     "uses": uses,
     "fields": fields,
     "statics": statics,
+    "long": long,
 }
 
 
