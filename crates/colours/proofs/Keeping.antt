@@ -1,4 +1,5 @@
-use Rattle.std.proofs.Common.{◌≡◌, ◌⊎◌, inl, inr, ℕ, ◌+◌, ◌<◌, ◌≤◌, Bool, true, false, List, [], ◌∷◌, ◌++◌, length, set, nat_le, nat_lt, drop, slice_get, option_map, Option, Some, refl, sym, ◌∙◌, ap, arith, length-set}
+use Rattle.std.proofs.Common.{◌≡◌, ◌⊎◌, inl, inr, ℕ, ◌+◌, ◌<◌, ◌≤◌, Bool, true, false, List, [], ◌∷◌, ◌++◌, length, set, nat_le, nat_lt, drop, slice_get, option_map, Option, Some, None, refl, sym, ◌∙◌, ap, arith, length-set}
+use Rattle.std.specs.Option.{IfSome}
 use Rattle.std.proofs.lemmas.List.{length-append}
 use Rattle.circular_buffer.specs.Buffer.{Buffer, buffer}
 use Rattle.model.specs.declared.colours.Cell.{Cell}
@@ -144,6 +145,14 @@ is_free a c b h k = let t = k.times c in let one = one_if-same c in let m = h.li
 
 pub is_within : (a : Account) (c : ℕ) (b : Account) → Sound a → Leaves a c b → c < length a.cells
 is_within a c b h k = free_at_within a.cells c (is_free a c b h k)
+
+-- the cell that is taken, if one has room, is one of the heap's
+pub taken_there : (a : Account) (words : ℕ) → Sound a → IfSome (take_cell a words) (λ taken. taken.0 < length a.cells)
+taken_there a words h = by (take_cell a words) refl
+  where
+    by : (o : Option (ℕ × Account)) → take_cell a words ≡ o → IfSome o (λ taken. taken.0 < length a.cells)
+    by None e = tt
+    by (Some r) e = is_within a r.0 r.1 h (leaves a words r e)
 
 pub is_free_there : (a : Account) (c : ℕ) (b : Account) → Sound a → Leaves a c b → slice_get a.cells c ≡ Some Free
 is_free_there a c b h k = free_at_found a.cells c (is_free a c b h k)

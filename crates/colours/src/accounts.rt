@@ -148,9 +148,10 @@ impl Account {
         }
     }
 
-    /// Whether a free cell has so many words.
+    /// Whether a free cell has so many words; the cell that is taken then is one of the heap's.
     pub fn has_room(&self, words: u32) -> bool
-        ensures { result ≡ has_room self.now words }
+        ensures room { result ≡ has_room self.now words }
+        ensures there { IfSome (take_cell self.now words) (λ taken. taken.0 < length self.now.cells) }
     {
         self.free.have_room(words)
     }

@@ -9,6 +9,8 @@ use Rattle.model.specs.declared.values.Entry.TheVariants.{Unset, Holds, UpperHal
 use Rattle.model.specs.Frames.{Frame}
 use Rattle.model.specs.Collector.Places.{ref_of, entry_ref, ref_at, frame_refs, entries_at, refs_of_frame}
 use Rattle.frames.specs.declared.activations.Activation.{Activation}
+use Rattle.frames.specs.declared.heads.FrameHead.{FrameHead}
+use Rattle.frames.specs.Heads.{head_at, head_of}
 use Rattle.frames.specs.Layout.{value_in, values_between, stack_of, frame_of, Stands, AreLaidOut, IsSound}
 use Rattle.frames.proofs.ArgumentLemmas.{stack_of-between}
 use Rattle.frames.proofs.LayoutLemmas.{laid_le, values_fit}
@@ -91,3 +93,18 @@ pub ref_at-past : (units : List Entry) (a : Activation) (j : ℕ) → a.locals +
 ref_at-past units a j h =
     let many = length-take (a.locals + a.values) (drop a.base units) in
     sym (get_or_past (map entry_ref (take (a.locals + a.values) (drop a.base units))) j None (omega (arith, length-map (take (a.locals + a.values) (drop a.base units)) entry_ref)))
+
+-- ---- a frame but for its locals and the values on its stack, as its activation has it
+
+pub head-some : (units : List Entry) (acts : List Activation) (frames : List Frame) (used capacity d : ℕ) (a : Activation) → IsSound units acts used capacity → map (frame_of units) acts ≡ frames → slice_get acts d ≡ Some a → head_at frames d ≡ Some (record { method = a.method; pc = a.pc; taken = a.taken; room = a.room; monitor = a.monitor; mark = a.mark })
+head-some units acts frames used capacity d a sound view is =
+    let long = sound.units_are in
+    let used_is = sound.used_is in
+    let w = within units 0 used acts d a sound.laid_out (omega arith) is in
+    let found : slice_get frames d ≡ Some (frame_of units a) = ap (λ (fs : List Frame). slice_get fs d) (sym view) ∙ (slice_get-map (frame_of units) acts d ∙ ap (option_map (frame_of units)) is) in
+    ap (option_map head_of) found ∙ ap (λ (taken : ℕ). let head : FrameHead = record { method = a.method; pc = a.pc; taken = taken; room = a.room; monitor = a.monitor; mark = a.mark } in Some head) (sym w.stands.taken_is)
+
+pub head-none : (units : List Entry) (acts : List Activation) (frames : List Frame) (d : ℕ) → map (frame_of units) acts ≡ frames → slice_get acts d ≡ None → head_at frames d ≡ None
+head-none units acts frames d view is =
+    let found : slice_get frames d ≡ None = ap (λ (fs : List Frame). slice_get fs d) (sym view) ∙ (slice_get-map (frame_of units) acts d ∙ ap (option_map (frame_of units)) is) in
+    ap (option_map head_of) found

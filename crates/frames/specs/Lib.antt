@@ -1,2 +1,3 @@
+pub mod Heads
 pub mod Layout
 pub mod Told

@@ -28,7 +28,7 @@ fn put_argument(units: &mut Vec<Entry>, end: usize, value: Value) -> usize
 
 /// Copies so many values, which stand from one unit on, as arguments to another unit and on, and says behind which unit
 /// they end.
-fn copy_arguments(units: &mut Vec<Entry>, from: usize, count: u8, base: usize) -> usize
+fn copy_arguments(units: &mut Vec<Entry>, from: usize, count: u16, base: usize) -> usize
     requires below { from + count ≤ base }
     requires fits { base + units_of_all (values_between units.old.items from count) ≤ vec_len units.old }
     ensures items { units.new.items ≡ take base units.old.items ++ argument_entries (values_between units.old.items from count) ++ drop (base + units_of_all (values_between units.old.items from count)) units.old.items }
@@ -48,7 +48,7 @@ fn copy_arguments(units: &mut Vec<Entry>, from: usize, count: u8, base: usize) -
 pub(crate) fn lay_out_locals(
     units: &mut Vec<Entry>,
     from: usize,
-    count: u8,
+    count: u16,
     base: usize,
     locals: usize,
 ) -> usize

@@ -27,6 +27,7 @@
 //! | `has_local(kind, i)`, `load(kind, i)`, `local_int(i)` | `has_local kind f.locals i`, `local_at kind f.locals i`, `as_int (local_at Int f.locals i)` |
 //! | `operand(kind)` | `value_on kind f.stack` |
 //! | `entries(d)`, `reference_at(d, j)`, `monitor_at(d)` | of the frame d, counted from the outermost: `length (entries_at frames d)`, `ref_at (entries_at frames d) j`, `monitor_at frames d` |
+//! | `frame_at(d)` | of the frame d, counted from the outermost: `head_at frames d`, its method, pc, monitor and mark, and the units that its stack takes and may take |
 //! | `store(next, n, i, v)` | under `n ≤ length f.stack`: `with_running frames (stored next f n i v).frame` |
 //! | `store_top(next, kind, i)` | `told result after ≡ moved_on frames (stored_at next kind i f)`, and nothing changes on an `Err` |
 //! | `views()` | `frames`, as plain data |
@@ -38,6 +39,7 @@
 
 mod activations;
 mod arguments;
+pub mod heads;
 mod locals;
 mod operands;
 mod results;

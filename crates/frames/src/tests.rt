@@ -113,6 +113,14 @@ fn shows_its_roots(rt: HostRuntime) -> Result<(), Fail> {
     assert_eq!(rt; frames.reference_at(1, 3), None);
     assert_eq!(rt; frames.monitor_at(0), None);
     assert_eq!(rt; frames.monitor_at(1), Some(8));
+    assert!(rt; frames.frame_at(2).is_none());
+    let head = frames.frame_at(1);
+    assert!(rt; head.is_some_and(|head| head.method == CALLEE && head.pc == 2 && head.taken == 3));
+    assert!(rt;
+        head.is_some_and(|head| head.room == 3
+            && head.monitor == Some(8)
+            && head.mark == Mark::Waiting)
+    );
     frames.clear(9);
     assert_eq!(rt; frames.values(), 0);
     assert_eq!(rt; frames.pc(), 9);

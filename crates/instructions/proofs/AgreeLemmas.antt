@@ -1,8 +1,8 @@
-use Rattle.std.proofs.Common.{◌≡◌, inl, inr, ℕ, zero, suc, ◌+◌, ◌≤◌, Bool, true, false, List, [], ◌∷◌, ◌++◌, length, map, set, slice_get, nat_lt, nat_le, Option, Some, None, is_some, refl, sym, ◌∙◌, ap, subst, arith, length-set, leb-true, le-ltb, ltb-false}
+use Rattle.std.proofs.Common.{◌≡◌, inl, inr, ℕ, zero, suc, ◌+◌, ◌<◌, ◌≤◌, Bool, true, false, List, [], ◌∷◌, ◌++◌, length, map, set, slice_get, nat_lt, nat_le, Option, Some, None, is_some, refl, sym, ◌∙◌, ap, subst, arith, length-set, leb-true, le-ltb, ltb-false}
 use Rattle.std.specs.Prelude.{replicate, if◌then◌else◌}
-use Rattle.std.specs.Option.{option_map}
+use Rattle.std.specs.Option.{IfSome, option_map}
 use Rattle.std.proofs.Math.Seq.{map-set_same}
-use Rattle.std.proofs.lemmas.List.{map-set, length-replicate}
+use Rattle.std.proofs.lemmas.List.{map-set, length-map, length-replicate}
 use Rattle.std.proofs.lemmas.List.Elements.{All-cons, All-head, All-nil, All-push, All-tail}
 use Rattle.std.proofs.lemmas.Option.{slice_get-map}
 use Rattle.model.specs.declared.colours.Cell.{Cell}
@@ -48,7 +48,7 @@ nobody_in_free {K = K} cells objects c taken free =
     go (Some (Some object)) e = absurd (cc)
 
 -- no cell past the last one holds a birth
-past_the_last : (cells : List Cell) (c : ℕ) → length cells ≤ c → cell_at cells c ≡ Free
+pub past_the_last : (cells : List Cell) (c : ℕ) → length cells ≤ c → cell_at cells c ≡ Free
 past_the_last [] c l = refl
 past_the_last (x ∷ cells) zero l = absurd (omega arith)
 past_the_last (x ∷ cells) (suc c) l = past_the_last cells c (omega arith)
@@ -149,7 +149,7 @@ taking shape a words r from_medium from_large e =
       ]
     ]
 
-cells_left : (a : Account) (words : ℕ) (r : ℕ × Account) → take_cell a words ≡ Some r → r.1.cells ≡ a.cells
+pub cells_left : (a : Account) (words : ℕ) (r : ℕ × Account) → take_cell a words ≡ Some r → r.1.cells ≡ a.cells
 cells_left a words r e =
     elim (front_taken (nat_le words 4) (λ cs. record a { small = cs }) a.small _ r e) [
       | inl small ↦ ap (λ (b : Account). b.cells) small.2
@@ -377,3 +377,11 @@ opening_agrees shape o o' fits =
     let first = placed_lists shape (empty_account shape) 1 White medium large in
     let second = placed_lists shape (placed (empty_account shape) 1 0 White) 2 White first.0 first.1 in
     record { fits = fits; count = k.0; taken = k.1; medium = second.0; large = second.1 }
+
+-- ---- a cell of the account is one of an object
+
+pub taken_among : {K : Type 0} (cells : List Cell) (objects : List (Option (StoredObject K))) (o : Option (ℕ × Account))
+    → map is_taken cells ≡ map is_some objects → IfSome o (λ taken. taken.0 < length cells) → IfSome o (λ taken. taken.0 < length objects)
+taken_among cells objects o same among =
+    let count : length cells ≡ length objects = sym (length-map cells is_taken) ∙ ap length same ∙ length-map objects is_some in
+    subst (λ n. IfSome o (λ taken. taken.0 < n)) count among

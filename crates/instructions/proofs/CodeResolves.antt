@@ -13,16 +13,16 @@ use Rattle.model.specs.Classes.Named.{or_else}
 use Rattle.model.specs.CodeListings.{CodeListing}
 use Rattle.model.specs.Programs.{code_at, empty_initializer, method_at, method_in, placed_at}
 
-neither : (a b : Bool) → (a || b) ≡ false → (a ≡ false) × (b ≡ false)
+pub neither : (a b : Bool) → (a || b) ≡ false → (a ≡ false) × (b ≡ false)
 neither true b e = cc
 neither false b e = (refl, e)
 
-was-not : (b : Bool) → not b ≡ false → b ≡ true
+pub was-not : (b : Bool) → not b ≡ false → b ≡ true
 was-not true e = refl
 was-not false e = cc
 
 -- what none is found to be, none is
-none-found-at : {A : Type 0} (p : A → Bool) (xs : List A) (n : ℕ) (x : A) → find p xs ≡ None → slice_get xs n ≡ Some x
+pub none-found-at : {A : Type 0} (p : A → Bool) (xs : List A) (n : ℕ) (x : A) → find p xs ≡ None → slice_get xs n ≡ Some x
     → p x ≡ false
 none-found-at p [] n x none e = cc
 none-found-at p (y ∷ ys) n x none e = by (p y) refl none n e (λ n rest e. none-found-at p ys n x rest e) where
@@ -32,7 +32,7 @@ none-found-at p (y ∷ ys) n x none e = by (p y) refl none n e (λ n rest e. non
   by false h none zero e rest = let same : y ≡ x = cc in ap p (sym same) ∙ h
   by false h none (suc n) e rest = rest n none e
 
-none-any-at : {A : Type 0} (p : A → Bool) (xs : List A) (n : ℕ) (x : A) → list_any p xs ≡ false
+pub none-any-at : {A : Type 0} (p : A → Bool) (xs : List A) (n : ℕ) (x : A) → list_any p xs ≡ false
     → slice_get xs n ≡ Some x → p x ≡ false
 none-any-at p [] n x none e = cc
 none-any-at p (y ∷ ys) zero x none e = let same : y ≡ x = cc in ap p (sym same) ∙ (neither (p y) (list_any p ys) none).0
@@ -47,10 +47,26 @@ none-any-found p q (y ∷ ys) x none e =
       by true e rest = let same : y ≡ x = cc in ap p (sym same) ∙ (neither (p y) (list_any p ys) none).0
       by false e rest = rest e
 
-and_then-some : {A B : Type 0} (f : A → Option B) (o : Option A) (y : B) → option_and_then f o ≡ Some y
+pub and_then-some : {A B : Type 0} (f : A → Option B) (o : Option A) (y : B) → option_and_then f o ≡ Some y
     → (x : A) × (o ≡ Some x) × (f x ≡ Some y)
 and_then-some f None y e = cc
 and_then-some f (Some x) y e = (x, refl, e)
+
+-- what no method of a class is found to be, none of its methods is, its empty initializer among them
+module _ (p : Method → Bool) (empty : p empty_initializer ≡ false) where
+  in_empty : (b : Bool) (m : Method) → cond b (Some empty_initializer) None ≡ Some m → p m ≡ false
+  in_empty true m e = let same : empty_initializer ≡ m = cc in ap p (sym same) ∙ empty
+  in_empty false m e = cc
+
+  pub in_methods : (c : ClassListing) (n : ℕ) (m : Method) → list_any p c.methods ≡ false
+      → method_in c n ≡ Some m → p m ≡ false
+  in_methods c n m none e = by (slice_get c.methods n) refl e
+    where
+      by : (o : Option Method) → slice_get c.methods n ≡ o
+          → or_else o (cond (n == length c.methods) (Some empty_initializer) None) ≡ Some m
+          → p m ≡ false
+      by None at k = in_empty (n == length c.methods) m k
+      by (Some x) at k = none-any-at p c.methods n m none (at ∙ k)
 
 module _ (program : List ClassListing) (none : find (has_unresolved program) program ≡ None) where
   abbrev is_unresolved : Method → Bool
@@ -59,20 +75,6 @@ module _ (program : List ClassListing) (none : find (has_unresolved program) pro
   in_classes : (n : ℕ) (c : ClassListing) → slice_get program n ≡ Some c → list_any is_unresolved c.methods ≡ false
   unfolding has_unresolved
   in_classes n c e = none-found-at (has_unresolved program) program n c none e
-
-  in_empty : (b : Bool) (m : Method) → cond b (Some empty_initializer) None ≡ Some m → is_unresolved m ≡ false
-  in_empty true m e = let same : empty_initializer ≡ m = cc in ap is_unresolved (sym same)
-  in_empty false m e = cc
-
-  in_methods : (c : ClassListing) (n : ℕ) (m : Method) → list_any is_unresolved c.methods ≡ false
-      → method_in c n ≡ Some m → is_unresolved m ≡ false
-  in_methods c n m none e = by (slice_get c.methods n) refl e
-    where
-      by : (o : Option Method) → slice_get c.methods n ≡ o
-          → or_else o (cond (n == length c.methods) (Some empty_initializer) None) ≡ Some m
-          → is_unresolved m ≡ false
-      by None at k = in_empty (n == length c.methods) m k
-      by (Some x) at k = none-any-at is_unresolved c.methods n m none (at ∙ k)
 
   -- an instruction at a pc of a method
   pub placed-resolves : (place : MethodPlace) (code : CodeListing) (pc : ℕ) (i : Placed)
@@ -84,7 +86,7 @@ module _ (program : List ClassListing) (none : find (has_unresolved program) pro
       (slice_get program place.class) method.0 method.1 in
       let whole : is_unresolved_in program (Some code) ≡ false =
       ap (is_unresolved_in program) (sym method.2)
-      ∙ in_methods class.0 place.method method.0 (in_classes place.class class.0 class.1) class.2 in
+      ∙ in_methods is_unresolved refl class.0 place.method method.0 (in_classes place.class class.0 class.1) class.2 in
       was-not (resolves program i.instruction)
       (none-any-found (λ (i : Placed). not (resolves program i.instruction))
       (λ (i : Placed). i.pc == pc) code.instructions i

@@ -137,3 +137,10 @@ pub get-first_part : {A : Type 0} (xs ys : List A) (n : ℕ) (x : A) → slice_g
 get-first_part [] ys n x e = cc
 get-first_part (z ∷ zs) ys zero x e = e
 get-first_part (z ∷ zs) ys (suc n) x e = get-first_part zs ys n x e
+
+-- ---- what stands at a place of a list
+
+pub item-at : {A : Type 0} (xs : List A) (n : ℕ) → n < length xs → (x : A) × (slice_get xs n ≡ Some x)
+item-at [] n inside = absurd (omega (arith, inside))
+item-at (x ∷ xs) zero inside = (x, refl)
+item-at (x ∷ xs) (suc n) inside = item-at xs n (omega (arith, inside))

@@ -1,5 +1,5 @@
 -- The parts of a new state show the opening world.
-use Rattle.std.proofs.Common.{◌≡◌, ℕ, List, [], ◌∷◌, ◌++◌, length, map, replicate, ◌+◌, ◌≤◌, Some, None, true, false, refl, sym, ap, ◌∙◌, arith, le-leb}
+use Rattle.std.proofs.Common.{◌≡◌, ℕ, List, [], ◌∷◌, ◌++◌, length, map, replicate, ◌+◌, ◌≤◌, Some, None, true, refl, sym, ap, ◌∙◌, arith, le-leb}
 use Rattle.std.proofs.lemmas.List.{length-replicate}
 use Rattle.model.specs.declared.journals.Limits.{Limits}
 use Rattle.model.specs.declared.places.MethodPlace.{MethodPlace}
@@ -25,7 +25,6 @@ use Rattle.loader.specs.declared.static_slots.Slot.{Slot}
 use Rattle.loader.specs.StaticSlots.{slot_of, static_slots}
 use Rattle.join.proofs.Lists.{map-same}
 use Rattle.join.proofs.ReadingBack.{field_same, thread_same}
-use Rattle.instructions.specs.declared.kinds.Course.TheVariants.{Live as LiveCourse}
 use Rattle.instructions.specs.Heaps.{HeapValue, opening_heap}
 use Rattle.instructions.specs.Loaded.{fresh, machine_shown}
 use Rattle.instructions.specs.Shown.{keyed}
@@ -57,7 +56,7 @@ keyed-opening program (k ∷ keys) = ap (λ (rest : List FieldValue). k ∷ rest
 opening_threads : (program : List ClassListing) (frames : List Frame) → frames ≡ opening_frames program → Live frames ∷ [] ≡ map (named_thread (λ b. b)) (Live (opening_frames program) ∷ [])
 opening_threads program frames e = ap (λ (t : Thread). t ∷ []) (sym (thread_same (Live (opening_frames program)) ∙ ap Live (sym e)))
 
-pub opening_shown : (program : List ClassListing) (limits : Limits) (shape : HeapShape) (place : MethodPlace) (locals stack : ℕ) (frames : List Frame) (slots : List Value) (states : List ClassState) (heap : HeapValue) (output : List ℕ) → ShapeFits shape.small shape.medium shape.large → ServedProgram program → IsMain program locals stack → main_in program ≡ Some place → frames ≡ [] ++ opening_frame place locals stack ∷ [] → slots ≡ map (λ (s : Slot). s.opening) (static_slots program) → states ≡ replicate (length program) Done → heap ≡ opening_heap program shape → output ≡ [] → record { program = program; limits = limits; shape = heap.shape; machine = machine_shown program LiveCourse frames slots states heap output None 0 } ≡ fresh program limits shape
+pub opening_shown : (program : List ClassListing) (limits : Limits) (shape : HeapShape) (place : MethodPlace) (locals stack : ℕ) (frames : List Frame) (slots : List Value) (states : List ClassState) (heap : HeapValue) (output : List ℕ) → ShapeFits shape.small shape.medium shape.large → ServedProgram program → IsMain program locals stack → main_in program ≡ Some place → frames ≡ [] ++ opening_frame place locals stack ∷ [] → slots ≡ map (λ (s : Slot). s.opening) (static_slots program) → states ≡ replicate (length program) Done → heap ≡ opening_heap program shape → output ≡ [] → record { program = program; limits = limits; shape = heap.shape; machine = machine_shown program (Live frames ∷ []) slots states heap output None 0 } ≡ fresh program limits shape
 opening_shown program limits shape place locals stack frames slots states heap output fits served main found entered opens done heaps empty =
     let open_is = opening_is program place locals stack served main found in
     let threads = opening_threads program frames (entered ∙ sym open_is) in

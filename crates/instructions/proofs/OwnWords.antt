@@ -1,5 +1,5 @@
 -- Objects of the machine's own classes have no words.
-use Rattle.std.proofs.Common.{◌≡◌, ℕ, zero, suc, ◌+◌, List, [], ◌∷◌, ◌++◌, ◌&&◌, Bool, true, false, length, flat_map, map, reverse, slice_get, Option, Some, None, is_some, refl, sym, ap, subst, arith, ◌∙◌}
+use Rattle.std.proofs.Common.{◌≡◌, ℕ, zero, suc, ◌+◌, List, [], ◌∷◌, ◌++◌, Bool, true, false, length, flat_map, map, slice_get, Option, Some, None, is_some, refl, sym, ap, subst, arith, ◌∙◌}
 use Rattle.std.specs.List.{find, list_all}
 use Rattle.model.specs.declared.listings.Field.{Field}
 use Rattle.model.specs.ClassListings.{ClassListing}
@@ -19,7 +19,7 @@ use Rattle.instructions.specs.ByNumbers.{IsStored}
 use Rattle.instructions.specs.Heaps.{own_class}
 use Rattle.instructions.proofs.ByNumberLemmas.{words-none}
 use Rattle.instructions.proofs.ListPlaces.{Each, each-reverse}
-use Rattle.instructions.proofs.Upwards.{above-own, next, unlisted}
+use Rattle.instructions.proofs.Upwards.{above-own, unlisted}
 
 abbrev fieldless : List Field → Bool
 fieldless [] = true

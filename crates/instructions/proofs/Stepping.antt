@@ -4,7 +4,6 @@ use Rattle.std.specs.Option.{option_map, option_and_then}
 use Rattle.model.specs.declared.names.Member.{Member}
 use Rattle.model.specs.declared.builtins.Builtin.TheVariants.{PrintInt}
 use Rattle.model.specs.declared.listings.Placed.{Placed}
-use Rattle.model.specs.declared.instructions.Constant.TheVariants as constants
 use Rattle.model.specs.declared.instructions.Instruction.TheVariants.{Nop, Constant, Local, Stack, Number, Branch, TableSwitch, LookupSwitch, Return, Static as StaticField, Field as FieldOf, Array as ArrayOf, Class as ClassOf, Invoke, Throw, Monitor}
 use Rattle.model.specs.declared.instructions.Invocation.TheVariants.{Static}
 use Rattle.model.specs.declared.turns.Abrupt.{Abrupt}
@@ -284,7 +283,7 @@ module _ (program : List ClassListing) (w : World) (h : HeapValue) (f : Frame) w
   above = superclass_at program f.method.class
 
   abbrev site : ℕ → Site
-  site n = site_of program w f n
+  site n = site_of program w 0 f n
 
   -- what the table says of an instruction is what its operation comes to
   abbrev Agree : ℕ → Listed → Type 0
@@ -329,16 +328,16 @@ module _ (program : List ClassListing) (w : World) (h : HeapValue) (f : Frame) w
         (λ j named same. subst (Agree i.next) same (named_agrees i e (ap goes_by_name same ∙ named)))
         (λ same. returned_agrees i.next (in_main i.next)) (λ m named same. printed_agrees i.next (in_main i.next) m named) i.instruction is refl
 
-    at_agrees : (i : Option Placed) → instruction_of program f ≡ i → at_instruction program w 0 f i ≡ stepped program w h f (step_for program above i)
+    at_agrees : (i : Option Placed) → instruction_of program f ≡ i → at_instruction program w 0 f i ≡ stepped program w 0 h f (step_for program above i)
     at_agrees None e = else_is 0 operation.Invalid (none_stays 0 f)
     at_agrees (Some i) e =
         at_site-done (site i.next) (length program) kept.initialised i.instruction
         ∙ placed_agrees i e (instruction_served program f i served.code e)
 
-    pub completion_stepped : completion program w 0 ≡ stepped program w h f (standing program f)
+    pub completion_stepped : completion program w 0 ≡ stepped program w 0 h f (standing program f)
     completion_stepped =
         completion-main program w 0 f alone plain.1 ∙ at_agrees (instruction_of program f) refl
-        ∙ ap (stepped program w h f) (sym (step_stands program f))
+        ∙ ap (stepped program w 0 h f) (sym (step_stands program f))
 
     pub print_stepped : print_of program w 0 ≡ printed_by f (standing program f).operation
     print_stepped = ap prints completion_stepped ∙ operated_prints (site (standing program f).next) h (standing program f).operation

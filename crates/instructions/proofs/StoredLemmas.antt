@@ -1,5 +1,5 @@
 -- Objects keep all words of their classes: as they are made, written and freed.
-use Rattle.std.proofs.Common.{ℕ, zero, suc, List, [], ◌∷◌, set, slice_get, Option, Some, None, ◌∙◌, length-set}
+use Rattle.std.proofs.Common.{◌≡◌, ℕ, zero, suc, List, [], ◌∷◌, set, slice_get, Option, Some, None, ◌∙◌, length-set, refl}
 use Rattle.std.specs.Prelude.{◌+◌, replicate}
 use Rattle.std.specs.Option.{option_map}
 use Rattle.std.proofs.lemmas.List.{length-map}
@@ -15,6 +15,15 @@ use Rattle.instructions.specs.declared.kinds.Kind.{Kind}
 use Rattle.instructions.specs.declared.kinds.Kind.TheVariants.{Instance, Array}
 use Rattle.instructions.specs.ByNumbers.{AreStored, HoldsStored, IsStored}
 use Rattle.instructions.specs.Heaps.{HeapValue, cleared, created, exception_kind, made, memory_error_kind, opening_stored}
+
+-- a new object leaves the heap its shape
+pub created-shape : (h : HeapValue) (kind : Kind) (words : List Value) (o : Option (ℕ × Account)) → (created h kind words o).shape ≡ h.shape
+created-shape h kind words None = refl
+created-shape h kind words (Some taken) = refl
+
+pub created-classes : (h : HeapValue) (kind : Kind) (words : List Value) (o : Option (ℕ × Account)) → (created h kind words o).classes ≡ h.classes
+created-classes h kind words None = refl
+created-classes h kind words (Some taken) = refl
 
 module _ (program : List ClassListing) where
   -- a new object of a class has its words
@@ -38,7 +47,7 @@ module _ (program : List ClassListing) where
   word-stored : (kind : Kind) (words : List Value) (index : ℕ) (v : Value) → IsStored program kind words
       → IsStored program kind (set words index v)
   word-stored (Instance class) words index v fits = length-set words index v ∙ fits
-  word-stored (Array type) words index v fits = tt
+  word-stored (Array type) words index v fits = fits
 
   -- a word is written
   pub written-stored : (o : Option (StoredObject Kind)) (index : ℕ) (v : Value) → HoldsStored program o

@@ -1,5 +1,5 @@
 -- A turn on the parts of the state is the turn of the machine on cells.
-use Rattle.std.proofs.Common.{◌≡◌, ◌<◌, ◌≤◌, ◌+◌, ℕ, zero, suc, List, [], ◌∷◌, length, Option, Some, None, IfSome, Result, Ok, Err, Bool, true, false, refl, ap, sym, ◌∙◌, arith, subst}
+use Rattle.std.proofs.Common.{◌≡◌, ◌<◌, ◌≤◌, ◌+◌, ℕ, zero, suc, List, [], ◌∷◌, length, Option, Some, None, IfSome, Result, Ok, Err, true, refl, ap, sym, ◌∙◌, arith, subst}
 use Rattle.std.specs.Prelude.{vec_capacity, slice_get}
 use Rattle.model.specs.declared.journals.Outcome.{Outcome}
 use Rattle.model.specs.declared.journals.Outcome.TheVariants.{Fault as FaultOutcome}
@@ -8,20 +8,20 @@ use Rattle.model.specs.declared.turns.Fault.{Fault}
 use Rattle.model.specs.Completions.{Completion}
 use Rattle.model.specs.Frames.{Frame, running_frame}
 use Rattle.model.specs.Table.Next.{completion}
-use Rattle.model.specs.Turns.{refusal, print_of}
+use Rattle.model.specs.Turns.{refusal}
 use Rattle.model.specs.Worlds.{lives}
-use Rattle.join.specs.TurnsOnCells.{CellMachine, counted_on, faulted_on, outcome_on, turned_on}
+use Rattle.join.specs.TurnsOnCells.{CellMachine, counted_on, outcome_on, turned_on}
 use Rattle.instructions.specs.declared.acting.Turned.{Turned}
 use Rattle.instructions.specs.declared.kinds.Course.{Course}
 use Rattle.instructions.specs.declared.kinds.Course.TheVariants.{Live, Returned, Threw}
 use Rattle.instructions.specs.declared.machines.Machine.{Machine}
 use Rattle.instructions.specs.declared.state.State.TheInside.{Inside}
-use Rattle.instructions.specs.Acting.{HasRoomFor, Stays, Turns, operated, printed_by, shown, site_of, standing, stepped, told, turned}
-use Rattle.instructions.specs.Loaded.{IsSound, Loaded, RunsMain, RunsMainUnlessEnded, after_collection, after_step, machine_shown}
+use Rattle.instructions.specs.Acting.{HasRoomFor, Scene, Stays, Turns, operated, printed_by, shown, site_of, standing, stepped, told, turned}
+use Rattle.instructions.specs.Loaded.{IsSound, Loaded, RunsMain, RunsMainUnlessEnded, after_collection, after_step, machine_shown, state_shown}
 use Rattle.instructions.specs.Heaps.{collected}
 use Rattle.instructions.specs.Shown.{thread_shown}
 use Rattle.instructions.proofs.Refusing.{allowed}
-use Rattle.instructions.proofs.Running.{RunThreads, operated_runs, runs_shown, turned_births}
+use Rattle.instructions.proofs.Running.{Going, RunThreads, operated_runs, runs_shown, turned_births}
 use Rattle.instructions.proofs.ShownLemmas.{collected_shown as collected_on_shown}
 use Rattle.instructions.proofs.Stepping.{IsKept, completion_stepped}
 use Rattle.instructions.proofs.Waiting.{now, told_in}
@@ -37,11 +37,11 @@ first_lives a (Threw kind) zero e = cc
 first_lives a (Threw kind) (suc t) e = cc
 
 abbrev pub Sound : Inside → Type 0
-Sound a = IsSound a.program a.limits a.course a.machine.frames a.machine.slots.items a.states.items a.machine.heap a.rows (vec_capacity a.machine.output)
+Sound a = IsSound a.program a.limits a.course a.machine a.rows
 
 -- what contracts see of the state
 abbrev pub loaded : Inside → Loaded
-loaded a = record { program = a.program; limits = a.limits; shape = a.machine.heap.shape; machine = machine_shown a.program a.course a.machine.frames a.machine.slots.items a.states.items a.machine.heap a.machine.output.items a.fault a.rows }
+loaded a = record { program = a.program; limits = a.limits; shape = a.machine.heap.shape; machine = state_shown a.program a.machine a.course a.fault a.rows }
 
 -- the step at which the thread stands
 abbrev pub step_here : Inside → Frame
@@ -80,9 +80,13 @@ going a t sound e =
     }
 
 module _ (a : Inside) (t : ℕ) (sound : Sound a) (g : IsGoing a t) where
+  -- there is no other thread
+  abbrev alone : Scene
+  alone = record { before = []; after = []; rows = a.rows }
+
   -- the machine on cells before the turn
   abbrev before : CellMachine
-  before = shown a.program a.states.items a.rows a.machine Live
+  before = shown a.program alone a.machine Live
 
   abbrev comes_to : Completion
   comes_to = completion a.program before.world 0
@@ -98,10 +102,10 @@ module _ (a : Inside) (t : ℕ) (sound : Sound a) (g : IsGoing a t) where
     initialised = sound.initialised;
   }
 
-  steps : comes_to ≡ stepped a.program before.world a.machine.heap (step_here a) (standing a.program (step_here a))
+  steps : comes_to ≡ stepped a.program before.world 0 a.machine.heap (step_here a) (standing a.program (step_here a))
   steps =
       completion_stepped a.program before.world a.machine.heap g.main.frame sound.served g.main.main_is g.main.plain g.main.alone kept
-      ∙ ap (λ frames. stepped a.program before.world a.machine.heap (running_frame frames) (standing a.program (running_frame frames))) (sym g.main.alone)
+      ∙ ap (λ frames. stepped a.program before.world 0 a.machine.heap (running_frame frames) (standing a.program (running_frame frames))) (sym g.main.alone)
 
   abbrev seen : CellMachine → Loaded
   seen machine = record { program = a.program; limits = a.limits; shape = a.machine.heap.shape; machine = machine }
@@ -109,27 +113,29 @@ module _ (a : Inside) (t : ℕ) (sound : Sound a) (g : IsGoing a t) where
   after_is : after_step (loaded a) t ≡ seen (counted_on (turned_on a.program before 0 comes_to))
   after_is = rw (g.lives, g.first, g.faultless) refl
 
-  outcome_is : outcome_on a.program (loaded a).machine (Thread t) ≡ (turned a.program before comes_to).1
+  outcome_is : outcome_on a.program (loaded a).machine (Thread t) ≡ (turned a.program before 0 comes_to).1
   outcome_is = rw (g.lives, g.first, g.faultless) refl
 
   abbrev HasTurned : Machine → Result Turned Fault → Type 0
-  HasTurned m result = Turns a.program a.machine m result (λ w. stepped a.program w a.machine.heap (step_here a) (standing a.program (step_here a)))
+  HasTurned m result = Turns a.program a.machine m result (λ w. stepped a.program w a.machine.thread a.machine.heap (step_here a) (standing a.program (step_here a)))
 
-  told_is : (m : Machine) (result : Result Turned Fault) → HasTurned m result → told before (shown a.program a.states.items a.rows m) result ≡ turned a.program before comes_to
-  told_is m result has = has a.states.items a.rows ∙ sym (ap (turned a.program before) steps)
+  told_is : (m : Machine) (result : Result Turned Fault) → HasTurned m result → told before 0 (shown a.program alone m) result ≡ turned a.program before 0 comes_to
+  told_is m result has =
+      subst (λ n. told before n (shown a.program alone m) result ≡ turned a.program before n (stepped a.program before.world n a.machine.heap (step_here a) (standing a.program (step_here a)))) sound.first
+      (has alone (sym sound.first)) ∙ sym (ap (turned a.program before 0) steps)
 
-  runs : RunThreads a.program (turned_on a.program before 0 comes_to).world.threads
+  runs : Going a.program before (turned_on a.program before 0 comes_to).world
   runs =
       let step = standing a.program (step_here a) in
       let here : step_here a ≡ g.main.frame = ap running_frame g.main.alone in
-      subst (λ c. RunThreads a.program (turned_on a.program before 0 c).world.threads) (sym steps)
-      (subst (λ f. RunThreads a.program (turned_on a.program before 0 (operated (site_of a.program before.world f step.next) a.machine.heap step.operation)).world.threads) (sym here)
+      subst (λ c. Going a.program before (turned_on a.program before 0 c).world) (sym steps)
+      (subst (λ f. Going a.program before (turned_on a.program before 0 (operated (site_of a.program before.world 0 f step.next) a.machine.heap step.operation)).world) (sym here)
       (operated_runs a.program g.main.frame sound.served g.main.main_is g.main.plain before (rw g.main.alone refl) refl step.next a.machine.heap step.operation))
 
   -- ---- a turn that is done
 
   module _ (m : Machine) (done : Turned) (has : HasTurned m (Ok done)) (shape : m.heap.shape ≡ a.machine.heap.shape) where
-    pub done_shown : record { program = a.program; limits = a.limits; shape = m.heap.shape; machine = machine_shown a.program done.course m.frames m.slots.items a.states.items m.heap m.output.items a.fault (a.rows + 1) } ≡ after_step (loaded a) t
+    pub done_shown : record { program = a.program; limits = a.limits; shape = m.heap.shape; machine = state_shown a.program m done.course a.fault (a.rows + 1) } ≡ after_step (loaded a) t
     done_shown =
         rw (shape, g.faultless) (ap (λ (x : CellMachine × Outcome). seen (counted_on x.0)) (told_is m (Ok done) has))
         ∙ sym after_is
@@ -140,7 +146,10 @@ module _ (a : Inside) (t : ℕ) (sound : Sound a) (g : IsGoing a t) where
     pub done_runs : RunsMainUnlessEnded a.program done.course m.frames
     done_runs =
         runs_shown a.program done.course m.frames
-        (subst (λ (x : CellMachine × Outcome). RunThreads a.program x.0.world.threads) (sym (told_is m (Ok done) has)) runs)
+        (subst (λ (x : CellMachine × Outcome). RunThreads a.program x.0.world.threads) (sym (told_is m (Ok done) has)) runs.0)
+
+    pub done_states : m.states.items ≡ a.machine.states.items
+    done_states = subst (λ (x : CellMachine × Outcome). x.0.world.statics.states ≡ a.machine.states.items) (sym (told_is m (Ok done) has)) runs.1
 
     pub done_births : m.heap.births ≤ a.machine.heap.births + 1
     done_births =
@@ -150,9 +159,9 @@ module _ (a : Inside) (t : ℕ) (sound : Sound a) (g : IsGoing a t) where
   -- ---- a turn at fault
 
   module _ (m : Machine) (fault : Fault) (has : HasTurned m (Err fault)) (stays : Stays a.machine m) where
-    pub fault_shown : record { program = a.program; limits = a.limits; shape = m.heap.shape; machine = machine_shown a.program a.course m.frames m.slots.items a.states.items m.heap m.output.items (Some (fault, t)) (a.rows + 1) } ≡ after_step (loaded a) t
+    pub fault_shown : record { program = a.program; limits = a.limits; shape = m.heap.shape; machine = state_shown a.program m a.course (Some (fault, t)) (a.rows + 1) } ≡ after_step (loaded a) t
     fault_shown =
-        rw (stays.0, stays.1, stays.2, stays.3, g.lives, g.first)
+        rw (stays.frames, stays.slots, stays.states, stays.heap, stays.output, g.lives, g.first)
         (ap (λ (x : CellMachine × Outcome). seen (counted_on x.0)) (told_is m (Err fault) has))
         ∙ sym after_is
 
@@ -161,7 +170,7 @@ module _ (a : Inside) (t : ℕ) (sound : Sound a) (g : IsGoing a t) where
 
 -- ---- a turn of the collector
 
-pub collected_shown : (a : Inside) → record { program = a.program; limits = a.limits; shape = a.machine.heap.shape; machine = machine_shown a.program a.course a.machine.frames a.machine.slots.items a.states.items (collected a.program a.course a.machine.frames a.machine.slots.items a.machine.heap) a.machine.output.items a.fault (a.rows + 1) } ≡ after_collection (loaded a)
+pub collected_shown : (a : Inside) → record { program = a.program; limits = a.limits; shape = a.machine.heap.shape; machine = machine_shown a.program (thread_shown a.program a.course a.machine.frames ∷ []) a.machine.slots.items a.machine.states.items (collected a.program a.course a.machine.frames a.machine.slots.items a.machine.heap) a.machine.output.items a.fault (a.rows + 1) } ≡ after_collection (loaded a)
 collected_shown a =
     ap (λ (x : CellMachine). let s : Loaded = record { program = a.program; limits = a.limits; shape = a.machine.heap.shape; machine = counted_on x } in s)
-    (sym (collected_on_shown a.program a.course a.machine.frames a.machine.slots.items a.states.items a.machine.output.items a.fault a.rows a.machine.heap))
+    (sym (collected_on_shown a.program a.course a.machine.frames a.machine.slots.items a.machine.states.items a.machine.output.items a.fault a.rows a.machine.heap))

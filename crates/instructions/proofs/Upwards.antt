@@ -234,7 +234,8 @@ module _ (program : List ClassListing) (hierarchy : IsHierarchy program)
           (inl refl)))
           (rest c.superclass (omega (arith, less, few)) (present name c e))
 
-  nameless : listed program [] ≡ None
+  -- no class is without a name
+  pub nameless : listed program [] ≡ None
   unfolding is_on_cycle
   nameless = by (listed program []) refl
     where

@@ -1,6 +1,6 @@
 -- No thread of a state waits: it has ended, or runs main, all of whose code is carried out.
-use Rattle.std.proofs.Common.{◌≡◌, ℕ, zero, suc, List, [], ◌∷◌, Option, Some, None, Bool, true, false, is_none, refl, ap, sym, ◌∙◌, ◌+◌, subst}
-use Rattle.std.specs.Prelude.{◌&&◌, ◌||◌, ◌++◌, drop, take, length, nat_lt, not, is_some, vec_capacity}
+use Rattle.std.proofs.Common.{◌≡◌, ℕ, zero, suc, List, [], ◌∷◌, Option, Some, None, Bool, true, false, is_none, refl, ap, sym, ◌∙◌, ◌+◌}
+use Rattle.std.specs.Prelude.{◌&&◌, ◌||◌, ◌++◌, drop, take, length, nat_lt, not, is_some}
 use Rattle.std.specs.List.{find}
 use Rattle.std.specs.Option.{option_map}
 use Rattle.model.specs.declared.turns.Status.TheVariants.{Running}
@@ -17,7 +17,7 @@ use Rattle.instructions.specs.declared.kinds.Course.{Course}
 use Rattle.instructions.specs.declared.kinds.Course.TheVariants.{Live, Returned, Threw}
 use Rattle.instructions.specs.declared.state.State.TheInside.{Inside}
 use Rattle.instructions.specs.Acting.{printed_by, standing}
-use Rattle.instructions.specs.Loaded.{IsSound, RunsMainUnlessEnded, world_shown}
+use Rattle.instructions.specs.Loaded.{IsSound, RunsMainUnlessEnded, state_shown}
 use Rattle.instructions.proofs.Stepping.{IsKept, never_waits, print_stepped}
 
 -- a thread that is ready lives
@@ -84,12 +84,12 @@ passes-length limit output (Some line) = refl
 module _ (a : Inside) where
   -- the world that the state shows, the thread being in some course
   abbrev pub in_course : Course → World
-  in_course course = world_shown a.program course a.machine.frames a.machine.slots.items a.states.items a.machine.heap.objects a.machine.output.items a.fault a.rows
+  in_course course = (state_shown a.program a.machine course a.fault a.rows).world
 
   abbrev pub now : World
   now = in_course a.course
 
-  module _ (sound : IsSound a.program a.limits a.course a.machine.frames a.machine.slots.items a.states.items a.machine.heap a.rows (vec_capacity a.machine.output)) where
+  module _ (sound : IsSound a.program a.limits a.course a.machine a.rows) where
     -- the world is one that the code keeps by numbers
     pub kept : (course : Course) → IsKept a.program (in_course course) a.machine.heap
     kept course = record {

@@ -25,6 +25,8 @@ pub record HeapValue : Type 0 where
   pub account : Account
   pub objects : List (Option (StoredObject Kind))
   pub births : ℕ
+  -- how many classes the program has, behind which the machine's own are numbered
+  pub classes : ℕ
 
 -- ---- the machine's own classes by their numbers, which stand behind those of the program
 
@@ -68,6 +70,7 @@ opening_heap program shape = record {
   account = opening_account shape;
   objects = opening_stored program shape;
   births = 3;
+  classes = length program;
 }
 
 -- the object of a reference; 0 is nobody's

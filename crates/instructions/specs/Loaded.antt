@@ -1,4 +1,4 @@
-use Rattle.std.specs.Prelude.{◌≡◌, ◌<◌, ◌≤◌, ◌+◌, ◌^◌, ℕ, List, [], ◌∷◌, length, replicate, Option, Some, None}
+use Rattle.std.specs.Prelude.{◌≡◌, ◌<◌, ◌≤◌, ◌+◌, ◌^◌, ℕ, List, [], ◌∷◌, length, replicate, vec_capacity, Option, Some, None}
 use Rattle.model.specs.declared.journals.HeapShape.{HeapShape}
 use Rattle.model.specs.declared.journals.Limits.{Limits}
 use Rattle.model.specs.declared.turns.ClassState.{ClassState}
@@ -11,13 +11,13 @@ use Rattle.model.specs.Frames.{Frame, IsPlain}
 use Rattle.model.specs.Programs.{main_in}
 use Rattle.model.specs.Served.{ServedProgram}
 use Rattle.model.specs.Table.Next.{completion}
-use Rattle.model.specs.Worlds.{World, opening_slots}
+use Rattle.model.specs.Worlds.{Thread, World, opening_slots}
 use Rattle.cells.specs.Objects.{StoredObject}
 use Rattle.join.specs.TurnsOnCells.{CellMachine, collected_on, counted_on, opening_on, turned_on}
 use Rattle.instructions.specs.declared.kinds.Course.{Course}
 use Rattle.instructions.specs.declared.kinds.Course.TheVariants.{Live, Returned, Threw}
 use Rattle.instructions.specs.declared.kinds.Kind.{Kind}
-use Rattle.instructions.specs.ByNumbers.{AreStored}
+use Rattle.instructions.specs.declared.machines.Machine.{Machine}
 use Rattle.instructions.specs.ByNumbers.{AreStored}
 use Rattle.instructions.specs.Heaps.{HeapValue}
 use Rattle.instructions.specs.Shown.{keyed, objects_shown, thread_shown}
@@ -41,11 +41,11 @@ after_step s t = record s { machine = counted_on (turned_on s.program s.machine 
 abbrev pub after_collection : Loaded → Loaded
 after_collection s = record s { machine = counted_on (collected_on s.shape s.machine) }
 
--- ---- how the parts of the state show a machine on cells: there is one thread
+-- ---- how the parts of the state show a machine on cells
 
-abbrev pub world_shown : List ClassListing → Course → List Frame → List Value → List ClassState → List (Option (StoredObject Kind)) → List ℕ → Option (Fault × ℕ) → ℕ → World
-world_shown program course frames slots states objects output fault rows = record {
-  threads = thread_shown program course frames ∷ [];
+abbrev pub world_shown : List ClassListing → List Thread → List Value → List ClassState → List (Option (StoredObject Kind)) → List ℕ → Option (Fault × ℕ) → ℕ → World
+world_shown program threads slots states objects output fault rows = record {
+  threads = threads;
   statics = record { fields = keyed (opening_slots program) slots; states = states };
   output = output;
   objects = objects_shown program objects;
@@ -53,12 +53,17 @@ world_shown program course frames slots states objects output fault rows = recor
   rows = rows;
 }
 
-abbrev pub machine_shown : List ClassListing → Course → List Frame → List Value → List ClassState → HeapValue → List ℕ → Option (Fault × ℕ) → ℕ → CellMachine
-machine_shown program course frames slots states heap output fault rows = record {
-  world = world_shown program course frames slots states heap.objects output fault rows;
+abbrev pub machine_shown : List ClassListing → List Thread → List Value → List ClassState → HeapValue → List ℕ → Option (Fault × ℕ) → ℕ → CellMachine
+machine_shown program threads slots states heap output fault rows = record {
+  world = world_shown program threads slots states heap.objects output fault rows;
   account = heap.account;
   births = heap.births;
 }
+
+-- the parts of a state whose one thread is in some course
+abbrev pub state_shown : List ClassListing → Machine → Course → Option (Fault × ℕ) → ℕ → CellMachine
+state_shown program m course fault rows =
+    machine_shown program (thread_shown program course m.frames ∷ []) m.slots.items m.states.items m.heap m.output.items fault rows
 
 -- the thread runs main alone
 pub record RunsMain (program : List ClassListing) (frames : List Frame) : Type 0 where
@@ -74,14 +79,16 @@ RunsMainUnlessEnded program (Threw kind) frames = Unit {0}
 
 -- what holds of the parts: the machine carries out all code of the program, the thread runs its main or has ended, objects
 -- have all words of their classes, and a turn makes one birth at most
-pub record IsSound (program : List ClassListing) (limits : Limits) (course : Course) (frames : List Frame) (slots : List Value) (states : List ClassState) (heap : HeapValue) (rows capacity : ℕ) : Type 0 where
+pub record IsSound (program : List ClassListing) (limits : Limits) (course : Course) (m : Machine) (rows : ℕ) : Type 0 where
   pub served : ServedProgram program
   pub accepted : refusal_of program ≡ None
-  pub room : limits.output ≤ capacity
+  pub room : limits.output ≤ vec_capacity m.output
   pub steps : limits.steps ≤ 16777215
-  pub main : RunsMainUnlessEnded program course frames
-  pub initialised : states ≡ replicate (length program) Done
-  pub few_slots : length slots < 2 ^ 32
-  pub slots_are : length slots ≡ length (opening_slots program)
-  pub stored : AreStored program heap.objects
-  pub births : heap.births ≤ rows + 3
+  pub first : m.thread ≡ 0
+  pub main : RunsMainUnlessEnded program course m.frames
+  pub initialised : m.states.items ≡ replicate (length program) Done
+  pub few_slots : length m.slots.items < 2 ^ 32
+  pub slots_are : length m.slots.items ≡ length (opening_slots program)
+  pub classes : m.heap.classes ≡ length program
+  pub stored : AreStored program m.heap.objects
+  pub births : m.heap.births ≤ rows + 3

@@ -1,5 +1,5 @@
 //! The heap: objects in cells, and the account of the cells.
-ghost use Rattle.std.specs.Prelude.{[], ◌≡◌, ◌+◌, ◌<◌, ◌≤◌, ◌^◌, length, slice_get, IfOk};
+ghost use Rattle.std.specs.Prelude.{[], ◌≡◌, ◌+◌, ◌<◌, ◌^◌, length, slice_get, IfOk, IfSome, Some};
 ghost use Rattle.model.specs.Accounts.{has_room, take_cell};
 ghost use Rattle.std.specs.Option.{option_map};
 ghost use Rattle.model.specs.Limits.{ShapeFits};
@@ -7,9 +7,13 @@ ghost use Rattle.model.specs.Observers.{cell_view};
 ghost use Rattle.model.specs.Room.{words_of_cell};
 ghost use Rattle.join.specs.ReadBack.{birth_read};
 ghost use Rattle.instructions.specs.ByNumbers.{AreStored, IsStored};
+ghost use Rattle.instructions.specs.HeapsAgree.{HoldsErrors, own_kind};
 ghost use Rattle.instructions.specs.Heaps.{all_shaded, collected, created, exception_kind, exception_place, kind_held, memory_error_kind, own_class, opening_heap, reference_taken, shaded, words_held, written};
 
+mod entering;
+mod filling;
 mod looking;
+mod monitoring;
 #[cfg(test)]
 mod tests;
 
@@ -17,6 +21,7 @@ use crate::kinds::{Course, Kind};
 use cells::Cells;
 use collector::collect_step;
 use colours::accounts::Account;
+pub(crate) use entering::is_full;
 use frames::Frames;
 use loader::programs::Program;
 use looking::Looked;
@@ -37,18 +42,19 @@ pub(crate) struct Heap {
     account: Account,
     cells: Cells<Kind>,
     births: u32,
+    classes: u16,
 }
 
 impl Model for Heap {
     ghost use Rattle.instructions.specs.ByNumbers.{AreStored, IsStored};
     ghost use Rattle.instructions.specs.Heaps.{HeapValue};
-    ghost use Rattle.instructions.specs.HeapsAgree.{Agree};
+    ghost use Rattle.instructions.specs.HeapsAgree.{IsHeap};
 
     ghost Value = { HeapValue };
 
-    ghost view = { λ a. record { shape = a.cells.shape; account = a.account; objects = a.cells.objects; births = a.births } };
+    ghost view = { λ a. record { shape = a.cells.shape; account = a.account; objects = a.cells.objects; births = a.births; classes = a.classes } };
 
-    ghost invariant = { λ a. Agree a.cells.shape a.account a.cells.objects };
+    ghost invariant = { λ a. IsHeap a.cells.shape a.account a.cells.objects a.births a.classes };
 }
 
 impl Heap {
@@ -71,6 +77,7 @@ impl Heap {
             account,
             cells,
             births: 3,
+            classes: program.listings().len() as u16,
         })
     }
 
@@ -92,9 +99,10 @@ impl Heap {
         }
     }
 
-    /// Whether a free cell has so many words.
+    /// Whether a free cell has so many words; the cell that is taken then is one of the heap's.
     pub(crate) fn has_room(&self, words: u32) -> bool
-        ensures { result ≡ has_room self.now.account words }
+        ensures room { result ≡ has_room self.now.account words }
+        ensures there { IfSome (take_cell self.now.account words) (λ taken. taken.0 < length self.now.objects) }
     {
         self.account.has_room(words)
     }
@@ -120,6 +128,24 @@ impl Heap {
         ensures { result ≡ kind_held self.now reference }
     {
         self.cells.kind(reference.checked_sub(1)?)
+    }
+
+    /// What birth 1 is of, OutOfMemoryError.
+    pub(crate) fn memory_error(&self) -> Kind
+        requires { HoldsErrors self.now.account }
+        ensures held { kind_held self.now 1 ≡ Some result }
+        ensures kind { result ≡ own_kind self.now.classes 16 }
+    {
+        Kind::Instance(self.classes + 16)
+    }
+
+    /// What birth 2 is of, StackOverflowError.
+    pub(crate) fn stack_error(&self) -> Kind
+        requires { HoldsErrors self.now.account }
+        ensures held { kind_held self.now 2 ≡ Some result }
+        ensures kind { result ≡ own_kind self.now.classes 17 }
+    {
+        Kind::Instance(self.classes + 17)
     }
 
     /// A word of the object of a reference. `None` past its last word, and where there is no object.

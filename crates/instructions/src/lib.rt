@@ -2,16 +2,32 @@
 #![tactic(auto)]
 
 mod acting;
+mod arrays;
+mod calls;
+mod casts;
+mod claims;
+mod exchanges;
 mod fields;
 mod heaps;
+mod initialising;
+mod invoking;
 pub mod kinds;
+mod landing;
+mod leaving;
 mod machines;
+mod methods;
 mod names;
 mod objects;
+mod opening;
+mod own_prints;
 mod printing;
 mod pushes;
+mod returns;
 pub mod state;
 mod statics;
 #[cfg(test)]
 mod tests;
 mod throwing;
+mod type_operations;
+mod types;
+mod unwinding;

@@ -4,13 +4,17 @@ use crate::heaps::Heap;
 use crate::kinds::Course;
 use frames::Frames;
 use loader::programs::Program;
+use model::turns::ClassState;
 use model::values::Value;
 
-/// What a turn of the thread reads and changes: its frames, the static fields, the heap and the output.
+/// What a turn of a thread reads and changes: the thread's number and frames, the static fields, the states of the classes,
+/// the heap and the output.
 #[derive(Drop)]
 pub(crate) struct Machine {
+    pub(crate) thread: u8,
     pub(crate) frames: Frames,
     pub(crate) slots: Vec<Value>,
+    pub(crate) states: Vec<ClassState>,
     pub(crate) heap: Heap,
     pub(crate) output: Vec<u8>,
 }
@@ -23,13 +27,17 @@ impl Machine {
     pub(crate) fn collect(&mut self, program: &Program, course: Course)
         requires { length self.old.slots.items < 2 ^ 32 }
         ensures heap { self.new.heap ≡ collected program.now course self.old.frames self.old.slots.items self.old.heap }
+        ensures thread { self.new.thread ≡ self.old.thread }
         ensures frames { self.new.frames ≡ self.old.frames }
         ensures slots { self.new.slots ≡ self.old.slots }
+        ensures states { self.new.states ≡ self.old.states }
         ensures output { self.new.output ≡ self.old.output }
     {
         let Machine {
+            thread: _,
             frames,
             slots,
+            states: _,
             heap,
             output: _,
         } = self;

@@ -78,14 +78,14 @@ fn a_new_state_is_told(rt: HostRuntime) -> Result<(), Fail> {
 #[test]
 fn both_actors_have_a_turn(rt: HostRuntime) -> Result<(), Fail> {
     let mut state = State::new(rt.alloc(), empty_main(rt.alloc())?, TWO_CELLS, LIMITS)?;
-    if state.refusal(Actor::Collector).is_none() {
-        state.collect();
-    }
-    assert!(rt; state.phase() == Phase::Statics { slot: 0 });
     if state.refusal(Actor::Thread(0)).is_none() {
         let outcome = state.step(0);
         assert!(rt; outcome == Outcome::Done);
     }
+    if state.refusal(Actor::Collector).is_none() {
+        state.collect();
+    }
+    assert!(rt; state.phase() == Phase::Statics { slot: 0 });
     assert_eq!(rt; state.rows(), 2);
     assert_eq!(rt; state.refusal(Actor::Collector), Some(Turn::StepLimit));
     assert_eq!(rt; state.fault(), None);

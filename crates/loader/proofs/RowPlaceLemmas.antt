@@ -87,13 +87,13 @@ not-any p (y ∷ ys) (suc k) x e at = not-any p ys k x (or-right (p y) (list_any
 
 -- ---- the place of a row's method
 
-class-place : (program : List ClassListing) (k : ℕ) (c : ClassListing) → find (is_class_twice program) program ≡ None → slice_get program k ≡ Some c
+pub class-place : (program : List ClassListing) (k : ℕ) (c : ClassListing) → find (is_class_twice program) program ≡ None → slice_get program k ≡ Some c
     → position (is_named c.name) program ≡ Some k
 unfolding is_class_twice
 class-place program k c once at =
     place-once (is_named c.name) program k c at ((bytes_eq-Decides c.name c.name).1 refl) (none-passes (is_class_twice program) program k c once at)
 
-method-place : (program : List ClassListing) (k n : ℕ) (c : ClassListing) (m : Method) → find has_member_twice program ≡ None → slice_get program k ≡ Some c
+pub method-place : (program : List ClassListing) (k n : ℕ) (c : ClassListing) (m : Method) → find has_member_twice program ≡ None → slice_get program k ≡ Some c
     → slice_get c.methods n ≡ Some m → position (is_method m.name m.descriptor) c.methods ≡ Some n
 unfolding has_member_twice
 method-place program k n c m once at here =

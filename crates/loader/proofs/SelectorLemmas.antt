@@ -2,6 +2,7 @@
 use Rattle.std.proofs.Common.{◌≡◌, ℕ, ◌+◌, List, [], ◌∷◌, ◌++◌, map, length, nat_lt, position, Bool, true, false, cond, not, ◌||◌, if◌then◌else◌, Some, None, Bor, refl, ap, sym, ◌∙◌}
 use Rattle.std.proofs.lemmas.List.{length-map, map-append}
 use Rattle.std.specs.List.{list_any, position_or_len, prefix_len}
+use Rattle.model.specs.Signatures.{argument_kinds}
 use Rattle.loader.specs.Selectors.{Signature, is_signature, with_signature}
 
 abbrev pub Key : Type 0
@@ -33,3 +34,9 @@ pub place-map : (test : Signature → Bool) (ks : List Key) → position (λ k. 
 place-map test ks =
     ap (λ n. cond (nat_lt n (length ks)) (Some n) None) (prefix-map (λ s. not (test s)) ks)
     ∙ ap (λ n. cond (nat_lt (position_or_len test (map signature ks)) n) (Some (position_or_len test (map signature ks))) None) (sym (length-map ks signature))
+
+-- the kinds of the arguments of each
+pub kinds-map : (ks : List Key)
+    → map (λ (k : Key). argument_kinds k.1.now) ks ≡ map (λ (s : Signature). argument_kinds s.1) (map signature ks)
+kinds-map [] = refl
+kinds-map (k ∷ ks) = ap (λ kinds. argument_kinds k.1.now ∷ kinds) (kinds-map ks)

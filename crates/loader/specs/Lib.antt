@@ -15,6 +15,7 @@ pub mod Repeats
 pub mod ResolvedOperations
 pub mod SelectionTables
 pub mod Selections
+pub mod SelectorArguments
 pub mod Selectors
 pub mod StaticSlots
 pub mod StepLists

@@ -34,6 +34,7 @@ pub mod selection;
 pub mod selection_rows;
 #[cfg(test)]
 mod selection_tests;
+pub mod selector_arguments;
 pub mod selectors;
 mod served;
 pub mod static_slots;

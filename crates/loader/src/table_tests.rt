@@ -136,6 +136,7 @@ fn methods_by_place(rt: HostRuntime) -> Result<(), Fail> {
     };
     let f = tables.method(f).ok_or("no f")?;
     assert_eq!(rt; f.flags().bits(), 9);
+    assert!(rt; !f.is_initializer());
     assert_eq!(rt; f.arguments().len(), 3);
     assert!(rt; f.result() == Some(Kind::Long));
     assert_eq!(rt; f.rows().len(), 3);

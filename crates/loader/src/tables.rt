@@ -6,6 +6,7 @@ use crate::class_tables::ClassTables;
 use crate::initializers::Initializers;
 use crate::method_tables::MethodTables;
 use crate::selection::Selection;
+use crate::selector_arguments::SelectorArguments;
 use crate::static_slots::StaticSlots;
 use resolve::classes::Classes;
 use std::alloc::{AllocError, Global};
@@ -18,6 +19,7 @@ pub struct Tables {
     pub methods: MethodTables,
     pub initializers: Initializers,
     pub selection: Selection,
+    pub arguments: SelectorArguments,
 }
 
 impl Tables {
@@ -31,6 +33,7 @@ impl Tables {
             methods: MethodTables::new(alloc, classes)?,
             initializers: Initializers::new(alloc, classes)?,
             selection: Selection::new(alloc, classes)?,
+            arguments: SelectorArguments::new(alloc, classes)?,
         })
     }
 }

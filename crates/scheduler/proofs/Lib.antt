@@ -1,4 +1,5 @@
-pub mod JournalReading
+pub mod ErrorCells
+mod JournalReading
 pub mod Noting
 pub mod Workers
 pub mod RowLines

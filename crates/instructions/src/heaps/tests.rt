@@ -4,6 +4,7 @@
 use super::{Heap, exception_kind};
 use crate::kinds::{Course, Kind};
 use crate::tests::empty_main;
+use cells::Monitor;
 use frames::Frames;
 use model::colours::Phase;
 use model::journals::HeapShape;
@@ -39,5 +40,23 @@ fn objects_come_and_go(rt: HostRuntime) -> Result<(), Fail> {
         heap.collect(&program, Course::Live, &frames, words.as_slice());
     }
     assert!(rt; heap.kind(3) == None && heap.kind(1) == Some(Kind::Instance(17)));
+    Ok(())
+}
+
+/// Thread 4 enters the monitor of birth 1, and gives it back; what thread 0 gives back there is not its own.
+#[test]
+fn monitors_are_given_back(rt: HostRuntime) -> Result<(), Fail> {
+    let program = empty_main(rt.alloc())?;
+    let mut heap = Heap::new(rt.alloc(), &program, SHAPE)?;
+    let monitor = Monitor {
+        owner: Some(4),
+        count: 1,
+    };
+    heap.set_monitor(1, monitor);
+    heap.release(0, Some(1));
+    heap.release(4, None);
+    assert_eq!(rt; heap.monitor(1), monitor);
+    heap.release(4, Some(1));
+    assert_eq!(rt; heap.monitor(1), Monitor::free());
     Ok(())
 }

@@ -1,5 +1,5 @@
 //! Threads as plain data, with the birth in its cell in place of each reference.
-ghost use Rattle.std.specs.Prelude.{◌≡◌, IfOk, map, reverse, slice_get};
+ghost use Rattle.std.specs.Prelude.{◌≡◌, IfOk, map, slice_get};
 ghost use Rattle.std.specs.Option.{option_map};
 ghost use Rattle.model.specs.Naming.{named_entry, named_frame, named_ref, named_thread, named_value};
 ghost use Rattle.join.specs.ReadBack.{birth_read};
@@ -91,7 +91,7 @@ impl State {
     pub fn thread(&self, thread: u8) -> Result<Option<ThreadView>, AllocError>
         ensures { IfOk result (λ view. view ≡ option_map (named_thread (birth_read self.now.machine.account.cells)) (slice_get self.now.machine.world.threads thread)) }
     {
-        let alloc = *self.states.allocator();
+        let alloc = *self.machine.states.allocator();
         let state = match (thread, self.course) {
             (0, Course::Live) => {
                 let frames = self.machine.frames.views()?;

@@ -1,25 +1,24 @@
-use Rattle.std.proofs.Common.{◌≡◌, slice_get, Some, None, ap, sym, rules, ◌∙◌}
-use Rattle.model.specs.Frames.{running_frame}
+use Rattle.std.proofs.Common.{slice_get, ap, sym, ◌∙◌}
 use Rattle.instructions.specs.declared.kinds.Course.TheVariants.{Live}
-use Rattle.instructions.specs.Acting.{shown, site_of, turned}
+use Rattle.instructions.specs.Acting.{shown, site_at, turned}
 use Rattle.instructions.specs.ByNumbers.{static_got_if}
 use Rattle.instructions.proofs.ActingLemmas.{fault_told}
 use Rattle.instructions.proofs.PushLemmas.{no_slot, slot_got}
 use Rattle.instructions.proofs.machines.Machine.get_static.Goals as goal
 
 pub returns-in-Some-clause-step : goal.returns-in-Some-clause-step
-returns-in-Some-clause-step c = λ states rows.
+returns-in-Some-clause-step c = λ scene here.
     let m = c.args.self.now in
     let program = c.args.program.now in
-    c.push.ensures.step states rows
-    ∙ sym (ap (turned program (shown program states rows m Live))
-    (slot_got program states rows m c.requires.fit c.args.next c.args.slot c.in-Some.value (sym (c.in-Some.ensures ∙ ap (λ values. slice_get values c.args.slot) c.deref.ensures.value))))
+    c.push.ensures.step scene here
+    ∙ sym (ap (turned program (shown program scene m Live) m.thread)
+    (slot_got program scene m c.requires.ready.fit c.args.next c.args.slot c.in-Some.value (sym (c.in-Some.ensures ∙ ap (λ values. slice_get values c.args.slot) c.deref.ensures.value))))
 
 pub returns-in-None-clause-step : goal.returns-in-None-clause-step
-returns-in-None-clause-step c = λ states rows.
+returns-in-None-clause-step c = λ scene here.
     let m = c.args.self.now in
     let program = c.args.program.now in
-    let x = shown program states rows m Live in
-    fault_told program states rows m m _
-    ∙ sym (ap (λ o. turned program x (static_got_if (site_of program x.world (running_frame m.frames) c.args.next) c.args.slot o))
-    (no_slot program states rows m c.requires.fit c.args.next c.args.slot (sym (c.in-None.ensures ∙ ap (λ values. slice_get values c.args.slot) c.deref.ensures.value))))
+    let x = shown program scene m Live in
+    fault_told program scene m m here _
+    ∙ sym (ap (λ o. turned program x m.thread (static_got_if (site_at program m x.world c.args.next) c.args.slot o))
+    (no_slot program scene m c.requires.ready.fit c.args.next c.args.slot (sym (c.in-None.ensures ∙ ap (λ values. slice_get values c.args.slot) c.deref.ensures.value))))

@@ -8,17 +8,17 @@ use Rattle.instructions.proofs.PushLemmas.{barrier, put_fault_told, put_told}
 use Rattle.instructions.proofs.machines.Machine.put_slot.Goals as goal
 
 pub returns-in-Ok-clause-step : goal.returns-in-Ok-clause-step
-returns-in-Ok-clause-step c = λ states rows.
+returns-in-Ok-clause-step c = λ scene here.
     let m = c.args.self.now in
     let program = c.args.program.now in
     let v = c.in-Ok.value in
     let heap : c.shade.new.self ≡ shaded m.heap (ref_of v) = search rules in
-    rw (c.to.ensures, c.kept.ensures) (put_told program states rows m
-    (record { frames = c.discard.new.self; slots = with_item m.slots c.args.slot (kept (shown_storage c.args.storage) v); heap = c.shade.new.self; output = m.output })
-    c.args.next c.args.slot (shown_storage c.args.storage) v _ (rw c.kind.ensures at c.in-Ok.ensures.value) c.discard.ensures refl refl
+    rw (c.to.ensures, c.kept.ensures) (put_told program scene m
+    (record { thread = m.thread; frames = c.discard.new.self; slots = with_item m.slots c.args.slot (kept (shown_storage c.args.storage) v); states = m.states; heap = c.shade.new.self; output = m.output })
+    here c.args.next c.args.slot (shown_storage c.args.storage) v _ (rw c.kind.ensures at c.in-Ok.ensures.value) c.discard.ensures refl refl refl
     (heap ∙ barrier m.heap v))
 
 pub returns-in-Err-clause-step : goal.returns-in-Err-clause-step
-returns-in-Err-clause-step c = λ states rows.
-    put_fault_told c.args.program.now states rows c.args.self.now c.args.self.now c.args.next c.args.slot
+returns-in-Err-clause-step c = λ scene here.
+    put_fault_told c.args.program.now scene c.args.self.now c.args.self.now here c.args.next c.args.slot
     (shown_storage c.args.storage) c.in-Err.fault _ (rw c.kind.ensures at c.in-Err.ensures.value)

@@ -15,22 +15,24 @@ overflow_add-self c =
 
 pub returns : goal.returns
 returns c =
-    rw (c.collect.ensures.heap, c.collect.ensures.frames, c.collect.ensures.slots, c.collect.ensures.output, ← c.self.view_is)
+    rw (c.collect.ensures.heap, c.collect.ensures.frames, c.collect.ensures.slots, c.collect.ensures.states, c.collect.ensures.output, ← c.self.view_is)
     (collected_shown c.self.inside)
 
 pub invariant_of-self : goal.invariant_of-self
 invariant_of-self c =
     let a = c.self.inside in
     let sound = c.self.invariant in
-    rw (c.collect.ensures.heap, c.collect.ensures.frames, c.collect.ensures.slots, c.collect.ensures.output) (record {
+    rw (c.collect.ensures.heap, c.collect.ensures.thread, c.collect.ensures.frames, c.collect.ensures.slots, c.collect.ensures.states, c.collect.ensures.output) (record {
       served = sound.served;
       accepted = sound.accepted;
       room = sound.room;
       steps = sound.steps;
+      first = sound.first;
       main = sound.main;
       initialised = sound.initialised;
       few_slots = sound.few_slots;
       slots_are = sound.slots_are;
+      classes = sound.classes;
       births = omega (arith, sound.births);
       stored = cleared-stored a.program a.machine.heap.objects (freed_cell a.machine.heap.account a.machine.heap.account.phase) sound.stored;
     })

@@ -1,4 +1,4 @@
-use Rattle.std.proofs.Common.{◌≡◌, Option, Some, None, Bool, false, is_some, refl, rules, sym}
+use Rattle.std.proofs.Common.{◌≡◌, Option, Some, None, false, is_some, refl, rules, sym}
 use Rattle.instructions.specs.declared.kinds.Course.TheVariants.{Live}
 use Rattle.instructions.proofs.Waiting.{is_running}
 use Rattle.instructions.proofs.state.State.status.Goals as goal

@@ -1,6 +1,4 @@
 use Rattle.std.proofs.Common.{◌≡◌, ℕ, List, Option, map, reverse, ap, refl, ◌∙◌}
-use Rattle.model.specs.declared.places.MethodPlace.{MethodPlace}
-use Rattle.model.specs.declared.turns.Mark.{Mark}
 use Rattle.model.specs.declared.values.Entry.{Entry}
 use Rattle.model.specs.declared.values.Value.{Value}
 use Rattle.model.specs.Frames.{Frame}

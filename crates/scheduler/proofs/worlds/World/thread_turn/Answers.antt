@@ -4,11 +4,15 @@ use Rattle.model.specs.declared.journals.Outcome.{Outcome}
 use Rattle.model.specs.Machines.{noted}
 use Rattle.scheduler.specs.Worlds.{recorded}
 use Rattle.model.specs.declared.turns.Actor.TheVariants.{Thread}
+use Rattle.scheduler.proofs.ErrorCells.{errors_stand}
 use Rattle.scheduler.proofs.Noting.{noted_is, outcome_is, refusal_is, row_fits}
 use Rattle.scheduler.proofs.worlds.World.thread_turn.Goals as goal
 
-pub step-outcome-requires : goal.step-outcome-requires
-step-outcome-requires c =
+pub step-outcome-requires-clause-errors : goal.step-outcome-requires-clause-errors
+step-outcome-requires-clause-errors c = errors_stand c.self.inside.state c.self.inside.journal c.self.inside.next c.self.invariant
+
+pub step-outcome-requires-clause-allowed : goal.step-outcome-requires-clause-allowed
+step-outcome-requires-clause-allowed c =
     refusal_is c.self.inside.state c.self.inside.journal c.self.inside.next c.self.invariant (Thread c.args.thread)
     ∙ (rw (← c.self.view_is) at c.requires.allowed)
 

@@ -1,0 +1,60 @@
+use Rattle.std.proofs.Common.{◌≡◌, ◌∙◌, Err, None, Ok, Some, ap, rules, sym}
+use Rattle.model.specs.declared.turns.Fault.TheVariants.{NoMethod}
+use Rattle.model.specs.Frames.{running_frame}
+use Rattle.instructions.specs.declared.kinds.Course.TheVariants.{Live}
+use Rattle.instructions.specs.Acting.{shown, site_at, turned}
+use Rattle.instructions.specs.CallsByNumbers.{called_object, called_special, known_at, object_found, served_call}
+use Rattle.instructions.proofs.ActingLemmas.{fault_told}
+use Rattle.instructions.proofs.InvokeLemmas.{called-found}
+use Rattle.instructions.proofs.machines.Machine.invoke_special.Goals as goal
+
+pub returns-in-None-clause-step : goal.returns-in-None-clause-step
+returns-in-None-clause-step c = λ scene here.
+    let m = c.args.self.now in
+    let program = c.args.program.now in
+    let x = shown program scene m Live in
+    let s = site_at program m x.world c.args.next in
+    let known : known_at program c.args.place ≡ None = search rules in
+    fault_told program scene m m here NoMethod ∙ sym (ap (λ o. turned program x m.thread (called_special (served_call s) s m.heap c.args.class c.args.place o)) known)
+
+pub returns-in-Err-clause-step : goal.returns-in-Err-clause-step
+returns-in-Err-clause-step c = λ scene here.
+    let m = c.args.self.now in
+    let program = c.args.program.now in
+    let x = shown program scene m Live in
+    let s = site_at program m x.world c.args.next in
+    let method = c.in-Some.method.now in
+    let known : known_at program c.args.place ≡ Some method = search rules in
+    let found : object_found method.arguments (running_frame m.frames).stack ≡ Err c.in-Err.fault = search rules in
+    fault_told program scene m m here c.in-Err.fault
+    ∙ ap (λ r. turned program x m.thread (called_object (served_call s) s m.heap c.args.class (λ kind. Some c.args.place) r)) (sym found)
+    ∙ sym (ap (turned program x m.thread) (called-found (served_call s) s m.heap c.args.class method.arguments (λ kind. Some c.args.place)))
+    ∙ sym (ap (λ o. turned program x m.thread (called_special (served_call s) s m.heap c.args.class c.args.place o)) known)
+
+pub returns-in-Ok-None-clause-step : goal.returns-in-Ok-None-clause-step
+returns-in-Ok-None-clause-step c = λ scene here.
+    let m = c.args.self.now in
+    let program = c.args.program.now in
+    let x = shown program scene m Live in
+    let s = site_at program m x.world c.args.next in
+    let method = c.in-Some.method.now in
+    let known : known_at program c.args.place ≡ Some method = search rules in
+    let found : object_found method.arguments (running_frame m.frames).stack ≡ Ok None = search rules in
+    c.raise.ensures.step scene here
+    ∙ ap (λ r. turned program x m.thread (called_object (served_call s) s m.heap c.args.class (λ kind. Some c.args.place) r)) (sym found)
+    ∙ sym (ap (turned program x m.thread) (called-found (served_call s) s m.heap c.args.class method.arguments (λ kind. Some c.args.place)))
+    ∙ sym (ap (λ o. turned program x m.thread (called_special (served_call s) s m.heap c.args.class c.args.place o)) known)
+
+pub returns-in-Ok-Some-clause-step : goal.returns-in-Ok-Some-clause-step
+returns-in-Ok-Some-clause-step c = λ scene here.
+    let m = c.args.self.now in
+    let program = c.args.program.now in
+    let x = shown program scene m Live in
+    let s = site_at program m x.world c.args.next in
+    let method = c.in-Some.method.now in
+    let known : known_at program c.args.place ≡ Some method = search rules in
+    let found : object_found method.arguments (running_frame m.frames).stack ≡ Ok (Some c.in-Ok-Some.object) = search rules in
+    c.call_special.ensures.step scene here
+    ∙ ap (λ r. turned program x m.thread (called_object (served_call s) s m.heap c.args.class (λ kind. Some c.args.place) r)) (sym found)
+    ∙ sym (ap (turned program x m.thread) (called-found (served_call s) s m.heap c.args.class method.arguments (λ kind. Some c.args.place)))
+    ∙ sym (ap (λ o. turned program x m.thread (called_special (served_call s) s m.heap c.args.class c.args.place o)) known)

@@ -1,0 +1,31 @@
+use Rattle.std.specs.Prelude.{List, length, nat_lt, Bool, true, false, Option, Some, None}
+use Rattle.model.specs.declared.places.MethodPlace.{MethodPlace}
+use Rattle.model.specs.declared.values.Kind.{Kind}
+use Rattle.model.specs.ClassListings.{ClassListing}
+use Rattle.model.specs.Frames.{Frame}
+use Rattle.model.specs.Table.Returns.{same_result}
+use Rattle.loader.specs.MethodFacts.{MethodFacts}
+use Rattle.loader.specs.MethodTables.{facts_at, method_tables}
+
+-- What a turn asks of the method of a frame, by its place in the tables.
+
+abbrev pub facts_if : Bool → Option MethodFacts → Option MethodFacts
+facts_if true facts = facts
+facts_if false facts = None
+
+-- of a class of the program; frames run no method of the machine's own classes
+abbrev pub facts_in : List ClassListing → MethodPlace → Option MethodFacts
+facts_in program place = facts_if (nat_lt place.class (length program)) (facts_at (method_tables program) place)
+
+abbrev pub is_initializer_in : Option MethodFacts → Bool
+is_initializer_in None = false
+is_initializer_in (Some facts) = facts.is_initializer
+
+-- whether a frame runs a class initializer
+abbrev pub runs_initializer_in : List ClassListing → Frame → Bool
+runs_initializer_in program f = is_initializer_in (facts_in program f.method)
+
+-- whether a method's result is of this kind
+abbrev pub gives_in : Option Kind → Option MethodFacts → Bool
+gives_in kind None = false
+gives_in kind (Some facts) = same_result kind facts.kind
