@@ -2,6 +2,7 @@ pub mod AcceptedClasses
 pub mod ActingLemmas
 pub mod AgreeLemmas
 pub mod ArrayLemmas
+pub mod AwaitingLemmas
 pub mod ByNumberLemmas
 pub mod ChainLemmas
 pub mod ClaimFrames
@@ -19,11 +20,9 @@ mod FieldLemmas
 pub mod HeldLemmas
 pub mod CreatedLemmas
 pub mod DenyingLemmas
-pub mod Initialised
 pub mod InitialisingAgreement
 pub mod InitialisingLemmas
 pub mod InitializerBodies
-pub mod Keeping
 pub mod InvokeLemmas
 pub mod KindsHeld
 pub mod OwnCalls
@@ -43,19 +42,23 @@ pub mod OpeningState
 pub mod OwnWords
 pub mod PrintLemmas
 pub mod PushLemmas
+pub mod ReadinessLemmas
 pub mod Refusing
 pub mod ResolvedFields
 pub mod ReturnAgreement
 pub mod ReturnLemmas
-pub mod Running
 mod RunningFrames
 mod Scenes
+pub mod ServedNames
 pub mod ShownLemmas
+pub mod Silent
 pub mod SelectedRows
 pub mod SelectorsCalled
 pub mod Stepping
 pub mod StoredLemmas
+pub mod ThrowAgreement
 pub mod Throwables
+pub mod TurnBirths
 pub mod Turning
 pub mod Upwards
 pub mod UsedClasses

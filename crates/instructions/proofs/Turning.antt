@@ -6,7 +6,7 @@ use Rattle.model.specs.declared.journals.Outcome.TheVariants.{Fault as FaultOutc
 use Rattle.model.specs.declared.turns.Actor.TheVariants.{Thread}
 use Rattle.model.specs.declared.turns.Fault.{Fault}
 use Rattle.model.specs.Completions.{Completion}
-use Rattle.model.specs.Frames.{Frame, running_frame}
+use Rattle.model.specs.Frames.{Frame, running}
 use Rattle.model.specs.Table.Next.{completion}
 use Rattle.model.specs.Turns.{refusal}
 use Rattle.model.specs.Worlds.{lives}
@@ -16,15 +16,16 @@ use Rattle.instructions.specs.declared.kinds.Course.{Course}
 use Rattle.instructions.specs.declared.kinds.Course.TheVariants.{Live, Returned, Threw}
 use Rattle.instructions.specs.declared.machines.Machine.{Machine}
 use Rattle.instructions.specs.declared.state.State.TheInside.{Inside}
-use Rattle.instructions.specs.Acting.{HasRoomFor, Scene, Stays, Turns, operated, printed_by, shown, site_of, standing, stepped, told, turned}
-use Rattle.instructions.specs.Loaded.{IsSound, Loaded, RunsMain, RunsMainUnlessEnded, after_collection, after_step, machine_shown, state_shown}
+use Rattle.instructions.specs.Acting.{HasRoomFor, Scene, Stays, Turns, shown, told, turned}
+use Rattle.instructions.specs.Operated.{completed, completed_at, printed_at}
+use Rattle.instructions.specs.Loaded.{IsSound, Loaded, after_collection, after_step, machine_shown, state_shown}
 use Rattle.instructions.specs.Heaps.{collected}
 use Rattle.instructions.specs.Shown.{thread_shown}
 use Rattle.instructions.proofs.Refusing.{allowed}
-use Rattle.instructions.proofs.Running.{Going, RunThreads, operated_runs, runs_shown, turned_births}
+use Rattle.instructions.proofs.TurnBirths.{turned_births}
 use Rattle.instructions.proofs.ShownLemmas.{collected_shown as collected_on_shown}
-use Rattle.instructions.proofs.Stepping.{IsKept, completion_stepped}
-use Rattle.instructions.proofs.Waiting.{now, told_in}
+use Rattle.instructions.proofs.Stepping.{completion_completed}
+use Rattle.instructions.proofs.Waiting.{kept, now, told_in}
 
 -- ---- a thread that nothing refuses is the first, and lives
 
@@ -37,29 +38,23 @@ first_lives a (Threw kind) zero e = cc
 first_lives a (Threw kind) (suc t) e = cc
 
 abbrev pub Sound : Inside → Type 0
-Sound a = IsSound a.program a.limits a.course a.machine a.rows
+Sound a = IsSound a.program a.limits a.machine a.rows
 
 -- what contracts see of the state
 abbrev pub loaded : Inside → Loaded
 loaded a = record { program = a.program; limits = a.limits; shape = a.machine.heap.shape; machine = state_shown a.program a.machine a.course a.fault a.rows }
 
--- the step at which the thread stands
-abbrev pub step_here : Inside → Frame
-step_here a = running_frame a.machine.frames
+-- what the thread's turn prints
+abbrev pub printed_here : Inside → Option (List ℕ)
+printed_here a = printed_at a.program (running a.machine.frames)
 
 -- a state whose thread has a turn
 pub record IsGoing (a : Inside) (t : ℕ) : Type 0 where
   pub lives : a.course ≡ Live
   pub first : t ≡ 0
-  pub main : RunsMain a.program a.machine.frames
   pub faultless : a.fault ≡ None
   pub counted : a.rows < a.limits.steps
-  pub fits : HasRoomFor a.machine (printed_by (step_here a) (standing a.program (step_here a)).operation)
-
-runs_live : (a : Inside) (course : Course) → course ≡ Live → RunsMainUnlessEnded a.program course a.machine.frames → RunsMain a.program a.machine.frames
-runs_live a Live e runs = runs
-runs_live a Returned e runs = cc
-runs_live a (Threw kind) e runs = cc
+  pub fits : HasRoomFor a.machine (printed_here a)
 
 room_for : (limit capacity before : ℕ) (o : Option (List ℕ)) → limit ≤ capacity → IfSome o (λ line. before + length line ≤ limit) → IfSome o (λ line. before + length line ≤ capacity)
 room_for limit capacity before None room h = tt
@@ -69,14 +64,13 @@ pub going : (a : Inside) (t : ℕ) → Sound a → refusal a.program a.limits (n
 going a t sound e =
     let may = allowed (loaded a) t e in
     let first = first_lives a a.course t may.live in
-    let fits = subst (λ o. IfSome o (λ line. length a.machine.output.items + length line ≤ a.limits.output)) (told_in a sound a.course sound.main t may.live) may.fits in
+    let fits = subst (λ o. IfSome o (λ line. length a.machine.output.items + length line ≤ a.limits.output)) (told_in a sound a.course t may.live) may.fits in
     record {
       lives = first.0;
       first = first.1;
-      main = runs_live a a.course first.0 sound.main;
       faultless = may.faultless;
       counted = may.counted;
-      fits = room_for a.limits.output (vec_capacity a.machine.output) (length a.machine.output.items) (printed_by (step_here a) (standing a.program (step_here a)).operation) sound.room fits;
+      fits = room_for a.limits.output (vec_capacity a.machine.output) (length a.machine.output.items) (printed_here a) sound.room fits;
     }
 
 module _ (a : Inside) (t : ℕ) (sound : Sound a) (g : IsGoing a t) where
@@ -91,21 +85,11 @@ module _ (a : Inside) (t : ℕ) (sound : Sound a) (g : IsGoing a t) where
   abbrev comes_to : Completion
   comes_to = completion a.program before.world 0
 
-  kept : IsKept a.program before.world a.machine.heap
-  kept = record {
-    accepted = sound.accepted;
-    slots = a.machine.slots.items;
-    objects_are = refl;
-    stored = sound.stored;
-    fields_are = refl;
-    slots_fit = sound.slots_are;
-    initialised = sound.initialised;
-  }
+  abbrev comes_at : ℕ → Completion
+  comes_at n = completed_at a.program before.world n a.machine.heap (running a.machine.frames)
 
-  steps : comes_to ≡ stepped a.program before.world 0 a.machine.heap (step_here a) (standing a.program (step_here a))
-  steps =
-      completion_stepped a.program before.world a.machine.heap g.main.frame sound.served g.main.main_is g.main.plain g.main.alone kept
-      ∙ ap (λ frames. stepped a.program before.world 0 a.machine.heap (running_frame frames) (standing a.program (running_frame frames))) (sym g.main.alone)
+  steps : comes_to ≡ comes_at 0
+  steps = completion_completed a.program before.world 0 a.machine.heap (kept a sound Live)
 
   abbrev seen : CellMachine → Loaded
   seen machine = record { program = a.program; limits = a.limits; shape = a.machine.heap.shape; machine = machine }
@@ -117,20 +101,12 @@ module _ (a : Inside) (t : ℕ) (sound : Sound a) (g : IsGoing a t) where
   outcome_is = rw (g.lives, g.first, g.faultless) refl
 
   abbrev HasTurned : Machine → Result Turned Fault → Type 0
-  HasTurned m result = Turns a.program a.machine m result (λ w. stepped a.program w a.machine.thread a.machine.heap (step_here a) (standing a.program (step_here a)))
+  HasTurned m result = Turns a.program a.machine m result (λ w. completed a.program a.machine w)
 
   told_is : (m : Machine) (result : Result Turned Fault) → HasTurned m result → told before 0 (shown a.program alone m) result ≡ turned a.program before 0 comes_to
   told_is m result has =
-      subst (λ n. told before n (shown a.program alone m) result ≡ turned a.program before n (stepped a.program before.world n a.machine.heap (step_here a) (standing a.program (step_here a)))) sound.first
+      subst (λ n. told before n (shown a.program alone m) result ≡ turned a.program before n (comes_at n)) sound.first
       (has alone (sym sound.first)) ∙ sym (ap (turned a.program before 0) steps)
-
-  runs : Going a.program before (turned_on a.program before 0 comes_to).world
-  runs =
-      let step = standing a.program (step_here a) in
-      let here : step_here a ≡ g.main.frame = ap running_frame g.main.alone in
-      subst (λ c. Going a.program before (turned_on a.program before 0 c).world) (sym steps)
-      (subst (λ f. Going a.program before (turned_on a.program before 0 (operated (site_of a.program before.world 0 f step.next) a.machine.heap step.operation)).world) (sym here)
-      (operated_runs a.program g.main.frame sound.served g.main.main_is g.main.plain before (rw g.main.alone refl) refl step.next a.machine.heap step.operation))
 
   -- ---- a turn that is done
 
@@ -142,14 +118,6 @@ module _ (a : Inside) (t : ℕ) (sound : Sound a) (g : IsGoing a t) where
 
     pub done_outcome : done.outcome ≡ outcome_on a.program (loaded a).machine (Thread t)
     done_outcome = ap (λ (x : CellMachine × Outcome). x.1) (told_is m (Ok done) has) ∙ sym outcome_is
-
-    pub done_runs : RunsMainUnlessEnded a.program done.course m.frames
-    done_runs =
-        runs_shown a.program done.course m.frames
-        (subst (λ (x : CellMachine × Outcome). RunThreads a.program x.0.world.threads) (sym (told_is m (Ok done) has)) runs.0)
-
-    pub done_states : m.states.items ≡ a.machine.states.items
-    done_states = subst (λ (x : CellMachine × Outcome). x.0.world.statics.states ≡ a.machine.states.items) (sym (told_is m (Ok done) has)) runs.1
 
     pub done_births : m.heap.births ≤ a.machine.heap.births + 1
     done_births =

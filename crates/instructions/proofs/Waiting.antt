@@ -1,24 +1,25 @@
--- No thread of a state waits: it has ended, or runs main, all of whose code is carried out.
-use Rattle.std.proofs.Common.{◌≡◌, ℕ, zero, suc, List, [], ◌∷◌, Option, Some, None, Bool, true, false, is_none, refl, ap, sym, ◌∙◌, ◌+◌}
+-- Whether the thread of a state is ready, and what its turn prints.
+use Rattle.std.proofs.Common.{◌≡◌, ℕ, zero, suc, List, [], ◌∷◌, Option, Some, None, Bool, true, false, is_none, refl, ap, subst, sym, ◌∙◌, ◌+◌}
 use Rattle.std.specs.Prelude.{◌&&◌, ◌||◌, ◌++◌, drop, take, length, nat_lt, not, is_some}
 use Rattle.std.specs.List.{find}
 use Rattle.std.specs.Option.{option_map}
 use Rattle.model.specs.declared.turns.Status.TheVariants.{Running}
 use Rattle.model.specs.ClassListings.{ClassListing}
-use Rattle.model.specs.Frames.{running_frame}
 use Rattle.model.specs.Completions.{waits}
 use Rattle.model.specs.Observers.{cyclic_from, status_by, status_in}
 use Rattle.model.specs.Ready.{is_ready, some_is_ready, some_lives}
 use Rattle.model.specs.Turns.{overflows, passes, print_of}
 use Rattle.model.specs.Table.Next.{completion}
-use Rattle.model.specs.Worlds.{World, is_live}
-use Rattle.model.proofs.Served.{completion-none}
+use Rattle.model.specs.Frames.{running}
+use Rattle.model.specs.Worlds.{World, frames_at, is_live}
+use Rattle.model.proofs.Served.{instruction_served}
+use Rattle.instructions.specs.Operated.{printed_at, waits_at}
+use Rattle.instructions.proofs.ServedNames.{served_names}
+use Rattle.instructions.proofs.Stepping.{IsKept, print_completed, waits_completed}
 use Rattle.instructions.specs.declared.kinds.Course.{Course}
 use Rattle.instructions.specs.declared.kinds.Course.TheVariants.{Live, Returned, Threw}
 use Rattle.instructions.specs.declared.state.State.TheInside.{Inside}
-use Rattle.instructions.specs.Acting.{printed_by, standing}
-use Rattle.instructions.specs.Loaded.{IsSound, RunsMainUnlessEnded, state_shown}
-use Rattle.instructions.proofs.Stepping.{IsKept, never_waits, print_stepped}
+use Rattle.instructions.specs.Loaded.{IsSound, state_shown}
 
 -- a thread that is ready lives
 pub ready_lives : (program : List ClassListing) (w : World) (t : ℕ) → is_ready program w t ≡ true → is_live w t ≡ true
@@ -67,11 +68,6 @@ pub held_unless_ready : (ready full : Bool) → ready ≡ false → false ≡ ((
 held_unless_ready true full e = cc
 held_unless_ready false full e = refl
 
-ready-not : (a b : Bool) → (a && b && true) ≡ (a && b)
-ready-not true true = refl
-ready-not true false = refl
-ready-not false b = refl
-
 -- whether so many bytes more pass a limit
 abbrev pub passes_with : ℕ → List ℕ → Option ℕ → Bool
 passes_with limit output None = false
@@ -89,72 +85,61 @@ module _ (a : Inside) where
   abbrev pub now : World
   now = in_course a.course
 
-  module _ (sound : IsSound a.program a.limits a.course a.machine a.rows) where
+  module _ (sound : IsSound a.program a.limits a.machine a.rows) where
     -- the world is one that the code keeps by numbers
     pub kept : (course : Course) → IsKept a.program (in_course course) a.machine.heap
     kept course = record {
       accepted = sound.accepted;
+      names = served_names a.program sound.served.code;
+      served = λ f i there. instruction_served a.program f i sound.served.code there;
       slots = a.machine.slots.items;
       objects_are = refl;
       stored = sound.stored;
       fields_are = refl;
       slots_fit = sound.slots_are;
-      initialised = sound.initialised;
+      sized = sound.sized;
     }
 
-    waits_in : (course : Course) → RunsMainUnlessEnded a.program course a.machine.frames → (t : ℕ) → waits (completion a.program (in_course course) t) ≡ false
-    waits_in Live main zero = never_waits a.program (in_course Live) a.machine.heap main.frame sound.served main.main_is main.plain main.alone (kept Live)
-    waits_in Live main (suc t) = ap waits (completion-none a.program (in_course Live) (suc t) refl)
-    waits_in Returned main zero = ap waits (completion-none a.program (in_course Returned) 0 refl)
-    waits_in Returned main (suc t) = ap waits (completion-none a.program (in_course Returned) (suc t) refl)
-    waits_in (Threw kind) main zero = ap waits (completion-none a.program (in_course (Threw kind)) 0 refl)
-    waits_in (Threw kind) main (suc t) = ap waits (completion-none a.program (in_course (Threw kind)) (suc t) refl)
+    abbrev waits_here : Bool
+    waits_here = waits_at a.program a.machine (running a.machine.frames)
 
-    pub ready_shown : (t : ℕ) → is_ready a.program now t ≡ (is_none a.fault && is_live now t)
-    ready_shown t =
-        ap (λ (b : Bool). is_none a.fault && is_live now t && not b) (waits_in a.course sound.main t)
-        ∙ ready-not (is_none a.fault) (is_live now t)
+    -- a thread that lives waits where the machine's parts tell so
+    waits_in : (course : Course) (t : ℕ) → is_live (in_course course) t ≡ true → waits (completion a.program (in_course course) t) ≡ waits_here
+    waits_in Live zero e =
+        subst (λ n. waits (completion a.program (in_course Live) n) ≡ waits_at a.program a.machine (running (frames_at (in_course Live) n))) sound.first
+        (waits_completed a.program (in_course Live) a.machine (kept Live) refl)
+    waits_in Live (suc t) e = cc
+    waits_in Returned zero e = cc
+    waits_in Returned (suc t) e = cc
+    waits_in (Threw kind) zero e = cc
+    waits_in (Threw kind) (suc t) e = cc
 
-    pub lives_ready : a.fault ≡ None → (t : ℕ) → is_live now t ≡ is_ready a.program now t
-    lives_ready none t = sym (ready_shown t ∙ rw none refl)
+    pub ready_lives_on : (t : ℕ) → a.fault ≡ None → is_live now t ≡ true → not waits_here ≡ is_ready a.program now t
+    ready_lives_on t none lives =
+        ap not (sym (waits_in a.course t lives)) ∙ sym (rw (none, lives) refl)
 
-    lives_first : (course : Course) → course ≡ Live → is_live (in_course course) 0 ≡ true
-    lives_first course e = rw e refl
+    pub ready_dead : (t : ℕ) → a.fault ≡ None → is_live now t ≡ false → false ≡ is_ready a.program now t
+    ready_dead t none dead = sym (rw (none, dead) refl)
 
-    -- the one thread is ready where it lives and there was no fault
-    one_ready : a.fault ≡ None → a.course ≡ Live → is_ready a.program now 0 ≡ true
-    one_ready none lives = ready_shown 0 ∙ ap (λ b. is_none a.fault && b) (lives_first a.course lives) ∙ rw none refl
-
-    pub is_running : a.fault ≡ None → a.course ≡ Live → Running ≡ status_in a.program now
-    is_running none lives =
-        sym (ap (λ fault. status_by (is_some fault) (some_lives now) (some_is_ready a.program now)) none
-        ∙ ap (λ b. status_by false (b || false) (some_is_ready a.program now)) (lives_first a.course lives)
-        ∙ ap (λ b. status_by false true (b || false)) (one_ready none lives))
-
-    -- a thread that lives has one frame
-    alone_in : (course : Course) → RunsMainUnlessEnded a.program course a.machine.frames → (t : ℕ) → is_live (in_course course) t ≡ true → length a.machine.frames ≡ 1
-    alone_in Live main t e = rw main.alone refl
-    alone_in Returned main zero e = cc
-    alone_in Returned main (suc t) e = cc
-    alone_in (Threw kind) main zero e = cc
-    alone_in (Threw kind) main (suc t) e = cc
-
-    pub lives_alone : (t : ℕ) → is_live now t ≡ true → length a.machine.frames ≡ 1
-    lives_alone t e = alone_in a.course sound.main t e
+    -- how the world stands, by its one thread
+    pub stands : (faulted lives ready : Bool) → is_some a.fault ≡ faulted → is_live now 0 ≡ lives → is_ready a.program now 0 ≡ ready
+        → status_by faulted (lives || false) (ready || false) ≡ status_in a.program now
+    stands faulted lives ready f l r =
+        sym (ap (λ b. status_by b (some_lives now) (some_is_ready a.program now)) f
+        ∙ ap (λ b. status_by faulted (b || false) (some_is_ready a.program now)) l
+        ∙ ap (λ b. status_by faulted (lives || false) (b || false)) r)
 
     -- it prints what its step does
-    pub told_in : (course : Course) → RunsMainUnlessEnded a.program course a.machine.frames → (t : ℕ) → is_live (in_course course) t ≡ true → print_of a.program (in_course course) t ≡ printed_by (running_frame a.machine.frames) (standing a.program (running_frame a.machine.frames)).operation
-    told_in Live main zero e =
-        print_stepped a.program (in_course Live) a.machine.heap main.frame sound.served main.main_is main.plain main.alone (kept Live)
-        ∙ ap (λ frames. printed_by (running_frame frames) (standing a.program (running_frame frames)).operation) (sym main.alone)
-    told_in Live main (suc t) e = cc
-    told_in Returned main zero e = cc
-    told_in Returned main (suc t) e = cc
-    told_in (Threw kind) main zero e = cc
-    told_in (Threw kind) main (suc t) e = cc
+    pub told_in : (course : Course) (t : ℕ) → is_live (in_course course) t ≡ true → print_of a.program (in_course course) t ≡ printed_at a.program (running a.machine.frames)
+    told_in Live zero e = print_completed a.program (in_course Live) 0 a.machine.heap (kept Live)
+    told_in Live (suc t) e = cc
+    told_in Returned zero e = cc
+    told_in Returned (suc t) e = cc
+    told_in (Threw kind) zero e = cc
+    told_in (Threw kind) (suc t) e = cc
 
-    pub overflows_shown : (t : ℕ) → is_live now t ≡ true → (n : Option ℕ) → n ≡ option_map length (printed_by (running_frame a.machine.frames) (standing a.program (running_frame a.machine.frames)).operation) → passes_with a.limits.output a.machine.output.items n ≡ overflows a.program a.limits now t
+    pub overflows_shown : (t : ℕ) → is_live now t ≡ true → (n : Option ℕ) → n ≡ option_map length (printed_at a.program (running a.machine.frames)) → passes_with a.limits.output a.machine.output.items n ≡ overflows a.program a.limits now t
     overflows_shown t lives n is =
         ap (passes_with a.limits.output a.machine.output.items) is
-        ∙ sym (passes-length a.limits.output a.machine.output.items (printed_by (running_frame a.machine.frames) (standing a.program (running_frame a.machine.frames)).operation))
-        ∙ ap (passes a.limits.output a.machine.output.items) (sym (told_in a.course sound.main t lives))
+        ∙ sym (passes-length a.limits.output a.machine.output.items (printed_at a.program (running a.machine.frames)))
+        ∙ ap (passes a.limits.output a.machine.output.items) (sym (told_in a.course t lives))

@@ -1,7 +1,9 @@
 pub mod Acting
 pub mod Allowed
+pub mod Awaiting
 pub mod ByNumbers
 pub mod CallsByNumbers
+pub mod Carried
 pub mod HeapMonitors
 pub mod Heaps
 pub mod HeapsAgree
@@ -11,6 +13,7 @@ pub mod Leaving
 pub mod Loaded
 pub mod MethodsByNumber
 pub mod NamedTypes
+pub mod Operated
 pub mod ReturnsByNumbers
 pub mod Shown
 pub mod Throwing

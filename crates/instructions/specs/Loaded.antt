@@ -1,21 +1,17 @@
-use Rattle.std.specs.Prelude.{◌≡◌, ◌<◌, ◌≤◌, ◌+◌, ◌^◌, ℕ, List, [], ◌∷◌, length, replicate, vec_capacity, Option, Some, None}
+use Rattle.std.specs.Prelude.{◌≡◌, ◌<◌, ◌≤◌, ◌+◌, ◌^◌, ℕ, List, [], ◌∷◌, length, vec_capacity, Option, None}
 use Rattle.model.specs.declared.journals.HeapShape.{HeapShape}
 use Rattle.model.specs.declared.journals.Limits.{Limits}
 use Rattle.model.specs.declared.turns.ClassState.{ClassState}
-use Rattle.model.specs.declared.turns.ClassState.TheVariants.{Done}
 use Rattle.model.specs.declared.turns.Fault.{Fault}
 use Rattle.model.specs.declared.values.Value.{Value}
 use Rattle.model.specs.ClassListings.{ClassListing}
 use Rattle.model.specs.Accepted.Refusals.{refusal_of}
-use Rattle.model.specs.Frames.{Frame, IsPlain}
-use Rattle.model.specs.Programs.{main_in}
 use Rattle.model.specs.Served.{ServedProgram}
 use Rattle.model.specs.Table.Next.{completion}
 use Rattle.model.specs.Worlds.{Thread, World, opening_slots}
 use Rattle.cells.specs.Objects.{StoredObject}
 use Rattle.join.specs.TurnsOnCells.{CellMachine, collected_on, counted_on, opening_on, turned_on}
 use Rattle.instructions.specs.declared.kinds.Course.{Course}
-use Rattle.instructions.specs.declared.kinds.Course.TheVariants.{Live, Returned, Threw}
 use Rattle.instructions.specs.declared.kinds.Kind.{Kind}
 use Rattle.instructions.specs.declared.machines.Machine.{Machine}
 use Rattle.instructions.specs.ByNumbers.{AreStored}
@@ -65,28 +61,15 @@ abbrev pub state_shown : List ClassListing → Machine → Course → Option (Fa
 state_shown program m course fault rows =
     machine_shown program (thread_shown program course m.frames ∷ []) m.slots.items m.states.items m.heap m.output.items fault rows
 
--- the thread runs main alone
-pub record RunsMain (program : List ClassListing) (frames : List Frame) : Type 0 where
-  pub frame : Frame
-  pub alone : frames ≡ frame ∷ []
-  pub main_is : main_in program ≡ Some frame.method
-  pub plain : IsPlain frame
-
-abbrev pub RunsMainUnlessEnded : List ClassListing → Course → List Frame → Type 0
-RunsMainUnlessEnded program Live frames = RunsMain program frames
-RunsMainUnlessEnded program Returned frames = Unit {0}
-RunsMainUnlessEnded program (Threw kind) frames = Unit {0}
-
--- what holds of the parts: the machine carries out all code of the program, the thread runs its main or has ended, objects
--- have all words of their classes, and a turn makes one birth at most
-pub record IsSound (program : List ClassListing) (limits : Limits) (course : Course) (m : Machine) (rows : ℕ) : Type 0 where
+-- what holds of the parts: the machine carries out all code of the program, each class has a state, objects have all words
+-- of their classes, and a turn makes one birth at most
+pub record IsSound (program : List ClassListing) (limits : Limits) (m : Machine) (rows : ℕ) : Type 0 where
   pub served : ServedProgram program
   pub accepted : refusal_of program ≡ None
   pub room : limits.output ≤ vec_capacity m.output
   pub steps : limits.steps ≤ 16777215
   pub first : m.thread ≡ 0
-  pub main : RunsMainUnlessEnded program course m.frames
-  pub initialised : m.states.items ≡ replicate (length program) Done
+  pub sized : length m.states.items ≡ length program
   pub few_slots : length m.slots.items < 2 ^ 32
   pub slots_are : length m.slots.items ≡ length (opening_slots program)
   pub classes : m.heap.classes ≡ length program

@@ -3,9 +3,11 @@
 
 mod acting;
 mod arrays;
+mod awaiting;
 mod calls;
 mod casts;
 mod claims;
+pub mod errors;
 mod exchanges;
 mod fields;
 mod heaps;
@@ -22,6 +24,7 @@ mod opening;
 mod own_prints;
 mod printing;
 mod pushes;
+mod readiness;
 mod returns;
 pub mod state;
 mod statics;

@@ -92,17 +92,23 @@ impl State {
         ensures { IfOk result (λ view. view ≡ option_map (named_thread (birth_read self.now.machine.account.cells)) (slice_get self.now.machine.world.threads thread)) }
     {
         let alloc = *self.machine.states.allocator();
-        let state = match (thread, self.course) {
+        match (thread, self.course) {
             (0, Course::Live) => {
                 let frames = self.machine.frames.views()?;
-                ThreadState::Live(named_frames(alloc, &self.machine.heap, &frames)?)
+                let named = named_frames(alloc, &self.machine.heap, &frames)?;
+                let state = ThreadState::Live(named);
+                Ok(Some(ThreadView { state }))
             }
-            (0, Course::Returned) => ThreadState::Ended(None),
+            (0, Course::Returned) => {
+                let state = ThreadState::Ended(None);
+                Ok(Some(ThreadView { state }))
+            }
             (0, Course::Threw(kind)) => {
-                ThreadState::Ended(Some(kind_name(alloc, &self.program, kind)?))
+                let class = kind_name(alloc, &self.program, kind)?;
+                let state = ThreadState::Ended(Some(class));
+                Ok(Some(ThreadView { state }))
             }
-            _ => return Ok(None),
-        };
-        Ok(Some(ThreadView { state }))
+            _ => Ok(None),
+        }
     }
 }

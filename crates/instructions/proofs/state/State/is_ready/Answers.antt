@@ -1,6 +1,9 @@
-use Rattle.std.proofs.Common.{◌∙◌}
-use Rattle.instructions.proofs.Waiting.{lives_ready}
+use Rattle.std.proofs.Common.{ap, not, sym, ◌∙◌}
+use Rattle.instructions.proofs.Waiting.{ready_lives_on}
 use Rattle.instructions.proofs.state.State.is_ready.Goals as goal
 
-pub returns-in-None-clause-ready : goal.returns-in-None-clause-ready
-returns-in-None-clause-ready c = c.is_live.ensures ∙ (rw (← c.self.view_is) (lives_ready c.self.inside c.self.invariant c.in-None.is c.args.thread))
+pub returns-then-is_live-clause-ready : goal.returns-then-is_live-clause-ready
+returns-then-is_live-clause-ready c =
+    ap not c.waits.ensures
+    ∙ rw (← c.self.view_is)
+    (ready_lives_on c.self.inside c.self.invariant c.args.thread c.in-None.is (rw (← c.self.view_is) at (sym c.is_live.ensures ∙ c.if-is_live.true)))

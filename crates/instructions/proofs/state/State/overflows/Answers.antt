@@ -1,9 +1,6 @@
 use Rattle.std.proofs.Common.{Some, None}
-use Rattle.instructions.proofs.Waiting.{lives_alone, overflows_shown}
+use Rattle.instructions.proofs.Waiting.{overflows_shown}
 use Rattle.instructions.proofs.state.State.overflows.Goals as goal
-
-pub print_length-requires : goal.print_length-requires
-print_length-requires c = lives_alone c.self.inside c.self.invariant c.args.thread (rw (← c.self.view_is) at c.requires)
 
 pub returns-in-Some : goal.returns-in-Some
 returns-in-Some c =
