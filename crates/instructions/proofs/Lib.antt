@@ -2,6 +2,7 @@ pub mod AcceptedClasses
 pub mod ActingLemmas
 pub mod AgreeLemmas
 pub mod ArrayLemmas
+pub mod AwaitingLemmas
 pub mod ByNumberLemmas
 pub mod ChainLemmas
 pub mod ClaimFrames

@@ -1,5 +1,6 @@
 pub mod Acting
 pub mod Allowed
+pub mod Awaiting
 pub mod ByNumbers
 pub mod CallsByNumbers
 pub mod HeapMonitors

@@ -3,6 +3,7 @@
 
 mod acting;
 mod arrays;
+mod awaiting;
 mod calls;
 mod casts;
 mod claims;
