@@ -56,6 +56,7 @@ pub mod SelectedRows
 pub mod SelectorsCalled
 pub mod Stepping
 pub mod StoredLemmas
+pub mod ThrowAgreement
 pub mod Throwables
 pub mod Turning
 pub mod Upwards
