@@ -109,7 +109,7 @@ unfolding builtin_classes
 error-at program = own-at program 3
 
 -- a number past the last class is of nothing below
-class-nowhere : (program : List ClassListing) (class above : ℕ) → slice_get (all_classes program) class ≡ None → is_subtype_in (class_tables program) class above ≡ false
+pub class-nowhere : (program : List ClassListing) (class above : ℕ) → slice_get (all_classes program) class ≡ None → is_subtype_in (class_tables program) class above ≡ false
 class-nowhere program class above none =
     ap (is_below above) (slice_get-map (class_facts program) (all_classes program) class ∙ ap (option_map (class_facts program)) none)
 
@@ -198,7 +198,7 @@ thrown_answers program _ accepted (thrown class listing there plain) f = answer_
 
 -- ---- what athrow may throw
 
-throwable-at : (program : List ClassListing) → slice_get (class_names program) (length program + 1) ≡ Some (codes "java/lang/Throwable")
+pub throwable-at : (program : List ClassListing) → slice_get (class_names program) (length program + 1) ≡ Some (codes "java/lang/Throwable")
 unfolding builtin_classes
 throwable-at program = own-at program 1
 
