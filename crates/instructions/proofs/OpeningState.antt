@@ -1,5 +1,6 @@
 -- The parts of a new state show the opening world.
 use Rattle.std.proofs.Common.{◌≡◌, ℕ, List, [], ◌∷◌, length, map, None, refl, sym, ap, ◌∙◌}
+use Rattle.std.proofs.lemmas.List.{length-map}
 use Rattle.model.specs.declared.journals.Limits.{Limits}
 use Rattle.model.specs.declared.turns.ClassState.{ClassState}
 use Rattle.model.specs.declared.turns.ClassState.TheVariants.{Running}
@@ -27,6 +28,12 @@ use Rattle.instructions.proofs.ShownLemmas.{opening_shown as opening_objects}
 keyed-opening : (program : List ClassListing) (keys : List FieldValue) → keyed keys (map (λ (s : Slot). s.opening) (map (slot_of program) keys)) ≡ keys
 keyed-opening program [] = refl
 keyed-opening program (k ∷ keys) = ap (λ (rest : List FieldValue). k ∷ rest) (keyed-opening program keys)
+
+-- each static field has a slot
+pub opened_slots : (program : List ClassListing) (slots : List Value) → slots ≡ map (λ (s : Slot). s.opening) (static_slots program)
+    → length slots ≡ length (opening_slots program)
+opened_slots program slots e =
+    ap length e ∙ length-map (static_slots program) (λ (s : Slot). s.opening) ∙ length-map (opening_slots program) (slot_of program)
 
 -- each class has a state
 pub claimed_sized : (program : List ClassListing) → length (claimed_states program) ≡ length program

@@ -208,7 +208,7 @@ module _ (program : List ClassListing) (w : World) (t : ℕ) (h : HeapValue) (f 
 
     thrown_agrees : (n : ℕ) → Agree n Throw
     unfolding plain_move
-    thrown_agrees n = throw_agrees (site n) h kept.slots (numbered n) kept.accepted kept.names
+    thrown_agrees n = throw_agrees (site n) h kept.slots (numbered n) kept.accepted
 
     -- at an instruction of the frame's code
     module _ (i : Placed) (code : CodeListing) (there : code_at program f.method ≡ Some code) (at : placed_at code f.pc ≡ Some i) where
