@@ -46,7 +46,7 @@ use Rattle.instructions.specs.declared.machines.Machine.{Machine}
 use Rattle.instructions.specs.Acting.{site_of}
 use Rattle.instructions.specs.ByNumbers.{AreStored, IsNumbered, operated_by_numbers}
 use Rattle.instructions.specs.CallsByNumbers.{calls_thread, is_call, operated_by_served_calls, served_call}
-use Rattle.instructions.specs.Carried.{is_served}
+use Rattle.model.specs.Served.{is_served}
 use Rattle.instructions.specs.Heaps.{HeapValue}
 use Rattle.instructions.specs.NamedTypes.{goes_by_type, has_names}
 use Rattle.instructions.specs.Operated.{completed, completed_at, marked, moved_or, operated, operated_else, printed_at, standing, stepped, waits_at}

@@ -89,7 +89,7 @@ module _ (a : Inside) (t : ℕ) (sound : Sound a) (g : IsGoing a t) where
   comes_at n = completed_at a.program before.world n a.machine.heap (running a.machine.frames)
 
   steps : comes_to ≡ comes_at 0
-  steps = completion_completed a.program before.world 0 a.machine.heap (kept a sound Live)
+  steps = completion_completed a.program before.world 0 a.machine.heap (kept a sound Live None)
 
   abbrev seen : CellMachine → Loaded
   seen machine = record { program = a.program; limits = a.limits; shape = a.machine.heap.shape; machine = machine }

@@ -3,6 +3,7 @@ use Rattle.std.proofs.Common.{◌≡◌, ℕ, zero, suc, List, [], ◌∷◌, Op
 use Rattle.std.specs.Prelude.{◌&&◌, ◌||◌, ◌++◌, drop, take, length, nat_lt, not, is_some}
 use Rattle.std.specs.List.{find}
 use Rattle.std.specs.Option.{option_map}
+use Rattle.model.specs.declared.turns.Fault.{Fault}
 use Rattle.model.specs.declared.turns.Status.TheVariants.{Running}
 use Rattle.model.specs.ClassListings.{ClassListing}
 use Rattle.model.specs.Completions.{waits}
@@ -87,8 +88,8 @@ module _ (a : Inside) where
 
   module _ (sound : IsSound a.program a.limits a.machine a.rows) where
     -- the world is one that the code keeps by numbers
-    pub kept : (course : Course) → IsKept a.program (in_course course) a.machine.heap
-    kept course = record {
+    pub kept : (course : Course) (fault : Option (Fault × ℕ)) → IsKept a.program (state_shown a.program a.machine course fault a.rows).world a.machine.heap
+    kept course fault = record {
       accepted = sound.accepted;
       names = served_names a.program sound.served.code;
       served = λ f i there. instruction_served a.program f i sound.served.code there;
@@ -107,7 +108,7 @@ module _ (a : Inside) where
     waits_in : (course : Course) (t : ℕ) → is_live (in_course course) t ≡ true → waits (completion a.program (in_course course) t) ≡ waits_here
     waits_in Live zero e =
         subst (λ n. waits (completion a.program (in_course Live) n) ≡ waits_at a.program a.machine (running (frames_at (in_course Live) n))) sound.first
-        (waits_completed a.program (in_course Live) a.machine (kept Live) refl)
+        (waits_completed a.program (in_course Live) a.machine (kept Live a.fault) refl)
     waits_in Live (suc t) e = cc
     waits_in Returned zero e = cc
     waits_in Returned (suc t) e = cc
@@ -131,7 +132,7 @@ module _ (a : Inside) where
 
     -- it prints what its step does
     pub told_in : (course : Course) (t : ℕ) → is_live (in_course course) t ≡ true → print_of a.program (in_course course) t ≡ printed_at a.program (running a.machine.frames)
-    told_in Live zero e = print_completed a.program (in_course Live) 0 a.machine.heap (kept Live)
+    told_in Live zero e = print_completed a.program (in_course Live) 0 a.machine.heap (kept Live a.fault)
     told_in Live (suc t) e = cc
     told_in Returned zero e = cc
     told_in Returned (suc t) e = cc

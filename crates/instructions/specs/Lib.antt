@@ -3,7 +3,6 @@ pub mod Allowed
 pub mod Awaiting
 pub mod ByNumbers
 pub mod CallsByNumbers
-pub mod Carried
 pub mod HeapMonitors
 pub mod Heaps
 pub mod HeapsAgree
