@@ -53,6 +53,7 @@ mod Scenes
 pub mod ShownLemmas
 pub mod SelectedRows
 pub mod SelectorsCalled
+pub mod ServedNames
 pub mod Stepping
 pub mod StoredLemmas
 pub mod Throwables
