@@ -1,60 +1,22 @@
--- All code of a program that is served is carried out; and what holds of main where it runs alone.
+-- Each instruction at which a frame of a served program stands is served.
 use Rattle.std.proofs.Common.{◌≡◌, ℕ, zero, suc, List, [], ◌∷◌, Option, Some, None, Bool, true, false, refl, ap, sym, ◌∙◌}
-use Rattle.std.specs.Prelude.{codes, ◌&&◌, ◌==◌, cond, length, slice_get}
+use Rattle.std.specs.Prelude.{◌&&◌, ◌==◌, cond, length, slice_get}
 use Rattle.std.specs.List.{find, list_all}
 use Rattle.std.specs.Option.{option_and_then}
-use Rattle.model.specs.declared.names.Member.{Member}
-use Rattle.model.specs.declared.builtins.Builtin.TheVariants.{PrintInt}
 use Rattle.model.specs.declared.listings.Method.{Method}
 use Rattle.model.specs.declared.listings.Placed.{Placed}
 use Rattle.model.specs.declared.places.MethodPlace.{MethodPlace}
-use Rattle.model.specs.declared.instructions.Invocation.TheVariants.{Static}
-use Rattle.model.specs.declared.instructions.Instruction.TheVariants.{Invoke}
 use Rattle.model.specs.declared.turns.Fault.TheVariants.{NoInstruction}
-use Rattle.model.specs.declared.turns.Mark.TheVariants.{Unmarked}
 use Rattle.model.specs.ClassListings.{ClassListing}
 use Rattle.model.specs.CodeListings.{CodeListing}
-use Rattle.model.specs.Frames.{Frame, IsPlain, running, int_on}
-use Rattle.model.specs.Classes.Named.{listed, or_else}
-use Rattle.model.specs.Programs.{empty_initializer, method_in, builtin_of, code_at, instruction_of, main_in, method_at, placed_at}
-use Rattle.model.specs.Worlds.{World, frames_at, with_thread}
-use Rattle.model.specs.Worlds.Thread.{Ended}
-use Rattle.model.specs.Completions.{Site, frames_in}
-use Rattle.model.specs.Completions.Completion.{Goes, Faults}
-use Rattle.model.specs.Printing.{decimal_line}
-use Rattle.model.specs.Table.Builtins.{prints_on}
-use Rattle.model.specs.Monitors.{released}
-use Rattle.model.specs.Table.Returns.{initialised_if, left_world, returned}
-use Rattle.model.specs.Table.Next.{by_family, at_instruction, at_mark, at_frame, completion}
-use Rattle.model.proofs.OwnMethods.{print_called, main_gives, main_initializes}
+use Rattle.model.specs.Frames.{Frame}
+use Rattle.model.specs.Classes.Named.{or_else}
+use Rattle.model.specs.Programs.{empty_initializer, method_in, code_at, instruction_of, method_at, placed_at}
+use Rattle.model.specs.Worlds.{World, frames_at}
+use Rattle.model.specs.Completions.Completion.{Faults}
+use Rattle.model.specs.Table.Next.{completion}
 use Rattle.model.specs.Served.{is_served, serves_code, serves_methods, serves}
 use Rattle.model.specs.Texts.Names.{is_class_name}
-
--- ---- at an instruction of main
-
--- main's frame stands there, alone on its thread, with no monitor to give back; no class has the name of the machine's own
-pub record IsInMain (s : Site) : Type 0 where
-  pub alone : frames_in s ≡ s.frame ∷ []
-  pub main_is : main_in s.program ≡ Some s.frame.method
-  pub plain : IsPlain s.frame
-  pub unhidden : listed s.program (codes "vm/Sys") ≡ None
-
-main_leaves : (s : Site) → IsInMain s → left_world s ≡ s.world
-main_leaves s main =
-    ap (initialised_if (released s.world s.thread s.frame.monitor) s.frame.method.class) (main_initializes s.program s.frame.method main.main_is)
-    ∙ ap (released s.world s.thread) main.plain.0
-
--- main's return ends the thread
-pub returned_is : (s : Site) → IsInMain s → returned s None ≡ Goes (with_thread s.world s.thread (Ended None)) []
-returned_is s main =
-    rw (main_gives s.program s.frame.method main.main_is, main.alone)
-    (ap (λ (w : World). Goes (with_thread w s.thread (Ended None)) []) (main_leaves s main))
-
--- a call of the machine's print prints
-pub printed_is : (s : Site) (m : Member) → builtin_of m ≡ Some PrintInt → listed s.program (codes "vm/Sys") ≡ None → by_family s (Invoke Static m) ≡ prints_on s decimal_line (int_on s.frame.stack)
-printed_is s m e none = print_called s m e none
-
--- ---- all code of a program that is served is
 
 both : (a b : Bool) → (a && b) ≡ true → (a ≡ true) × (b ≡ true)
 both true b e = (refl, e)
@@ -104,13 +66,7 @@ instruction_served program f i served there =
     all-found (λ (i : Placed). is_served i.instruction) (λ (i : Placed). i.pc == f.pc) code.0.instructions i
     (code_served program f.method code.0 served code.1) code.2
 
--- ---- a thread that has ended, or runs main alone
-
--- what main comes to
-pub completion-main : (program : List ClassListing) (w : World) (t : ℕ) (f : Frame) → frames_at w t ≡ f ∷ [] → f.mark ≡ Unmarked → completion program w t ≡ at_instruction program w t f (instruction_of program f)
-unfolding completion
-completion-main program w t f e unmarked = ap (λ (frames : List Frame). at_frame program w t (running frames)) e ∙ ap (at_mark program w t f) unmarked
-
+-- a thread that has ended stands at no instruction
 pub completion-none : (program : List ClassListing) (w : World) (t : ℕ) → frames_at w t ≡ [] → completion program w t ≡ Faults NoInstruction
 unfolding completion
 completion-none program w t e = rw e
