@@ -116,7 +116,7 @@ fn is_one_refused(classes: &Classes<'_>, class: &[u8], methods: &[Method]) -> bo
         .any(|method| is_refused(classes, class, method))
 }
 
-/// Whether a member of the class is refused, or the machine doesn't carry out all of its code yet.
+/// Whether a member of the class is refused, or the class isn't served.
 #[tactic(auto, unfolding(model::specs::Accepted::RefusedMembers::has_refused_member))]
 pub fn has_refused_member(classes: &Classes<'_>, class: &Listing) -> bool
     ensures { result ≡ has_refused_member classes.now class.now }

@@ -5,7 +5,6 @@ ghost use Rattle.model.specs.Programs.{builtin_of, is_member, is_own_initializer
 
 use model::builtins::Builtin;
 use model::listings::Method;
-use model::names::Member;
 use resolve::builtins::is_builtin;
 use resolve::found::Found;
 use std::marker::Model;
@@ -65,17 +64,6 @@ fn builtin_named(method: &Named<'_>) -> Option<Builtin>
     } else {
         None
     }
-}
-
-/// The method of the machine's own that a reference names, if it names one.
-pub fn builtin_of(member: &Member) -> Option<Builtin>
-    ensures { result ≡ builtin_of member.now }
-{
-    builtin_named(&Named {
-        class: member.class.as_bytes(),
-        name: member.name.as_bytes(),
-        descriptor: member.descriptor.as_bytes(),
-    })
 }
 
 /// Which of the machine's own methods this is, if it is one.

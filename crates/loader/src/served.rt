@@ -1,16 +1,16 @@
 //! What the machine carries out so far.
-ghost use Rattle.std.specs.Prelude.{◌≡◌, ◌&&◌, not};
+ghost use Rattle.std.specs.Prelude.{◌≡◌, ◌&&◌, is_none, not};
 ghost use Rattle.std.specs.List.{list_all};
-ghost use Rattle.model.specs.Programs.{builtin_of, is_class_initializer};
-ghost use Rattle.model.specs.Served.{serves_constant, serves_call, serves_invocation, is_served, serves_rows, serves_code, serves_methods, serves};
+ghost use Rattle.model.specs.ClassFiles.References.{names_class};
+ghost use Rattle.model.specs.Classes.Types.{element_of};
+ghost use Rattle.model.specs.Served.{serves_constant, serves_array, serves_class, calls_thread, serves_call, is_served, serves_code, serves_methods, serves};
 ghost use Rattle.model.specs.declared.listings.Placed.{Placed as PlacedAt};
 
-use crate::own_methods::builtin_of;
-use crate::programs::is_class_initializer;
-use model::builtins::Builtin;
-use model::instructions::{ClassOperation, Constant, Instruction, Invocation};
-use model::listings::{ExceptionRow, Listed, Listing, Method, Placed};
-use model::names::Member;
+use model::descriptors::is_array_descriptor;
+use model::good_names::is_class_name;
+use model::instructions::{ArrayOperation, ClassOperation, Constant, Instruction};
+use model::listings::{Listed, Listing, Method, Placed};
+use model::names::{Member, Name};
 
 fn serves_constant(constant: &Constant<i32, i64>) -> bool
     ensures { result ≡ serves_constant constant.now }
@@ -18,20 +18,53 @@ fn serves_constant(constant: &Constant<i32, i64>) -> bool
     !matches!(constant, Constant::Long(_))
 }
 
-/// Whether a member is one of the machine's own methods that it carries out.
-fn serves_call(member: &Member) -> bool
-    ensures { result ≡ serves_call (builtin_of member.now) }
+/// Whether a class file can have the name, as a class's or as an array's descriptor.
+fn names_class(name: &[u8]) -> bool
+    ensures { result ≡ names_class name.now }
 {
-    matches!(builtin_of(member), Some(Builtin::PrintInt))
+    is_class_name(name) || is_array_descriptor(name)
 }
 
-fn serves_invocation(invocation: Invocation, member: &Member) -> bool
-    ensures { result ≡ serves_invocation invocation member.now }
+fn serves_array(operation: &ArrayOperation<Name>) -> bool
+    ensures { result ≡ serves_array operation.now }
 {
-    match invocation {
-        Invocation::Static => serves_call(member),
-        Invocation::Virtual | Invocation::Special | Invocation::Interface(_) => false,
+    match operation {
+        ArrayOperation::NewOf(name) => names_class(name.as_bytes()),
+        ArrayOperation::New(_)
+        | ArrayOperation::Length
+        | ArrayOperation::Load(_)
+        | ArrayOperation::Store(_) => true,
     }
+}
+
+fn serves_class(operation: ClassOperation, name: &Name) -> bool
+    ensures { result ≡ serves_class operation name.now }
+{
+    match operation {
+        ClassOperation::New => true,
+        ClassOperation::CheckCast | ClassOperation::InstanceOf => names_class(name.as_bytes()),
+    }
+}
+
+/// Whether a call may be one of a thread's own start or join, by the method's name and descriptor.
+fn calls_thread(member: &Member) -> bool
+    ensures { result ≡ calls_thread member.now }
+{
+    member.descriptor.is("()V") && (member.name.is("start") || member.name.is("join"))
+}
+
+/// Whether a type is no array.
+fn is_no_array(name: &[u8]) -> bool
+    ensures { result ≡ is_none (element_of name.now) }
+{
+    !matches!(name, [b'[', _, ..])
+}
+
+/// Whether the machine carries out calls of this method: it is no array's, and not a thread's start or join.
+fn serves_call(member: &Member) -> bool
+    ensures { result ≡ serves_call member.now }
+{
+    is_no_array(member.class.as_bytes()) && !calls_thread(member)
 }
 
 /// Whether the machine carries out this instruction.
@@ -44,25 +77,16 @@ fn is_served(instruction: &Listed) -> bool
         | Instruction::Stack(_)
         | Instruction::Number(_)
         | Instruction::Branch(_, _)
-        | Instruction::Static(_, _)
-        | Instruction::Field(_, _)
-        | Instruction::Class(ClassOperation::New, _) => true,
+        | Instruction::Return(_) => true,
+        Instruction::Static(_, _) | Instruction::Field(_, _) | Instruction::Throw => true,
         Instruction::Constant(constant) => serves_constant(constant),
-        Instruction::Return(kind) => kind.is_none(),
-        Instruction::Invoke(invocation, member) => serves_invocation(*invocation, member),
-        Instruction::TableSwitch(_)
-        | Instruction::LookupSwitch(_)
-        | Instruction::Array(_)
-        | Instruction::Class(_, _)
-        | Instruction::Throw
-        | Instruction::Monitor(_) => false,
+        Instruction::Array(operation) => serves_array(operation),
+        Instruction::Class(operation, name) => serves_class(*operation, name),
+        Instruction::Invoke(_, member) => serves_call(member),
+        Instruction::TableSwitch(_) | Instruction::LookupSwitch(_) | Instruction::Monitor(_) => {
+            false
+        }
     }
-}
-
-fn serves_rows(rows: &[ExceptionRow]) -> bool
-    ensures { result ≡ serves_rows rows.now }
-{
-    rows.is_empty()
 }
 
 fn serves_instructions(instructions: &[Placed]) -> bool
@@ -73,33 +97,26 @@ fn serves_instructions(instructions: &[Placed]) -> bool
         .all(|placed| is_served(&placed.instruction))
 }
 
-/// Whether the machine carries out a method's code: there are no exception rows, and all instructions are served.
+/// Whether the machine carries out a method's code.
 fn serves_code(method: &Method) -> bool
     ensures { result ≡ serves_code method.now.code }
 {
     match &method.code {
-        Some(code) => serves_rows(&code.rows) && serves_instructions(&code.instructions),
+        Some(code) => serves_instructions(&code.instructions),
         None => true,
     }
-}
-
-/// Whether the machine runs the method: it is no class initializer, and its code is served.
-fn serves_method(method: &Method) -> bool
-    ensures { result ≡ (not (is_class_initializer method.now) && serves_code method.now.code) }
-{
-    !is_class_initializer(method) && serves_code(method)
 }
 
 fn serves_methods(methods: &[Method]) -> bool
     ensures { result ≡ serves_methods methods.now }
 {
-    methods.iter().all(|method| serves_method(method))
+    methods.iter().all(|method| serves_code(method))
 }
 
-/// Whether the machine carries out all code of the class, and the class has no initializer.
+/// Whether the machine carries out all code of the class, and the class has a name that a class file can have.
 #[tactic(auto, unfolding(model::specs::Served::serves))]
 pub fn serves(class: &Listing) -> bool
     ensures { result ≡ serves class.now }
 {
-    serves_methods(&class.methods)
+    is_class_name(class.name.as_bytes()) && serves_methods(&class.methods)
 }

@@ -32,6 +32,7 @@ E main()V@9,96,4000 => accepted
 E main()V@9,0,0 f(IJ)V@9,3,0 g(IJ)V@1,4,0 => accepted
 E main()V@9,0,0 f()V@33,1,0 run()V@33,1,0 => accepted
 E main()V@9,0,0; X x:I@8 => accepted
+E main()V@9,0,0; X <clinit>()V@8,0,0 => accepted
 ";
 
 /// Each rule alone, broken by the first class, by one in the middle and by the last.
@@ -56,6 +57,7 @@ E main()V@9,0,0; X f()V@41,0,0 => L10 in class X
 E main()V@9,0,0; X ^java/lang/Thread; T ^X run()V@33,1,0 => L10 in class T
 E main()V@9,0,0; X <clinit>()V@1,1,0 => L10 in class X
 E main()V@9,0,0; X <clinit>(I)V@8,1,0 => L10 in class X
+E main()V@9,0,0; [X => L10 in class [X
 X main()V@9,97,4000 => L8 in class X
 E main()V@9,0,0; X f(IJ)V@9,2,0 => L8 in class X
 E main()V@9,0,0; X f(IJ)V@1,3,0 => L8 in class X
@@ -374,7 +376,7 @@ pub(crate) fn instruction(alloc: Global, words: &str) -> Result<Listed, Fail> {
     Ok(at_member(word, member))
 }
 
-/// Programs with these instructions aren't run yet, so the rule is called by itself.
+/// The rule is called by itself.
 #[test]
 fn references_are_resolved(rt: HostRuntime) -> Result<(), Fail> {
     let alloc = rt.alloc();
@@ -429,7 +431,7 @@ fn is_bad(alloc: Global, bounds: (u16, u16, u16), class: &str) -> Result<bool, F
     Ok(has_bad_row(alloc, &classes, class)?)
 }
 
-/// Programs with exception rows aren't run yet, so the rule is called by itself (JVMS 4.7.3).
+/// The rule is called by itself (JVMS 4.7.3).
 #[test]
 fn exception_rows_are_good_or_bad(rt: HostRuntime) -> Result<(), Fail> {
     for (bounds, class, wanted) in [

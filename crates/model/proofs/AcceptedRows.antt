@@ -1,7 +1,10 @@
 -- Worked rows: which small lists of listings are programs, and what the others are refused for.
 use Rattle.std.specs.Prelude.{◌≡◌, ℕ, List, [], ◌∷◌, Option, Some, None, codes, refl}
-use Rattle.model.specs.declared.instructions.Instruction.TheVariants.{Nop, Return, Throw}
+use Rattle.model.specs.declared.instructions.Instruction.TheVariants.{Invoke, Monitor, Nop, Return, Throw}
+use Rattle.model.specs.declared.instructions.Invocation.TheVariants.{Virtual}
+use Rattle.model.specs.declared.instructions.MonitorOperation.TheVariants.{Enter}
 use Rattle.model.specs.declared.listings.Method.{Method}
+use Rattle.model.specs.declared.names.Member.{Member}
 use Rattle.model.specs.declared.refusals.LoadRule.{LoadRule}
 use Rattle.model.specs.declared.refusals.LoadRule.TheVariants.{ClassTwice, MissingSuperclass, Cycle, WrongSuperclass, MemberTwice, LimitPassed, NoMain, RefusedMember, BuiltinName}
 use Rattle.model.specs.CodeListings.{CodeListing}
@@ -54,6 +57,9 @@ main = method 9 (codes "main") (codes "()V") (code_of 0 0 Nop)
 -- a class over Object with main and these methods behind it
 abbrev program_with : List ℕ → List Method → ClassListing
 program_with name methods = class_over object name 1 (main ∷ methods)
+
+abbrev started : Member
+started = record { class = codes "X"; name = codes "start"; descriptor = codes "()V" }
 
 abbrev names_class : LoadRule → List ℕ → Option LoadRefusal
 names_class rule name = Some (record { rule = rule; class = Some name })
@@ -131,9 +137,29 @@ unfolding serves builtin_classes is_within has_builtin_name is_class_twice has_m
 no_thread = refl
 
 -- an instruction that the machine doesn't carry out yet
-throwing : refusal_of (program_with (codes "X") (method 9 (codes "f") (codes "()V") (code_of 1 0 Throw) ∷ []) ∷ []) ≡ names_class RefusedMember (codes "X")
+entering : refusal_of (program_with (codes "X") (method 9 (codes "f") (codes "()V") (code_of 1 0 (Monitor Enter)) ∷ []) ∷ []) ≡ names_class RefusedMember (codes "X")
+unfolding serves builtin_classes is_within has_builtin_name is_class_twice has_missing_parent has_wrong_parent is_on_cycle has_member_twice has_refused_member has_unresolved has_bad_row fields_within is_too_large first_past_limits refusal_of
+entering = refl
+
+-- a throw
+throwing : refusal_of (program_with (codes "X") (method 9 (codes "f") (codes "()V") (code_of 1 0 Throw) ∷ []) ∷ []) ≡ None
 unfolding serves builtin_classes is_within has_builtin_name is_class_twice has_missing_parent has_wrong_parent is_on_cycle has_member_twice has_refused_member has_unresolved has_bad_row fields_within is_too_large first_past_limits refusal_of
 throwing = refl
+
+-- a class initializer that is static
+static_initializer : refusal_of (program_with (codes "X") (method 8 (codes "<clinit>") (codes "()V") (code_of 0 0 Nop) ∷ []) ∷ []) ≡ None
+unfolding serves builtin_classes is_within has_builtin_name is_class_twice has_missing_parent has_wrong_parent is_on_cycle has_member_twice has_refused_member has_unresolved has_bad_row fields_within is_too_large first_past_limits refusal_of
+static_initializer = refl
+
+-- a call of a `start()V`, which may be a thread's
+thread_started : refusal_of (program_with (codes "X") (method 9 (codes "f") (codes "()V") (code_of 1 0 (Invoke Virtual started)) ∷ []) ∷ []) ≡ names_class RefusedMember (codes "X")
+unfolding serves builtin_classes is_within has_builtin_name is_class_twice has_missing_parent has_wrong_parent is_on_cycle has_member_twice has_refused_member has_unresolved has_bad_row fields_within is_too_large first_past_limits refusal_of
+thread_started = refl
+
+-- a class with the name of an array
+array_class : refusal_of (program_with (codes "X") [] ∷ class_over object (codes "[X") 1 [] ∷ []) ≡ names_class RefusedMember (codes "[X")
+unfolding serves builtin_classes is_within has_builtin_name is_class_twice has_missing_parent has_wrong_parent is_on_cycle has_member_twice has_refused_member has_unresolved has_bad_row fields_within is_too_large first_past_limits refusal_of
+array_class = refl
 
 -- a frame of 4,096 units, and one of 4,097
 frame_of_4096_units : refusal_of (program_with (codes "X") (method 9 (codes "f") (codes "()V") (code_of 96 4000 Nop) ∷ []) ∷ []) ≡ None

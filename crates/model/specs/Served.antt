@@ -1,27 +1,26 @@
-use Rattle.std.specs.Prelude.{◌≡◌, codes, ℤ, List, [], ◌∷◌, Bool, true, false, ◌&&◌, not, Option, Some, None}
+use Rattle.std.specs.Prelude.{◌≡◌, codes, ℕ, ℤ, List, Bool, true, false, ◌&&◌, ◌||◌, not, is_none, Option, Some, None}
 use Rattle.std.specs.List.{list_all}
+use Rattle.std.specs.Str.{bytes_eq}
 use Rattle.model.specs.declared.names.Member.{Member}
-use Rattle.model.specs.declared.values.Kind.{Kind}
-use Rattle.model.specs.declared.builtins.Builtin.{Builtin}
-use Rattle.model.specs.declared.builtins.Builtin.TheVariants.{PrintInt, PrintLong, PutByte, Initialize, RunThread, StartThread, JoinThread}
 use Rattle.model.specs.declared.listings.Method.{Method}
 use Rattle.model.specs.declared.listings.Placed.{Placed}
-use Rattle.model.specs.declared.listings.ExceptionRow.{ExceptionRow}
+use Rattle.model.specs.declared.instructions.ArrayOperation.{ArrayOperation}
+use Rattle.model.specs.declared.instructions.ArrayOperation.TheVariants.{New as NewArray, NewOf, Length, Load, Store}
 use Rattle.model.specs.declared.instructions.ClassOperation.{ClassOperation}
 use Rattle.model.specs.declared.instructions.ClassOperation.TheVariants.{New, CheckCast, InstanceOf}
 use Rattle.model.specs.declared.instructions.Constant.{Constant as ConstantOf}
 use Rattle.model.specs.declared.instructions.Constant.TheVariants.{Null, SmallInt, SmallLong, Byte, Short, Int, Long}
-use Rattle.model.specs.declared.instructions.Invocation.{Invocation}
-use Rattle.model.specs.declared.instructions.Invocation.TheVariants.{Virtual, Special, Static, Interface}
 use Rattle.model.specs.declared.instructions.Instruction.TheVariants.{Nop, Constant, Local, Stack, Number, Branch, TableSwitch, LookupSwitch, Return, Static as StaticField, Field, Array, Class, Invoke, Throw, Monitor}
+use Rattle.model.specs.ClassFiles.References.{names_class}
 use Rattle.model.specs.CodeListings.{CodeListing}
 use Rattle.model.specs.ClassListings.{ClassListing}
-use Rattle.model.specs.Classes.Named.{listed}
-use Rattle.model.specs.Programs.{builtin_of, is_class_initializer}
+use Rattle.model.specs.Classes.Types.{element_of}
 use Rattle.model.specs.Table.Next.{Listed}
+use Rattle.model.specs.Texts.Names.{is_class_name}
 
--- What the machine carries out so far. A class with anything else is refused, so that no program meets a case of the
--- instruction table that the code doesn't have yet.
+-- What the machine carries out so far. It refuses both switches, `ldc2_w`, `monitorenter` and `monitorexit`, calls of a
+-- thread's `start` and `join`, calls of the methods of an array, and names of classes and types that no class file has. A
+-- class with any of these is refused, so that no program meets a case of the instruction table that the code doesn't have.
 
 -- a long that `ldc2_w` loads may have more bits than an operation has room for
 abbrev pub serves_constant : ConstantOf ℤ ℤ → Bool
@@ -32,6 +31,8 @@ serves_constant (Byte z) = true
 serves_constant (Short z) = true
 serves_constant (Int width z) = true
 serves_constant (Long z) = false
+
+-- ---- families of instructions
 
 -- instructions that change the running frame alone, but for switches
 abbrev pub is_plain : Listed → Bool
@@ -52,37 +53,11 @@ is_plain (Invoke invocation member) = false
 is_plain Throw = false
 is_plain (Monitor operation) = false
 
--- the return of no value
-abbrev pub serves_return : Option Kind → Bool
-serves_return None = true
-serves_return (Some kind) = false
-
--- the print of an int
-abbrev pub serves_builtin : Builtin → Bool
-serves_builtin PrintInt = true
-serves_builtin PrintLong = false
-serves_builtin PutByte = false
-serves_builtin Initialize = false
-serves_builtin RunThread = false
-serves_builtin StartThread = false
-serves_builtin JoinThread = false
-
-abbrev pub serves_call : Option Builtin → Bool
-serves_call None = false
-serves_call (Some builtin) = serves_builtin builtin
-
--- calls of the machine's own static methods
-abbrev pub serves_invocation : Invocation → Member → Bool
-serves_invocation Virtual member = false
-serves_invocation Special member = false
-serves_invocation Static member = serves_call (builtin_of member)
-serves_invocation (Interface count) member = false
-
 -- objects are made
-abbrev pub serves_class : ClassOperation → Bool
-serves_class New = true
-serves_class CheckCast = false
-serves_class InstanceOf = false
+abbrev pub makes_object : ClassOperation → Bool
+makes_object New = true
+makes_object CheckCast = false
+makes_object InstanceOf = false
 
 -- instructions that name a field, or the class of a new object
 abbrev pub goes_by_name : Listed → Bool
@@ -98,10 +73,35 @@ goes_by_name (Return kind) = false
 goes_by_name (StaticField access member) = true
 goes_by_name (Field access member) = true
 goes_by_name (Array operation) = false
-goes_by_name (Class operation name) = serves_class operation
+goes_by_name (Class operation name) = makes_object operation
 goes_by_name (Invoke invocation member) = false
 goes_by_name Throw = false
 goes_by_name (Monitor operation) = false
+
+-- ---- what is served
+
+-- arrays of a class, or of arrays, are made by a name that a class file can have
+abbrev pub serves_array : ArrayOperation (List ℕ) → Bool
+serves_array (NewArray primitive) = true
+serves_array (NewOf name) = names_class name
+serves_array Length = true
+serves_array (Load kind) = true
+serves_array (Store kind) = true
+
+-- and so is a type that an object is tested against
+abbrev pub serves_class : ClassOperation → List ℕ → Bool
+serves_class New name = true
+serves_class CheckCast name = names_class name
+serves_class InstanceOf name = names_class name
+
+-- a call that may be one of a thread's own start or join, by the method's name and descriptor
+abbrev pub calls_thread : Member → Bool
+calls_thread m =
+    bytes_eq m.descriptor (codes "()V") && (bytes_eq m.name (codes "start") || bytes_eq m.name (codes "join"))
+
+-- calls but of an array's methods, and of a thread's start and join
+abbrev pub serves_call : Member → Bool
+serves_call m = is_none (element_of m.class) && not (calls_thread m)
 
 abbrev pub is_served : Listed → Bool
 is_served Nop = true
@@ -112,33 +112,26 @@ is_served (Number operation) = true
 is_served (Branch test target) = true
 is_served (TableSwitch table) = false
 is_served (LookupSwitch lookup) = false
-is_served (Return kind) = serves_return kind
+is_served (Return kind) = true
 is_served (StaticField access member) = true
 is_served (Field access member) = true
-is_served (Array operation) = false
-is_served (Class operation name) = serves_class operation
-is_served (Invoke invocation member) = serves_invocation invocation member
-is_served Throw = false
+is_served (Array operation) = serves_array operation
+is_served (Class operation name) = serves_class operation name
+is_served (Invoke invocation member) = serves_call member
+is_served Throw = true
 is_served (Monitor operation) = false
-
--- no exception is handled
-abbrev pub serves_rows : List ExceptionRow → Bool
-serves_rows [] = true
-serves_rows (r ∷ rs) = false
 
 abbrev pub serves_code : Option CodeListing → Bool
 serves_code None = true
-serves_code (Some code) = serves_rows code.rows && list_all (λ (i : Placed). is_served i.instruction) code.instructions
+serves_code (Some code) = list_all (λ (i : Placed). is_served i.instruction) code.instructions
 
--- no class is initialised
 abbrev pub serves_methods : List Method → Bool
-serves_methods methods = list_all (λ (m : Method). not (is_class_initializer m) && serves_code m.code) methods
+serves_methods methods = list_all (λ (m : Method). serves_code m.code) methods
 
--- the machine carries out all code of the class, and the class has no initializer
+-- the machine carries out all code of the class, and the class has a name that a class file can have
 unfoldable pub serves : ClassListing → Bool
-serves c = serves_methods c.methods
+serves c = is_class_name c.name && serves_methods c.methods
 
--- the machine can run the program: it carries out all code, and no class of the program has the name of its own that prints
+-- the machine carries out all code of the program
 pub record ServedProgram (program : List ClassListing) : Type 0 where
   pub code : list_all serves program ≡ true
-  pub unhidden : listed program (codes "vm/Sys") ≡ None

@@ -25,6 +25,6 @@ abbrev pub is_refused : List ClassListing → List ℕ → Method → Bool
 is_refused program name m =
     is_wrong_initializer m || is_native m || (is_synchronized m && (is_static m || (is_run m && is_thread program name)))
 
--- L10: a member of the class is refused, or the machine doesn't carry out all of its code yet
+-- L10: a member of the class is refused, or the class isn't served
 unfoldable pub has_refused_member : List ClassListing → ClassListing → Bool
 has_refused_member program c = list_any (is_refused program c.name) c.methods || not (serves c)
