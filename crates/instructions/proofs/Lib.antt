@@ -54,7 +54,6 @@ pub mod ShownLemmas
 pub mod Silent
 pub mod SelectedRows
 pub mod SelectorsCalled
-pub mod ServedNames
 pub mod Stepping
 pub mod StoredLemmas
 pub mod ThrowAgreement

@@ -26,7 +26,7 @@ use Rattle.model.specs.Classes.Resolution.{resolved_field}
 use Rattle.model.specs.Classes.Special.{superclass_at}
 use Rattle.model.specs.Classes.Types.{element_of}
 use Rattle.model.specs.Programs.{code_at, instruction_of, placed_at}
-use Rattle.model.specs.Served.{goes_by_name, is_plain}
+use Rattle.model.specs.Served.{calls_thread, goes_by_name, is_plain, is_served}
 use Rattle.model.specs.Table.Initialisation.{after_initialising}
 use Rattle.model.specs.Table.Next.{Listed, class_used, completion, by_family, at_frame, at_instruction, at_mark}
 use Rattle.model.specs.Turns.{print_of}
@@ -45,8 +45,7 @@ use Rattle.resolve.specs.Numbers.{class_number}
 use Rattle.instructions.specs.declared.machines.Machine.{Machine}
 use Rattle.instructions.specs.Acting.{site_of}
 use Rattle.instructions.specs.ByNumbers.{AreStored, IsNumbered, operated_by_numbers}
-use Rattle.instructions.specs.CallsByNumbers.{calls_thread, is_call, operated_by_served_calls, served_call}
-use Rattle.model.specs.Served.{is_served}
+use Rattle.instructions.specs.CallsByNumbers.{is_call, operated_by_served_calls, served_call}
 use Rattle.instructions.specs.Heaps.{HeapValue}
 use Rattle.instructions.specs.NamedTypes.{goes_by_type, has_names}
 use Rattle.instructions.specs.Operated.{completed, completed_at, marked, moved_or, operated, operated_else, printed_at, standing, stepped, waits_at}

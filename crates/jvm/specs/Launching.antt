@@ -7,7 +7,7 @@ use Rattle.classfile.specs.declared.error.ClassError.TheVariants.{Memory as Clas
 use Rattle.loader.specs.Errors.{IsRefusedBy}
 use Rattle.model.specs.Limits.{ShapeFits, LimitsFit}
 use Rattle.scheduler.specs.declared.worlds.WorldError.{WorldError}
-use Rattle.scheduler.specs.declared.worlds.WorldError.TheVariants.{Shape, Limits as OfLimits, Memory as WorldMemory}
+use Rattle.scheduler.specs.declared.worlds.WorldError.TheVariants.{Shape, Limits as OfLimits, Memory as WorldMemory, Frames as OpeningFrames}
 use Rattle.jvm.specs.declared.sources.SourceError.{SourceError}
 use Rattle.jvm.specs.declared.sources.SourceError.TheVariants.{Text, Assembly, Class, Memory}
 use Rattle.jvm.specs.declared.launching.LaunchError.{LaunchError}
@@ -18,6 +18,7 @@ use Rattle.model.specs.declared.journals.Limits.{Limits}
 use Rattle.model.specs.ClassListings.{ClassListing}
 use Rattle.model.specs.Machines.{Recorded, opened, after_turns}
 use Rattle.model.specs.Accepted.Refusals.{refusal_of}
+use Rattle.model.specs.Worlds.{opening_fits}
 use Rattle.model.specs.Texts.{tree_of}
 use Rattle.model.specs.Texts.Trees.{Tree}
 use Rattle.model.specs.Texts.Assembling.{assembles}
@@ -79,15 +80,23 @@ LacksMemory (Assembly e) = e ≡ AsmMemory
 LacksMemory (Class e) = e ≡ ClassMemory
 LacksMemory Memory = Unit {0}
 
--- a shape or limits out of range, or want of memory
-abbrev pub ExcusesWorld : HeapShape → Limits → WorldError → Type 0
-ExcusesWorld shape limits Shape = ShapeFits shape.small shape.medium shape.large → ⊥
-ExcusesWorld shape limits OfLimits = LimitsFit limits.steps limits.output → ⊥
-ExcusesWorld shape limits WorldMemory = Unit {0}
+-- a program whose opening frames pass a thread's limits
+pub record OpensTooWide (sources : List (List ℕ)) : Type 0 where
+  pub program : List ClassListing
+  pub listings_are : AreListings sources program
+  pub accepted : refusal_of program ≡ None
+  pub wide : opening_fits program ≡ false
+
+-- a shape or limits out of range, opening frames that don't fit, or want of memory
+abbrev pub ExcusesWorld : List (List ℕ) → HeapShape → Limits → WorldError → Type 0
+ExcusesWorld sources shape limits Shape = ShapeFits shape.small shape.medium shape.large → ⊥
+ExcusesWorld sources shape limits OfLimits = LimitsFit limits.steps limits.output → ⊥
+ExcusesWorld sources shape limits WorldMemory = Unit {0}
+ExcusesWorld sources shape limits OpeningFrames = OpensTooWide sources
 
 -- but for want of memory a source is refused only where the sources have no listings, a list of listings only by its
--- first broken rule, a shape and limits only where they are out of range
+-- first broken rule, a shape and limits only where they are out of range, and its opening only where its frames do not fit
 abbrev pub Excuses : List (List ℕ) → HeapShape → Limits → LaunchError → Type 0
 Excuses sources shape limits (Source place e) = (LacksMemory e → ⊥) → (program : List ClassListing) → AreListings sources program → ⊥
 Excuses sources shape limits (Load e) = (program : List ClassListing) × AreListings sources program × IsRefusedBy program e
-Excuses sources shape limits (World e) = ExcusesWorld shape limits e
+Excuses sources shape limits (World e) = ExcusesWorld sources shape limits e
