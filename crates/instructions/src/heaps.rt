@@ -14,8 +14,6 @@ mod entering;
 mod filling;
 mod looking;
 mod monitoring;
-#[cfg(test)]
-mod tests;
 
 use crate::kinds::{Course, Kind};
 use cells::Cells;

@@ -28,8 +28,6 @@ mod readiness;
 mod returns;
 pub mod state;
 mod statics;
-#[cfg(test)]
-mod tests;
 mod throwing;
 mod type_operations;
 mod types;
