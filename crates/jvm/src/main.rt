@@ -2,6 +2,8 @@
 #![tactic(auto)]
 
 mod executing;
+#[cfg(test)]
+mod family_tests;
 mod files;
 #[cfg(test)]
 mod heap_tests;
