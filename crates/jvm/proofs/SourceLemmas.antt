@@ -1,9 +1,16 @@
 -- The listings of sources, one by one.
-use Rattle.std.proofs.Common.{◌≡◌, ◌+◌, ◌<◌, ℕ, zero, suc, List, [], ◌∷◌, ◌++◌, length, take, get_or, ap, sym, ◌∙◌, arith, subst, Vec}
+use Rattle.std.proofs.Common.{◌≡◌, ◌+◌, ◌<◌, ℕ, zero, suc, List, [], ◌∷◌, ◌++◌, length, take, get_or, None, false, refl, ap, sym, ◌∙◌, arith, subst, Vec}
 use Rattle.std.proofs.lemmas.List.{map_push, take_more, take_all}
 use Rattle.std.specs.Global.{Global}
+use Rattle.model.specs.declared.journals.HeapShape.{HeapShape}
+use Rattle.model.specs.declared.journals.Limits.{Limits}
+use Rattle.model.specs.Accepted.Refusals.{refusal_of}
 use Rattle.model.specs.ClassListings.{ClassListing}
-use Rattle.jvm.specs.Launching.{AreListings, IsListing, bytes_of}
+use Rattle.model.specs.Limits.{LimitsFit, ShapeFits}
+use Rattle.model.specs.Worlds.{opening_fits}
+use Rattle.scheduler.specs.declared.worlds.WorldError.{WorldError}
+use Rattle.scheduler.specs.declared.worlds.WorldError.TheVariants.{Shape, Limits as OfLimits, Memory as WorldMemory, Frames as OpeningFrames}
+use Rattle.jvm.specs.Launching.{AreListings, ExcusesWorld, IsListing, bytes_of}
 
 abbrev pub Source : Type 0
 Source = Vec ℕ Global
@@ -41,3 +48,18 @@ none_more sources n s inside is none program are =
 pub all_read : (sources : List Source) (n : ℕ) (front : List ClassListing) → n ≡ length sources → AreListings (bytes_of (take n sources)) front → AreListings (bytes_of sources) front
 all_read sources n front at_end so_far =
     subst (λ (ss : List Source). AreListings (bytes_of ss) front) (take_all n sources (omega (arith, at_end))) so_far
+
+-- ---- why there is no world
+
+pub world_excused : (sources : List (List ℕ)) (shape : HeapShape) (limits : Limits) (program : List ClassListing) (error : WorldError)
+    → AreListings sources program
+    → (error ≡ Shape → ShapeFits shape.small shape.medium shape.large → ⊥)
+    → (error ≡ OfLimits → LimitsFit limits.steps limits.output → ⊥)
+    → (error ≡ OpeningFrames → opening_fits program ≡ false)
+    → (error ≡ OpeningFrames → refusal_of program ≡ None)
+    → ExcusesWorld sources shape limits error
+world_excused sources shape limits program Shape are wrong_shape wrong_limits wide accepted = wrong_shape refl
+world_excused sources shape limits program OfLimits are wrong_shape wrong_limits wide accepted = wrong_limits refl
+world_excused sources shape limits program WorldMemory are wrong_shape wrong_limits wide accepted = tt
+world_excused sources shape limits program OpeningFrames are wrong_shape wrong_limits wide accepted =
+    record { program = program; listings_are = are; accepted = accepted refl; wide = wide refl }

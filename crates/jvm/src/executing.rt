@@ -114,12 +114,12 @@ fn refused(alloc: Global, names: &[String], error: &LaunchError) -> Ending {
     }
 }
 
-/// Makes so many turns of the collector, while the world runs.
+/// Makes so many turns of the collector, where the world runs: its turns change nothing of that.
 fn collect(world: &mut World, turns: u32) {
+    if world.status() != Status::Running {
+        return;
+    }
     for _ in 0..turns {
-        if world.status() != Status::Running {
-            return;
-        }
         let _ = world.turn(Actor::Collector);
     }
 }
