@@ -5,4 +5,6 @@
 #![tactic(auto)]
 
 #[cfg(test)]
+mod frames_tests;
+#[cfg(test)]
 mod model_tests;
