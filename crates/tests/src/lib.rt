@@ -8,3 +8,5 @@
 mod frames_tests;
 #[cfg(test)]
 mod model_tests;
+#[cfg(test)]
+mod resolve_tests;
