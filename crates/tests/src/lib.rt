@@ -11,4 +11,6 @@ mod loader_tests;
 #[cfg(test)]
 mod model_tests;
 #[cfg(test)]
+mod plain_steps_tests;
+#[cfg(test)]
 mod resolve_tests;
