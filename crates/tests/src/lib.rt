@@ -13,4 +13,6 @@ mod model_tests;
 #[cfg(test)]
 mod plain_steps_tests;
 #[cfg(test)]
+mod pool_tests;
+#[cfg(test)]
 mod resolve_tests;
