@@ -11,6 +11,8 @@ mod loader_tests;
 #[cfg(test)]
 mod model_tests;
 #[cfg(test)]
+mod opcodes_tests;
+#[cfg(test)]
 mod plain_steps_tests;
 #[cfg(test)]
 mod pool_tests;
