@@ -7,6 +7,8 @@
 #[cfg(test)]
 mod frames_tests;
 #[cfg(test)]
+mod jasmin_tests;
+#[cfg(test)]
 mod loader_tests;
 #[cfg(test)]
 mod model_tests;
