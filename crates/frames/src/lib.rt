@@ -46,6 +46,3 @@ mod results;
 mod thread_frames;
 
 pub use thread_frames::Frames;
-
-#[cfg(test)]
-mod tests;

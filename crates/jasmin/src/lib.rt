@@ -27,8 +27,3 @@ pub use errors::{Fault, TextError};
 pub use labels::Labels;
 pub use laws::texts_are_spelled;
 pub use reader::read;
-
-#[cfg(test)]
-mod spellings;
-#[cfg(test)]
-mod tests;

@@ -18,8 +18,6 @@ pub mod method_tables;
 mod narrowing;
 mod numbered_operations;
 mod numbering;
-#[cfg(test)]
-mod operation_tests;
 pub mod operations;
 pub mod own_methods;
 mod pcs;
@@ -32,8 +30,6 @@ mod resolved_operations;
 mod rules;
 pub mod selection;
 pub mod selection_rows;
-#[cfg(test)]
-mod selection_tests;
 pub mod selector_arguments;
 pub mod selectors;
 mod served;
@@ -41,11 +37,7 @@ pub mod static_slots;
 mod step_lists;
 pub mod storages;
 mod superclasses;
-#[cfg(test)]
-mod table_tests;
 pub mod tables;
-#[cfg(test)]
-mod tests;
 mod type_numbers;
 
 pub use acceptance::accept;

@@ -22,8 +22,6 @@ pub mod names;
 pub mod places;
 pub mod refusals;
 pub mod stored_journals;
-#[cfg(test)]
-mod tests;
 pub mod trees;
 pub mod turns;
 pub mod values;

@@ -22,6 +22,3 @@ pub use encoding::encode;
 pub use error::OpError;
 pub use laws::one_spelling;
 pub use model::bytecode::{Instr, Located};
-
-#[cfg(test)]
-mod tests;

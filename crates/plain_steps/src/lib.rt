@@ -22,14 +22,10 @@
 mod branches;
 mod constants;
 mod locals;
-#[cfg(test)]
-mod move_tests;
 mod numbers;
 mod stacks;
 mod steps;
 mod switches;
-#[cfg(test)]
-mod tests;
 mod written;
 
 pub use branches::branched;

@@ -14,6 +14,3 @@ pub use builder::{AddError, PoolBuilder};
 pub use error::ReadError;
 pub use pools::Pool;
 pub use references::MemberKind;
-
-#[cfg(test)]
-mod tests;

@@ -20,6 +20,4 @@ pub mod resolution;
 mod search;
 mod sought;
 mod special;
-#[cfg(test)]
-mod tests;
 pub mod types;

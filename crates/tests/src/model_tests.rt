@@ -1,13 +1,13 @@
 //! Each call that takes memory succeeds where there is some; printed names.
-use crate::descriptors::{
+use model::descriptors::{
     argument_units, arguments_of, descriptor_kind, is_array_descriptor, is_field_descriptor,
     is_int_type, is_long_type, result_kind,
 };
-use crate::good_names::{is_class_name, is_field_name, is_method_name, is_part};
-use crate::journals::{HeapShape, Journal, Limits, Outcome, Row};
-use crate::names::Name;
-use crate::turns::{Actor, Fault};
-use crate::values::Kind;
+use model::good_names::{is_class_name, is_field_name, is_method_name, is_part};
+use model::journals::{HeapShape, Journal, Limits, Outcome, Row};
+use model::names::Name;
+use model::turns::{Actor, Fault};
+use model::values::Kind;
 use std::test::Fail;
 
 #[test]

@@ -1,11 +1,10 @@
 //! Texts with the tree or the refusal that the syntax gives them.
 
-use crate::errors::{Fault, TextError};
-use crate::laws::texts_are_spelled;
-use crate::reader::read;
 use bitflags::Flags;
+use jasmin::{Fault, TextError, read, texts_are_spelled};
 use model::flags::ClassFlags;
-use model::listings::Constant;
+use model::listings::{Constant, Field};
+use model::trees::{ClassTree, MethodTree};
 use std::alloc::Global;
 use std::process::Abort;
 use std::test::Fail;
@@ -294,27 +293,70 @@ fn texts_are_read_or_refused(rt: HostRuntime) -> Result<(), Fail> {
     Ok(())
 }
 
+/// Whether this is the method `public static main()V` with one line of code and no room for values.
+fn is_smallest_main(main: &MethodTree) -> bool {
+    let Some(body) = &main.body else {
+        return false;
+    };
+    main.name.is("main")
+        && main.descriptor.is("()V")
+        && main.flags.bits() == 0x0009
+        && (body.max_stack, body.max_locals, body.lines.len()) == (0, 0, 1)
+}
+
+/// Whether this is a class E over Object with such a main alone.
+fn is_smallest_class(tree: &ClassTree) -> bool {
+    tree.name.is("E")
+        && tree.superclass.is("java/lang/Object")
+        && tree.flags == ClassFlags::PUBLIC
+        && (tree.interfaces.len(), tree.fields.len()) == (0, 0)
+        && matches!(tree.methods.as_slice(), [main] if is_smallest_main(main))
+}
+
 #[test]
 fn the_smallest_program_is_read(rt: HostRuntime) -> Result<(), Fail> {
     let text =
         ".class public E\n.super java/lang/Object\n.method public static main()V\n.limit stack 0\n.limit locals 0\nreturn\n.end method\n";
     let tree = read(rt.alloc(), text.as_bytes())?;
-    assert_eq!(rt; tree.flags, ClassFlags::PUBLIC);
-    assert_eq!(rt; tree.name.as_bytes(), b"E".as_slice());
-    assert_eq!(rt; tree.superclass.as_bytes(), b"java/lang/Object".as_slice());
-    assert_eq!(rt; tree.interfaces.len(), 0);
-    assert_eq!(rt; tree.fields.len(), 0);
-    let main = tree.methods.first().ok_or("no method")?;
-    assert_eq!(rt; main.name.as_bytes(), b"main".as_slice());
-    assert_eq!(rt; main.descriptor.as_bytes(), b"()V".as_slice());
-    assert_eq!(rt; main.flags.bits(), 0x0009);
-    let body = main.body.as_ref().ok_or("no body")?;
-    assert_eq!(rt;
-        (body.max_stack, body.max_locals, body.lines.len()),
-        (0, 0, 1)
-    );
+    assert!(rt; is_smallest_class(&tree));
     texts_are_spelled();
     Ok(())
+}
+
+/// Whether a field has this name, descriptor and flags, and this constant.
+fn is_field(
+    field: &Field,
+    name: &str,
+    descriptor: &str,
+    flags: u16,
+    constant: Option<Constant>,
+) -> bool {
+    field.name.is(name)
+        && field.descriptor.is(descriptor)
+        && field.flags.bits() == flags
+        && field.constant == constant
+}
+
+/// Whether an interface has two superinterfaces, a method, and the fields `least` and `none`.
+fn is_interface(tree: &ClassTree) -> bool {
+    let (Some(first), Some(least), Some(none)) = (
+        tree.interfaces.first(),
+        tree.fields.first(),
+        tree.fields.last(),
+    ) else {
+        return false;
+    };
+    tree.flags.bits() == 0x0601
+        && (tree.interfaces.len(), tree.fields.len(), tree.methods.len()) == (2, 2, 1)
+        && first.is("a/J")
+        && is_field(
+            least,
+            "least",
+            "J",
+            0x0019,
+            Some(Constant::Long(-9_223_372_036_854_775_808)),
+        )
+        && is_field(none, "none", "La/I;", 0x0099, None)
 }
 
 #[test]
@@ -322,24 +364,7 @@ fn an_interface_has_superinterfaces_and_values(rt: HostRuntime) -> Result<(), Fa
     let text =
         ".interface public a/I\n.super java/lang/Object\n.implements a/J\n.implements K\n.field public static final least J = -9223372036854775808\n.field public static final transient none La/I;\n.method public abstract m(J)I\n.end method\n";
     let tree = read(rt.alloc(), text.as_bytes())?;
-    assert_eq!(rt; tree.flags.bits(), 0x0601);
-    assert_eq!(rt;
-        (tree.interfaces.len(), tree.fields.len(), tree.methods.len()),
-        (2, 2, 1)
-    );
-    let first = tree.interfaces.first().ok_or("no interface")?;
-    assert_eq!(rt; first.as_bytes(), b"a/J".as_slice());
-    let least = tree.fields.first().ok_or("no field")?;
-    assert_eq!(rt; least.flags.bits(), 0x0019);
-    assert_eq!(rt; least.name.as_bytes(), b"least".as_slice());
-    assert_eq!(rt; least.descriptor.as_bytes(), b"J".as_slice());
-    assert_eq!(rt;
-        least.constant,
-        Some(Constant::Long(-9_223_372_036_854_775_808))
-    );
-    let none = tree.fields.last().ok_or("no field")?;
-    assert_eq!(rt; none.flags.bits(), 0x0099);
-    assert_eq!(rt; none.constant, None);
+    assert!(rt; is_interface(&tree));
     Ok(())
 }
 
@@ -371,18 +396,28 @@ fn arguments_have_255_units_with_the_object(rt: HostRuntime) -> Result<(), Fail>
 
 #[test]
 fn names_have_65535_bytes_and_labels_more(rt: HostRuntime) -> Result<(), Fail> {
-    let alloc = rt.alloc();
-    let name = repeated(alloc, "aaaaaaaaaaaaaaa", 4369)?;
-    let line = format!(in alloc; ".implements {name}\n")?;
-    let lines = repeated(alloc, line.as_str(), 40)?;
-    let text = format!(in alloc; "{HEAD}\n{lines}")?;
-    assert_eq!(rt; outcome(alloc, text.as_str())?.as_str(), "read");
-    let text = format!(in alloc; "{HEAD}\n{lines}.implements {name}a\n")?;
-    assert_eq!(rt; outcome(alloc, text.as_str())?.as_str(), "J3 at line 43");
-    let text = format!(in alloc; "{HEAD}\n.field {name} I\n.field {name}a I\n")?;
-    assert_eq!(rt; outcome(alloc, text.as_str())?.as_str(), "J3 at line 4");
-    let text = format!(in alloc; "{METHOD}\n{name}a:\n{END}")?;
-    assert_eq!(rt; outcome(alloc, text.as_str())?.as_str(), "read");
+    let name = repeated(rt.alloc(), "aaaaaaaaaaaaaaa", 4369)?;
+    for (head, before, more, behind, expected) in [
+        (HEAD, ".implements ", "", "", "read"),
+        (HEAD, ".implements ", "a", "", "J3 at line 3"),
+        (HEAD, ".field ", "", " I", "read"),
+        (HEAD, ".field ", "a", " I", "J3 at line 3"),
+        (METHOD, "", "a", ":\nreturn\n.end method", "read"),
+    ] {
+        let text = format!(in rt.alloc(); "{head}\n{before}{name}{more}{behind}\n")?;
+        assert_eq!(rt; outcome(rt.alloc(), text.as_str())?.as_str(), expected);
+    }
+    Ok(())
+}
+
+/// There may be more than two million bytes of names.
+#[test]
+fn names_are_many(rt: HostRuntime) -> Result<(), Fail> {
+    let name = repeated(rt.alloc(), "aaaaaaaaaaaaaaa", 4369)?;
+    let line = format!(in rt.alloc(); ".implements {name}\n")?;
+    let lines = repeated(rt.alloc(), line.as_str(), 40)?;
+    let text = format!(in rt.alloc(); "{HEAD}\n{lines}")?;
+    assert_eq!(rt; outcome(rt.alloc(), text.as_str())?.as_str(), "read");
     Ok(())
 }
 

@@ -1,13 +1,14 @@
 //! Selection tables and selectors of a small program, by hand from JVMS 6.5, invokevirtual. Private methods are passed over.
 
-use crate::selection::Selection;
-use crate::selection_rows::SelectionRow;
-use crate::selectors::Selectors;
-use crate::tests::{instruction, placed, program};
+use super::words::{program, program_with};
+use loader::selection::Selection;
+use loader::selection_rows::SelectionRow;
+use loader::selectors::Selectors;
 use model::listings::Listing;
 use resolve::classes::Classes;
 use std::alloc::{AllocError, Global};
 use std::fmt::Write;
+use std::process::Abort;
 use std::test::Fail;
 
 /// Of A's methods g is private and s static. J is an interface; its k is declared by no class that implements it.
@@ -22,24 +23,6 @@ invokespecial A g ()V
 invokevirtual B h (I)V
 ";
 
-/// Adds these calls to the code of a class's first method.
-fn add_calls(alloc: Global, class: &mut Listing, calls: &str) -> Result<(), Fail> {
-    let method = class.methods.first_mut().ok_or("no method")?;
-    let code = method.code.as_mut().ok_or("no code")?;
-    for words in calls.lines() {
-        code.instructions
-            .push(placed(0, instruction(alloc, words)?))?;
-    }
-    Ok(())
-}
-
-/// The program, with the calls in its first method.
-fn calling(alloc: Global) -> Result<Vec<Listing>, Fail> {
-    let mut program = program(alloc, CLASSES)?;
-    add_calls(alloc, program.first_mut().ok_or("no class")?, CALLS)?;
-    Ok(program)
-}
-
 /// Rows as text: the class's number and the method's place.
 fn shown(alloc: Global, rows: &[SelectionRow]) -> Result<String, AllocError> {
     let mut text = String::new(alloc);
@@ -49,13 +32,26 @@ fn shown(alloc: Global, rows: &[SelectionRow]) -> Result<String, AllocError> {
     Ok(text)
 }
 
+/// The selection tables of a program that has no fault.
+fn selection_of(alloc: Global, program: &[Listing]) -> Result<Selection, Fail> {
+    match Classes::new(alloc, program)? {
+        Some(classes) => Ok(Selection::new(alloc, &classes)?),
+        None => Err(Fail::new("no classes")),
+    }
+}
+
+/// The rows of a class as text.
+fn table(alloc: Global, selection: &Selection, class: usize) -> Result<String, Fail> {
+    if class >= selection.len() {
+        return Err(Fail::new("no table"));
+    }
+    Ok(shown(alloc, selection.table(class))?)
+}
+
 /// Object has the number 4, Thread 25 and vm/Sys 26, behind the program's four. The order is of names, then of descriptors.
 #[test]
 fn tables_hold_the_nearest_methods(rt: HostRuntime) -> Result<(), Fail> {
-    let alloc = rt.alloc();
-    let program = program(alloc, CLASSES)?;
-    let classes = Classes::new(alloc, &program)?.ok_or("no classes")?;
-    let selection = Selection::new(alloc, &classes)?;
+    let selection = selection_of(rt.alloc(), &program(rt.alloc(), CLASSES)?)?;
     for (class, wanted) in [
         (0usize, "4.0 0.0 0.4 0.3 "),
         (1, "4.0 1.0 1.1 0.4 0.3 "),
@@ -65,21 +61,13 @@ fn tables_hold_the_nearest_methods(rt: HostRuntime) -> Result<(), Fail> {
         (25, "25.0 25.3 25.1 25.2 "),
         (26, "4.0 "),
     ] {
-        if class >= selection.len() {
-            return Err(Fail::new("no table"));
-        }
-        let found = shown(alloc, selection.table(class))?;
+        let found = table(rt.alloc(), &selection, class)?;
         assert_eq!(rt; (class, found.as_str()), (class, wanted));
     }
     Ok(())
 }
 
-/// A name with a descriptor that only invokestatic or invokespecial names has no selector.
-#[test]
-fn selectors_count_what_is_called(rt: HostRuntime) -> Result<(), Fail> {
-    let alloc = rt.alloc();
-    let program = calling(alloc)?;
-    let selectors = Selectors::new(alloc, &program)?;
+fn compare_selectors(rt: &impl Abort, selectors: &Selectors<'_>) {
     for (name, descriptor, wanted) in [
         ("f", "()I", Some(0usize)),
         ("k", "()V", Some(1)),
@@ -91,15 +79,30 @@ fn selectors_count_what_is_called(rt: HostRuntime) -> Result<(), Fail> {
         let found = selectors.number(name.as_bytes(), descriptor.as_bytes());
         assert_eq!(rt; (name, found), (name, wanted));
     }
+}
+
+/// A name with a descriptor that only invokestatic or invokespecial names has no selector.
+#[test]
+fn selectors_count_what_is_called(rt: HostRuntime) -> Result<(), Fail> {
+    let program = program_with(rt.alloc(), CLASSES, CALLS)?;
+    let selectors = Selectors::new(rt.alloc(), &program)?;
+    compare_selectors(&rt, &selectors);
     Ok(())
+}
+
+/// The row of a class under a selector: the class and the method's place.
+fn row(selection: &Selection, class: usize, selector: u32) -> Option<(usize, usize)> {
+    if class >= selection.len() {
+        return None;
+    }
+    let row = selection.row(class, selector)?;
+    Some((row.class, row.method))
 }
 
 #[test]
 fn rows_stand_under_selectors(rt: HostRuntime) -> Result<(), Fail> {
-    let alloc = rt.alloc();
-    let program = calling(alloc)?;
-    let classes = Classes::new(alloc, &program)?.ok_or("no classes")?;
-    let selection = Selection::new(alloc, &classes)?;
+    let program = program_with(rt.alloc(), CLASSES, CALLS)?;
+    let selection = selection_of(rt.alloc(), &program)?;
     for (class, selector, wanted) in [
         (0usize, 0u32, Some((0usize, 0usize))),
         (1, 0, Some((1, 0))),
@@ -110,12 +113,7 @@ fn rows_stand_under_selectors(rt: HostRuntime) -> Result<(), Fail> {
         (26, 2, None),
         (0, 3, None),
     ] {
-        if class >= selection.len() {
-            return Err(Fail::new("no table"));
-        }
-        let found = selection
-            .row(class, selector)
-            .map(|row| (row.class, row.method));
+        let found = row(&selection, class, selector);
         assert_eq!(rt; (class, selector, found), (class, selector, wanted));
     }
     Ok(())

@@ -1,16 +1,15 @@
-//! Each call once, with operands whose results a Java virtual machine gives, and one fault of each kind.
+//! Operations with operands whose results a Java virtual machine gives, and one fault of each kind.
 
-use super::*;
+mod moves;
+
 use frames::Frames;
 use loader::operations::Operation;
 use loader::programs::Step;
-use model::instructions::{
-    Constant, Conversion, NumberKind, NumberOperation, Operator, SmallInt, SmallLong, Width,
-};
 use model::places::MethodPlace;
 use model::turns::{Abrupt, Exception, Fault};
+use model::values::Value;
+use plain_steps::{Written, plain_step};
 use std::alloc::{AllocError, Global};
-use values::Value;
 
 /// A frame of three locals whose stack has so much room.
 fn frame_of(alloc: Global, room: u16) -> Result<Frames, AllocError> {
@@ -76,47 +75,39 @@ fn top(frames: &Frames) -> Option<Value> {
     frames.value(0).ok()
 }
 
-/// The value that a constant leaves on top.
-fn pushed(alloc: Global, operand: Constant<i32, i64>) -> Result<Option<Value>, AllocError> {
-    let mut frames = frame_of(alloc, 2)?;
-    if frames.is_empty() {
-        return Ok(None);
-    }
-    match constant(&mut frames, 7, operand) {
-        Ok(_) => Ok(top(&frames)),
-        Err(_) => Ok(None),
-    }
-}
-
+/// Constants alone, and two for which the stack has no room.
 #[test]
 fn constants_are_pushed(rt: HostRuntime) -> Result<(), AllocError> {
-    let rows = [
-        (Constant::Null, Value::Ref(None)),
-        (Constant::SmallInt(SmallInt::MinusOne), Value::Int(-1)),
-        (Constant::SmallInt(SmallInt::Five), Value::Int(5)),
-        (Constant::SmallLong(SmallLong::One), Value::Long(1)),
-        (Constant::Byte(-128), Value::Int(-128)),
-        (Constant::Short(-32768), Value::Int(-32768)),
-        (Constant::Int(Width::Narrow, i32::MAX), Value::Int(i32::MAX)),
-        (Constant::Long(i64::MIN), Value::Long(i64::MIN)),
-    ];
-    for (operand, want) in rows {
-        assert_eq!(rt; pushed(rt.alloc(), operand)?, Some(want));
-    }
-    let rows = [
-        (Operation::AconstNull, Value::Ref(None)),
-        (Operation::Iconst(-32768), Value::Int(-32768)),
-        (Operation::Lconst(-2147483648), Value::Long(-2147483648)),
-    ];
-    for (operation, want) in rows {
-        assert_eq!(rt; run(rt.alloc(), 2, &[operation])?, (None, Some(want)));
-    }
     let full = Some(Abrupt::Fault(Fault::StackFull));
-    assert_eq!(rt; run(rt.alloc(), 1, &[Operation::Lconst(1)])?, (full, None));
-    assert_eq!(rt;
-        run(rt.alloc(), 1, &[Operation::Iconst(1), Operation::Iconst(2)])?,
-        (full, Some(Value::Int(1)))
-    );
+    for (operations, told, top) in [
+        (
+            [Operation::Nop, Operation::AconstNull],
+            None,
+            Value::Ref(None),
+        ),
+        (
+            [Operation::Nop, Operation::Iconst(-32768)],
+            None,
+            Value::Int(-32768),
+        ),
+        (
+            [Operation::Nop, Operation::Lconst(-2147483648)],
+            None,
+            Value::Long(-2147483648),
+        ),
+        (
+            [Operation::Lconst(1), Operation::Iconst(2)],
+            full,
+            Value::Long(1),
+        ),
+        (
+            [Operation::Iconst(1), Operation::Lconst(2)],
+            full,
+            Value::Int(1),
+        ),
+    ] {
+        assert_eq!(rt; run(rt.alloc(), 2, &operations)?, (told, Some(top)));
+    }
     Ok(())
 }
 
@@ -183,16 +174,6 @@ fn longs_are_shifted(rt: HostRuntime) -> Result<(), AllocError> {
         let operations = [Operation::Lconst(left), Operation::Iconst(count), operation];
         assert_eq!(rt; run(rt.alloc(), 4, &operations)?, (None, Some(want)));
     }
-    let halved = NumberOperation::Binary(NumberKind::Int, Operator::Shr);
-    let mut frames = frame_of(rt.alloc(), 2)?;
-    assert!(rt; !frames.is_empty());
-    assert!(rt; constant(&mut frames, 1, Constant::Byte(7)).is_ok());
-    assert!(rt; constant(&mut frames, 2, Constant::Byte(1)).is_ok());
-    assert!(rt; number(&mut frames, 3, halved).is_ok());
-    assert_eq!(rt; top(&frames), Some(Value::Int(3)));
-    let widened = NumberOperation::Convert(Conversion::IntToLong);
-    assert!(rt; number(&mut frames, 4, widened).is_ok());
-    assert_eq!(rt; top(&frames), Some(Value::Long(3)));
     Ok(())
 }
 

@@ -1,12 +1,13 @@
 //! Resolution, selection and subclasses on small programs.
 
-use crate::classes::Classes;
 use bitflags::Flags;
 use model::flags::{ClassFlags, FieldFlags, MethodFlags};
 use model::listings::{Field, Listing, Method};
 use model::names::{Member, Name};
+use resolve::classes::Classes;
 use std::alloc::{AllocError, Global};
 use std::fmt::Write;
+use std::process::Abort;
 use std::test::Fail;
 
 /// A class with its superclass, perhaps an interface, and the flags of a field `x I` and of a method `f()I`, where it has
@@ -117,15 +118,16 @@ fn found_in(
     }
 }
 
-/// JVMS 5.4.3.2, 5.4.3.3 and 6.5, invokevirtual.
-#[test]
-fn members_are_found(rt: HostRuntime) -> Result<(), Fail> {
-    let alloc = rt.alloc();
-    let program = listings(alloc, &ROWS)?;
-    let Some(classes) = Classes::new(alloc, &program)? else {
-        return Err(Fail::new("no classes"));
-    };
-    let rows = [
+/// The classes of a program that has no fault.
+fn classes_of(alloc: Global, program: &[Listing]) -> Result<Classes<'_>, Fail> {
+    match Classes::new(alloc, program)? {
+        Some(classes) => Ok(classes),
+        None => Err(Fail::new("no classes")),
+    }
+}
+
+fn compare_members(rt: &impl Abort, alloc: Global, classes: &Classes<'_>) -> Result<(), Fail> {
+    for (kind, class, expected) in [
         // a superinterface's field comes before the superclass's, the superclass's method before a superinterface's
         ("field", "D", "J"),
         ("method", "D", "A"),
@@ -137,22 +139,22 @@ fn members_are_found(rt: HostRuntime) -> Result<(), Fail> {
         // no superinterface is looked at by a selection
         ("selected", "K", ""),
         ("field", "java/lang/Thread", ""),
-    ];
-    for (kind, class, expected) in rows {
-        let found = found_in(alloc, &classes, kind, class)?;
+    ] {
+        let found = found_in(alloc, classes, kind, class)?;
         assert_eq!(rt; found.as_bytes(), expected.as_bytes());
     }
     Ok(())
 }
 
-/// JVMS 6.5, instanceof, and 4.4.1.
+/// JVMS 5.4.3.2, 5.4.3.3 and 6.5, invokevirtual.
 #[test]
-fn subclasses_and_types(rt: HostRuntime) -> Result<(), Fail> {
-    let alloc = rt.alloc();
-    let program = listings(alloc, &ROWS)?;
-    let Some(classes) = Classes::new(alloc, &program)? else {
-        return Err(Fail::new("no classes"));
-    };
+fn members_are_found(rt: HostRuntime) -> Result<(), Fail> {
+    let program = listings(rt.alloc(), &ROWS)?;
+    let classes = classes_of(rt.alloc(), &program)?;
+    compare_members(&rt, rt.alloc(), &classes)
+}
+
+fn compare_subclasses(rt: &impl Abort, classes: &Classes<'_>) {
     for (class, above, expected) in [
         ("D", "J", true),
         ("D", "java/lang/Object", true),
@@ -162,11 +164,12 @@ fn subclasses_and_types(rt: HostRuntime) -> Result<(), Fail> {
         ("E", "E", true),
         ("E", "java/lang/Object", false),
     ] {
-        assert_eq!(rt;
-            classes.is_subclass(class.as_bytes(), above.as_bytes()),
-            expected
-        );
+        let is_below = classes.is_subclass(class.as_bytes(), above.as_bytes());
+        assert_eq!(rt; is_below, expected, "{class} below {above}");
     }
+}
+
+fn compare_types(rt: &impl Abort, classes: &Classes<'_>) {
     for (name, above, expected) in [
         ("D", "J", true),
         ("[D", "java/lang/Object", true),
@@ -177,10 +180,8 @@ fn subclasses_and_types(rt: HostRuntime) -> Result<(), Fail> {
         ("[I", "[Ljava/lang/Object;", false),
         ("J", "[LJ;", false),
     ] {
-        assert_eq!(rt;
-            classes.is_subtype(name.as_bytes(), above.as_bytes()),
-            expected
-        );
+        let is_below = classes.is_subtype(name.as_bytes(), above.as_bytes());
+        assert_eq!(rt; is_below, expected, "{name} below {above}");
     }
     for (name, expected) in [
         ("D", true),
@@ -189,32 +190,43 @@ fn subclasses_and_types(rt: HostRuntime) -> Result<(), Fail> {
         ("[LD;", true),
         ("[[LE;", false),
     ] {
-        assert_eq!(rt; classes.is_type(name.as_bytes()), expected);
+        assert_eq!(rt; classes.is_type(name.as_bytes()), expected, "{name}");
     }
+}
+
+/// JVMS 6.5, instanceof, and 4.4.1.
+#[test]
+fn subclasses_and_types(rt: HostRuntime) -> Result<(), Fail> {
+    let program = listings(rt.alloc(), &ROWS)?;
+    let classes = classes_of(rt.alloc(), &program)?;
+    compare_subclasses(&rt, &classes);
+    compare_types(&rt, &classes);
     Ok(())
+}
+
+/// The names of the classes that declare the fields of a class's objects.
+fn declarers(alloc: Global, classes: &Classes<'_>, class: &str) -> Result<String, Fail> {
+    let fields = classes.layout(alloc, class.as_bytes())?;
+    let mut declarers = String::new(alloc);
+    for field in fields {
+        let class = field.class;
+        write!(declarers, "{} ", class.name)?;
+    }
+    Ok(declarers)
 }
 
 /// JVMS 2.4: the superclass's fields come first, and static ones have no word.
 #[test]
 fn fields_of_objects(rt: HostRuntime) -> Result<(), Fail> {
-    let alloc = rt.alloc();
     let rows = [
         row!("B", "A", &[], Some(2), None),
         row!("A", OBJECT, &[], Some(1), None),
         row!("C", "B", &["J"], Some(9), None),
         row!("J", OBJECT, &[], Some(0x19), None),
     ];
-    let program = listings(alloc, &rows)?;
-    let Some(classes) = Classes::new(alloc, &program)? else {
-        return Err(Fail::new("no classes"));
-    };
-    let fields = classes.layout(alloc, b"C".as_slice())?;
-    let mut declarers = String::new(alloc);
-    for field in fields {
-        let class = field.class;
-        write!(declarers, "{} ", class.name)?;
-    }
-    assert_eq!(rt; declarers.as_str(), "A B ");
+    let program = listings(rt.alloc(), &rows)?;
+    let classes = classes_of(rt.alloc(), &program)?;
+    assert_eq!(rt; declarers(rt.alloc(), &classes, "C")?.as_str(), "A B ");
     Ok(())
 }
 
@@ -240,48 +252,62 @@ fn no_hierarchies(rt: HostRuntime) -> Result<(), Fail> {
 
 const LAYERS: usize = 20;
 
-/// Layers of two interfaces each, of which each extends both of the layer below: a search looks at each once.
-#[test]
-fn layers_of_interfaces(rt: HostRuntime) -> Result<(), Fail> {
-    let alloc = rt.alloc();
-    let mut program = Vec::new(alloc);
-    for layer in 0..LAYERS {
-        for side in ["l", "r"] {
-            let mut class = listing(alloc, row!("", OBJECT, &[], None, None))?;
-            class.name = Name::new(format!(in alloc; "{side}{layer}")?.into_bytes())?;
-            if layer > 0 {
-                for below in ["l", "r"] {
-                    let text = format!(in alloc; "{below}{}", layer - 1)?;
-                    class.interfaces.push(Name::new(text.into_bytes())?)?;
-                }
-            }
-            program.push(class)?;
+/// An interface of a layer, which extends both of the layer below, the first one none.
+fn interface(alloc: Global, side: &str, layer: usize) -> Result<Listing, Fail> {
+    let mut class = listing(alloc, row!("", OBJECT, &[], None, None))?;
+    class.name = Name::new(format!(in alloc; "{side}{layer}")?.into_bytes())?;
+    if layer > 0 {
+        for below in ["l", "r"] {
+            let text = format!(in alloc; "{below}{}", layer - 1)?;
+            class.interfaces.push(Name::new(text.into_bytes())?)?;
         }
     }
-    let Some(classes) = Classes::new(alloc, &program)? else {
-        return Err(Fail::new("no classes"));
-    };
-    assert!(rt; classes.is_subclass(b"l19".as_slice(), b"r0".as_slice()));
-    assert!(rt; classes.field(&member(alloc, "l19", "x", "I")?).is_none());
+    Ok(class)
+}
+
+/// Whether the last layer's left interface is below the first one's right one, and has a field x.
+fn ends(alloc: Global, classes: &Classes<'_>) -> Result<(bool, bool), AllocError> {
+    let is_below = classes.is_subclass(b"l19".as_slice(), b"r0".as_slice());
+    let x = member(alloc, "l19", "x", "I")?;
+    Ok((is_below, classes.field(&x).is_some()))
+}
+
+/// Layers of two interfaces each: a search looks at each once.
+#[test]
+fn layers_of_interfaces(rt: HostRuntime) -> Result<(), Fail> {
+    let mut program = Vec::new(rt.alloc());
+    for layer in 0..LAYERS {
+        for side in ["l", "r"] {
+            program.push(interface(rt.alloc(), side, layer)?)?;
+        }
+    }
+    let classes = classes_of(rt.alloc(), &program)?;
+    assert_eq!(rt; ends(rt.alloc(), &classes)?, (true, false));
     Ok(())
+}
+
+/// The number of a class, if it has one, and whether the class of that number has its name.
+fn number(classes: &Classes<'_>, name: &str) -> Option<(usize, bool)> {
+    let number = classes.number(name.as_bytes())?;
+    if number >= classes.len() {
+        return None;
+    }
+    Some((number, classes.class(number).name.is(name)))
 }
 
 /// The program's six classes are counted from 0, the machine's own behind them.
 #[test]
 fn classes_have_numbers(rt: HostRuntime) -> Result<(), Fail> {
-    let alloc = rt.alloc();
-    let program = listings(alloc, &ROWS)?;
-    let Some(classes) = Classes::new(alloc, &program)? else {
-        return Err(Fail::new("no classes"));
-    };
-    for (name, expected) in [("A", 0), ("D", 5), ("java/lang/Object", 6), ("vm/Sys", 28)] {
-        let found = classes.number(name.as_bytes()).unwrap_or(classes.len());
-        assert_eq!(rt; (name, found), (name, expected));
-        if found >= classes.len() {
-            return Err(Fail::new("no class"));
-        }
-        assert_eq!(rt; classes.class(found).name.as_bytes(), name.as_bytes());
+    let program = listings(rt.alloc(), &ROWS)?;
+    let classes = classes_of(rt.alloc(), &program)?;
+    for (name, expected) in [
+        ("A", Some((0usize, true))),
+        ("D", Some((5, true))),
+        ("java/lang/Object", Some((6, true))),
+        ("vm/Sys", Some((28, true))),
+        ("E", None),
+    ] {
+        assert_eq!(rt; number(&classes, name), expected);
     }
-    assert_eq!(rt; classes.number(b"E".as_slice()), None);
     Ok(())
 }
