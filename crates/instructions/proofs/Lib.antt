@@ -1,6 +1,7 @@
 pub mod AcceptedClasses
 pub mod ActingLemmas
 pub mod AgreeLemmas
+pub mod AloneLemmas
 pub mod ArrayLemmas
 pub mod AwaitingLemmas
 pub mod ByNumberLemmas

@@ -2,12 +2,10 @@ use Rattle.std.proofs.Common.{◌≡◌, ℕ, zero, suc, List, [], ◌∷◌, le
 use Rattle.std.proofs.lemmas.List.{length-map}
 use Rattle.model.specs.declared.values.Value.{Value}
 use Rattle.model.specs.ClassListings.{ClassListing}
-use Rattle.model.specs.Frames.{Frame}
-use Rattle.model.specs.Worlds.{opening_slots}
+use Rattle.model.specs.Worlds.{Thread, opening_slots}
 use Rattle.model.specs.Collector.Places.{field_ref, object_refs, ref_at, ref_of, root_at, word_at, words_of}
 use Rattle.model.specs.Collector.Places.Place.{Slot}
 use Rattle.cells.specs.Objects.{StoredObject, object_if, words_if}
-use Rattle.instructions.specs.declared.kinds.Course.{Course}
 use Rattle.instructions.specs.declared.kinds.Kind.{Kind}
 use Rattle.instructions.specs.declared.kinds.Kind.TheVariants.{Instance, Array}
 use Rattle.instructions.specs.Heaps.{ref_if, world_looked_at}
@@ -28,11 +26,11 @@ pub slots_number : (program : List ClassListing) (slots : List Value)
 slots_number program slots =
     sym (length-map (keyed (opening_slots program) slots) field_ref ∙ length-keyed (opening_slots program) slots)
 
-pub slot_is : (program : List ClassListing) (course : Course) (frames : List Frame) (slots : List Value) (objects : List
+pub slot_is : (program : List ClassListing) (threads : List Thread) (slots : List Value) (objects : List
     (Option (StoredObject Kind))) (n : ℕ)
-    → ref_if (slice_get slots n) ≡ root_at (world_looked_at program course frames slots objects) (Slot n)
+    → ref_if (slice_get slots n) ≡ root_at (world_looked_at program threads slots objects) (Slot n)
 unfolding root_at
-slot_is program course frames slots objects n =
+slot_is program threads slots objects n =
     at_place slots n ∙ ap (λ rs. ref_at rs n) (sym (refs-keyed (opening_slots program) slots))
 
 -- ---- words
@@ -58,17 +56,17 @@ pub words_number : (program : List ClassListing) (objects : List (Option (Stored
 words_number program objects c =
     sym (ap length (words_are program objects c) ∙ length-map (words_if (object_if (slice_get objects c))) ref_of)
 
-pub word_is : (program : List ClassListing) (course : Course) (frames : List Frame) (slots : List Value) (objects : List
+pub word_is : (program : List ClassListing) (threads : List Thread) (slots : List Value) (objects : List
     (Option (StoredObject Kind))) (c n : ℕ)
     → ref_if (slice_get (words_if (object_if (slice_get objects c))) n)
-    ≡ word_at (world_looked_at program course frames slots objects) (suc c) n
+    ≡ word_at (world_looked_at program threads slots objects) (suc c) n
 unfolding word_at
-word_is program course frames slots objects c n =
+word_is program threads slots objects c n =
     at_place (words_if (object_if (slice_get objects c))) n ∙ ap (λ rs. ref_at rs n) (sym (words_are program objects c))
 
-pub no_word : (program : List ClassListing) (course : Course) (frames : List Frame) (slots : List Value) (objects : List
-    (Option (StoredObject Kind))) (n : ℕ) → None ≡ word_at (world_looked_at program course frames slots objects) 0 n
+pub no_word : (program : List ClassListing) (threads : List Thread) (slots : List Value) (objects : List
+    (Option (StoredObject Kind))) (n : ℕ) → None ≡ word_at (world_looked_at program threads slots objects) 0 n
 unfolding word_at
-no_word program course frames slots objects n = refl
+no_word program threads slots objects n = refl
 
 pub ruleset looked_word = (word_is, no_word)

@@ -144,14 +144,14 @@ opening_shown program shape fits =
 -- ---- the collector's turn
 
 module _
-    (program : List ClassListing) (course : Course) (frames : List Frame) (slots : List Value) (states : List ClassState)
+    (program : List ClassListing) (threads : List Thread) (slots : List Value) (states : List ClassState)
     (output : List ℕ) (fault : Option (Fault × ℕ)) (rows : ℕ)
   where
     -- the machine on cells of which a heap is part
     abbrev pub machine_shown : HeapValue → CellMachine
     machine_shown h = record {
       world = record {
-        threads = thread_shown program course frames ∷ [];
+        threads = threads;
         statics = record { fields = keyed (opening_slots program) slots; states = states };
         output = output;
         objects = objects_shown program h.objects;
@@ -164,7 +164,7 @@ module _
 
     stepped_alike : (h : HeapValue) (phase : Phase)
         → step_on h.shape (machine_shown h).world h.account phase
-        ≡ step_on h.shape (looked_at program course frames slots h) h.account phase
+        ≡ step_on h.shape (looked_at program threads slots h) h.account phase
     unfolding root_at word_at
     stepped_alike h Idle = refl
     stepped_alike h (Statics s) = refl
@@ -180,7 +180,7 @@ module _
         (sym (shown-set program h.objects c None))
 
     pub collected_shown : (h : HeapValue)
-        → collected_on h.shape (machine_shown h) ≡ machine_shown (collected program course frames slots h)
+        → collected_on h.shape (machine_shown h) ≡ machine_shown (collected program threads slots h)
     collected_shown h =
         let freed = freed_cell h.account h.account.phase in
         let stepped = step_on h.shape (machine_shown h).world h.account h.account.phase in

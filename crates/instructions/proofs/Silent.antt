@@ -34,7 +34,7 @@ use Rattle.loader.specs.ClassTables.{class_tables, words_in}
 use Rattle.loader.specs.StaticSlots.{static_slots}
 use Rattle.loader.specs.Storages.{shown_storage}
 use Rattle.plain_steps.specs.PlainMoves.{plain_move}
-use Rattle.instructions.specs.Acting.{site_of}
+use Rattle.instructions.specs.Acting.{AreIn, site_of}
 use Rattle.instructions.specs.Awaiting.{awaits_monitor}
 use Rattle.instructions.specs.ByNumbers.{field_got_at, field_put_at, field_put_if, field_put_into, operated_by_numbers, static_got_if, static_put_at, static_put_if, word_place, word_put_at}
 use Rattle.instructions.specs.CallsByNumbers.{printed_by_call}
@@ -47,6 +47,7 @@ use Rattle.instructions.proofs.AwaitingLemmas.{call_waits}
 use Rattle.instructions.proofs.CallsSilent.{call_prints}
 use Rattle.instructions.proofs.ReturnLemmas.{returned_silent}
 use Rattle.instructions.proofs.TypesSilent.{types_silent}
+use Rattle.instructions.specs.declared.kinds.Course.{Course}
 use Rattle.instructions.specs.declared.kinds.Kind.{Kind}
 use Rattle.instructions.specs.declared.machines.Machine.{Machine}
 
@@ -317,17 +318,18 @@ module _ (s : Site) (h : HeapValue) (objects_are : s.world.objects ≡ objects_s
   stepped_waits op = operated_waits op
 
 -- the turn waits where it is told of it
-pub turn_waits : (program : List ClassListing) (w : World) (m : Machine) (o : Option Frame) → w.objects ≡ objects_shown program m.heap.objects
-    → w.statics.states ≡ m.states.items → waits (completed_at program w m.thread m.heap o) ≡ waits_at program m o
-turn_waits program w m None objects states = refl
-turn_waits program w m (Some f) objects states = by f.mark
+pub turn_waits : (program : List ClassListing) (courses : List Course) (w : World) (m : Machine) (t : ℕ) (o : Option Frame)
+    → w.objects ≡ objects_shown program m.heap.objects → w.statics.states ≡ m.states.items → AreIn courses w.threads
+    → waits (completed_at program w t m.heap o) ≡ waits_at program courses m t o
+turn_waits program courses w m t None objects states lives = refl
+turn_waits program courses w m t (Some f) objects states lives = by f.mark
   where
     op : Operation
     op = (standing program f).operation
 
-    by : (mark : Mark) → waits (marked mark (stepped program w m.thread m.heap f (standing program f))) ≡ waits_if mark (waits_by program m f op)
+    by : (mark : Mark) → waits (marked mark (stepped program w t m.heap f (standing program f))) ≡ waits_if mark (waits_by program courses m t f op)
     by Unmarked =
-        stepped_waits (site_of program w m.thread f (standing program f).next) m.heap objects op
-        ∙ ap (λ (ss : List ClassState). waits_for program ss m.thread (class_used_by program op) || awaits_monitor program m.thread m.heap f op) states
+        stepped_waits (site_of program w t f (standing program f).next) m.heap objects op
+        ∙ ap (λ (ss : List ClassState). waits_for program ss t (class_used_by program op) || awaits_monitor program t m.heap f op) states
     by Waiting = refl
     by Failing = refl

@@ -42,8 +42,9 @@ use Rattle.loader.specs.StepLists.{step_or_none}
 use Rattle.plain_steps.specs.PlainMoves.{plain_move}
 use Rattle.plain_steps.proofs.TableLemmas.{by_family-plain, direct_move}
 use Rattle.resolve.specs.Numbers.{class_number}
+use Rattle.instructions.specs.declared.kinds.Course.{Course}
 use Rattle.instructions.specs.declared.machines.Machine.{Machine}
-use Rattle.instructions.specs.Acting.{site_of}
+use Rattle.instructions.specs.Acting.{AreIn, site_of}
 use Rattle.instructions.specs.ByNumbers.{AreStored, IsNumbered, operated_by_numbers}
 use Rattle.instructions.specs.CallsByNumbers.{is_call, operated_by_served_calls, served_call}
 use Rattle.instructions.specs.Heaps.{HeapValue}
@@ -289,8 +290,9 @@ module _ (program : List ClassListing) (w : World) (t : ℕ) (h : HeapValue) (ke
   print_completed = ap prints completion_completed ∙ turn_prints program w t h (running (frames_at w t))
 
 -- whether the turn waits, of the machine's parts
-pub waits_completed : (program : List ClassListing) (w : World) (m : Machine) → IsKept program w m.heap → w.statics.states ≡ m.states.items
-    → waits (completion program w m.thread) ≡ waits_at program m (running (frames_at w m.thread))
-waits_completed program w m kept states =
-    ap waits (completion_completed program w m.thread m.heap kept)
-    ∙ turn_waits program w m (running (frames_at w m.thread)) kept.objects_are states
+pub waits_completed : (program : List ClassListing) (courses : List Course) (w : World) (m : Machine) (t : ℕ) → IsKept program w m.heap
+    → w.statics.states ≡ m.states.items → AreIn courses w.threads
+    → waits (completion program w t) ≡ waits_at program courses m t (running (frames_at w t))
+waits_completed program courses w m t kept states lives =
+    ap waits (completion_completed program w t m.heap kept)
+    ∙ turn_waits program courses w m t (running (frames_at w t)) kept.objects_are states lives

@@ -6,16 +6,14 @@ use Rattle.model.specs.declared.turns.Exception.TheVariants.{Arithmetic, NullPoi
 use Rattle.model.specs.declared.values.Value.{Value}
 use Rattle.model.specs.ClassListings.{ClassListing}
 use Rattle.model.specs.Accounts.{Account, opening_account}
-use Rattle.model.specs.Frames.{Frame}
-use Rattle.model.specs.Worlds.{World, opening_slots}
+use Rattle.model.specs.Worlds.{Thread, World, opening_slots}
 use Rattle.model.specs.Collector.Places.{ref_of}
 use Rattle.cells.specs.Objects.{StoredObject, made_object, object_if, words_if, word_set}
 use Rattle.collector.specs.Freed.{freed_cell}
 use Rattle.join.specs.TurnsOnCells.{birth_in, shade_cell_if, shade_cells, step_on}
 use Rattle.instructions.specs.declared.kinds.Kind.{Kind}
 use Rattle.instructions.specs.declared.kinds.Kind.TheVariants.{Instance}
-use Rattle.instructions.specs.declared.kinds.Course.{Course}
-use Rattle.instructions.specs.Shown.{keyed, objects_shown, thread_shown}
+use Rattle.instructions.specs.Shown.{keyed, objects_shown}
 
 -- The heap that the code keeps: the account of its cells, and the objects in them, whose kinds are numbers. A reference is
 -- the number of a cell and one more.
@@ -117,10 +115,10 @@ abbrev pub ref_if : Option Value → Option ℕ
 ref_if None = None
 ref_if (Some value) = ref_of value
 
--- what the collector looks at: the thread's frames, the static fields and the objects
-abbrev pub world_looked_at : List ClassListing → Course → List Frame → List Value → List (Option (StoredObject Kind)) → World
-world_looked_at program course frames slots objects = record {
-  threads = thread_shown program course frames ∷ [];
+-- what the collector looks at: the threads' frames, the static fields and the objects
+abbrev pub world_looked_at : List ClassListing → List Thread → List Value → List (Option (StoredObject Kind)) → World
+world_looked_at program threads slots objects = record {
+  threads = threads;
   statics = record { fields = keyed (opening_slots program) slots; states = [] };
   output = [];
   objects = objects_shown program objects;
@@ -128,15 +126,15 @@ world_looked_at program course frames slots objects = record {
   rows = 0;
 }
 
-abbrev pub looked_at : List ClassListing → Course → List Frame → List Value → HeapValue → World
-looked_at program course frames slots h = world_looked_at program course frames slots h.objects
+abbrev pub looked_at : List ClassListing → List Thread → List Value → HeapValue → World
+looked_at program threads slots h = world_looked_at program threads slots h.objects
 
 abbrev pub cleared : {K : Type 0} → List (Option (StoredObject K)) → Option ℕ → List (Option (StoredObject K))
 cleared objects None = objects
 cleared objects (Some cell) = slice_set objects cell None
 
-abbrev pub collected : List ClassListing → Course → List Frame → List Value → HeapValue → HeapValue
-collected program course frames slots h = record h {
-  account = step_on h.shape (looked_at program course frames slots h) h.account h.account.phase;
+abbrev pub collected : List ClassListing → List Thread → List Value → HeapValue → HeapValue
+collected program threads slots h = record h {
+  account = step_on h.shape (looked_at program threads slots h) h.account h.account.phase;
   objects = cleared h.objects (freed_cell h.account h.account.phase);
 }

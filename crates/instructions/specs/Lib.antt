@@ -15,6 +15,7 @@ pub mod NamedTypes
 pub mod Operated
 pub mod ReturnsByNumbers
 pub mod Shown
+pub mod Threads
 pub mod Throwing
 pub mod TypeNumbers
 pub mod TypesByNumbers

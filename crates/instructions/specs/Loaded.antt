@@ -11,12 +11,12 @@ use Rattle.model.specs.Table.Next.{completion}
 use Rattle.model.specs.Worlds.{Thread, World, opening_slots}
 use Rattle.cells.specs.Objects.{StoredObject}
 use Rattle.join.specs.TurnsOnCells.{CellMachine, collected_on, counted_on, opening_on, turned_on}
-use Rattle.instructions.specs.declared.kinds.Course.{Course}
 use Rattle.instructions.specs.declared.kinds.Kind.{Kind}
 use Rattle.instructions.specs.declared.machines.Machine.{Machine}
 use Rattle.instructions.specs.ByNumbers.{AreStored}
 use Rattle.instructions.specs.Heaps.{HeapValue}
-use Rattle.instructions.specs.Shown.{keyed, objects_shown, thread_shown}
+use Rattle.instructions.specs.Shown.{keyed, objects_shown}
+use Rattle.instructions.specs.Threads.{ThreadsValue, all_shown}
 
 -- a program that runs: its classes, its limits, the heap's shape, and the machine on cells that its turns have made
 pub record Loaded : Type 0 where
@@ -56,19 +56,19 @@ machine_shown program threads slots states heap output fault rows = record {
   births = heap.births;
 }
 
--- the parts of a state whose one thread is in some course
-abbrev pub state_shown : List ClassListing → Machine → Course → Option (Fault × ℕ) → ℕ → CellMachine
-state_shown program m course fault rows =
-    machine_shown program (thread_shown program course m.frames ∷ []) m.slots.items m.states.items m.heap m.output.items fault rows
+-- the parts of a state, with its threads
+abbrev pub state_shown : List ClassListing → Machine → ThreadsValue → Option (Fault × ℕ) → ℕ → CellMachine
+state_shown program m threads fault rows =
+    machine_shown program (all_shown program threads m.thread m.frames) m.slots.items m.states.items m.heap m.output.items fault rows
 
 -- what holds of the parts: the machine carries out all code of the program, each class has a state, objects have all words
--- of their classes, and a turn makes one birth at most
-pub record IsSound (program : List ClassListing) (limits : Limits) (m : Machine) (rows : ℕ) : Type 0 where
+-- of their classes, the machine runs a thread that was started, and a turn makes one birth at most
+pub record IsSound (program : List ClassListing) (limits : Limits) (m : Machine) (threads : ThreadsValue) (rows : ℕ) : Type 0 where
   pub served : ServedProgram program
   pub accepted : refusal_of program ≡ None
   pub room : limits.output ≤ vec_capacity m.output
   pub steps : limits.steps ≤ 16777215
-  pub first : m.thread ≡ 0
+  pub started : m.thread < length threads.courses
   pub sized : length m.states.items ≡ length program
   pub few_slots : length m.slots.items < 2 ^ 32
   pub slots_are : length m.slots.items ≡ length (opening_slots program)

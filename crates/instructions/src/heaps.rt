@@ -8,6 +8,7 @@ ghost use Rattle.model.specs.Room.{words_of_cell};
 ghost use Rattle.join.specs.ReadBack.{birth_read};
 ghost use Rattle.instructions.specs.ByNumbers.{AreStored, IsStored};
 ghost use Rattle.instructions.specs.HeapsAgree.{HoldsErrors, own_kind};
+ghost use Rattle.instructions.specs.Threads.{all_shown};
 ghost use Rattle.instructions.specs.Heaps.{all_shaded, collected, created, exception_kind, exception_place, kind_held, memory_error_kind, own_class, opening_heap, reference_taken, shaded, words_held, written};
 
 mod entering;
@@ -15,7 +16,8 @@ mod filling;
 mod looking;
 mod monitoring;
 
-use crate::kinds::{Course, Kind};
+use crate::kinds::Kind;
+use crate::threads::Threads;
 use cells::Cells;
 use collector::collect_step;
 use colours::accounts::Account;
@@ -206,21 +208,24 @@ impl Heap {
         self.births
     }
 
-    /// The collector's turn: one look at one place of the thread's frames, the static fields or the objects, or one cell
+    /// The collector's turn: one look at one place of the threads' frames, the static fields or the objects, or one cell
     /// given back or whitened (CACM 21(11)).
     pub(crate) fn collect(
         &mut self,
         program: &Program,
-        course: Course,
+        threads: &Threads,
+        running: u8,
         frames: &Frames,
         slots: &[Value],
     )
-        requires { length slots.now < 2 ^ 32 }
-        ensures { self.new ≡ collected program.now course frames.now slots.now self.old }
+        requires few { length slots.now < 2 ^ 32 }
+        requires running { running < 64 }
+        ensures { self.new ≡ collected program.now (all_shown program.now threads.now running frames.now) slots.now self.old }
     {
         let looked = Looked {
             program,
-            course,
+            threads,
+            running,
             frames,
             slots,
             cells: &self.cells,

@@ -152,15 +152,15 @@ impl Machine {
         }
     }
 
-    /// Whether an operation waits for another thread's initialisation of the class that it uses.
-    pub(crate) fn must_wait(&self, program: &Program, operation: Operation) -> bool
+    /// Whether an operation of a thread waits for another's initialisation of the class that it uses.
+    pub(crate) fn must_wait(&self, program: &Program, thread: u8, operation: Operation) -> bool
         requires sized { length self.now.states.items ≡ length program.now }
-        ensures { result ≡ waits_for program.now self.now.states.items self.now.thread (class_used_by program.now operation) }
+        ensures { result ≡ waits_for program.now self.now.states.items thread (class_used_by program.now operation) }
     {
         match class_used(program, operation) {
             Some(class) => {
                 let unused = unused_classes(program, self.states.as_slice(), class);
-                is_others(unused.above, self.thread)
+                is_others(unused.above, thread)
             }
             None => false,
         }

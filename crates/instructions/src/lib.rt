@@ -28,6 +28,7 @@ mod readiness;
 mod returns;
 pub mod state;
 mod statics;
+mod threads;
 mod throwing;
 mod type_operations;
 mod types;

@@ -1,7 +1,7 @@
 //! What a thread's turn works on.
 
 use crate::heaps::Heap;
-use crate::kinds::Course;
+use crate::threads::Threads;
 use frames::Frames;
 use loader::programs::Program;
 use model::turns::ClassState;
@@ -22,11 +22,13 @@ pub(crate) struct Machine {
 impl Machine {
     ghost use Rattle.std.specs.Prelude.{◌≡◌, ◌<◌, ◌^◌, length};
     ghost use Rattle.instructions.specs.Heaps.{collected};
+    ghost use Rattle.instructions.specs.Threads.{all_shown};
 
     /// The collector's turn.
-    pub(crate) fn collect(&mut self, program: &Program, course: Course)
-        requires { length self.old.slots.items < 2 ^ 32 }
-        ensures heap { self.new.heap ≡ collected program.now course self.old.frames self.old.slots.items self.old.heap }
+    pub(crate) fn collect(&mut self, program: &Program, threads: &Threads)
+        requires few { length self.old.slots.items < 2 ^ 32 }
+        requires running { self.old.thread < 64 }
+        ensures heap { self.new.heap ≡ collected program.now (all_shown program.now threads.now self.old.thread self.old.frames) self.old.slots.items self.old.heap }
         ensures thread { self.new.thread ≡ self.old.thread }
         ensures frames { self.new.frames ≡ self.old.frames }
         ensures slots { self.new.slots ≡ self.old.slots }
@@ -34,13 +36,13 @@ impl Machine {
         ensures output { self.new.output ≡ self.old.output }
     {
         let Machine {
-            thread: _,
+            thread,
             frames,
             slots,
             states: _,
             heap,
             output: _,
         } = self;
-        heap.collect(program, course, frames, slots.as_slice());
+        heap.collect(program, threads, *thread, frames, slots.as_slice());
     }
 }

@@ -92,23 +92,24 @@ impl State {
         ensures { IfOk result (λ view. view ≡ option_map (named_thread (birth_read self.now.machine.account.cells)) (slice_get self.now.machine.world.threads thread)) }
     {
         let alloc = *self.machine.states.allocator();
-        match (thread, self.course) {
-            (0, Course::Live) => {
-                let frames = self.machine.frames.views()?;
+        let courses = self.threads.courses();
+        match courses.get(thread as usize) {
+            Some(Course::Live) => {
+                let frames = self.frames(thread).views()?;
                 let named = named_frames(alloc, &self.machine.heap, &frames)?;
                 let state = ThreadState::Live(named);
                 Ok(Some(ThreadView { state }))
             }
-            (0, Course::Returned) => {
+            Some(Course::Returned) => {
                 let state = ThreadState::Ended(None);
                 Ok(Some(ThreadView { state }))
             }
-            (0, Course::Threw(kind)) => {
-                let class = kind_name(alloc, &self.program, kind)?;
+            Some(Course::Threw(kind)) => {
+                let class = kind_name(alloc, &self.program, *kind)?;
                 let state = ThreadState::Ended(Some(class));
                 Ok(Some(ThreadView { state }))
             }
-            _ => Ok(None),
+            None => Ok(None),
         }
     }
 }
