@@ -14,6 +14,7 @@ pub mod CallLemmas
 pub mod CallsSilent
 pub mod CodeCalls
 pub mod CatchLemmas
+pub mod CyclicLemmas
 pub mod DeclaredMethods
 pub mod EnterLemmas
 pub mod ErrorLemmas
@@ -57,6 +58,7 @@ pub mod SelectedRows
 pub mod SelectorsCalled
 pub mod Stepping
 pub mod StoredLemmas
+pub mod ThreadLemmas
 pub mod ThrowAgreement
 pub mod Throwables
 pub mod TurnBirths

@@ -17,7 +17,7 @@ use Rattle.model.specs.Classes.Exceptions.{exception_class}
 use Rattle.model.specs.Accounts.{Account}
 use Rattle.model.specs.Frames.{Frame}
 use Rattle.model.specs.Limits.{ShapeFits}
-use Rattle.model.specs.Worlds.{World, Object, opening_objects, opening_slots, plain_object}
+use Rattle.model.specs.Worlds.{Thread, World, Object, opening_objects, opening_slots, plain_object}
 use Rattle.model.specs.Collector.Places.{root_at, word_at}
 use Rattle.resolve.specs.Numbers.{name_of}
 use Rattle.cells.specs.Objects.{StoredObject, made_object}

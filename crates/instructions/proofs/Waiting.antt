@@ -1,26 +1,27 @@
--- Whether the thread of a state is ready, and what its turn prints.
-use Rattle.std.proofs.Common.{◌≡◌, ℕ, zero, suc, List, [], ◌∷◌, Option, Some, None, Bool, true, false, is_none, refl, ap, subst, sym, ◌∙◌, ◌+◌}
-use Rattle.std.specs.Prelude.{◌&&◌, ◌||◌, ◌++◌, drop, take, length, nat_lt, not, is_some}
-use Rattle.std.specs.List.{find}
+-- Whether a thread of a state is ready, and what its turn prints.
+use Rattle.std.proofs.Common.{◌≡◌, ◌⊎◌, inl, inr, ◌<◌, ◌≤◌, ℕ, List, Option, Some, None, Bool, true, false, is_none, refl, ap, sym, ◌∙◌, ◌+◌, ◌-◌, arith}
+use Rattle.std.specs.Prelude.{◌&&◌, is_some, length, nat_lt, not, slice_get}
+use Rattle.std.specs.List.{find, list_any}
 use Rattle.std.specs.Option.{option_map}
 use Rattle.model.specs.declared.turns.Fault.{Fault}
-use Rattle.model.specs.declared.turns.Status.TheVariants.{Running}
 use Rattle.model.specs.ClassListings.{ClassListing}
 use Rattle.model.specs.Completions.{waits}
+use Rattle.model.specs.Frames.{Frame, running}
 use Rattle.model.specs.Observers.{cyclic_from, status_by, status_in}
-use Rattle.model.specs.Ready.{is_ready, some_is_ready, some_lives}
-use Rattle.model.specs.Turns.{overflows, passes, print_of}
+use Rattle.model.specs.Ready.{is_ready, some_is_ready, some_lives, thread_numbers}
 use Rattle.model.specs.Table.Next.{completion}
-use Rattle.model.specs.Frames.{running}
-use Rattle.model.specs.Worlds.{World, frames_at, is_live}
+use Rattle.model.specs.Turns.{overflows, passes, print_of}
+use Rattle.model.specs.Worlds.{Thread, World, frames_at, frames_of, is_live}
 use Rattle.model.proofs.Served.{instruction_served}
+use Rattle.instructions.specs.declared.kinds.Course.TheVariants.{Live}
+use Rattle.instructions.specs.declared.state.State.TheInside.{Inside}
+use Rattle.instructions.specs.Loaded.{IsSound, machine_shown, state_shown}
 use Rattle.instructions.specs.Operated.{printed_at, waits_at}
+use Rattle.instructions.specs.Threads.{all_frames, goes_on, lives_in, numbers_between, numbers_up, threads_in}
+use Rattle.instructions.proofs.CyclicLemmas.{cyclic-first, cyclic-second, numbers-of, some-found, some-lives}
 use Rattle.instructions.proofs.ServedNames.{served_names}
 use Rattle.instructions.proofs.Stepping.{IsKept, print_completed, waits_completed}
-use Rattle.instructions.specs.declared.kinds.Course.{Course}
-use Rattle.instructions.specs.declared.kinds.Course.TheVariants.{Live, Returned, Threw}
-use Rattle.instructions.specs.declared.state.State.TheInside.{Inside}
-use Rattle.instructions.specs.Loaded.{IsSound, state_shown}
+use Rattle.instructions.proofs.ThreadLemmas.{are_in, length-threads, live_started, lives_as, lives_live, some_alive, thread_got}
 
 -- a thread that is ready lives
 pub ready_lives : (program : List ClassListing) (w : World) (t : ℕ) → is_ready program w t ≡ true → is_live w t ≡ true
@@ -33,42 +34,6 @@ ready_lives program w t e = second (is_none w.fault) (is_live w t) (first (is_no
   second true b e = e
   second false b e = cc
 
-drop_nil : (n : ℕ) → drop n (let none : List ℕ = [] in none) ≡ []
-drop_nil zero = refl
-drop_nil (suc n) = refl
-
-found_front : (p : ℕ → Bool) (rest : List ℕ) → p 0 ≡ true → Some 0 ≡ find p (0 ∷ rest)
-found_front p rest e = rw e refl
-
--- the one thread is found from wherever on, where it is sought
-pub found : (p : ℕ → Bool) (start : ℕ) → p 0 ≡ true → Some 0 ≡ find p (cyclic_from start (0 ∷ []))
-found p zero e = rw e refl
-found p (suc n) e = found_front p (take n []) e ∙ ap (λ (xs : List ℕ). find p (xs ++ take (suc n) (0 ∷ []))) (sym (drop_nil n))
-
-take_nil : (n : ℕ) → take n (let none : List ℕ = [] in none) ≡ []
-take_nil zero = refl
-take_nil (suc n) = refl
-
-not_found_alone : (p : ℕ → Bool) → p 0 ≡ false → None ≡ find p (0 ∷ [])
-not_found_alone p e = rw e refl
-
-pub not_found : (p : ℕ → Bool) (start : ℕ) → p 0 ≡ false → None ≡ find p (cyclic_from start (0 ∷ []))
-not_found p zero e = not_found_alone p e
-not_found p (suc n) e =
-    not_found_alone p e ∙ ap (λ (xs : List ℕ). find p (0 ∷ xs)) (sym (take_nil n))
-    ∙ ap (λ (xs : List ℕ). find p (xs ++ take (suc n) (0 ∷ []))) (sym (drop_nil n))
-
--- ---- whether one of one thread is held by the output
-
-pub held_if_ready : (ready full : Bool) → ready ≡ true → full ≡ ((ready && full) || false)
-held_if_ready true true e = refl
-held_if_ready true false e = refl
-held_if_ready false full e = cc
-
-pub held_unless_ready : (ready full : Bool) → ready ≡ false → false ≡ ((ready && full) || false)
-held_unless_ready true full e = cc
-held_unless_ready false full e = refl
-
 -- whether so many bytes more pass a limit
 abbrev pub passes_with : ℕ → List ℕ → Option ℕ → Bool
 passes_with limit output None = false
@@ -79,17 +44,83 @@ passes-length limit output None = refl
 passes-length limit output (Some line) = refl
 
 module _ (a : Inside) where
-  -- the world that the state shows, the thread being in some course
-  abbrev pub in_course : Course → World
-  in_course course = (state_shown a.program a.machine course a.fault a.rows).world
+  -- the frames of all threads
+  abbrev pub all_now : List (List Frame)
+  all_now = all_frames a.threads a.machine.thread a.machine.frames
 
+  abbrev pub threads_now : List Thread
+  threads_now = threads_in a.program a.threads.courses all_now
+
+  -- the world that the state shows
   abbrev pub now : World
-  now = in_course a.course
+  now = (state_shown a.program a.machine a.threads a.fault a.rows).world
 
-  module _ (sound : IsSound a.program a.limits a.machine a.rows) where
-    -- the world is one that the code keeps by numbers
-    pub kept : (course : Course) (fault : Option (Fault × ℕ)) → IsKept a.program (state_shown a.program a.machine course fault a.rows).world a.machine.heap
-    kept course fault = record {
+  -- a thread that lives was started, and its frames are among those of all
+  pub started : (t : ℕ) → is_live now t ≡ true → slice_get a.threads.courses t ≡ Some Live
+  started t e = lives_live a.threads.courses t (lives_as a.program a.threads.courses all_now t ∙ e)
+
+  pub lives_now : (t : ℕ) → lives_in a.threads.courses t ≡ is_live now t
+  lives_now t = lives_as a.program a.threads.courses all_now t
+
+  pub frames_now : (t : ℕ) (frames : List Frame) → is_live now t ≡ true → slice_get all_now t ≡ Some frames → frames_at now t ≡ frames
+  frames_now t frames live own = ap frames_of (thread_got a.program a.threads.courses all_now t Live frames (started t live) own)
+
+  pub counted_now : length threads_now ≡ length a.threads.courses
+  counted_now = length-threads a.program a.threads.courses all_now
+
+  -- how the world stands
+  pub stands : (faulted lives ready : Bool) → is_some a.fault ≡ faulted → list_any goes_on a.threads.courses ≡ lives → some_is_ready a.program now ≡ ready
+      → status_by faulted lives ready ≡ status_in a.program now
+  stands faulted lives ready f l r =
+      let same : some_lives now ≡ lives = sym (some_alive a.program a.threads.courses all_now ∙ some-lives threads_now) ∙ l in
+      sym (ap (λ b. status_by b (some_lives now) (some_is_ready a.program now)) f
+      ∙ ap (λ b. status_by faulted b (some_is_ready a.program now)) same
+      ∙ ap (status_by faulted lives) r)
+
+  pub some_ready : (n : ℕ) → n ≡ length a.threads.courses
+      → is_some (find (is_ready a.program now) (numbers_between 0 n)) ≡ some_is_ready a.program now
+  some_ready n is =
+      some-found (is_ready a.program now) (numbers_between 0 n)
+      ∙ ap (λ n. list_any (is_ready a.program now) (numbers_up 0 n)) (let all : n - 0 ≡ length threads_now = omega (arith, is, counted_now) in all)
+      ∙ ap (list_any (is_ready a.program now)) (sym (numbers-of 0 threads_now))
+
+  pub some_held : (p : ℕ → Bool) (n : ℕ) → n ≡ length a.threads.courses → list_any p (numbers_between 0 n) ≡ list_any p (thread_numbers now)
+  some_held p n is =
+      ap (λ n. list_any p (numbers_up 0 n)) (let all : n - 0 ≡ length threads_now = omega (arith, is, counted_now) in all) ∙ ap (list_any p) (sym (numbers-of 0 threads_now))
+
+  -- the numbers of threads in cyclic order, from where the last one is at most
+  abbrev pub StartsAt : ℕ → ℕ → Type 0
+  StartsAt start within = (start ≡ within) ⊎ ((length threads_now ≤ start) × (within ≡ length threads_now))
+
+  module _ (start within count : ℕ) (counts : count ≡ length a.threads.courses) (least : (within ≤ start) × (within ≤ count))
+      (either : (within ≡ start) ⊎ (within ≡ count)) where
+    abbrev ready : ℕ → Bool
+    ready = is_ready a.program now
+
+    many : count ≡ length threads_now
+    many = counts ∙ sym counted_now
+
+    starts : StartsAt start within
+    starts = by either
+      where
+        by : (within ≡ start) ⊎ (within ≡ count) → StartsAt start within
+        by (inl here) = inl (sym here)
+        by (inr past) = inr (omega (arith, least.0, past, many), past ∙ many)
+
+    pub first_ready : (n : ℕ) → Some n ≡ find ready (numbers_between within count) → Some n ≡ find ready (cyclic_from start (thread_numbers now))
+    first_ready n found =
+        cyclic-first ready start within threads_now (omega (arith, least.1, many)) starts n (found ∙ ap (λ to. find ready (numbers_between within to)) many)
+
+    pub second_ready : None ≡ find ready (numbers_between within count)
+        → find ready (numbers_between 0 within) ≡ find ready (cyclic_from start (thread_numbers now))
+    second_ready none =
+        cyclic-second ready start within threads_now (omega (arith, least.1, many)) starts (none ∙ ap (λ to. find ready (numbers_between within to)) many)
+
+  module _ (sound : IsSound a.program a.limits a.machine a.threads a.rows) where
+    -- a world with other threads is one that the code keeps by numbers
+    pub kept : (threads : List Thread) (fault : Option (Fault × ℕ))
+        → IsKept a.program (machine_shown a.program threads a.machine.slots.items a.machine.states.items a.machine.heap a.machine.output.items fault a.rows).world a.machine.heap
+    kept threads fault = record {
       accepted = sound.accepted;
       names = served_names a.program sound.served.code;
       served = λ f i there. instruction_served a.program f i sound.served.code there;
@@ -101,46 +132,24 @@ module _ (a : Inside) where
       sized = sound.sized;
     }
 
-    abbrev waits_here : Bool
-    waits_here = waits_at a.program a.machine (running a.machine.frames)
+    pub few_live : (t : ℕ) → is_live now t ≡ true → t < 64
+    few_live t e =
+        let there : t < length a.threads.courses = live_started a.threads.courses t (lives_now t ∙ e) in
+        omega (arith, there, sound.few_threads)
 
-    -- a thread that lives waits where the machine's parts tell so
-    waits_in : (course : Course) (t : ℕ) → is_live (in_course course) t ≡ true → waits (completion a.program (in_course course) t) ≡ waits_here
-    waits_in Live zero e =
-        subst (λ n. waits (completion a.program (in_course Live) n) ≡ waits_at a.program a.machine (running (frames_at (in_course Live) n))) sound.first
-        (waits_completed a.program (in_course Live) a.machine (kept Live a.fault) refl)
-    waits_in Live (suc t) e = cc
-    waits_in Returned zero e = cc
-    waits_in Returned (suc t) e = cc
-    waits_in (Threw kind) zero e = cc
-    waits_in (Threw kind) (suc t) e = cc
-
-    pub ready_lives_on : (t : ℕ) → a.fault ≡ None → is_live now t ≡ true → not waits_here ≡ is_ready a.program now t
-    ready_lives_on t none lives =
-        ap not (sym (waits_in a.course t lives)) ∙ sym (rw (none, lives) refl)
-
-    pub ready_dead : (t : ℕ) → a.fault ≡ None → is_live now t ≡ false → false ≡ is_ready a.program now t
-    ready_dead t none dead = sym (rw (none, dead) refl)
-
-    -- how the world stands, by its one thread
-    pub stands : (faulted lives ready : Bool) → is_some a.fault ≡ faulted → is_live now 0 ≡ lives → is_ready a.program now 0 ≡ ready
-        → status_by faulted (lives || false) (ready || false) ≡ status_in a.program now
-    stands faulted lives ready f l r =
-        sym (ap (λ b. status_by b (some_lives now) (some_is_ready a.program now)) f
-        ∙ ap (λ b. status_by faulted (b || false) (some_is_ready a.program now)) l
-        ∙ ap (λ b. status_by faulted (lives || false) (b || false)) r)
+    -- a thread waits where the machine's parts tell so
+    pub waits_now : (t : ℕ) → waits_at a.program a.threads.courses a.machine t (running (frames_at now t)) ≡ waits (completion a.program now t)
+    waits_now t =
+        sym (waits_completed a.program a.threads.courses now a.machine t (kept threads_now a.fault) refl (are_in a.program a.threads.courses all_now))
 
     -- it prints what its step does
-    pub told_in : (course : Course) (t : ℕ) → is_live (in_course course) t ≡ true → print_of a.program (in_course course) t ≡ printed_at a.program (running a.machine.frames)
-    told_in Live zero e = print_completed a.program (in_course Live) 0 a.machine.heap (kept Live a.fault)
-    told_in Live (suc t) e = cc
-    told_in Returned zero e = cc
-    told_in Returned (suc t) e = cc
-    told_in (Threw kind) zero e = cc
-    told_in (Threw kind) (suc t) e = cc
+    pub told_now : (t : ℕ) → print_of a.program now t ≡ printed_at a.program (running (frames_at now t))
+    told_now t = print_completed a.program now t a.machine.heap (kept threads_now a.fault)
 
-    pub overflows_shown : (t : ℕ) → is_live now t ≡ true → (n : Option ℕ) → n ≡ option_map length (printed_at a.program (running a.machine.frames)) → passes_with a.limits.output a.machine.output.items n ≡ overflows a.program a.limits now t
-    overflows_shown t lives n is =
+    pub overflows_shown : (t : ℕ) (frames : List Frame) → frames_at now t ≡ frames → (n : Option ℕ)
+        → n ≡ option_map length (printed_at a.program (running frames)) → passes_with a.limits.output a.machine.output.items n ≡ overflows a.program a.limits now t
+    overflows_shown t frames own n is =
         ap (passes_with a.limits.output a.machine.output.items) is
-        ∙ sym (passes-length a.limits.output a.machine.output.items (printed_at a.program (running a.machine.frames)))
-        ∙ ap (passes a.limits.output a.machine.output.items) (sym (told_in a.course t lives))
+        ∙ sym (passes-length a.limits.output a.machine.output.items (printed_at a.program (running frames)))
+        ∙ ap (λ fs. passes a.limits.output a.machine.output.items (printed_at a.program (running fs))) (sym own)
+        ∙ ap (passes a.limits.output a.machine.output.items) (sym (told_now t))

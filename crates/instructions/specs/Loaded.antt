@@ -69,6 +69,8 @@ pub record IsSound (program : List ClassListing) (limits : Limits) (m : Machine)
   pub room : limits.output ≤ vec_capacity m.output
   pub steps : limits.steps ≤ 16777215
   pub started : m.thread < length threads.courses
+  pub few_threads : length threads.courses ≤ 64
+  pub parked : length threads.parked ≡ 64
   pub sized : length m.states.items ≡ length program
   pub few_slots : length m.slots.items < 2 ^ 32
   pub slots_are : length m.slots.items ≡ length (opening_slots program)

@@ -1,4 +1,4 @@
-use Rattle.std.specs.Prelude.{◌≡◌, ◌≤◌, ◌-◌, ℕ, Bool, true, false, slice_get, List, [], ◌∷◌, ◌++◌, drop, length, replicate, slice_set, Option, Some, None}
+use Rattle.std.specs.Prelude.{◌≡◌, ◌≤◌, ◌+◌, ◌-◌, ℕ, zero, suc, Bool, true, false, slice_get, List, [], ◌∷◌, ◌++◌, drop, length, replicate, slice_set, Option, Some, None}
 use Rattle.std.specs.Option.{option_map_or}
 use Rattle.model.specs.ClassListings.{ClassListing}
 use Rattle.model.specs.Frames.{Frame}
@@ -65,3 +65,11 @@ begun_as threads (Runs place max_locals max_stack reference) = record {
   courses = threads.courses ++ Live ∷ [];
   parked = slice_set threads.parked (length threads.courses) (first_frame place max_locals max_stack reference ∷ []);
 }
+
+-- the numbers from one up to another
+abbrev pub numbers_up : ℕ → ℕ → List ℕ
+numbers_up n zero = []
+numbers_up n (suc count) = n ∷ numbers_up (n + 1) count
+
+abbrev pub numbers_between : ℕ → ℕ → List ℕ
+numbers_between from to = numbers_up from (to - from)
