@@ -7,9 +7,11 @@ use Rattle.model.specs.ClassListings.{ClassListing}
 use Rattle.model.specs.Frames.{Frame}
 use Rattle.model.specs.Worlds.{Thread, frames_of, lives}
 use Rattle.model.specs.Worlds.Thread.{Live as LiveThread, Ended}
+use Rattle.instructions.specs.declared.acting.Begun.{Begun}
+use Rattle.instructions.specs.declared.acting.Begun.TheVariants.{Ended as BegunEnded, Runs}
 use Rattle.instructions.specs.declared.kinds.Course.{Course}
 use Rattle.instructions.specs.declared.kinds.Course.TheVariants.{Live, Returned, Threw}
-use Rattle.instructions.specs.Acting.{AreIn, is_alive}
+use Rattle.instructions.specs.Acting.{AreIn, CanBegin, is_alive}
 use Rattle.instructions.specs.Shown.{thread_shown}
 use Rattle.instructions.specs.Threads.{AreThreads, goes_on, lives_in, threads_in}
 
@@ -196,3 +198,12 @@ pub live_started : (cs : List Course) (t : ℕ) → lives_in cs t ≡ true → t
 live_started [] t e = cc
 live_started (c ∷ cs) zero e = omega arith
 live_started (c ∷ cs) (suc t) e = let more = live_started cs t e in omega (arith, more)
+
+-- whether a thread may begin goes by how many were started
+pub begins-as : (cs more : List Course) (begun : Begun) → length more ≡ length cs → CanBegin cs begun → CanBegin more begun
+begins-as cs more BegunEnded same may = rw same may
+begins-as cs more (Runs place max_locals max_stack reference) same may = rw same may
+
+pub few-begun : (cs : List Course) (begun : Begun) → CanBegin cs begun → length cs < 64
+few-begun cs BegunEnded may = may
+few-begun cs (Runs place max_locals max_stack reference) may = may.0

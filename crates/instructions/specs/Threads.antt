@@ -8,6 +8,7 @@ use Rattle.model.specs.Locals.{called_frame}
 use Rattle.model.specs.Worlds.{Thread}
 use Rattle.instructions.specs.declared.acting.Begun.{Begun}
 use Rattle.instructions.specs.declared.acting.Begun.TheVariants.{Ended as BegunEnded, Runs}
+use Rattle.instructions.specs.declared.acting.Stepped.{Stepped}
 use Rattle.instructions.specs.declared.kinds.Course.{Course}
 use Rattle.instructions.specs.declared.kinds.Course.TheVariants.{Live, Returned, Threw}
 use Rattle.instructions.specs.Shown.{thread_shown}
@@ -65,6 +66,15 @@ begun_as threads (Runs place max_locals max_stack reference) = record {
   courses = threads.courses ++ Live ∷ [];
   parked = slice_set threads.parked (length threads.courses) (first_frame place max_locals max_stack reference ∷ []);
 }
+
+abbrev pub begun_if : ThreadsValue → Option Begun → ThreadsValue
+begun_if threads None = threads
+begun_if threads (Some begun) = begun_as threads begun
+
+-- a thread has made a turn
+abbrev pub noted_as : ThreadsValue → ℕ → Stepped → ThreadsValue
+noted_as threads thread stepped =
+    begun_if (record { courses = slice_set threads.courses thread stepped.turned.course; parked = threads.parked }) stepped.begun
 
 -- the numbers from one up to another
 abbrev pub numbers_up : ℕ → ℕ → List ℕ
