@@ -1,5 +1,6 @@
 -- The parts of a new state show the opening world.
 use Rattle.std.proofs.Common.{◌≡◌, ℕ, List, [], ◌∷◌, length, map, None, refl, sym, ap, ◌∙◌}
+use Rattle.std.specs.Prelude.{replicate}
 use Rattle.std.proofs.lemmas.List.{length-map}
 use Rattle.model.specs.declared.journals.Limits.{Limits}
 use Rattle.model.specs.declared.turns.ClassState.{ClassState}
@@ -20,6 +21,8 @@ use Rattle.join.proofs.ReadingBack.{field_same, thread_same}
 use Rattle.instructions.specs.Heaps.{HeapValue, opening_heap}
 use Rattle.instructions.specs.Loaded.{fresh, machine_shown}
 use Rattle.instructions.specs.Shown.{keyed}
+use Rattle.instructions.specs.Threads.{ThreadsValue, all_shown}
+use Rattle.instructions.specs.declared.kinds.Course.TheVariants.{Live as LiveCourse}
 use Rattle.instructions.proofs.OpeningClaims.{opening-sized}
 use Rattle.instructions.proofs.ReturnLemmas.{with_states-length}
 use Rattle.instructions.proofs.ShownLemmas.{opening_shown as opening_objects}
@@ -46,11 +49,11 @@ pub opening_shown : (program : List ClassListing) (limits : Limits) (shape : Hea
     (states : List ClassState) (heap : HeapValue) (output : List ℕ)
     → ShapeFits shape.small shape.medium shape.large → frames ≡ opening_frames program
     → slots ≡ map (λ (s : Slot). s.opening) (static_slots program) → states ≡ claimed_states program → heap ≡ opening_heap program shape
-    → output ≡ []
-    → record { program = program; limits = limits; shape = heap.shape; machine = machine_shown program (Live frames ∷ []) slots states heap output None 0 }
+    → output ≡ [] → (threads : ThreadsValue) → threads ≡ record { courses = LiveCourse ∷ []; parked = replicate 64 [] }
+    → record { program = program; limits = limits; shape = heap.shape; machine = machine_shown program (all_shown program threads 0 frames) slots states heap output None 0 }
     ≡ fresh program limits shape
-opening_shown program limits shape frames slots states heap output fits entered opens claimed heaps empty =
+opening_shown program limits shape frames slots states heap output fits entered opens claimed heaps empty started opened =
     let threads = opening_threads program frames entered in
     let fields : keyed (opening_slots program) slots ≡ map (named_field (λ b. b)) (opening_slots program) =
     ap (keyed (opening_slots program)) opens ∙ keyed-opening program (opening_slots program) ∙ sym (map-same (named_field (λ b. b)) field_same (opening_slots program)) in
-    rw (heaps, claimed, empty, fields, threads, opening_objects program shape fits) refl
+    rw (opened, heaps, claimed, empty, fields, threads, opening_objects program shape fits) refl

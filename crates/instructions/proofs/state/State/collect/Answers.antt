@@ -13,21 +13,26 @@ overflow_add-self c =
     let h : c.self.inside.rows < c.self.inside.limits.steps = unrefused_counted c.self.inside.program c.self.inside.limits (now c.self.inside) Collector (rw (← c.self.view_is) at c.requires) in
     omega (arith, h)
 
+pub collect-requires-clause-running : goal.collect-requires-clause-running
+collect-requires-clause-running c = omega (arith, c.self.invariant.started, c.self.invariant.few_threads)
+
 pub returns : goal.returns
 returns c =
-    rw (c.collect.ensures.heap, c.collect.ensures.frames, c.collect.ensures.slots, c.collect.ensures.states, c.collect.ensures.output, ← c.self.view_is)
+    rw (c.collect.ensures.heap, c.collect.ensures.thread, c.collect.ensures.frames, c.collect.ensures.slots, c.collect.ensures.states, c.collect.ensures.output, ← c.self.view_is)
     (collected_shown c.self.inside)
 
 pub invariant_of-self : goal.invariant_of-self
 invariant_of-self c =
     let a = c.self.inside in
     let sound = c.self.invariant in
-    rw (c.collect.ensures.heap, c.collect.ensures.thread, c.collect.ensures.frames, c.collect.ensures.slots, c.collect.ensures.states, c.collect.ensures.output) (record {
+    rw (c.collect.ensures.heap, c.collect.ensures.thread, c.collect.ensures.slots, c.collect.ensures.states, c.collect.ensures.output) (record {
       served = sound.served;
       accepted = sound.accepted;
       room = sound.room;
       steps = sound.steps;
-      first = sound.first;
+      started = sound.started;
+      few_threads = sound.few_threads;
+      parked = sound.parked;
       sized = sound.sized;
       few_slots = sound.few_slots;
       slots_are = sound.slots_are;
