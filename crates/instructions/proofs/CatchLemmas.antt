@@ -1,5 +1,5 @@
 -- What frames do with a throwable by the numbers of classes is what they do by names.
-use Rattle.std.proofs.Common.{◌≡◌, ◌+◌, ◌==◌, ℕ, zero, suc, List, [], ◌∷◌, ◌++◌, length, map, slice_get, Bool, true, false, ◌&&◌, ◌||◌, not, Option, Some, None, refl, ap, sym, subst, ◌∙◌, arith}
+use Rattle.std.proofs.Common.{◌≡◌, ◌+◌, ℕ, zero, suc, List, [], ◌∷◌, ◌++◌, length, map, slice_get, Bool, true, false, ◌&&◌, ◌||◌, not, Option, Some, None, refl, ap, sym, ◌∙◌, arith}
 use Rattle.std.specs.Prelude.{cond, nat_le, nat_lt, codes}
 use Rattle.std.specs.List.{find, list_any}
 use Rattle.std.specs.Option.{option_and_then, option_map}
@@ -20,29 +20,25 @@ use Rattle.model.specs.Classes.Subclasses.{enough_steps, is_subclass, is_within}
 use Rattle.model.specs.Classes.Types.{Element, element_of, is_subtype, is_subtype_within, types_compare}
 use Rattle.model.specs.Classes.Builtin.{builtin_classes}
 use Rattle.model.specs.Frames.{Frame}
-use Rattle.model.specs.Initialisation.{is_initializer_if, runs_initializer}
-use Rattle.model.specs.Programs.{code_at, method_at, method_in, empty_initializer}
-use Rattle.model.specs.Unwinding.{Response, fits, handler_in, handler_of, is_error, responds, response_of, takes}
+use Rattle.model.specs.Initialisation.{runs_initializer}
+use Rattle.model.specs.Programs.{method_at, method_in}
+use Rattle.model.specs.Unwinding.{fits, handler_in, handler_of, responds, response_of, takes}
 use Rattle.frames.specs.Heads.{head_of}
-use Rattle.resolve.specs.Numbers.{all_classes, class_names, class_number}
-use Rattle.resolve.proofs.ClassAtNumber.{class_at_number}
-use Rattle.loader.specs.declared.method_tables.Catch.{Catch}
-use Rattle.loader.specs.declared.method_tables.Catch.TheVariants.{Any, Class}
+use Rattle.resolve.specs.Numbers.{all_classes, class_names}
 use Rattle.loader.specs.declared.method_tables.Row.{Row}
-use Rattle.loader.specs.ClassNumbers.{class_place}
 use Rattle.loader.specs.ClassTables.{class_facts, class_tables, is_below, is_subtype_in}
 use Rattle.loader.specs.MethodFacts.{MethodFacts}
-use Rattle.loader.specs.MethodTables.{catch_of, method_facts, row_of, rows_of}
+use Rattle.loader.specs.MethodTables.{catch_of, row_of, rows_of}
 use Rattle.loader.proofs.ClassTableLemmas.{name-at, subtype-names}
 use Rattle.loader.proofs.RunLemmas.{all_rows_fit}
 use Rattle.instructions.specs.declared.kinds.Kind.{Kind}
 use Rattle.instructions.specs.declared.kinds.Kind.TheVariants.{Instance, Array}
 use Rattle.instructions.specs.MethodsByNumber.{facts_in}
-use Rattle.instructions.specs.Shown.{class_name, kind_name, name_or_none}
+use Rattle.instructions.specs.Shown.{kind_name, name_or_none}
 use Rattle.instructions.specs.Throwing.{IsThrown, answer_by, answers, handler_by, handler_in_facts, handler_in_rows, is_kind_below, is_throwable, response_as, row_fits, takes_kind}
 use Rattle.instructions.specs.Throwing.IsThrown.{thrown}
 use Rattle.instructions.proofs.ByNumberLemmas.{HasNumber, number-names, number-of, number-place}
-use Rattle.instructions.proofs.CodeResolves.{and_then-some, in_methods, neither, none-any-at, none-found-at, was-not}
+use Rattle.instructions.proofs.CodeResolves.{and_then-some, in_methods, neither, none-found-at, was-not}
 use Rattle.instructions.proofs.MethodLemmas.{Told, method-told}
 use Rattle.instructions.proofs.MethodLemmas.Told.{Facts, Nothing}
 

@@ -1,5 +1,5 @@
 -- The running frame changes twice.
-use Rattle.std.proofs.Common.{◌≡◌, ◌<◌, ◌-◌, ℕ, List, length, refl, ap, ◌∙◌, subst, sym, arith, length-set}
+use Rattle.std.proofs.Common.{◌≡◌, ◌<◌, ◌-◌, List, length, ap, ◌∙◌, arith, length-set}
 use Rattle.std.specs.Prelude.{slice_index_or, slice_set}
 use Rattle.std.proofs.lemmas.List.{get_or-set_same, set-set}
 use Rattle.model.specs.Frames.{Frame, no_frame, running_frame, with_running}

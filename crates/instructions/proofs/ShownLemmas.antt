@@ -15,7 +15,6 @@ use Rattle.model.specs.ClassListings.{ClassListing}
 use Rattle.model.specs.Classes.Builtin.{builtin_classes}
 use Rattle.model.specs.Classes.Exceptions.{exception_class}
 use Rattle.model.specs.Accounts.{Account}
-use Rattle.model.specs.Frames.{Frame}
 use Rattle.model.specs.Limits.{ShapeFits}
 use Rattle.model.specs.Worlds.{Thread, World, Object, opening_objects, opening_slots, plain_object}
 use Rattle.model.specs.Collector.Places.{root_at, word_at}
@@ -26,11 +25,10 @@ use Rattle.collector.proofs.Clearing.{collected-is}
 use Rattle.join.specs.OnCells.{nobody, held_object}
 use Rattle.join.specs.TurnsOnCells.{CellMachine, collected_on, opening_on, step_on}
 use Rattle.join.proofs.Opening.{two_cells}
-use Rattle.instructions.specs.declared.kinds.Course.{Course}
 use Rattle.instructions.specs.declared.kinds.Kind.{Kind}
 use Rattle.instructions.specs.declared.kinds.Kind.TheVariants.{Instance, Array}
 use Rattle.instructions.specs.Heaps.{HeapValue, cleared, collected, exception_kind, looked_at, made, memory_error_kind, opening_stored, own_class}
-use Rattle.instructions.specs.Shown.{class_name, contents_shown, field_keys, kind_name, keyed, name_or_none, object_shown, objects_shown, thread_shown}
+use Rattle.instructions.specs.Shown.{class_name, contents_shown, field_keys, kind_name, keyed, name_or_none, object_shown, objects_shown}
 use Rattle.instructions.proofs.AgreeLemmas.{cells_number}
 use Rattle.instructions.proofs.KeyedLemmas.{length-keyed}
 use Rattle.model.specs.Objects.{class_of, made_of, words_in}

@@ -1,6 +1,6 @@
 -- What the turn of a thread prints, and whether it waits, by the numbers that its step names.
-use Rattle.std.proofs.Common.{◌≡◌, ℕ, ℤ, List, [], ◌∷◌, Bool, true, false, Option, Some, None, Result, Ok, Err, refl, ap, sym, ◌∙◌}
-use Rattle.std.specs.Prelude.{◌||◌, ◌++◌, ◌==◌, not, length, slice_get, slice_index_or, if◌then◌else◌}
+use Rattle.std.proofs.Common.{◌≡◌, ℕ, List, [], ◌∷◌, Bool, true, false, Option, Some, None, Result, Ok, Err, refl, ap, sym, ◌∙◌}
+use Rattle.std.specs.Prelude.{◌||◌, ◌++◌, ◌==◌, not, slice_get, if◌then◌else◌}
 use Rattle.model.specs.declared.turns.Abrupt.{Abrupt}
 use Rattle.model.specs.declared.turns.Abrupt.TheVariants.{Fault as Faulted, Throw as Thrown}
 use Rattle.model.specs.declared.turns.ClassState.{ClassState}
@@ -21,14 +21,13 @@ use Rattle.model.specs.Initialisation.{callers_waiting, initializer_frames, with
 use Rattle.model.specs.Locals.{value_on}
 use Rattle.model.specs.Stores.{Storage, storage_kind}
 use Rattle.model.specs.Table.Fields.{word_got}
-use Rattle.model.specs.Table.Initialisation.{claims, claims_with, initialises, initialises_chain, states_in}
+use Rattle.model.specs.Table.Initialisation.{claims, initialises, states_in}
 use Rattle.model.specs.Words.{slot_at}
 use Rattle.model.specs.Worlds.{World, with_class_states, with_thread}
 use Rattle.model.specs.Worlds.Thread.{Live}
 use Rattle.loader.specs.declared.class_tables.Word.{Word}
 use Rattle.loader.specs.declared.operations.Operation.{Operation}
 use Rattle.loader.specs.declared.operations.Operation.TheVariants as operation
-use Rattle.loader.specs.declared.programs.Step.{Step}
 use Rattle.loader.specs.declared.static_slots.Slot.{Slot}
 use Rattle.loader.specs.ClassTables.{class_tables, words_in}
 use Rattle.loader.specs.StaticSlots.{static_slots}

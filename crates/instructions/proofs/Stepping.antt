@@ -1,10 +1,9 @@
 -- What the turn of a thread comes to is what the instruction table says.
-use Rattle.std.proofs.Common.{◌≡◌, inl, inr, ◌⊎◌, ℕ, List, length, Bool, true, false, ◌&&◌, not, Option, Some, None, is_none, refl, ap, subst, sym, ◌∙◌}
+use Rattle.std.proofs.Common.{◌≡◌, inl, inr, ℕ, List, length, Bool, true, false, ◌&&◌, not, Option, Some, None, is_none, refl, ap, subst, sym, ◌∙◌}
 use Rattle.std.specs.List.{list_all}
 use Rattle.std.specs.Option.{option_map, option_and_then}
 use Rattle.model.specs.declared.instructions.Access.{Access}
 use Rattle.model.specs.declared.instructions.Access.TheVariants.{Get, Put}
-use Rattle.model.specs.declared.instructions.ArrayOperation.{ArrayOperation}
 use Rattle.model.specs.declared.instructions.ArrayOperation.TheVariants.{New as NewArray, NewOf, Length, Load, Store}
 use Rattle.model.specs.declared.instructions.ClassOperation.TheVariants.{New as NewObject, CheckCast, InstanceOf}
 use Rattle.model.specs.declared.instructions.ElementKind.TheVariants as element
@@ -49,7 +48,7 @@ use Rattle.instructions.specs.ByNumbers.{AreStored, IsNumbered, operated_by_numb
 use Rattle.instructions.specs.CallsByNumbers.{is_call, operated_by_served_calls, served_call}
 use Rattle.instructions.specs.Heaps.{HeapValue}
 use Rattle.instructions.specs.NamedTypes.{goes_by_type, has_names}
-use Rattle.instructions.specs.Operated.{completed, completed_at, marked, moved_or, operated, operated_else, printed_at, standing, stepped, waits_at}
+use Rattle.instructions.specs.Operated.{completed_at, marked, moved_or, operated, operated_else, printed_at, standing, stepped, waits_at}
 use Rattle.instructions.specs.Shown.{keyed, objects_shown}
 use Rattle.instructions.specs.TypesByNumbers.{operated_by_types}
 use Rattle.instructions.proofs.ByNumberLemmas.{code-by_numbers}

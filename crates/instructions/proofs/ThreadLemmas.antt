@@ -1,5 +1,5 @@
 -- Threads of a state as a world has them.
-use Rattle.std.proofs.Common.{◌≡◌, ◌≢◌, ◌<◌, ◌≤◌, ◌+◌, ◌-◌, arith, ℕ, zero, suc, List, [], ◌∷◌, ◌++◌, length, map, take, drop, Bool, true, false, ◌||◌, Option, Some, None, refl, ap, sym, ◌∙◌}
+use Rattle.std.proofs.Common.{◌≡◌, ◌<◌, ◌≤◌, ◌-◌, arith, ℕ, zero, suc, List, [], ◌∷◌, ◌++◌, length, map, take, drop, Bool, true, false, ◌||◌, Option, Some, None, refl, ap, sym, ◌∙◌}
 use Rattle.std.specs.List.{list_any}
 use Rattle.std.specs.Prelude.{replicate, slice_get, slice_index_or, slice_set}
 use Rattle.std.proofs.lemmas.List.{length-append}
@@ -102,6 +102,17 @@ module _ (program : List ClassListing) where
       let frames_same : f ≡ frames = cc in
       rw (same, frames_same) refl
   thread_got (c ∷ cs) (f ∷ fs) (suc t) course frames started own = thread_got cs fs t course frames started own
+
+  -- of a thread that has ended no frames are told
+  pub ended_got : (cs : List Course) (all : List (List Frame)) (t : ℕ) (course : Course) → slice_get cs t ≡ Some course → goes_on course ≡ false
+      → slice_get (threads_in program cs all) t ≡ Some (thread_shown program course [])
+  ended_got [] all t course started ended = cc
+  ended_got (c ∷ cs) [] zero course started ended = let same : c ≡ course = cc in rw same refl
+  ended_got (c ∷ cs) [] (suc t) course started ended = ended_got cs [] t course started ended
+  ended_got (c ∷ cs) (f ∷ fs) zero Live started ended = cc
+  ended_got (c ∷ cs) (f ∷ fs) zero Returned started ended = let same : c ≡ Returned = cc in rw same refl
+  ended_got (c ∷ cs) (f ∷ fs) zero (Threw kind) started ended = let same : c ≡ Threw kind = cc in rw same refl
+  ended_got (c ∷ cs) (f ∷ fs) (suc t) course started ended = ended_got cs fs t course started ended
 
   pub none_got : (cs : List Course) (all : List (List Frame)) (t : ℕ) → slice_get cs t ≡ None → slice_get (threads_in program cs all) t ≡ None
   none_got [] all t e = refl
@@ -207,3 +218,9 @@ begins-as cs more (Runs place max_locals max_stack reference) same may = rw same
 pub few-begun : (cs : List Course) (begun : Begun) → CanBegin cs begun → length cs < 64
 few-begun cs BegunEnded may = may
 few-begun cs (Runs place max_locals max_stack reference) may = may.0
+
+-- a thread that lives, by its frames
+pub live_thread : (o : Option Thread) → lives o ≡ true → o ≡ Some (LiveThread (frames_of o))
+live_thread None e = cc
+live_thread (Some (LiveThread frames)) e = refl
+live_thread (Some (Ended class)) e = cc

@@ -1,5 +1,5 @@
 -- A throwable lands, in the parts as on cells.
-use Rattle.std.proofs.Common.{◌≡◌, ◌≢◌, ◌<◌, ℕ, zero, suc, ◌+◌, ◌-◌, ◌==◌, List, [], ◌∷◌, ◌++◌, length, reverse, map, Bool, true, false, Option, Some, None, Result, refl, ap, sym, subst, ◌∙◌, arith}
+use Rattle.std.proofs.Common.{◌≡◌, ◌≢◌, ◌<◌, ℕ, zero, suc, ◌+◌, ◌-◌, ◌==◌, List, [], ◌∷◌, ◌++◌, length, reverse, true, false, Option, Some, None, Result, refl, ap, sym, subst, ◌∙◌, arith}
 use Rattle.std.specs.Prelude.{is_some, nat_le, slice_get, slice_index_or, slice_set, if◌then◌else◌}
 use Rattle.std.specs.Option.{IfSome, option_map}
 use Rattle.std.proofs.lemmas.Option.{slice_get-get_or}
@@ -22,12 +22,12 @@ use Rattle.model.specs.Classes.Types.{element_of}
 use Rattle.model.specs.Completions.{raises}
 use Rattle.model.specs.Completions.Completion.{Creates, Raises, Throws as ThrowsOf}
 use Rattle.model.specs.Frames.{Frame, callers, running_frame, with_running}
-use Rattle.model.specs.Objects.{class_at, class_if, words_in}
+use Rattle.model.specs.Objects.{class_at, class_if}
 use Rattle.model.specs.Machines.{outcome_by}
 use Rattle.model.specs.Results.{Effect, faulted}
 use Rattle.model.specs.Turns.{is_fault}
 use Rattle.model.specs.Unwinding.{failing, handling, landed, thrown, unwound, way_of}
-use Rattle.model.specs.Worlds.{World, Contents, Object, frames_at, plain_object, with_thread}
+use Rattle.model.specs.Worlds.{World, Object, frames_at, plain_object, with_thread}
 use Rattle.model.specs.Worlds.Thread.{Live as LiveThread, Ended}
 use Rattle.cells.specs.Objects.{StoredObject, object_if}
 use Rattle.join.specs.TurnsOnCells.{CellMachine, birth_in, carried_on, created_at, faulted_on, raised_at, shade_cells, turned_on}

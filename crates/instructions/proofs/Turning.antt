@@ -15,7 +15,7 @@ use Rattle.model.specs.Completions.{Completion}
 use Rattle.model.specs.Frames.{Frame, running}
 use Rattle.model.specs.Table.Next.{completion}
 use Rattle.model.specs.Turns.{refusal}
-use Rattle.model.specs.Worlds.{Thread, World, frames_at, frames_of, is_live}
+use Rattle.model.specs.Worlds.{Thread, frames_at, frames_of, is_live}
 use Rattle.model.specs.Worlds.Thread.{Live as LiveThread, Ended}
 use Rattle.join.specs.TurnsOnCells.{CellMachine, counted_on, faulted_on, outcome_on, turned_on}
 use Rattle.instructions.specs.declared.acting.Begun.{Begun}

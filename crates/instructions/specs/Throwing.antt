@@ -1,4 +1,4 @@
-use Rattle.std.specs.Prelude.{◌≡◌, ◌<◌, ◌+◌, ◌-◌, ℕ, List, [], length, slice_get, take, reverse, nat_le, nat_lt, Bool, true, false, ◌&&◌, not, ◌==◌, Option, Some, None, Result, Ok, Err, if◌then◌else◌}
+use Rattle.std.specs.Prelude.{◌≡◌, ◌<◌, ◌+◌, ◌-◌, ℕ, List, length, slice_get, take, reverse, nat_le, nat_lt, Bool, true, false, ◌&&◌, not, ◌==◌, Option, Some, None, Result, Ok, Err, if◌then◌else◌}
 use Rattle.std.specs.List.{find}
 use Rattle.std.specs.Option.{option_map}
 use Rattle.model.specs.declared.turns.Mark.{Mark}
@@ -13,7 +13,7 @@ use Rattle.model.specs.Classes.Types.{element_of}
 use Rattle.model.specs.Frames.{Frame, callers, running_frame}
 use Rattle.model.specs.Initialisation.{is_initializer_if}
 use Rattle.model.specs.Programs.{method_at}
-use Rattle.model.specs.Unwinding.{Landing, Response, Way}
+use Rattle.model.specs.Unwinding.{Response, Way}
 use Rattle.model.specs.Unwinding.Landing.{Handled, Stopped, Unhandled}
 use Rattle.model.specs.Unwinding.Response.{Handles, Fails, Leaves}
 use Rattle.frames.specs.declared.heads.FrameHead.{FrameHead}

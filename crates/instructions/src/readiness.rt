@@ -72,7 +72,13 @@ impl Machine {
 
     /// Whether a thread with these frames waits: below an initializer, or for another thread, the threads that were started
     /// being in these courses.
-    pub(crate) fn waits(&self, program: &Program, courses: &[Course], thread: u8, frames: &Frames) -> bool
+    pub(crate) fn waits(
+        &self,
+        program: &Program,
+        courses: &[Course],
+        thread: u8,
+        frames: &Frames,
+    ) -> bool
         requires accepted { refusal_of program.now ≡ None }
         requires sized { length self.now.states.items ≡ length program.now }
         ensures { result ≡ waits_at program.now courses.now self.now thread (running frames.now) }

@@ -92,8 +92,7 @@ impl State {
         ensures { IfOk result (λ view. view ≡ option_map (named_thread (birth_read self.now.machine.account.cells)) (slice_get self.now.machine.world.threads thread)) }
     {
         let alloc = *self.machine.states.allocator();
-        let courses = self.threads.courses();
-        match courses.get(thread as usize) {
+        match self.threads.course(thread) {
             Some(Course::Live) => {
                 let frames = self.frames(thread).views()?;
                 let named = named_frames(alloc, &self.machine.heap, &frames)?;
@@ -105,7 +104,7 @@ impl State {
                 Ok(Some(ThreadView { state }))
             }
             Some(Course::Threw(kind)) => {
-                let class = kind_name(alloc, &self.program, *kind)?;
+                let class = kind_name(alloc, &self.program, kind)?;
                 let state = ThreadState::Ended(Some(class));
                 Ok(Some(ThreadView { state }))
             }

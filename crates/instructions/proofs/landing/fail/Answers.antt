@@ -1,4 +1,4 @@
-use Rattle.std.proofs.Common.{◌≡◌, [], ap, ◌∙◌}
+use Rattle.std.proofs.Common.{[], ap, ◌∙◌}
 use Rattle.model.specs.declared.turns.Mark.TheVariants.{Failing}
 use Rattle.model.specs.Frames.{Frame, running_frame, with_running}
 use Rattle.instructions.proofs.RunningFrames.{changed-twice}

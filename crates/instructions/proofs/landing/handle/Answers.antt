@@ -1,6 +1,6 @@
-use Rattle.std.proofs.Common.{◌≡◌, [], ◌∷◌, Some, ◌∙◌}
+use Rattle.std.proofs.Common.{[], ◌∷◌, Some, ◌∙◌}
 use Rattle.model.specs.declared.values.Value.TheVariants.{Ref}
-use Rattle.model.specs.Frames.{Frame, replaced, running_frame, with_running}
+use Rattle.model.specs.Frames.{replaced, running_frame}
 use Rattle.instructions.proofs.RunningFrames.{changed-twice}
 use Rattle.instructions.proofs.landing.handle.Goals as goal
 

@@ -1,11 +1,7 @@
 -- A throwable lands: at a handler, at an initializer that fails, or nowhere.
-use Rattle.std.proofs.Common.{◌≡◌, Some, None, ap, refl, subst, ◌∙◌}
+use Rattle.std.proofs.Common.{Some, None, refl}
 use Rattle.model.specs.declared.turns.ClassState.TheVariants.{Failed}
-use Rattle.model.specs.Unwinding.{way_of}
-use Rattle.instructions.specs.Heaps.{HeapValue}
 use Rattle.instructions.specs.Leaving.{innermost}
-use Rattle.instructions.specs.Shown.{kind_name}
-use Rattle.instructions.specs.Throwing.{IsWithin, is_full_at, way_as}
 use Rattle.instructions.proofs.ReturnLemmas.{left-keeps}
 use Rattle.instructions.proofs.Throwables.{handler_lands, initializer_lands, nowhere_lands}
 use Rattle.instructions.proofs.machines.Machine.land.Goals as goal

@@ -1,9 +1,7 @@
 -- An exception that the machine makes, by the room that a cell has and by where it lands.
-use Rattle.std.proofs.Common.{◌≡◌, ◌≢◌, [], false, true, refl, ap, sym, subst, rules, arith, ◌∙◌}
-use Rattle.model.specs.declared.journals.Outcome.TheVariants.{Done}
+use Rattle.std.proofs.Common.{◌≡◌, ◌≢◌, [], true, refl, rules, ◌∙◌}
 use Rattle.model.specs.declared.turns.Exception.TheVariants.{StackOverflow}
 use Rattle.model.specs.Accounts.{has_room, take_cell}
-use Rattle.instructions.specs.Heaps.{exception_kind}
 use Rattle.instructions.proofs.StoredLemmas.{created-classes, created-shape, created-stored}
 use Rattle.instructions.proofs.Throwables.{raises_is}
 use Rattle.instructions.proofs.Throwables.{created_held, exception-thrown, overflow_raised, raise_full_told, raise_none_told, raise_told, stack_kind-thrown}

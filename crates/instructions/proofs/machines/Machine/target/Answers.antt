@@ -1,5 +1,4 @@
-use Rattle.std.proofs.Common.{◌≡◌, ◌<◌, length, arith}
-use Rattle.model.specs.Unwinding.{response_of}
+use Rattle.std.proofs.Common.{◌<◌, length, arith}
 use Rattle.instructions.specs.Shown.{kind_name}
 use Rattle.instructions.proofs.LandingLemmas.{answered, found_handler, found_initializer, found_nowhere, seeks_first, seeks_next}
 use Rattle.instructions.proofs.machines.Machine.target.Goals as goal

@@ -1,4 +1,4 @@
-use Rattle.std.proofs.Common.{◌≡◌, Err, Some, None, Ok, ap, sym, ◌∙◌}
+use Rattle.std.proofs.Common.{ap, ◌∙◌}
 use Rattle.instructions.specs.declared.kinds.Course.TheVariants.{Live}
 use Rattle.instructions.specs.Acting.{shown, turned}
 use Rattle.instructions.specs.Throwing.{throws_operand}

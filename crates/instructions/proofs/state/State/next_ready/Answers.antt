@@ -1,4 +1,4 @@
-use Rattle.std.proofs.Common.{◌≡◌, ◌≤◌, ◌∙◌, ap, arith, sym}
+use Rattle.std.proofs.Common.{◌∙◌, sym}
 use Rattle.instructions.proofs.CyclicLemmas.{least-either}
 use Rattle.instructions.proofs.Waiting.{first_ready, second_ready}
 use Rattle.instructions.proofs.state.State.next_ready.Goals as goal

@@ -1,4 +1,4 @@
-use Rattle.std.proofs.Common.{◌<◌, ◌≡◌, ◌∙◌, arith, false, sym}
+use Rattle.std.proofs.Common.{◌∙◌, sym}
 use Rattle.model.specs.Ready.{is_ready}
 use Rattle.instructions.proofs.CyclicLemmas.{passed-next}
 use Rattle.instructions.proofs.state.State.ready_among.Goals as goal

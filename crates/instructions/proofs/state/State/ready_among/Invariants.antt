@@ -1,4 +1,4 @@
-use Rattle.std.proofs.Common.{◌≡◌, Option, ℕ}
+use Rattle.std.proofs.Common.{◌≡◌}
 use Rattle.std.specs.List.{find}
 use Rattle.model.specs.Ready.{is_ready}
 use Rattle.instructions.specs.Threads.{numbers_between}

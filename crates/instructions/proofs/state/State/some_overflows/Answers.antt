@@ -1,4 +1,4 @@
-use Rattle.std.proofs.Common.{◌∙◌, false, sym, true}
+use Rattle.std.proofs.Common.{◌∙◌, sym}
 use Rattle.model.specs.Observers.{is_held_by_output}
 use Rattle.instructions.proofs.CyclicLemmas.{any-here, any-next, any-none}
 use Rattle.instructions.proofs.Waiting.{some_held}

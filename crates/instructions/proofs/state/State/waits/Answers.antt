@@ -1,4 +1,4 @@
-use Rattle.std.proofs.Common.{◌≡◌, ap, sym, ◌∙◌}
+use Rattle.std.proofs.Common.{ap, sym, ◌∙◌}
 use Rattle.model.specs.Frames.{running}
 use Rattle.instructions.specs.Operated.{waits_at}
 use Rattle.instructions.proofs.Waiting.{waits_now}
