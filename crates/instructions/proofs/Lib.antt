@@ -37,6 +37,7 @@ pub mod ListPlaces
 pub mod LookedLemmas
 pub mod MethodLemmas
 pub mod MonitoringLemmas
+pub mod NamedClasses
 pub mod MethodsKnown
 pub mod ObjectCallAgreement
 pub mod OpeningClaims

@@ -1,6 +1,6 @@
 -- An actor's turn on the state, and its row in the journal: the state is joined to what the journal stands for again.
 use Rattle.std.proofs.Common.{◌≡◌, ◌<◌, ◌≤◌, ◌+◌, ℕ, zero, suc, List, [], ◌∷◌, ◌++◌, length, Option, Some, None, Bool, cond, refl, ap, sym, subst, ◌∙◌, arith, length-append}
-use Rattle.std.specs.Prelude.{◌&&◌, ◌||◌, map, slice_get}
+use Rattle.std.specs.Prelude.{◌&&◌, ◌||◌, map, position, slice_get}
 use Rattle.std.specs.List.{find, list_any}
 use Rattle.std.specs.Option.{option_map}
 use Rattle.model.specs.declared.journals.Outcome.{Outcome}
@@ -8,10 +8,13 @@ use Rattle.model.specs.declared.journals.Outcome.TheVariants.{Done}
 use Rattle.model.specs.declared.journals.HeapShape.{HeapShape}
 use Rattle.model.specs.declared.journals.Limits.{Limits}
 use Rattle.model.specs.declared.journals.Row.{Row}
+use Rattle.model.specs.declared.turns.ClassState.{ClassState}
 use Rattle.model.specs.declared.turns.Actor.{Actor}
 use Rattle.model.specs.declared.turns.Actor.TheVariants.{Thread, Collector}
 use Rattle.model.specs.ClassListings.{ClassListing}
+use Rattle.model.specs.Classes.Named.{class_named, is_named}
 use Rattle.model.specs.Collector.Runs.{Holds}
+use Rattle.model.specs.Initialisation.{state_at}
 use Rattle.model.specs.Effects.{Choice}
 use Rattle.model.specs.Journals.{JournalValue, blank, with_row}
 use Rattle.model.specs.Limits.{ShapeFits}
@@ -20,7 +23,7 @@ use Rattle.model.specs.Turns.{overflows, refusal, choice_by, acted, unless_refus
 use Rattle.model.specs.Machines.{Machine, Recorded, after_turn_by, answer_to, machine_of, machine_of-noted, noted, opening_machine, outcome_of, row_for, told_of, with_row as recorded_with}
 use Rattle.model.specs.Naming.{named_thread}
 use Rattle.model.specs.Accounts.{Account}
-use Rattle.model.specs.Observers.{ideal, after_actor, after_last, cell_of, cell_view, cyclic_from, is_held_by_output, phase_of, pick_of, thread_of}
+use Rattle.model.specs.Observers.{ideal, after_actor, after_last, cell_of, class_state_of, state_named, cell_view, cyclic_from, is_held_by_output, phase_of, pick_of, thread_of}
 use Rattle.model.specs.Room.{words_of_cell}
 use Rattle.model.specs.Ready.{is_ready, thread_numbers}
 use Rattle.model.proofs.NextKeeps.{next-rows}
@@ -165,6 +168,10 @@ module _ (s : Loaded) (j : JournalValue) (k : ℕ) (is : IsOf s j k) where
 
   pub phase_is : s.machine.account.phase ≡ phase_of r
   phase_is = ap (λ (a : Account). a.phase) read.account
+
+  pub class_is : (name : List ℕ) → option_map (λ (class : ClassListing). state_named s.program s.machine.world name) (class_named s.program name) ≡ class_state_of r name
+  class_is name =
+      ap (λ (states : List ClassState). option_map (λ (class : ClassListing). state_at states (position (is_named name) s.program)) (class_named s.program name)) read.states
 
   pub cell_is : (c : ℕ) → option_map (cell_view (words_of_cell s.shape c)) (slice_get s.machine.account.cells c) ≡ cell_of r c
   cell_is c =
