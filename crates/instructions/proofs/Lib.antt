@@ -36,6 +36,7 @@ pub mod ListPlaces
 pub mod LookedLemmas
 pub mod MethodLemmas
 pub mod MonitoringLemmas
+pub mod MonitorMoves
 pub mod MethodsKnown
 pub mod ObjectCallAgreement
 pub mod OpeningClaims

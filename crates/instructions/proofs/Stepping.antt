@@ -1,5 +1,6 @@
 -- What the turn of a thread comes to is what the instruction table says.
-use Rattle.std.proofs.Common.{◌≡◌, inl, inr, ◌⊎◌, ℕ, List, length, Bool, true, false, ◌&&◌, not, Option, Some, None, is_none, refl, ap, subst, sym, ◌∙◌}
+use Rattle.std.proofs.Common.{◌≡◌, inl, inr, ◌⊎◌, ℕ, ℤ, List, length, Bool, true, false, ◌&&◌, not, Option, Some, None, is_none, refl, ap, subst, sym, ◌∙◌}
+use Rattle.std.specs.Prelude.{if◌then◌else◌}
 use Rattle.std.specs.List.{list_all}
 use Rattle.std.specs.Option.{option_map, option_and_then}
 use Rattle.model.specs.declared.instructions.Access.{Access}
@@ -9,9 +10,13 @@ use Rattle.model.specs.declared.instructions.ArrayOperation.TheVariants.{New as 
 use Rattle.model.specs.declared.instructions.ClassOperation.TheVariants.{New as NewObject, CheckCast, InstanceOf}
 use Rattle.model.specs.declared.instructions.ElementKind.TheVariants as element
 use Rattle.model.specs.declared.instructions.Instruction.TheVariants.{Nop, Constant, Local, Stack, Number, Branch, TableSwitch, LookupSwitch, Return, Static as StaticField, Field as FieldOf, Array as ArrayOf, Class as ClassOf, Invoke, Throw, Monitor}
+use Rattle.model.specs.declared.instructions.Constant.TheVariants.{Long as LongConstant}
 use Rattle.model.specs.declared.instructions.Invocation.{Invocation}
+use Rattle.model.specs.declared.instructions.LookupSwitch.{LookupSwitch as LookupSwitchOf}
+use Rattle.model.specs.declared.instructions.TableSwitch.{TableSwitch as TableSwitchOf}
 use Rattle.model.specs.declared.listings.Placed.{Placed}
 use Rattle.model.specs.declared.names.Member.{Member}
+use Rattle.model.specs.declared.turns.Fault.TheVariants.{NoInstruction}
 use Rattle.model.specs.declared.turns.Mark.{Mark}
 use Rattle.model.specs.declared.turns.Mark.TheVariants.{Unmarked, Waiting, Failing}
 use Rattle.model.specs.declared.values.Kind.{Kind}
@@ -21,6 +26,7 @@ use Rattle.model.specs.Accepted.Refusals.{refusal_of}
 use Rattle.model.specs.ClassListings.{ClassListing}
 use Rattle.model.specs.CodeListings.{CodeListing}
 use Rattle.model.specs.Completions.{Site, prints, waits}
+use Rattle.model.specs.Completions.Completion.{Faults}
 use Rattle.model.specs.Frames.{Frame, running}
 use Rattle.model.specs.Classes.Resolution.{resolved_field}
 use Rattle.model.specs.Classes.Special.{superclass_at}
@@ -36,6 +42,7 @@ use Rattle.loader.specs.declared.operations.Operation.{Operation}
 use Rattle.loader.specs.declared.operations.Operation.TheVariants as operation
 use Rattle.loader.specs.declared.operations.TypeNumber.{TypeNumber}
 use Rattle.loader.specs.Operations.{operation_of, or_resolved}
+use Rattle.loader.specs.PlainOperations.{is_32_bits}
 use Rattle.loader.specs.ResolvedOperations.{accesses_slot, accesses_word, call_operation, casts, makes_array, makes_object, slot_number, tests_type, type_of, word_named}
 use Rattle.loader.specs.Steps.{step_of, step_in}
 use Rattle.loader.specs.StepLists.{step_or_none}
@@ -45,11 +52,12 @@ use Rattle.resolve.specs.Numbers.{class_number}
 use Rattle.instructions.specs.declared.kinds.Course.{Course}
 use Rattle.instructions.specs.declared.machines.Machine.{Machine}
 use Rattle.instructions.specs.Acting.{AreIn, site_of}
+use Rattle.instructions.specs.Aside.{aside_move}
 use Rattle.instructions.specs.ByNumbers.{AreStored, IsNumbered, operated_by_numbers}
 use Rattle.instructions.specs.CallsByNumbers.{is_call, operated_by_served_calls, served_call}
 use Rattle.instructions.specs.Heaps.{HeapValue}
 use Rattle.instructions.specs.NamedTypes.{goes_by_type, has_names}
-use Rattle.instructions.specs.Operated.{completed, completed_at, marked, moved_or, operated, operated_else, printed_at, standing, stepped, waits_at}
+use Rattle.instructions.specs.Operated.{aside_at, completed, completed_at, marked, moved_or, operated, operated_else, printed_at, standing, stepped, waits_at}
 use Rattle.instructions.specs.Shown.{keyed, objects_shown}
 use Rattle.instructions.specs.TypesByNumbers.{operated_by_types}
 use Rattle.instructions.proofs.ByNumberLemmas.{code-by_numbers}
@@ -238,6 +246,28 @@ module _ (program : List ClassListing) (w : World) (t : ℕ) (h : HeapValue) (f 
               by : IsCallIfValid (call_operation program above invocation m) → is_call (call_operation program above invocation m) ≡ true
               by (inl call) = call
               by (inr invalid) = absurd (valid invalid)
+
+      -- the instruction that stands aside is the one that is there
+      aside_operated : (j : Listed) → i.instruction ≡ j → operated (site n) h operation.Aside ≡ moved_or (site n) (aside_move n j f) (Faults NoInstruction)
+      unfolding plain_move
+      aside_operated j is =
+          let found : instruction_of program f ≡ Some i = rw there at in
+          ap (aside_at (site n)) found ∙ ap (λ j. moved_or (site n) (aside_move n j f) (Faults NoInstruction)) is
+
+      table_agrees : (table : TableSwitchOf ℕ) → i.instruction ≡ TableSwitch table → Agree n (TableSwitch table)
+      table_agrees table is = sym (aside_operated (TableSwitch table) is)
+
+      lookup_agrees : (lookup : LookupSwitchOf ℕ) → i.instruction ≡ LookupSwitch lookup → Agree n (LookupSwitch lookup)
+      lookup_agrees lookup is = sym (aside_operated (LookupSwitch lookup) is)
+
+      -- a long of 32 bits has an operation of its own
+      long_agrees : (z : ℤ) → i.instruction ≡ Constant (LongConstant z) → Agree n (Constant (LongConstant z))
+      unfolding plain_move
+      long_agrees z is = by (is_32_bits z)
+        where
+          by : (b : Bool) → by_family (site n) (Constant (LongConstant z)) ≡ operated (site n) h (if b then operation.Lconst z else operation.Aside)
+          by true = refl
+          by false = sym (aside_operated (Constant (LongConstant z)) is)
 
       placed_agrees : (j : Listed) → i.instruction ≡ j → is_served j ≡ true → Agree n j
       placed_agrees Nop is e = plain_agrees n Nop refl
