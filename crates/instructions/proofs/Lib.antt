@@ -35,6 +35,7 @@ pub mod LeavingLemmas
 pub mod ListPlaces
 pub mod LookedLemmas
 pub mod MethodLemmas
+pub mod MonitorAgreement
 pub mod MonitoringLemmas
 pub mod MonitorMoves
 pub mod MethodsKnown

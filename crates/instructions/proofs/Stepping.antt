@@ -10,10 +10,12 @@ use Rattle.model.specs.declared.instructions.ArrayOperation.TheVariants.{New as 
 use Rattle.model.specs.declared.instructions.ClassOperation.TheVariants.{New as NewObject, CheckCast, InstanceOf}
 use Rattle.model.specs.declared.instructions.ElementKind.TheVariants as element
 use Rattle.model.specs.declared.instructions.Instruction.TheVariants.{Nop, Constant, Local, Stack, Number, Branch, TableSwitch, LookupSwitch, Return, Static as StaticField, Field as FieldOf, Array as ArrayOf, Class as ClassOf, Invoke, Throw, Monitor}
-use Rattle.model.specs.declared.instructions.Constant.TheVariants.{Long as LongConstant}
+use Rattle.model.specs.declared.instructions.Constant.TheVariants.{Null, SmallInt, SmallLong, Byte, Short, Int as IntConstant, Long as LongConstant}
 use Rattle.model.specs.declared.instructions.Invocation.{Invocation}
 use Rattle.model.specs.declared.instructions.LookupSwitch.{LookupSwitch as LookupSwitchOf}
 use Rattle.model.specs.declared.instructions.TableSwitch.{TableSwitch as TableSwitchOf}
+use Rattle.model.specs.declared.instructions.MonitorOperation.{MonitorOperation}
+use Rattle.model.specs.declared.instructions.MonitorOperation.TheVariants.{Enter, Exit}
 use Rattle.model.specs.declared.listings.Placed.{Placed}
 use Rattle.model.specs.declared.names.Member.{Member}
 use Rattle.model.specs.declared.turns.Fault.TheVariants.{NoInstruction}
@@ -63,6 +65,7 @@ use Rattle.instructions.specs.TypesByNumbers.{operated_by_types}
 use Rattle.instructions.proofs.ByNumberLemmas.{code-by_numbers}
 use Rattle.instructions.proofs.CodeCalls.{IsCallIfValid, call-is, code-call, served-own}
 use Rattle.instructions.proofs.InitialisingAgreement.{code-initialises}
+use Rattle.instructions.proofs.MonitorAgreement.{monitor_agrees}
 use Rattle.instructions.proofs.Silent.{turn_prints, turn_waits}
 use Rattle.instructions.proofs.ThrowAgreement.{throw_agrees}
 use Rattle.instructions.proofs.TypeAgreement.{code-by_types}
@@ -218,6 +221,11 @@ module _ (program : List ClassListing) (w : World) (t : ℕ) (h : HeapValue) (f 
     unfolding plain_move
     thrown_agrees n = throw_agrees (site n) h kept.slots (numbered n) kept.accepted
 
+    monitor_stays : (n : ℕ) (operation : MonitorOperation) → Agree n (Monitor operation)
+    unfolding plain_move
+    monitor_stays n Enter = monitor_agrees (site n) h kept.slots (numbered n) kept.accepted Enter
+    monitor_stays n Exit = monitor_agrees (site n) h kept.slots (numbered n) kept.accepted Exit
+
     -- at an instruction of the frame's code
     module _ (i : Placed) (code : CodeListing) (there : code_at program f.method ≡ Some code) (at : placed_at code f.pc ≡ Some i) where
       abbrev n : ℕ
@@ -271,13 +279,19 @@ module _ (program : List ClassListing) (w : World) (t : ℕ) (h : HeapValue) (f 
 
       placed_agrees : (j : Listed) → i.instruction ≡ j → is_served j ≡ true → Agree n j
       placed_agrees Nop is e = plain_agrees n Nop refl
-      placed_agrees (Constant c) is e = plain_agrees n (Constant c) e
+      placed_agrees (Constant Null) is e = plain_agrees n (Constant Null) refl
+      placed_agrees (Constant (SmallInt k)) is e = plain_agrees n (Constant (SmallInt k)) refl
+      placed_agrees (Constant (SmallLong k)) is e = plain_agrees n (Constant (SmallLong k)) refl
+      placed_agrees (Constant (Byte z)) is e = plain_agrees n (Constant (Byte z)) refl
+      placed_agrees (Constant (Short z)) is e = plain_agrees n (Constant (Short z)) refl
+      placed_agrees (Constant (IntConstant width z)) is e = plain_agrees n (Constant (IntConstant width z)) refl
+      placed_agrees (Constant (LongConstant z)) is e = long_agrees z is
       placed_agrees (Local access) is e = plain_agrees n (Local access) refl
       placed_agrees (Stack operation) is e = plain_agrees n (Stack operation) refl
       placed_agrees (Number operation) is e = plain_agrees n (Number operation) refl
       placed_agrees (Branch test target) is e = plain_agrees n (Branch test target) refl
-      placed_agrees (TableSwitch table) is e = cc
-      placed_agrees (LookupSwitch lookup) is e = cc
+      placed_agrees (TableSwitch table) is e = table_agrees table is
+      placed_agrees (LookupSwitch lookup) is e = lookup_agrees lookup is
       placed_agrees (Return kind) is e = returned_agrees n kind
       placed_agrees (StaticField access m) is e = subst (Agree n) is (named_agrees (ap goes_by_name is))
       placed_agrees (FieldOf access m) is e = subst (Agree n) is (named_agrees (ap goes_by_name is))
@@ -287,7 +301,7 @@ module _ (program : List ClassListing) (w : World) (t : ℕ) (h : HeapValue) (f 
       placed_agrees (ClassOf InstanceOf name) is e = subst (Agree n) is (typed_agrees (ap goes_by_type is))
       placed_agrees (Invoke invocation m) is e = called_agrees invocation m is e
       placed_agrees Throw is e = thrown_agrees n
-      placed_agrees (Monitor operation) is e = cc
+      placed_agrees (Monitor operation) is e = monitor_stays n operation
 
       -- the class that it uses is initialised first
       site_agrees : after_initialising (site n) (class_used program i.instruction) (by_family (site n) i.instruction) ≡ stepped program w t h f (step_for program above (Some i))

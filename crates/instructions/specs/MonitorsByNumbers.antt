@@ -1,13 +1,12 @@
-use Rattle.std.specs.Prelude.{ℕ, List, length, Bool, true, false, Option, Some, None, Result, Ok, Err, if◌then◌else◌}
+use Rattle.std.specs.Prelude.{ℕ, List, length, Bool, true, false, Option, Some, None, Result, Ok, Err}
 use Rattle.model.specs.declared.instructions.MonitorOperation.{MonitorOperation}
 use Rattle.model.specs.declared.turns.Exception.TheVariants.{NullPointer}
 use Rattle.model.specs.declared.turns.Fault.{Fault}
-use Rattle.model.specs.declared.turns.Fault.TheVariants.{WrongClass}
 use Rattle.model.specs.ClassListings.{ClassListing}
 use Rattle.model.specs.Completions.{Completion, Site, raises}
 use Rattle.model.specs.Completions.Completion.{Faults}
 use Rattle.model.specs.Frames.{ref_on}
-use Rattle.model.specs.Table.Monitors.{operates}
+use Rattle.model.specs.Table.Monitors.{operates_if}
 use Rattle.loader.specs.ClassTables.{class_tables, is_subtype_in}
 use Rattle.instructions.specs.declared.kinds.Kind.{Kind}
 use Rattle.instructions.specs.declared.kinds.Kind.TheVariants.{Instance, Array}
@@ -20,9 +19,6 @@ abbrev pub is_object : List ClassListing → Option Kind → Bool
 is_object program None = false
 is_object program (Some (Instance class)) = is_subtype_in (class_tables program) class (length program)
 is_object program (Some (Array type)) = true
-
-abbrev pub operates_if : Site → MonitorOperation → ℕ → Bool → Completion
-operates_if s operation birth there = if there then operates s operation birth else Faults WrongClass
 
 abbrev pub operates_by : Site → HeapValue → MonitorOperation → Result (Option ℕ) Fault → Completion
 operates_by s h operation (Err fault) = Faults fault

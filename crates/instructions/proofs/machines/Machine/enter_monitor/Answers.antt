@@ -1,10 +1,11 @@
 use Rattle.std.proofs.Common.{◌≡◌, Ok, false, ap, rules, sym, ◌∙◌}
 use Rattle.model.specs.declared.instructions.MonitorOperation.TheVariants.{Enter}
 use Rattle.model.specs.declared.turns.Fault.TheVariants.{WrongClass}
+use Rattle.model.specs.Table.Monitors.{operates_if}
 use Rattle.instructions.specs.declared.kinds.Course.TheVariants.{Live}
 use Rattle.instructions.specs.Acting.{shown, site_at, turned}
 use Rattle.instructions.specs.Heaps.{kind_held}
-use Rattle.instructions.specs.MonitorsByNumbers.{is_object, operates_by, operates_if}
+use Rattle.instructions.specs.MonitorsByNumbers.{is_object, operates_by}
 use Rattle.instructions.proofs.ActingLemmas.{fault_told}
 use Rattle.instructions.proofs.machines.Machine.enter_monitor.Goals as goal
 
