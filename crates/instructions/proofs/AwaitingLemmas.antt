@@ -25,7 +25,7 @@ use Rattle.loader.specs.MethodFacts.{MethodFacts}
 use Rattle.loader.specs.Selectors.{Signature, selectors}
 use Rattle.instructions.specs.declared.kinds.Kind.{Kind}
 use Rattle.instructions.specs.Awaiting.{awaits, awaits_monitor, monitor_as, monitor_at, monitor_of_body, monitor_of_known, monitor_on, monitor_selected, monitor_special}
-use Rattle.instructions.specs.CallsByNumbers.{called_as, called_at, called_known, called_none, called_object, called_on, called_selected, called_special, called_static, enters, enters_frame, is_idle, is_kind_of, is_static, is_synchronized, known_at, method_monitor, monitor_wanted, no_own, object_found, operands_of, operated_by_served_calls, place_of_number, runs, selected_place, served_call}
+use Rattle.instructions.specs.CallsByNumbers.{called_as, called_at, called_known, called_none, called_object, called_on, called_selected, called_special, called_static, enters, enters_frame, is_call, is_idle, is_kind_of, is_static, is_synchronized, known_at, method_monitor, monitor_wanted, no_own, object_found, operands_of, operated_by_served_calls, place_of_number, runs, selected_place, served_call}
 use Rattle.instructions.specs.Heaps.{HeapValue, kind_held}
 use Rattle.instructions.specs.Shown.{objects_shown}
 use Rattle.instructions.proofs.MonitoringLemmas.{monitor-shown}
@@ -180,17 +180,17 @@ module _ (s : Site) (h : HeapValue) (shown : s.world.objects ≡ objects_shown s
     by (Some fault) = refl
 
 -- a call waits where another thread has entered the monitor of its method
-pub call_waits : (s : Site) (h : HeapValue) → s.world.objects ≡ objects_shown s.program h.objects → (op : Operation)
+pub call_waits : (s : Site) (h : HeapValue) → s.world.objects ≡ objects_shown s.program h.objects → (op : Operation) → is_call op ≡ true
     → waits (operated_by_served_calls s h op) ≡ awaits_monitor s.program s.thread h s.frame op
-call_waits s h shown (operation.Invokestatic class method) =
+call_waits s h shown (operation.Invokestatic class method) e =
     let place = place_of_number (class, method) in static s h shown place (known_at s.program place)
-call_waits s h shown (operation.Invokevirtual class selector) =
+call_waits s h shown (operation.Invokevirtual class selector) e =
     selected s h shown class (slice_get (selectors s.program) selector)
-call_waits s h shown (operation.Invokespecial class declarer method) =
+call_waits s h shown (operation.Invokespecial class declarer method) e =
     let place = place_of_number (declarer, method) in special s h shown class place (known_at s.program place)
-call_waits s h shown (operation.Invokenone class declarer method) =
+call_waits s h shown (operation.Invokenone class declarer method) e =
     none s h shown class (known_at s.program (place_of_number (declarer, method)))
-call_waits s h shown operation.PrintInt = bytes s h shown decimal_line (int_on s.frame.stack)
-call_waits s h shown operation.PrintLong = bytes s h shown decimal_line (long_on s.frame.stack)
-call_waits s h shown operation.PutByte = bytes s h shown low_byte (int_on s.frame.stack)
-call_waits s h shown _ = refl
+call_waits s h shown operation.PrintInt e = bytes s h shown decimal_line (int_on s.frame.stack)
+call_waits s h shown operation.PrintLong e = bytes s h shown decimal_line (long_on s.frame.stack)
+call_waits s h shown operation.PutByte e = bytes s h shown low_byte (int_on s.frame.stack)
+call_waits s h shown _ e = cc

@@ -36,8 +36,10 @@ pub mod LeavingLemmas
 pub mod ListPlaces
 pub mod LookedLemmas
 pub mod MethodLemmas
+pub mod MonitorAgreement
 pub mod MonitoringLemmas
 pub mod NamedClasses
+pub mod MonitorMoves
 pub mod MethodsKnown
 pub mod ObjectCallAgreement
 pub mod OpeningClaims

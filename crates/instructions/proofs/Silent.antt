@@ -1,6 +1,9 @@
 -- What the turn of a thread prints, and whether it waits, by the numbers that its step names.
-use Rattle.std.proofs.Common.{◌≡◌, ℕ, List, [], ◌∷◌, Bool, true, false, Option, Some, None, Result, Ok, Err, refl, ap, sym, ◌∙◌}
-use Rattle.std.specs.Prelude.{◌||◌, ◌++◌, ◌==◌, not, slice_get, if◌then◌else◌}
+use Rattle.std.proofs.Common.{◌≡◌, ℕ, ℤ, List, [], ◌∷◌, Bool, true, false, Option, Some, None, Result, Ok, Err, refl, ap, sym, ◌∙◌}
+use Rattle.std.specs.Prelude.{◌||◌, ◌++◌, ◌==◌, not, length, slice_get, slice_index_or, if◌then◌else◌}
+use Rattle.model.specs.declared.instructions.MonitorOperation.{MonitorOperation}
+use Rattle.model.specs.declared.instructions.MonitorOperation.TheVariants.{Enter, Exit}
+use Rattle.model.specs.declared.listings.Placed.{Placed}
 use Rattle.model.specs.declared.turns.Abrupt.{Abrupt}
 use Rattle.model.specs.declared.turns.Abrupt.TheVariants.{Fault as Faulted, Throw as Thrown}
 use Rattle.model.specs.declared.turns.ClassState.{ClassState}
@@ -8,7 +11,7 @@ use Rattle.model.specs.declared.turns.ClassState.TheVariants.{Unused, Running, D
 use Rattle.model.specs.declared.turns.Exception.{Exception}
 use Rattle.model.specs.declared.turns.Exception.TheVariants as exception
 use Rattle.model.specs.declared.turns.Fault.{Fault}
-use Rattle.model.specs.declared.turns.Fault.TheVariants.{WrongClass}
+use Rattle.model.specs.declared.turns.Fault.TheVariants.{NoInstruction, WrongClass}
 use Rattle.model.specs.declared.turns.Mark.{Mark}
 use Rattle.model.specs.declared.turns.Mark.TheVariants.{Unmarked, Waiting, Failing}
 use Rattle.model.specs.declared.values.Kind.TheVariants.{Int, Long, Ref}
@@ -19,11 +22,14 @@ use Rattle.model.specs.Completions.{Completion, Site, completes, frames_in, prin
 use Rattle.model.specs.Frames.{Frame, Moved, ref_on, replaced_if_room, within_limits}
 use Rattle.model.specs.Initialisation.{callers_waiting, initializer_frames, with_states}
 use Rattle.model.specs.Locals.{value_on}
+use Rattle.model.specs.Monitors.{exited, is_full, is_owner, may_enter, monitor_of, with_monitor_of}
+use Rattle.model.specs.Programs.{instruction_of}
 use Rattle.model.specs.Stores.{Storage, storage_kind}
 use Rattle.model.specs.Table.Fields.{word_got}
-use Rattle.model.specs.Table.Initialisation.{claims, initialises, states_in}
+use Rattle.model.specs.Table.Initialisation.{claims, claims_with, initialises, initialises_chain, states_in}
+use Rattle.model.specs.Table.Monitors.{enter_if, moved_with, operates, operates_if}
 use Rattle.model.specs.Words.{slot_at}
-use Rattle.model.specs.Worlds.{World, with_class_states, with_thread}
+use Rattle.model.specs.Worlds.{Monitor, World, with_class_states, with_thread}
 use Rattle.model.specs.Worlds.Thread.{Live}
 use Rattle.loader.specs.declared.class_tables.Word.{Word}
 use Rattle.loader.specs.declared.operations.Operation.{Operation}
@@ -34,16 +40,19 @@ use Rattle.loader.specs.StaticSlots.{static_slots}
 use Rattle.loader.specs.Storages.{shown_storage}
 use Rattle.plain_steps.specs.PlainMoves.{plain_move}
 use Rattle.instructions.specs.Acting.{AreIn, site_of}
-use Rattle.instructions.specs.Awaiting.{awaits_monitor}
+use Rattle.instructions.specs.Aside.{aside_move}
+use Rattle.instructions.specs.Awaiting.{awaits, awaits_monitor, monitor_on_top}
 use Rattle.instructions.specs.ByNumbers.{field_got_at, field_put_at, field_put_if, field_put_into, operated_by_numbers, static_got_if, static_put_at, static_put_if, word_place, word_put_at}
 use Rattle.instructions.specs.CallsByNumbers.{printed_by_call}
 use Rattle.instructions.specs.Heaps.{HeapValue, held, kind_held}
 use Rattle.instructions.specs.InitialisingByNumbers.{after_initialising_by_numbers, chain_at, class_used_by, initialises_class, is_others, waits_for}
-use Rattle.instructions.specs.Operated.{completed_at, moved_or, operated, operated_else, operated_on_objects, printed_at, printed_if, marked, standing, stepped, waits_at, waits_by, waits_if}
+use Rattle.instructions.specs.MonitorsByNumbers.{is_object, operated_by_monitors, operates_by}
+use Rattle.instructions.specs.Operated.{aside_at, completed_at, moved_or, operated, operated_apart, operated_else, operated_on_objects, printed_at, printed_if, marked, standing, stepped, waits_at, waits_by, waits_if}
 use Rattle.instructions.specs.Shown.{objects_shown}
 use Rattle.instructions.specs.Throwing.{is_throwable, throws_kind, throws_operand}
 use Rattle.instructions.proofs.AwaitingLemmas.{call_waits}
 use Rattle.instructions.proofs.CallsSilent.{call_prints}
+use Rattle.instructions.proofs.MonitoringLemmas.{monitor-shown}
 use Rattle.instructions.proofs.ReturnLemmas.{returned_silent}
 use Rattle.instructions.proofs.TypesSilent.{types_silent}
 use Rattle.instructions.specs.declared.kinds.Course.{Course}
@@ -162,6 +171,52 @@ objects_silent s h (operation.Putfield a b c) = numbered_silent s h (operation.P
 objects_silent s h (operation.New n) = (refl, refl)
 objects_silent s h op = types_silent s h op
 
+-- ---- monitors
+
+enter_prints : (own : Completion) (may full : Bool) → prints own ≡ None → prints (enter_if own may full) ≡ None
+enter_prints own false full e = refl
+enter_prints own true true e = refl
+enter_prints own true false e = e
+
+enter_waits : (own : Completion) (may full : Bool) → waits own ≡ false → waits (enter_if own may full) ≡ not may
+enter_waits own false full e = refl
+enter_waits own true true e = refl
+enter_waits own true false e = e
+
+exit_silent : (s : Site) (w : World) (owns : Bool) → (let c = if owns then moved_with s w else raises exception.IllegalMonitorState in (prints c ≡ None) × (waits c ≡ false))
+exit_silent s w true = (refl, refl)
+exit_silent s w false = (refl, refl)
+
+operates_prints : (s : Site) (operation : MonitorOperation) (birth : ℕ) → prints (operates s operation birth) ≡ None
+operates_prints s Enter birth =
+    let m = monitor_of s.world birth in enter_prints (moved_with s _) (may_enter s.thread m.owner) (is_full m) refl
+operates_prints s Exit birth =
+    let m = monitor_of s.world birth in (exit_silent s (with_monitor_of s.world birth (exited m)) (is_owner s.thread m.owner)).0
+
+monitors_print : (s : Site) (h : HeapValue) (operation : MonitorOperation) (r : Result (Option ℕ) Fault) → prints (operates_by s h operation r) ≡ None
+monitors_print s h operation (Err fault) = refl
+monitors_print s h operation (Ok None) = refl
+monitors_print s h operation (Ok (Some birth)) = by (is_object s.program (kind_held h birth)) where
+  by : (there : Bool) → prints (operates_if s operation birth there) ≡ None
+  by true = operates_prints s operation birth
+  by false = refl
+
+-- ---- what stands aside
+
+aside_silent : (s : Site) (o : Option Placed) → (prints (aside_at s o) ≡ None) × (waits (aside_at s o) ≡ false)
+aside_silent s None = (refl, refl)
+aside_silent s (Some i) = by (aside_move s.next i.instruction s.frame)
+  where
+    by : (o : Option (Result Moved Abrupt)) → (let c = moved_or s o (Faults NoInstruction) in (prints c ≡ None) × (waits c ≡ false))
+    by None = (refl, refl)
+    by (Some m) = (completes_silent s m, completes_goes s m)
+
+apart_prints : (s : Site) (h : HeapValue) (op : Operation) → prints (operated_apart s h op) ≡ None
+apart_prints s h operation.Monitorenter = monitors_print s h Enter (ref_on s.frame.stack)
+apart_prints s h operation.Monitorexit = monitors_print s h Exit (ref_on s.frame.stack)
+apart_prints s h operation.Aside = (aside_silent s (instruction_of s.program s.frame)).0
+apart_prints s h op = (objects_silent s h op).0
+
 else_prints : (s : Site) (h : HeapValue) (op : Operation) → prints (operated_else s h op) ≡ printed_by_call s.frame op
 else_prints s h operation.Return = (returned_silent s None).0
 else_prints s h operation.Ireturn = (returned_silent s (Some Int)).0
@@ -175,7 +230,7 @@ else_prints s h (operation.Invokenone a b c) = call_prints s h (operation.Invoke
 else_prints s h operation.PrintInt = call_prints s h operation.PrintInt
 else_prints s h operation.PrintLong = call_prints s h operation.PrintLong
 else_prints s h operation.PutByte = call_prints s h operation.PutByte
-else_prints s h op = (objects_silent s h op).0
+else_prints s h op = apart_prints s h op
 
 -- a plain move prints nothing, and what prints has no plain move
 plain_prints_none : (s : Site) (op : Operation) (m : Result Moved Abrupt) → plain_move s.next op s.frame ≡ Some m → None ≡ printed_by_call s.frame op
@@ -248,19 +303,42 @@ turn_prints program w t h (Some f) = by f.mark
 -- ---- whether it waits
 
 module _ (s : Site) (h : HeapValue) (objects_are : s.world.objects ≡ objects_shown s.program h.objects) where
+  enters_waits : (r : Result (Option ℕ) Fault) → waits (operates_by s h Enter r) ≡ awaits s.thread h (monitor_on_top s.program h r)
+  enters_waits (Err fault) = refl
+  enters_waits (Ok None) = refl
+  enters_waits (Ok (Some birth)) = by (is_object s.program (kind_held h birth)) where
+    by : (there : Bool) → waits (operates_if s Enter birth there) ≡ awaits s.thread h (if there then Some birth else None)
+    by true =
+        let m = monitor_of s.world birth in
+        enter_waits (moved_with s _) (may_enter s.thread m.owner) (is_full m) refl
+        ∙ ap (λ (m : Monitor). not (may_enter s.thread m.owner)) (monitor-shown s.program h s.world objects_are birth)
+    by false = refl
+
+  exits_waits : (r : Result (Option ℕ) Fault) → waits (operates_by s h Exit r) ≡ false
+  exits_waits (Err fault) = refl
+  exits_waits (Ok None) = refl
+  exits_waits (Ok (Some birth)) = by (is_object s.program (kind_held h birth)) where
+    by : (there : Bool) → waits (operates_if s Exit birth there) ≡ false
+    by true =
+        let m = monitor_of s.world birth in (exit_silent s (with_monitor_of s.world birth (exited m)) (is_owner s.thread m.owner)).1
+    by false = refl
+
   else_waits : (op : Operation) → waits (operated_else s h op) ≡ awaits_monitor s.program s.thread h s.frame op
   else_waits operation.Return = (returned_silent s None).1
   else_waits operation.Ireturn = (returned_silent s (Some Int)).1
   else_waits operation.Lreturn = (returned_silent s (Some Long)).1
   else_waits operation.Areturn = (returned_silent s (Some Ref)).1
   else_waits operation.Athrow = (throws_silent s.program h (ref_on s.frame.stack)).1
-  else_waits (operation.Invokestatic a b) = call_waits s h objects_are (operation.Invokestatic a b)
-  else_waits (operation.Invokevirtual a b) = call_waits s h objects_are (operation.Invokevirtual a b)
-  else_waits (operation.Invokespecial a b c) = call_waits s h objects_are (operation.Invokespecial a b c)
-  else_waits (operation.Invokenone a b c) = call_waits s h objects_are (operation.Invokenone a b c)
-  else_waits operation.PrintInt = call_waits s h objects_are operation.PrintInt
-  else_waits operation.PrintLong = call_waits s h objects_are operation.PrintLong
-  else_waits operation.PutByte = call_waits s h objects_are operation.PutByte
+  else_waits (operation.Invokestatic a b) = call_waits s h objects_are (operation.Invokestatic a b) refl
+  else_waits (operation.Invokevirtual a b) = call_waits s h objects_are (operation.Invokevirtual a b) refl
+  else_waits (operation.Invokespecial a b c) = call_waits s h objects_are (operation.Invokespecial a b c) refl
+  else_waits (operation.Invokenone a b c) = call_waits s h objects_are (operation.Invokenone a b c) refl
+  else_waits operation.PrintInt = call_waits s h objects_are operation.PrintInt refl
+  else_waits operation.PrintLong = call_waits s h objects_are operation.PrintLong refl
+  else_waits operation.PutByte = call_waits s h objects_are operation.PutByte refl
+  else_waits operation.Monitorenter = enters_waits (ref_on s.frame.stack)
+  else_waits operation.Monitorexit = exits_waits (ref_on s.frame.stack)
+  else_waits operation.Aside = (aside_silent s (instruction_of s.program s.frame)).1
   else_waits op = (objects_silent s h op).1
 
   -- what calls has no plain move
@@ -270,6 +348,7 @@ module _ (s : Site) (h : HeapValue) (objects_are : s.world.objects ≡ objects_s
   plain_waits_not (operation.Invokevirtual a b) m is = cc
   plain_waits_not (operation.Invokespecial a b c) m is = cc
   plain_waits_not (operation.Invokenone a b c) m is = cc
+  plain_waits_not operation.Monitorenter m is = cc
   plain_waits_not _ m is = refl
 
   operated_waits : (op : Operation) → waits (operated s h op) ≡ awaits_monitor s.program s.thread h s.frame op

@@ -1,5 +1,6 @@
 -- What the turn of a thread comes to is what the instruction table says.
-use Rattle.std.proofs.Common.{◌≡◌, inl, inr, ℕ, List, length, Bool, true, false, ◌&&◌, not, Option, Some, None, is_none, refl, ap, subst, sym, ◌∙◌}
+use Rattle.std.proofs.Common.{◌≡◌, inl, inr, ◌⊎◌, ℕ, ℤ, List, length, Bool, true, false, ◌&&◌, not, Option, Some, None, is_none, refl, ap, subst, sym, ◌∙◌}
+use Rattle.std.specs.Prelude.{if◌then◌else◌}
 use Rattle.std.specs.List.{list_all}
 use Rattle.std.specs.Option.{option_map, option_and_then}
 use Rattle.model.specs.declared.instructions.Access.{Access}
@@ -8,9 +9,15 @@ use Rattle.model.specs.declared.instructions.ArrayOperation.TheVariants.{New as 
 use Rattle.model.specs.declared.instructions.ClassOperation.TheVariants.{New as NewObject, CheckCast, InstanceOf}
 use Rattle.model.specs.declared.instructions.ElementKind.TheVariants as element
 use Rattle.model.specs.declared.instructions.Instruction.TheVariants.{Nop, Constant, Local, Stack, Number, Branch, TableSwitch, LookupSwitch, Return, Static as StaticField, Field as FieldOf, Array as ArrayOf, Class as ClassOf, Invoke, Throw, Monitor}
+use Rattle.model.specs.declared.instructions.Constant.TheVariants.{Null, SmallInt, SmallLong, Byte, Short, Int as IntConstant, Long as LongConstant}
 use Rattle.model.specs.declared.instructions.Invocation.{Invocation}
+use Rattle.model.specs.declared.instructions.LookupSwitch.{LookupSwitch as LookupSwitchOf}
+use Rattle.model.specs.declared.instructions.TableSwitch.{TableSwitch as TableSwitchOf}
+use Rattle.model.specs.declared.instructions.MonitorOperation.{MonitorOperation}
+use Rattle.model.specs.declared.instructions.MonitorOperation.TheVariants.{Enter, Exit}
 use Rattle.model.specs.declared.listings.Placed.{Placed}
 use Rattle.model.specs.declared.names.Member.{Member}
+use Rattle.model.specs.declared.turns.Fault.TheVariants.{NoInstruction}
 use Rattle.model.specs.declared.turns.Mark.{Mark}
 use Rattle.model.specs.declared.turns.Mark.TheVariants.{Unmarked, Waiting, Failing}
 use Rattle.model.specs.declared.values.Kind.{Kind}
@@ -20,6 +27,7 @@ use Rattle.model.specs.Accepted.Refusals.{refusal_of}
 use Rattle.model.specs.ClassListings.{ClassListing}
 use Rattle.model.specs.CodeListings.{CodeListing}
 use Rattle.model.specs.Completions.{Site, prints, waits}
+use Rattle.model.specs.Completions.Completion.{Faults}
 use Rattle.model.specs.Frames.{Frame, running}
 use Rattle.model.specs.Classes.Resolution.{resolved_field}
 use Rattle.model.specs.Classes.Special.{superclass_at}
@@ -35,6 +43,7 @@ use Rattle.loader.specs.declared.operations.Operation.{Operation}
 use Rattle.loader.specs.declared.operations.Operation.TheVariants as operation
 use Rattle.loader.specs.declared.operations.TypeNumber.{TypeNumber}
 use Rattle.loader.specs.Operations.{operation_of, or_resolved}
+use Rattle.loader.specs.PlainOperations.{is_32_bits}
 use Rattle.loader.specs.ResolvedOperations.{accesses_slot, accesses_word, call_operation, casts, makes_array, makes_object, slot_number, tests_type, type_of, word_named}
 use Rattle.loader.specs.Steps.{step_of, step_in}
 use Rattle.loader.specs.StepLists.{step_or_none}
@@ -44,16 +53,18 @@ use Rattle.resolve.specs.Numbers.{class_number}
 use Rattle.instructions.specs.declared.kinds.Course.{Course}
 use Rattle.instructions.specs.declared.machines.Machine.{Machine}
 use Rattle.instructions.specs.Acting.{AreIn, site_of}
+use Rattle.instructions.specs.Aside.{aside_move}
 use Rattle.instructions.specs.ByNumbers.{AreStored, IsNumbered, operated_by_numbers}
 use Rattle.instructions.specs.CallsByNumbers.{is_call, operated_by_served_calls, served_call}
 use Rattle.instructions.specs.Heaps.{HeapValue}
 use Rattle.instructions.specs.NamedTypes.{goes_by_type, has_names}
-use Rattle.instructions.specs.Operated.{completed_at, marked, moved_or, operated, operated_else, printed_at, standing, stepped, waits_at}
+use Rattle.instructions.specs.Operated.{aside_at, completed, completed_at, marked, moved_or, operated, operated_else, printed_at, standing, stepped, waits_at}
 use Rattle.instructions.specs.Shown.{keyed, objects_shown}
 use Rattle.instructions.specs.TypesByNumbers.{operated_by_types}
 use Rattle.instructions.proofs.ByNumberLemmas.{code-by_numbers}
 use Rattle.instructions.proofs.CodeCalls.{IsCallIfValid, call-is, code-call, served-own}
 use Rattle.instructions.proofs.InitialisingAgreement.{code-initialises}
+use Rattle.instructions.proofs.MonitorAgreement.{monitor_agrees}
 use Rattle.instructions.proofs.Silent.{turn_prints, turn_waits}
 use Rattle.instructions.proofs.ThrowAgreement.{throw_agrees}
 use Rattle.instructions.proofs.TypeAgreement.{code-by_types}
@@ -209,6 +220,11 @@ module _ (program : List ClassListing) (w : World) (t : ℕ) (h : HeapValue) (f 
     unfolding plain_move
     thrown_agrees n = throw_agrees (site n) h kept.slots (numbered n) kept.accepted
 
+    monitor_stays : (n : ℕ) (operation : MonitorOperation) → Agree n (Monitor operation)
+    unfolding plain_move
+    monitor_stays n Enter = monitor_agrees (site n) h kept.slots (numbered n) kept.accepted Enter
+    monitor_stays n Exit = monitor_agrees (site n) h kept.slots (numbered n) kept.accepted Exit
+
     -- at an instruction of the frame's code
     module _ (i : Placed) (code : CodeListing) (there : code_at program f.method ≡ Some code) (at : placed_at code f.pc ≡ Some i) where
       abbrev n : ℕ
@@ -238,15 +254,43 @@ module _ (program : List ClassListing) (w : World) (t : ℕ) (h : HeapValue) (f 
               by (inl call) = call
               by (inr invalid) = absurd (valid invalid)
 
+      -- the instruction that stands aside is the one that is there
+      aside_operated : (j : Listed) → i.instruction ≡ j → operated (site n) h operation.Aside ≡ moved_or (site n) (aside_move n j f) (Faults NoInstruction)
+      unfolding plain_move
+      aside_operated j is =
+          let found : instruction_of program f ≡ Some i = rw there at in
+          ap (aside_at (site n)) found ∙ ap (λ j. moved_or (site n) (aside_move n j f) (Faults NoInstruction)) is
+
+      table_agrees : (table : TableSwitchOf ℕ) → i.instruction ≡ TableSwitch table → Agree n (TableSwitch table)
+      table_agrees table is = sym (aside_operated (TableSwitch table) is)
+
+      lookup_agrees : (lookup : LookupSwitchOf ℕ) → i.instruction ≡ LookupSwitch lookup → Agree n (LookupSwitch lookup)
+      lookup_agrees lookup is = sym (aside_operated (LookupSwitch lookup) is)
+
+      -- a long of 32 bits has an operation of its own
+      long_agrees : (z : ℤ) → i.instruction ≡ Constant (LongConstant z) → Agree n (Constant (LongConstant z))
+      unfolding plain_move
+      long_agrees z is = by (is_32_bits z)
+        where
+          by : (b : Bool) → by_family (site n) (Constant (LongConstant z)) ≡ operated (site n) h (if b then operation.Lconst z else operation.Aside)
+          by true = refl
+          by false = sym (aside_operated (Constant (LongConstant z)) is)
+
       placed_agrees : (j : Listed) → i.instruction ≡ j → is_served j ≡ true → Agree n j
       placed_agrees Nop is e = plain_agrees n Nop refl
-      placed_agrees (Constant c) is e = plain_agrees n (Constant c) e
+      placed_agrees (Constant Null) is e = plain_agrees n (Constant Null) refl
+      placed_agrees (Constant (SmallInt k)) is e = plain_agrees n (Constant (SmallInt k)) refl
+      placed_agrees (Constant (SmallLong k)) is e = plain_agrees n (Constant (SmallLong k)) refl
+      placed_agrees (Constant (Byte z)) is e = plain_agrees n (Constant (Byte z)) refl
+      placed_agrees (Constant (Short z)) is e = plain_agrees n (Constant (Short z)) refl
+      placed_agrees (Constant (IntConstant width z)) is e = plain_agrees n (Constant (IntConstant width z)) refl
+      placed_agrees (Constant (LongConstant z)) is e = long_agrees z is
       placed_agrees (Local access) is e = plain_agrees n (Local access) refl
       placed_agrees (Stack operation) is e = plain_agrees n (Stack operation) refl
       placed_agrees (Number operation) is e = plain_agrees n (Number operation) refl
       placed_agrees (Branch test target) is e = plain_agrees n (Branch test target) refl
-      placed_agrees (TableSwitch table) is e = cc
-      placed_agrees (LookupSwitch lookup) is e = cc
+      placed_agrees (TableSwitch table) is e = table_agrees table is
+      placed_agrees (LookupSwitch lookup) is e = lookup_agrees lookup is
       placed_agrees (Return kind) is e = returned_agrees n kind
       placed_agrees (StaticField access m) is e = subst (Agree n) is (named_agrees (ap goes_by_name is))
       placed_agrees (FieldOf access m) is e = subst (Agree n) is (named_agrees (ap goes_by_name is))
@@ -256,7 +300,7 @@ module _ (program : List ClassListing) (w : World) (t : ℕ) (h : HeapValue) (f 
       placed_agrees (ClassOf InstanceOf name) is e = subst (Agree n) is (typed_agrees (ap goes_by_type is))
       placed_agrees (Invoke invocation m) is e = called_agrees invocation m is e
       placed_agrees Throw is e = thrown_agrees n
-      placed_agrees (Monitor operation) is e = cc
+      placed_agrees (Monitor operation) is e = monitor_stays n operation
 
       -- the class that it uses is initialised first
       site_agrees : after_initialising (site n) (class_used program i.instruction) (by_family (site n) i.instruction) ≡ stepped program w t h f (step_for program above (Some i))

@@ -3,7 +3,7 @@ use Rattle.std.specs.Option.{option_map_or}
 use Rattle.model.specs.declared.places.MethodPlace.{MethodPlace}
 use Rattle.model.specs.declared.turns.Fault.{Fault}
 use Rattle.model.specs.ClassListings.{ClassListing}
-use Rattle.model.specs.Frames.{Frame}
+use Rattle.model.specs.Frames.{Frame, ref_on}
 use Rattle.model.specs.Monitors.{may_enter}
 use Rattle.model.specs.Signatures.{argument_kinds}
 use Rattle.loader.specs.declared.method_tables.Body.{Body}
@@ -16,8 +16,9 @@ use Rattle.instructions.specs.declared.kinds.Kind.{Kind}
 use Rattle.instructions.specs.CallsByNumbers.{is_kind_of, is_static, known_at, method_monitor, object_found, place_of_number, selected_place}
 use Rattle.instructions.specs.HeapMonitors.{monitor_held}
 use Rattle.instructions.specs.Heaps.{HeapValue, kind_held}
+use Rattle.instructions.specs.MonitorsByNumbers.{is_object}
 
--- Whether a call waits for the monitor of its method, which another thread has entered (JVMS 2.11.10).
+-- Whether a call, or monitorenter, waits for a monitor, which another thread has entered (JVMS 2.11.10).
 
 -- ---- the object whose monitor a method enters that is called on it
 
@@ -60,12 +61,19 @@ monitor_special program h f class place None = None
 monitor_special program h f class place (Some facts) =
     monitor_on program h class (λ kind. Some place) (object_found facts.arguments f.stack)
 
+-- that of the object at the top, where there is one
+abbrev pub monitor_on_top : List ClassListing → HeapValue → Result (Option ℕ) Fault → Option ℕ
+monitor_on_top program h (Err fault) = None
+monitor_on_top program h (Ok None) = None
+monitor_on_top program h (Ok (Some birth)) = if is_object program (kind_held h birth) then Some birth else None
+
 -- a static method enters none
 abbrev pub monitor_entered : List ClassListing → HeapValue → Frame → Operation → Option ℕ
 monitor_entered program h f (operation.Invokevirtual class selector) =
     monitor_selected program h f class (slice_get (selectors program) selector)
 monitor_entered program h f (operation.Invokespecial class declarer method) =
     let place = place_of_number (declarer, method) in monitor_special program h f class place (known_at program place)
+monitor_entered program h f operation.Monitorenter = monitor_on_top program h (ref_on f.stack)
 monitor_entered program h f other = None
 
 -- ---- whether a thread waits for it

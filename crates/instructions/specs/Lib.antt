@@ -1,5 +1,6 @@
 pub mod Acting
 pub mod Allowed
+pub mod Aside
 pub mod Awaiting
 pub mod ByNumbers
 pub mod CallsByNumbers
@@ -11,6 +12,7 @@ pub mod InitialisingByNumbers
 pub mod Leaving
 pub mod Loaded
 pub mod MethodsByNumber
+pub mod MonitorsByNumbers
 pub mod NamedTypes
 pub mod Operated
 pub mod ReturnsByNumbers

@@ -3,6 +3,7 @@
 
 mod acting;
 mod arrays;
+mod asides;
 mod awaiting;
 mod calls;
 mod casts;
@@ -18,6 +19,7 @@ mod landing;
 mod leaving;
 mod machines;
 mod methods;
+mod monitoring;
 mod names;
 mod objects;
 mod opening;

@@ -27,6 +27,12 @@ const ARRAY: &[u8] =
 const DEEP: &[u8] =
     b".class D\n.super java/lang/Object\n.method static down()V\n.limit stack 0\n.limit locals 0\ninvokestatic D/down()V\nreturn\n.end method\n.method static main()V\n.limit stack 1\n.limit locals 0\n.catch java/lang/StackOverflowError from Try to Tried using Tried\nTry:\ninvokestatic D/down()V\nTried:\npop\niconst_2\ninvokestatic vm/Sys/print(I)V\nreturn\n.end method\n";
 
+const SWITCHED: &[u8] =
+    b".class S\n.super java/lang/Object\n.method static dense(I)I\n.limit stack 1\n.limit locals 1\niload_0\ntableswitch -1\nLess\nZero\ndefault : Other\nLess:\nbipush 10\nireturn\nZero:\nbipush 20\nireturn\nOther:\nbipush 30\nireturn\n.end method\n.method static sparse(I)I\n.limit stack 1\n.limit locals 1\niload_0\nlookupswitch\n-70000 : Low\n70000 : High\ndefault : Other\nLow:\nbipush 40\nireturn\nHigh:\nbipush 50\nireturn\nOther:\nbipush 60\nireturn\n.end method\n.method static main()V\n.limit stack 2\n.limit locals 0\niconst_m1\ninvokestatic S/dense(I)I\ninvokestatic vm/Sys/print(I)V\niconst_0\ninvokestatic S/dense(I)I\ninvokestatic vm/Sys/print(I)V\niconst_1\ninvokestatic S/dense(I)I\ninvokestatic vm/Sys/print(I)V\nldc -70000\ninvokestatic S/sparse(I)I\ninvokestatic vm/Sys/print(I)V\nldc 70000\ninvokestatic S/sparse(I)I\ninvokestatic vm/Sys/print(I)V\niconst_0\ninvokestatic S/sparse(I)I\ninvokestatic vm/Sys/print(I)V\nldc2_w 81985529216486895\ninvokestatic vm/Sys/printl(J)V\nldc2_w -2147483649\ninvokestatic vm/Sys/printl(J)V\nreturn\n.end method\n";
+
+const GUARDED: &[u8] =
+    b".class G\n.super java/lang/Object\n.method static main()V\n.limit stack 2\n.limit locals 1\n.catch java/lang/IllegalMonitorStateException from Try to Tried using Illegal\n.catch java/lang/NullPointerException from Try to Tried using Null\nnew java/lang/Object\nastore_0\naload_0\nmonitorenter\naload_0\nmonitorenter\niconst_1\ninvokestatic vm/Sys/print(I)V\naload_0\nmonitorexit\naload_0\nmonitorexit\niconst_2\ninvokestatic vm/Sys/print(I)V\nTry:\naload_0\nmonitorexit\nreturn\nIllegal:\npop\niconst_3\ninvokestatic vm/Sys/print(I)V\naconst_null\nmonitorenter\nreturn\nTried:\nreturn\nNull:\npop\niconst_4\ninvokestatic vm/Sys/print(I)V\nreturn\n.end method\n";
+
 /// Runs a text, which ends with this status, output and errors.
 fn runs(
     rt: &impl Abort,
@@ -61,6 +67,19 @@ fn exceptions_find_their_handlers(rt: HostRuntime) -> Result<(), Fail> {
         b"jvm: thread 0 ended by java/lang/ArithmeticException\n",
     )?;
     runs(&rt, rt.alloc(), DEEP, 0, b"2\n", b"")
+}
+
+/// An int finds its target in a table and among pairs, or the default; and longs past 32 bits come whole.
+#[test]
+fn switches_find_their_targets(rt: HostRuntime) -> Result<(), Fail> {
+    let output = b"10\n20\n30\n40\n50\n60\n81985529216486895\n-2147483649\n";
+    runs(&rt, rt.alloc(), SWITCHED, 0, output, b"")
+}
+
+/// A monitor is entered twice and left twice; a third exit is an IllegalMonitorStateException, and a null has no monitor.
+#[test]
+fn monitors_are_entered_and_left(rt: HostRuntime) -> Result<(), Fail> {
+    runs(&rt, rt.alloc(), GUARDED, 0, b"1\n2\n3\n4\n", b"")
 }
 
 /// The initializer of main's class runs before main. A byte keeps 8 bits of 300, an array its length, and past it is

@@ -3,20 +3,14 @@ ghost use Rattle.std.specs.Prelude.{◌≡◌, ◌&&◌, is_none, not};
 ghost use Rattle.std.specs.List.{list_all};
 ghost use Rattle.model.specs.ClassFiles.References.{names_class};
 ghost use Rattle.model.specs.Classes.Types.{element_of};
-ghost use Rattle.model.specs.Served.{serves_constant, serves_array, serves_class, calls_thread, serves_call, is_served, serves_code, serves_methods, serves};
+ghost use Rattle.model.specs.Served.{serves_array, serves_class, calls_thread, serves_call, is_served, serves_code, serves_methods, serves};
 ghost use Rattle.model.specs.declared.listings.Placed.{Placed as PlacedAt};
 
 use model::descriptors::is_array_descriptor;
 use model::good_names::is_class_name;
-use model::instructions::{ArrayOperation, ClassOperation, Constant, Instruction};
+use model::instructions::{ArrayOperation, ClassOperation, Instruction};
 use model::listings::{Listed, Listing, Method, Placed};
 use model::names::{Member, Name};
-
-fn serves_constant(constant: &Constant<i32, i64>) -> bool
-    ensures { result ≡ serves_constant constant.now }
-{
-    !matches!(constant, Constant::Long(_))
-}
 
 /// Whether a class file can have the name, as a class's or as an array's descriptor.
 fn names_class(name: &[u8]) -> bool
@@ -73,19 +67,21 @@ fn is_served(instruction: &Listed) -> bool
 {
     match instruction {
         Instruction::Nop
+        | Instruction::Constant(_)
         | Instruction::Local(_)
         | Instruction::Stack(_)
         | Instruction::Number(_)
         | Instruction::Branch(_, _)
-        | Instruction::Return(_) => true,
-        Instruction::Static(_, _) | Instruction::Field(_, _) | Instruction::Throw => true,
-        Instruction::Constant(constant) => serves_constant(constant),
+        | Instruction::Return(_)
+        | Instruction::TableSwitch(_)
+        | Instruction::LookupSwitch(_) => true,
+        Instruction::Static(_, _)
+        | Instruction::Field(_, _)
+        | Instruction::Throw
+        | Instruction::Monitor(_) => true,
         Instruction::Array(operation) => serves_array(operation),
         Instruction::Class(operation, name) => serves_class(*operation, name),
         Instruction::Invoke(_, member) => serves_call(member),
-        Instruction::TableSwitch(_) | Instruction::LookupSwitch(_) | Instruction::Monitor(_) => {
-            false
-        }
     }
 }
 

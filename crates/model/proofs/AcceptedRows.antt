@@ -136,8 +136,8 @@ no_thread : refusal_of (program_with (codes "X") (method 0x21 (codes "run") (cod
 unfolding serves builtin_classes is_within has_builtin_name is_class_twice has_missing_parent has_wrong_parent is_on_cycle has_member_twice has_refused_member has_unresolved has_bad_row fields_within is_too_large first_past_limits refusal_of
 no_thread = refl
 
--- an instruction that the machine doesn't carry out yet
-entering : refusal_of (program_with (codes "X") (method 9 (codes "f") (codes "()V") (code_of 1 0 (Monitor Enter)) ∷ []) ∷ []) ≡ names_class RefusedMember (codes "X")
+-- entry into a monitor
+entering : refusal_of (program_with (codes "X") (method 9 (codes "f") (codes "()V") (code_of 1 0 (Monitor Enter)) ∷ []) ∷ []) ≡ None
 unfolding serves builtin_classes is_within has_builtin_name is_class_twice has_missing_parent has_wrong_parent is_on_cycle has_member_twice has_refused_member has_unresolved has_bad_row fields_within is_too_large first_past_limits refusal_of
 entering = refl
 

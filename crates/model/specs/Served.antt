@@ -18,26 +18,26 @@ use Rattle.model.specs.Classes.Types.{element_of}
 use Rattle.model.specs.Table.Next.{Listed}
 use Rattle.model.specs.Texts.Names.{is_class_name}
 
--- What the machine carries out so far. It refuses both switches, `ldc2_w`, `monitorenter` and `monitorexit`, calls of a
--- thread's `start` and `join`, calls of the methods of an array, and names of classes and types that no class file has. A
--- class with any of these is refused, so that no program meets a case of the instruction table that the code doesn't have.
-
--- a long that `ldc2_w` loads may have more bits than an operation has room for
-abbrev pub serves_constant : ConstantOf ℤ ℤ → Bool
-serves_constant Null = true
-serves_constant (SmallInt n) = true
-serves_constant (SmallLong n) = true
-serves_constant (Byte z) = true
-serves_constant (Short z) = true
-serves_constant (Int width z) = true
-serves_constant (Long z) = false
+-- What the machine carries out so far. It refuses calls of a thread's `start` and `join`, calls of the methods of an array,
+-- and names of classes and types that no class file has. A class with any of these is refused, so that no program meets a
+-- case of the instruction table that the code doesn't have.
 
 -- ---- families of instructions
 
--- instructions that change the running frame alone, but for switches
+-- constants for which each operation has room; a long that `ldc2_w` loads may have more bits
+abbrev pub is_short : ConstantOf ℤ ℤ → Bool
+is_short Null = true
+is_short (SmallInt n) = true
+is_short (SmallLong n) = true
+is_short (Byte z) = true
+is_short (Short z) = true
+is_short (Int width z) = true
+is_short (Long z) = false
+
+-- instructions that change the running frame alone, but for switches and such longs
 abbrev pub is_plain : Listed → Bool
 is_plain Nop = true
-is_plain (Constant c) = serves_constant c
+is_plain (Constant c) = is_short c
 is_plain (Local access) = true
 is_plain (Stack operation) = true
 is_plain (Number operation) = true
@@ -105,13 +105,13 @@ serves_call m = is_none (element_of m.class) && not (calls_thread m)
 
 abbrev pub is_served : Listed → Bool
 is_served Nop = true
-is_served (Constant c) = serves_constant c
+is_served (Constant c) = true
 is_served (Local access) = true
 is_served (Stack operation) = true
 is_served (Number operation) = true
 is_served (Branch test target) = true
-is_served (TableSwitch table) = false
-is_served (LookupSwitch lookup) = false
+is_served (TableSwitch table) = true
+is_served (LookupSwitch lookup) = true
 is_served (Return kind) = true
 is_served (StaticField access member) = true
 is_served (Field access member) = true
@@ -119,7 +119,7 @@ is_served (Array operation) = serves_array operation
 is_served (Class operation name) = serves_class operation name
 is_served (Invoke invocation member) = serves_call member
 is_served Throw = true
-is_served (Monitor operation) = false
+is_served (Monitor operation) = true
 
 abbrev pub serves_code : Option CodeListing → Bool
 serves_code None = true

@@ -1,4 +1,4 @@
-use Rattle.std.proofs.Common.{◌≡◌, ◌⊎◌, inr, ℕ, Bool, true, false, List, [], ◌∷◌, map, Option, Some, None, Result, Ok, Err, if◌then◌else◌, refl}
+use Rattle.std.proofs.Common.{codes, ◌≡◌, ◌⊎◌, inr, ℕ, Bool, true, false, List, [], ◌∷◌, map, Option, Some, None, Result, Ok, Err, if◌then◌else◌, refl}
 use Rattle.model.specs.declared.values.Value.{Value}
 use Rattle.model.specs.declared.values.Value.TheVariants.{Int, Long, Ref}
 use Rattle.model.specs.declared.turns.Fault.{Fault}
@@ -10,6 +10,7 @@ use Rattle.model.specs.Worlds.Thread.{Live}
 use Rattle.model.specs.Monitors.{is_owner, may_enter, is_full, entered, exited, monitor_of, with_monitor_of}
 use Rattle.model.specs.Completions.{Completion, Site, frames_in}
 use Rattle.model.specs.Table.Monitors.{moved_with, enter_if, operates, operates_on, monitor_operated}
+use Rattle.model.specs.Table.Objects.{is_instance}
 use Rattle.model.specs.Collector.Places.{ref_of, slots_of, Reach}
 use Rattle.model.specs.Collector.Invariant.{In}
 use Rattle.model.specs.Collector.Moves.{FramesMove, WorldMoves, CompletionMoves}
@@ -74,7 +75,8 @@ operates_moves s e Exit birth =
 operates_on_moves : (s : Site) → running (frames_in s) ≡ Some s.frame → (operation : MonitorOperation) (r : Result (Option ℕ) Fault) → CompletionMoves s.world (operates_on s operation r)
 operates_on_moves s e operation (Err fault) = tt
 operates_on_moves s e operation (Ok None) = tt
-operates_on_moves s e operation (Ok (Some birth)) = operates_moves s e operation birth
+operates_on_moves s e operation (Ok (Some birth)) =
+    if_moves s.world (is_instance s (codes "java/lang/Object") birth) _ _ (operates_moves s e operation birth) tt
 
 pub monitor_moves : (s : Site) → running (frames_in s) ≡ Some s.frame → (operation : MonitorOperation) → CompletionMoves s.world (monitor_operated s operation)
 monitor_moves s e operation = operates_on_moves s e operation (ref_on s.frame.stack)
