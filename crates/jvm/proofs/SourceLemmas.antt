@@ -1,16 +1,17 @@
 -- The listings of sources, one by one.
-use Rattle.std.proofs.Common.{◌≡◌, ◌+◌, ◌<◌, ℕ, zero, suc, List, [], ◌∷◌, ◌++◌, length, take, get_or, None, false, refl, ap, sym, ◌∙◌, arith, subst, Vec}
+use Rattle.std.proofs.Common.{◌≡◌, ◌+◌, ◌<◌, ℕ, zero, suc, List, [], ◌∷◌, ◌++◌, length, take, get_or, Some, false, refl, ap, sym, ◌∙◌, arith, subst, Vec}
 use Rattle.std.proofs.lemmas.List.{map_push, take_more, take_all}
 use Rattle.std.specs.Global.{Global}
+use Rattle.std.specs.Prelude.{slice_get}
 use Rattle.model.specs.declared.journals.HeapShape.{HeapShape}
 use Rattle.model.specs.declared.journals.Limits.{Limits}
-use Rattle.model.specs.Accepted.Refusals.{refusal_of}
 use Rattle.model.specs.ClassListings.{ClassListing}
 use Rattle.model.specs.Limits.{LimitsFit, ShapeFits}
 use Rattle.model.specs.Worlds.{opening_fits}
 use Rattle.scheduler.specs.declared.worlds.WorldError.{WorldError}
 use Rattle.scheduler.specs.declared.worlds.WorldError.TheVariants.{Shape, Limits as OfLimits, Memory as WorldMemory, Frames as OpeningFrames}
-use Rattle.jvm.specs.Launching.{AreListings, ExcusesWorld, IsListing, bytes_of}
+use Rattle.jvm.specs.declared.sources.SourceError.{SourceError}
+use Rattle.jvm.specs.Launching.{AreAccepted, AreListings, ExcusesWorld, IsListing, IsRefusedAt, LacksMemory, bytes_of}
 
 abbrev pub Source : Type 0
 Source = Vec ℕ Global
@@ -32,18 +33,28 @@ one_more sources n s front l inside is listing so_far =
     subst (λ (ss : List (List ℕ)). AreListings ss (front ++ l ∷ [])) (sym (with_next sources n s inside is))
     (more (bytes_of (take n sources)) front s.items l so_far listing)
 
--- each source of some that have listings has one
-pub each_has : (sources : List Source) (n : ℕ) (s : Source) (program : List ClassListing) → n < length sources → AreListings (bytes_of sources) program → (l : ClassListing) × IsListing (get_or sources n s).items l
-each_has [] n s program inside are = absurd (omega (arith, inside))
-each_has (x ∷ xs) n s [] inside are = absurd are
-each_has (x ∷ xs) zero s (l ∷ ls) inside are = (l, are.0)
-each_has (x ∷ xs) (suc n) s (l ∷ ls) inside are = each_has xs n s ls (omega (arith, inside)) are.1
+taken : (sources : List Source) (n : ℕ) → bytes_of (take n sources) ≡ take n (bytes_of sources)
+taken [] zero = refl
+taken [] (suc n) = refl
+taken (x ∷ xs) zero = refl
+taken (x ∷ xs) (suc n) = ap (λ (r : List (List ℕ)). x.items ∷ r) (taken xs n)
 
--- where one source has no listing, the sources have none
-pub none_more : (sources : List Source) (n : ℕ) (s : Source) → n < length sources → s ≡ get_or sources n s → ((l : ClassListing) → IsListing s.items l → ⊥) → (program : List ClassListing) → AreListings (bytes_of sources) program → ⊥
-none_more sources n s inside is none program are =
-    let found = each_has sources n s program inside are in
-    none found.0 (subst (λ (x : Source). IsListing x.items found.0) (sym is) found.1)
+at-place : (sources : List Source) (n : ℕ) (s : Source) → n < length sources → slice_get (bytes_of sources) n ≡ Some (get_or sources n s).items
+at-place [] n s inside = absurd (omega (arith, inside))
+at-place (x ∷ xs) zero s inside = refl
+at-place (x ∷ xs) (suc n) s inside = at-place xs n s (omega (arith, inside))
+
+-- the source at a place is refused, those before it being read
+pub refused_at : (sources : List Source) (n : ℕ) (s : Source) (front : List ClassListing) (error : SourceError) → n < length sources
+    → s ≡ get_or sources n s → AreListings (bytes_of (take n sources)) front
+    → ((LacksMemory error → ⊥) → (l : ClassListing) → IsListing s.items l → ⊥) → IsRefusedAt (bytes_of sources) n error
+refused_at sources n s front error inside is so_far none = record {
+  source = s.items;
+  there = at-place sources n s inside ∙ ap (λ (x : Source). Some x.items) (sym is);
+  none = none;
+  before = front;
+  before_are = subst (λ (ss : List (List ℕ)). AreListings ss front) (taken sources n) so_far;
+}
 
 pub all_read : (sources : List Source) (n : ℕ) (front : List ClassListing) → n ≡ length sources → AreListings (bytes_of (take n sources)) front → AreListings (bytes_of sources) front
 all_read sources n front at_end so_far =
@@ -51,15 +62,13 @@ all_read sources n front at_end so_far =
 
 -- ---- why there is no world
 
-pub world_excused : (sources : List (List ℕ)) (shape : HeapShape) (limits : Limits) (program : List ClassListing) (error : WorldError)
-    → AreListings sources program
+pub world_excused : (sources : List (List ℕ)) (shape : HeapShape) (limits : Limits) (error : WorldError) (sound : AreAccepted sources)
     → (error ≡ Shape → ShapeFits shape.small shape.medium shape.large → ⊥)
-    → (error ≡ OfLimits → LimitsFit limits.steps limits.output → ⊥)
-    → (error ≡ OpeningFrames → opening_fits program ≡ false)
-    → (error ≡ OpeningFrames → refusal_of program ≡ None)
+    → (error ≡ OfLimits → ShapeFits shape.small shape.medium shape.large × (LimitsFit limits.steps limits.output → ⊥))
+    → (error ≡ OpeningFrames → opening_fits sound.program ≡ false)
     → ExcusesWorld sources shape limits error
-world_excused sources shape limits program Shape are wrong_shape wrong_limits wide accepted = wrong_shape refl
-world_excused sources shape limits program OfLimits are wrong_shape wrong_limits wide accepted = wrong_limits refl
-world_excused sources shape limits program WorldMemory are wrong_shape wrong_limits wide accepted = tt
-world_excused sources shape limits program OpeningFrames are wrong_shape wrong_limits wide accepted =
-    record { program = program; listings_are = are; accepted = accepted refl; wide = wide refl }
+world_excused sources shape limits Shape sound wrong_shape wrong_limits wide = (sound, wrong_shape refl)
+world_excused sources shape limits OfLimits sound wrong_shape wrong_limits wide = (sound, wrong_limits refl)
+world_excused sources shape limits WorldMemory sound wrong_shape wrong_limits wide = tt
+world_excused sources shape limits OpeningFrames sound wrong_shape wrong_limits wide =
+    record { program = sound.program; listings_are = sound.listings_are; accepted = sound.accepted; wide = wide refl }

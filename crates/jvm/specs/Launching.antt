@@ -1,4 +1,4 @@
-use Rattle.std.specs.Prelude.{◌≡◌, ℕ, Bool, true, false, List, [], ◌∷◌, map, take, Some, None, Vec}
+use Rattle.std.specs.Prelude.{◌≡◌, ℕ, Bool, true, false, List, [], ◌∷◌, map, slice_get, take, Some, None, Vec}
 use Rattle.std.specs.Str.{bytes_eq}
 use Rattle.std.specs.Global.{Global}
 use Rattle.jasmin.specs.declared.errors.Fault.TheVariants.{Memory as TextMemory}
@@ -59,12 +59,21 @@ AreListings [] (l ∷ ls) = ⊥
 AreListings (s ∷ ss) [] = ⊥
 AreListings (s ∷ ss) (l ∷ ls) = IsListing s l × AreListings ss ls
 
--- ---- what a launch gives: the sources have listings that are a program, and the world is the one that the actors lead
--- to from the opening of that program
+-- the sources have listings that are a program
+pub record AreAccepted (sources : List (List ℕ)) : Type 0 where
+  pub program : List ClassListing
+  pub listings_are : AreListings sources program
+  pub accepted : refusal_of program ≡ None
+
+-- ---- what a launch gives: the sources have listings that are a program, its opening, the shape and the limits are in
+-- range, and the world is the one that the actors lead to from the opening of that program
 pub record IsLaunched (sources : List (List ℕ)) (shape : HeapShape) (limits : Limits) (actors : List Actor) (world : Recorded) : Type 0 where
   pub program : List ClassListing
   pub listings_are : AreListings sources program
   pub accepted : refusal_of program ≡ None
+  pub shape_fits : ShapeFits shape.small shape.medium shape.large
+  pub limits_fit : LimitsFit limits.steps limits.output
+  pub opens : opening_fits program ≡ true
   pub world_is : world ≡ after_turns (opened program shape limits) actors
 
 -- ---- why there is no world
@@ -80,6 +89,14 @@ LacksMemory (Assembly e) = e ≡ AsmMemory
 LacksMemory (Class e) = e ≡ ClassMemory
 LacksMemory Memory = Unit {0}
 
+-- the source at a place has no listing, unless memory ran out, and those before it have one each
+pub record IsRefusedAt (sources : List (List ℕ)) (place : ℕ) (error : SourceError) : Type 0 where
+  pub source : List ℕ
+  pub there : slice_get sources place ≡ Some source
+  pub none : (LacksMemory error → ⊥) → (listing : ClassListing) → IsListing source listing → ⊥
+  pub before : List ClassListing
+  pub before_are : AreListings (take place sources) before
+
 -- a program whose opening frames pass a thread's limits
 pub record OpensTooWide (sources : List (List ℕ)) : Type 0 where
   pub program : List ClassListing
@@ -87,16 +104,18 @@ pub record OpensTooWide (sources : List (List ℕ)) : Type 0 where
   pub accepted : refusal_of program ≡ None
   pub wide : opening_fits program ≡ false
 
--- a shape or limits out of range, opening frames that don't fit, or want of memory
+-- where the sources are a program: a shape out of range, else limits out of range, else opening frames that don't fit. Or
+-- want of memory
 abbrev pub ExcusesWorld : List (List ℕ) → HeapShape → Limits → WorldError → Type 0
-ExcusesWorld sources shape limits Shape = ShapeFits shape.small shape.medium shape.large → ⊥
-ExcusesWorld sources shape limits OfLimits = LimitsFit limits.steps limits.output → ⊥
+ExcusesWorld sources shape limits Shape = AreAccepted sources × (ShapeFits shape.small shape.medium shape.large → ⊥)
+ExcusesWorld sources shape limits OfLimits =
+    AreAccepted sources × ShapeFits shape.small shape.medium shape.large × (LimitsFit limits.steps limits.output → ⊥)
 ExcusesWorld sources shape limits WorldMemory = Unit {0}
 ExcusesWorld sources shape limits OpeningFrames = OpensTooWide sources
 
--- but for want of memory a source is refused only where the sources have no listings, a list of listings only by its
--- first broken rule, a shape and limits only where they are out of range, and its opening only where its frames do not fit
+-- but for want of memory a source is refused only where it has no listing and all before it have one; listings, once all
+-- sources have one, by their first broken rule; shape, limits and opening once these are accepted
 abbrev pub Excuses : List (List ℕ) → HeapShape → Limits → LaunchError → Type 0
-Excuses sources shape limits (Source place e) = (LacksMemory e → ⊥) → (program : List ClassListing) → AreListings sources program → ⊥
+Excuses sources shape limits (Source place e) = IsRefusedAt sources place e
 Excuses sources shape limits (Load e) = (program : List ClassListing) × AreListings sources program × IsRefusedBy program e
 Excuses sources shape limits (World e) = ExcusesWorld sources shape limits e

@@ -48,9 +48,9 @@ fn read_sources(alloc: Global, sources: &[Vec<u8>]) -> Result<Vec<Listing>, Laun
 /// Reads class files and texts, makes a world of their classes, and lets the actors take their turns in it, one each. A
 /// source that begins with cafebabe is a class file, every other one a text.
 ///
-/// The first of these refusals that is met is told: a source that is no class file, or isn't in the text relation or
-/// doesn't assemble, by its place; the first rule that the listings break; P1 and P2. Want of memory may come in place of
-/// any.
+/// The first of these refusals that is met is told: the first source that is no class file, or isn't in the text relation
+/// or doesn't assemble, by its place; the first rule that the listings break; P1, P2, and P4 where the frames that the
+/// program opens with pass a thread's limits. Want of memory may come in place of any.
 pub fn launch(
     alloc: Global,
     sources: Vec<Vec<u8>>,

@@ -1,12 +1,13 @@
 use Rattle.std.proofs.Common.{◌≡◌, ℕ, List, length, arith, subst, sym}
 use Rattle.jvm.specs.Launching.{IsListing}
-use Rattle.jvm.proofs.SourceLemmas.{one_more, none_more, all_read}
+use Rattle.jvm.proofs.SourceLemmas.{all_read, one_more, refused_at}
 use Rattle.jvm.proofs.launching.read_sources.Goals as goal
 
 pub returns-in-Err : goal.returns-in-Err
-returns-in-Err c = λ shape limits may.
-    none_more c.args.sources.now c.loop-place.place c.index-sources-place.result c.loop-place-test.true c.index-sources-place.is
-    (λ l is. c.in-Err.ensures.refused may l (subst (λ (s : List ℕ). IsListing s l) (sym c.as_slice.ensures.value) is))
+returns-in-Err c = λ shape limits.
+    refused_at c.args.sources.now c.loop-place.place c.index-sources-place.result c.loop-place.listings.items c.in-Err.error c.loop-place-test.true
+    c.index-sources-place.is c.loop-place.invariant
+    (λ may l is. c.in-Err.ensures.refused may l (subst (λ (s : List ℕ). IsListing s l) (sym c.as_slice.ensures.value) is))
 
 pub loop-place-preserved : goal.loop-place-preserved
 loop-place-preserved c =
