@@ -78,8 +78,9 @@ impl Machine {
         Ok(Turned::to(Course::Live))
     }
 
-    /// monitorenter: the monitor of the object at the top is entered. F1 and F3 where there is no reference, F6 where there
-    /// is no object, F10; NullPointerException where the reference is null. The thread waits where another owns it.
+    /// monitorenter: the monitor of the object at the top is entered. F1 and F3 where there is no reference, F6 where
+    /// there is no object, F10; NullPointerException where the reference is null. The thread waits where another owns
+    /// the monitor.
     pub(crate) fn enter_monitor(&mut self, program: &Program, next: u16) -> Result<Turned, Fault>
         requires ready { Ready program.now self.old }
         ensures step { Turns program.now self.old self.new result
@@ -101,8 +102,8 @@ impl Machine {
     }
 
     /// monitorexit: the monitor of the object at the top is left once. F1 and F3 where there is no reference, F6 where
-    /// there is no object; NullPointerException where the reference is null, IllegalMonitorStateException where the thread
-    /// doesn't own the monitor.
+    /// there is no object; NullPointerException where the reference is null, IllegalMonitorStateException where the
+    /// thread doesn't own the monitor.
     pub(crate) fn exit_monitor(&mut self, program: &Program, next: u16) -> Result<Turned, Fault>
         requires ready { Ready program.now self.old }
         ensures step { Turns program.now self.old self.new result
