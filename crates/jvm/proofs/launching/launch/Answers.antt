@@ -16,7 +16,7 @@ returns-clause-refused c =
     let sound : AreAccepted (bytes_of c.args.sources.items) = record {
       program = c.in-Ok-new.program;
       listings_are = subst (λ (p : List ClassListing). AreListings (bytes_of c.args.sources.items) p) (sym c.in-Ok-new.ensures) listings;
-      accepted = rw c.in-Ok-new.ensures c.in-Ok-accept.ensures.accepted;
+      accepted = rw c.in-Ok-new.ensures (rw c.as_slice-2.ensures.value at c.in-Ok-accept.ensures.accepted);
     } in
     world_excused (bytes_of c.args.sources.items) c.args.shape c.args.limits c.in-Err-new-2.error sound
     (λ is. e.shape.0 (ap Err is)) (λ is. e.limits.0 (ap Err is)) (λ is. e.frames (ap Err is))
