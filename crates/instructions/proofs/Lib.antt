@@ -4,6 +4,7 @@ pub mod AgreeLemmas
 pub mod AloneLemmas
 pub mod ArrayLemmas
 pub mod AwaitingLemmas
+pub mod BeginLemmas
 pub mod ByNumberLemmas
 pub mod ChainLemmas
 pub mod ClaimFrames
@@ -56,6 +57,7 @@ pub mod Silent
 pub mod SelectedRows
 pub mod SelectorsCalled
 pub mod Stepping
+pub mod StartingLemmas
 pub mod StoredLemmas
 pub mod ThrowAgreement
 pub mod Throwables

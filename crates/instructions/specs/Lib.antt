@@ -4,6 +4,7 @@ pub mod Awaiting
 pub mod ByNumbers
 pub mod CallsByNumbers
 pub mod HeapMonitors
+pub mod HeapThreads
 pub mod Heaps
 pub mod HeapsAgree
 pub mod Initialising
@@ -13,8 +14,10 @@ pub mod Loaded
 pub mod MethodsByNumber
 pub mod NamedTypes
 pub mod Operated
+pub mod OwnCalls
 pub mod ReturnsByNumbers
 pub mod Shown
+pub mod Starting
 pub mod Threads
 pub mod Throwing
 pub mod TypeNumbers
