@@ -27,6 +27,7 @@ pub mod InitialisingLemmas
 pub mod InitializerBodies
 pub mod InvokeLemmas
 pub mod KindsHeld
+pub mod OwnArguments
 pub mod OwnCalls
 pub mod KeyedFields
 pub mod KeyedLemmas
@@ -49,6 +50,7 @@ pub mod Refusing
 pub mod ResolvedFields
 pub mod ReturnAgreement
 pub mod ReturnLemmas
+pub mod RunRows
 mod RunningFrames
 mod Scenes
 pub mod ServedNames
@@ -57,6 +59,7 @@ pub mod Silent
 pub mod SelectedRows
 pub mod SelectorsCalled
 pub mod Stepping
+pub mod StartAgreement
 pub mod StartingLemmas
 pub mod StoredLemmas
 pub mod ThrowAgreement

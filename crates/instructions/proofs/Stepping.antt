@@ -46,15 +46,17 @@ use Rattle.instructions.specs.declared.kinds.Course.{Course}
 use Rattle.instructions.specs.declared.machines.Machine.{Machine}
 use Rattle.instructions.specs.Acting.{AreIn, site_of}
 use Rattle.instructions.specs.ByNumbers.{AreStored, IsNumbered, operated_by_numbers}
-use Rattle.instructions.specs.CallsByNumbers.{is_call, operated_by_served_calls, served_call}
+use Rattle.instructions.specs.CallsByNumbers.{is_call}
 use Rattle.instructions.specs.Heaps.{HeapValue}
 use Rattle.instructions.specs.NamedTypes.{goes_by_type, has_names}
-use Rattle.instructions.specs.Operated.{completed, completed_at, marked, moved_or, operated, operated_else, printed_at, standing, stepped, waits_at}
+use Rattle.instructions.specs.Operated.{completed, completed_at, marked, moved_or, operated, operated_on_calls, printed_at, standing, stepped, waits_at}
+use Rattle.instructions.specs.OwnCalls.{operated_by_calls, own_call}
 use Rattle.instructions.specs.Shown.{keyed, objects_shown}
 use Rattle.instructions.specs.TypesByNumbers.{operated_by_types}
 use Rattle.instructions.proofs.ByNumberLemmas.{code-by_numbers}
-use Rattle.instructions.proofs.CodeCalls.{IsCallIfValid, call-is, code-call, served-own}
+use Rattle.instructions.proofs.CodeCalls.{IsCallIfValid, call-is, code-call}
 use Rattle.instructions.proofs.InitialisingAgreement.{code-initialises}
+use Rattle.instructions.proofs.StartAgreement.{own-alike}
 use Rattle.instructions.proofs.Silent.{turn_prints, turn_waits}
 use Rattle.instructions.proofs.ThrowAgreement.{throw_agrees}
 use Rattle.instructions.proofs.TypeAgreement.{code-by_types}
@@ -135,7 +137,7 @@ typed_stays s h superclass (ClassOf CheckCast name) e = cast_stays s h (type_of 
 typed_stays s h superclass (ClassOf InstanceOf name) e = test_stays s h (type_of s.program name)
 typed_stays s h superclass _ e = cc
 
-call_stays : (s : Site) (h : HeapValue) (op : Operation) → is_call op ≡ true → operated_by_served_calls s h op ≡ operated s h op
+call_stays : (s : Site) (h : HeapValue) (op : Operation) → is_call op ≡ true → operated_by_calls s h op ≡ operated s h op
 unfolding plain_move
 call_stays s h (operation.Invokestatic a b) e = refl
 call_stays s h (operation.Invokevirtual a b) e = refl
@@ -192,7 +194,7 @@ module _ (program : List ClassListing) (w : World) (t : ℕ) (h : HeapValue) (f 
   plain_agrees : (n : ℕ) (i : Listed) → is_plain i ≡ true → Agree n i
   plain_agrees n i e =
       let d = direct_move n f i e in
-      by_family-plain (site n) i d.0 d.1 d.2 d.3 ∙ sym (ap (λ o. moved_or (site n) o (operated_else (site n) h d.0)) d.3)
+      by_family-plain (site n) i d.0 d.1 d.2 d.3 ∙ sym (ap (λ o. moved_or (site n) o (operated_on_calls (site n) h d.0)) d.3)
       ∙ sym (ap (λ o. operated (site n) h (or_resolved program above i o)) d.2)
 
   returned_agrees : (n : ℕ) (kind : Option Kind) → Agree n (Return kind)
@@ -228,8 +230,8 @@ module _ (program : List ClassListing) (w : World) (t : ℕ) (h : HeapValue) (f 
       called_agrees : (invocation : Invocation) (m : Member) → i.instruction ≡ Invoke invocation m → is_served (Invoke invocation m) ≡ true → Agree n (Invoke invocation m)
       called_agrees invocation m is e =
           let may = both (is_none (element_of m.class)) (not (calls_thread m)) e in
-          let agrees = code-call served_call (site n) h kept.slots (numbered n) kept.accepted code f.pc i invocation m there at is
-          (was-none (element_of m.class) may.0) (served-own (site n) m (was-false (calls_thread m) may.1)) in
+          let agrees = code-call (own_call h) (site n) h kept.slots (numbered n) kept.accepted code f.pc i invocation m there at is
+          (was-none (element_of m.class) may.0) (own-alike (site n) h kept.objects_are kept.accepted kept.names m) in
           agrees.same ∙ call_stays (site n) h (call_operation program above invocation m) (call_is_call agrees.valid)
         where
           call_is_call : (call_operation program above invocation m ≡ operation.Invalid → ⊥) → is_call (call_operation program above invocation m) ≡ true

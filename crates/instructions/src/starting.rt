@@ -1,5 +1,7 @@
 //! The machine's own methods on objects, a thread's start and join among them.
 ghost use Rattle.std.specs.Prelude.{◌≡◌, ◌&&◌, ◌<◌, ◌≤◌, IfSome, Ok, OnErr, Some, false, is_some, length, codes, true};
+ghost use Rattle.std.specs.List.{find};
+ghost use Rattle.std.specs.Option.{option_copied};
 ghost use Rattle.std.specs.Str.{bytes_eq};
 ghost use Rattle.model.specs.Accepted.Refusals.{refusal_of};
 ghost use Rattle.model.specs.Frames.{ref_on, running_frame};
@@ -12,7 +14,7 @@ ghost use Rattle.instructions.specs.Heaps.{all_shaded, held};
 ghost use Rattle.instructions.specs.OwnCalls.{begins, begun_known, begun_of, begun_writes, is_printing, own_call, run_signature, starts};
 ghost use Rattle.instructions.specs.CallsByNumbers.{known_at, selected_place};
 ghost use Rattle.instructions.specs.Shown.{object_shown};
-ghost use Rattle.instructions.specs.Starting.{is_run, is_run_row, lives_on};
+ghost use Rattle.instructions.specs.Starting.{is_own_run, is_run, is_run_row, lives_on};
 
 use crate::acting::{Begun, Stepped, Turned, alone};
 use crate::heaps::Heap;
@@ -39,6 +41,16 @@ fn is_run(method: &Method) -> bool
     method.name.is("run") && method.descriptor.is("()V")
 }
 
+/// Whether it is the `run` of the machine's own Thread.
+fn is_own_run(body: Body) -> bool
+    ensures { result ≡ is_own_run body }
+{
+    match body {
+        Body::Own(builtin) => matches!(builtin, Builtin::RunThread),
+        Body::NoCode | Body::Coded { .. } => false,
+    }
+}
+
 /// Whether a row of a selection table is that of `run()V`. Of the machine's own classes Thread alone has a `run`.
 fn is_run_row(program: &Program, row: SelectionRow) -> bool
     ensures { result ≡ is_run_row program.now row }
@@ -54,11 +66,18 @@ fn is_run_row(program: &Program, row: SelectionRow) -> bool
                 method: row.method,
             };
             match program.tables().methods.method(place) {
-                Some(method) => method.body() == Body::Own(Builtin::RunThread),
+                Some(method) => is_own_run(method.body()),
                 None => false,
             }
         }
     }
+}
+
+/// The row of `run()V` among these.
+fn run_row<'a>(program: &Program, rows: &'a [SelectionRow]) -> Option<&'a SelectionRow>
+    ensures { option_copied result ≡ find (is_run_row program.now) rows.now }
+{
+    rows.iter().find(|row| is_run_row(program, **row))
 }
 
 /// The method `run()V` that is selected for the objects of the class of a number.
@@ -69,8 +88,7 @@ fn run_place(program: &Program, class: u16) -> Option<MethodPlace>
     if class as usize >= program.listings().len() + OWN_CLASSES {
         return None;
     }
-    let rows = program.table(class as usize);
-    match rows.iter().find(|row| is_run_row(program, **row)) {
+    match run_row(program, program.table(class as usize)) {
         Some(row) => Some(MethodPlace {
             class: row.class,
             method: row.method,
@@ -244,9 +262,7 @@ impl Machine {
             }
             Builtin::StartThread => self.start(program, courses, next, object),
             Builtin::JoinThread => Ok(self.join(program, courses, next, object)),
-            Builtin::PrintInt | Builtin::PrintLong | Builtin::PutByte => {
-                Err(Fault::NoInstruction)
-            }
+            Builtin::PrintInt | Builtin::PrintLong | Builtin::PutByte => Err(Fault::NoInstruction),
         }
     }
 }
