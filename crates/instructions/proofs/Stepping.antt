@@ -26,7 +26,7 @@ use Rattle.model.specs.Classes.Resolution.{resolved_field}
 use Rattle.model.specs.Classes.Special.{superclass_at}
 use Rattle.model.specs.Classes.Types.{element_of}
 use Rattle.model.specs.Programs.{code_at, instruction_of, placed_at}
-use Rattle.model.specs.Served.{calls_thread, goes_by_name, is_plain, is_served}
+use Rattle.model.specs.Served.{goes_by_name, is_plain, is_served}
 use Rattle.model.specs.Table.Initialisation.{after_initialising}
 use Rattle.model.specs.Table.Next.{Listed, class_used, completion, by_family, at_frame, at_instruction, at_mark}
 use Rattle.model.specs.Turns.{print_of}
@@ -167,17 +167,9 @@ and_then-some : {A B : Type 0} (f : A → Option B) (o : Option A) (y : B) → o
 and_then-some f None y e = cc
 and_then-some f (Some x) y e = (x, refl, e)
 
-both : (a b : Bool) → (a && b) ≡ true → (a ≡ true) × (b ≡ true)
-both true b e = (refl, e)
-both false b e = cc
-
 was-none : {A : Type 0} (o : Option A) → is_none o ≡ true → o ≡ None
 was-none None e = refl
 was-none (Some x) e = cc
-
-was-false : (b : Bool) → not b ≡ true → b ≡ false
-was-false true e = cc
-was-false false e = refl
 
 module _ (program : List ClassListing) (w : World) (t : ℕ) (h : HeapValue) (f : Frame) where
   -- the superclass of the class whose code runs
@@ -229,9 +221,8 @@ module _ (program : List ClassListing) (w : World) (t : ℕ) (h : HeapValue) (f 
 
       called_agrees : (invocation : Invocation) (m : Member) → i.instruction ≡ Invoke invocation m → is_served (Invoke invocation m) ≡ true → Agree n (Invoke invocation m)
       called_agrees invocation m is e =
-          let may = both (is_none (element_of m.class)) (not (calls_thread m)) e in
           let agrees = code-call (own_call h) (site n) h kept.slots (numbered n) kept.accepted code f.pc i invocation m there at is
-          (was-none (element_of m.class) may.0) (own-alike (site n) h kept.objects_are kept.accepted kept.names m) in
+          (was-none (element_of m.class) e) (own-alike (site n) h kept.objects_are kept.accepted kept.names m) in
           agrees.same ∙ call_stays (site n) h (call_operation program above invocation m) (call_is_call agrees.valid)
         where
           call_is_call : (call_operation program above invocation m ≡ operation.Invalid → ⊥) → is_call (call_operation program above invocation m) ≡ true
