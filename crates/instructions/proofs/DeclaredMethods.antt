@@ -30,6 +30,7 @@ use Rattle.loader.specs.Selections.{declared_at, method_in}
 use Rattle.loader.proofs.ClassTableLemmas.{name-at}
 use Rattle.loader.proofs.MethodTableLemmas.{own-facts, program-facts}
 use Rattle.loader.proofs.RowPlaceLemmas.{method-place, row-place}
+use Rattle.instructions.specs.OwnCalls.{is_printing}
 use Rattle.instructions.specs.CallsByNumbers.{known_at}
 use Rattle.instructions.proofs.AcceptedClasses.{Unrefused}
 use Rattle.instructions.proofs.ByNumberLemmas.{HasNumber, number-names, number-of}
@@ -120,16 +121,6 @@ own-members = refl
 pub own-codes : list_all (λ (c : ClassListing). list_all (λ (m : Method). is_none m.code) c.methods) builtin_classes ≡ true
 unfolding builtin_classes
 own-codes = refl
-
--- those that print are static
-abbrev pub is_printing : Builtin → Bool
-is_printing PrintInt = true
-is_printing PrintLong = true
-is_printing PutByte = true
-is_printing Initialize = false
-is_printing RunThread = false
-is_printing StartThread = false
-is_printing JoinThread = false
 
 abbrev same_bool : Bool → Bool → Bool
 same_bool true b = b

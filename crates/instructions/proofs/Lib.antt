@@ -4,6 +4,7 @@ pub mod AgreeLemmas
 pub mod AloneLemmas
 pub mod ArrayLemmas
 pub mod AwaitingLemmas
+pub mod BeginLemmas
 pub mod ByNumberLemmas
 pub mod ChainLemmas
 pub mod ClaimFrames
@@ -27,6 +28,7 @@ pub mod InitialisingLemmas
 pub mod InitializerBodies
 pub mod InvokeLemmas
 pub mod KindsHeld
+pub mod OwnArguments
 pub mod OwnCalls
 pub mod KeyedFields
 pub mod KeyedLemmas
@@ -52,6 +54,7 @@ pub mod Refusing
 pub mod ResolvedFields
 pub mod ReturnAgreement
 pub mod ReturnLemmas
+pub mod RunRows
 mod RunningFrames
 mod Scenes
 pub mod ServedNames
@@ -60,6 +63,8 @@ pub mod Silent
 pub mod SelectedRows
 pub mod SelectorsCalled
 pub mod Stepping
+pub mod StartAgreement
+pub mod StartingLemmas
 pub mod StoredLemmas
 pub mod ThreadLemmas
 pub mod ThrowAgreement

@@ -42,12 +42,13 @@ use Rattle.instructions.specs.declared.kinds.Kind.TheVariants.{Instance, Array}
 use Rattle.instructions.specs.ByNumbers.{IsNumbered}
 use Rattle.instructions.specs.CallsByNumbers.{called_as, called_at, called_by, called_known, called_none, called_object, called_on, called_selected, called_special, is_kind_of, known_at, place_if, place_of_number, runs, selected_place}
 use Rattle.instructions.specs.Heaps.{HeapValue, kind_held}
+use Rattle.instructions.specs.OwnCalls.{is_printing}
 use Rattle.instructions.specs.Shown.{class_name, kind_name_if}
 use Rattle.instructions.proofs.AcceptedClasses.{Unrefused}
 use Rattle.instructions.proofs.ByNumberLemmas.{HasNumber}
 use Rattle.instructions.proofs.CallAgreement.{CallAgrees, HasSignature, callee_same, resolved-found, signature-same}
 use Rattle.instructions.proofs.DeclaredMethods as methods
-use Rattle.instructions.proofs.DeclaredMethods.{IsFound, declared-found, found-test, is_printing}
+use Rattle.instructions.proofs.DeclaredMethods.{IsFound, declared-found, found-test}
 use Rattle.instructions.proofs.KindsHeld.{class as class_numbered, class_held, kind-below, nobody-below}
 use Rattle.instructions.proofs.OwnCalls.{own_called, own_descriptor, own_name}
 use Rattle.instructions.proofs.SelectorsCalled.{HasSelector}

@@ -40,14 +40,15 @@ use Rattle.loader.specs.StaticSlots.{static_slots}
 use Rattle.loader.specs.Storages.{shown_storage}
 use Rattle.plain_steps.specs.PlainMoves.{plain_move}
 use Rattle.instructions.specs.Acting.{AreIn, site_of}
+use Rattle.instructions.specs.declared.awaiting.Awaited.TheVariants.{Entry}
 use Rattle.instructions.specs.Aside.{aside_move}
-use Rattle.instructions.specs.Awaiting.{awaits, awaits_monitor, monitor_on_top}
+use Rattle.instructions.specs.Awaiting.{awaited_apart, awaited_on_top, awaits, awaits_thread}
 use Rattle.instructions.specs.ByNumbers.{field_got_at, field_put_at, field_put_if, field_put_into, operated_by_numbers, static_got_if, static_put_at, static_put_if, word_place, word_put_at}
 use Rattle.instructions.specs.CallsByNumbers.{printed_by_call}
 use Rattle.instructions.specs.Heaps.{HeapValue, held, kind_held}
 use Rattle.instructions.specs.InitialisingByNumbers.{after_initialising_by_numbers, chain_at, class_used_by, initialises_class, is_others, waits_for}
 use Rattle.instructions.specs.MonitorsByNumbers.{is_object, operated_by_monitors, operates_by}
-use Rattle.instructions.specs.Operated.{aside_at, completed_at, moved_or, operated, operated_apart, operated_else, operated_on_objects, printed_at, printed_if, marked, standing, stepped, waits_at, waits_by, waits_if}
+use Rattle.instructions.specs.Operated.{aside_at, completed_at, moved_or, operated, operated_apart, operated_else, operated_on_calls, operated_on_objects, printed_at, printed_if, marked, standing, stepped, waits_at, waits_by, waits_if}
 use Rattle.instructions.specs.Shown.{objects_shown}
 use Rattle.instructions.specs.Throwing.{is_throwable, throws_kind, throws_operand}
 use Rattle.instructions.proofs.AwaitingLemmas.{call_waits}
@@ -224,13 +225,16 @@ else_prints s h operation.Lreturn = (returned_silent s (Some Long)).0
 else_prints s h operation.Areturn = (returned_silent s (Some Ref)).0
 else_prints s h operation.Athrow = (throws_silent s.program h (ref_on s.frame.stack)).0
 else_prints s h (operation.Invokestatic a b) = call_prints s h (operation.Invokestatic a b)
-else_prints s h (operation.Invokevirtual a b) = call_prints s h (operation.Invokevirtual a b)
-else_prints s h (operation.Invokespecial a b c) = call_prints s h (operation.Invokespecial a b c)
 else_prints s h (operation.Invokenone a b c) = call_prints s h (operation.Invokenone a b c)
 else_prints s h operation.PrintInt = call_prints s h operation.PrintInt
 else_prints s h operation.PrintLong = call_prints s h operation.PrintLong
 else_prints s h operation.PutByte = call_prints s h operation.PutByte
 else_prints s h op = apart_prints s h op
+
+calls_print : (s : Site) (h : HeapValue) (op : Operation) → prints (operated_on_calls s h op) ≡ printed_by_call s.frame op
+calls_print s h (operation.Invokevirtual a b) = call_prints s h (operation.Invokevirtual a b)
+calls_print s h (operation.Invokespecial a b c) = call_prints s h (operation.Invokespecial a b c)
+calls_print s h op = else_prints s h op
 
 -- a plain move prints nothing, and what prints has no plain move
 plain_prints_none : (s : Site) (op : Operation) (m : Result Moved Abrupt) → plain_move s.next op s.frame ≡ Some m → None ≡ printed_by_call s.frame op
@@ -242,8 +246,8 @@ plain_prints_none s _ m is = refl
 
 operated_prints : (s : Site) (h : HeapValue) (op : Operation) → prints (operated s h op) ≡ printed_by_call s.frame op
 operated_prints s h op = by (plain_move s.next op s.frame) refl where
-  by : (o : Option (Result Moved Abrupt)) → plain_move s.next op s.frame ≡ o → prints (moved_or s o (operated_else s h op)) ≡ printed_by_call s.frame op
-  by None is = else_prints s h op
+  by : (o : Option (Result Moved Abrupt)) → plain_move s.next op s.frame ≡ o → prints (moved_or s o (operated_on_calls s h op)) ≡ printed_by_call s.frame op
+  by None is = calls_print s h op
   by (Some m) is = completes_silent s m ∙ plain_prints_none s op m is
 
 -- ---- what comes before them
@@ -302,12 +306,13 @@ turn_prints program w t h (Some f) = by f.mark
 
 -- ---- whether it waits
 
-module _ (s : Site) (h : HeapValue) (objects_are : s.world.objects ≡ objects_shown s.program h.objects) where
-  enters_waits : (r : Result (Option ℕ) Fault) → waits (operates_by s h Enter r) ≡ awaits s.thread h (monitor_on_top s.program h r)
+module _ (courses : List Course) (s : Site) (h : HeapValue) (objects_are : s.world.objects ≡ objects_shown s.program h.objects)
+    (alike : AreIn courses s.world.threads) where
+  enters_waits : (r : Result (Option ℕ) Fault) → waits (operates_by s h Enter r) ≡ awaits courses s.thread h s.frame (awaited_on_top s.program h r)
   enters_waits (Err fault) = refl
   enters_waits (Ok None) = refl
   enters_waits (Ok (Some birth)) = by (is_object s.program (kind_held h birth)) where
-    by : (there : Bool) → waits (operates_if s Enter birth there) ≡ awaits s.thread h (if there then Some birth else None)
+    by : (there : Bool) → waits (operates_if s Enter birth there) ≡ awaits courses s.thread h s.frame (if there then Some (Entry birth) else None)
     by true =
         let m = monitor_of s.world birth in
         enter_waits (moved_with s _) (may_enter s.thread m.owner) (is_full m) refl
@@ -323,26 +328,29 @@ module _ (s : Site) (h : HeapValue) (objects_are : s.world.objects ≡ objects_s
         let m = monitor_of s.world birth in (exit_silent s (with_monitor_of s.world birth (exited m)) (is_owner s.thread m.owner)).1
     by false = refl
 
-  else_waits : (op : Operation) → waits (operated_else s h op) ≡ awaits_monitor s.program s.thread h s.frame op
+  else_waits : (op : Operation) → waits (operated_else s h op) ≡ awaits courses s.thread h s.frame (awaited_apart s.program h s.frame op)
   else_waits operation.Return = (returned_silent s None).1
   else_waits operation.Ireturn = (returned_silent s (Some Int)).1
   else_waits operation.Lreturn = (returned_silent s (Some Long)).1
   else_waits operation.Areturn = (returned_silent s (Some Ref)).1
   else_waits operation.Athrow = (throws_silent s.program h (ref_on s.frame.stack)).1
-  else_waits (operation.Invokestatic a b) = call_waits s h objects_are (operation.Invokestatic a b) refl
-  else_waits (operation.Invokevirtual a b) = call_waits s h objects_are (operation.Invokevirtual a b) refl
-  else_waits (operation.Invokespecial a b c) = call_waits s h objects_are (operation.Invokespecial a b c) refl
-  else_waits (operation.Invokenone a b c) = call_waits s h objects_are (operation.Invokenone a b c) refl
-  else_waits operation.PrintInt = call_waits s h objects_are operation.PrintInt refl
-  else_waits operation.PrintLong = call_waits s h objects_are operation.PrintLong refl
-  else_waits operation.PutByte = call_waits s h objects_are operation.PutByte refl
+  else_waits (operation.Invokestatic a b) = call_waits courses s h objects_are alike (operation.Invokestatic a b) refl
+  else_waits (operation.Invokenone a b c) = call_waits courses s h objects_are alike (operation.Invokenone a b c) refl
+  else_waits operation.PrintInt = call_waits courses s h objects_are alike operation.PrintInt refl
+  else_waits operation.PrintLong = call_waits courses s h objects_are alike operation.PrintLong refl
+  else_waits operation.PutByte = call_waits courses s h objects_are alike operation.PutByte refl
   else_waits operation.Monitorenter = enters_waits (ref_on s.frame.stack)
   else_waits operation.Monitorexit = exits_waits (ref_on s.frame.stack)
   else_waits operation.Aside = (aside_silent s (instruction_of s.program s.frame)).1
   else_waits op = (objects_silent s h op).1
 
+  calls_wait : (op : Operation) → waits (operated_on_calls s h op) ≡ awaits_thread s.program courses s.thread h s.frame op
+  calls_wait (operation.Invokevirtual a b) = call_waits courses s h objects_are alike (operation.Invokevirtual a b) refl
+  calls_wait (operation.Invokespecial a b c) = call_waits courses s h objects_are alike (operation.Invokespecial a b c) refl
+  calls_wait op = else_waits op
+
   -- what calls has no plain move
-  plain_waits_not : (op : Operation) (m : Result Moved Abrupt) → plain_move s.next op s.frame ≡ Some m → false ≡ awaits_monitor s.program s.thread h s.frame op
+  plain_waits_not : (op : Operation) (m : Result Moved Abrupt) → plain_move s.next op s.frame ≡ Some m → false ≡ awaits_thread s.program courses s.thread h s.frame op
   unfolding plain_move
   plain_waits_not (operation.Invokestatic a b) m is = cc
   plain_waits_not (operation.Invokevirtual a b) m is = cc
@@ -351,10 +359,10 @@ module _ (s : Site) (h : HeapValue) (objects_are : s.world.objects ≡ objects_s
   plain_waits_not operation.Monitorenter m is = cc
   plain_waits_not _ m is = refl
 
-  operated_waits : (op : Operation) → waits (operated s h op) ≡ awaits_monitor s.program s.thread h s.frame op
+  operated_waits : (op : Operation) → waits (operated s h op) ≡ awaits_thread s.program courses s.thread h s.frame op
   operated_waits op = by (plain_move s.next op s.frame) refl where
-    by : (o : Option (Result Moved Abrupt)) → plain_move s.next op s.frame ≡ o → waits (moved_or s o (operated_else s h op)) ≡ awaits_monitor s.program s.thread h s.frame op
-    by None is = else_waits op
+    by : (o : Option (Result Moved Abrupt)) → plain_move s.next op s.frame ≡ o → waits (moved_or s o (operated_on_calls s h op)) ≡ awaits_thread s.program courses s.thread h s.frame op
+    by None is = calls_wait op
     by (Some m) is = completes_goes s m ∙ plain_waits_not op m is
 
   claimed_waits : (classes : List ℕ) (own : Completion) → waits own ≡ false → waits (claims s classes own) ≡ false
@@ -382,13 +390,13 @@ module _ (s : Site) (h : HeapValue) (objects_are : s.world.objects ≡ objects_s
   or-false false b e = sym e
 
   -- an operation that enters no monitor
-  uses_waits : (op : Operation) → awaits_monitor s.program s.thread h s.frame op ≡ false
-      → waits (after_initialising_by_numbers s op (operated s h op)) ≡ (waits_for s.program (states_in s) s.thread (class_used_by s.program op) || awaits_monitor s.program s.thread h s.frame op)
+  uses_waits : (op : Operation) → awaits_thread s.program courses s.thread h s.frame op ≡ false
+      → waits (after_initialising_by_numbers s op (operated s h op)) ≡ (waits_for s.program (states_in s) s.thread (class_used_by s.program op) || awaits_thread s.program courses s.thread h s.frame op)
   uses_waits op none =
       class_waits (operated s h op) (operated_waits op ∙ none) (class_used_by s.program op)
-      ∙ or-false (waits_for s.program (states_in s) s.thread (class_used_by s.program op)) (awaits_monitor s.program s.thread h s.frame op) none
+      ∙ or-false (waits_for s.program (states_in s) s.thread (class_used_by s.program op)) (awaits_thread s.program courses s.thread h s.frame op) none
 
-  pub stepped_waits : (op : Operation) → waits (after_initialising_by_numbers s op (operated s h op)) ≡ (waits_for s.program (states_in s) s.thread (class_used_by s.program op) || awaits_monitor s.program s.thread h s.frame op)
+  pub stepped_waits : (op : Operation) → waits (after_initialising_by_numbers s op (operated s h op)) ≡ (waits_for s.program (states_in s) s.thread (class_used_by s.program op) || awaits_thread s.program courses s.thread h s.frame op)
   stepped_waits (operation.Getstatic n) = uses_waits (operation.Getstatic n) refl
   stepped_waits (operation.Putstatic n) = uses_waits (operation.Putstatic n) refl
   stepped_waits (operation.New n) = uses_waits (operation.New n) refl
@@ -407,7 +415,7 @@ turn_waits program courses w m t (Some f) objects states lives = by f.mark
 
     by : (mark : Mark) → waits (marked mark (stepped program w t m.heap f (standing program f))) ≡ waits_if mark (waits_by program courses m t f op)
     by Unmarked =
-        stepped_waits (site_of program w t f (standing program f).next) m.heap objects op
-        ∙ ap (λ (ss : List ClassState). waits_for program ss t (class_used_by program op) || awaits_monitor program t m.heap f op) states
+        stepped_waits courses (site_of program w t f (standing program f).next) m.heap objects lives op
+        ∙ ap (λ (ss : List ClassState). waits_for program ss t (class_used_by program op) || awaits_thread program courses t m.heap f op) states
     by Waiting = refl
     by Failing = refl

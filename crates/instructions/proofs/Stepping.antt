@@ -33,7 +33,7 @@ use Rattle.model.specs.Classes.Resolution.{resolved_field}
 use Rattle.model.specs.Classes.Special.{superclass_at}
 use Rattle.model.specs.Classes.Types.{element_of}
 use Rattle.model.specs.Programs.{code_at, instruction_of, placed_at}
-use Rattle.model.specs.Served.{calls_thread, goes_by_name, is_plain, is_served}
+use Rattle.model.specs.Served.{goes_by_name, is_plain, is_served}
 use Rattle.model.specs.Table.Initialisation.{after_initialising}
 use Rattle.model.specs.Table.Next.{Listed, class_used, completion, by_family, at_frame, at_instruction, at_mark}
 use Rattle.model.specs.Turns.{print_of}
@@ -55,16 +55,18 @@ use Rattle.instructions.specs.declared.machines.Machine.{Machine}
 use Rattle.instructions.specs.Acting.{AreIn, site_of}
 use Rattle.instructions.specs.Aside.{aside_move}
 use Rattle.instructions.specs.ByNumbers.{AreStored, IsNumbered, operated_by_numbers}
-use Rattle.instructions.specs.CallsByNumbers.{is_call, operated_by_served_calls, served_call}
+use Rattle.instructions.specs.CallsByNumbers.{is_call}
 use Rattle.instructions.specs.Heaps.{HeapValue}
 use Rattle.instructions.specs.NamedTypes.{goes_by_type, has_names}
-use Rattle.instructions.specs.Operated.{aside_at, completed, completed_at, marked, moved_or, operated, operated_else, printed_at, standing, stepped, waits_at}
+use Rattle.instructions.specs.Operated.{aside_at, completed_at, marked, moved_or, operated, operated_on_calls, printed_at, standing, stepped, waits_at}
+use Rattle.instructions.specs.OwnCalls.{operated_by_calls, own_call}
 use Rattle.instructions.specs.Shown.{keyed, objects_shown}
 use Rattle.instructions.specs.TypesByNumbers.{operated_by_types}
 use Rattle.instructions.proofs.ByNumberLemmas.{code-by_numbers}
-use Rattle.instructions.proofs.CodeCalls.{IsCallIfValid, call-is, code-call, served-own}
+use Rattle.instructions.proofs.CodeCalls.{IsCallIfValid, call-is, code-call}
 use Rattle.instructions.proofs.InitialisingAgreement.{code-initialises}
 use Rattle.instructions.proofs.MonitorAgreement.{monitor_agrees}
+use Rattle.instructions.proofs.StartAgreement.{own-alike}
 use Rattle.instructions.proofs.Silent.{turn_prints, turn_waits}
 use Rattle.instructions.proofs.ThrowAgreement.{throw_agrees}
 use Rattle.instructions.proofs.TypeAgreement.{code-by_types}
@@ -145,7 +147,7 @@ typed_stays s h superclass (ClassOf CheckCast name) e = cast_stays s h (type_of 
 typed_stays s h superclass (ClassOf InstanceOf name) e = test_stays s h (type_of s.program name)
 typed_stays s h superclass _ e = cc
 
-call_stays : (s : Site) (h : HeapValue) (op : Operation) → is_call op ≡ true → operated_by_served_calls s h op ≡ operated s h op
+call_stays : (s : Site) (h : HeapValue) (op : Operation) → is_call op ≡ true → operated_by_calls s h op ≡ operated s h op
 unfolding plain_move
 call_stays s h (operation.Invokestatic a b) e = refl
 call_stays s h (operation.Invokevirtual a b) e = refl
@@ -175,17 +177,9 @@ and_then-some : {A B : Type 0} (f : A → Option B) (o : Option A) (y : B) → o
 and_then-some f None y e = cc
 and_then-some f (Some x) y e = (x, refl, e)
 
-both : (a b : Bool) → (a && b) ≡ true → (a ≡ true) × (b ≡ true)
-both true b e = (refl, e)
-both false b e = cc
-
 was-none : {A : Type 0} (o : Option A) → is_none o ≡ true → o ≡ None
 was-none None e = refl
 was-none (Some x) e = cc
-
-was-false : (b : Bool) → not b ≡ true → b ≡ false
-was-false true e = cc
-was-false false e = refl
 
 module _ (program : List ClassListing) (w : World) (t : ℕ) (h : HeapValue) (f : Frame) where
   -- the superclass of the class whose code runs
@@ -202,7 +196,7 @@ module _ (program : List ClassListing) (w : World) (t : ℕ) (h : HeapValue) (f 
   plain_agrees : (n : ℕ) (i : Listed) → is_plain i ≡ true → Agree n i
   plain_agrees n i e =
       let d = direct_move n f i e in
-      by_family-plain (site n) i d.0 d.1 d.2 d.3 ∙ sym (ap (λ o. moved_or (site n) o (operated_else (site n) h d.0)) d.3)
+      by_family-plain (site n) i d.0 d.1 d.2 d.3 ∙ sym (ap (λ o. moved_or (site n) o (operated_on_calls (site n) h d.0)) d.3)
       ∙ sym (ap (λ o. operated (site n) h (or_resolved program above i o)) d.2)
 
   returned_agrees : (n : ℕ) (kind : Option Kind) → Agree n (Return kind)
@@ -242,9 +236,8 @@ module _ (program : List ClassListing) (w : World) (t : ℕ) (h : HeapValue) (f 
 
       called_agrees : (invocation : Invocation) (m : Member) → i.instruction ≡ Invoke invocation m → is_served (Invoke invocation m) ≡ true → Agree n (Invoke invocation m)
       called_agrees invocation m is e =
-          let may = both (is_none (element_of m.class)) (not (calls_thread m)) e in
-          let agrees = code-call served_call (site n) h kept.slots (numbered n) kept.accepted code f.pc i invocation m there at is
-          (was-none (element_of m.class) may.0) (served-own (site n) m (was-false (calls_thread m) may.1)) in
+          let agrees = code-call (own_call h) (site n) h kept.slots (numbered n) kept.accepted code f.pc i invocation m there at is
+          (was-none (element_of m.class) e) (own-alike (site n) h kept.objects_are kept.accepted kept.names m) in
           agrees.same ∙ call_stays (site n) h (call_operation program above invocation m) (call_is_call agrees.valid)
         where
           call_is_call : (call_operation program above invocation m ≡ operation.Invalid → ⊥) → is_call (call_operation program above invocation m) ≡ true

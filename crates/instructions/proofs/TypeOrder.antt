@@ -163,7 +163,7 @@ module _ (program : List ClassListing) (few : length program ≤ 256) (names : A
   proper-at n name e = all-at is_proper (class_names program) n name all-proper e
 
   -- a class that is there has such a name
-  proper-named : (name : List ℕ) (c : ClassListing) → class_named program name ≡ Some c → is_proper name ≡ true
+  pub proper-named : (name : List ℕ) (c : ClassListing) → class_named program name ≡ Some c → is_proper name ≡ true
   proper-named name c e =
       let class = number-of program name c e in proper-at class.number name (number-names program name class.number class.is)
 

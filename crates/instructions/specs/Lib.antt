@@ -5,6 +5,7 @@ pub mod Awaiting
 pub mod ByNumbers
 pub mod CallsByNumbers
 pub mod HeapMonitors
+pub mod HeapThreads
 pub mod Heaps
 pub mod HeapsAgree
 pub mod Initialising
@@ -15,8 +16,10 @@ pub mod MethodsByNumber
 pub mod MonitorsByNumbers
 pub mod NamedTypes
 pub mod Operated
+pub mod OwnCalls
 pub mod ReturnsByNumbers
 pub mod Shown
+pub mod Starting
 pub mod Threads
 pub mod Throwing
 pub mod TypeNumbers

@@ -15,6 +15,7 @@ mod entering;
 mod filling;
 mod looking;
 mod monitoring;
+mod starting;
 
 use crate::kinds::Kind;
 use crate::threads::Threads;

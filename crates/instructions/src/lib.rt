@@ -28,6 +28,7 @@ mod printing;
 mod pushes;
 mod readiness;
 mod returns;
+mod starting;
 pub mod state;
 mod statics;
 mod threads;

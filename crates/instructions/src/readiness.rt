@@ -56,8 +56,8 @@ pub(crate) fn print_length(program: &Program, frames: &Frames) -> Option<usize>
 }
 
 impl Machine {
-    /// Whether the step of a thread's running frame waits for another thread: for its initialisation of a class, or for a
-    /// monitor.
+    /// Whether the step of a thread's running frame waits for another thread: for its initialisation of a class, for a
+    /// monitor, or for its end.
     fn step_waits(&self, program: &Program, courses: &[Course], thread: u8, frames: &Frames) -> bool
         requires accepted { refusal_of program.now ≡ None }
         requires some { 0 < length frames.now }
@@ -67,7 +67,7 @@ impl Machine {
     {
         let step = program.step(frames.method(), frames.pc());
         self.must_wait(program, thread, step.operation)
-            || self.awaits_monitor(program, thread, frames, step.operation)
+            || self.awaits_thread(program, courses, thread, frames, step.operation)
     }
 
     /// Whether a thread with these frames waits: below an initializer, or for another thread, the threads that were started

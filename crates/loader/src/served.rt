@@ -1,9 +1,9 @@
 //! What the machine carries out so far.
-ghost use Rattle.std.specs.Prelude.{◌≡◌, ◌&&◌, is_none, not};
+ghost use Rattle.std.specs.Prelude.{◌≡◌, is_none};
 ghost use Rattle.std.specs.List.{list_all};
 ghost use Rattle.model.specs.ClassFiles.References.{names_class};
 ghost use Rattle.model.specs.Classes.Types.{element_of};
-ghost use Rattle.model.specs.Served.{serves_array, serves_class, calls_thread, serves_call, is_served, serves_code, serves_methods, serves};
+ghost use Rattle.model.specs.Served.{serves_array, serves_class, serves_call, is_served, serves_code, serves_methods, serves};
 ghost use Rattle.model.specs.declared.listings.Placed.{Placed as PlacedAt};
 
 use model::descriptors::is_array_descriptor;
@@ -40,13 +40,6 @@ fn serves_class(operation: ClassOperation, name: &Name) -> bool
     }
 }
 
-/// Whether a call may be one of a thread's own start or join, by the method's name and descriptor.
-fn calls_thread(member: &Member) -> bool
-    ensures { result ≡ calls_thread member.now }
-{
-    member.descriptor.is("()V") && (member.name.is("start") || member.name.is("join"))
-}
-
 /// Whether a type is no array.
 fn is_no_array(name: &[u8]) -> bool
     ensures { result ≡ is_none (element_of name.now) }
@@ -54,11 +47,11 @@ fn is_no_array(name: &[u8]) -> bool
     !matches!(name, [b'[', _, ..])
 }
 
-/// Whether the machine carries out calls of this method: it is no array's, and not a thread's start or join.
+/// Whether the machine carries out calls of this method: it is no array's.
 fn serves_call(member: &Member) -> bool
     ensures { result ≡ serves_call member.now }
 {
-    is_no_array(member.class.as_bytes()) && !calls_thread(member)
+    is_no_array(member.class.as_bytes())
 }
 
 /// Whether the machine carries out this instruction.

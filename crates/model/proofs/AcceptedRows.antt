@@ -11,6 +11,7 @@ use Rattle.model.specs.CodeListings.{CodeListing}
 use Rattle.model.specs.ClassListings.{ClassListing}
 use Rattle.model.specs.Served.{serves}
 use Rattle.model.specs.Table.Next.{Listed}
+use Rattle.model.specs.Classes.Search.{interfaces_from, upwards}
 use Rattle.model.specs.Classes.Builtin.{builtin_classes}
 use Rattle.model.specs.Classes.Subclasses.{is_within}
 use Rattle.model.specs.Accepted.BuiltinNames.{has_builtin_name}
@@ -59,7 +60,7 @@ abbrev program_with : List ℕ → List Method → ClassListing
 program_with name methods = class_over object name 1 (main ∷ methods)
 
 abbrev started : Member
-started = record { class = codes "X"; name = codes "start"; descriptor = codes "()V" }
+started = record { class = codes "java/lang/Thread"; name = codes "start"; descriptor = codes "()V" }
 
 abbrev names_class : LoadRule → List ℕ → Option LoadRefusal
 names_class rule name = Some (record { rule = rule; class = Some name })
@@ -151,9 +152,9 @@ static_initializer : refusal_of (program_with (codes "X") (method 8 (codes "<cli
 unfolding serves builtin_classes is_within has_builtin_name is_class_twice has_missing_parent has_wrong_parent is_on_cycle has_member_twice has_refused_member has_unresolved has_bad_row fields_within is_too_large first_past_limits refusal_of
 static_initializer = refl
 
--- a call of a `start()V`, which may be a thread's
-thread_started : refusal_of (program_with (codes "X") (method 9 (codes "f") (codes "()V") (code_of 1 0 (Invoke Virtual started)) ∷ []) ∷ []) ≡ names_class RefusedMember (codes "X")
-unfolding serves builtin_classes is_within has_builtin_name is_class_twice has_missing_parent has_wrong_parent is_on_cycle has_member_twice has_refused_member has_unresolved has_bad_row fields_within is_too_large first_past_limits refusal_of
+-- a start of a thread
+thread_started : refusal_of (program_with (codes "X") (method 9 (codes "f") (codes "()V") (code_of 1 0 (Invoke Virtual started)) ∷ []) ∷ []) ≡ None
+unfolding serves builtin_classes is_within has_builtin_name is_class_twice has_missing_parent has_wrong_parent is_on_cycle has_member_twice has_refused_member has_unresolved has_bad_row fields_within is_too_large first_past_limits refusal_of upwards interfaces_from
 thread_started = refl
 
 -- a class with the name of an array

@@ -1,6 +1,5 @@
-use Rattle.std.specs.Prelude.{◌≡◌, codes, ℕ, ℤ, List, Bool, true, false, ◌&&◌, ◌||◌, not, is_none, Option, Some, None}
+use Rattle.std.specs.Prelude.{◌≡◌, ℕ, ℤ, List, Bool, true, false, ◌&&◌, is_none, Option, Some, None}
 use Rattle.std.specs.List.{list_all}
-use Rattle.std.specs.Str.{bytes_eq}
 use Rattle.model.specs.declared.names.Member.{Member}
 use Rattle.model.specs.declared.listings.Method.{Method}
 use Rattle.model.specs.declared.listings.Placed.{Placed}
@@ -18,9 +17,9 @@ use Rattle.model.specs.Classes.Types.{element_of}
 use Rattle.model.specs.Table.Next.{Listed}
 use Rattle.model.specs.Texts.Names.{is_class_name}
 
--- What the machine carries out so far. It refuses calls of a thread's `start` and `join`, calls of the methods of an array,
--- and names of classes and types that no class file has. A class with any of these is refused, so that no program meets a
--- case of the instruction table that the code doesn't have.
+-- What the machine carries out. It refuses calls of the methods of an array, and names of classes and types that no class
+-- file has. A class with any of these is refused, so that no program meets a case of the instruction table that the code
+-- doesn't have.
 
 -- ---- families of instructions
 
@@ -94,14 +93,9 @@ serves_class New name = true
 serves_class CheckCast name = names_class name
 serves_class InstanceOf name = names_class name
 
--- a call that may be one of a thread's own start or join, by the method's name and descriptor
-abbrev pub calls_thread : Member → Bool
-calls_thread m =
-    bytes_eq m.descriptor (codes "()V") && (bytes_eq m.name (codes "start") || bytes_eq m.name (codes "join"))
-
--- calls but of an array's methods, and of a thread's start and join
+-- calls but of an array's methods
 abbrev pub serves_call : Member → Bool
-serves_call m = is_none (element_of m.class) && not (calls_thread m)
+serves_call m = is_none (element_of m.class)
 
 abbrev pub is_served : Listed → Bool
 is_served Nop = true

@@ -2,7 +2,8 @@ use Rattle.std.proofs.Common.{◌≡◌, ◌∙◌, Err, None, Ok, Some, ap, rul
 use Rattle.model.specs.declared.turns.Fault.TheVariants.{NoMethod, WrongClass}
 use Rattle.instructions.specs.declared.kinds.Course.TheVariants.{Live}
 use Rattle.instructions.specs.Acting.{shown, site_at, turned}
-use Rattle.instructions.specs.CallsByNumbers.{selected_at, served_call}
+use Rattle.instructions.specs.OwnCalls.{own_call}
+use Rattle.instructions.specs.CallsByNumbers.{selected_at}
 use Rattle.instructions.specs.Heaps.{kind_held}
 use Rattle.loader.proofs.RunLemmas.{none_hides}
 use Rattle.instructions.proofs.AcceptedClasses.{unrefused}
@@ -19,7 +20,7 @@ run_on-requires-clause-operands c = λ facts known.
     (sym c.select.ensures ∙ c.in-Ok-Some.is ∙ ap Ok c.in-Ok-Some.field-0-is) known c.requires.operands
 
 pub returns-in-None-clause-step : goal.returns-in-None-clause-step
-returns-in-None-clause-step c = λ scene here.
+returns-in-None-clause-step c = λ scene here lives.
     let m = c.args.self.now in
     let program = c.args.program.now in
     let x = shown program scene m Live in
@@ -27,10 +28,10 @@ returns-in-None-clause-step c = λ scene here.
     let none : kind_held m.heap c.args.object ≡ None = search rules in
     fault_told program scene m m here WrongClass
     ∙ sym (ap (turned program x m.thread)
-    (called-none (served_call s) s c.args.class c.args.object (selected_at program c.args.selector) (kind_held m.heap c.args.object) none))
+    (called-none (own_call m.heap s) s c.args.class c.args.object (selected_at program c.args.selector) (kind_held m.heap c.args.object) none))
 
 pub returns-in-Ok-Some-clause-step : goal.returns-in-Ok-Some-clause-step
-returns-in-Ok-Some-clause-step c = λ scene here.
+returns-in-Ok-Some-clause-step c = λ scene here lives.
     let m = c.args.self.now in
     let program = c.args.program.now in
     let x = shown program scene m Live in
@@ -38,13 +39,13 @@ returns-in-Ok-Some-clause-step c = λ scene here.
     let method = selected_at program c.args.selector in
     let kind : kind_held m.heap c.args.object ≡ Some c.in-Some.kind = search rules in
     let placed : c.select.result ≡ Ok (Some c.in-Ok-Some.place) = search rules in
-    c.run_on.ensures.step scene here
+    c.run_on.ensures.step scene here lives
     ∙ sym (ap (turned program x m.thread)
-    (called-by (served_call s) s c.args.class c.args.object method c.in-Some.kind (kind_held m.heap c.args.object) c.select.result kind c.select.ensures
-    ∙ ap (by_place (served_call s) s c.args.class c.args.object method) placed))
+    (called-by (own_call m.heap s) s c.args.class c.args.object method c.in-Some.kind (kind_held m.heap c.args.object) c.select.result kind c.select.ensures
+    ∙ ap (by_place (own_call m.heap s) s c.args.class c.args.object method) placed))
 
 pub returns-in-Ok-None-clause-step : goal.returns-in-Ok-None-clause-step
-returns-in-Ok-None-clause-step c = λ scene here.
+returns-in-Ok-None-clause-step c = λ scene here lives.
     let m = c.args.self.now in
     let program = c.args.program.now in
     let x = shown program scene m Live in
@@ -54,11 +55,11 @@ returns-in-Ok-None-clause-step c = λ scene here.
     let placed : c.select.result ≡ Ok None = search rules in
     fault_told program scene m m here NoMethod
     ∙ sym (ap (turned program x m.thread)
-    (called-by (served_call s) s c.args.class c.args.object method c.in-Some.kind (kind_held m.heap c.args.object) c.select.result kind c.select.ensures
-    ∙ ap (by_place (served_call s) s c.args.class c.args.object method) placed))
+    (called-by (own_call m.heap s) s c.args.class c.args.object method c.in-Some.kind (kind_held m.heap c.args.object) c.select.result kind c.select.ensures
+    ∙ ap (by_place (own_call m.heap s) s c.args.class c.args.object method) placed))
 
 pub returns-in-Err-clause-step : goal.returns-in-Err-clause-step
-returns-in-Err-clause-step c = λ scene here.
+returns-in-Err-clause-step c = λ scene here lives.
     let m = c.args.self.now in
     let program = c.args.program.now in
     let x = shown program scene m Live in
@@ -68,5 +69,5 @@ returns-in-Err-clause-step c = λ scene here.
     let placed : c.select.result ≡ Err c.in-Err.fault = search rules in
     fault_told program scene m m here c.in-Err.fault
     ∙ sym (ap (turned program x m.thread)
-    (called-by (served_call s) s c.args.class c.args.object method c.in-Some.kind (kind_held m.heap c.args.object) c.select.result kind c.select.ensures
-    ∙ ap (by_place (served_call s) s c.args.class c.args.object method) placed))
+    (called-by (own_call m.heap s) s c.args.class c.args.object method c.in-Some.kind (kind_held m.heap c.args.object) c.select.result kind c.select.ensures
+    ∙ ap (by_place (own_call m.heap s) s c.args.class c.args.object method) placed))

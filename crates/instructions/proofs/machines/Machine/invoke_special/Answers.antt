@@ -3,22 +3,24 @@ use Rattle.model.specs.declared.turns.Fault.TheVariants.{NoMethod}
 use Rattle.model.specs.Frames.{running_frame}
 use Rattle.instructions.specs.declared.kinds.Course.TheVariants.{Live}
 use Rattle.instructions.specs.Acting.{shown, site_at, turned}
-use Rattle.instructions.specs.CallsByNumbers.{called_object, called_special, known_at, object_found, served_call}
+use Rattle.instructions.specs.OwnCalls.{own_call}
+use Rattle.instructions.specs.CallsByNumbers.{called_object, called_special, known_at, object_found}
 use Rattle.instructions.proofs.ActingLemmas.{fault_told}
+use Rattle.instructions.proofs.AloneLemmas.{alone_begins, alone_told}
 use Rattle.instructions.proofs.InvokeLemmas.{called-found}
 use Rattle.instructions.proofs.machines.Machine.invoke_special.Goals as goal
 
 pub returns-in-None-clause-step : goal.returns-in-None-clause-step
-returns-in-None-clause-step c = λ scene here.
+returns-in-None-clause-step c = λ scene here lives.
     let m = c.args.self.now in
     let program = c.args.program.now in
     let x = shown program scene m Live in
     let s = site_at program m x.world c.args.next in
     let known : known_at program c.args.place ≡ None = search rules in
-    fault_told program scene m m here NoMethod ∙ sym (ap (λ o. turned program x m.thread (called_special (served_call s) s m.heap c.args.class c.args.place o)) known)
+    fault_told program scene m m here NoMethod ∙ sym (ap (λ o. turned program x m.thread (called_special (own_call m.heap s) s m.heap c.args.class c.args.place o)) known)
 
 pub returns-in-Err-clause-step : goal.returns-in-Err-clause-step
-returns-in-Err-clause-step c = λ scene here.
+returns-in-Err-clause-step c = λ scene here lives.
     let m = c.args.self.now in
     let program = c.args.program.now in
     let x = shown program scene m Live in
@@ -27,12 +29,12 @@ returns-in-Err-clause-step c = λ scene here.
     let known : known_at program c.args.place ≡ Some method = search rules in
     let found : object_found method.arguments (running_frame m.frames).stack ≡ Err c.in-Err.fault = search rules in
     fault_told program scene m m here c.in-Err.fault
-    ∙ ap (λ r. turned program x m.thread (called_object (served_call s) s m.heap c.args.class (λ kind. Some c.args.place) r)) (sym found)
-    ∙ sym (ap (turned program x m.thread) (called-found (served_call s) s m.heap c.args.class method.arguments (λ kind. Some c.args.place)))
-    ∙ sym (ap (λ o. turned program x m.thread (called_special (served_call s) s m.heap c.args.class c.args.place o)) known)
+    ∙ ap (λ r. turned program x m.thread (called_object (own_call m.heap s) s m.heap c.args.class (λ kind. Some c.args.place) r)) (sym found)
+    ∙ sym (ap (turned program x m.thread) (called-found (own_call m.heap s) s m.heap c.args.class method.arguments (λ kind. Some c.args.place)))
+    ∙ sym (ap (λ o. turned program x m.thread (called_special (own_call m.heap s) s m.heap c.args.class c.args.place o)) known)
 
 pub returns-in-Ok-None-clause-step : goal.returns-in-Ok-None-clause-step
-returns-in-Ok-None-clause-step c = λ scene here.
+returns-in-Ok-None-clause-step c = λ scene here lives.
     let m = c.args.self.now in
     let program = c.args.program.now in
     let x = shown program scene m Live in
@@ -40,13 +42,13 @@ returns-in-Ok-None-clause-step c = λ scene here.
     let method = c.in-Some.method.now in
     let known : known_at program c.args.place ≡ Some method = search rules in
     let found : object_found method.arguments (running_frame m.frames).stack ≡ Ok None = search rules in
-    c.raise.ensures.step scene here
-    ∙ ap (λ r. turned program x m.thread (called_object (served_call s) s m.heap c.args.class (λ kind. Some c.args.place) r)) (sym found)
-    ∙ sym (ap (turned program x m.thread) (called-found (served_call s) s m.heap c.args.class method.arguments (λ kind. Some c.args.place)))
-    ∙ sym (ap (λ o. turned program x m.thread (called_special (served_call s) s m.heap c.args.class c.args.place o)) known)
+    rw c.alone.ensures (alone_told x m.thread _ c.raise.result _ (c.raise.ensures.step scene here))
+    ∙ ap (λ r. turned program x m.thread (called_object (own_call m.heap s) s m.heap c.args.class (λ kind. Some c.args.place) r)) (sym found)
+    ∙ sym (ap (turned program x m.thread) (called-found (own_call m.heap s) s m.heap c.args.class method.arguments (λ kind. Some c.args.place)))
+    ∙ sym (ap (λ o. turned program x m.thread (called_special (own_call m.heap s) s m.heap c.args.class c.args.place o)) known)
 
 pub returns-in-Ok-Some-clause-step : goal.returns-in-Ok-Some-clause-step
-returns-in-Ok-Some-clause-step c = λ scene here.
+returns-in-Ok-Some-clause-step c = λ scene here lives.
     let m = c.args.self.now in
     let program = c.args.program.now in
     let x = shown program scene m Live in
@@ -54,7 +56,10 @@ returns-in-Ok-Some-clause-step c = λ scene here.
     let method = c.in-Some.method.now in
     let known : known_at program c.args.place ≡ Some method = search rules in
     let found : object_found method.arguments (running_frame m.frames).stack ≡ Ok (Some c.in-Ok-Some.object) = search rules in
-    c.call_special.ensures.step scene here
-    ∙ ap (λ r. turned program x m.thread (called_object (served_call s) s m.heap c.args.class (λ kind. Some c.args.place) r)) (sym found)
-    ∙ sym (ap (turned program x m.thread) (called-found (served_call s) s m.heap c.args.class method.arguments (λ kind. Some c.args.place)))
-    ∙ sym (ap (λ o. turned program x m.thread (called_special (served_call s) s m.heap c.args.class c.args.place o)) known)
+    c.call_special.ensures.step scene here lives
+    ∙ ap (λ r. turned program x m.thread (called_object (own_call m.heap s) s m.heap c.args.class (λ kind. Some c.args.place) r)) (sym found)
+    ∙ sym (ap (turned program x m.thread) (called-found (own_call m.heap s) s m.heap c.args.class method.arguments (λ kind. Some c.args.place)))
+    ∙ sym (ap (λ o. turned program x m.thread (called_special (own_call m.heap s) s m.heap c.args.class c.args.place o)) known)
+
+pub returns-in-Ok-None-clause-begins : goal.returns-in-Ok-None-clause-begins
+returns-in-Ok-None-clause-begins c = rw c.alone.ensures (alone_begins c.args.courses.now c.raise.result)
