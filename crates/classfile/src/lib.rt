@@ -27,6 +27,3 @@ pub use instructions::Instructions;
 pub use listings::listing;
 pub use methods::MethodEntry;
 pub use rows::CodeRow;
-
-#[cfg(test)]
-mod tests;

@@ -5,6 +5,10 @@
 #![tactic(auto)]
 
 #[cfg(test)]
+mod class_bytes;
+#[cfg(test)]
+mod classfile_tests;
+#[cfg(test)]
 mod frames_tests;
 #[cfg(test)]
 mod jasmin_tests;

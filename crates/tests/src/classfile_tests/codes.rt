@@ -1,6 +1,10 @@
 //! Methods and their code.
 
-use super::*;
+use super::{attribute, e, info, method, other_e, told, with_code, with_info};
+use crate::class_bytes::hex;
+use classfile::{read, write};
+use std::alloc::Global;
+use std::test::*;
 
 /// What users are told of E with this code, in hexadecimal.
 fn told_of_code(alloc: Global, code: &str) -> Result<String, Fail> {

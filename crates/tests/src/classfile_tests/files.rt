@@ -1,7 +1,10 @@
 //! Whole class files.
 
-use super::*;
+use super::{e, e_with, told};
+use classfile::{ClassError, again, one_class_file, read, write};
+use model::class_files::FormatFault;
 use model::instructions::Instruction;
+use std::test::*;
 
 #[test]
 fn the_head_of_a_file(rt: HostRuntime) -> Result<(), Fail> {

@@ -1,9 +1,12 @@
 //! Listings of class files by hand.
 
-use super::*;
+use crate::class_bytes::{E, hex};
 use bitflags::Flags;
+use classfile::{listing, read};
 use model::instructions::{Constant, Instruction, Invocation, Width};
 use model::listings::{Constant as Value, Listed, Listing};
+use std::alloc::Global;
+use std::test::*;
 
 /// A class A with a field `static final J L = -1`, and a method `public static main()V` whose code is `ldc 2147483647`,
 /// `invokestatic vm/Sys/print(I)V` and `return`, of which the first hands Object to the last.

@@ -1,14 +1,17 @@
 //! Class files that are made part by part.
 
-use super::*;
-use crate::instructions::Signature;
+use super::e;
 use bitflags::Flags;
-use model::class_files::{ConstantValue, Entry, FieldEntry};
+use classfile::{
+    Body, ClassError, CodeEntry, CodeRow, Instructions, MethodEntry, PoolBuilder, write,
+};
+use model::class_files::{ConstantValue, Entry, FieldEntry, FormatFault};
 use model::flags::{ClassFlags, FieldFlags, MethodFlags};
-use model::instructions::{Instruction, Test, Width};
+use model::instructions::{ClassOperation, Instruction, Test, Width};
 use model::names::Name;
 use opcodes::OpError;
-use std::alloc::AllocError;
+use std::alloc::{AllocError, Global};
+use std::test::*;
 
 fn text(alloc: Global, text: &str) -> Result<Entry, AllocError> {
     Ok(Entry::Utf8(Name::copy_of(alloc, text.as_bytes())?))
@@ -44,17 +47,17 @@ fn body(alloc: Global, fields: Vec<FieldEntry>, methods: Vec<MethodEntry>) -> Bo
     }
 }
 
-/// E's code under this name, with these bytes and rows.
-fn code(alloc: Global, name: u16, code: &str, rows: Vec<CodeRow>) -> Result<CodeEntry, Fail> {
-    let method = Signature {
-        name: b"main".as_slice(),
-        descriptor: b"()V".as_slice(),
+/// Code under this name, with these rows: one return, or `new` of the class under a number.
+fn code(alloc: Global, name: u16, new: Option<u16>, rows: Vec<CodeRow>) -> Result<CodeEntry, Fail> {
+    let instruction = match new {
+        None => Instruction::Return(None),
+        Some(class) => Instruction::Class(ClassOperation::New, class),
     };
     Ok(CodeEntry {
         name,
         max_stack: 0,
         max_locals: 0,
-        instructions: Instructions::read(alloc, method, &hex(alloc, code)?)?,
+        instructions: Instructions::encode(alloc, &[instruction])?,
         rows,
     })
 }
@@ -71,14 +74,7 @@ fn main(flags: u16, code: Option<CodeEntry>) -> MethodEntry {
 
 /// E's method as it is, from its one instruction.
 fn e_main(alloc: Global) -> Result<MethodEntry, Fail> {
-    let code = CodeEntry {
-        name: 7,
-        max_stack: 0,
-        max_locals: 0,
-        instructions: Instructions::encode(alloc, &[Instruction::Return(None)])?,
-        rows: Vec::new(alloc),
-    };
-    Ok(main(9, Some(code)))
+    Ok(main(9, Some(code(alloc, 7, None, Vec::new(alloc))?)))
 }
 
 /// Why E's entries and this body are no class file.
@@ -158,16 +154,16 @@ fn methods_without_code(rt: HostRuntime) -> Result<(), Fail> {
 #[test]
 fn methods_with_code(rt: HostRuntime) -> Result<(), Fail> {
     let alloc = rt.alloc();
-    for (flags, name, bytes, answer) in [
-        (9u16, 7u16, "b1", None),
+    for (flags, name, new, answer) in [
+        (9u16, 7u16, None, None),
         // abstract, and an attribute of another name
-        (0x0401, 7, "b1", Some(FormatFault::Attribute)),
-        (9, 5, "b1", Some(FormatFault::Attribute)),
+        (0x0401, 7, None, Some(FormatFault::Attribute)),
+        (9, 5, None, Some(FormatFault::Attribute)),
         // new of a class, and of a text
-        (9, 7, "bb0004", None),
-        (9, 7, "bb0003", Some(FormatFault::Attribute)),
+        (9, 7, Some(4), None),
+        (9, 7, Some(3), Some(FormatFault::Attribute)),
     ] {
-        let code = code(alloc, name, bytes, Vec::new(alloc))?;
+        let code = code(alloc, name, new, Vec::new(alloc))?;
         assert_eq!(rt; method_refusal(alloc, main(flags, Some(code)))?, answer);
     }
     Ok(())
@@ -189,7 +185,7 @@ fn row(alloc: Global, class: u16) -> Result<Vec<CodeRow>, Fail> {
 fn rows_that_are_none(rt: HostRuntime) -> Result<(), Fail> {
     let alloc = rt.alloc();
     for (class, answer) in [(0u16, None), (4, None), (3, Some(FormatFault::Attribute))] {
-        let entry = code(alloc, 7, "b1", row(alloc, class)?)?;
+        let entry = code(alloc, 7, None, row(alloc, class)?)?;
         assert_eq!(rt; method_refusal(alloc, main(9, Some(entry)))?, answer);
     }
     Ok(())
