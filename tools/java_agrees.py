@@ -5,9 +5,10 @@ Usage: java_agrees.py [--jvm PROGRAM] [NAME ..]
 
 Each program of tools/java/programs.txt is some members and a body of `main()`. javac compiles it, without debug tables, and
 its version is set to 49.0; a class `vm.Sys` with the machine's three prints stands for the machine's own under `java`. Both
-run it, and the tool compares what is printed and, where an exception ends the thread, its class. Ends with status 1 where
-they differ, or where `jvm` ends otherwise than `java`. PROGRAM is crates/jvm/out/jvm, which `rt run` builds, where nothing
-else is said.
+run it, and the tool compares what is printed and, where an exception ends the thread, its class: on the heap that `jvm run`
+has where nothing is said, with 0, 1, 7 and 40 turns of the collector after each turn of a thread, and on the smallest heap
+with which the program ends so at 40. Ends with status 1 where they differ, or where `jvm` ends otherwise than `java`.
+PROGRAM is crates/jvm/out/jvm, which `rt run` builds, where nothing else is said.
 """
 import argparse
 import glob
@@ -92,16 +93,45 @@ def compare(name, members, body, machine):
         if made.returncode:
             return "javac: " + made.stderr.decode()
         wanted = run(["java", "-Xss512k", "-cp", room, "Begin"])
-        got = run([machine, "run", "--steps", "1000000", "--gc", "3", *as_version_49(room)])
-        thrown = re.search(rb'Exception in thread "main" ([\w.$]+)', wanted.stderr)
-        ends = 1 if thrown else 0
-        if got.stdout != wanted.stdout:
-            return f"printed {got.stdout!r} ({got.stderr.decode().strip()}) and not {wanted.stdout!r}"
-        if got.returncode != ends:
-            return f"ended with {got.returncode} and not {ends}: {got.stderr.decode().strip()}"
-        if thrown and thrown[1].replace(b".", b"/") not in got.stderr:
-            return f"said {got.stderr.decode().strip()} where java was ended by {thrown[1].decode()}"
+        classes = as_version_49(room)
+        for turns in COLLECTOR:
+            why = difference(machine, classes, wanted, ["--gc", turns])
+            if why and turns == "0" and "OutOfMemoryError" in why:
+                continue  # garbage fills the heap where nobody collects it
+            if why:
+                return f"with --gc {turns}: {why}"
+        return difference(machine, classes, wanted, least_heap(machine, classes, wanted))
+
+
+# How many turns of the collector follow each turn of a thread.
+COLLECTOR = ["0", "1", "7", "40"]
+
+
+def difference(machine, classes, wanted, options):
+    """Returns how a run with these options differs from java's, or nothing."""
+    got = run([machine, "run", "--steps", "16000000", *options, *classes])
+    thrown = re.search(rb'Exception in thread "main" ([\w.$]+)', wanted.stderr)
+    ends = 1 if thrown else 0
+    if got.stdout != wanted.stdout:
+        return f"printed {got.stdout!r} ({got.stderr.decode().strip()}) and not {wanted.stdout!r}"
+    if got.returncode != ends:
+        return f"ended with {got.returncode} and not {ends}: {got.stderr.decode().strip()}"
+    if thrown and thrown[1].replace(b".", b"/") not in got.stderr:
+        return f"said {got.stderr.decode().strip()} where java was ended by {thrown[1].decode()}"
     return None
+
+
+def least_heap(machine, classes, wanted):
+    """Returns options with as few large cells, and no others, as let the program end as on java, if the first 1,024 do."""
+    low, high = 1, 1024
+    while low + 1 < high:
+        middle = (low + high) // 2
+        shape = ["--small", "0", "--medium", "0", "--large", str(middle), "--gc", "40"]
+        if difference(machine, classes, wanted, shape):
+            low = middle
+        else:
+            high = middle
+    return ["--small", "0", "--medium", "0", "--large", str(high), "--gc", "40"]
 
 
 def main():

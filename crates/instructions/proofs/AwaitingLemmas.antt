@@ -7,7 +7,7 @@ use Rattle.model.specs.declared.builtins.Builtin.TheVariants.{PrintInt, PrintLon
 use Rattle.model.specs.declared.places.MethodPlace.{MethodPlace}
 use Rattle.model.specs.declared.turns.Exception.TheVariants.{StackOverflow}
 use Rattle.model.specs.declared.turns.Fault.{Fault}
-use Rattle.model.specs.declared.turns.Fault.TheVariants.{MonitorLimit, NoInstruction, NoMethod, WrongClass}
+use Rattle.model.specs.declared.turns.Fault.TheVariants.{MonitorLimit, NoMethod, WrongClass}
 use Rattle.model.specs.declared.values.Kind.{Kind as ValueKind}
 use Rattle.model.specs.Completions.{Completion, Site, frames_in, raises, waits}
 use Rattle.model.specs.Completions.Completion.{Faults, Waits}
@@ -27,7 +27,7 @@ use Rattle.loader.specs.declared.operations.Operation.TheVariants as operation
 use Rattle.loader.specs.MethodFacts.{MethodFacts}
 use Rattle.loader.specs.Selectors.{Signature, selectors}
 use Rattle.instructions.specs.declared.awaiting.Awaited.{Awaited}
-use Rattle.instructions.specs.declared.awaiting.Awaited.TheVariants.{Entry, End}
+use Rattle.instructions.specs.declared.awaiting.Awaited.TheVariants.{Entry}
 use Rattle.instructions.specs.declared.kinds.Course.{Course}
 use Rattle.instructions.specs.declared.kinds.Kind.{Kind}
 use Rattle.instructions.specs.Acting.{AreIn}

@@ -1,6 +1,6 @@
 -- A thread that begins with a method: its frame has a local for the object and lies within its limits.
-use Rattle.std.proofs.Common.{◌≡◌, ℕ, ◌+◌, ◌<◌, ◌≤◌, List, length, Bool, true, false, ◌&&◌, ◌||◌, not, Option, Some, None, refl, sym, ap, arith, ◌∙◌}
-use Rattle.std.specs.Prelude.{IfSome, codes, if◌then◌else◌}
+use Rattle.std.proofs.Common.{◌≡◌, ℕ, ◌+◌, ◌<◌, List, length, Bool, true, false, ◌&&◌, ◌||◌, not, Option, Some, None, refl, sym, ap, arith, ◌∙◌}
+use Rattle.std.specs.Prelude.{codes, if◌then◌else◌}
 use Rattle.std.specs.List.{find}
 use Rattle.std.specs.Option.{option_map}
 use Rattle.model.specs.Accepted.BuiltinNames.{has_builtin_name}
@@ -22,7 +22,7 @@ use Rattle.instructions.specs.declared.kinds.Kind.{Kind}
 use Rattle.instructions.specs.declared.kinds.Kind.TheVariants.{Instance, Array}
 use Rattle.instructions.specs.Acting.{CanBegin}
 use Rattle.instructions.specs.CallsByNumbers.{is_static as is_static_known, known_at, place_if, place_of_number}
-use Rattle.instructions.specs.OwnCalls.{begun_at, begun_by, begun_known, begun_of, run_signature}
+use Rattle.instructions.specs.OwnCalls.{begun_at, begun_by, begun_known, begun_of}
 use Rattle.instructions.specs.Shown.{class_name}
 use Rattle.instructions.proofs.AcceptedClasses.{Unrefused}
 use Rattle.instructions.proofs.CallLemmas.{units_of_kinds}

@@ -1,6 +1,6 @@
 -- The state of a class by its name.
 use Rattle.std.proofs.Common.{◌≡◌, inl, inr, ◌<◌, ◌≤◌, ◌+◌, arith, ℕ, zero, suc, List, [], ◌∷◌, length, Bool, true, false, Option, Some, None, is_some, refl, ap, sym, ◌∙◌}
-use Rattle.std.specs.Prelude.{position, slice_get, slice_index_or}
+use Rattle.std.specs.Prelude.{position, slice_get}
 use Rattle.std.specs.List.{find, position_or_len}
 use Rattle.std.specs.Option.{option_map}
 use Rattle.std.proofs.lemmas.Bool.Decides.{leb_tells}

@@ -1,12 +1,12 @@
 -- The row of `run()V` in a class's selection table, and that it tells the method that is selected.
-use Rattle.std.proofs.Common.{◌≡◌, ℕ, zero, suc, ◌+◌, ◌-◌, ◌<◌, ◌≤◌, List, [], ◌∷◌, ◌++◌, length, map, Bool, true, false, ◌&&◌, not, cond, Option, Some, None, refl, sym, ap, arith, ◌∙◌, subst}
+use Rattle.std.proofs.Common.{◌≡◌, ℕ, zero, suc, ◌+◌, ◌-◌, ◌<◌, ◌≤◌, List, [], ◌∷◌, ◌++◌, length, map, Bool, true, false, ◌&&◌, not, cond, Option, Some, None, refl, sym, ap, arith, ◌∙◌}
 use Rattle.std.specs.Prelude.{codes, is_some, slice_get, unwrap_or}
-use Rattle.std.specs.List.{All, Contains, find, list_all}
+use Rattle.std.specs.List.{Contains, find, list_all}
 use Rattle.std.specs.Option.{option_and_then, option_map, option_map_or}
 use Rattle.std.specs.Str.{bytes_eq}
 use Rattle.std.proofs.lemmas.List.{length-append}
 use Rattle.std.proofs.lemmas.List.Elements.{All-contains}
-use Rattle.std.proofs.lemmas.Option.{slice_get-map, slice_get_past, slice_get_within}
+use Rattle.std.proofs.lemmas.Option.{slice_get-map, slice_get_past}
 use Rattle.std.proofs.lemmas.Slice.Eq.{bytes_eq-Decides}
 use Rattle.model.specs.declared.listings.Method.{Method}
 use Rattle.model.specs.declared.places.MethodPlace.{MethodPlace}
@@ -18,15 +18,14 @@ use Rattle.model.specs.Classes.Selection.{selected, virtual_of}
 use Rattle.model.specs.Classes.SelectionTable.{SelectionRow, IsSelected}
 use Rattle.resolve.specs.Hierarchies.{IsHierarchy}
 use Rattle.resolve.specs.Numbers.{all_classes, class_names}
-use Rattle.loader.specs.declared.method_tables.Body.{Body}
 use Rattle.loader.specs.declared.selection_rows.SelectionRow.{SelectionRow as RowOfNumbers}
 use Rattle.loader.specs.MethodFacts.{MethodFacts}
 use Rattle.loader.specs.MethodTables.{body_of, class_methods, facts_at, method_facts, method_tables, own_methods}
-use Rattle.loader.specs.Selections.{IsClassTable, IsPlaced, declared_at, is_virtual_of, method_in, row_of, row_with}
+use Rattle.loader.specs.Selections.{IsClassTable, IsPlaced, declared_at, is_virtual_of, method_in, row_of}
 use Rattle.loader.specs.SelectionTables.{IsTableAt}
 use Rattle.loader.proofs.MethodTableLemmas.{own-facts}
 use Rattle.instructions.specs.declared.kinds.Kind.TheVariants.{Instance}
-use Rattle.instructions.specs.CallsByNumbers.{place_if, place_of_number, selected_place}
+use Rattle.instructions.specs.CallsByNumbers.{place_if, selected_place}
 use Rattle.instructions.specs.OwnCalls.{run_signature}
 use Rattle.instructions.specs.Shown.{class_name, name_or_none}
 use Rattle.instructions.specs.Starting.{is_own_run, is_run, is_run_row}
@@ -34,7 +33,7 @@ use Rattle.instructions.proofs.AcceptedClasses.{Unrefused}
 use Rattle.instructions.proofs.ByNumberLemmas.{name-some}
 use Rattle.instructions.proofs.CodeCalls.{none-above}
 use Rattle.instructions.proofs.DeclaredMethods.{all-at}
-use Rattle.instructions.proofs.SelectedRows.{inside-some, place_of_row, row-number, virtual-is}
+use Rattle.instructions.proofs.SelectedRows.{inside-some, row-number, virtual-is}
 
 and-both : (a b : Bool) → (a && b) ≡ true → (a ≡ true) × (b ≡ true)
 and-both true b e = (refl, e)

@@ -1,6 +1,6 @@
 -- What the turn of a thread prints, and whether it waits, by the numbers that its step names.
-use Rattle.std.proofs.Common.{◌≡◌, ℕ, ℤ, List, [], ◌∷◌, Bool, true, false, Option, Some, None, Result, Ok, Err, refl, ap, sym, ◌∙◌}
-use Rattle.std.specs.Prelude.{◌||◌, ◌++◌, ◌==◌, not, length, slice_get, slice_index_or, if◌then◌else◌}
+use Rattle.std.proofs.Common.{◌≡◌, ℕ, List, [], ◌∷◌, Bool, true, false, Option, Some, None, Result, Ok, Err, refl, ap, sym, ◌∙◌}
+use Rattle.std.specs.Prelude.{◌||◌, ◌++◌, ◌==◌, not, slice_get, if◌then◌else◌}
 use Rattle.model.specs.declared.instructions.MonitorOperation.{MonitorOperation}
 use Rattle.model.specs.declared.instructions.MonitorOperation.TheVariants.{Enter, Exit}
 use Rattle.model.specs.declared.listings.Placed.{Placed}
@@ -26,7 +26,7 @@ use Rattle.model.specs.Monitors.{exited, is_full, is_owner, may_enter, monitor_o
 use Rattle.model.specs.Programs.{instruction_of}
 use Rattle.model.specs.Stores.{Storage, storage_kind}
 use Rattle.model.specs.Table.Fields.{word_got}
-use Rattle.model.specs.Table.Initialisation.{claims, claims_with, initialises, initialises_chain, states_in}
+use Rattle.model.specs.Table.Initialisation.{claims, initialises, states_in}
 use Rattle.model.specs.Table.Monitors.{enter_if, moved_with, operates, operates_if}
 use Rattle.model.specs.Words.{slot_at}
 use Rattle.model.specs.Worlds.{Monitor, World, with_class_states, with_thread}
@@ -47,7 +47,7 @@ use Rattle.instructions.specs.ByNumbers.{field_got_at, field_put_at, field_put_i
 use Rattle.instructions.specs.CallsByNumbers.{printed_by_call}
 use Rattle.instructions.specs.Heaps.{HeapValue, held, kind_held}
 use Rattle.instructions.specs.InitialisingByNumbers.{after_initialising_by_numbers, chain_at, class_used_by, initialises_class, is_others, waits_for}
-use Rattle.instructions.specs.MonitorsByNumbers.{is_object, operated_by_monitors, operates_by}
+use Rattle.instructions.specs.MonitorsByNumbers.{is_object, operates_by}
 use Rattle.instructions.specs.Operated.{aside_at, completed_at, moved_or, operated, operated_apart, operated_else, operated_on_calls, operated_on_objects, printed_at, printed_if, marked, standing, stepped, waits_at, waits_by, waits_if}
 use Rattle.instructions.specs.Shown.{objects_shown}
 use Rattle.instructions.specs.Throwing.{is_throwable, throws_kind, throws_operand}

@@ -1,5 +1,5 @@
 -- What a thread begins with, by numbers, is what the instruction table says by names.
-use Rattle.std.proofs.Common.{◌≡◌, inl, inr, ℕ, suc, ◌+◌, ◌≤◌, List, [], ◌∷◌, length, Bool, true, false, Option, Some, None, Result, Ok, Err, refl, sym, ap, arith, ◌∙◌}
+use Rattle.std.proofs.Common.{◌≡◌, inl, inr, ℕ, suc, ◌+◌, List, [], ◌∷◌, length, Bool, true, false, Option, Some, None, Result, Ok, Err, refl, sym, ap, arith, ◌∙◌}
 use Rattle.std.specs.Prelude.{codes, is_some, nat_le}
 use Rattle.std.specs.List.{find, list_all}
 use Rattle.std.specs.Option.{option_map}
@@ -20,13 +20,12 @@ use Rattle.model.specs.Classes.Selection.{selected, virtual_of}
 use Rattle.model.specs.CodeListings.{CodeListing}
 use Rattle.model.specs.Completions.{Completion, Site}
 use Rattle.model.specs.Frames.{ref_on}
-use Rattle.model.specs.Objects.{class_at, class_if, class_of, object_at}
+use Rattle.model.specs.Objects.{class_if, class_of, object_at}
 use Rattle.model.specs.Programs.{builtin_of}
-use Rattle.model.specs.Table.Builtins.{builtin_call}
 use Rattle.model.specs.Table.Threads.{begins as begins_by_name, start_if, started as started_by_name, starts as starts_by_name}
 use Rattle.model.specs.Worlds.{Object}
 use Rattle.resolve.specs.Hierarchies.{IsHierarchy}
-use Rattle.loader.specs.MethodTables.{body_by, body_of, method_facts}
+use Rattle.loader.specs.MethodTables.{body_by, body_of}
 use Rattle.loader.specs.Selections.{is_virtual_of}
 use Rattle.loader.proofs.RunLemmas.{hierarchy as accepted_hierarchy, none_hides}
 use Rattle.instructions.specs.declared.kinds.Kind.{Kind}
@@ -34,8 +33,8 @@ use Rattle.instructions.specs.declared.kinds.Kind.TheVariants.{Instance, Array}
 use Rattle.instructions.specs.CallsByNumbers.{place_if, place_of_number}
 use Rattle.instructions.specs.Heaps.{HeapValue, kind_held}
 use Rattle.instructions.specs.NamedTypes.{has_names}
-use Rattle.instructions.specs.OwnCalls.{begins, begun_at, begun_by, begun_known, begun_of, is_printing, own_call, started, starts}
-use Rattle.instructions.specs.Shown.{class_name, kind_name, kind_name_if, objects_shown, type_name}
+use Rattle.instructions.specs.OwnCalls.{begins, begun_at, begun_by, begun_known, begun_of, own_call, started, starts}
+use Rattle.instructions.specs.Shown.{class_name, kind_name_if, objects_shown, type_name}
 use Rattle.instructions.proofs.AcceptedClasses.{Unrefused, unrefused}
 use Rattle.instructions.proofs.CodeCalls.{none-above}
 use Rattle.instructions.proofs.DeclaredMethods as methods

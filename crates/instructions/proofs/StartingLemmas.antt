@@ -1,5 +1,5 @@
 -- A thread that starts on an object, and one that is joined: what is kept of the heap, and what the turn tells.
-use Rattle.std.proofs.Common.{◌≡◌, ℕ, zero, suc, ◌+◌, ◌<◌, ◌≤◌, List, [], ◌∷◌, ◌++◌, length, map, set, slice_get, Bool, true, false, Option, Some, None, Result, Ok, Err, refl, sym, ap, arith, ◌∙◌, le-leb, leb-true}
+use Rattle.std.proofs.Common.{◌≡◌, ℕ, zero, suc, ◌<◌, ◌≤◌, List, [], ◌∷◌, ◌++◌, length, map, set, slice_get, Bool, true, false, Option, Some, None, Ok, refl, sym, ap, arith, ◌∙◌, le-leb, leb-true}
 use Rattle.std.specs.Prelude.{is_some, nat_le, if◌then◌else◌}
 use Rattle.std.specs.Option.{option_map}
 use Rattle.std.proofs.lemmas.List.{map-set}
@@ -12,17 +12,17 @@ use Rattle.model.specs.declared.turns.Fault.TheVariants.{ThreadLimit}
 use Rattle.model.specs.Completions.{Completion, Site, raises}
 use Rattle.model.specs.Completions.Completion.{Faults, Goes, Waits}
 use Rattle.model.specs.Frames.{Frame, replaced, running_frame, with_running}
-use Rattle.model.specs.Objects.{object_at, with_object}
+use Rattle.model.specs.Objects.{object_at}
 use Rattle.model.specs.Table.Builtins.{does_nothing}
 use Rattle.model.specs.Table.Threads.{has_live_thread, joined, numbered, start_if, thread_if, with_more}
-use Rattle.model.specs.Worlds.{Object, Thread, World, is_live, lives, with_thread}
+use Rattle.model.specs.Worlds.{Object, Thread, World, lives, with_thread}
 use Rattle.model.specs.Worlds.Thread.{Live as LiveThread, Ended}
 use Rattle.cells.specs.Objects.{StoredObject, object_if, thread_set, thread_if as thread_of}
 use Rattle.join.specs.OnCells.{nobody}
 use Rattle.join.specs.TurnsOnCells.{CellMachine, shade_cells, turned_on}
 use Rattle.instructions.specs.declared.acting.Begun.{Begun}
 use Rattle.instructions.specs.declared.kinds.Course.{Course}
-use Rattle.instructions.specs.declared.kinds.Course.TheVariants.{Live, Returned, Threw}
+use Rattle.instructions.specs.declared.kinds.Course.TheVariants.{Live}
 use Rattle.instructions.specs.declared.kinds.Kind.{Kind}
 use Rattle.instructions.specs.declared.machines.Machine.{Machine}
 use Rattle.instructions.specs.Acting.{AreIn, Scene, is_alive, shown, site_at, thread_begun, threads_shown, turned, with_begun}

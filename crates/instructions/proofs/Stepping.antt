@@ -1,5 +1,5 @@
 -- What the turn of a thread comes to is what the instruction table says.
-use Rattle.std.proofs.Common.{◌≡◌, inl, inr, ◌⊎◌, ℕ, ℤ, List, length, Bool, true, false, ◌&&◌, not, Option, Some, None, is_none, refl, ap, subst, sym, ◌∙◌}
+use Rattle.std.proofs.Common.{◌≡◌, inl, inr, ℕ, ℤ, List, length, Bool, true, false, Option, Some, None, is_none, refl, ap, subst, sym, ◌∙◌}
 use Rattle.std.specs.Prelude.{if◌then◌else◌}
 use Rattle.std.specs.List.{list_all}
 use Rattle.std.specs.Option.{option_map, option_and_then}

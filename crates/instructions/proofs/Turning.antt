@@ -31,6 +31,7 @@ use Rattle.instructions.specs.Operated.{completed, completed_at, printed_at}
 use Rattle.instructions.specs.Loaded.{IsSound, Loaded, after_collection, after_step, machine_shown, state_shown}
 use Rattle.instructions.specs.Heaps.{HeapValue, collected}
 use Rattle.instructions.specs.Shown.{thread_shown}
+use Rattle.instructions.specs.Switching.{IsSwitched}
 use Rattle.instructions.specs.Threads.{ThreadsValue, all_frames, all_shown, begun_as, begun_if, first_frame, goes_on, noted_as, threads_in}
 use Rattle.instructions.proofs.Refusing.{allowed}
 use Rattle.instructions.proofs.Scenes.{frames_shown}
@@ -77,20 +78,9 @@ going a t sound e =
 pub going_started : (a : Inside) (t : ℕ) → IsGoing a t → t < length a.threads.courses
 going_started a t g = live_started a.threads.courses t (lives_now a t ∙ g.live)
 
--- the machine runs the thread, and no other part is another
-pub record IsSwitched (a : Inside) (t : ℕ) (v : ThreadsValue) (m : Machine) : Type 0 where
-  pub courses : v.courses ≡ a.threads.courses
-  pub all : all_frames v t m.frames ≡ all_now a
-  pub frames : slice_get (all_now a) t ≡ Some m.frames
-  pub thread : m.thread ≡ t
-  pub slots : m.slots ≡ a.machine.slots
-  pub states : m.states ≡ a.machine.states
-  pub heap : m.heap ≡ a.machine.heap
-  pub output : m.output ≡ a.machine.output
-
 -- ---- lengths
 
-pub length-parked : (a : Inside) (t : ℕ) (v : ThreadsValue) (m : Machine) → IsSwitched a t v m → length a.threads.parked ≡ 64 → length v.parked ≡ 64
+pub length-parked : (a : Inside) (t : ℕ) (v : ThreadsValue) (m : Machine) → IsSwitched a.threads a.machine t v m → length a.threads.parked ≡ 64 → length v.parked ≡ 64
 length-parked a t v m s parked =
     sym (length-set v.parked t m.frames) ∙ ap length s.all ∙ length-set a.threads.parked a.machine.thread a.machine.frames ∙ parked
 
@@ -131,7 +121,7 @@ module _ (program : List ClassListing) (cs : List Course) (parked : List (List F
 
 -- ---- the turn
 
-module _ (a : Inside) (t : ℕ) (sound : Sound a) (g : IsGoing a t) (v : ThreadsValue) (m : Machine) (s : IsSwitched a t v m) where
+module _ (a : Inside) (t : ℕ) (sound : Sound a) (g : IsGoing a t) (v : ThreadsValue) (m : Machine) (s : IsSwitched a.threads a.machine t v m) where
   here : t < length a.threads.courses
   here = going_started a t g
 

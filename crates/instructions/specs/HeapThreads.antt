@@ -1,4 +1,4 @@
-use Rattle.std.specs.Prelude.{ℕ, zero, suc, slice_get, slice_set, Option, Some, None}
+use Rattle.std.specs.Prelude.{ℕ, zero, suc, slice_get, slice_set, Option, Some}
 use Rattle.std.specs.Option.{option_map}
 use Rattle.cells.specs.Objects.{object_if, thread_if, thread_set}
 use Rattle.instructions.specs.Heaps.{HeapValue, held}

@@ -21,6 +21,7 @@ pub mod ReturnsByNumbers
 pub mod Shown
 pub mod Starting
 pub mod Threads
+pub mod Switching
 pub mod Throwing
 pub mod TypeNumbers
 pub mod TypesByNumbers

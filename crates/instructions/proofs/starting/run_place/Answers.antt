@@ -1,4 +1,4 @@
-use Rattle.std.proofs.Common.{◌≡◌, ◌∙◌, ap, arith, length, refl, sym}
+use Rattle.std.proofs.Common.{◌∙◌, ap, arith, length, sym}
 use Rattle.std.specs.Option.{option_copied}
 use Rattle.loader.proofs.RunLemmas.{hierarchy as accepted_hierarchy, none_hides}
 use Rattle.instructions.proofs.AcceptedClasses.{unrefused}

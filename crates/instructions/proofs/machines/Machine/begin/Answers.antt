@@ -1,4 +1,4 @@
-use Rattle.std.proofs.Common.{◌∙◌, arith, ap, length, refl, sym}
+use Rattle.std.proofs.Common.{◌∙◌, arith, ap, length, refl}
 use Rattle.instructions.specs.declared.machines.Machine.{Machine}
 use Rattle.instructions.specs.Heaps.{HeapValue, all_shaded}
 use Rattle.instructions.specs.OwnCalls.{begun_writes}

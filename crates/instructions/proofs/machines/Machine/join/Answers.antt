@@ -1,9 +1,6 @@
-use Rattle.std.proofs.Common.{◌≡◌, ◌∙◌, Bool, ap, false, sym, true}
-use Rattle.std.specs.Prelude.{if◌then◌else◌}
-use Rattle.model.specs.Completions.Completion.{Waits}
-use Rattle.model.specs.Table.Builtins.{does_nothing}
+use Rattle.std.proofs.Common.{◌≡◌, ◌∙◌, ap, false, sym, true}
 use Rattle.instructions.specs.declared.kinds.Course.TheVariants.{Live}
-use Rattle.instructions.specs.Acting.{shown, site_at, turned}
+use Rattle.instructions.specs.Acting.{shown, turned}
 use Rattle.instructions.specs.HeapThreads.{thread_held}
 use Rattle.instructions.specs.Starting.{lives_on}
 use Rattle.instructions.proofs.InitialisingLemmas.{waits_told}

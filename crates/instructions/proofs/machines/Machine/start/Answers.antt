@@ -1,9 +1,9 @@
-use Rattle.std.proofs.Common.{◌≡◌, ◌∙◌, Some, None, ap, false, refl, sym, true, arith, length, ◌<◌}
+use Rattle.std.proofs.Common.{◌≡◌, ◌∙◌, Some, None, ap, false, sym, true, arith, length, ◌<◌}
 use Rattle.std.specs.Prelude.{is_some}
 use Rattle.model.specs.declared.turns.Fault.TheVariants.{NoMethod, ThreadLimit}
 use Rattle.loader.proofs.RunLemmas.{none_hides}
 use Rattle.instructions.specs.declared.kinds.Course.TheVariants.{Live}
-use Rattle.instructions.specs.Acting.{shown, site_at, turned}
+use Rattle.instructions.specs.Acting.{shown, turned}
 use Rattle.instructions.specs.Heaps.{kind_held}
 use Rattle.instructions.specs.HeapThreads.{thread_held}
 use Rattle.instructions.specs.OwnCalls.{begun_of}

@@ -1,4 +1,4 @@
-use Rattle.std.proofs.Common.{◌≡◌, ◌∙◌, List, ap, sym}
+use Rattle.std.proofs.Common.{◌∙◌, List, ap, sym}
 use Rattle.std.specs.Prelude.{position, slice_get}
 use Rattle.model.specs.declared.turns.ClassState.{ClassState}
 use Rattle.model.specs.ClassListings.{ClassListing}
