@@ -7,7 +7,8 @@ Each program of tools/java/programs.txt is some members and a body of `main()`. 
 its version is set to 49.0; a class `vm.Sys` with the machine's three prints stands for the machine's own under `java`. Both
 run it, and the tool compares what is printed and, where an exception ends the thread, its class: on the heap that `jvm run`
 has where nothing is said, with 0, 1, 7 and 40 turns of the collector after each turn of a thread, and on the smallest heap
-with which the program ends so at 40. Ends with status 1 where they differ, or where `jvm` ends otherwise than `java`.
+with which the program ends so at 40. Each is run twice with a journal, which has to be the same and to replay with the
+same end. Ends with status 1 where they differ, or where `jvm` ends otherwise than `java`.
 PROGRAM is crates/jvm/out/jvm, which `rt run` builds, where nothing else is said.
 """
 import argparse
@@ -100,7 +101,23 @@ def compare(name, members, body, machine):
                 continue  # garbage fills the heap where nobody collects it
             if why:
                 return f"with --gc {turns}: {why}"
-        return difference(machine, classes, wanted, least_heap(machine, classes, wanted))
+        return difference(machine, classes, wanted, least_heap(machine, classes, wanted)) or stored(machine, classes, room)
+
+
+def stored(machine, classes, room):
+    """Returns how two journals of the same run, or a run and its replay, differ, or nothing."""
+    paths = [f"{room}/first.journal", f"{room}/second.journal"]
+    runs = [run([machine, "run", "--steps", "16000000", "--journal", path, *classes]) for path in paths]
+    journals = []
+    for path in paths:
+        with open(path, "rb") as file:
+            journals.append(file.read())
+    if journals[0] != journals[1]:
+        return "two runs have two journals"
+    again = run([machine, "replay", paths[0], *classes])
+    if (again.stdout, again.stderr, again.returncode) != (runs[0].stdout, runs[0].stderr, runs[0].returncode):
+        return f"replayed it ended with {again.returncode}: {again.stderr.decode().strip()}"
+    return None
 
 
 # How many turns of the collector follow each turn of a thread.

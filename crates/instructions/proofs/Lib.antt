@@ -57,7 +57,6 @@ pub mod ReturnLemmas
 pub mod RunRows
 mod RunningFrames
 mod Scenes
-pub mod ServedNames
 pub mod ShownLemmas
 pub mod Silent
 pub mod SelectedRows

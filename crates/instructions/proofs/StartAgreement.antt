@@ -23,6 +23,7 @@ use Rattle.model.specs.Frames.{ref_on}
 use Rattle.model.specs.Objects.{class_if, class_of, object_at}
 use Rattle.model.specs.Programs.{builtin_of}
 use Rattle.model.specs.Table.Threads.{begins as begins_by_name, start_if, started as started_by_name, starts as starts_by_name}
+use Rattle.model.specs.WellNamed.{is_well_named}
 use Rattle.model.specs.Worlds.{Object}
 use Rattle.resolve.specs.Hierarchies.{IsHierarchy}
 use Rattle.loader.specs.MethodTables.{body_by, body_of}
@@ -32,7 +33,6 @@ use Rattle.instructions.specs.declared.kinds.Kind.{Kind}
 use Rattle.instructions.specs.declared.kinds.Kind.TheVariants.{Instance, Array}
 use Rattle.instructions.specs.CallsByNumbers.{place_if, place_of_number}
 use Rattle.instructions.specs.Heaps.{HeapValue, kind_held}
-use Rattle.instructions.specs.NamedTypes.{has_names}
 use Rattle.instructions.specs.OwnCalls.{begins, begun_at, begun_by, begun_known, begun_of, own_call, started, starts}
 use Rattle.instructions.specs.Shown.{class_name, kind_name_if, objects_shown, type_name}
 use Rattle.instructions.proofs.AcceptedClasses.{Unrefused, unrefused}
@@ -47,7 +47,7 @@ use Rattle.instructions.proofs.TypesHeld.{few}
 use Rattle.instructions.proofs.Upwards.{next}
 
 module _ (s : Site) (h : HeapValue) (shown : s.world.objects ≡ objects_shown s.program h.objects) (accepted : refusal_of s.program ≡ None)
-    (names : list_all has_names s.program ≡ true) where
+    (names : list_all is_well_named s.program ≡ true) where
   free : Unrefused s.program
   free = unrefused s.program accepted
 

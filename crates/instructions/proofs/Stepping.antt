@@ -1,5 +1,5 @@
 -- What the turn of a thread comes to is what the instruction table says.
-use Rattle.std.proofs.Common.{◌≡◌, inl, inr, ℕ, ℤ, List, length, Bool, true, false, Option, Some, None, is_none, refl, ap, subst, sym, ◌∙◌}
+use Rattle.std.proofs.Common.{◌≡◌, inl, inr, ℕ, ℤ, List, length, Bool, true, false, Option, Some, None, refl, ap, subst, sym, ◌∙◌}
 use Rattle.std.specs.Prelude.{if◌then◌else◌}
 use Rattle.std.specs.List.{list_all}
 use Rattle.std.specs.Option.{option_map, option_and_then}
@@ -31,12 +31,11 @@ use Rattle.model.specs.Completions.Completion.{Faults}
 use Rattle.model.specs.Frames.{Frame, running}
 use Rattle.model.specs.Classes.Resolution.{resolved_field}
 use Rattle.model.specs.Classes.Special.{superclass_at}
-use Rattle.model.specs.Classes.Types.{element_of}
 use Rattle.model.specs.Programs.{code_at, instruction_of, placed_at}
-use Rattle.model.specs.Served.{goes_by_name, is_plain, is_served}
 use Rattle.model.specs.Table.Initialisation.{after_initialising}
 use Rattle.model.specs.Table.Next.{Listed, class_used, completion, by_family, at_frame, at_instruction, at_mark}
 use Rattle.model.specs.Turns.{print_of}
+use Rattle.model.specs.WellNamed.{is_well_named}
 use Rattle.model.specs.Worlds.{World, frames_at, opening_slots}
 use Rattle.loader.specs.declared.programs.Step.{Step}
 use Rattle.loader.specs.declared.operations.Operation.{Operation}
@@ -47,6 +46,7 @@ use Rattle.loader.specs.PlainOperations.{is_32_bits}
 use Rattle.loader.specs.ResolvedOperations.{accesses_slot, accesses_word, call_operation, casts, makes_array, makes_object, slot_number, tests_type, type_of, word_named}
 use Rattle.loader.specs.Steps.{step_of, step_in}
 use Rattle.loader.specs.StepLists.{step_or_none}
+use Rattle.plain_steps.specs.Plain.{is_plain}
 use Rattle.plain_steps.specs.PlainMoves.{plain_move}
 use Rattle.plain_steps.proofs.TableLemmas.{by_family-plain, direct_move}
 use Rattle.resolve.specs.Numbers.{class_number}
@@ -57,7 +57,7 @@ use Rattle.instructions.specs.Aside.{aside_move}
 use Rattle.instructions.specs.ByNumbers.{AreStored, IsNumbered, operated_by_numbers}
 use Rattle.instructions.specs.CallsByNumbers.{is_call}
 use Rattle.instructions.specs.Heaps.{HeapValue}
-use Rattle.instructions.specs.NamedTypes.{goes_by_type, has_names}
+use Rattle.instructions.specs.NamedThings.{goes_by_name, goes_by_type}
 use Rattle.instructions.specs.Operated.{aside_at, completed_at, marked, moved_or, operated, operated_on_calls, printed_at, standing, stepped, waits_at}
 use Rattle.instructions.specs.OwnCalls.{operated_by_calls, own_call}
 use Rattle.instructions.specs.Shown.{keyed, objects_shown}
@@ -160,11 +160,10 @@ call_stays s h _ e = cc
 
 -- ---- the instruction table
 
--- what holds of the world of an accepted program that the code keeps by numbers; all of its code is served
+-- what holds of the world of an accepted program that the code keeps by numbers
 pub record IsKept (program : List ClassListing) (w : World) (h : HeapValue) : Type 0 where
   pub accepted : refusal_of program ≡ None
-  pub names : list_all has_names program ≡ true
-  pub served : (f : Frame) (i : Placed) → instruction_of program f ≡ Some i → is_served i.instruction ≡ true
+  pub names : list_all is_well_named program ≡ true
   pub slots : List Value
   pub objects_are : w.objects ≡ objects_shown program h.objects
   pub stored : AreStored program h.objects
@@ -176,10 +175,6 @@ and_then-some : {A B : Type 0} (f : A → Option B) (o : Option A) (y : B) → o
     → (x : A) × (o ≡ Some x) × (f x ≡ Some y)
 and_then-some f None y e = cc
 and_then-some f (Some x) y e = (x, refl, e)
-
-was-none : {A : Type 0} (o : Option A) → is_none o ≡ true → o ≡ None
-was-none None e = refl
-was-none (Some x) e = cc
 
 module _ (program : List ClassListing) (w : World) (t : ℕ) (h : HeapValue) (f : Frame) where
   -- the superclass of the class whose code runs
@@ -234,10 +229,10 @@ module _ (program : List ClassListing) (w : World) (t : ℕ) (h : HeapValue) (f 
           (code-by_types (site n) h kept.slots (numbered n) kept.accepted kept.names above f.method code f.pc i there at typed).same
           ∙ typed_stays (site n) h above i.instruction typed
 
-      called_agrees : (invocation : Invocation) (m : Member) → i.instruction ≡ Invoke invocation m → is_served (Invoke invocation m) ≡ true → Agree n (Invoke invocation m)
-      called_agrees invocation m is e =
-          let agrees = code-call (own_call h) (site n) h kept.slots (numbered n) kept.accepted code f.pc i invocation m there at is
-          (was-none (element_of m.class) e) (own-alike (site n) h kept.objects_are kept.accepted kept.names m) in
+      called_agrees : (invocation : Invocation) (m : Member) → i.instruction ≡ Invoke invocation m → Agree n (Invoke invocation m)
+      called_agrees invocation m is =
+          let agrees = code-call (own_call h) (site n) h kept.slots (numbered n) kept.accepted kept.names code f.pc i invocation m there at is
+          (own-alike (site n) h kept.objects_are kept.accepted kept.names m) in
           agrees.same ∙ call_stays (site n) h (call_operation program above invocation m) (call_is_call agrees.valid)
         where
           call_is_call : (call_operation program above invocation m ≡ operation.Invalid → ⊥) → is_call (call_operation program above invocation m) ≡ true
@@ -269,36 +264,36 @@ module _ (program : List ClassListing) (w : World) (t : ℕ) (h : HeapValue) (f 
           by true = refl
           by false = sym (aside_operated (Constant (LongConstant z)) is)
 
-      placed_agrees : (j : Listed) → i.instruction ≡ j → is_served j ≡ true → Agree n j
-      placed_agrees Nop is e = plain_agrees n Nop refl
-      placed_agrees (Constant Null) is e = plain_agrees n (Constant Null) refl
-      placed_agrees (Constant (SmallInt k)) is e = plain_agrees n (Constant (SmallInt k)) refl
-      placed_agrees (Constant (SmallLong k)) is e = plain_agrees n (Constant (SmallLong k)) refl
-      placed_agrees (Constant (Byte z)) is e = plain_agrees n (Constant (Byte z)) refl
-      placed_agrees (Constant (Short z)) is e = plain_agrees n (Constant (Short z)) refl
-      placed_agrees (Constant (IntConstant width z)) is e = plain_agrees n (Constant (IntConstant width z)) refl
-      placed_agrees (Constant (LongConstant z)) is e = long_agrees z is
-      placed_agrees (Local access) is e = plain_agrees n (Local access) refl
-      placed_agrees (Stack operation) is e = plain_agrees n (Stack operation) refl
-      placed_agrees (Number operation) is e = plain_agrees n (Number operation) refl
-      placed_agrees (Branch test target) is e = plain_agrees n (Branch test target) refl
-      placed_agrees (TableSwitch table) is e = table_agrees table is
-      placed_agrees (LookupSwitch lookup) is e = lookup_agrees lookup is
-      placed_agrees (Return kind) is e = returned_agrees n kind
-      placed_agrees (StaticField access m) is e = subst (Agree n) is (named_agrees (ap goes_by_name is))
-      placed_agrees (FieldOf access m) is e = subst (Agree n) is (named_agrees (ap goes_by_name is))
-      placed_agrees (ArrayOf operation) is e = subst (Agree n) is (typed_agrees (ap goes_by_type is))
-      placed_agrees (ClassOf NewObject name) is e = subst (Agree n) is (named_agrees (ap goes_by_name is))
-      placed_agrees (ClassOf CheckCast name) is e = subst (Agree n) is (typed_agrees (ap goes_by_type is))
-      placed_agrees (ClassOf InstanceOf name) is e = subst (Agree n) is (typed_agrees (ap goes_by_type is))
-      placed_agrees (Invoke invocation m) is e = called_agrees invocation m is e
-      placed_agrees Throw is e = thrown_agrees n
-      placed_agrees (Monitor operation) is e = monitor_stays n operation
+      placed_agrees : (j : Listed) → i.instruction ≡ j → Agree n j
+      placed_agrees Nop is = plain_agrees n Nop refl
+      placed_agrees (Constant Null) is = plain_agrees n (Constant Null) refl
+      placed_agrees (Constant (SmallInt k)) is = plain_agrees n (Constant (SmallInt k)) refl
+      placed_agrees (Constant (SmallLong k)) is = plain_agrees n (Constant (SmallLong k)) refl
+      placed_agrees (Constant (Byte z)) is = plain_agrees n (Constant (Byte z)) refl
+      placed_agrees (Constant (Short z)) is = plain_agrees n (Constant (Short z)) refl
+      placed_agrees (Constant (IntConstant width z)) is = plain_agrees n (Constant (IntConstant width z)) refl
+      placed_agrees (Constant (LongConstant z)) is = long_agrees z is
+      placed_agrees (Local access) is = plain_agrees n (Local access) refl
+      placed_agrees (Stack operation) is = plain_agrees n (Stack operation) refl
+      placed_agrees (Number operation) is = plain_agrees n (Number operation) refl
+      placed_agrees (Branch test target) is = plain_agrees n (Branch test target) refl
+      placed_agrees (TableSwitch table) is = table_agrees table is
+      placed_agrees (LookupSwitch lookup) is = lookup_agrees lookup is
+      placed_agrees (Return kind) is = returned_agrees n kind
+      placed_agrees (StaticField access m) is = subst (Agree n) is (named_agrees (ap goes_by_name is))
+      placed_agrees (FieldOf access m) is = subst (Agree n) is (named_agrees (ap goes_by_name is))
+      placed_agrees (ArrayOf operation) is = subst (Agree n) is (typed_agrees (ap goes_by_type is))
+      placed_agrees (ClassOf NewObject name) is = subst (Agree n) is (named_agrees (ap goes_by_name is))
+      placed_agrees (ClassOf CheckCast name) is = subst (Agree n) is (typed_agrees (ap goes_by_type is))
+      placed_agrees (ClassOf InstanceOf name) is = subst (Agree n) is (typed_agrees (ap goes_by_type is))
+      placed_agrees (Invoke invocation m) is = called_agrees invocation m is
+      placed_agrees Throw is = thrown_agrees n
+      placed_agrees (Monitor operation) is = monitor_stays n operation
 
       -- the class that it uses is initialised first
       site_agrees : after_initialising (site n) (class_used program i.instruction) (by_family (site n) i.instruction) ≡ stepped program w t h f (step_for program above (Some i))
       site_agrees =
-          ap (after_initialising (site n) (class_used program i.instruction)) (placed_agrees i.instruction refl (kept.served f i (rw there at)))
+          ap (after_initialising (site n) (class_used program i.instruction)) (placed_agrees i.instruction refl)
           ∙ code-initialises (site n) kept.accepted kept.sized above (operated (site n) h (operation_of program above i.instruction)) f.method code f.pc i there at
 
     at_agrees : (i : Option Placed) → instruction_of program f ≡ i → at_instruction program w t f i ≡ stepped program w t h f (step_for program above i)

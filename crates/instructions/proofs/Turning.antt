@@ -202,7 +202,7 @@ module _ (a : Inside) (t : ℕ) (sound : Sound a) (g : IsGoing a t) (v : Threads
       let kept_slots = keeps.slots in
       let capacity : vec_capacity m.output ≡ vec_capacity a.machine.output = ap (λ (v : Vec ℕ Global). vec_capacity v) s.output in
       record {
-        served = sound.served;
+        named = sound.named;
         accepted = sound.accepted;
         room = omega (arith, sound.room, capacity, keeps.capacity);
         steps = sound.steps;

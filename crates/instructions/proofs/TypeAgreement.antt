@@ -42,11 +42,12 @@ use Rattle.loader.specs.Operations.{operation_of}
 use Rattle.loader.specs.ResolvedOperations.{array_operation, casts, load_of, makes_array, primitive_letter, store_of, tests_type, type_of}
 use Rattle.resolve.proofs.ListLemmas.{all-found}
 use Rattle.model.specs.Texts.Names.{is_class_name}
+use Rattle.model.specs.WellNamed.{is_well_named, type_is_named, types_are_named, types_are_named_in}
 use Rattle.loader.proofs.RunLemmas.{all_resolve}
 use Rattle.plain_steps.specs.PlainMoves.{plain_move}
 use Rattle.instructions.specs.ByNumbers.{IsNumbered}
 use Rattle.instructions.specs.Heaps.{HeapValue, held, kind_held}
-use Rattle.instructions.specs.NamedTypes.{goes_by_type, has_names, type_is_named, types_are_named_in}
+use Rattle.instructions.specs.NamedThings.{goes_by_type}
 use Rattle.instructions.specs.Shown.{type_name}
 use Rattle.instructions.specs.TypeNumbers.{is_element, is_object_of}
 use Rattle.instructions.specs.TypesByNumbers.{array_made_if, cast_by, element_put_by, length_in, loaded_by, measured_by, operated_by_types, place_of_element, stored_by, takes, tested_by}
@@ -233,7 +234,11 @@ and_then-some : {A B : Type 0} (f : A → Option B) (o : Option A) (y : B) → o
 and_then-some f None y e = cc
 and_then-some f (Some x) y e = (x, refl, e)
 
-module _ (program : List ClassListing) (names : list_all has_names program ≡ true) where
+types-named : (c : ClassListing) → is_well_named c ≡ true → types_are_named c.methods ≡ true
+unfolding is_well_named
+types-named c e = (and_parts (is_class_name c.name) (types_are_named c.methods) e).1
+
+module _ (program : List ClassListing) (names : list_all is_well_named program ≡ true) where
   abbrev are_named : Method → Bool
   are_named m = types_are_named_in m.code
 
@@ -254,15 +259,15 @@ module _ (program : List ClassListing) (names : list_all has_names program ≡ t
   placed-named place code pc i there at =
       let method = and_then-some (λ (m : Method). m.code) (method_at program place) code there in
       let class = and_then-some (λ (c : ClassListing). method_in c place.method) (slice_get program place.class) method.0 method.1 in
-      let named : has_names class.0 ≡ true = all-at has_names program place.class class.0 names class.1 in
+      let named : types_are_named class.0.methods ≡ true = types-named class.0 (all-at is_well_named program place.class class.0 names class.1) in
       let whole : types_are_named_in (Some code) ≡ true =
       ap types_are_named_in (sym method.2)
-      ∙ in_methods class.0 place.method method.0 (and_parts (is_class_name class.0.name) (list_all are_named class.0.methods) named).1 class.2 in
+      ∙ in_methods class.0 place.method method.0 named class.2 in
       all-found (λ (i : Placed). type_is_named i.instruction) (λ (i : Placed). i.pc == pc) code.instructions i whole at
 
 -- at a pc of a method
 pub code-by_types : (s : Site) (h : HeapValue) (slots : List Value) → IsNumbered s h slots → refusal_of s.program ≡ None
-    → list_all has_names s.program ≡ true → (superclass : List ℕ) (place : MethodPlace) (code : CodeListing) (pc : ℕ) (i : Placed)
+    → list_all is_well_named s.program ≡ true → (superclass : List ℕ) (place : MethodPlace) (code : CodeListing) (pc : ℕ) (i : Placed)
     → code_at s.program place ≡ Some code → placed_at code pc ≡ Some i → goes_by_type i.instruction ≡ true
     → AgreesByType s h i.instruction (operation_of s.program superclass i.instruction)
 code-by_types s h slots shown accepted names superclass place code pc i there at goes =

@@ -20,6 +20,7 @@ use Rattle.model.specs.Classes.Subclasses.{is_subclass}
 use Rattle.model.specs.Classes.Types.{Element, described, element_of, is_subtype, is_subtype_within, types_compare}
 use Rattle.model.specs.Classes.Types.Element.{Number, Reference}
 use Rattle.model.specs.Texts.Names.{is_class_name}
+use Rattle.model.specs.WellNamed.{is_well_named, types_are_named}
 use Rattle.model.proofs.SubclassTest.{is_within-Subclass}
 use Rattle.resolve.specs.Hierarchies.{IsHierarchy}
 use Rattle.resolve.specs.Numbers.{all_classes, class_names, name_of}
@@ -29,7 +30,6 @@ use Rattle.loader.specs.declared.operations.TypeNumber.{TypeNumber}
 use Rattle.loader.specs.ClassTables.{class_facts, class_tables, is_below, is_subtype_in}
 use Rattle.loader.proofs.ClassTableLemmas.{name-at, subtype-names}
 use Rattle.instructions.specs.declared.kinds.Kind.TheVariants.{Instance}
-use Rattle.instructions.specs.NamedTypes.{has_names, types_are_named_in}
 use Rattle.instructions.specs.Shown.{class_name, last_element, name_or_none, type_name}
 use Rattle.instructions.specs.TypeNumbers.{is_array_below, is_element, is_element_below, is_kind_of, is_letter, is_number_letter, object_class}
 use Rattle.instructions.proofs.ByNumberLemmas.{number-names, number-of}
@@ -138,12 +138,15 @@ once x (y ∷ ys) more (suc n) name before behind e =
 abbrev pub AreClassNames : List ClassListing → Type 0
 AreClassNames program = list_all (λ (c : ClassListing). is_class_name c.name) program ≡ true
 
-pub named-classes : (program : List ClassListing) → list_all has_names program ≡ true → AreClassNames program
+class-name : (c : ClassListing) → is_well_named c ≡ true → is_class_name c.name ≡ true
+unfolding is_well_named
+class-name c e = (and_parts (is_class_name c.name) (types_are_named c.methods) e).0
+
+pub named-classes : (program : List ClassListing) → list_all is_well_named program ≡ true → AreClassNames program
 named-classes [] e = refl
 named-classes (c ∷ cs) e =
-    let parts = and_parts (has_names c) (list_all has_names cs) e in
-    and_from (is_class_name c.name) (list_all (λ (c : ClassListing). is_class_name c.name) cs)
-    (and_parts (is_class_name c.name) (list_all (λ m. types_are_named_in m.code) c.methods) parts.0).0 (named-classes cs parts.1)
+    let parts = and_parts (is_well_named c) (list_all is_well_named cs) e in
+    and_from (is_class_name c.name) (list_all (λ (c : ClassListing). is_class_name c.name) cs) (class-name c parts.0) (named-classes cs parts.1)
 
 proper-names : (cs : List ClassListing) → AreClassNames cs → list_all is_proper (map name_of cs) ≡ true
 proper-names [] e = refl

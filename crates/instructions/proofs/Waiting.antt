@@ -12,14 +12,12 @@ use Rattle.model.specs.Ready.{is_ready, some_is_ready, some_lives, thread_number
 use Rattle.model.specs.Table.Next.{completion}
 use Rattle.model.specs.Turns.{overflows, passes, print_of}
 use Rattle.model.specs.Worlds.{Thread, World, frames_at, frames_of, is_live}
-use Rattle.model.proofs.Served.{instruction_served}
 use Rattle.instructions.specs.declared.kinds.Course.TheVariants.{Live}
 use Rattle.instructions.specs.declared.state.State.TheInside.{Inside}
 use Rattle.instructions.specs.Loaded.{IsSound, machine_shown, state_shown}
 use Rattle.instructions.specs.Operated.{printed_at, waits_at}
 use Rattle.instructions.specs.Threads.{all_frames, goes_on, lives_in, numbers_between, numbers_up, threads_in}
 use Rattle.instructions.proofs.CyclicLemmas.{cyclic-first, cyclic-second, numbers-of, some-found, some-lives}
-use Rattle.instructions.proofs.ServedNames.{served_names}
 use Rattle.instructions.proofs.Stepping.{IsKept, print_completed, waits_completed}
 use Rattle.instructions.proofs.ThreadLemmas.{are_in, length-threads, live_started, lives_as, lives_live, some_alive, thread_got}
 
@@ -122,8 +120,7 @@ module _ (a : Inside) where
         → IsKept a.program (machine_shown a.program threads a.machine.slots.items a.machine.states.items a.machine.heap a.machine.output.items fault a.rows).world a.machine.heap
     kept threads fault = record {
       accepted = sound.accepted;
-      names = served_names a.program sound.served.code;
-      served = λ f i there. instruction_served a.program f i sound.served.code there;
+      names = sound.named;
       slots = a.machine.slots.items;
       objects_are = refl;
       stored = sound.stored;

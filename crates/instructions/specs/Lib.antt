@@ -14,7 +14,7 @@ pub mod Leaving
 pub mod Loaded
 pub mod MethodsByNumber
 pub mod MonitorsByNumbers
-pub mod NamedTypes
+pub mod NamedThings
 pub mod Operated
 pub mod OwnCalls
 pub mod ReturnsByNumbers

@@ -1,4 +1,5 @@
-use Rattle.std.specs.Prelude.{◌≡◌, ◌<◌, ◌≤◌, ◌+◌, ◌^◌, ℕ, List, length, vec_capacity, Option, None}
+use Rattle.std.specs.Prelude.{◌≡◌, ◌<◌, ◌≤◌, ◌+◌, ◌^◌, ℕ, List, length, vec_capacity, Option, None, true}
+use Rattle.std.specs.List.{list_all}
 use Rattle.model.specs.declared.journals.HeapShape.{HeapShape}
 use Rattle.model.specs.declared.journals.Limits.{Limits}
 use Rattle.model.specs.declared.turns.ClassState.{ClassState}
@@ -6,8 +7,8 @@ use Rattle.model.specs.declared.turns.Fault.{Fault}
 use Rattle.model.specs.declared.values.Value.{Value}
 use Rattle.model.specs.ClassListings.{ClassListing}
 use Rattle.model.specs.Accepted.Refusals.{refusal_of}
-use Rattle.model.specs.Served.{ServedProgram}
 use Rattle.model.specs.Table.Next.{completion}
+use Rattle.model.specs.WellNamed.{is_well_named}
 use Rattle.model.specs.Worlds.{Thread, World, opening_slots}
 use Rattle.cells.specs.Objects.{StoredObject}
 use Rattle.join.specs.TurnsOnCells.{CellMachine, collected_on, counted_on, opening_on, turned_on}
@@ -61,10 +62,10 @@ abbrev pub state_shown : List ClassListing → Machine → ThreadsValue → Opti
 state_shown program m threads fault rows =
     machine_shown program (all_shown program threads m.thread m.frames) m.slots.items m.states.items m.heap m.output.items fault rows
 
--- what holds of the parts: the machine carries out all code of the program, each class has a state, objects have all words
+-- what holds of the parts: names of the program are names, no rule refuses it, each class has a state, objects have all words
 -- of their classes, the machine runs a thread that was started, and a turn makes one birth at most
 pub record IsSound (program : List ClassListing) (limits : Limits) (m : Machine) (threads : ThreadsValue) (rows : ℕ) : Type 0 where
-  pub served : ServedProgram program
+  pub named : list_all is_well_named program ≡ true
   pub accepted : refusal_of program ≡ None
   pub room : limits.output ≤ vec_capacity m.output
   pub steps : limits.steps ≤ 16777215

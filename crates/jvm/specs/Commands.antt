@@ -1,15 +1,21 @@
 use Rattle.std.specs.Prelude.{◌<◌, ◌≤◌, length}
 use Rattle.jvm.specs.declared.options.Command.{Command}
-use Rattle.jvm.specs.declared.options.Command.TheVariants.{Run, Assemble, Disassemble}
+use Rattle.jvm.specs.declared.options.Command.TheVariants.{Run, Assemble, Disassemble, Replay, Upgrade, Explain}
 
 -- a command has the file names that it needs
 abbrev pub HasFiles : Command → Type 0
 HasFiles (Run options) = 0 < length options.files.items
 HasFiles (Assemble options) = Unit {0}
 HasFiles (Disassemble file) = Unit {0}
+HasFiles (Replay options) = 0 < length options.files.items
+HasFiles (Upgrade options) = Unit {0}
+HasFiles (Explain code) = Unit {0}
 
 -- the numbers that no world tests lie in their ranges: how many turns the collector makes after one of a thread
 abbrev pub InRange : Command → Type 0
 InRange (Run options) = options.gc ≤ 1000
 InRange (Assemble options) = Unit {0}
 InRange (Disassemble file) = Unit {0}
+InRange (Replay options) = Unit {0}
+InRange (Upgrade options) = Unit {0}
+InRange (Explain code) = Unit {0}

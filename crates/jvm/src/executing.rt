@@ -1,9 +1,11 @@
 //! What the program does at a command.
 
+use crate::explaining::{all_codes, meaning};
 use crate::files::{Files, ReadError};
 use crate::launching::{LaunchError, launch};
 use crate::options::{AssembleOptions, Command, RunOptions};
 use crate::sources::{SourceError, assembled};
+use crate::stored_runs::{replay, upgrade, write_stored};
 use assembler::AsmError;
 use classfile::ClassError;
 use jasmin::Fault as TextFault;
@@ -24,7 +26,7 @@ pub struct Ending {
 
 impl Ending {
     /// A good end.
-    fn good() -> Ending {
+    pub fn good() -> Ending {
         Ending {
             status: 0,
             line: None,
@@ -32,7 +34,7 @@ impl Ending {
     }
 
     /// This status and this line; `jvm: memory` where there is no memory for the line.
-    fn told(status: u8, line: Result<String, AllocError>) -> Ending {
+    pub fn told(status: u8, line: Result<String, AllocError>) -> Ending {
         match line {
             Ok(line) => Ending {
                 status,
@@ -43,7 +45,7 @@ impl Ending {
     }
 
     /// Memory ran out: status 6.
-    fn memory() -> Ending {
+    pub fn memory() -> Ending {
         Ending {
             status: 6,
             line: None,
@@ -61,7 +63,7 @@ fn shape_of(options: &RunOptions) -> HeapShape {
 }
 
 /// A file's bytes.
-fn read_one<F: Files>(alloc: Global, files: &mut F, name: &String) -> Result<Vec<u8>, Ending> {
+pub fn read_one<F: Files>(alloc: Global, files: &mut F, name: &String) -> Result<Vec<u8>, Ending> {
     match files.read(alloc, name.as_str()) {
         Ok(bytes) => Ok(bytes),
         Err(ReadError::Memory) => Err(Ending::memory()),
@@ -70,7 +72,7 @@ fn read_one<F: Files>(alloc: Global, files: &mut F, name: &String) -> Result<Vec
 }
 
 /// The files' bytes, in order.
-fn read_all<F: Files>(
+pub fn read_all<F: Files>(
     alloc: Global,
     files: &mut F,
     names: &[String],
@@ -83,6 +85,19 @@ fn read_all<F: Files>(
         }
     }
     Ok(sources)
+}
+
+/// Writes a file with these bytes.
+pub fn write_one<F: Files>(
+    alloc: Global,
+    files: &mut F,
+    name: &String,
+    bytes: &[u8],
+) -> Result<(), Ending> {
+    match files.write(name.as_str(), bytes) {
+        Ok(()) => Ok(()),
+        Err(_) => Err(Ending::told(6, format!(in alloc; "cannot write {name}"))),
+    }
 }
 
 /// The end of a command whose source of this name was refused.
@@ -101,7 +116,7 @@ fn source_refused(alloc: Global, name: &String, error: &SourceError) -> Ending {
 }
 
 /// The end of a command that has no world.
-fn refused(alloc: Global, names: &[String], error: &LaunchError) -> Ending {
+pub fn refused(alloc: Global, names: &[String], error: &LaunchError) -> Ending {
     match error {
         LaunchError::Source { place, error } => match names.get(*place) {
             Some(name) => source_refused(alloc, name, error),
@@ -172,7 +187,7 @@ fn finished(alloc: Global, world: &World) -> Ending {
 }
 
 /// How a world that was run ends the command.
-fn ended(alloc: Global, world: &World) -> Ending {
+pub fn ended(alloc: Global, world: &World) -> Ending {
     match (world.fault(), world.status()) {
         (Some((fault, thread)), _) => {
             Ending::told(3, format!(in alloc; "fault {fault} in thread {thread}"))
@@ -206,23 +221,34 @@ fn launched<F: Files>(alloc: Global, options: &RunOptions, files: &mut F) -> Res
     }
 }
 
-/// Runs a program and writes its output.
+/// Writes these bytes to standard output.
+fn write_text<W: Write>(alloc: Global, bytes: &[u8], output: &mut W) -> Result<Ending, Ending> {
+    match output.write_all(bytes) {
+        Ok(()) => Ok(Ending::good()),
+        Err(_) => Err(Ending::told(6, format!(in alloc; "cannot write -"))),
+    }
+}
+
+/// Writes what a world printed.
+pub fn write_output<W: Write>(alloc: Global, world: &World, output: &mut W) -> Result<(), Ending> {
+    write_text(alloc, world.output(), output)?;
+    Ok(())
+}
+
+/// Runs a program, and writes its output and then its journal, where one is wanted.
 fn run<F: Files, W: Write>(
     alloc: Global,
     options: &RunOptions,
     files: &mut F,
     output: &mut W,
-) -> Ending {
-    match launched(alloc, options, files) {
-        Ok(mut world) => {
-            carry_on(&mut world, options.gc);
-            match output.write_all(world.output()) {
-                Ok(()) => ended(alloc, &world),
-                Err(_) => Ending::told(6, format!(in alloc; "cannot write -")),
-            }
-        }
-        Err(ending) => ending,
+) -> Result<Ending, Ending> {
+    let mut world = launched(alloc, options, files)?;
+    carry_on(&mut world, options.gc);
+    write_output(alloc, &world, output)?;
+    if let Some(name) = &options.journal {
+        write_stored(alloc, files, name, world.journal())?;
     }
+    Ok(ended(alloc, &world))
 }
 
 /// The class file of a text, as bytes.
@@ -245,11 +271,8 @@ fn assemble<F: Files>(
 ) -> Result<Ending, Ending> {
     let text = read_one(alloc, files, &options.file)?;
     let bytes = class_bytes(alloc, &options.file, text.as_slice())?;
-    let out = &options.out;
-    match files.write(out.as_str(), bytes.as_slice()) {
-        Ok(()) => Ok(Ending::good()),
-        Err(_) => Err(Ending::told(6, format!(in alloc; "cannot write {out}"))),
-    }
+    write_one(alloc, files, &options.out, bytes.as_slice())?;
+    Ok(Ending::good())
 }
 
 /// The text of a class file.
@@ -273,9 +296,24 @@ fn disassemble<F: Files, W: Write>(
 ) -> Result<Ending, Ending> {
     let bytes = read_one(alloc, files, name)?;
     let text = class_text(alloc, name, bytes.as_slice())?;
-    match output.write_all(text.as_slice()) {
-        Ok(()) => Ok(Ending::good()),
-        Err(_) => Err(Ending::told(6, format!(in alloc; "cannot write -"))),
+    write_text(alloc, text.as_slice(), output)
+}
+
+/// Writes what a code means, or a line for each code.
+fn explain<W: Write>(
+    alloc: Global,
+    code: &Option<String>,
+    output: &mut W,
+) -> Result<Ending, Ending> {
+    match code {
+        Some(code) => match meaning(code.as_str()) {
+            Some(text) => write_text(alloc, text.as_bytes(), output),
+            None => Err(Ending::told(7, format!(in alloc; "no code {code}"))),
+        },
+        None => match all_codes(alloc) {
+            Ok(lines) => write_text(alloc, lines.as_str().as_bytes(), output),
+            Err(_) => Err(Ending::memory()),
+        },
     }
 }
 
@@ -309,9 +347,12 @@ pub fn execute<F: Files, R: Read, W: Write, E: Write>(
     errors: &mut E,
 ) -> u8 {
     let ending = match command {
-        Command::Run(options) => run(alloc, options, files, output),
+        Command::Run(options) => either(run(alloc, options, files, output)),
         Command::Assemble(options) => either(assemble(alloc, options, files)),
         Command::Disassemble(name) => either(disassemble(alloc, name, files, output)),
+        Command::Replay(options) => either(replay(alloc, options, files, output)),
+        Command::Upgrade(options) => either(upgrade(alloc, options, files)),
+        Command::Explain(code) => either(explain(alloc, code, output)),
     };
     tell(errors, &ending);
     ending.status

@@ -1,5 +1,6 @@
 //! From the bytes of sources to a world.
-ghost use Rattle.std.specs.Prelude.{IfOk, IfErr, MatchResult};
+ghost use Rattle.std.specs.Prelude.{◌≡◌, IfOk, IfErr, MatchResult, None};
+ghost use Rattle.model.specs.Accepted.Refusals.{refusal_of};
 ghost use Rattle.model.specs.declared.journals.HeapShape.{HeapShape};
 ghost use Rattle.model.specs.declared.journals.Limits.{Limits};
 ghost use Rattle.jvm.specs.Launching.{AreListings, Excuses, IsLaunched, bytes_of};
@@ -45,6 +46,28 @@ fn read_sources(alloc: Global, sources: &[Vec<u8>]) -> Result<Vec<Listing>, Laun
     Ok(listings)
 }
 
+/// The program of some sources: class files, which begin with cafebabe, and texts. The first refusal that is met is told: of
+/// the first source that has no listing, by its place; the first rule that the listings break. Want of memory may come in
+/// place of any.
+pub fn program_of(alloc: Global, sources: &[Vec<u8>]) -> Result<Program, LaunchError>
+    ensures listings { IfOk result (λ program. AreListings (bytes_of sources.now) program) }
+    ensures accepted { IfOk result (λ program. refusal_of program ≡ None) }
+    ensures refused { IfErr result (λ e. (shape : HeapShape) (limits : Limits) → Excuses (bytes_of sources.now) shape limits e) }
+{
+    let listings = match read_sources(alloc, sources) {
+        Ok(listings) => listings,
+        Err(error) => return Err(error),
+    };
+    match accept(alloc, listings.as_slice()) {
+        Ok(()) => {}
+        Err(error) => return Err(LaunchError::Load(error)),
+    }
+    match Program::new(alloc, listings) {
+        Ok(program) => Ok(program),
+        Err(_) => Err(LaunchError::World(WorldError::Memory)),
+    }
+}
+
 /// Reads class files and texts, makes a world of their classes, and lets the actors take their turns in it, one each. A
 /// source that begins with cafebabe is a class file, every other one a text.
 ///
@@ -61,17 +84,9 @@ pub fn launch(
     ensures launched { IfOk result (IsLaunched (bytes_of sources.items) shape limits actors.now) }
     ensures refused { IfErr result (Excuses (bytes_of sources.items) shape limits) }
 {
-    let listings = match read_sources(alloc, sources.as_slice()) {
-        Ok(listings) => listings,
-        Err(error) => return Err(error),
-    };
-    match accept(alloc, listings.as_slice()) {
-        Ok(()) => {}
-        Err(error) => return Err(LaunchError::Load(error)),
-    }
-    let program = match Program::new(alloc, listings) {
+    let program = match program_of(alloc, sources.as_slice()) {
         Ok(program) => program,
-        Err(_) => return Err(LaunchError::World(WorldError::Memory)),
+        Err(error) => return Err(error),
     };
     match World::new(alloc, program, shape, limits) {
         Ok(mut world) => {

@@ -2,6 +2,9 @@
 #![tactic(auto)]
 
 mod executing;
+mod explaining;
+#[cfg(test)]
+mod explaining_tests;
 #[cfg(test)]
 mod family_tests;
 mod files;
@@ -9,7 +12,13 @@ mod files;
 mod heap_tests;
 mod launching;
 mod options;
+mod replaying;
+#[cfg(test)]
+mod run_tests;
 mod sources;
+#[cfg(test)]
+mod stored_run_tests;
+mod stored_runs;
 #[cfg(test)]
 mod tests;
 

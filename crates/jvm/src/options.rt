@@ -16,6 +16,12 @@ pub enum Command {
     Assemble(AssembleOptions),
     /// Writes the text of this class file.
     Disassemble(String),
+    /// Makes a run again from its journal.
+    Replay(ReplayOptions),
+    /// Writes a journal of either version in version 2.
+    Upgrade(UpgradeOptions),
+    /// Says what a code or a status means, or lists all of them.
+    Explain(Option<String>),
 }
 
 /// What `jvm asm` reads and writes.
@@ -37,7 +43,25 @@ pub struct RunOptions {
     pub output: u32,
     /// how many turns the collector makes after each turn of a thread
     pub gc: u32,
+    /// where the journal is written, if anywhere
+    pub journal: Option<String>,
     pub files: Vec<String>,
+}
+
+/// What `jvm replay` reads.
+#[derive(Drop)]
+pub struct ReplayOptions {
+    pub journal: String,
+    pub files: Vec<String>,
+}
+
+/// What `jvm upgrade` reads and writes.
+#[derive(Drop)]
+pub struct UpgradeOptions {
+    /// a journal of either version
+    pub journal: String,
+    /// the journal in version 2
+    pub out: String,
 }
 
 /// Why a command line stands for no command.
@@ -88,12 +112,20 @@ fn file<'a>(alloc: Global, name: &'a str, help: &'a str) -> Arg<'a> {
     Arg::new(alloc, name).required(true).help(help)
 }
 
-/// The words of `jvm run`.
-fn run_line<'a>(alloc: Global) -> Result<Line<'a>, AllocError> {
-    let files = Arg::new(alloc, "FILE")
+/// The files of a program.
+fn sources<'a>(alloc: Global) -> Arg<'a> {
+    Arg::new(alloc, "FILE")
         .action(ArgAction::Append)
         .num_args(1..)
-        .help("Jasmin texts and class files, one class each; the first has main");
+        .help("Jasmin texts and class files, one class each; the first has main")
+}
+
+/// The words of `jvm run`.
+fn run_line<'a>(alloc: Global) -> Result<Line<'a>, AllocError> {
+    let journal = Arg::new(alloc, "journal")
+        .long("journal")
+        .value_name("PATH")
+        .help("writes the journal of the run, which `jvm replay` takes");
     Line::new(alloc, "run")
         .about("Runs the main of the first file's class")
         .arg(number(alloc, "small", "64", "cells of 4 words")?)?
@@ -113,7 +145,34 @@ fn run_line<'a>(alloc: Global) -> Result<Line<'a>, AllocError> {
             "1",
             "threads that carry turns (1 so far)",
         )?)?
-        .arg(files)
+        .arg(journal)?
+        .arg(sources(alloc))
+}
+
+/// The words of `jvm replay`.
+fn replay_line<'a>(alloc: Global) -> Result<Line<'a>, AllocError> {
+    Line::new(alloc, "replay")
+        .about("Makes a run again from its journal, turn by turn")
+        .arg(file(alloc, "JOURNAL", "the journal, of either version"))?
+        .arg(sources(alloc))
+}
+
+/// The words of `jvm upgrade`.
+fn upgrade_line<'a>(alloc: Global) -> Result<Line<'a>, AllocError> {
+    Line::new(alloc, "upgrade")
+        .about("Writes a journal of either version in version 2")
+        .arg(file(alloc, "IN", "the journal"))?
+        .arg(file(alloc, "OUT", "the journal to write"))
+}
+
+/// The words of `jvm explain`.
+fn explain_line<'a>(alloc: Global) -> Result<Line<'a>, AllocError> {
+    let code = Arg::new(alloc, "CODE").help(
+        "a code, as J5, or an exit status; all where there is none",
+    );
+    Line::new(alloc, "explain")
+        .about("Says what a code or an exit status means")
+        .arg(code)
 }
 
 /// The words that clap reads: the commands and what stands behind them.
@@ -130,6 +189,9 @@ fn line<'a>(alloc: Global) -> Result<Line<'a>, AllocError> {
         .version("0.1.0")
         .subcommand_required(true)
         .subcommand(run_line(alloc)?)?
+        .subcommand(replay_line(alloc)?)?
+        .subcommand(upgrade_line(alloc)?)?
+        .subcommand(explain_line(alloc)?)?
         .subcommand(asm)?
         .subcommand(dis)
 }
@@ -156,6 +218,14 @@ fn files(alloc: Global, matches: &ArgMatches<'_>) -> Result<Vec<String>, LineErr
     Ok(files)
 }
 
+/// The word under a name of the line, copied, if there is one.
+fn path(alloc: Global, matches: &ArgMatches<'_>, name: &str) -> Result<Option<String>, AllocError> {
+    match matches.get_str(name) {
+        Some(path) => Ok(Some(String::from_str(alloc, path)?)),
+        None => Ok(None),
+    }
+}
+
 /// The number of an option; 0 where it has none, which its default rules out.
 fn number_of(matches: &ArgMatches<'_>, name: &str) -> u32 {
     matches.get_one::<u32>(name).unwrap_or(0)
@@ -177,6 +247,7 @@ fn run_options(alloc: Global, matches: &ArgMatches<'_>) -> Result<RunOptions, Li
         steps: number_of(matches, "steps"),
         output: number_of(matches, "output"),
         gc,
+        journal: path(alloc, matches, "journal")?,
         files: files(alloc, matches)?,
     })
 }
@@ -206,6 +277,15 @@ pub fn options(alloc: Global, words: &[&str]) -> Result<Command, LineError>
                 out: one_file(alloc, asm, "OUT")?,
             })),
             Some(("dis", dis)) => Ok(Command::Disassemble(one_file(alloc, dis, "FILE")?)),
+            Some(("replay", replay)) => Ok(Command::Replay(ReplayOptions {
+                journal: one_file(alloc, replay, "JOURNAL")?,
+                files: files(alloc, replay)?,
+            })),
+            Some(("upgrade", upgrade)) => Ok(Command::Upgrade(UpgradeOptions {
+                journal: one_file(alloc, upgrade, "IN")?,
+                out: one_file(alloc, upgrade, "OUT")?,
+            })),
+            Some(("explain", explain)) => Ok(Command::Explain(path(alloc, explain, "CODE")?)),
             Some((_, run)) => Ok(Command::Run(run_options(alloc, run)?)),
             None => Err(LineError::Options),
         },

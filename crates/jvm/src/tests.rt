@@ -731,7 +731,7 @@ fn command_lines_are_taken_or_refused(rt: HostRuntime) -> Result<(), Fail> {
     );
     assert_eq!(rt;
         line_status(alloc, ["run", "--journal", "p", "a.j"].as_slice())?,
-        8
+        1
     );
     assert_eq!(rt;
         line_status(alloc, ["run", "--small", "many", "a.j"].as_slice())?,

@@ -1,10 +1,11 @@
 -- Keys of items: what was noted of each tells whether several items have it.
-use Rattle.std.proofs.Common.{◌≡◌, ℕ, zero, suc, ◌+◌, ◌<◌, nat_lt, length, take, get_or, List, Bool, true, false, cond, Option, Some, None, is_some, ◌&&◌, Bor, refl, arith, sym, ap, ◌∙◌}
+use Rattle.std.proofs.Common.{◌≡◌, ℕ, zero, suc, ◌+◌, ◌<◌, nat_lt, length, take, get_or, List, Bool, true, false, cond, Option, Some, None, is_some, ◌&&◌, refl, arith, sym, ap, ◌∙◌}
 use Rattle.std.specs.List.{count_by}
 use Rattle.std.specs.Str.{bytes_eq}
 use Rattle.std.proofs.lemmas.Bool.{lt-ltb}
 use Rattle.std.proofs.lemmas.Slice.Eq.{bytes_eq-Decides}
 use Rattle.std.proofs.lemmas.List.Sums.{count_by_more_no, count_by_more_yes}
+use Rattle.resolve.specs.declared.keys.NameKey.{NameKey}
 use Rattle.loader.specs.declared.repeats.Repeats.{Repeats}
 use Rattle.loader.specs.Repeats.{again, with_one_more, is_again, name_again, signature_again}
 
@@ -62,25 +63,25 @@ module _ {K A : Type 0} (eq : K → K → Bool) (is : K → A → Bool) where
 -- ---- items with a name
 
 module _ {A : Type 0} (name : A → List ℕ) where
-  abbrev has_name : Bor (List ℕ) → A → Bool
-  has_name key a = bytes_eq (name a) key.now
+  abbrev has_name : NameKey → A → Bool
+  has_name key a = bytes_eq (name a) key.bytes.now
 
-  abbrev pub NotesNames : Repeats (Bor (List ℕ)) → List A → Type 0
-  NotesNames = Notes (λ x y. bytes_eq x.now y.now) has_name
+  abbrev pub NotesNames : Repeats NameKey → List A → Type 0
+  NotesNames = Notes (λ x y. bytes_eq x.bytes.now y.bytes.now) has_name
 
-  pub names-more : (before after : Repeats (Bor (List ℕ))) (xs : List A) (i : ℕ) (x : A) (key : Bor (List ℕ)) → NotesNames before (take i xs)
-      → i < length xs → x ≡ get_or xs i x → key.now ≡ name x
-      → ((k : Bor (List ℕ)) → again (λ x y. bytes_eq x.now y.now) after k ≡ with_one_more (λ x y. bytes_eq x.now y.now) key (again (λ x y. bytes_eq x.now y.now) before) k)
+  pub names-more : (before after : Repeats NameKey) (xs : List A) (i : ℕ) (x : A) (key : NameKey) → NotesNames before (take i xs)
+      → i < length xs → x ≡ get_or xs i x → key.bytes.now ≡ name x
+      → ((k : NameKey) → again (λ x y. bytes_eq x.bytes.now y.bytes.now) after k ≡ with_one_more (λ x y. bytes_eq x.bytes.now y.bytes.now) key (again (λ x y. bytes_eq x.bytes.now y.bytes.now) before) k)
       → NotesNames after (take (i + 1) xs)
   names-more before after xs i x key notes within at named noted =
-      notes-more (λ x y. bytes_eq x.now y.now) has_name before after xs i x key notes within at
-      (λ k. ap (λ n. bytes_eq n k.now) named)
-      (λ k h a. ap (bytes_eq (name a)) (named ∙ (bytes_eq-Decides (name x) k.now).0 h)) noted
+      notes-more (λ x y. bytes_eq x.bytes.now y.bytes.now) has_name before after xs i x key notes within at
+      (λ k. ap (λ n. bytes_eq n k.bytes.now) named)
+      (λ k h a. ap (bytes_eq (name a)) (named ∙ (bytes_eq-Decides (name x) k.bytes.now).0 h)) noted
 
-  pub names-all : (repeats : Repeats (Bor (List ℕ))) (xs : List A) (n : List ℕ) → NotesNames repeats xs
+  pub names-all : (repeats : Repeats NameKey) (xs : List A) (n : List ℕ) → NotesNames repeats xs
       → name_again repeats n ≡ nat_lt 1 (count_by (λ a. bytes_eq (name a) n) xs)
   names-all repeats xs n notes =
-      ap is_again (notes (record { ref_ptr = (0, 0); now = n })) ∙ times-twice (count_by (λ a. bytes_eq (name a) n) xs)
+      ap is_again (notes (record { bytes = record { ref_ptr = (0, 0); now = n } })) ∙ times-twice (count_by (λ a. bytes_eq (name a) n) xs)
 
 -- ---- items with a name and a descriptor
 
@@ -93,37 +94,37 @@ and-right true b h = h
 and-right false b h = cc
 
 abbrev Signature : Type 0
-Signature = Bor (List ℕ) × Bor (List ℕ)
+Signature = NameKey × NameKey
 
 abbrev same_signature : Signature → Signature → Bool
-same_signature x y = bytes_eq x.0.now y.0.now && bytes_eq x.1.now y.1.now
+same_signature x y = bytes_eq x.0.bytes.now y.0.bytes.now && bytes_eq x.1.bytes.now y.1.bytes.now
 
 module _ {A : Type 0} (name descriptor : A → List ℕ) where
   abbrev has_signature : Signature → A → Bool
-  has_signature key a = bytes_eq (name a) key.0.now && bytes_eq (descriptor a) key.1.now
+  has_signature key a = bytes_eq (name a) key.0.bytes.now && bytes_eq (descriptor a) key.1.bytes.now
 
   abbrev pub NotesSignatures : Repeats Signature → List A → Type 0
   NotesSignatures = Notes same_signature has_signature
 
   pub signatures-more : (before after : Repeats Signature) (xs : List A) (i : ℕ) (x : A) (key : Signature) → NotesSignatures before (take i xs)
-      → i < length xs → x ≡ get_or xs i x → key.0.now ≡ name x → key.1.now ≡ descriptor x
+      → i < length xs → x ≡ get_or xs i x → key.0.bytes.now ≡ name x → key.1.bytes.now ≡ descriptor x
       → ((k : Signature) → again same_signature after k ≡ with_one_more same_signature key (again same_signature before) k)
       → NotesSignatures after (take (i + 1) xs)
   signatures-more before after xs i x key notes within at named described noted =
       notes-more same_signature has_signature before after xs i x key notes within at
-      (λ k j. bytes_eq (named j) k.0.now && bytes_eq (described j) k.1.now)
+      (λ k j. bytes_eq (named j) k.0.bytes.now && bytes_eq (described j) k.1.bytes.now)
       (λ k h a j. bytes_eq (name a) (same_name k h j) && bytes_eq (descriptor a) (same_descriptor k h j)) noted
     where
-      same_name : (k : Signature) → has_signature k x ≡ true → key.0.now ≡ k.0.now
+      same_name : (k : Signature) → has_signature k x ≡ true → key.0.bytes.now ≡ k.0.bytes.now
       same_name k h =
-          named ∙ (bytes_eq-Decides (name x) k.0.now).0 (and-left (bytes_eq (name x) k.0.now) (bytes_eq (descriptor x) k.1.now) h)
+          named ∙ (bytes_eq-Decides (name x) k.0.bytes.now).0 (and-left (bytes_eq (name x) k.0.bytes.now) (bytes_eq (descriptor x) k.1.bytes.now) h)
 
-      same_descriptor : (k : Signature) → has_signature k x ≡ true → key.1.now ≡ k.1.now
+      same_descriptor : (k : Signature) → has_signature k x ≡ true → key.1.bytes.now ≡ k.1.bytes.now
       same_descriptor k h =
-          described ∙ (bytes_eq-Decides (descriptor x) k.1.now).0 (and-right (bytes_eq (name x) k.0.now) (bytes_eq (descriptor x) k.1.now) h)
+          described ∙ (bytes_eq-Decides (descriptor x) k.1.bytes.now).0 (and-right (bytes_eq (name x) k.0.bytes.now) (bytes_eq (descriptor x) k.1.bytes.now) h)
 
   pub signatures-all : (repeats : Repeats Signature) (xs : List A) (n d : List ℕ) → NotesSignatures repeats xs
       → signature_again repeats n d ≡ nat_lt 1 (count_by (λ a. bytes_eq (name a) n && bytes_eq (descriptor a) d) xs)
   signatures-all repeats xs n d notes =
-      ap is_again (notes (record { ref_ptr = (0, 0); now = n }, record { ref_ptr = (0, 0); now = d }))
+      ap is_again (notes (record { bytes = record { ref_ptr = (0, 0); now = n } }, record { bytes = record { ref_ptr = (0, 0); now = d } }))
       ∙ times-twice (count_by (λ a. bytes_eq (name a) n && bytes_eq (descriptor a) d) xs)

@@ -1,5 +1,5 @@
 -- Rows that tell what is selected make the selection table of a class.
-use Rattle.std.proofs.Common.{◌≡◌, ℕ, zero, suc, ◌<◌, List, [], ◌∷◌, length, get_or, map, slice_get, Bool, true, false, cond, ◌&&◌, Option, Some, None, unwrap_or, Less, Ordering, refl, sym, ap, subst, ◌∙◌, arith}
+use Rattle.std.proofs.Common.{◌≡◌, ℕ, zero, suc, ◌<◌, List, [], ◌∷◌, length, get_or, map, slice_get, Bool, Bor, true, false, cond, ◌&&◌, Option, Some, None, unwrap_or, Less, Ordering, refl, sym, ap, subst, ◌∙◌, arith}
 use Rattle.std.proofs.lemmas.Cmp.{eq_by_cmp_equiv, nat_list_cmp_total, on_total, then_total}
 use Rattle.std.proofs.lemmas.List.Elements.{All-contains, All-contains_itself, All-map, recursion_from_All}
 use Rattle.std.proofs.lemmas.Map.Entries.{place_from_lookup}
@@ -21,7 +21,6 @@ use Rattle.model.specs.Classes.SelectionTable.{SelectionRow, compared, IsSelecte
 use Rattle.loader.specs.declared.selection_rows.SelectionRow.{SelectionRow as RowOfNumbers}
 use Rattle.loader.specs.Selections.{pair_cmp, declared_at, IsClassTable, IsPlaced, no_method, row_named, row_of, row_with}
 use Rattle.loader.proofs.SelectionLemmas.{both, selected-signature, Tells}
-use Rattle.loader.proofs.SelectorLemmas.{Key}
 
 -- ---- what is told of one row
 
@@ -55,6 +54,10 @@ found-row program None s x e is = absurd (none (e ∙ ap (option_map Some) is))
 found-row program (Some r) s x e is = (r, refl, ap (λ (o : Option (Option (Declared Method))). unwrap_or o None) (e ∙ ap (option_map Some) is))
 
 -- ---- the table of the entries of a map
+
+-- a name and a descriptor, as the map of a class's rows has them
+abbrev Key : Type 0
+Key = Bor (List ℕ) × Bor (List ℕ)
 
 abbrev Entry : Type 0
 Entry = Key × RowOfNumbers

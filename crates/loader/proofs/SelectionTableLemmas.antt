@@ -110,14 +110,14 @@ module _ (program : List ClassListing) (class : List ℕ) where
   told s = option_map Some (selected program class s.0 s.1)
 
   by-keys : (known : Known) → Tells program class known → (keys : List Key)
-      → map (option_map (declared_at program)) (map (λ (k : Key). known k.0.now k.1.now) keys) ≡ map told (map signature keys)
+      → map (option_map (declared_at program)) (map (λ (k : Key). known k.0.bytes.now k.1.bytes.now) keys) ≡ map told (map signature keys)
   by-keys known tells [] = refl
   by-keys known tells (k ∷ ks) =
-      ap (λ (o : Option (Option (Declared Method))). o ∷ map (option_map (declared_at program)) (map (λ (k : Key). known k.0.now k.1.now) ks)) (tells k.0.now k.1.now)
+      ap (λ (o : Option (Option (Declared Method))). o ∷ map (option_map (declared_at program)) (map (λ (k : Key). known k.0.bytes.now k.1.bytes.now) ks)) (tells k.0.bytes.now k.1.bytes.now)
       ∙ ap (λ (rest : List (Option (Option (Declared Method)))). told (signature k) ∷ rest) (by-keys known tells ks)
 
   pub by-selector : (known : Known) (keys : List Key) (rows : List (Option RowOfNumbers)) (signatures : List Signature) → Tells program class known
-      → rows ≡ map (λ (k : Key). known k.0.now k.1.now) keys → map signature keys ≡ signatures → AreBySelector program class rows signatures
+      → rows ≡ map (λ (k : Key). known k.0.bytes.now k.1.bytes.now) keys → map signature keys ≡ signatures → AreBySelector program class rows signatures
   by-selector known keys rows signatures tells are is =
       ap (map (option_map (declared_at program))) are ∙ by-keys known tells keys ∙ ap (map told) is
 

@@ -1,15 +1,16 @@
 -- Names with descriptors as keys of a set, and as what they are.
-use Rattle.std.proofs.Common.{◌≡◌, ℕ, ◌+◌, List, [], ◌∷◌, ◌++◌, map, length, nat_lt, position, Bool, true, false, cond, not, ◌||◌, if◌then◌else◌, Some, None, Bor, refl, ap, sym, ◌∙◌}
+use Rattle.std.proofs.Common.{◌≡◌, ℕ, ◌+◌, List, [], ◌∷◌, ◌++◌, map, length, nat_lt, position, Bool, true, false, cond, not, ◌||◌, if◌then◌else◌, Some, None, refl, ap, sym, ◌∙◌}
 use Rattle.std.proofs.lemmas.List.{length-map, map-append}
 use Rattle.std.specs.List.{list_any, position_or_len, prefix_len}
 use Rattle.model.specs.Signatures.{argument_kinds}
+use Rattle.resolve.specs.declared.keys.NameKey.{NameKey}
 use Rattle.loader.specs.Selectors.{Signature, is_signature, with_signature}
 
 abbrev pub Key : Type 0
-Key = Bor (List ℕ) × Bor (List ℕ)
+Key = NameKey × NameKey
 
 abbrev pub signature : Key → Signature
-signature k = (k.0.now, k.1.now)
+signature k = (k.0.bytes.now, k.1.bytes.now)
 
 any-map : (test : Signature → Bool) (ks : List Key) → list_any (λ k. test (signature k)) ks ≡ list_any test (map signature ks)
 any-map test [] = refl
@@ -37,6 +38,6 @@ place-map test ks =
 
 -- the kinds of the arguments of each
 pub kinds-map : (ks : List Key)
-    → map (λ (k : Key). argument_kinds k.1.now) ks ≡ map (λ (s : Signature). argument_kinds s.1) (map signature ks)
+    → map (λ (k : Key). argument_kinds k.1.bytes.now) ks ≡ map (λ (s : Signature). argument_kinds s.1) (map signature ks)
 kinds-map [] = refl
-kinds-map (k ∷ ks) = ap (λ kinds. argument_kinds k.1.now ∷ kinds) (kinds-map ks)
+kinds-map (k ∷ ks) = ap (λ kinds. argument_kinds k.1.bytes.now ∷ kinds) (kinds-map ks)

@@ -1,10 +1,10 @@
 use Rattle.std.specs.Prelude.{◌≡◌, ℕ, List, map, slice_get, Bool, ◌&&◌, false, Option, Some, None}
-use Rattle.std.specs.Borrow.{Bor}
 use Rattle.std.specs.List.{list_any}
 use Rattle.std.specs.Str.{bytes_eq}
 use Rattle.model.specs.declared.places.MethodPlace.{MethodPlace}
 use Rattle.model.specs.ClassListings.{ClassListing}
 use Rattle.model.specs.Initialisation.{declares_initializer, initializer_in, wants_initialising}
+use Rattle.resolve.specs.declared.keys.NameKey.{NameKey}
 use Rattle.loader.specs.declared.initializers.ClassInitializer.{ClassInitializer}
 
 -- ---- the initializer of each class of a program, and whether the class wants initialising
@@ -35,6 +35,6 @@ abbrev pub declares_named : List ClassListing → List ℕ → Bool
 declares_named program name = list_any (λ (c : ClassListing). declares_initializer c && bytes_eq c.name name) program
 
 -- the names are those of a program's classes that declare an initializer
-abbrev pub AreDeclarers : List ClassListing → List (Bor (List ℕ)) → Type 0
+abbrev pub AreDeclarers : List ClassListing → List NameKey → Type 0
 AreDeclarers program names =
-    (name : Bor (List ℕ)) → list_any (λ k. bytes_eq name.now k.now) names ≡ declares_named program name.now
+    (name : NameKey) → list_any (λ k. bytes_eq name.bytes.now k.bytes.now) names ≡ declares_named program name.bytes.now

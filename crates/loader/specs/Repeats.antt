@@ -1,8 +1,8 @@
 use Rattle.std.specs.Prelude.{ℕ, List, ◌&&◌, Bool, false, cond, Option, Some, None, is_some}
-use Rattle.std.specs.Borrow.{Bor}
 use Rattle.std.specs.Map.{lookup}
 use Rattle.std.specs.Str.{bytes_eq}
 use Rattle.indexmap.specs.IndexMap.{get}
+use Rattle.resolve.specs.declared.keys.NameKey.{NameKey}
 use Rattle.loader.specs.declared.repeats.Repeats.{Repeats}
 
 -- whether a key came again, if it came
@@ -18,10 +18,10 @@ is_again None = false
 is_again (Some b) = b
 
 -- whether a name came again
-abbrev pub name_again : Repeats (Bor (List ℕ)) → List ℕ → Bool
-name_again r name = is_again (lookup (λ k. bytes_eq name k.now) r.came_again.entries)
+abbrev pub name_again : Repeats NameKey → List ℕ → Bool
+name_again r name = is_again (lookup (λ k. bytes_eq name k.bytes.now) r.came_again.entries)
 
 -- whether a name came again with a descriptor
-abbrev pub signature_again : Repeats (Bor (List ℕ) × Bor (List ℕ)) → List ℕ → List ℕ → Bool
+abbrev pub signature_again : Repeats (NameKey × NameKey) → List ℕ → List ℕ → Bool
 signature_again r name descriptor =
-    is_again (lookup (λ k. bytes_eq name k.0.now && bytes_eq descriptor k.1.now) r.came_again.entries)
+    is_again (lookup (λ k. bytes_eq name k.0.bytes.now && bytes_eq descriptor k.1.bytes.now) r.came_again.entries)

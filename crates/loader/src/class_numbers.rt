@@ -8,6 +8,7 @@ use crate::first_places::first_places;
 use indexmap::IndexMap;
 use model::listings::Listing;
 use resolve::builtins::{BUILTINS, Builtin};
+use resolve::keys::NameKey;
 use std::alloc::{AllocError, Global};
 use std::marker::Model;
 
@@ -16,8 +17,8 @@ use std::marker::Model;
 #[derive(Drop)]
 pub struct ClassNumbers<'a> {
     program: &'a [Listing],
-    names: Vec<&'a [u8]>,
-    numbers: IndexMap<&'a [u8], usize>,
+    names: Vec<NameKey<'a>>,
+    numbers: IndexMap<NameKey<'a>, usize>,
 }
 
 impl<'a> Model for ClassNumbers<'a> {
@@ -32,28 +33,30 @@ impl<'a> Model for ClassNumbers<'a> {
     ghost invariant = { λ a. AreNumbers a.program.now a.names.items a.numbers.entries };
 }
 
-fn add_own_names<'a>(names: &mut Vec<&'a [u8]>, classes: &[Builtin]) -> Result<(), AllocError>
+fn add_own_names<'a>(names: &mut Vec<NameKey<'a>>, classes: &[Builtin]) -> Result<(), AllocError>
     ensures { OnOk result (names_now names.new.items ≡ names_now names.old.items ++ map (λ b. b.name.now) classes.now) }
 {
     for class in classes {
-        names.push(class.name)?;
+        names.push(NameKey { bytes: class.name })?;
     }
     Ok(())
 }
 
-fn names_in<'a>(alloc: Global, program: &'a [Listing]) -> Result<Vec<&'a [u8]>, AllocError>
+fn names_in<'a>(alloc: Global, program: &'a [Listing]) -> Result<Vec<NameKey<'a>>, AllocError>
     ensures { IfOk result (λ names. names_now names.items ≡ map (λ (c : Class). c.name) program.now) }
 {
     let mut names = Vec::new(alloc);
     for class in program {
-        names.push(class.name.as_bytes())?;
+        names.push(NameKey {
+            bytes: class.name.as_bytes(),
+        })?;
     }
     Ok(names)
 }
 
 /// The names of all classes, the machine's own last.
 #[tactic(auto, unfolding(model::specs::Classes::Builtin::builtin_classes))]
-fn names_of<'a>(alloc: Global, program: &'a [Listing]) -> Result<Vec<&'a [u8]>, AllocError>
+fn names_of<'a>(alloc: Global, program: &'a [Listing]) -> Result<Vec<NameKey<'a>>, AllocError>
     ensures { IfOk result (λ names. names_now names.items ≡ class_names program.now) }
 {
     let mut names = names_in(alloc, program)?;
@@ -76,7 +79,7 @@ impl<'a> ClassNumbers<'a> {
     }
 
     /// The names of all classes in the order of their numbers.
-    pub fn names(&self) -> &[&'a [u8]]
+    pub fn names(&self) -> &[NameKey<'a>]
         ensures { names_now result.now ≡ class_names self.now }
     {
         &self.names
@@ -86,7 +89,7 @@ impl<'a> ClassNumbers<'a> {
     pub fn number(&self, name: &[u8]) -> Option<usize>
         ensures { result ≡ class_number self.now name.now }
     {
-        self.numbers.get(name).copied()
+        self.numbers.get(&NameKey { bytes: name }).copied()
     }
 
     /// The number of the class of a name; how many classes there are where none has it.

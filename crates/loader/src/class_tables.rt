@@ -11,6 +11,7 @@ use model::values::Value;
 use resolve::builtins::builtin_classes;
 use resolve::classes::Classes;
 use resolve::found::Found;
+use resolve::keys::NameKey;
 use std::alloc::{AllocError, Global};
 use std::marker::Model;
 
@@ -96,13 +97,13 @@ fn classes_above(
     alloc: Global,
     classes: &Classes<'_>,
     name: &[u8],
-    names: &[&[u8]],
+    names: &[NameKey<'_>],
 ) -> Result<Vec<bool>, AllocError>
     ensures { IfOk result (λ above. above.items ≡ map (is_subtype classes.now name.now) (names_now names.now)) }
 {
     let mut above = Vec::new(alloc);
     for other in names {
-        above.push(classes.is_subtype(name, *other))?;
+        above.push(classes.is_subtype(name, other.bytes))?;
     }
     Ok(above)
 }

@@ -13,6 +13,7 @@ use model::flags::ClassFlags;
 use model::listings::{Listing, Method};
 use model::places::MethodPlace;
 use resolve::classes::Classes;
+use resolve::keys::NameKey;
 use std::alloc::{AllocError, Global};
 use std::marker::Model;
 
@@ -43,7 +44,7 @@ impl Model for Initializers {
 #[derive(Drop)]
 struct Declarers<'a> {
     program: &'a [Listing],
-    names: IndexSet<&'a [u8]>,
+    names: IndexSet<NameKey<'a>>,
 }
 
 impl<'a> Model for Declarers<'a> {
@@ -90,7 +91,9 @@ impl<'a> Declarers<'a> {
         let mut names = IndexSet::new(alloc);
         for class in program {
             if declares_initializer(class) {
-                names.insert(class.name.as_bytes())?;
+                names.insert(NameKey {
+                    bytes: class.name.as_bytes(),
+                })?;
             }
         }
         Ok(Declarers { program, names })
@@ -100,7 +103,7 @@ impl<'a> Declarers<'a> {
     fn has(&self, name: &[u8]) -> bool
         ensures { result ≡ declares_named self.now name.now }
     {
-        self.names.contains(name)
+        self.names.contains(&NameKey { bytes: name })
     }
 }
 

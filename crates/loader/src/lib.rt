@@ -32,13 +32,13 @@ pub mod selection;
 pub mod selection_rows;
 pub mod selector_arguments;
 pub mod selectors;
-mod served;
 pub mod static_slots;
 mod step_lists;
 pub mod storages;
 mod superclasses;
 pub mod tables;
 mod type_numbers;
+mod well_named;
 
 pub use acceptance::accept;
 pub use errors::LoadError;

@@ -4,10 +4,21 @@ ghost use Rattle.loader.specs.MemberPlaces.{Places, key_shown, place_of};
 
 use crate::first_places::first_places;
 use indexmap::IndexMap;
+use resolve::keys::NameKey;
 use std::alloc::{AllocError, Global};
 
 /// The names of a class and of a member, and the member's descriptor.
-pub type MemberKey<'a> = ((&'a [u8], &'a [u8]), &'a [u8]);
+pub type MemberKey<'a> = ((NameKey<'a>, NameKey<'a>), NameKey<'a>);
+
+/// The key of a member: the name of its class, its own, and its descriptor.
+pub fn member_key<'a>(class: &'a [u8], name: &'a [u8], descriptor: &'a [u8]) -> MemberKey<'a>
+    ensures { key_shown result ≡ record { class = class.now; name = name.now; descriptor = descriptor.now } }
+{
+    (
+        (NameKey { bytes: class }, NameKey { bytes: name }),
+        NameKey { bytes: descriptor },
+    )
+}
 
 /// For each of some members its first place in a list.
 #[derive(Drop)]
@@ -28,6 +39,8 @@ impl<'a> MemberPlaces<'a> {
     pub fn get(&self, class: &[u8], name: &[u8], descriptor: &[u8]) -> Option<usize>
         ensures { result ≡ place_of self.now (record { class = class.now; name = name.now; descriptor = descriptor.now }) }
     {
-        self.places.get(&((class, name), descriptor)).copied()
+        self.places
+            .get(&member_key(class, name, descriptor))
+            .copied()
     }
 }

@@ -9,28 +9,43 @@ ghost use Rattle.loader.specs.Repeats.{signature_again};
 
 use crate::programs::is_class_initializer;
 use crate::repeats::Repeats;
-use crate::served::serves;
+use crate::well_named::is_well_named;
 use bitflags::Flags;
 use model::flags::MethodFlags;
 use model::listings::{Field, Listing, Method};
 use resolve::classes::Classes;
+use resolve::keys::NameKey;
 use std::alloc::{AllocError, Global};
 
 /// The name and the descriptor of a member.
-type Signature<'a> = (&'a [u8], &'a [u8]);
+type Signature<'a> = (NameKey<'a>, NameKey<'a>);
 
 fn field_signature(field: &Field) -> Signature<'_>
-    ensures name { result.0.now ≡ field.now.name }
-    ensures descriptor { result.1.now ≡ field.now.descriptor }
+    ensures name { result.0.bytes.now ≡ field.now.name }
+    ensures descriptor { result.1.bytes.now ≡ field.now.descriptor }
 {
-    (field.name.as_bytes(), field.descriptor.as_bytes())
+    (
+        NameKey {
+            bytes: field.name.as_bytes(),
+        },
+        NameKey {
+            bytes: field.descriptor.as_bytes(),
+        },
+    )
 }
 
 fn method_signature(method: &Method) -> Signature<'_>
-    ensures name { result.0.now ≡ method.now.name }
-    ensures descriptor { result.1.now ≡ method.now.descriptor }
+    ensures name { result.0.bytes.now ≡ method.now.name }
+    ensures descriptor { result.1.bytes.now ≡ method.now.descriptor }
 {
-    (method.name.as_bytes(), method.descriptor.as_bytes())
+    (
+        NameKey {
+            bytes: method.name.as_bytes(),
+        },
+        NameKey {
+            bytes: method.descriptor.as_bytes(),
+        },
+    )
 }
 
 fn is_one_field_again(repeats: &Repeats<Signature<'_>>, fields: &[Field]) -> bool
@@ -116,10 +131,10 @@ fn is_one_refused(classes: &Classes<'_>, class: &[u8], methods: &[Method]) -> bo
         .any(|method| is_refused(classes, class, method))
 }
 
-/// Whether a member of the class is refused, or the class isn't served.
+/// Whether a member of the class is refused, or the class has names that the listing of no source has.
 #[tactic(auto, unfolding(model::specs::Accepted::RefusedMembers::has_refused_member))]
 pub fn has_refused_member(classes: &Classes<'_>, class: &Listing) -> bool
     ensures { result ≡ has_refused_member classes.now class.now }
 {
-    is_one_refused(classes, class.name.as_bytes(), &class.methods) || !serves(class)
+    is_one_refused(classes, class.name.as_bytes(), &class.methods) || !is_well_named(class)
 }

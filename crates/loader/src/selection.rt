@@ -7,6 +7,7 @@ ghost use Rattle.loader.specs.SelectionTables.{IsRowAt, IsSelection, IsTableAt, 
 use crate::selection_rows::{ClassRows, SelectionRow};
 use crate::selectors::Selectors;
 use resolve::classes::Classes;
+use resolve::keys::NameKey;
 use std::alloc::{AllocError, Global};
 
 /// The selection table of a class.
@@ -29,13 +30,13 @@ pub struct Selection {
 fn rows_of<'a>(
     alloc: Global,
     rows: &ClassRows<'a>,
-    signatures: &[(&'a [u8], &'a [u8])],
+    signatures: &[(NameKey<'a>, NameKey<'a>)],
 ) -> Result<Vec<Option<SelectionRow>>, AllocError>
-    ensures { IfOk result (λ found. found.items ≡ map (λ s. gathered rows.now s.0.now s.1.now) signatures.now) }
+    ensures { IfOk result (λ found. found.items ≡ map (λ s. gathered rows.now s.0.bytes.now s.1.bytes.now) signatures.now) }
 {
     let mut found = Vec::new(alloc);
     for signature in signatures {
-        found.push(rows.row(signature.0, signature.1))?;
+        found.push(rows.row(signature.0.bytes, signature.1.bytes))?;
     }
     Ok(found)
 }

@@ -8,6 +8,7 @@ use crate::selectors::Selectors;
 use model::descriptors::argument_kinds;
 use model::values::Kind;
 use resolve::classes::Classes;
+use resolve::keys::NameKey;
 use std::alloc::{AllocError, Global};
 use std::marker::Model;
 
@@ -28,12 +29,15 @@ impl Model for SelectorArguments {
 }
 
 /// The kinds of the arguments that some descriptors take. `AllocError` where memory runs out, here and below.
-fn kinds_of(alloc: Global, signatures: &[(&[u8], &[u8])]) -> Result<Vec<Vec<Kind>>, AllocError>
-    ensures { IfOk result (λ kinds. lists kinds.items ≡ map (λ s. argument_kinds s.1.now) signatures.now) }
+fn kinds_of(
+    alloc: Global,
+    signatures: &[(NameKey<'_>, NameKey<'_>)],
+) -> Result<Vec<Vec<Kind>>, AllocError>
+    ensures { IfOk result (λ kinds. lists kinds.items ≡ map (λ s. argument_kinds s.1.bytes.now) signatures.now) }
 {
     let mut kinds = Vec::new(alloc);
     for signature in signatures {
-        kinds.push(argument_kinds(alloc, signature.1)?)?;
+        kinds.push(argument_kinds(alloc, signature.1.bytes)?)?;
     }
     Ok(kinds)
 }

@@ -7,13 +7,14 @@ use indexmap::IndexSet;
 use model::instructions::{Instruction, Invocation};
 use model::listings::{Code, Listed, Listing, Method, Placed};
 use model::names::Member;
+use resolve::keys::NameKey;
 use std::alloc::{AllocError, Global};
 use std::marker::Model;
 
 /// Names with their descriptors, each pair once, in the order in which they came. A contract sees their list.
 #[derive(Drop)]
 pub(crate) struct Signatures<'a> {
-    pairs: IndexSet<(&'a [u8], &'a [u8])>,
+    pairs: IndexSet<(NameKey<'a>, NameKey<'a>)>,
 }
 
 impl<'a> Model for Signatures<'a> {
@@ -22,7 +23,7 @@ impl<'a> Model for Signatures<'a> {
 
     ghost Value = { List Signature };
 
-    ghost view = { λ a. map (λ s. (s.0.now, s.1.now)) a.pairs.keys };
+    ghost view = { λ a. map (λ s. (s.0.bytes.now, s.1.bytes.now)) a.pairs.keys };
 }
 
 impl<'a> Signatures<'a> {
@@ -39,8 +40,14 @@ impl<'a> Signatures<'a> {
     fn add(&mut self, member: &'a Member) -> Result<(), AllocError>
         ensures { OnOk result (self.new ≡ with_signature self.old (member.now.name, member.now.descriptor)) }
     {
-        self.pairs
-            .insert((member.name.as_bytes(), member.descriptor.as_bytes()))?;
+        self.pairs.insert((
+            NameKey {
+                bytes: member.name.as_bytes(),
+            },
+            NameKey {
+                bytes: member.descriptor.as_bytes(),
+            },
+        ))?;
         Ok(())
     }
 
@@ -95,12 +102,13 @@ impl<'a> Signatures<'a> {
     fn place(&self, name: &[u8], descriptor: &[u8]) -> Option<usize>
         ensures { result ≡ position (is_signature (name.now, descriptor.now)) self.now }
     {
-        self.pairs.get_index_of(&(name, descriptor))
+        self.pairs
+            .get_index_of(&(NameKey { bytes: name }, NameKey { bytes: descriptor }))
     }
 
     /// The names with their descriptors, in order.
-    pub fn as_slice(&self) -> &[(&'a [u8], &'a [u8])]
-        ensures { map (λ s. (s.0.now, s.1.now)) result.now ≡ self.now }
+    pub fn as_slice(&self) -> &[(NameKey<'a>, NameKey<'a>)]
+        ensures { map (λ s. (s.0.bytes.now, s.1.bytes.now)) result.now ≡ self.now }
     {
         self.pairs.as_slice()
     }
@@ -147,8 +155,8 @@ impl<'a> Selectors<'a> {
     }
 
     /// The names with their descriptors, in the order of the selectors.
-    pub(crate) fn as_slice(&self) -> &[(&'a [u8], &'a [u8])]
-        ensures { map (λ s. (s.0.now, s.1.now)) result.now ≡ selectors self.now }
+    pub(crate) fn as_slice(&self) -> &[(NameKey<'a>, NameKey<'a>)]
+        ensures { map (λ s. (s.0.bytes.now, s.1.bytes.now)) result.now ≡ selectors self.now }
     {
         self.called.as_slice()
     }

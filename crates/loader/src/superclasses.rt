@@ -13,14 +13,15 @@ use model::flags::ClassFlags;
 use model::listings::Listing;
 use model::names::Name;
 use resolve::classes::Classes;
+use resolve::keys::NameKey;
 use std::alloc::{AllocError, Global};
 
-fn first_again<'a>(repeats: &Repeats<&[u8]>, program: &'a [Listing]) -> Option<&'a Listing>
+fn first_again<'a>(repeats: &Repeats<NameKey<'_>>, program: &'a [Listing]) -> Option<&'a Listing>
     ensures { option_copied result ≡ find (λ (c : ClassListing). name_again repeats.now c.name) program.now }
 {
-    program
-        .iter()
-        .find(|class| repeats.has_again(class.name.as_bytes()))
+    program.iter().find(|class| repeats.has_again(NameKey {
+        bytes: class.name.as_bytes(),
+    }))
 }
 
 /// The first class of the program whose name another one has. `AllocError` where memory runs out.
@@ -29,7 +30,9 @@ pub fn first_class_twice(alloc: Global, program: &[Listing]) -> Result<Option<&L
 {
     let mut repeats = Repeats::new(alloc);
     for class in program {
-        repeats.note(class.name.as_bytes())?;
+        repeats.note(NameKey {
+            bytes: class.name.as_bytes(),
+        })?;
     }
     Ok(first_again(&repeats, program))
 }

@@ -28,7 +28,6 @@ pub mod Programs
 pub mod Ready
 pub mod Results
 pub mod Room
-pub mod Served
 pub mod Shows
 pub mod Signatures
 pub mod Sizes
@@ -40,5 +39,6 @@ pub mod Turns
 pub mod Unwinding
 pub mod Values
 pub mod Views
+pub mod WellNamed
 pub mod Words
 pub mod Worlds

@@ -1,4 +1,4 @@
-//! Threads, their frames and the cells of the heap as plain data, for those who look at a world from outside.
+//! Threads, their frames, objects and the cells of the heap as plain data, for those who look at a world from outside.
 
 use crate::colours::Colour;
 use crate::names::Name;
@@ -56,4 +56,48 @@ impl Model for ThreadView {
 pub struct CellView {
     pub words: u32,
     pub held: Option<(u32, Colour)>,
+}
+
+/// A field of an object: the class that declares it, its name and its descriptor, and what it holds.
+#[derive(Drop)]
+pub struct FieldView {
+    pub class: Name,
+    pub name: Name,
+    pub descriptor: Name,
+    pub value: Value,
+}
+
+impl Model for FieldView {
+    ghost use Rattle.model.specs.Worlds.{FieldValue};
+
+    ghost Value = { FieldValue };
+
+    ghost view = { λ a. record { class = a.class; name = a.name; descriptor = a.descriptor; value = a.value } };
+}
+
+/// What an object holds: an instance of a class its fields, the superclass's first; an array its elements, whose type is told
+/// by its descriptor.
+#[derive(Drop)]
+pub enum ContentsView {
+    Instance { class: Name, fields: Vec<FieldView> },
+    Array { element: Name, values: Vec<Value> },
+}
+
+/// An object: what it holds, the thread that owns its monitor and how often that was entered (JVMS 2.11.10), and the thread
+/// that was started on it. References are births.
+#[derive(Drop)]
+pub struct ObjectView {
+    pub contents: ContentsView,
+    pub owner: Option<u32>,
+    pub entries: u16,
+    pub thread: Option<u32>,
+}
+
+impl Model for ObjectView {
+    ghost use Rattle.model.specs.Worlds.{Object};
+    ghost use Rattle.model.specs.Views.{contents_in};
+
+    ghost Value = { Object };
+
+    ghost view = { λ a. record { contents = contents_in a.contents; monitor = record { owner = a.owner; count = a.entries }; thread = a.thread } };
 }

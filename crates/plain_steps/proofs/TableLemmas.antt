@@ -29,7 +29,7 @@ use Rattle.model.specs.Table.Constants.{constant as pushed}
 use Rattle.model.specs.Table.Locals.{local as accessed}
 use Rattle.model.specs.Table.Numbers.{number as computed}
 use Rattle.model.specs.Table.Stacks.{rearranged}
-use Rattle.model.specs.Served.{is_plain}
+use Rattle.plain_steps.specs.Plain.{is_plain}
 use Rattle.model.specs.Table.Next.{Listed, by_family}
 use Rattle.loader.specs.declared.operations.Operation.{Operation}
 use Rattle.loader.specs.declared.operations.Operation.TheVariants.{Aside, AconstNull, Iconst, Lconst, Nop}

@@ -15,7 +15,7 @@ module _ {M : Type 0} where
   value m = option_map (λ m. m.now) m
 
   abbrev at : Signed M → List ℕ → List ℕ → Option (Bor M)
-  at entries n d = lookup (λ k. bytes_eq n k.0.now && bytes_eq d k.1.now) entries
+  at entries n d = lookup (λ k. bytes_eq n k.0.bytes.now && bytes_eq d k.1.bytes.now) entries
 
   no-value : (r : Option (Bor M)) (x : Option M) → is_some r ≡ false → option_copied r ≡ x → x ≡ None
   no-value None x h e = sym e

@@ -1,6 +1,5 @@
 use Rattle.std.specs.Prelude.{◌≡◌, ℕ, List, [], ◌∷◌, Bool, true, false, ◌&&◌, ◌||◌, is_none, is_some, filter, length, Option, Some, None}
 use Rattle.std.specs.List.{find, flat_map, list_all}
-use Rattle.std.specs.Borrow.{Bor}
 use Rattle.std.specs.Map.{lookup}
 use Rattle.std.specs.Option.{option_map}
 use Rattle.std.specs.Str.{bytes_eq}
@@ -11,6 +10,7 @@ use Rattle.model.specs.Classes.Search.{interfaces_from}
 use Rattle.model.specs.Classes.Subclass.{HasName}
 use Rattle.model.specs.Classes.Subclasses.{enough_steps}
 use Rattle.resolve.specs.Reached.{with_names}
+use Rattle.resolve.specs.declared.keys.NameKey.{NameKey}
 
 -- the superinterfaces that a class declares and all that they extend, to so many steps: in the order of the search, each once
 abbrev pub interfaces_once : ℕ → List ClassListing → ClassListing → List (List ℕ)
@@ -21,8 +21,8 @@ abbrev pub Lists : Type 0
 Lists = List ℕ → Option (List (List ℕ))
 
 -- the list that a map's entries have under a name
-abbrev pub lists_in : List (Bor (List ℕ) × List (List ℕ)) → Lists
-lists_in entries name = lookup (λ k. bytes_eq name k.now) entries
+abbrev pub lists_in : List (NameKey × List (List ℕ)) → Lists
+lists_in entries name = lookup (λ k. bytes_eq name k.bytes.now) entries
 
 -- an interface, and behind it what its list has
 abbrev pub with_list : List ℕ → Option (List (List ℕ)) → List (List ℕ)

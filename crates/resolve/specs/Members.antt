@@ -9,14 +9,15 @@ use Rattle.model.specs.declared.listings.Method.{Method}
 use Rattle.model.specs.ClassListings.{ClassListing}
 use Rattle.model.specs.Classes.Flags.{is_private, is_static}
 use Rattle.model.specs.Classes.Named.{or_else}
+use Rattle.resolve.specs.declared.keys.NameKey.{NameKey}
 
 -- members by their names and descriptors
 abbrev pub Signed : Type 0 → Type 0
-Signed M = List ((Bor (List ℕ) × Bor (List ℕ)) × Bor M)
+Signed M = List ((NameKey × NameKey) × Bor M)
 
 -- the member that a map's entries have under a name and descriptor
 abbrev pub found_under : {M : Type 0} → Signed M → List ℕ → List ℕ → Option M
-found_under entries name descriptor = option_map (λ m. m.now) (lookup (λ k. bytes_eq name k.0.now && bytes_eq descriptor k.1.now) entries)
+found_under entries name descriptor = option_map (λ m. m.now) (lookup (λ k. bytes_eq name k.0.bytes.now && bytes_eq descriptor k.1.bytes.now) entries)
 
 -- entries with a member more, where none of its name and descriptor was there
 abbrev pub IsAdded : {M : Type 0} → Signed M → Signed M → List ℕ → List ℕ → M → Type 0

@@ -9,6 +9,7 @@ ghost use Rattle.std.specs.Str.{bytes_eq};
 ghost use Rattle.resolve.specs.Numbers.{name_of};
 
 use crate::builtins::{BUILTINS, builtin_superclass, is_builtin};
+use crate::keys::NameKey;
 use indexmap::IndexMap;
 use model::listings::Listing;
 use std::alloc::{AllocError, Global};
@@ -25,7 +26,7 @@ struct Numbered<'a> {
 #[derive(Drop)]
 pub struct Index<'a> {
     program: &'a [Listing],
-    classes: IndexMap<&'a [u8], Numbered<'a>>,
+    classes: IndexMap<NameKey<'a>, Numbered<'a>>,
 }
 
 impl<'a> Model for Index<'a> {
@@ -37,7 +38,7 @@ impl<'a> Model for Index<'a> {
 
     ghost view = { λ a. a.program.now };
 
-    ghost invariant = { λ a. IsIndex (λ k. k.now) (λ c. c.class.now) (λ c. c.number) a.program.now a.classes.entries };
+    ghost invariant = { λ a. IsIndex (λ k. k.bytes.now) (λ c. c.class.now) (λ c. c.number) a.program.now a.classes.entries };
 }
 
 impl<'a> Index<'a> {
@@ -47,8 +48,10 @@ impl<'a> Index<'a> {
     {
         let mut classes = IndexMap::new(alloc);
         for (number, class) in program.iter().enumerate() {
-            let name = class.name.as_bytes();
-            if classes.get(name).is_none() {
+            let name = NameKey {
+                bytes: class.name.as_bytes(),
+            };
+            if classes.get(&name).is_none() {
                 classes.insert(name, Numbered { number, class })?;
             }
         }
@@ -66,7 +69,7 @@ impl<'a> Index<'a> {
     pub fn listed(&self, name: &[u8]) -> Option<&'a Listing>
         ensures { option_copied result ≡ listed self.now name.now }
     {
-        Some(self.classes.get(name)?.class)
+        Some(self.classes.get(&NameKey { bytes: name })?.class)
     }
 
     /// The place in the program of the first class with this name.
@@ -74,7 +77,7 @@ impl<'a> Index<'a> {
         ensures place { option_and_then (slice_get self.now) result ≡ listed self.now name.now }
         ensures first { result ≡ position (bytes_eq name.now) (map name_of self.now) }
     {
-        Some(self.classes.get(name)?.number)
+        Some(self.classes.get(&NameKey { bytes: name })?.number)
     }
 
     /// The name of the superclass of the class of a name, of the program or of the machine itself; empty at

@@ -8,6 +8,7 @@ ghost use Rattle.resolve.specs.Interfaces.{AreFull, AreLists, all_behind, first_
 ghost use Rattle.resolve.specs.Reached.{with_names};
 
 use crate::index::Index;
+use crate::keys::NameKey;
 use crate::order::parents_first;
 use crate::reached::Reached;
 use indexmap::IndexMap;
@@ -18,7 +19,7 @@ use std::alloc::{AllocError, Global};
 /// Under the names of classes, the superinterfaces of each, in the order of the search, each once.
 #[derive(Drop)]
 pub struct Interfaces<'a> {
-    lists: IndexMap<&'a [u8], Reached<'a>>,
+    lists: IndexMap<NameKey<'a>, Reached<'a>>,
 }
 
 impl<'a> Interfaces<'a> {
@@ -26,7 +27,9 @@ impl<'a> Interfaces<'a> {
     pub fn get(&self, name: &[u8]) -> Option<&Reached<'a>>
         ensures { option_copied result ≡ lists_in self.now.lists.entries name.now }
     {
-        self.lists.get(name)
+        let place = self.lists.get_index_of(&NameKey { bytes: name })?;
+        let (_, list) = self.lists.get_index(place)?;
+        Some(list)
     }
 
     /// Adds an interface, and behind it what its list has.
@@ -103,7 +106,7 @@ impl<'a> Interfaces<'a> {
     {
         if let Some(class) = index.listed(name) {
             let list = self.listed_behind(alloc, &class.interfaces)?;
-            self.lists.insert(name, list)?;
+            self.lists.insert(NameKey { bytes: name }, list)?;
         }
         Ok(())
     }
@@ -119,8 +122,8 @@ impl<'a> Interfaces<'a> {
         ensures { OnOk result (AreLists index.now (lists_in self.new.lists.entries)) }
     {
         for name in names.as_slice() {
-            if self.is_ready(index, *name) {
-                self.add(alloc, index, *name)?;
+            if self.is_ready(index, name.bytes) {
+                self.add(alloc, index, name.bytes)?;
             }
         }
         Ok(())

@@ -11,6 +11,7 @@ mod cycles;
 pub mod found;
 pub mod index;
 mod interfaces;
+pub mod keys;
 mod layout;
 mod members;
 mod order;

@@ -9,6 +9,7 @@ ghost use Rattle.model.specs.Classes.Resolution.{field_of, method_of};
 ghost use Rattle.model.specs.Classes.Selection.{virtual_of};
 ghost use Rattle.resolve.specs.Members.{IsAdded, found_under, FieldsAre, MethodsAre, VirtualsAre};
 
+use crate::keys::NameKey;
 use bitflags::Flags;
 use indexmap::IndexMap;
 use model::flags::MethodFlags;
@@ -46,7 +47,7 @@ pub fn virtual_of<'a>(class: &'a Listing, name: &[u8], descriptor: &[u8]) -> Opt
 /// Of each name and descriptor, the first member.
 #[derive(Drop)]
 struct FirstMembers<'a, M> {
-    members: IndexMap<(&'a [u8], &'a [u8]), &'a M>,
+    members: IndexMap<(NameKey<'a>, NameKey<'a>), &'a M>,
 }
 
 impl<'a, M> FirstMembers<'a, M> {
@@ -61,7 +62,9 @@ impl<'a, M> FirstMembers<'a, M> {
     fn get(&self, name: &[u8], descriptor: &[u8]) -> Option<&'a M>
         ensures { option_copied result ≡ found_under self.now.members.entries name.now descriptor.now }
     {
-        self.members.get(&(name, descriptor)).copied()
+        self.members
+            .get(&(NameKey { bytes: name }, NameKey { bytes: descriptor }))
+            .copied()
     }
 
     /// Adds a member, where none is there of its name and descriptor.
@@ -69,7 +72,10 @@ impl<'a, M> FirstMembers<'a, M> {
         ensures { OnOk result (IsAdded self.old.members.entries self.new.members.entries name.now descriptor.now member.now) }
     {
         if self.get(name, descriptor).is_none() {
-            self.members.insert((name, descriptor), member)?;
+            self.members.insert(
+                (NameKey { bytes: name }, NameKey { bytes: descriptor }),
+                member,
+            )?;
         }
         Ok(())
     }

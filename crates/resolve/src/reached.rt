@@ -5,6 +5,7 @@ ghost use Rattle.resolve.specs.Reached.{has_name, with_name, with_names, is_one_
 
 use crate::builtins::builtin_superclass;
 use crate::index::Index;
+use crate::keys::NameKey;
 use indexmap::IndexSet;
 use model::listings::Listing;
 use model::names::Name;
@@ -14,7 +15,7 @@ use std::marker::Model;
 /// Names of classes, each once, in the order in which they were reached. A contract sees their list.
 #[derive(Drop)]
 pub struct Reached<'a> {
-    names: IndexSet<&'a [u8]>,
+    names: IndexSet<NameKey<'a>>,
 }
 
 impl<'a> Model for Reached<'a> {
@@ -22,7 +23,7 @@ impl<'a> Model for Reached<'a> {
 
     ghost Value = { List (List ℕ) };
 
-    ghost view = { λ a. map (λ name. name.now) a.names.keys };
+    ghost view = { λ a. map (λ name. name.bytes.now) a.names.keys };
 }
 
 impl<'a> Reached<'a> {
@@ -41,7 +42,7 @@ impl<'a> Reached<'a> {
     pub fn add(&mut self, name: &'a [u8]) -> Result<(), AllocError>
         ensures { OnOk result (self.new ≡ with_name self.old name.now) }
     {
-        self.names.insert(name)?;
+        self.names.insert(NameKey { bytes: name })?;
         Ok(())
     }
 
@@ -87,7 +88,7 @@ impl<'a> Reached<'a> {
         requires { index < length self.now }
         ensures { slice_get self.now index ≡ Some result.now }
     {
-        self.names.as_slice()[index]
+        self.names.as_slice()[index].bytes
     }
 
     /// Adds these names, in order.
@@ -95,14 +96,14 @@ impl<'a> Reached<'a> {
         ensures { OnOk result (self.new ≡ with_names self.old names.now) }
     {
         for name in names.names.as_slice() {
-            self.add(*name)?;
+            self.add(name.bytes)?;
         }
         Ok(())
     }
 
     /// The names in order.
-    pub fn as_slice(&self) -> &[&'a [u8]]
-        ensures { map (λ name. name.now) result.now ≡ self.now }
+    pub fn as_slice(&self) -> &[NameKey<'a>]
+        ensures { map (λ name. name.bytes.now) result.now ≡ self.now }
     {
         self.names.as_slice()
     }
@@ -124,6 +125,6 @@ impl<'a> Reached<'a> {
     pub fn has(&self, name: &[u8]) -> bool
         ensures { result ≡ has_name self.now name.now }
     {
-        self.names.contains(name)
+        self.names.contains(&NameKey { bytes: name })
     }
 }

@@ -5,6 +5,7 @@ ghost use Rattle.model.specs.Classes.Search.{declared_in, first_declared, field_
 
 use crate::classes::Classes;
 use crate::found::Found;
+use crate::keys::NameKey;
 use crate::members::Members;
 use crate::sought::Sought;
 use model::listings::Listing;
@@ -40,11 +41,15 @@ impl<'a> Classes<'a> {
     }
 
     /// What the first of these classes declares that declares what is sought.
-    fn declared_among<S: Sought>(&self, names: &[&[u8]], sought: &S) -> Option<Found<'_, S::Member>>
-        ensures { result ≡ first_declared self.now (S.of sought.now) (map (λ n. n.now) names.now) }
+    fn declared_among<S: Sought>(
+        &self,
+        names: &[NameKey<'_>],
+        sought: &S,
+    ) -> Option<Found<'_, S::Member>>
+        ensures { result ≡ first_declared self.now (S.of sought.now) (map (λ n. n.bytes.now) names.now) }
     {
         for name in names {
-            if let Some(found) = self.declared_by(*name, sought) {
+            if let Some(found) = self.declared_by(name.bytes, sought) {
                 return Some(found);
             }
         }

@@ -3,3 +3,4 @@ mod JournalReading
 pub mod Noting
 pub mod Workers
 pub mod RowLines
+pub mod Making

@@ -1,5 +1,5 @@
 -- An actor's turn on the state, and its row in the journal: the state is joined to what the journal stands for again.
-use Rattle.std.proofs.Common.{◌≡◌, ◌<◌, ◌≤◌, ◌+◌, ℕ, zero, suc, List, [], ◌∷◌, ◌++◌, length, Option, Some, None, Bool, cond, refl, ap, sym, subst, ◌∙◌, arith, length-append}
+use Rattle.std.proofs.Common.{◌≡◌, ◌<◌, ◌≤◌, ◌+◌, ℕ, zero, suc, List, [], ◌∷◌, ◌++◌, length, Option, Some, None, Bool, true, cond, refl, ap, sym, subst, ◌∙◌, arith, length-append}
 use Rattle.std.specs.Prelude.{◌&&◌, ◌||◌, map, position, slice_get}
 use Rattle.std.specs.List.{find, list_any}
 use Rattle.std.specs.Option.{option_map}
@@ -18,7 +18,7 @@ use Rattle.model.specs.Initialisation.{state_at}
 use Rattle.model.specs.Effects.{Choice}
 use Rattle.model.specs.Journals.{JournalValue, blank, with_row}
 use Rattle.model.specs.Limits.{ShapeFits}
-use Rattle.model.specs.Worlds.{World, Thread as ThreadOf}
+use Rattle.model.specs.Worlds.{World, Thread as ThreadOf, opening_fits}
 use Rattle.model.specs.Turns.{overflows, refusal, choice_by, acted, unless_refused}
 use Rattle.model.specs.Machines.{Machine, Recorded, after_turn_by, answer_to, machine_of, machine_of-noted, noted, opening_machine, outcome_of, row_for, told_of, with_row as recorded_with}
 use Rattle.model.specs.Naming.{named_thread}
@@ -37,7 +37,9 @@ use Rattle.join.proofs.ReadingBack.{reads_back}
 use Rattle.join.proofs.Runs.{turn_is_shown}
 use Rattle.instructions.specs.Loaded.{Loaded, fresh}
 use Rattle.instructions.proofs.Refusing.{unrefused_counted}
+use Rattle.scheduler.specs.Replaying.{IsMade}
 use Rattle.scheduler.specs.Worlds.{recorded, IsOf}
+use Rattle.scheduler.proofs.Making.{made_noted}
 
 after_last-push : (n : ℕ) (rows : List Row) (row : Row) → after_last n (rows ++ row ∷ []) ≡ after_actor (after_last n rows) row.actor
 after_last-push n [] row = refl
@@ -121,6 +123,7 @@ module _ (s : Loaded) (j : JournalValue) (k : ℕ) (is : IsOf s j k) where
       holds = subst (λ (u : Recorded). Holds j.shape (machine_of u)) after_is (recorded_keeps v actor worker is.holds);
       bounded = subst (λ (u : Recorded). Bounded (machine_of u).world) after_is shown.bounded;
       next_is = ap (λ (n : ℕ). after_actor n actor) is.next_is ∙ sym (after_last-push 0 j.rows row);
+      made = made_noted v row is.made row_is;
     }
 
   -- the answer to a turn is told by the state's fault
@@ -185,9 +188,9 @@ module _ (s : Loaded) (j : JournalValue) (k : ℕ) (is : IsOf s j k) where
 
 -- ---- the opening
 
-pub opened_is : (program : List ClassListing) (shape : HeapShape) (limits : Limits) → ShapeFits shape.small shape.medium shape.large → IsOf (fresh program limits shape) (blank shape limits 1) 0
+pub opened_is : (program : List ClassListing) (shape : HeapShape) (limits : Limits) → ShapeFits shape.small shape.medium shape.large → opening_fits program ≡ true → IsOf (fresh program limits shape) (blank shape limits 1) 0
 unfolding machine_of
-opened_is program shape limits fits = record {
+opened_is program shape limits fits opens = record {
   limits_are = refl;
   shape_is = refl;
   rows_are = refl;
@@ -195,4 +198,5 @@ opened_is program shape limits fits = record {
   holds = opening_holds program shape fits.0;
   bounded = opening_bounded program;
   next_is = refl;
+  made = record { opens = opens; rows = tt };
 }

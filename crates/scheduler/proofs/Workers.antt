@@ -29,4 +29,5 @@ workers_set s j next workers is empty =
       holds = subst (Holds j.shape) same is.holds;
       bounded = subst (λ (m : Machine). Bounded m.world) same is.bounded;
       next_is = is.next_is ∙ ap (after_last 0) empty;
+      made = record { opens = is.made.opens; rows = tt };
     }

@@ -1,3 +1,4 @@
 pub mod JournalReading
 pub mod Worlds
 pub mod Workers
+pub mod Replaying

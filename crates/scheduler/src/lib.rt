@@ -3,5 +3,8 @@
 
 pub mod journal_texts;
 #[cfg(test)]
+mod replay_tests;
+pub mod replaying;
+#[cfg(test)]
 mod tests;
 pub mod worlds;

@@ -89,7 +89,7 @@ fn program_of(alloc: Global, max_stack: u16, instructions: Vec<Placed>) -> Resul
 }
 
 /// `ldc 2147483647`, `iconst_1`, `iadd`, `invokestatic vm/Sys/print(I)V`, `return`
-fn wrapping_sum(alloc: Global) -> Result<Program, Fail> {
+pub(crate) fn wrapping_sum(alloc: Global) -> Result<Program, Fail> {
     let print = Member {
         class: Name::copy_of(alloc, b"vm/Sys")?,
         name: Name::copy_of(alloc, b"print")?,

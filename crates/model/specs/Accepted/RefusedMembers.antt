@@ -6,7 +6,7 @@ use Rattle.model.specs.ClassListings.{ClassListing}
 use Rattle.model.specs.Classes.Flags.{is_static, is_synchronized, is_native}
 use Rattle.model.specs.Classes.Subclasses.{is_subclass}
 use Rattle.model.specs.Programs.{is_class_initializer}
-use Rattle.model.specs.Served.{serves}
+use Rattle.model.specs.WellNamed.{is_well_named}
 
 -- a class initializer that isn't static and without arguments, result or code
 abbrev pub is_wrong_initializer : Method → Bool
@@ -25,6 +25,6 @@ abbrev pub is_refused : List ClassListing → List ℕ → Method → Bool
 is_refused program name m =
     is_wrong_initializer m || is_native m || (is_synchronized m && (is_static m || (is_run m && is_thread program name)))
 
--- L10: a member of the class is refused, or the class isn't served
+-- L10: a member of the class is refused. So is a class with names that the listing of no text and of no class file has
 unfoldable pub has_refused_member : List ClassListing → ClassListing → Bool
-has_refused_member program c = list_any (is_refused program c.name) c.methods || not (serves c)
+has_refused_member program c = list_any (is_refused program c.name) c.methods || not (is_well_named c)

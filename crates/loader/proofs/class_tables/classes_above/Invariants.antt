@@ -4,5 +4,5 @@ use Rattle.loader.proofs.class_tables.classes_above.Given as goal
 
 abbrev pub invariant-loop-other : goal.invariant-loop-other
 invariant-loop-other l =
-    l.above.items ++ map (is_subtype l.classes l.name) (map (λ n. n.now) (drop l.other-index l.names))
-    ≡ map (is_subtype l.classes l.name) (map (λ n. n.now) l.names)
+    l.above.items ++ map (is_subtype l.classes l.name) (map (λ n. n.bytes.now) (drop l.other-index l.names))
+    ≡ map (is_subtype l.classes l.name) (map (λ n. n.bytes.now) l.names)

@@ -14,7 +14,7 @@ descriptor m = m.descriptor
 
 pub loop-field-init : goal.loop-field-init
 loop-field-init c =
-    notes-none (λ x y. bytes_eq x.0.now y.0.now && bytes_eq x.1.now y.1.now) (λ k (a : Field). bytes_eq a.name k.0.now && bytes_eq a.descriptor k.1.now)
+    notes-none (λ x y. bytes_eq x.0.bytes.now y.0.bytes.now && bytes_eq x.1.bytes.now y.1.bytes.now) (λ k (a : Field). bytes_eq a.name k.0.bytes.now && bytes_eq a.descriptor k.1.bytes.now)
     c.new-repeats.result c.args.fields.now c.new-repeats.ensures
 
 pub loop-field-preserved : goal.loop-field-preserved

@@ -14,7 +14,7 @@ descriptor m = m.descriptor
 
 pub loop-method-init : goal.loop-method-init
 loop-method-init c =
-    notes-none (λ x y. bytes_eq x.0.now y.0.now && bytes_eq x.1.now y.1.now) (λ k (a : Method). bytes_eq a.name k.0.now && bytes_eq a.descriptor k.1.now)
+    notes-none (λ x y. bytes_eq x.0.bytes.now y.0.bytes.now && bytes_eq x.1.bytes.now y.1.bytes.now) (λ k (a : Method). bytes_eq a.name k.0.bytes.now && bytes_eq a.descriptor k.1.bytes.now)
     c.new-repeats.result c.args.methods.now c.new-repeats.ensures
 
 pub loop-method-preserved : goal.loop-method-preserved

@@ -26,7 +26,7 @@ invariant_of-self c =
     let a = c.self.inside in
     let sound = c.self.invariant in
     rw (c.collect.ensures.heap, c.collect.ensures.thread, c.collect.ensures.slots, c.collect.ensures.states, c.collect.ensures.output) (record {
-      served = sound.served;
+      named = sound.named;
       accepted = sound.accepted;
       room = sound.room;
       steps = sound.steps;

@@ -11,7 +11,7 @@ pub returns : goal.returns
 returns c =
     let program : List ClassListing = c.args.self.now in
     let many : length c.names.result.now ≡ length (class_names program) =
-    sym (length-map c.names.result.now (λ n. n.now)) ∙ ap length c.names.ensures in
+    sym (length-map c.names.result.now (λ n. n.bytes.now)) ∙ ap length c.names.ensures in
     c.unwrap_or.ensures
     ∙ ap (unwrap_or c.number.result) many
     ∙ ap (λ o. unwrap_or o (length (class_names program))) c.number.ensures

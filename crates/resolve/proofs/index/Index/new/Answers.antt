@@ -7,6 +7,7 @@ use Rattle.indexmap.proofs.CallerLemmas.{insert_entry-new}
 use Rattle.model.specs.ClassListings.{ClassListing}
 use Rattle.model.specs.Classes.Named.{is_named}
 use Rattle.resolve.specs.declared.index.Numbered.{Numbered}
+use Rattle.resolve.specs.declared.keys.NameKey.{NameKey}
 use Rattle.resolve.specs.Indexed.{found_in}
 use Rattle.resolve.specs.Numbers.{name_of}
 use Rattle.resolve.proofs.NumberLemmas.{first-place}
@@ -15,14 +16,14 @@ use Rattle.resolve.proofs.index.Index.new.Goals as goal
 use Rattle.resolve.proofs.index.Index.new.Goals.{then-is_none+in_ok-insert, else-is_none}
 
 abbrev Entries : Type 0
-Entries = List (Bor (List ℕ) × Numbered)
+Entries = List (NameKey × Numbered)
 
 -- each entry has the place of its class
-abbrev IsPlaced : List ClassListing → Bor (List ℕ) × Numbered → Type 0
+abbrev IsPlaced : List ClassListing → NameKey × Numbered → Type 0
 IsPlaced program e = slice_get program e.1.number ≡ Some e.1.class.now
 
 -- each entry has the first place of its class's name
-abbrev IsFirst : List ClassListing → Bor (List ℕ) × Numbered → Type 0
+abbrev IsFirst : List ClassListing → NameKey × Numbered → Type 0
 IsFirst program e = position (bytes_eq e.1.class.now.name) (map name_of program) ≡ Some e.1.number
 
 pub loop-number-init : goal.loop-number-init
@@ -38,16 +39,16 @@ loop-number-preserved c =
     let n : ℕ = c.loop-number.number in
     let passed : take (n + 1) cs ≡ take n cs ++ c.index-program-number.result ∷ [] =
     take-next cs n c.index-program-number.result c.index-program-number.is (omega arith) in
-    let named : c.as_bytes-name.result.now ≡ c.index-program-number.result.name = c.as_bytes-name.ensures ∙ ap (λ (x : ClassListing). x.name) c.class.view_is in
+    let named : c.as_bytes.result.now ≡ c.index-program-number.result.name = c.as_bytes.ensures ∙ ap (λ (x : ClassListing). x.name) c.class.view_is in
     elim c.if-is_none.branch [
       | then-is_none+in_ok-insert w ↦
           let none = no_value c.get.result w.if-is_none.ensures c.get.ensures.value in
           let entries = ap (λ m. m.entries) w.classes-is ∙ w.in_ok-insert.ensures.entries
-          ∙ insert_entry-new (λ x y. bytes_eq x.now y.now) c.loop-number.classes c.as_bytes-name.result _ none in
+          ∙ insert_entry-new (λ x y. bytes_eq x.bytes.now y.bytes.now) c.loop-number.classes (record { bytes = c.as_bytes.result }) _ none in
           record {
             finds = λ name.
-                ap (λ es. found_in (λ k. k.now) (λ x. x.class.now) es name) entries
-                ∙ finds-new (λ k. k.now) (λ x. x.class.now) c.loop-number.classes.entries (take n cs) c.as_bytes-name.result _ c.loop-number.invariant.finds named name
+                ap (λ es. found_in (λ k. k.bytes.now) (λ x. x.class.now) es name) entries
+                ∙ finds-new (λ k. k.bytes.now) (λ x. x.class.now) c.loop-number.classes.entries (take n cs) (record { bytes = c.as_bytes.result }) _ c.loop-number.invariant.finds named name
                 ∙ ap (find (is_named name)) (sym passed);
             placed = subst (λ (es : Entries). All (IsPlaced cs) es) (sym entries)
                 (All-push (IsPlaced cs) c.loop-number.classes.entries _ c.loop-number.invariant.placed
@@ -56,17 +57,17 @@ loop-number-preserved c =
                 (All-push (IsFirst cs) c.loop-number.classes.entries _ c.loop-number.invariant.first
                 (first-place cs n c.index-program-number.result
                 (sym (c.loop-number.invariant.finds c.index-program-number.result.name)
-                ∙ ap (λ (name : List ℕ). found_in (λ k. k.now) (λ x. x.class.now) c.loop-number.classes.entries name) (sym named)
+                ∙ ap (λ (name : List ℕ). found_in (λ k. k.bytes.now) (λ x. x.class.now) c.loop-number.classes.entries name) (sym named)
                 ∙ ap (option_map (λ (x : Numbered). x.class.now)) none)
                 c.index-program-number.is (omega arith)));
           }
       | else-is_none w ↦
           record {
             finds = λ name.
-                ap (λ m. found_in (λ k. k.now) (λ x. x.class.now) m.entries name) w.classes-is
-                ∙ finds-known (λ k. k.now) (λ x. x.class.now) c.loop-number.classes.entries (take n cs) c.index-program-number.result c.loop-number.invariant.finds
+                ap (λ m. found_in (λ k. k.bytes.now) (λ x. x.class.now) m.entries name) w.classes-is
+                ∙ finds-known (λ k. k.bytes.now) (λ x. x.class.now) c.loop-number.classes.entries (take n cs) c.index-program-number.result c.loop-number.invariant.finds
                 (λ none. some_value (λ x. x.class.now) c.get.result w.if-is_none.ensures c.get.ensures.value
-                (ap (found_in (λ k. k.now) (λ x. x.class.now) c.loop-number.classes.entries) named ∙ none)) name
+                (ap (found_in (λ k. k.bytes.now) (λ x. x.class.now) c.loop-number.classes.entries) named ∙ none)) name
                 ∙ ap (find (is_named name)) (sym passed);
             placed = subst (λ (es : Entries). All (IsPlaced cs) es) (sym (ap (λ m. m.entries) w.classes-is)) c.loop-number.invariant.placed;
             first = subst (λ (es : Entries). All (IsFirst cs) es) (sym (ap (λ m. m.entries) w.classes-is)) c.loop-number.invariant.first;
@@ -77,7 +78,7 @@ pub invariant_of-result : goal.invariant_of-result
 invariant_of-result c =
     let done : length c.args.program.now ≤ c.loop-number.number = omega arith in
     record {
-      finds = subst (λ (cs : List ClassListing). Finds (λ k. k.now) (λ x. x.class.now) c.loop-number.classes.entries cs)
+      finds = subst (λ (cs : List ClassListing). Finds (λ k. k.bytes.now) (λ x. x.class.now) c.loop-number.classes.entries cs)
           (take-all c.args.program.now c.loop-number.number done) c.loop-number.invariant.finds;
       placed = c.loop-number.invariant.placed;
       first = c.loop-number.invariant.first;

@@ -6,5 +6,5 @@ use Rattle.resolve.proofs.reached.Reached.has.Goals as goal
 pub returns : goal.returns
 returns c =
     c.contains.ensures
-    ∙ has-map (λ k. k.now) c.args.name.now c.self.inside.names.keys
+    ∙ has-map (λ k. k.bytes.now) c.args.name.now c.self.inside.names.keys
     ∙ ap (λ names. has_name names c.args.name.now) c.self.view_is

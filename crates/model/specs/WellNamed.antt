@@ -1,4 +1,4 @@
-use Rattle.std.specs.Prelude.{ℕ, List, Bool, true, false, ◌&&◌, Option, Some, None}
+use Rattle.std.specs.Prelude.{ℕ, List, Bool, true, ◌&&◌, Option, Some, None}
 use Rattle.std.specs.List.{list_all}
 use Rattle.model.specs.declared.instructions.ArrayOperation.{ArrayOperation}
 use Rattle.model.specs.declared.instructions.ArrayOperation.TheVariants.{New as NewArray, NewOf, Length, Load, Store}
@@ -13,9 +13,10 @@ use Rattle.model.specs.CodeListings.{CodeListing}
 use Rattle.model.specs.Table.Next.{Listed}
 use Rattle.model.specs.Texts.Names.{is_class_name}
 
--- Names that the class files of a program have (JVMS 4.2.1, 4.4.1): those of classes are no arrays' descriptors.
+-- Names that are names (JVMS 4.2.1, 4.4.1): a class's name is no array's descriptor, and a type is named by a class's name or
+-- an array's descriptor. So it is in the listing of every text and of every class file.
 
--- a type that an instruction tests against or makes arrays of is named by a class's name or an array's descriptor
+-- the type of which arrays are made
 abbrev pub array_is_named : ArrayOperation (List ℕ) → Bool
 array_is_named (NewArray primitive) = true
 array_is_named (NewOf name) = names_class name
@@ -23,6 +24,7 @@ array_is_named Length = true
 array_is_named (Load kind) = true
 array_is_named (Store kind) = true
 
+-- the type that an object is tested against
 abbrev pub class_is_named : ClassOperation → List ℕ → Bool
 class_is_named New name = true
 class_is_named CheckCast name = names_class name
@@ -50,31 +52,9 @@ abbrev pub types_are_named_in : Option CodeListing → Bool
 types_are_named_in None = true
 types_are_named_in (Some code) = list_all (λ (i : Placed). type_is_named i.instruction) code.instructions
 
--- a class has a class's name, and its code names types as class files do
-abbrev pub has_names : ClassListing → Bool
-has_names c = is_class_name c.name && list_all (λ (m : Method). types_are_named_in m.code) c.methods
+abbrev pub types_are_named : List Method → Bool
+types_are_named methods = list_all (λ (m : Method). types_are_named_in m.code) methods
 
--- ---- instructions that name a type, or work on arrays
-
-abbrev pub class_goes_by_type : ClassOperation → Bool
-class_goes_by_type New = false
-class_goes_by_type CheckCast = true
-class_goes_by_type InstanceOf = true
-
-abbrev pub goes_by_type : Listed → Bool
-goes_by_type Nop = false
-goes_by_type (Constant c) = false
-goes_by_type (Local access) = false
-goes_by_type (Stack operation) = false
-goes_by_type (Number operation) = false
-goes_by_type (Branch test target) = false
-goes_by_type (TableSwitch table) = false
-goes_by_type (LookupSwitch lookup) = false
-goes_by_type (Return kind) = false
-goes_by_type (StaticField access member) = false
-goes_by_type (Field access member) = false
-goes_by_type (Array operation) = true
-goes_by_type (Class operation name) = class_goes_by_type operation
-goes_by_type (Invoke invocation member) = false
-goes_by_type Throw = false
-goes_by_type (Monitor operation) = false
+-- the class has a class's name, and its code names types
+unfoldable pub is_well_named : ClassListing → Bool
+is_well_named c = is_class_name c.name && types_are_named c.methods

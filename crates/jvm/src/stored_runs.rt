@@ -1,0 +1,83 @@
+//! Runs that are stored as journals, replayed from them, and journals that are upgraded.
+
+use crate::executing::{Ending, ended, read_all, read_one, refused, write_one, write_output};
+use crate::files::Files;
+use crate::options::{ReplayOptions, UpgradeOptions};
+use crate::replaying::{ReplayedError, replayed};
+use model::journal_parts::JournalParts;
+use model::stored_journals::StoredJournal;
+use scheduler::journal_texts::errors::JournalError;
+use scheduler::journal_texts::reading::read_journal;
+use scheduler::journal_texts::writing::write_journal;
+use scheduler::replaying::ReplayError;
+use std::alloc::Global;
+use std::io::Write;
+
+/// Writes a journal into a file, in version 2.
+pub fn write_stored<F: Files, J: JournalParts>(
+    alloc: Global,
+    files: &mut F,
+    name: &String,
+    journal: &J,
+) -> Result<(), Ending> {
+    match write_journal(alloc, journal) {
+        Ok(text) => write_one(alloc, files, name, text.as_slice()),
+        Err(_) => Err(Ending::memory()),
+    }
+}
+
+/// The journal in a file, of either version.
+fn read_stored<F: Files>(
+    alloc: Global,
+    files: &mut F,
+    name: &String,
+) -> Result<StoredJournal, Ending> {
+    let text = read_one(alloc, files, name)?;
+    match read_journal(alloc, text.as_slice()) {
+        Ok(journal) => Ok(journal),
+        Err(JournalError::Memory) => Err(Ending::memory()),
+        Err(error) => Err(Ending::told(2, format!(in alloc; "journal {error}"))),
+    }
+}
+
+/// The end of a replay that has no world.
+fn not_replayed(alloc: Global, names: &[String], error: &ReplayedError) -> Ending {
+    match error {
+        ReplayedError::Launch(error) => refused(alloc, names, error),
+        ReplayedError::Replay(ReplayError::Memory) => Ending::memory(),
+        ReplayedError::Replay(ReplayError::Frames) => {
+            Ending::told(2, format!(in alloc; "world: P4"))
+        }
+        ReplayedError::Replay(error) => Ending::told(2, format!(in alloc; "journal {error}")),
+    }
+}
+
+/// Replays a journal on the program of some files, and writes the output. The end is that of the run.
+pub fn replay<F: Files, W: Write>(
+    alloc: Global,
+    options: &ReplayOptions,
+    files: &mut F,
+    output: &mut W,
+) -> Result<Ending, Ending> {
+    let journal = read_stored(alloc, files, &options.journal)?;
+    let names = options.files.as_slice();
+    let sources = read_all(alloc, files, names)?;
+    match replayed(alloc, sources, &journal) {
+        Ok(world) => {
+            write_output(alloc, &world, output)?;
+            Ok(ended(alloc, &world))
+        }
+        Err(error) => Err(not_replayed(alloc, names, &error)),
+    }
+}
+
+/// Writes a journal of either version in version 2.
+pub fn upgrade<F: Files>(
+    alloc: Global,
+    options: &UpgradeOptions,
+    files: &mut F,
+) -> Result<Ending, Ending> {
+    let journal = read_stored(alloc, files, &options.journal)?;
+    write_stored(alloc, files, &options.out, &journal)?;
+    Ok(Ending::good())
+}

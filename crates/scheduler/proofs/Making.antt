@@ -1,0 +1,124 @@
+-- Journals whose rows their turns made: one row more, and what any of its rows is.
+use Rattle.std.proofs.Common.{◌≡◌, ◌<◌, ◌+◌, ℕ, zero, suc, List, [], ◌∷◌, ◌++◌, length, take, get_or, Option, Some, None, is_some, true≢false, refl, ap, sym, subst, ◌∙◌}
+use Rattle.std.proofs.lemmas.List.{take_more}
+use Rattle.std.proofs.lemmas.Option.{slice_get-get_or}
+use Rattle.std.specs.Prelude.{slice_get}
+use Rattle.model.specs.declared.journals.HeapShape.{HeapShape}
+use Rattle.model.specs.declared.journals.Limits.{Limits}
+use Rattle.model.specs.declared.journals.Row.{Row}
+use Rattle.model.specs.ClassListings.{ClassListing}
+use Rattle.model.specs.declared.turns.Actor.{Actor}
+use Rattle.model.specs.Journals.{JournalValue}
+use Rattle.model.specs.Machines.{Machine, Recorded, advance, advance_all, after_turn_by, machine_of, noted, opened, opening_machine, row_by, row_for, with_row}
+use Rattle.scheduler.specs.declared.replaying.ReplayError.{ReplayError}
+use Rattle.scheduler.specs.declared.replaying.ReplayError.TheVariants.{Row as AtRow, Memory, Frames}
+use Rattle.scheduler.specs.Replaying.{AreMade, DiffersFirst, Excuses, IsMade, with_all}
+use Rattle.scheduler.specs.Workers.{with_workers}
+
+abbrev row_or : Row → Option Row → Row
+row_or other (Some row) = row
+row_or other None = other
+
+module _ (program : List ClassListing) (shape : HeapShape) (limits : Limits) where
+  one_more : (m : Machine) (rows : List Row) (row : Row) → AreMade program shape limits m rows
+      → row_by program limits (advance_all program shape limits m rows) row.actor row.worker ≡ Some row
+      → AreMade program shape limits m (rows ++ row ∷ [])
+  one_more m [] row are is = (is, tt)
+  one_more m (r ∷ rows) row are is = (are.0, one_more (advance program shape limits m r) rows row are.1 is)
+
+  -- each row of them is made by its turn
+  made_at : (m : Machine) (rows : List Row) (n : ℕ) (row : Row) → AreMade program shape limits m rows → slice_get rows n ≡ Some row
+      → row_by program limits (advance_all program shape limits m (take n rows)) row.actor row.worker ≡ Some row
+  made_at m [] n row are there = absurd (true≢false (sym (ap is_some there)))
+  made_at m (r ∷ rows) zero row are there =
+      subst (λ (x : Row). row_by program limits m x.actor x.worker ≡ Some x) (ap (row_or r) there) are.0
+  made_at m (r ∷ rows) (suc n) row are there = made_at (advance program shape limits m r) rows n row are.1 there
+
+-- a journal that a run made, with the row of one more turn
+pub made_noted : (v : Recorded) (row : Row) → IsMade v → row_for v row.actor row.worker ≡ Some row → IsMade (noted v row)
+unfolding machine_of
+made_noted v row is e = record {
+  opens = is.opens;
+  rows = one_more v.program v.journal.shape v.journal.limits (opening_machine v.program v.journal.shape) v.journal.rows row is.rows e;
+}
+
+-- none of its rows differs
+pub none_differs : (v : Recorded) (number : ℕ) → IsMade v → DiffersFirst v number → ⊥
+unfolding machine_of
+none_differs v number is d =
+    d.differs (made_at v.program v.journal.shape v.journal.limits (opening_machine v.program v.journal.shape) v.journal.rows d.before d.row is.rows d.there)
+
+-- ---- a turn and its row
+
+at-end : (rows : List Row) → slice_get rows (length rows) ≡ None
+at-end [] = refl
+at-end (r ∷ rows) = at-end rows
+
+last_pushed : (rows : List Row) (row : Row) → slice_get (rows ++ row ∷ []) (length rows) ≡ Some row
+last_pushed [] row = refl
+last_pushed (r ∷ rows) row = last_pushed rows row
+
+noted_at : (v : Recorded) (made : Option Row) → slice_get (with_row v made).journal.rows (length v.journal.rows) ≡ made
+noted_at v None = at-end v.journal.rows
+noted_at v (Some row) = last_pushed v.journal.rows row
+
+-- what stands behind the rows that there were is the row that the turn made
+pub row_behind : (v : Recorded) (actor : Actor) (worker : ℕ) → slice_get (after_turn_by v actor worker).journal.rows (length v.journal.rows) ≡ row_for v actor worker
+unfolding after_turn_by
+row_behind v actor worker = noted_at v (row_for v actor worker)
+
+-- a turn that makes a row notes it
+pub turn_notes : (v : Recorded) (row : Row) → row_for v row.actor row.worker ≡ Some row → after_turn_by v row.actor row.worker ≡ noted v row
+unfolding after_turn_by
+turn_notes v row e = ap (with_row v) e
+
+-- the same, of the rows that stand after a turn
+pub row_told : (v w : Recorded) (actor : Actor) (worker before : ℕ) (rows : List Row) → w ≡ after_turn_by v actor worker → rows ≡ w.journal.rows → before ≡ length v.journal.rows
+    → slice_get rows before ≡ row_for v actor worker
+row_told v w actor worker before rows after rows_are before_is =
+    ap (λ n. slice_get rows n) before_is ∙ ap (λ (l : List Row). slice_get l (length v.journal.rows)) (rows_are ∙ ap (λ (u : Recorded). u.journal.rows) after)
+    ∙ row_behind v actor worker
+
+-- ---- from row to row
+
+module _ (v u : Recorded) (rows : List Row) (place : ℕ) (d : Row) (inside : place < length rows) (u_is : u ≡ with_all v (take place rows)) where
+  abbrev row : Row
+  row = get_or rows place d
+
+  -- one row more
+  pub made_one : (w : Recorded) (made : Option Row) → w ≡ after_turn_by u row.actor row.worker → made ≡ row_for u row.actor row.worker
+      → made ≡ Some row → w ≡ with_all v (take (place + 1) rows)
+  made_one w made after told same =
+      after ∙ turn_notes u row (sym told ∙ same) ∙ ap (λ (x : Recorded). noted x row) u_is
+      ∙ ap (with_all v) (sym (take_more rows place d inside))
+
+  -- the row differs
+  pub differs_at : (number : ℕ) (made : Option Row) → IsMade u → number ≡ place + 1 → made ≡ row_for u row.actor row.worker
+      → (made ≡ Some row → ⊥) → DiffersFirst (with_all v rows) number
+  differs_at number made is number_is told other = record {
+    before = place;
+    number_is = number_is;
+    row = row;
+    there = slice_get-get_or rows place d inside;
+    made = (subst IsMade u_is is).rows;
+    differs = λ e. other (told ∙ ap (λ (x : Recorded). row_for x row.actor row.worker) u_is ∙ e);
+  }
+
+-- why a journal that a run made isn't replayed
+pub excuse_of_made : (v : Recorded) (e : ReplayError) → IsMade v → Excuses v e → e ≡ Memory
+excuse_of_made v (AtRow number) is excuse = absurd (none_differs v number is excuse)
+excuse_of_made v Frames is excuse = absurd (true≢false (sym is.opens ∙ excuse.0))
+excuse_of_made v Memory is excuse = refl
+
+-- a world that opened, got its workers and the rows of a journal is that of the journal
+pub all_is : (program : List ClassListing) (j : JournalValue) (w u : Recorded) (shape : HeapShape) (limits : Limits) (workers : ℕ) (rows : List Row) → w ≡ opened program shape limits
+    → u ≡ with_workers w workers → shape ≡ j.shape → limits ≡ j.limits → workers ≡ j.workers → rows ≡ j.rows → with_all u rows ≡ record { program = program; journal = j }
+all_is program j w u shape limits workers rows opening wide shape_is limits_is workers_is rows_is =
+    ap (λ (x : Recorded). with_all x rows) (wide ∙ ap (λ (x : Recorded). with_workers x workers) opening)
+    ∙ ap (λ (s : HeapShape). recorded_of s limits workers rows) shape_is
+    ∙ ap (λ (l : Limits). recorded_of j.shape l workers rows) limits_is
+    ∙ ap (λ (n : ℕ). recorded_of j.shape j.limits n rows) workers_is
+    ∙ ap (λ (r : List Row). recorded_of j.shape j.limits j.workers r) rows_is
+  where
+    recorded_of : HeapShape → Limits → ℕ → List Row → Recorded
+    recorded_of s l n r = record { program = program; journal = record { shape = s; limits = l; workers = n; rows = r } }

@@ -1,0 +1,126 @@
+//! A world from its program and its journal.
+ghost use Rattle.std.specs.Prelude.{◌≡◌, ◌<◌, ◌↔◌, [], IfOk, IfErr, MatchResult, OnOk, IsTrue, Some, slice_get};
+ghost use Rattle.model.specs.Journals.{HeadFits, AreOfWorkers};
+ghost use Rattle.model.specs.Machines.{after_turn_by, row_for};
+ghost use Rattle.scheduler.specs.Replaying.{Excuses, IsMade, with_all};
+
+use crate::worlds::{World, WorldError};
+use loader::programs::Program;
+use model::journal_parts::JournalParts;
+use model::journals::{Journal, Row};
+use model::stored_journals::StoredJournal;
+use model::turns::Actor;
+use std::alloc::Global;
+use thiserror::Error;
+
+/// Why a journal doesn't replay.
+#[derive(Clone, Copy, Debug, PartialEq, Eq, Drop, Error)]
+pub enum ReplayError {
+    /// N5: the first row, counted from 1, whose outcome isn't that of its turn, or whose turn is refused.
+    #[error("N5 at row {0}")]
+    Row(usize),
+    /// N6: memory ran out.
+    #[error("N6")]
+    Memory,
+    /// P4: the frames with which thread 0 opens pass a thread's limits.
+    #[error("P4")]
+    Frames,
+}
+
+/// A journal whose shape and limits are in range, with 1 to 9 workers and no row of another one.
+pub trait SoundJournal: JournalParts {
+    /// Every such journal is so.
+    fn is_sound(&self)
+        ensures head { HeadFits (Self.journal_of self.now).shape (Self.journal_of self.now).limits (Self.journal_of self.now).workers }
+        ensures rows { AreOfWorkers (Self.journal_of self.now).workers (Self.journal_of self.now).rows };
+}
+
+impl SoundJournal for Journal {
+    fn is_sound(&self) {
+        let _workers = Journal::workers(self);
+        let _rows = Journal::rows(self);
+    }
+}
+
+impl SoundJournal for StoredJournal {
+    fn is_sound(&self) {
+        let _workers = StoredJournal::workers(self);
+        let _rows = StoredJournal::rows(self);
+    }
+}
+
+/// The row at a place, from 0.
+fn row_at(rows: &[Row], place: usize) -> Option<Row>
+    ensures { result ≡ slice_get rows.now place }
+{
+    rows.get(place).copied()
+}
+
+/// One turn of an actor, made by a worker; the row that it made, if it made one.
+fn turn_row(world: &mut World, actor: Actor, worker: u8) -> Option<Row>
+    requires { worker < world.old.journal.workers }
+    ensures before { IsMade world.old }
+    ensures world { world.new ≡ after_turn_by world.old actor worker }
+    ensures row { result ≡ row_for world.old actor worker }
+{
+    world.is_made();
+    let before = world.journal().rows().len();
+    let _ = world.turn_by(actor, worker);
+    row_at(world.journal().rows(), before)
+}
+
+/// Whether a turn made this row.
+fn is_row(made: Option<Row>, row: Row) -> bool
+    ensures { IsTrue result ↔ (made ≡ Some row) }
+{
+    made == Some(row)
+}
+
+/// Makes one turn for each row, in a world that has made none: N5 with the first row that isn't the one of its turn.
+fn make_rows(world: &mut World, rows: &[Row]) -> Result<(), ReplayError>
+    requires empty { world.old.journal.rows ≡ [] }
+    requires workers { AreOfWorkers world.old.journal.workers rows.now }
+    ensures { MatchResult result (λ _. world.new ≡ with_all world.old rows.now) (Excuses (with_all world.old rows.now)) }
+{
+    for (place, row) in rows.iter().enumerate() {
+        let made = turn_row(world, row.actor, row.worker);
+        if !is_row(made, *row) {
+            return Err(ReplayError::Row(place + 1));
+        }
+    }
+    Ok(())
+}
+
+/// The world of a program and a journal: opened with the journal's shape, limits and workers, and moved by one turn for
+/// each row, of its actor and by its worker. It takes a turn's time for each row, and all the memory that it takes is taken
+/// at the opening.
+///
+/// N5 tells the first row whose outcome isn't that of its turn; a turn that is refused is such a row, also past the limit
+/// of steps. P4 where the frames that the program opens with don't fit a thread; N6 where memory runs out. A journal that
+/// a run of the same program made is refused for memory alone.
+pub fn replay<J: SoundJournal>(
+    alloc: Global,
+    program: Program,
+    journal: &J,
+) -> Result<World, ReplayError>
+    ensures world { IfOk result (λ world. world ≡ record { program = program; journal = J.journal_of journal.now }) }
+    ensures made { OnOk result (IsMade (record { program = program; journal = J.journal_of journal.now })) }
+    ensures refused { IfErr result (Excuses (record { program = program; journal = J.journal_of journal.now })) }
+    ensures again { IfErr result (λ e. IsMade (record { program = program; journal = J.journal_of journal.now }) → e ≡ ReplayError.Memory) }
+{
+    journal.is_sound();
+    let mut world = match World::new(alloc, program, journal.shape(), journal.limits()) {
+        Ok(world) => world,
+        Err(WorldError::Frames) => return Err(ReplayError::Frames),
+        Err(WorldError::Memory) => return Err(ReplayError::Memory),
+        Err(WorldError::Shape | WorldError::Limits) => unreachable!(),
+    };
+    world.set_workers(journal.workers());
+    match make_rows(&mut world, journal.rows()) {
+        Ok(()) => {
+            world.is_made();
+            Ok(world)
+        }
+        Err(error) => Err(error),
+    }
+}

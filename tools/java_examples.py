@@ -1,0 +1,93 @@
+#!/usr/bin/env python3
+"""Writes what the gate wants of the Java programs in examples/java, which `java` and `javac` make of them.
+
+Usage: java_examples.py [--check]
+
+Each source there that has a `main()` without arguments is compiled, without debug tables, its version is set to 49.0, and
+`java` runs it. Its class files are written beside it, what `java` prints into NAME.out, and both into
+crates/jvm/src/java_tests.rt, the programs that the tests of `jvm` run. With --check nothing is written, and the tool ends
+with status 1 where a file isn't what it would write.
+"""
+import glob
+import os
+import re
+import subprocess
+import sys
+import tempfile
+
+from java_agrees import BEGIN, as_version_49
+
+ROOT = os.path.join(os.path.dirname(os.path.abspath(__file__)), "..")
+FOLDER = os.path.join(ROOT, "examples", "java")
+TESTS = os.path.join(ROOT, "crates", "jvm", "src", "java_tests.rt")
+MARK = "// What follows is written by tools/java_examples.py.\n"
+
+
+def output_of(words, **options):
+    return subprocess.run(words, stdout=subprocess.PIPE, check=True, timeout=60, **options).stdout
+
+
+def made(source):
+    """Gives the class files of a source by name, main's first, and what it prints."""
+    name = os.path.basename(source).removesuffix(".java")
+    with tempfile.TemporaryDirectory() as room:
+        with open(f"{room}/Begin.java", "w", encoding="utf-8") as file:
+            file.write(BEGIN % name)
+        javac = ["javac", "-g:none", "-nowarn", "--release", "8", "-Xlint:-options", "-sourcepath", f"{room}:{FOLDER}"]
+        output_of([*javac, "-d", room, f"{room}/Begin.java"])
+        printed = output_of(["java", "-cp", room, "Begin"])
+        files = {}
+        for path in as_version_49(room):
+            with open(path, "rb") as file:
+                files[os.path.basename(path)] = file.read()
+        return name, files, printed
+
+
+def constant(name, kind, parts):
+    """A constant of text in several lines."""
+    return f"\nconst {name}: {kind} = {parts};\n"
+
+
+def hexed(data):
+    digits = data.hex()
+    return "\\\n    ".join(digits[at : at + 100] for at in range(0, len(digits), 100))
+
+
+def constants(name, files, printed):
+    """The constants of a program: the digits of its class files, and its output."""
+    words = re.sub(r"(?<!^)(?=[A-Z])", "_", name).upper()
+    classes = ",\n".join(f'    "{hexed(data)}"' for data in files.values())
+    lines = printed.decode("latin-1").replace("\\", "\\\\").replace('"', '\\"')
+    lines = "".join(c if c == "\n" or " " <= c <= "~" else "\\x%02x" % ord(c) for c in lines)
+    yield f"\nconst {words}: &[&str] = &[\n{classes},\n];\n"
+    yield f'\nconst {words}_PRINTS: &[u8] = b"\\\n{lines}";\n'
+
+
+def main():
+    wanted, tests = {}, []
+    for source in sorted(glob.glob(os.path.join(FOLDER, "*.java"))):
+        with open(source, encoding="utf-8") as file:
+            if not re.search(r"static void main\(\)", file.read()) or source.endswith("Mix.java"):
+                continue
+        name, files, printed = made(source)
+        wanted.update({os.path.join(FOLDER, path): data for path, data in files.items()})
+        wanted[os.path.join(FOLDER, name + ".out")] = printed
+        tests += constants(name, files, printed)
+    with open(TESTS, encoding="utf-8") as file:
+        wanted[TESTS] = (file.read().split(MARK)[0] + MARK + "".join(tests)).encode()
+    differ = 0
+    for path, data in wanted.items():
+        if os.path.exists(path):
+            with open(path, "rb") as file:
+                if file.read() == data:
+                    continue
+        differ += 1
+        print(os.path.relpath(path, ROOT))
+        if "--check" not in sys.argv:
+            with open(path, "wb") as file:
+                file.write(data)
+    return 1 if differ and "--check" in sys.argv else 0
+
+
+if __name__ == "__main__":
+    sys.exit(main())
