@@ -3,12 +3,13 @@
 ghost use Rattle.std.specs.Prelude.{◌≡◌, ℕ, ◌<◌, ◌≤◌, ◌^◌, length, IsOk, OnErr};
 ghost use Rattle.model.specs.Frames.{running_frame, with_running, as_int};
 ghost use Rattle.model.specs.declared.values.Kind.TheVariants.{Int as IntKind};
-ghost use Rattle.model.specs.Locals.{entries_of as width_of, has_local, of_kind as found, value_on, local_at, freed, with_local, stored, stored_at};
+ghost use Rattle.model.specs.Locals.{entries_of as width_of, has_local, value_on, local_at, freed, with_local, stored, stored_at};
 ghost use Rattle.frames.specs.Told.{told, moved_on};
 
+use crate::slots::{Slot, local_in, operand_in, slot_of};
 use crate::thread_frames::Frames;
 use model::turns::{Abrupt, Fault};
-use model::values::{Entry, Kind, Value};
+use model::values::{Kind, Value};
 
 #[tactic(auto, using(crate::proofs::RunningLemmas::changes))]
 impl Frames {
@@ -29,10 +30,9 @@ impl Frames {
         if !self.has_local(kind, index) {
             return Err(Fault::WrongLocal);
         }
-        match self.entry(index as usize) {
-            Some(Entry::Holds(value)) => of_kind(kind, value),
-            Some(Entry::Unset) => Err(Fault::WrongKind),
-            Some(Entry::UpperHalf) | None => Err(Fault::WrongLocal),
+        match self.local(index as usize) {
+            Some(slot) => local_in(kind, slot),
+            None => Err(Fault::WrongLocal),
         }
     }
 
@@ -53,7 +53,7 @@ impl Frames {
         ensures value { result ≡ value_on kind (running_frame self.now).stack }
         ensures deep { IsOk result → 1 ≤ length (running_frame self.now).stack }
     {
-        of_kind(kind, self.value(0)?)
+        operand_in(kind, self.slot(0)?)
     }
 
     /// Makes the other half of a long unset whose one half stands at this index.
@@ -62,10 +62,10 @@ impl Frames {
         requires small { index < 2 ^ 32 }
         ensures { self.new ≡ with_running self.old (record (running_frame self.old) { locals = freed (running_frame self.old).locals index }) }
     {
-        match self.entry(index) {
-            Some(Entry::Holds(Value::Long(_))) => self.set_entry(index + 1, Entry::Unset),
-            Some(Entry::UpperHalf) => self.set_entry(index.saturating_sub(1), Entry::Unset),
-            Some(Entry::Holds(Value::Int(_) | Value::Ref(_)) | Entry::Unset) | None => {}
+        match self.local(index) {
+            Some(Slot::Long(_)) => self.set_local(index + 1, Slot::Unset),
+            Some(Slot::Upper) => self.set_local(index.saturating_sub(1), Slot::Unset),
+            Some(Slot::Unset | Slot::Int(_) | Slot::Null | Slot::Ref(_)) | None => {}
         }
     }
 
@@ -77,12 +77,12 @@ impl Frames {
         let index = index as usize;
         self.free(index);
         match value {
-            Value::Int(_) => self.set_entry(index, Entry::Holds(value)),
-            Value::Ref(_) => self.set_entry(index, Entry::Holds(value)),
+            Value::Int(_) => self.set_local(index, slot_of(value)),
+            Value::Ref(_) => self.set_local(index, slot_of(value)),
             Value::Long(_) => {
                 self.free(index + 1);
-                self.set_entry(index, Entry::Holds(value));
-                self.set_entry(index + 1, Entry::UpperHalf);
+                self.set_local(index, slot_of(value));
+                self.set_local(index + 1, Slot::Upper);
             }
         }
     }
@@ -120,16 +120,5 @@ fn entries_of(kind: Kind) -> usize
     match kind {
         Kind::Int | Kind::Ref => 1,
         Kind::Long => 2,
-    }
-}
-
-/// A value of the kind that is wanted; else F3.
-fn of_kind(kind: Kind, value: Value) -> Result<Value, Fault>
-    ensures { result ≡ found kind value }
-{
-    match (kind, value) {
-        (Kind::Int, Value::Int(_)) | (Kind::Long, Value::Long(_)) | (Kind::Ref, Value::Ref(_)) =>
-            Ok(value),
-        _ => Err(Fault::WrongKind),
     }
 }

@@ -3,9 +3,9 @@ ghost use Rattle.std.specs.Prelude.{◌≡◌, ℕ, ◌<◌, ◌≤◌, length, 
 ghost use Rattle.model.specs.Frames.{running_frame, int_on, long_on, two_ints_on, two_longs_on, count_and_long_on, ref_on, two_refs_on};
 ghost use Rattle.model.specs.Values.{units_of_all};
 
+use crate::slots::{int_in, long_in, reference_in};
 use crate::thread_frames::Frames;
 use model::turns::Fault;
-use model::values::Value;
 
 #[tactic(auto, using(crate::proofs::OperandLemmas::operands))]
 impl Frames {
@@ -14,10 +14,7 @@ impl Frames {
         requires { 0 < length self.now }
         ensures { result ≡ int_on (drop above (running_frame self.now).stack) }
     {
-        match self.value(above)? {
-            Value::Int(z) => Ok(z),
-            Value::Long(_) | Value::Ref(_) => Err(Fault::WrongKind),
-        }
+        int_in(self.slot(above)?)
     }
 
     /// The long below so many values; F1 where there is no value, F3 where it is no long.
@@ -25,10 +22,7 @@ impl Frames {
         requires { 0 < length self.now }
         ensures { result ≡ long_on (drop above (running_frame self.now).stack) }
     {
-        match self.value(above)? {
-            Value::Long(z) => Ok(z),
-            Value::Int(_) | Value::Ref(_) => Err(Fault::WrongKind),
-        }
+        long_in(self.slot(above)?)
     }
 
     /// The reference below so many values; F1 where there is no value, F3 where it is no reference.
@@ -36,10 +30,7 @@ impl Frames {
         requires { 0 < length self.now }
         ensures { result ≡ ref_on (drop above (running_frame self.now).stack) }
     {
-        match self.value(above)? {
-            Value::Ref(r) => Ok(r),
-            Value::Int(_) | Value::Long(_) => Err(Fault::WrongKind),
-        }
+        reference_in(self.slot(above)?)
     }
 
     /// The int at the top; F1, F3.

@@ -4,7 +4,8 @@ ghost use Rattle.model.specs.Frames.{running_frame, with_running, replaced, repl
 ghost use Rattle.model.specs.Values.{units_of as units_taken, units_of_all};
 ghost use Rattle.frames.specs.Told.{told, moved_on};
 
-use crate::thread_frames::{Frames, units_of};
+use crate::slots::{units_in, units_of};
+use crate::thread_frames::Frames;
 use model::turns::{Abrupt, Fault};
 use model::values::Value;
 
@@ -17,7 +18,7 @@ impl Frames {
     {
         let mut units = 0;
         for above in 0..count {
-            units += units_of(self.held(above as usize));
+            units += units_in(self.held(above as usize));
         }
         units
     }
