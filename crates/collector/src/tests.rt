@@ -86,6 +86,6 @@ fn the_second_cycle_frees(rt: HostRuntime) -> Result<(), Fail> {
 #[test]
 fn the_errors_alone_are_reached(rt: HostRuntime) -> Result<(), Fail> {
     let marks = reached(rt.alloc(), &Nothing, 4)?;
-    assert!(rt; marks.as_slice() == [false, true, true, false]);
+    assert!(rt; marks.as_slice() == [false, true, true, false].as_slice());
     Ok(())
 }
