@@ -41,6 +41,9 @@ impl World {
     fn sweep(&mut self, gc: u32)
         ensures { self.new ≡ swept self.old 0 gc }
     {
+        if gc == 0 {
+            return; // no look at the status
+        }
         match self.status() {
             Status::Running => self.collect(gc),
             Status::Finished | Status::Stuck | Status::Faulted => {}
