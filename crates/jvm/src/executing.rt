@@ -11,7 +11,7 @@ use classfile::ClassError;
 use jasmin::Fault as TextFault;
 use loader::LoadError;
 use model::journals::{HeapShape, Limits};
-use model::turns::{Actor, Status, Turn};
+use model::turns::Status;
 use model::views::ThreadState;
 use scheduler::worlds::{World, WorldError};
 use std::alloc::{AllocError, Global};
@@ -129,34 +129,11 @@ pub fn refused(alloc: Global, names: &[String], error: &LaunchError) -> Ending {
     }
 }
 
-/// Makes so many turns of the collector, where the world runs: its turns change nothing of that.
-fn collect(world: &mut World, turns: u32) {
-    if world.status() != Status::Running {
-        return;
-    }
-    for _ in 0..turns {
-        let _ = world.turn(Actor::Collector);
-    }
-}
-
 /// Makes turns of the thread that is picked, each followed by so many of the collector, until the world runs no more or a
-/// thread's turn isn't done.
+/// thread's turn isn't done: as many rounds as the limit of steps allows, and one more.
 fn carry_on(world: &mut World, gc: u32) {
     let steps = world.journal().limits().steps;
-    for _ in 0..=steps {
-        if world.status() != Status::Running {
-            return;
-        }
-        match world.pick() {
-            Some(thread) => {
-                if world.turn(Actor::Thread(thread)) != Turn::Done {
-                    return;
-                }
-            }
-            None => return,
-        }
-        collect(world, gc);
-    }
+    let _ = world.rounds(steps.saturating_add(1), gc);
 }
 
 /// A line for each thread that was ended by an exception, by number, each but the first behind `jvm: `; empty where there is
