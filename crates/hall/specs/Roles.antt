@@ -58,7 +58,7 @@ swept_after (Fault f) v worker gc = v
 swept_after OutputFull v worker gc = v
 swept_after StepLimit v worker gc = v
 
--- ---- a turn of a role
+-- ---- one round of a role
 
 abbrev pub after_allowed : Recorded → Role → ℕ → Recorded
 after_allowed v Carrier worker = carried v worker (pick_of v)
@@ -70,9 +70,61 @@ answer_allowed v Carrier worker = carried_answer v worker (pick_of v)
 answer_allowed v Collecting worker = collected_answer v worker
 answer_allowed v (Both gc) worker = carried_answer v worker (pick_of v)
 
--- the world after a turn of a role by a worker, and what it answers; a worker that the journal doesn't know does nothing
-unfoldable pub after_role : Recorded → Role → ℕ → Recorded
-after_role v role worker = if nat_lt worker v.journal.workers then after_allowed v role worker else v
+-- ---- rounds of a role: a turn as above and, where it was done, so many more
 
-unfoldable pub answer_role : Recorded → Role → ℕ → Turn
-answer_role v role worker = if nat_lt worker v.journal.workers then answer_allowed v role worker else NotReady
+abbrev pub is_done : Turn → Bool
+is_done Done = true
+is_done NotReady = false
+is_done Stopped = false
+is_done (Fault f) = false
+is_done OutputFull = false
+is_done StepLimit = false
+
+-- rounds that found nobody ready at their end were done all the same
+abbrev pub done_so_far : Turn → Turn
+done_so_far Done = Done
+done_so_far NotReady = Done
+done_so_far Stopped = Stopped
+done_so_far (Fault f) = Fault f
+done_so_far OutputFull = OutputFull
+done_so_far StepLimit = StepLimit
+
+-- so many rounds more, which end with the first that isn't done
+abbrev pub after_more : Recorded → Role → ℕ → ℕ → Recorded
+after_more v role worker zero = v
+after_more v role worker (suc n) =
+    if is_done (answer_allowed v role worker) then after_more (after_allowed v role worker) role worker n else after_allowed v role worker
+
+abbrev pub answer_more : Recorded → Role → ℕ → ℕ → Turn
+answer_more v role worker zero = Done
+answer_more v role worker (suc n) =
+    if is_done (answer_allowed v role worker) then answer_more (after_allowed v role worker) role worker n
+    else done_so_far (answer_allowed v role worker)
+
+-- a round and, where it is done, so many more
+abbrev pub after_rounds : Recorded → Role → ℕ → ℕ → Recorded
+after_rounds v role worker extra =
+    if is_done (answer_allowed v role worker) then after_more (after_allowed v role worker) role worker extra else after_allowed v role worker
+
+abbrev pub answer_rounds : Recorded → Role → ℕ → ℕ → Turn
+answer_rounds v role worker extra =
+    if is_done (answer_allowed v role worker) then answer_more (after_allowed v role worker) role worker extra else answer_allowed v role worker
+
+-- the collector's rounds behind its first are its turns, each if the world is running
+abbrev pub after_known : Recorded → Role → ℕ → ℕ → Recorded
+after_known v Carrier worker extra = after_rounds v Carrier worker extra
+after_known v Collecting worker extra = swept_after (collected_answer v worker) (collected v worker) worker extra
+after_known v (Both gc) worker extra = after_rounds v (Both gc) worker extra
+
+abbrev pub answer_known : Recorded → Role → ℕ → ℕ → Turn
+answer_known v Carrier worker extra = answer_rounds v Carrier worker extra
+answer_known v Collecting worker extra = collected_answer v worker
+answer_known v (Both gc) worker extra = answer_rounds v (Both gc) worker extra
+
+-- the world after a turn of a role by a worker, with so many rounds behind the first, and what it answers; a worker that the
+-- journal doesn't know does nothing
+unfoldable pub after_role : Recorded → Role → ℕ → ℕ → Recorded
+after_role v role worker extra = if nat_lt worker v.journal.workers then after_known v role worker extra else v
+
+unfoldable pub answer_role : Recorded → Role → ℕ → ℕ → Turn
+answer_role v role worker extra = if nat_lt worker v.journal.workers then answer_known v role worker extra else NotReady
