@@ -15,9 +15,10 @@ use Rattle.model.specs.Ready.{is_ready}
 use Rattle.model.specs.Turns.{overflows, actor_refusal, refusal_after, refusal}
 use Rattle.model.specs.Machines.{Recorded, machine_of, told_of, row_unless_refused, with_row, answer_unless_refused, after_turn_by, answer_to}
 use Rattle.model.specs.Observers.{pick_of, status_of, is_running}
+use Rattle.scheduler.specs.Rounds.{answered_by, is_done, turned_by}
 use Rattle.hall.specs.declared.roles.Role.{Role}
 use Rattle.hall.specs.declared.roles.Role.TheVariants.{Both, Carrier, Collector as Collecting}
-use Rattle.hall.specs.Roles.{carried, carried_answer, last_is_collector, swept_once, swept, swept_after, after_allowed, answer_allowed, is_done, done_so_far, after_more, answer_more, after_rounds, answer_rounds, after_known, answer_known, after_role, answer_role, collected, collected_answer}
+use Rattle.hall.specs.Roles.{last_is_collector, swept_once, swept, swept_after, after_allowed, answer_allowed, done_so_far, after_more, answer_more, after_rounds, answer_rounds, after_known, answer_known, after_role, answer_role, collected, collected_answer}
 use Rattle.hall.specs.Shares.{ShareValue, counted_on, with_rows, rows_by, gc_of, times, Rises, Takes, CountsRows}
 
 -- ---- a refused turn makes no row, and any other makes one
@@ -122,7 +123,7 @@ module _ (v w : Recorded) (actor : Actor) (worker : ℕ) (t : Turn) (is : w ≡ 
 
 -- ---- a role's turn
 
-carried_adds : (v : Recorded) (worker : ℕ) (picked : Option ℕ) → Adds v (carried v worker picked) worker (rows_by (carried_answer v worker picked))
+carried_adds : (v : Recorded) (worker : ℕ) (picked : Option ℕ) → Adds v (turned_by v worker picked) worker (rows_by (answered_by v worker picked))
 carried_adds v worker None = adds_none v worker 0 refl
 carried_adds v worker (Some t) = turn_adds v (Thread t) worker
 
@@ -158,7 +159,7 @@ swept_adds worker (suc n) v =
 -- ---- one round
 
 -- how many rows one round with this answer makes
-RisesOnce : Role → Turn → ℕ → Type 0
+abbrev RisesOnce : Role → Turn → ℕ → Type 0
 RisesOnce role Done n = (1 ≤ n) × (n ≤ 1 + gc_of role)
 RisesOnce role (Fault f) n = n ≡ 1
 RisesOnce role NotReady n = n ≡ 0
@@ -200,14 +201,14 @@ collected_if v worker true = adds_none v worker 0 refl
 collected_if v worker false = turn_adds v Collector worker
 
 allowed_adds : (v : Recorded) (role : Role) (worker : ℕ) → OnceAdds v (after_allowed v role worker) role (answer_allowed v role worker) worker
-allowed_adds v Carrier worker = role_once v _ Carrier (carried_answer v worker (pick_of v)) worker (carried_adds v worker (pick_of v))
+allowed_adds v Carrier worker = role_once v _ Carrier (answered_by v worker (pick_of v)) worker (carried_adds v worker (pick_of v))
 allowed_adds v Collecting worker = role_once v _ Collecting (collected_answer v worker) worker (collected_if v worker (last_is_collector v))
-allowed_adds v (Both gc) worker = both_adds v (carried v worker (pick_of v)) gc worker (carried_answer v worker (pick_of v)) (carried_adds v worker (pick_of v))
+allowed_adds v (Both gc) worker = both_adds v (turned_by v worker (pick_of v)) gc worker (answered_by v worker (pick_of v)) (carried_adds v worker (pick_of v))
 
 -- ---- more rounds
 
 -- how many rows so many more rounds make at most, the last of which has this answer
-RisesMore : Role → ℕ → Turn → ℕ → Type 0
+abbrev RisesMore : Role → ℕ → Turn → ℕ → Type 0
 RisesMore role extra Done n = n ≤ times extra (1 + gc_of role)
 RisesMore role extra (Fault f) n = (1 ≤ n) × (n + (1 + gc_of role) ≤ 1 + times extra (1 + gc_of role))
 RisesMore role extra NotReady n = ⊥
@@ -222,7 +223,7 @@ record MoreAdds (v w : Recorded) (role : Role) (extra : ℕ) (answer : Turn) (wo
 
 -- a round before them
 grown : (role : Role) (extra d n : ℕ) (t : Turn) → d ≤ 1 + gc_of role → RisesMore role extra t n → RisesMore role (suc extra) t (d + n)
-grown role extra d n Done few h = omega (arith, few, h)
+grown role extra d n Done few h = omega arith
 grown role extra d n (Fault f) few h = (let a = h.0 in omega arith, let b = h.1 in omega arith)
 grown role extra d n NotReady few h = absurd h
 grown role extra d n Stopped few h = omega arith

@@ -7,18 +7,9 @@ use Rattle.model.specs.declared.turns.Turn.{Turn}
 use Rattle.model.specs.declared.turns.Turn.TheVariants.{Done, NotReady, Stopped, Fault, OutputFull, StepLimit}
 use Rattle.model.specs.Machines.{Recorded, after_turn_by, answer_to}
 use Rattle.model.specs.Observers.{pick_of, status_of, is_running}
+use Rattle.scheduler.specs.Rounds.{answered_by, is_done, turned_by}
 use Rattle.hall.specs.declared.roles.Role.{Role}
 use Rattle.hall.specs.declared.roles.Role.TheVariants.{Both, Carrier, Collector as Collecting}
-
--- ---- a turn of the picked thread
-
-abbrev pub carried : Recorded → ℕ → Option ℕ → Recorded
-carried v worker None = v
-carried v worker (Some t) = after_turn_by v (Thread t) worker
-
-abbrev pub carried_answer : Recorded → ℕ → Option ℕ → Turn
-carried_answer v worker None = NotReady
-carried_answer v worker (Some t) = answer_to v (Thread t) worker
 
 -- ---- a collector's turn, unless the last row is the collector's
 
@@ -61,24 +52,16 @@ swept_after StepLimit v worker gc = v
 -- ---- one round of a role
 
 abbrev pub after_allowed : Recorded → Role → ℕ → Recorded
-after_allowed v Carrier worker = carried v worker (pick_of v)
+after_allowed v Carrier worker = turned_by v worker (pick_of v)
 after_allowed v Collecting worker = collected v worker
-after_allowed v (Both gc) worker = swept_after (carried_answer v worker (pick_of v)) (carried v worker (pick_of v)) worker gc
+after_allowed v (Both gc) worker = swept_after (answered_by v worker (pick_of v)) (turned_by v worker (pick_of v)) worker gc
 
 abbrev pub answer_allowed : Recorded → Role → ℕ → Turn
-answer_allowed v Carrier worker = carried_answer v worker (pick_of v)
+answer_allowed v Carrier worker = answered_by v worker (pick_of v)
 answer_allowed v Collecting worker = collected_answer v worker
-answer_allowed v (Both gc) worker = carried_answer v worker (pick_of v)
+answer_allowed v (Both gc) worker = answered_by v worker (pick_of v)
 
 -- ---- rounds of a role: a turn as above and, where it was done, so many more
-
-abbrev pub is_done : Turn → Bool
-is_done Done = true
-is_done NotReady = false
-is_done Stopped = false
-is_done (Fault f) = false
-is_done OutputFull = false
-is_done StepLimit = false
 
 -- rounds that found nobody ready at their end were done all the same
 abbrev pub done_so_far : Turn → Turn

@@ -2,8 +2,9 @@
 ghost use Rattle.std.specs.Prelude.{◌≡◌, ◌<◌};
 ghost use Rattle.model.specs.Machines.{after_turn_by, answer_to};
 ghost use Rattle.model.specs.Observers.{status_of, pick_of};
-ghost use Rattle.hall.specs.Roles.{after_role, answer_role, carried, carried_answer, collected, collected_answer};
-ghost use Rattle.hall.specs.Roles.{last_is_collector, swept, swept_once, swept_after, after_allowed, answer_allowed, after_more, answer_more, after_rounds, answer_rounds, after_known, answer_known, done_so_far, is_done};
+ghost use Rattle.scheduler.specs.Rounds.{answered_by, is_done, turned_by};
+ghost use Rattle.hall.specs.Roles.{after_role, answer_role, collected, collected_answer};
+ghost use Rattle.hall.specs.Roles.{last_is_collector, swept, swept_once, swept_after, after_allowed, answer_allowed, after_more, answer_more, after_rounds, answer_rounds, after_known, answer_known, done_so_far};
 ghost use Rattle.hall.specs.Shares.{Takes, CountsRows};
 
 use crate::roles::Role;
@@ -71,8 +72,8 @@ impl<L: Ledger> Shared<L> {
     // A turn of the picked thread.
     fn carry(&mut self, share: &mut Share<L>) -> Turn
         requires { share.old.worker < self.old.journal.workers }
-        ensures world { self.new ≡ carried self.old share.old.worker (pick_of self.old) }
-        ensures answer { result ≡ carried_answer self.old share.old.worker (pick_of self.old) }
+        ensures world { self.new ≡ turned_by self.old share.old.worker (pick_of self.old) }
+        ensures answer { result ≡ answered_by self.old share.old.worker (pick_of self.old) }
         ensures share { CountsRows self.old self.new share.old share.new }
     {
         match self.world.pick() {
@@ -123,8 +124,8 @@ impl<L: Ledger> Shared<L> {
     // A turn of the picked thread and, where it was done, so many collector turns.
     fn carry_and_sweep(&mut self, share: &mut Share<L>, gc: u32) -> Turn
         requires { share.old.worker < self.old.journal.workers }
-        ensures world { self.new ≡ swept_after result (carried self.old share.old.worker (pick_of self.old)) share.old.worker gc }
-        ensures answer { result ≡ carried_answer self.old share.old.worker (pick_of self.old) }
+        ensures world { self.new ≡ swept_after result (turned_by self.old share.old.worker (pick_of self.old)) share.old.worker gc }
+        ensures answer { result ≡ answered_by self.old share.old.worker (pick_of self.old) }
         ensures share { CountsRows self.old self.new share.old share.new }
     {
         let answer = self.carry(share);
