@@ -4,6 +4,7 @@ use Rattle.model.specs.declared.values.Value.TheVariants.{Int as IntValue, Long 
 use Rattle.model.specs.declared.values.Entry.{Entry}
 use Rattle.model.specs.declared.values.Entry.TheVariants.{Unset as UnsetEntry, Holds, UpperHalf}
 use Rattle.model.specs.declared.turns.Fault.{Fault}
+use Rattle.model.specs.declared.turns.Fault.TheVariants.{WrongKind, WrongLocal}
 use Rattle.frames.specs.declared.slots.Slot.{Slot}
 use Rattle.frames.specs.declared.slots.Slot.TheVariants.{Unset, Int, Long, Null, Ref, Upper}
 use Rattle.frames.specs.Layout.{value_in}
@@ -25,3 +26,9 @@ value_of slot = value_in (entry_of slot)
 abbrev pub value_told : Result Slot Fault → Result Value Fault
 value_told (Ok slot) = Ok (value_of slot)
 value_told (Err e) = Err e
+
+-- why a local's entry isn't of the kind that is wanted
+abbrev pub wrong_entry : Entry → Fault
+wrong_entry UnsetEntry = WrongKind
+wrong_entry (Holds v) = WrongKind
+wrong_entry UpperHalf = WrongLocal

@@ -11,7 +11,23 @@ use model::values::Value;
 
 impl Frames {
     /// How many units so many values at the top take.
+    // The loop apart, so that nothing is looked at twice where the count is known.
+    #[inline(always)]
     fn units_above(&self, count: u8) -> usize
+        requires some { 0 < length self.now }
+        requires there { count ≤ length (running_frame self.now).stack }
+        ensures { result ≡ units_of_all (take count (running_frame self.now).stack) }
+    {
+        match count {
+            0 => 0,
+            1 => units_in(self.held(0)),
+            2 => units_in(self.held(0)) + units_in(self.held(1)),
+            _ => self.units_above_all(count),
+        }
+    }
+
+    /// The same of any count.
+    fn units_above_all(&self, count: u8) -> usize
         requires some { 0 < length self.now }
         requires there { count ≤ length (running_frame self.now).stack }
         ensures { result ≡ units_of_all (take count (running_frame self.now).stack) }
@@ -24,6 +40,7 @@ impl Frames {
     }
 
     /// Goes to this pc, without so many values at the top.
+    #[inline(always)]
     pub fn discard(&mut self, next: u16, count: u8)
         requires some { 0 < length self.old }
         requires there { count ≤ length (running_frame self.old).stack }
@@ -35,6 +52,7 @@ impl Frames {
     }
 
     /// Goes to this pc, with a value in place of so many at the top, which take no less room.
+    #[inline(always)]
     pub fn replace(&mut self, next: u16, count: u8, value: Value)
         requires some { 0 < length self.old }
         requires there { count ≤ length (running_frame self.old).stack }
@@ -61,6 +79,7 @@ impl Frames {
     }
 
     /// Goes to this pc, with a value in place of so many at the top; F2 where it has no room, and then nothing changes.
+    #[inline(always)]
     pub fn replace_if_room(&mut self, next: u16, count: u8, value: Value) -> Result<(), Abrupt>
         requires some { 0 < length self.old }
         requires there { count ≤ length (running_frame self.old).stack }

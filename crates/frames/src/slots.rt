@@ -5,22 +5,24 @@ ghost use Rattle.model.specs.Frames.{as_int, as_long, as_ref};
 ghost use Rattle.model.specs.Locals.{of_kind, value_in_entry};
 ghost use Rattle.model.specs.Collector.Places.{entry_ref};
 ghost use Rattle.model.specs.declared.values.Entry.TheVariants.{Holds};
-ghost use Rattle.frames.specs.Slots.{entry_of, value_of};
+ghost use Rattle.frames.specs.Slots.{entry_of, value_of, wrong_entry};
 
 use model::turns::Fault;
 use model::values::{Entry, Kind, Value};
 
 /// An entry of a frame's locals or a value of its stack, of 16 bytes and with no enum in it, so that one look at the tag
 /// tells what stands there.
+// The order lets each question on a slot be two comparisons at most: what is a number, what is no number and no reference
+// to an object, and what is one.
 #[derive(Clone, Copy)]
 pub enum Slot {
-    Unset,
     Int(i32),
     Long(i64),
-    Null,
-    Ref(u32),
+    Unset,
     /// the upper half of a long, in the locals alone
     Upper,
+    Null,
+    Ref(u32),
 }
 
 /// The slot of a value.
@@ -44,9 +46,8 @@ pub(crate) fn value_in(slot: Slot) -> Value
     match slot {
         Slot::Int(z) => Value::Int(z),
         Slot::Long(z) => Value::Long(z),
-        Slot::Null => Value::Ref(None),
+        Slot::Unset | Slot::Upper | Slot::Null => Value::Ref(None),
         Slot::Ref(number) => Value::Ref(Some(number)),
-        Slot::Unset | Slot::Upper => Value::Int(0),
     }
 }
 
@@ -56,12 +57,12 @@ pub(crate) fn entry_in(slot: Slot) -> Entry
     ensures { result ≡ entry_of slot }
 {
     match slot {
-        Slot::Unset => Entry::Unset,
         Slot::Int(z) => Entry::Holds(Value::Int(z)),
         Slot::Long(z) => Entry::Holds(Value::Long(z)),
+        Slot::Unset => Entry::Unset,
+        Slot::Upper => Entry::UpperHalf,
         Slot::Null => Entry::Holds(Value::Ref(None)),
         Slot::Ref(number) => Entry::Holds(Value::Ref(Some(number))),
-        Slot::Upper => Entry::UpperHalf,
     }
 }
 
@@ -83,7 +84,7 @@ pub(crate) fn units_in(slot: Slot) -> usize
 {
     match slot {
         Slot::Long(_) => 2,
-        Slot::Unset | Slot::Int(_) | Slot::Null | Slot::Ref(_) | Slot::Upper => 1,
+        Slot::Int(_) | Slot::Unset | Slot::Upper | Slot::Null | Slot::Ref(_) => 1,
     }
 }
 
@@ -94,8 +95,9 @@ pub(crate) fn int_in(slot: Slot) -> Result<i32, Fault>
 {
     match slot {
         Slot::Int(z) => Ok(z),
-        Slot::Long(_) | Slot::Null | Slot::Ref(_) => Err(Fault::WrongKind),
-        Slot::Unset | Slot::Upper => Ok(0),
+        Slot::Long(_) | Slot::Unset | Slot::Upper | Slot::Null | Slot::Ref(_) => Err(
+            Fault::WrongKind,
+        ),
     }
 }
 
@@ -106,7 +108,7 @@ pub(crate) fn long_in(slot: Slot) -> Result<i64, Fault>
 {
     match slot {
         Slot::Long(z) => Ok(z),
-        Slot::Unset | Slot::Int(_) | Slot::Null | Slot::Ref(_) | Slot::Upper => Err(
+        Slot::Int(_) | Slot::Unset | Slot::Upper | Slot::Null | Slot::Ref(_) => Err(
             Fault::WrongKind,
         ),
     }
@@ -118,9 +120,9 @@ pub(crate) fn reference_in(slot: Slot) -> Result<Option<u32>, Fault>
     ensures { result ≡ as_ref (Ok (value_of slot)) }
 {
     match slot {
-        Slot::Null => Ok(None),
+        Slot::Int(_) | Slot::Long(_) => Err(Fault::WrongKind),
+        Slot::Unset | Slot::Upper | Slot::Null => Ok(None),
         Slot::Ref(number) => Ok(Some(number)),
-        Slot::Unset | Slot::Int(_) | Slot::Long(_) | Slot::Upper => Err(Fault::WrongKind),
     }
 }
 
@@ -142,10 +144,37 @@ pub(crate) fn operand_in(kind: Kind, slot: Slot) -> Result<Value, Fault>
 pub(crate) fn local_in(kind: Kind, slot: Slot) -> Result<Value, Fault>
     ensures { result ≡ value_in_entry kind (Some (entry_of slot)) }
 {
+    match kind {
+        Kind::Int => match slot {
+            Slot::Int(z) => Ok(Value::Int(z)),
+            Slot::Long(_) | Slot::Unset | Slot::Upper | Slot::Null | Slot::Ref(_) => Err(
+                wrong_local(slot),
+            ),
+        },
+        Kind::Long => match slot {
+            Slot::Long(z) => Ok(Value::Long(z)),
+            Slot::Int(_) | Slot::Unset | Slot::Upper | Slot::Null | Slot::Ref(_) => Err(wrong_local(
+                slot,
+            )),
+        },
+        Kind::Ref => match slot {
+            Slot::Null => Ok(Value::Ref(None)),
+            Slot::Ref(number) => Ok(Value::Ref(Some(number))),
+            Slot::Int(_) | Slot::Long(_) | Slot::Unset | Slot::Upper => Err(wrong_local(slot)),
+        },
+    }
+}
+
+/// Why a local's slot isn't of the kind that is wanted.
+// Not inlined, so that a load is one comparison where the local is of its kind.
+#[cold]
+#[inline(never)]
+fn wrong_local(slot: Slot) -> Fault
+    ensures { result ≡ wrong_entry (entry_of slot) }
+{
     match slot {
-        Slot::Unset => Err(Fault::WrongKind),
-        Slot::Upper => Err(Fault::WrongLocal),
-        Slot::Int(_) | Slot::Long(_) | Slot::Null | Slot::Ref(_) => operand_in(kind, slot),
+        Slot::Upper => Fault::WrongLocal,
+        Slot::Int(_) | Slot::Long(_) | Slot::Unset | Slot::Null | Slot::Ref(_) => Fault::WrongKind,
     }
 }
 
@@ -156,6 +185,6 @@ pub(crate) fn number_in(slot: Slot) -> Option<u32>
 {
     match slot {
         Slot::Ref(number) => Some(number),
-        Slot::Unset | Slot::Int(_) | Slot::Long(_) | Slot::Null | Slot::Upper => None,
+        Slot::Int(_) | Slot::Long(_) | Slot::Unset | Slot::Upper | Slot::Null => None,
     }
 }

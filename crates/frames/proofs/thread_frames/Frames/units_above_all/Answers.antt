@@ -2,7 +2,7 @@ use Rattle.std.proofs.Common.{arith}
 use Rattle.model.specs.Frames.{running_frame}
 use Rattle.frames.proofs.StackLemmas.{units_of_all-take_more, units_of-le}
 use Rattle.frames.specs.Slots.{value_of}
-use Rattle.frames.proofs.thread_frames.Frames.units_above.Goals as goal
+use Rattle.frames.proofs.thread_frames.Frames.units_above_all.Goals as goal
 
 pub overflow_add-units : goal.overflow_add-units
 overflow_add-units c =
