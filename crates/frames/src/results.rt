@@ -47,8 +47,7 @@ impl Frames {
         ensures { self.new ≡ with_running self.old (replaced next (running_frame self.old) count []).frame }
     {
         let units = self.units_above(count);
-        self.drop_values(count, units);
-        self.go_to(next);
+        self.drop_values(next, count, units);
     }
 
     /// Goes to this pc, with a value in place of so many at the top, which take no less room.
@@ -60,9 +59,8 @@ impl Frames {
         ensures { self.new ≡ with_running self.old (replaced next (running_frame self.old) count (value ∷ [])).frame }
     {
         let units = self.units_above(count);
-        self.drop_values(count, units);
+        self.drop_values(next, count, units);
         self.push(value);
-        self.go_to(next);
     }
 
     /// Goes to this pc, with values, bottom first, in place of so many at the top, which take no less room.
@@ -73,9 +71,8 @@ impl Frames {
         ensures { self.new ≡ with_running self.old (replaced next (running_frame self.old) count values.now).frame }
     {
         let units = self.units_above(count);
-        self.drop_values(count, units);
+        self.drop_values(next, count, units);
         self.push_all(values); // they fit
-        self.go_to(next);
     }
 
     /// Goes to this pc, with a value in place of so many at the top; F2 where it has no room, and then nothing changes.
@@ -90,9 +87,8 @@ impl Frames {
         if self.taken() - units + units_of(value) > self.room() {
             return Err(Abrupt::Fault(Fault::StackFull));
         }
-        self.drop_values(count, units);
+        self.drop_values(next, count, units);
         self.push(value);
-        self.go_to(next);
         Ok(())
     }
 
@@ -124,9 +120,8 @@ impl Frames {
         if self.taken() - units + units_of_values(values) > self.room() {
             return Err(Abrupt::Fault(Fault::StackFull));
         }
-        self.drop_values(count, units);
+        self.drop_values(next, count, units);
         self.push_all(values);
-        self.go_to(next);
         Ok(())
     }
 }
