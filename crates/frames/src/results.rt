@@ -40,7 +40,6 @@ impl Frames {
     }
 
     /// Goes to this pc, without so many values at the top.
-    #[inline(always)]
     pub fn discard(&mut self, next: u16, count: u8)
         requires some { 0 < length self.old }
         requires there { count ≤ length (running_frame self.old).stack }
@@ -51,7 +50,6 @@ impl Frames {
     }
 
     /// Goes to this pc, with a value in place of so many at the top, which take no less room.
-    #[inline(always)]
     pub fn replace(&mut self, next: u16, count: u8, value: Value)
         requires some { 0 < length self.old }
         requires there { count ≤ length (running_frame self.old).stack }
@@ -76,7 +74,6 @@ impl Frames {
     }
 
     /// Goes to this pc, with a value in place of so many at the top; F2 where it has no room, and then nothing changes.
-    #[inline(always)]
     pub fn replace_if_room(&mut self, next: u16, count: u8, value: Value) -> Result<(), Abrupt>
         requires some { 0 < length self.old }
         requires there { count ≤ length (running_frame self.old).stack }
