@@ -222,10 +222,10 @@ module _ {units : List Entry} {acts : List Activation} {used capacity : ℕ} {fr
       let room_is : (running_frame frames).room ≡ a.room = ap (λ (f : Frame). f.room) running_is in
       (deep, omega arith, omega arith, record { begins = refl; taken_is = omega arith; fits = omega arith })
 
-  pub view_drop : (count taken : ℕ) → count ≤ a.values → map (frame_of units) (slice_set acts (n - 1) (record a { values = a.values - count; taken = a.taken - taken })) ≡ with_running frames (record (running_frame frames) { stack = drop count (running_frame frames).stack })
-  view_drop count taken deep =
+  pub view_drop : (next count taken : ℕ) → count ≤ a.values → map (frame_of units) (slice_set acts (n - 1) (record a { pc = next; values = a.values - count; taken = a.taken - taken })) ≡ with_running frames (record (running_frame frames) { pc = next; stack = drop count (running_frame frames).stack })
+  view_drop next count taken deep =
       let left : stack_of units (a.base + a.locals) (a.values - count) ≡ drop count (stack_of units (a.base + a.locals) a.values) = sym (drop-stack_of units (a.base + a.locals) a.values count deep) in
-      rw (running_is, ← left) (view_put units (record a { values = a.values - count; taken = a.taken - taken }) refl)
+      rw (running_is, ← left) (view_put units (record a { pc = next; values = a.values - count; taken = a.taken - taken }) refl)
 
   -- a value is written above the stack
   pub pushes : (v : Value) → units_of v + units_of_all (running_frame frames).stack ≤ (running_frame frames).room → (a.values < a.room) × (a.base + a.locals + a.values < length units) × (a.taken + units_of v ≤ a.room) × Stands (slice_set units (a.base + a.locals + a.values) (Holds v)) a.base (record a { values = a.values + 1; taken = a.taken + units_of v })

@@ -4,7 +4,7 @@ use Rattle.model.specs.declared.values.Value.{Value}
 use Rattle.model.specs.Values.{units_of, units_of_all}
 use Rattle.model.specs.Frames.{Frame, running_frame, with_running, push_all, replaced}
 use Rattle.frames.proofs.StackLemmas.{units_of_all-take-drop}
-use Rattle.frames.proofs.RunningLemmas.{running_frame-with_running, then_changed, units_of_all-push_all, without, with_value, at_pc, Sized}
+use Rattle.frames.proofs.RunningLemmas.{running_frame-with_running, then_changed, units_of_all-push_all, without, with_value, Sized}
 
 pub units_of_all-take_at : (vs : List Value) (i : ℕ) (d : Value) → i < length vs → units_of_all (take (i + 1) vs) ≡ units_of_all (take i vs) + units_of (slice_index_or vs i d)
 units_of_all-take_at [] i d h = absurd (omega arith)
@@ -39,25 +39,23 @@ pushed_next old now after vs i d some is within second =
     rw e (then_changed (with_values (take i vs)) (with_value (slice_index_or vs i d)) old now after some is second)
 
 -- there is room for values where others were dropped
-pub room_for_values : (old dropped : List Frame) (count above taken room : ℕ) (vs : List Value) → 0 < length old → dropped ≡ with_running old (without count (running_frame old)) → Sized old count above taken room → taken - above + units_of_all vs ≤ room → units_of_all (push_all vs (running_frame dropped).stack) ≤ (running_frame dropped).room
-room_for_values old dropped count above taken room vs some first s fits =
+pub room_for_values : (old dropped : List Frame) (next count above taken room : ℕ) (vs : List Value) → 0 < length old → dropped ≡ with_running old (without next count (running_frame old)) → Sized old count above taken room → taken - above + units_of_all vs ≤ room → units_of_all (push_all vs (running_frame dropped).stack) ≤ (running_frame dropped).room
+room_for_values old dropped next count above taken room vs some first s fits =
     let parts = units_of_all-take-drop (running_frame old).stack count in
     let all = units_of_all-push_all vs (drop count (running_frame old).stack) in
     let above_is = s.above_is in
     let taken_is = s.taken_is in
     let room_is = s.room_is in
-    let runs = running_frame-with_running old dropped (without count (running_frame old)) some first in
+    let runs = running_frame-with_running old dropped (without next count (running_frame old)) some first in
     rw runs (omega arith)
 
 -- the same where they take no more room than those that were dropped
-pub room_for_no_more : (old dropped : List Frame) (count above : ℕ) (vs : List Value) → 0 < length old → dropped ≡ with_running old (without count (running_frame old)) → above + units_of_all (drop count (running_frame old).stack) ≤ (running_frame old).room → units_of_all vs ≤ above → units_of_all (push_all vs (running_frame dropped).stack) ≤ (running_frame dropped).room
-room_for_no_more old dropped count above vs some first room fits =
+pub room_for_no_more : (old dropped : List Frame) (next count above : ℕ) (vs : List Value) → 0 < length old → dropped ≡ with_running old (without next count (running_frame old)) → above + units_of_all (drop count (running_frame old).stack) ≤ (running_frame old).room → units_of_all vs ≤ above → units_of_all (push_all vs (running_frame dropped).stack) ≤ (running_frame dropped).room
+room_for_no_more old dropped next count above vs some first room fits =
     let all = units_of_all-push_all vs (drop count (running_frame old).stack) in
-    let runs = running_frame-with_running old dropped (without count (running_frame old)) some first in
+    let runs = running_frame-with_running old dropped (without next count (running_frame old)) some first in
     rw runs (omega arith)
 
--- values are dropped, others are pushed, and then the pc changes
-pub replaces_all : (old dropped pushed after : List Frame) (next count : ℕ) (vs : List Value) → 0 < length old → dropped ≡ with_running old (without count (running_frame old)) → pushed ≡ with_running dropped (with_values vs (running_frame dropped)) → after ≡ with_running pushed (at_pc next (running_frame pushed)) → after ≡ with_running old (replaced next (running_frame old) count vs).frame
-replaces_all old dropped pushed after next count vs some first second third =
-    let both = then_changed (without count) (with_values vs) old dropped pushed some first second in
-    then_changed (λ f. with_values vs (without count f)) (at_pc next) old pushed after some both third
+-- values are dropped, and others are pushed
+pub replaces_all : (old dropped after : List Frame) (next count : ℕ) (vs : List Value) → 0 < length old → dropped ≡ with_running old (without next count (running_frame old)) → after ≡ with_running dropped (with_values vs (running_frame dropped)) → after ≡ with_running old (replaced next (running_frame old) count vs).frame
+replaces_all old dropped after next count vs some first second = then_changed (without next count) (with_values vs) old dropped after some first second

@@ -1,7 +1,7 @@
 -- the running frame after a change
-use Rattle.std.proofs.Common.{◌≡◌, ℕ, slice_set, Option, ◌+◌, ◌-◌, ◌<◌, ◌≤◌, List, [], ◌∷◌, length, drop, take, Ok, Err, ap, sym, ◌∙◌, arith}
+use Rattle.std.proofs.Common.{◌≡◌, ℕ, zero, suc, slice_get, slice_set, Option, Some, ◌+◌, ◌-◌, ◌<◌, ◌≤◌, List, [], ◌∷◌, length, drop, take, Ok, Err, refl, ap, sym, ◌∙◌, arith}
 use Rattle.std.specs.Prelude.{ℤ}
-use Rattle.std.proofs.lemmas.List.{length-set, set-set, set-get_or, get_or-set_same}
+use Rattle.std.proofs.lemmas.List.{length-set, set-set, set_comm, set-get_or, get_or-set_same}
 use Rattle.model.specs.Frames.{Frame, running_frame, with_running, no_frame, replaced, replaced_if_room, push_all}
 use Rattle.frames.specs.Told.{moved_on}
 use Rattle.model.specs.declared.turns.Abrupt.TheVariants.{Fault as Faulted}
@@ -11,8 +11,8 @@ use Rattle.std.proofs.lemmas.Bool.{lt-leb, le-leb}
 use Rattle.model.specs.declared.values.Value.{Value}
 use Rattle.model.specs.declared.values.Value.TheVariants.{Int, Long, Ref}
 use Rattle.model.specs.declared.values.Entry.{Entry}
-use Rattle.model.specs.declared.values.Entry.TheVariants.{Holds, UpperHalf}
-use Rattle.model.specs.Locals.{freed, with_local, stored}
+use Rattle.model.specs.declared.values.Entry.TheVariants.{Unset, Holds, UpperHalf}
+use Rattle.model.specs.Locals.{without_half, freed, with_local, stored}
 use Rattle.model.specs.Values.{units_of, units_of_all}
 
 pub length-with_running : (frames : List Frame) (f : Frame) → length (with_running frames f) ≡ length frames
@@ -31,33 +31,16 @@ with_running-with_running frames between after f g first second =
 
 -- ---- changes of the running frame, one after another
 
-abbrev pub without : ℕ → Frame → Frame
-without count f = record f { stack = drop count f.stack }
+abbrev pub without : ℕ → ℕ → Frame → Frame
+without next count f = record f { pc = next; stack = drop count f.stack }
 
 abbrev pub with_value : Value → Frame → Frame
 with_value v f = record f { stack = v ∷ f.stack }
 
-abbrev pub at_pc : ℕ → Frame → Frame
-at_pc next f = record f { pc = next }
-
--- values are dropped, and then the pc changes
-pub discards : (old dropped after : List Frame) (next count : ℕ) → 0 < length old → dropped ≡ with_running old (without count (running_frame old)) → after ≡ with_running dropped (at_pc next (running_frame dropped)) → after ≡ with_running old (replaced next (running_frame old) count []).frame
-discards old dropped after next count some first second =
-    let runs = running_frame-with_running old dropped (without count (running_frame old)) some first in
-    with_running-with_running old dropped after (without count (running_frame old)) (at_pc next (without count (running_frame old))) first (second ∙ ap (λ (f : Frame). with_running dropped (at_pc next f)) runs)
-
--- values are dropped, one is pushed, and then the pc changes
-pub replaces : (old dropped pushed after : List Frame) (next count : ℕ) (v : Value) → 0 < length old → dropped ≡ with_running old (without count (running_frame old)) → pushed ≡ with_running dropped (with_value v (running_frame dropped)) → after ≡ with_running pushed (at_pc next (running_frame pushed)) → after ≡ with_running old (replaced next (running_frame old) count (v ∷ [])).frame
-replaces old dropped pushed after next count v some first second third =
-    let runs = running_frame-with_running old dropped (without count (running_frame old)) some first in
-    let both = with_running-with_running old dropped pushed (without count (running_frame old)) (with_value v (without count (running_frame old))) first (second ∙ ap (λ (f : Frame). with_running dropped (with_value v f)) runs) in
-    let then = running_frame-with_running old pushed (with_value v (without count (running_frame old))) some both in
-    with_running-with_running old pushed after (with_value v (without count (running_frame old))) (at_pc next (with_value v (without count (running_frame old)))) both (third ∙ ap (λ (f : Frame). with_running pushed (at_pc next f)) then)
-
 -- there is room for a value where so many units were dropped
-pub room_after : (old dropped : List Frame) (count : ℕ) (v : Value) → 0 < length old → dropped ≡ with_running old (without count (running_frame old)) → units_of v + units_of_all (drop count (running_frame old).stack) ≤ (running_frame old).room → units_of v + units_of_all (running_frame dropped).stack ≤ (running_frame dropped).room
-room_after old dropped count v some first fits =
-    let runs = running_frame-with_running old dropped (without count (running_frame old)) some first in
+pub room_after : (old dropped : List Frame) (next count : ℕ) (v : Value) → 0 < length old → dropped ≡ with_running old (without next count (running_frame old)) → units_of v + units_of_all (drop count (running_frame old).stack) ≤ (running_frame old).room → units_of v + units_of_all (running_frame dropped).stack ≤ (running_frame dropped).room
+room_after old dropped next count v some first fits =
+    let runs = running_frame-with_running old dropped (without next count (running_frame old)) some first in
     rw runs fits
 
 -- ---- values where they have room
@@ -99,13 +82,13 @@ stack_has_room old after count above taken room next vs s fits is =
     let yes = le-leb (units_of_all (push_all vs (drop count (running_frame old).stack))) (running_frame old).room (omega arith) in
     rw (yes, is)
 
-pub room_for_value : (old dropped : List Frame) (count above taken room : ℕ) (v : Value) → 0 < length old → dropped ≡ with_running old (without count (running_frame old)) → Sized old count above taken room → taken - above + units_of v ≤ room → units_of v + units_of_all (running_frame dropped).stack ≤ (running_frame dropped).room
-room_for_value old dropped count above taken room v some first s fits =
+pub room_for_value : (old dropped : List Frame) (next count above taken room : ℕ) (v : Value) → 0 < length old → dropped ≡ with_running old (without next count (running_frame old)) → Sized old count above taken room → taken - above + units_of v ≤ room → units_of v + units_of_all (running_frame dropped).stack ≤ (running_frame dropped).room
+room_for_value old dropped next count above taken room v some first s fits =
     let parts = units_of_all-take-drop (running_frame old).stack count in
     let above_is = s.above_is in
     let taken_is = s.taken_is in
     let room_is = s.room_is in
-    room_after old dropped count v some first (omega arith)
+    room_after old dropped next count v some first (omega arith)
 
 -- ---- changes in general
 
@@ -114,6 +97,10 @@ pub then_changed : (change then : Frame → Frame) (old between after : List Fra
 then_changed change then old between after some first second =
     let runs = running_frame-with_running old between (change (running_frame old)) some first in
     with_running-with_running old between after (change (running_frame old)) (then (change (running_frame old))) first (second ∙ ap (λ (f : Frame). with_running between (then f)) runs)
+
+-- values are dropped, and one is pushed
+pub replaces : (old dropped after : List Frame) (next count : ℕ) (v : Value) → 0 < length old → dropped ≡ with_running old (without next count (running_frame old)) → after ≡ with_running dropped (with_value v (running_frame dropped)) → after ≡ with_running old (replaced next (running_frame old) count (v ∷ [])).frame
+replaces old dropped after next count v some first second = then_changed (without next count) (with_value v) old dropped after some first second
 
 -- no change
 pub unchanged : (frames : List Frame) → 0 < length frames → frames ≡ with_running frames (running_frame frames)
@@ -139,13 +126,36 @@ with_local-long locals index v z is = rw is
 pub puts_one : (old freed_one after : List Frame) (index : ℕ) (e : Entry) → 0 < length old → freed_one ≡ with_running old (at_locals (λ ls. freed ls index) (running_frame old)) → after ≡ with_running freed_one (at_locals (λ ls. slice_set ls index e) (running_frame freed_one)) → after ≡ with_running old (at_locals (λ ls. slice_set (freed ls index) index e) (running_frame old))
 puts_one old freed_one after index e some first second = then_changed (at_locals (λ ls. freed ls index)) (at_locals (λ ls. slice_set ls index e)) old freed_one after some first second
 
--- a long is stored
-pub puts_two : (old freed_one freed_two set_one after : List Frame) (index : ℕ) (e : Entry) → 0 < length old → freed_one ≡ with_running old (at_locals (λ ls. freed ls index) (running_frame old)) → freed_two ≡ with_running freed_one (at_locals (λ ls. freed ls (index + 1)) (running_frame freed_one)) → set_one ≡ with_running freed_two (at_locals (λ ls. slice_set ls index e) (running_frame freed_two)) → after ≡ with_running set_one (at_locals (λ ls. slice_set ls (index + 1) UpperHalf) (running_frame set_one)) → after ≡ with_running old (at_locals (λ ls. slice_set (slice_set (freed (freed ls index) (index + 1)) index e) (index + 1) UpperHalf) (running_frame old))
-puts_two old freed_one freed_two set_one after index e some first second third fourth =
-    let two = then_changed (at_locals (λ ls. freed ls index)) (at_locals (λ ls. freed ls (index + 1))) old freed_one freed_two some first second in
-    let three = then_changed (at_locals (λ ls. freed (freed ls index) (index + 1))) (at_locals (λ ls. slice_set ls index e)) old freed_two set_one some two third in
-    then_changed (at_locals (λ ls. slice_set (freed (freed ls index) (index + 1)) index e)) (at_locals (λ ls. slice_set ls (index + 1) UpperHalf)) old set_one after some three fourth
+-- an entry is written, and the upper half of a long behind it
+abbrev pub in_two : List Entry → ℕ → Entry → List Entry
+in_two locals index e = slice_set (slice_set locals index e) (index + 1) UpperHalf
 
--- a value is stored, and values are dropped
-pub stores : (old put after : List Frame) (next count index : ℕ) (v : Value) → 0 < length old → put ≡ with_running old (at_locals (λ ls. with_local ls index v) (running_frame old)) → after ≡ with_running put (replaced next (running_frame put) count []).frame → after ≡ with_running old (stored next (running_frame old) count index v).frame
-stores old put after next count index v some first second = then_changed (at_locals (λ ls. with_local ls index v)) (λ f. (replaced next f count []).frame) old put after some first second
+pub sets_two : (old between after : List Frame) (index : ℕ) (e : Entry) → 0 < length old → between ≡ with_running old (at_locals (λ ls. slice_set ls index e) (running_frame old)) → after ≡ with_running between (at_locals (λ ls. slice_set ls (index + 1) UpperHalf) (running_frame between)) → after ≡ with_running old (at_locals (λ ls. in_two ls index e) (running_frame old))
+sets_two old between after index e some first second = then_changed (at_locals (λ ls. slice_set ls index e)) (at_locals (λ ls. slice_set ls (index + 1) UpperHalf)) old between after some first second
+
+-- a long is stored
+pub puts_two : (old freed_one freed_two after : List Frame) (index : ℕ) (e : Entry) → 0 < length old → freed_one ≡ with_running old (at_locals (λ ls. freed ls index) (running_frame old)) → freed_two ≡ with_running freed_one (at_locals (λ ls. freed ls (index + 1)) (running_frame freed_one)) → after ≡ with_running freed_two (at_locals (λ ls. in_two ls index e) (running_frame freed_two)) → after ≡ with_running old (at_locals (λ ls. in_two (freed (freed ls index) (index + 1)) index e) (running_frame old))
+puts_two old freed_one freed_two after index e some first second third =
+    let two = then_changed (at_locals (λ ls. freed ls index)) (at_locals (λ ls. freed ls (index + 1))) old freed_one freed_two some first second in
+    then_changed (at_locals (λ ls. freed (freed ls index) (index + 1))) (at_locals (λ ls. in_two ls index e)) old freed_two after some two third
+
+-- where an entry was made unset, nothing is to be freed
+pub nothing_to_free : (whole locals : List Entry) (index at : ℕ) → without_half whole at (slice_get (slice_set locals index Unset) index) ≡ whole
+nothing_to_free whole [] index at = refl
+nothing_to_free whole (e ∷ locals) zero at = refl
+nothing_to_free whole (e ∷ locals) (suc index) at = nothing_to_free whole locals index at
+
+-- a long over another one
+pub over_long : (locals : List Entry) (index : ℕ) (z : ℤ) (e : Entry) → slice_get locals index ≡ Some (Holds (Long z)) → in_two (freed (freed locals index) (index + 1)) index e ≡ in_two locals index e
+over_long locals index z e is =
+    let half : freed locals index ≡ slice_set locals (index + 1) Unset = ap (without_half locals index) is in
+    let none : freed (slice_set locals (index + 1) Unset) (index + 1) ≡ slice_set locals (index + 1) Unset = nothing_to_free (slice_set locals (index + 1) Unset) locals (index + 1) (index + 1) in
+    let order : slice_set (slice_set locals (index + 1) Unset) index e ≡ slice_set (slice_set locals index e) (index + 1) Unset = set_comm locals (index + 1) index Unset e (omega arith) in
+    rw (half, none, order, set-set)
+
+pub puts_over_long : (old after : List Frame) (index : ℕ) (z : ℤ) (e : Entry) → slice_get (running_frame old).locals index ≡ Some (Holds (Long z)) → after ≡ with_running old (at_locals (λ ls. in_two ls index e) (running_frame old)) → after ≡ with_running old (at_locals (λ ls. in_two (freed (freed ls index) (index + 1)) index e) (running_frame old))
+puts_over_long old after index z e is set = rw (over_long (running_frame old).locals index z e is) set
+
+-- values are dropped, and one is stored
+pub stores : (old dropped after : List Frame) (next count index : ℕ) (v : Value) → 0 < length old → dropped ≡ with_running old (replaced next (running_frame old) count []).frame → after ≡ with_running dropped (at_locals (λ ls. with_local ls index v) (running_frame dropped)) → after ≡ with_running old (stored next (running_frame old) count index v).frame
+stores old dropped after next count index v some first second = then_changed (λ f. (replaced next f count []).frame) (at_locals (λ ls. with_local ls index v)) old dropped after some first second

@@ -1,9 +1,11 @@
 //! The running frame's locals (JVMS 2.6.1): a long takes two entries, and a store that covers one half of a long makes
 //! its other half unset.
-ghost use Rattle.std.specs.Prelude.{◌≡◌, ℕ, ◌<◌, ◌≤◌, ◌^◌, length, IsOk, OnErr};
+ghost use Rattle.std.specs.Prelude.{◌≡◌, ℕ, ◌+◌, ◌<◌, ◌≤◌, ◌^◌, length, slice_set, IsOk, OnErr};
 ghost use Rattle.model.specs.Frames.{running_frame, with_running, as_int};
 ghost use Rattle.model.specs.declared.values.Kind.TheVariants.{Int as IntKind};
 ghost use Rattle.model.specs.Locals.{entries_of as width_of, has_local, value_on, local_at, freed, with_local, stored, stored_at};
+ghost use Rattle.model.specs.declared.values.Entry.TheVariants.{UpperHalf};
+ghost use Rattle.frames.specs.Slots.{entry_of};
 ghost use Rattle.frames.specs.Told.{told, moved_on};
 
 use crate::slots::{Slot, local_in, operand_in, slot_of};
@@ -14,7 +16,6 @@ use model::values::{Kind, Value};
 #[tactic(auto, using(crate::proofs::RunningLemmas::changes))]
 impl Frames {
     /// Whether the running frame has a local of this kind at this index.
-    #[inline(always)]
     pub fn has_local(&self, kind: Kind, index: u16) -> bool
         requires { 0 < length self.now }
         ensures { result ≡ has_local kind (running_frame self.now).locals index }
@@ -24,7 +25,6 @@ impl Frames {
 
     /// The value of this kind in a local. F4 where the local, of a long also its second entry, is out of range, or is
     /// the upper half of a long; F3 where it is unset or of another kind.
-    #[inline(always)]
     pub fn load(&self, kind: Kind, index: u16) -> Result<Value, Fault>
         requires { 0 < length self.now }
         ensures { result ≡ local_at kind (running_frame self.now).locals index }
@@ -39,7 +39,6 @@ impl Frames {
     }
 
     /// The int in a local; F4 and F3 as of `load`.
-    #[inline(always)]
     pub fn local_int(&self, index: u16) -> Result<i32, Fault>
         requires { 0 < length self.now }
         ensures { result ≡ as_int (local_at IntKind (running_frame self.now).locals index) }
@@ -51,7 +50,6 @@ impl Frames {
     }
 
     /// The operand of this kind at the top of the stack; F1, F3.
-    #[inline(always)]
     pub fn operand(&self, kind: Kind) -> Result<Value, Fault>
         requires { 0 < length self.now }
         ensures value { result ≡ value_on kind (running_frame self.now).stack }
@@ -68,9 +66,23 @@ impl Frames {
         ensures { self.new ≡ with_running self.old (record (running_frame self.old) { locals = freed (running_frame self.old).locals index }) }
     {
         match self.local(index) {
+            Some(Slot::Long(_) | Slot::Upper) => self.free_half(index),
+            Some(Slot::Int(_) | Slot::Unset | Slot::Null | Slot::Ref(_)) | None => {}
+        }
+    }
+
+    /// The same, apart, since it is rare.
+    #[cold]
+    #[inline(never)]
+    fn free_half(&mut self, index: usize)
+        requires some { 0 < length self.old }
+        requires small { index < 2 ^ 32 }
+        ensures { self.new ≡ with_running self.old (record (running_frame self.old) { locals = freed (running_frame self.old).locals index }) }
+    {
+        match self.local(index) {
             Some(Slot::Long(_)) => self.set_local(index + 1, Slot::Unset),
             Some(Slot::Upper) => self.set_local(index.saturating_sub(1), Slot::Unset),
-            Some(Slot::Unset | Slot::Int(_) | Slot::Null | Slot::Ref(_)) | None => {}
+            Some(Slot::Int(_) | Slot::Unset | Slot::Null | Slot::Ref(_)) | None => {}
         }
     }
 
@@ -81,27 +93,56 @@ impl Frames {
         ensures { self.new ≡ with_running self.old (record (running_frame self.old) { locals = with_local (running_frame self.old).locals index value }) }
     {
         let index = index as usize;
-        self.free(index);
         match value {
-            Value::Int(_) => self.set_local(index, slot_of(value)),
-            Value::Ref(_) => self.set_local(index, slot_of(value)),
-            Value::Long(_) => {
-                self.free(index + 1);
+            Value::Int(_) => {
+                self.free(index);
                 self.set_local(index, slot_of(value));
-                self.set_local(index + 1, Slot::Upper);
+            }
+            Value::Ref(_) => {
+                self.free(index);
+                self.set_local(index, slot_of(value));
+            }
+            Value::Long(_) => self.put_long(index, slot_of(value)),
+        }
+    }
+
+    /// Puts a long into two locals.
+    // Over another long there is nothing to free but what is written.
+    #[inline(always)]
+    fn put_long(&mut self, index: usize, slot: Slot)
+        requires some { 0 < length self.old }
+        requires small { index < 2 ^ 16 }
+        ensures { self.new ≡ with_running self.old (record (running_frame self.old) { locals = slice_set (slice_set (freed (freed (running_frame self.old).locals index) (index + 1)) index (entry_of slot)) (index + 1) UpperHalf }) }
+    {
+        match self.local(index) {
+            Some(Slot::Long(_)) => self.set_two(index, slot),
+            Some(Slot::Int(_) | Slot::Unset | Slot::Upper | Slot::Null | Slot::Ref(_)) | None => {
+                self.free(index);
+                self.free(index + 1);
+                self.set_two(index, slot);
             }
         }
     }
 
-    /// Goes to this pc, without so many values at the top, and with a value in a local.
+    /// Puts an entry at this index, and the upper half of a long behind it.
     #[inline(always)]
+    fn set_two(&mut self, index: usize, slot: Slot)
+        requires some { 0 < length self.old }
+        requires small { index < 2 ^ 16 }
+        ensures { self.new ≡ with_running self.old (record (running_frame self.old) { locals = slice_set (slice_set (running_frame self.old).locals index (entry_of slot)) (index + 1) UpperHalf }) }
+    {
+        self.set_local(index, slot);
+        self.set_local(index + 1, Slot::Upper);
+    }
+
+    /// Goes to this pc, without so many values at the top, and with a value in a local.
     pub fn store(&mut self, next: u16, count: u8, index: u16, value: Value)
         requires some { 0 < length self.old }
         requires there { count ≤ length (running_frame self.old).stack }
         ensures { self.new ≡ with_running self.old (stored next (running_frame self.old) count index value).frame }
     {
-        self.put_local(index, value);
         self.discard(next, count);
+        self.put_local(index, value);
     }
 
     /// Goes to this pc, with the operand of this kind at the top moved into a local; F1, F3 of the operand, then F4

@@ -40,19 +40,16 @@ impl Frames {
     }
 
     /// Goes to this pc, without so many values at the top.
-    #[inline(always)]
     pub fn discard(&mut self, next: u16, count: u8)
         requires some { 0 < length self.old }
         requires there { count ≤ length (running_frame self.old).stack }
         ensures { self.new ≡ with_running self.old (replaced next (running_frame self.old) count []).frame }
     {
         let units = self.units_above(count);
-        self.drop_values(count, units);
-        self.go_to(next);
+        self.drop_values(next, count, units);
     }
 
     /// Goes to this pc, with a value in place of so many at the top, which take no less room.
-    #[inline(always)]
     pub fn replace(&mut self, next: u16, count: u8, value: Value)
         requires some { 0 < length self.old }
         requires there { count ≤ length (running_frame self.old).stack }
@@ -60,9 +57,8 @@ impl Frames {
         ensures { self.new ≡ with_running self.old (replaced next (running_frame self.old) count (value ∷ [])).frame }
     {
         let units = self.units_above(count);
-        self.drop_values(count, units);
+        self.drop_values(next, count, units);
         self.push(value);
-        self.go_to(next);
     }
 
     /// Goes to this pc, with values, bottom first, in place of so many at the top, which take no less room.
@@ -73,13 +69,11 @@ impl Frames {
         ensures { self.new ≡ with_running self.old (replaced next (running_frame self.old) count values.now).frame }
     {
         let units = self.units_above(count);
-        self.drop_values(count, units);
+        self.drop_values(next, count, units);
         self.push_all(values); // they fit
-        self.go_to(next);
     }
 
     /// Goes to this pc, with a value in place of so many at the top; F2 where it has no room, and then nothing changes.
-    #[inline(always)]
     pub fn replace_if_room(&mut self, next: u16, count: u8, value: Value) -> Result<(), Abrupt>
         requires some { 0 < length self.old }
         requires there { count ≤ length (running_frame self.old).stack }
@@ -90,9 +84,8 @@ impl Frames {
         if self.taken() - units + units_of(value) > self.room() {
             return Err(Abrupt::Fault(Fault::StackFull));
         }
-        self.drop_values(count, units);
+        self.drop_values(next, count, units);
         self.push(value);
-        self.go_to(next);
         Ok(())
     }
 
@@ -124,9 +117,8 @@ impl Frames {
         if self.taken() - units + units_of_values(values) > self.room() {
             return Err(Abrupt::Fault(Fault::StackFull));
         }
-        self.drop_values(count, units);
+        self.drop_values(next, count, units);
         self.push_all(values);
-        self.go_to(next);
         Ok(())
     }
 }

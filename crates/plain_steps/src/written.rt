@@ -25,12 +25,28 @@ impl Model for Written {
 #[tactic(auto, using(crate::proofs::BirthLemmas::births))]
 impl Written {
     /// None.
+    #[inline(always)]
     pub fn none() -> Written
         ensures { result ≡ [] }
     {
         Written {
             numbers: [0; 6],
             count: 0,
+        }
+    }
+
+    /// The reference that a value is, if it is one to an object.
+    // Without a loop, so that nothing is left of it where the value's kind is known.
+    #[inline(always)]
+    pub fn one(value: Value) -> Written
+        ensures { result ≡ births_of (value ∷ []) }
+    {
+        match reference(value) {
+            Some(number) => Written {
+                numbers: [number, 0, 0, 0, 0, 0],
+                count: 1,
+            },
+            None => Written::none(),
         }
     }
 
@@ -59,6 +75,7 @@ impl Written {
 }
 
 /// The number of the object that a value refers to.
+#[inline(always)]
 fn reference(value: Value) -> Option<u32>
     ensures { births_of (value ∷ []) ≡ option_to_list result }
 {

@@ -15,12 +15,13 @@ overflow_sub-running-2 c =
 pub invariant_of-self : goal.invariant_of-self
 invariant_of-self c =
     let o = opened _ _ _ _ _ _ _ c.self.invariant c.self.view_is c.requires.some (omega arith) c.index_mut-running.ensures.value in
-    sound_put o _ _ refl refl (drops o _ _ c.requires.there c.requires.sized).3 refl
+    let stands = (drops o _ _ c.requires.there c.requires.sized).3 in
+    sound_put o _ _ refl refl (record { begins = stands.begins; taken_is = stands.taken_is; fits = stands.fits }) refl
 
 pub returns-clause-left : goal.returns-clause-left
 returns-clause-left c =
     let o = opened _ _ _ _ _ _ _ c.self.invariant c.self.view_is c.requires.some (omega arith) c.index_mut-running.ensures.value in
-    view_drop o _ _ (drops o _ _ c.requires.there c.requires.sized).0
+    view_drop o _ _ _ (drops o _ _ c.requires.there c.requires.sized).0
 
 pub returns-clause-room : goal.returns-clause-room
 returns-clause-room c =

@@ -2,4 +2,4 @@ use Rattle.frames.proofs.RunningLemmas.{replaces}
 use Rattle.frames.proofs.thread_frames.Frames.replace.Goals as goal
 
 pub returns : goal.returns
-returns c = replaces _ _ _ _ _ _ _ c.requires.some c.drop_values.ensures.left c.push.ensures c.go_to.ensures
+returns c = replaces _ _ _ _ _ _ c.requires.some c.drop_values.ensures.left c.push.ensures

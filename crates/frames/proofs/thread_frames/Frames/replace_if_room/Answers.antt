@@ -17,9 +17,9 @@ returns-then-taken-units-clause-step c =
 pub push-requires-clause-room : goal.push-requires-clause-room
 push-requires-clause-room c =
     let sized : Sized c.args.self.now c.args.count c.units_above-units.result c.taken.result c.room.result = record { above_is = c.units_above-units.ensures; taken_is = c.taken.ensures.units; room_is = c.room.ensures } in
-    room_for_value c.args.self.now _ _ _ _ _ c.args.value c.requires.some c.drop_values.ensures.left sized (omega arith)
+    room_for_value c.args.self.now _ _ _ _ _ _ c.args.value c.requires.some c.drop_values.ensures.left sized (omega arith)
 
 pub returns-clause-step : goal.returns-clause-step
 returns-clause-step c =
     let sized : Sized c.args.self.now c.args.count c.units_above-units.result c.taken.result c.room.result = record { above_is = c.units_above-units.ensures; taken_is = c.taken.ensures.units; room_is = c.room.ensures } in
-    stack_has_room c.args.self.now _ _ _ _ _ c.args.next (c.args.value ∷ []) sized (omega arith) (replaces _ _ _ _ _ _ _ c.requires.some c.drop_values.ensures.left c.push.ensures c.go_to.ensures)
+    stack_has_room c.args.self.now _ _ _ _ _ c.args.next (c.args.value ∷ []) sized (omega arith) (replaces _ _ _ _ _ _ c.requires.some c.drop_values.ensures.left c.push.ensures)
