@@ -6,6 +6,7 @@ pub mod ArrayLemmas
 pub mod AwaitingLemmas
 pub mod BeginLemmas
 pub mod ByNumberLemmas
+pub mod CellsFound
 pub mod ChainLemmas
 pub mod ClaimFrames
 pub mod ClaimLemmas
@@ -20,6 +21,7 @@ pub mod DeclaredMethods
 pub mod EnterLemmas
 pub mod ErrorLemmas
 mod FieldLemmas
+pub mod FieldsShown
 pub mod HeldLemmas
 pub mod CreatedLemmas
 pub mod DenyingLemmas
@@ -28,6 +30,7 @@ pub mod InitialisingLemmas
 pub mod InitializerBodies
 pub mod InvokeLemmas
 pub mod KindsHeld
+pub mod ObjectsShown
 pub mod OwnArguments
 pub mod OwnCalls
 pub mod KeyedFields
@@ -49,6 +52,7 @@ pub mod OpeningState
 pub mod OwnWords
 pub mod PrintLemmas
 pub mod PushLemmas
+pub mod ReachedLemmas
 pub mod ReadinessLemmas
 pub mod Refusing
 pub mod ResolvedFields

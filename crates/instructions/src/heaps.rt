@@ -15,6 +15,7 @@ mod entering;
 mod filling;
 mod looking;
 mod monitoring;
+mod showing;
 mod starting;
 
 use crate::kinds::Kind;
@@ -37,7 +38,7 @@ use std::alloc::{AllocError, Global};
 use std::marker::Model;
 
 /// The heap of a running program. A contract sees its shape, the account, the object of each cell, and the number of the
-/// next birth. A reference is the number of a cell and one more. No call but `new` takes memory.
+/// next birth. A reference is the number of a cell and one more. No call but `new` and `reached` takes memory.
 #[derive(Drop)]
 pub(crate) struct Heap {
     account: Account,

@@ -6,6 +6,7 @@ use frames::Frames;
 use loader::programs::Program;
 use model::turns::ClassState;
 use model::values::Value;
+use std::alloc::{AllocError, Global};
 
 /// What a turn of a thread reads and changes: the thread's number and frames, the static fields, the states of the classes,
 /// the heap and the output.
@@ -20,8 +21,11 @@ pub(crate) struct Machine {
 }
 
 impl Machine {
-    ghost use Rattle.std.specs.Prelude.{◌≡◌, ◌<◌, ◌^◌, length};
-    ghost use Rattle.instructions.specs.Heaps.{collected};
+    ghost use Rattle.std.specs.Prelude.{◌≡◌, ◌<◌, ◌^◌, suc, length, slice_get, is_some, IfOk, true};
+    ghost use Rattle.model.specs.Collector.Reached.{is_reached};
+    ghost use Rattle.model.specs.Worlds.{World};
+    ghost use Rattle.cells.specs.Objects.{object_if};
+    ghost use Rattle.instructions.specs.Heaps.{collected, looked_at};
     ghost use Rattle.instructions.specs.Threads.{all_shown};
 
     /// The collector's turn.
@@ -44,5 +48,27 @@ impl Machine {
             output: _,
         } = self;
         heap.collect(program, threads, *thread, frames, slots.as_slice());
+    }
+
+    /// Whether a path from the threads' frames, the static fields and the two errors leads to the object in a cell, in which
+    /// there is one. `AllocError` where memory runs out.
+    pub(crate) fn is_reached(
+        &self,
+        alloc: Global,
+        program: &Program,
+        threads: &Threads,
+        cell: u32,
+    ) -> Result<bool, AllocError>
+        requires few { length self.now.slots.items < 2 ^ 32 }
+        requires running { self.now.thread < 64 }
+        requires there { is_some (object_if (slice_get self.now.heap.objects cell)) ≡ true }
+        ensures { let w : World = looked_at program.now (all_shown program.now threads.now self.now.thread self.now.frames) self.now.slots.items self.now.heap in
+            IfOk result (λ reached. reached ≡ is_reached w (suc cell)) }
+    {
+        let slots = self.slots.as_slice();
+        let marks = self
+            .heap
+            .reached(alloc, program, threads, self.thread, &self.frames, slots)?;
+        Ok(marks[cell as usize + 1])
     }
 }

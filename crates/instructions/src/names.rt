@@ -10,7 +10,7 @@ use resolve::builtins::builtin_classes;
 use std::alloc::{AllocError, Global};
 
 /// The name of the class of a number; empty past the last one. `AllocError` where memory runs out, here and below.
-fn class_name(alloc: Global, program: &Program, class: u16) -> Result<Name, AllocError>
+pub(crate) fn class_name(alloc: Global, program: &Program, class: u16) -> Result<Name, AllocError>
     ensures { IfOk result (λ name. name ≡ class_name program.now class) }
 {
     let listings = program.listings();
@@ -43,6 +43,19 @@ fn add_last_element(
         name.push(b';')?;
     }
     Ok(())
+}
+
+/// The descriptor of an element type.
+pub(crate) fn type_name(
+    alloc: Global,
+    program: &Program,
+    element: TypeNumber,
+) -> Result<Name, AllocError>
+    ensures { IfOk result (λ name. name ≡ type_name program.now element) }
+{
+    let mut name = vec![in alloc; b'['; element.dimensions as usize]?;
+    add_last_element(alloc, &mut name, program, element.element)?;
+    Name::new(name)
 }
 
 /// The descriptor of arrays of a type.

@@ -23,13 +23,13 @@ use Rattle.model.specs.Turns.{overflows, refusal, choice_by, acted, unless_refus
 use Rattle.model.specs.Machines.{Machine, Recorded, after_turn_by, answer_to, machine_of, machine_of-noted, noted, opening_machine, outcome_of, row_for, told_of, with_row as recorded_with}
 use Rattle.model.specs.Naming.{named_thread}
 use Rattle.model.specs.Accounts.{Account}
-use Rattle.model.specs.Observers.{ideal, after_actor, after_last, cell_of, class_state_of, state_named, cell_view, cyclic_from, is_held_by_output, phase_of, pick_of, thread_of}
+use Rattle.model.specs.Observers.{ideal, after_actor, after_last, cell_of, class_state_of, state_named, cell_view, cyclic_from, is_held_by_output, object_of, phase_of, pick_of, thread_of}
 use Rattle.model.specs.Room.{words_of_cell}
 use Rattle.model.specs.Ready.{is_ready, thread_numbers}
 use Rattle.model.proofs.NextKeeps.{next-rows}
 use Rattle.model.proofs.CollectorLemmas.Running.{opening_holds, recorded_keeps}
 use Rattle.join.specs.Joined.{Bounded, Joint}
-use Rattle.join.specs.ReadBack.{ReadsBack, birth_read}
+use Rattle.join.specs.ReadBack.{ReadsBack, birth_read, object_on}
 use Rattle.join.specs.Runs.{TurnIsShown}
 use Rattle.join.specs.TurnsOnCells.{CellMachine, acted_on, counted_on, moved_on, outcome_on, row_on}
 use Rattle.join.proofs.Opening.{opening_bounded, opening_joins}
@@ -185,6 +185,9 @@ module _ (s : Loaded) (j : JournalValue) (k : ℕ) (is : IsOf s j k) where
   thread_is t =
       got-mapped (named_thread (birth_read s.machine.account.cells)) s.machine.world.threads t
       ∙ ap (λ (threads : List ThreadOf). slice_get threads t) read.threads
+
+  pub object_is : (b : ℕ) → object_on s.machine b ≡ object_of r b
+  object_is = read.shown
 
 -- ---- the opening
 

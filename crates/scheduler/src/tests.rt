@@ -6,14 +6,15 @@ use loader::programs::Program;
 use model::colours::{Colour, Phase};
 use model::flags::{ClassFlags, MethodFlags};
 use model::instructions::{
-    Constant, Instruction, Invocation, NumberKind, NumberOperation, Operator, SmallInt, Width,
+    ArrayOperation, Constant, Instruction, Invocation, NumberKind, NumberOperation, Operator,
+    Primitive, SmallInt, StackOperation, Width,
 };
 use model::journals::{HeapShape, Limits, Outcome, Row};
 use model::listings::{Code, Listed, Listing, Method, Placed};
 use model::names::{Member, Name};
 use model::turns::{Actor, Fault, Status, Turn};
 use model::values::Value;
-use model::views::{CellView, ThreadState, ThreadView};
+use model::views::{CellView, ContentsView, ObjectView, ThreadState, ThreadView};
 use std::alloc::{AllocError, Global};
 use std::test::Fail;
 
@@ -142,6 +143,21 @@ fn division_by_zero(alloc: Global) -> Result<Program, Fail> {
     program_of(alloc, 2, code)
 }
 
+/// `iconst_1`, `newarray int`, `pop`, `return`
+fn array_of_one(alloc: Global) -> Result<Program, Fail> {
+    let mut code = Vec::new(alloc);
+    add(
+        &mut code,
+        1,
+        Instruction::Constant(Constant::SmallInt(SmallInt::One)),
+    )?;
+    let new = ArrayOperation::New(Primitive::Int);
+    add(&mut code, 2, Instruction::Array(new))?;
+    add(&mut code, 1, Instruction::Stack(StackOperation::Pop))?;
+    add(&mut code, 1, Instruction::Return(None))?;
+    program_of(alloc, 1, code)
+}
+
 /// `nop`, and no return
 fn no_return(alloc: Global) -> Result<Program, Fail> {
     let mut code = Vec::new(alloc);
@@ -198,6 +214,30 @@ fn threw(thread: &Option<ThreadView>, class: &str) -> bool {
         Some(view) => match &view.state {
             ThreadState::Ended(Some(name)) => name.is(class),
             ThreadState::Ended(None) | ThreadState::Live(_) => false,
+        },
+        None => false,
+    }
+}
+
+/// Whether an object is an array of ints that holds these.
+fn holds_ints(object: &Option<ObjectView>, ints: &[Value]) -> bool {
+    match object {
+        Some(view) => match &view.contents {
+            ContentsView::Array { element, values } => {
+                element.is("I") && values.as_slice() == ints
+            }
+            ContentsView::Instance { .. } => false,
+        },
+        None => false,
+    }
+}
+
+/// Whether an object is of this class and has no field.
+fn is_plain(object: &Option<ObjectView>, name: &str) -> bool {
+    match object {
+        Some(view) => match &view.contents {
+            ContentsView::Instance { class, fields } => class.is(name) && fields.is_empty(),
+            ContentsView::Array { .. } => false,
         },
         None => false,
     }
@@ -347,6 +387,28 @@ fn the_collector_begins(rt: HostRuntime) -> Result<(), Fail> {
     assert_eq!(rt; world.heap(1), held(2, Colour::Grey));
     assert_eq!(rt; world.heap(2), None);
     assert_eq!(rt; world.next_birth(), 3);
+    Ok(())
+}
+
+/// A new array is shown while the stack leads to it. Once it was popped it isn't, although its cell still holds it.
+#[test]
+fn an_object_is_shown_while_it_is_reached(rt: HostRuntime) -> Result<(), Fail> {
+    let shape = HeapShape {
+        small: 3,
+        medium: 0,
+        large: 0,
+    };
+    let limits = Limits {
+        steps: 9,
+        output: 0,
+    };
+    let mut world = World::new(rt.alloc(), array_of_one(rt.alloc())?, shape, limits)?;
+    world.run([MAIN, MAIN].as_slice());
+    assert!(rt; holds_ints(&world.object(3)?, [Value::Int(0)].as_slice()));
+    world.run([MAIN].as_slice());
+    assert!(rt; world.object(3)?.is_none());
+    assert_eq!(rt; world.heap(2), held(3, Colour::Grey));
+    assert!(rt; is_plain(&world.object(2)?, "java/lang/StackOverflowError"));
     Ok(())
 }
 

@@ -21,7 +21,7 @@ fn named_reference(heap: &Heap, reference: Option<u32>) -> Option<u32>
     }
 }
 
-fn named_value(heap: &Heap, value: Value) -> Value
+pub(super) fn named_value(heap: &Heap, value: Value) -> Value
     ensures { result ≡ named_value (birth_read heap.now.account.cells) value }
 {
     match value {
@@ -48,7 +48,11 @@ fn named_entries(alloc: Global, heap: &Heap, entries: &[Entry]) -> Result<Vec<En
         .collect(alloc)
 }
 
-fn named_values(alloc: Global, heap: &Heap, values: &[Value]) -> Result<Vec<Value>, AllocError>
+pub(super) fn named_values(
+    alloc: Global,
+    heap: &Heap,
+    values: &[Value],
+) -> Result<Vec<Value>, AllocError>
     ensures { IfOk result (λ named. named.items ≡ map (named_value (birth_read heap.now.account.cells)) values.now) }
 {
     values
