@@ -1,13 +1,12 @@
 -- The object of a birth is in the cell that holds the birth.
-use Rattle.std.proofs.Common.{◌≡◌, ℕ, zero, suc, ◌+◌, ◌<◌, ◌≤◌, List, [], ◌∷◌, drop, length, map, slice_get, Bool, true, false, if◌then◌else◌, Option, Some, None, IfSome, refl, sym, ◌∙◌, ap, arith}
+use Rattle.std.proofs.Common.{◌≡◌, ℕ, zero, suc, List, [], ◌∷◌, map, slice_get, true, false, Option, Some, None, IfSome, refl, sym, ap}
 use Rattle.std.specs.Prelude.{is_some}
-use Rattle.std.proofs.lemmas.List.{drop_all}
 use Rattle.model.specs.declared.colours.Cell.{Cell}
 use Rattle.model.specs.declared.colours.Cell.TheVariants.{Taken}
 use Rattle.model.specs.declared.colours.Colour.{Colour}
 use Rattle.model.specs.Collector.Table.{cell_at}
 use Rattle.cells.specs.Objects.{StoredObject, object_if}
-use Rattle.join.specs.ReadBack.{cell_from, holds_birth}
+use Rattle.join.specs.ReadBack.{cell_from}
 use Rattle.join.proofs.ObjectsRead.{holding}
 use Rattle.instructions.specs.HeapsAgree.{is_taken}
 

@@ -1,4 +1,4 @@
-use Rattle.std.proofs.Common.{◌≡◌, ◌∙◌, IfOk, List, Some, false, suc, subst, sym, true}
+use Rattle.std.proofs.Common.{◌≡◌, ◌∙◌, IfOk, List, false, suc, subst, sym, true}
 use Rattle.model.specs.Collector.Reached.{is_reached}
 use Rattle.model.specs.Worlds.{Thread}
 use Rattle.join.specs.TurnsOnCells.{CellMachine}
