@@ -20,6 +20,7 @@ pub mod DeclaredMethods
 pub mod EnterLemmas
 pub mod ErrorLemmas
 mod FieldLemmas
+pub mod FirstTurnLemmas
 pub mod HeldLemmas
 pub mod CreatedLemmas
 pub mod DenyingLemmas
