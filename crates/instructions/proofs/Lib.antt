@@ -22,6 +22,7 @@ pub mod EnterLemmas
 pub mod ErrorLemmas
 mod FieldLemmas
 pub mod FieldsShown
+pub mod FirstTurnLemmas
 pub mod HeldLemmas
 pub mod CreatedLemmas
 pub mod DenyingLemmas

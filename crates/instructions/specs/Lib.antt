@@ -6,6 +6,7 @@ pub mod ByNumbers
 pub mod CallsByNumbers
 pub mod HeapMonitors
 pub mod HeapThreads
+pub mod FirstTurns
 pub mod Heaps
 pub mod HeapsAgree
 pub mod Initialising

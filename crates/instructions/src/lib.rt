@@ -11,6 +11,7 @@ mod claims;
 pub mod errors;
 mod exchanges;
 mod fields;
+mod first_turns;
 mod heaps;
 mod initialising;
 mod invoking;

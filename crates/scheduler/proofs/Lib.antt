@@ -5,3 +5,4 @@ pub mod Workers
 pub mod RowLines
 pub mod Making
 pub mod RoundsLeft
+pub mod FirstTurns

@@ -80,7 +80,7 @@ module _ (s : Loaded) (j : JournalValue) (k : ℕ) (is : IsOf s j k) where
     row_is : row_for v actor worker ≡ Some row
     row_is = sym shown.row ∙ rw on_cells refl
 
-    after_is : after_turn_by v actor worker ≡ noted v row
+    pub after_is : after_turn_by v actor worker ≡ noted v row
     unfolding after_turn_by
     after_is = ap (recorded_with v) row_is
 

@@ -17,14 +17,25 @@ fn is_done(answer: Turn) -> bool
 }
 
 impl World {
-    /// The turn of the thread that is picked; `NotReady` where none is.
-    fn turn_of_picked(&mut self) -> Turn
+    /// The turn of the thread that is picked, as it comes about for any of them; `NotReady` where none is.
+    fn turn_of_ready(&mut self) -> Turn
         ensures world { self.new ≡ picked self.old 0 }
         ensures answer { result ≡ picked_answer self.old 0 }
     {
         match self.pick() {
             Some(thread) => self.turn(Actor::Thread(thread)),
             None => Turn::NotReady,
+        }
+    }
+
+    /// The turn of the thread that is picked; `NotReady` where none is.
+    fn turn_of_picked(&mut self) -> Turn
+        ensures world { self.new ≡ picked self.old 0 }
+        ensures answer { result ≡ picked_answer self.old 0 }
+    {
+        match self.turn_of_first() {
+            Some(answer) => answer,
+            None => self.turn_of_ready(),
         }
     }
 

@@ -1,0 +1,53 @@
+-- The turn of the thread that is picked, where one look at its step showed that it may be made.
+use Rattle.std.proofs.Common.{◌≡◌, ◌<◌, ◌+◌, ℕ, length, Some, None, ap, sym, subst, ◌∙◌}
+use Rattle.model.specs.declared.journals.Outcome.{Outcome}
+use Rattle.model.specs.declared.journals.Row.{Row}
+use Rattle.model.specs.declared.turns.Actor.TheVariants.{Thread}
+use Rattle.model.specs.Journals.{JournalValue, with_row}
+use Rattle.model.specs.Machines.{Recorded, after_turn_by, answer_to, answer_unless_refused, noted, told_of}
+use Rattle.model.specs.Observers.{ideal, pick_of}
+use Rattle.model.specs.Turns.{refusal}
+use Rattle.join.specs.TurnsOnCells.{outcome_on}
+use Rattle.instructions.specs.FirstTurns.{IsFirstTurn}
+use Rattle.instructions.specs.Loaded.{Loaded}
+use Rattle.scheduler.specs.Rounds.{answered_by, picked, picked_answer, turned_by}
+use Rattle.scheduler.specs.Worlds.{IsOf, recorded}
+use Rattle.scheduler.proofs.Noting.{after_is, noted_is, pick_is, refusal_is, row_fits}
+
+module _ (s : Loaded) (j : JournalValue) (k : ℕ) (is : IsOf s j k) (t : ℕ) (outcome : Outcome) (after : Loaded) (made : IsFirstTurn s k after (t, outcome)) where
+  abbrev v : Recorded
+  v = recorded s j
+
+  allowed : refusal s.program j.limits (ideal v) (Thread t) ≡ None
+  allowed = sym (refusal_is s j k is (Thread t)) ∙ made.allowed
+
+  pick : pick_of v ≡ Some t
+  pick = sym (pick_is s j k is) ∙ made.picked
+
+  abbrev row : Outcome → Row
+  row o = record { actor = Thread t; outcome = o; worker = 0 }
+
+  pub first_fits : length j.rows < j.limits.steps
+  first_fits = row_fits s j k is (Thread t) 0 allowed
+
+  pub first_noted : IsOf after (with_row j (row outcome)) (t + 1)
+  first_noted =
+      subst (λ (o : Outcome). IsOf after (with_row j (row o)) (t + 1)) (sym made.outcome)
+      (subst (λ (x : Loaded). IsOf x (with_row j (row (outcome_on s.program s.machine (Thread t)))) (t + 1)) (sym made.turn)
+      (noted_is s j k is (Thread t) 0 allowed))
+
+  turned : recorded after (with_row j (row outcome)) ≡ after_turn_by v (Thread t) 0
+  turned =
+      ap (λ (x : Loaded). recorded x (with_row j (row outcome))) made.turn
+      ∙ ap (λ (o : Outcome). noted v (row o)) made.outcome
+      ∙ sym (after_is s j k is (Thread t) 0 allowed)
+
+  pub first_picked : recorded after (with_row j (row outcome)) ≡ picked v 0
+  first_picked = turned ∙ sym (ap (turned_by v 0) pick)
+
+  answered : answer_to v (Thread t) 0 ≡ told_of (ideal (after_turn_by v (Thread t) 0)).fault
+  unfolding answer_to
+  answered = ap (answer_unless_refused (after_turn_by v (Thread t) 0)) allowed
+
+  pub first_answer : told_of (ideal (recorded after (with_row j (row outcome)))).fault ≡ picked_answer v 0
+  first_answer = ap (λ (u : Recorded). told_of (ideal u).fault) turned ∙ sym answered ∙ sym (ap (answered_by v 0) pick)
