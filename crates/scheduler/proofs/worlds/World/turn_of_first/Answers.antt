@@ -1,5 +1,4 @@
 use Rattle.std.proofs.Common.{◌∙◌}
-use Rattle.instructions.specs.FirstTurns.{IsFirstTurn}
 use Rattle.scheduler.proofs.ErrorCells.{errors_stand}
 use Rattle.scheduler.proofs.FirstTurns.{first_answer, first_fits, first_noted, first_picked}
 use Rattle.scheduler.proofs.worlds.World.turn_of_first.Goals as goal
@@ -21,7 +20,8 @@ invariant_of-self c =
 pub returns-in-Some-clause-made : goal.returns-in-Some-clause-made
 returns-in-Some-clause-made c =
     let a = c.self.inside in
-    let answer = rw (c.note.ensures, c.first_worker-worker.ensures.first) at c.told.ensures in
-    (rw (c.note.ensures, c.first_worker-worker.ensures.first, ← c.self.view_is)
-    (first_picked a.state a.journal a.next c.self.invariant c.in-Some.thread c.in-Some.outcome c.turn_first.new.self c.in-Some.ensures.made),
-    answer ∙ rw (← c.self.view_is) (first_answer a.state a.journal a.next c.self.invariant c.in-Some.thread c.in-Some.outcome c.turn_first.new.self c.in-Some.ensures.made))
+    let answer = rw (c.note.ensures, c.first_worker-worker.ensures.first) at c.told.ensures in (
+      rw (c.note.ensures, c.first_worker-worker.ensures.first, ← c.self.view_is)
+          (first_picked a.state a.journal a.next c.self.invariant c.in-Some.thread c.in-Some.outcome c.turn_first.new.self c.in-Some.ensures.made),
+      answer ∙ rw (← c.self.view_is) (first_answer a.state a.journal a.next c.self.invariant c.in-Some.thread c.in-Some.outcome c.turn_first.new.self c.in-Some.ensures.made),
+    )
