@@ -1,6 +1,5 @@
 -- The errors that were made before a run have the first two cells, in every world.
 use Rattle.std.proofs.Common.{◌≡◌, ℕ, suc, Some, refl, sym, ap, ◌∙◌}
-use Rattle.model.specs.declared.colours.Cell.{Cell}
 use Rattle.model.specs.declared.colours.Cell.TheVariants.{Taken}
 use Rattle.model.specs.declared.colours.Colour.{Colour}
 use Rattle.model.specs.declared.journals.HeapShape.{HeapShape}
@@ -13,7 +12,6 @@ use Rattle.model.specs.Collector.Runs.{Holds}
 use Rattle.model.specs.Collector.Table.{cell_at}
 use Rattle.model.specs.Worlds.{World}
 use Rattle.join.specs.Joined.{Joint}
-use Rattle.join.specs.OnCells.{InCell}
 use Rattle.join.specs.ReadBack.{birth_of}
 use Rattle.join.specs.TurnsOnCells.{CellMachine}
 use Rattle.join.proofs.Reached.{root_in_cell}

@@ -1,5 +1,5 @@
 -- An actor's turn on the state, and its row in the journal: the state is joined to what the journal stands for again.
-use Rattle.std.proofs.Common.{◌≡◌, ◌<◌, ◌≤◌, ◌+◌, ℕ, zero, suc, List, [], ◌∷◌, ◌++◌, length, Option, Some, None, Bool, true, cond, refl, ap, sym, subst, ◌∙◌, arith, length-append}
+use Rattle.std.proofs.Common.{◌≡◌, ◌<◌, ◌+◌, ℕ, zero, suc, List, [], ◌∷◌, ◌++◌, length, Option, Some, None, Bool, true, cond, refl, ap, sym, subst, ◌∙◌, arith, length-append}
 use Rattle.std.specs.Prelude.{◌&&◌, ◌||◌, map, position, slice_get}
 use Rattle.std.specs.List.{find, list_any}
 use Rattle.std.specs.Option.{option_map}
@@ -20,7 +20,7 @@ use Rattle.model.specs.Journals.{JournalValue, blank, with_row}
 use Rattle.model.specs.Limits.{ShapeFits}
 use Rattle.model.specs.Worlds.{World, Thread as ThreadOf, opening_fits}
 use Rattle.model.specs.Turns.{overflows, refusal, choice_by, acted, unless_refused}
-use Rattle.model.specs.Machines.{Machine, Recorded, after_turn_by, answer_to, machine_of, machine_of-noted, noted, opening_machine, outcome_of, row_for, told_of, with_row as recorded_with}
+use Rattle.model.specs.Machines.{Machine, Recorded, after_turn_by, machine_of, machine_of-noted, noted, outcome_of, row_for, told_of, with_row as recorded_with}
 use Rattle.model.specs.Naming.{named_thread}
 use Rattle.model.specs.Accounts.{Account}
 use Rattle.model.specs.Observers.{ideal, after_actor, after_last, cell_of, class_state_of, state_named, cell_view, cyclic_from, is_held_by_output, object_of, phase_of, pick_of, thread_of}
@@ -31,13 +31,12 @@ use Rattle.model.proofs.CollectorLemmas.Running.{opening_holds, recorded_keeps}
 use Rattle.join.specs.Joined.{Bounded, Joint}
 use Rattle.join.specs.ReadBack.{ReadsBack, birth_read, object_on}
 use Rattle.join.specs.Runs.{TurnIsShown}
-use Rattle.join.specs.TurnsOnCells.{CellMachine, acted_on, counted_on, moved_on, outcome_on, row_on}
+use Rattle.join.specs.TurnsOnCells.{acted_on, counted_on, moved_on, outcome_on}
 use Rattle.join.proofs.Opening.{opening_bounded, opening_joins}
 use Rattle.join.proofs.ReadingBack.{reads_back}
 use Rattle.join.proofs.Runs.{turn_is_shown}
 use Rattle.instructions.specs.Loaded.{Loaded, fresh}
 use Rattle.instructions.proofs.Refusing.{unrefused_counted}
-use Rattle.scheduler.specs.Replaying.{IsMade}
 use Rattle.scheduler.specs.Worlds.{recorded, IsOf}
 use Rattle.scheduler.proofs.Making.{made_noted}
 
