@@ -2,9 +2,5 @@
 #![tactic(auto)]
 
 pub mod journal_texts;
-#[cfg(test)]
-mod replay_tests;
 pub mod replaying;
-#[cfg(test)]
-mod tests;
 pub mod worlds;
