@@ -4,9 +4,9 @@
 Usage: java_examples.py [--check]
 
 Each source there that has a `main()` without arguments is compiled, without debug tables, its version is set to 49.0, and
-`java` runs it. Its class files are written beside it, what `java` prints into NAME.out, and both into
-crates/jvm/src/java_tests.rt, the programs that the tests of `jvm` run. With --check nothing is written, and the tool ends
-with status 1 where a file isn't what it would write.
+`java` runs it. Its class files are written beside it, and what `java` prints into NAME.out; tools/run_examples.py, which
+the gate calls, runs them. With --check nothing is written, and the tool ends with status 1 where a file isn't what it would
+write.
 """
 import glob
 import os
@@ -19,8 +19,6 @@ from java_agrees import BEGIN, as_version_49
 
 ROOT = os.path.join(os.path.dirname(os.path.abspath(__file__)), "..")
 FOLDER = os.path.join(ROOT, "examples", "java")
-TESTS = os.path.join(ROOT, "crates", "jvm", "src", "java_tests.rt")
-MARK = "// What follows is written by tools/java_examples.py.\n"
 
 
 def output_of(words, **options):
@@ -43,28 +41,8 @@ def made(source):
         return name, files, printed
 
 
-def constant(name, kind, parts):
-    """A constant of text in several lines."""
-    return f"\nconst {name}: {kind} = {parts};\n"
-
-
-def hexed(data):
-    digits = data.hex()
-    return "\\\n    ".join(digits[at : at + 100] for at in range(0, len(digits), 100))
-
-
-def constants(name, files, printed):
-    """The constants of a program: the digits of its class files, and its output."""
-    words = re.sub(r"(?<!^)(?=[A-Z])", "_", name).upper()
-    classes = ",\n".join(f'    "{hexed(data)}"' for data in files.values())
-    lines = printed.decode("latin-1").replace("\\", "\\\\").replace('"', '\\"')
-    lines = "".join(c if c == "\n" or " " <= c <= "~" else "\\x%02x" % ord(c) for c in lines)
-    yield f"\nconst {words}: &[&str] = &[\n{classes},\n];\n"
-    yield f'\nconst {words}_PRINTS: &[u8] = b"\\\n{lines}";\n'
-
-
 def main():
-    wanted, tests = {}, []
+    wanted = {}
     for source in sorted(glob.glob(os.path.join(FOLDER, "*.java"))):
         with open(source, encoding="utf-8") as file:
             if not re.search(r"static void main\(\)", file.read()) or source.endswith("Mix.java"):
@@ -72,9 +50,6 @@ def main():
         name, files, printed = made(source)
         wanted.update({os.path.join(FOLDER, path): data for path, data in files.items()})
         wanted[os.path.join(FOLDER, name + ".out")] = printed
-        tests += constants(name, files, printed)
-    with open(TESTS, encoding="utf-8") as file:
-        wanted[TESTS] = (file.read().split(MARK)[0] + MARK + "".join(tests)).encode()
     differ = 0
     for path, data in wanted.items():
         if os.path.exists(path):

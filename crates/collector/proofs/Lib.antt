@@ -1,2 +1,4 @@
 pub mod Clearing
 pub mod ListedLemmas
+pub mod ListsNoted
+pub mod MarksTell

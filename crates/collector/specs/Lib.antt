@@ -1,2 +1,3 @@
 pub mod Freed
 pub mod ListedWorlds
+pub mod Reaching

@@ -2,10 +2,12 @@
 //! CACM 21(11), 1978).
 #![tactic(auto)]
 
+pub mod reaching;
 pub mod references;
 pub mod steps;
 #[cfg(test)]
 mod tests;
 
+pub use reaching::reached;
 pub use references::References;
 pub use steps::collect_step;

@@ -7,7 +7,7 @@ mod real_heap;
 mod roots;
 mod two_heaps;
 
-use crate::{References, collect_step};
+use crate::{References, collect_step, reached};
 use colours::accounts::Account;
 use model::colours::{Cell, Phase};
 use model::journals::HeapShape;
@@ -79,5 +79,13 @@ fn the_second_cycle_frees(rt: HostRuntime) -> Result<(), Fail> {
     assert!(rt; account.phase() == Phase::Append { cell: 2 });
     assert!(rt; collect_step(&mut account, &Nothing, shape) == Some(2));
     assert!(rt; account.cell(2) == Cell::Free && account.cell(1) != Cell::Free);
+    Ok(())
+}
+
+/// Nothing leads anywhere, so birth 1 and 2 are reached and no other.
+#[test]
+fn the_errors_alone_are_reached(rt: HostRuntime) -> Result<(), Fail> {
+    let marks = reached(rt.alloc(), &Nothing, 4)?;
+    assert!(rt; marks.as_slice() == [false, true, true, false].as_slice());
     Ok(())
 }

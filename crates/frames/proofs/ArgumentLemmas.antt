@@ -1,6 +1,6 @@
 -- arguments are copied into units behind each other
 use Rattle.std.proofs.Common.{◌≡◌, ℕ, zero, suc, ◌+◌, ◌-◌, ◌<◌, ◌≤◌, List, [], ◌∷◌, ◌++◌, length, map, replicate, reverse, take, drop, slice_set, get_or, refl, ap, sym, ◌∙◌, arith, add-one}
-use Rattle.std.proofs.lemmas.List.{set_split, append_assoc, take_more, take_more_set, drop-set-lt, drop-drop, drop_at, take_at, take-take, take-map, map_push, length-append, length-set, length-take-le, length-drop, get_or_append_left, get_or-take, get_or-drop, get_or_read, reverse-append, reverse-reverse, length-replicate}
+use Rattle.std.proofs.lemmas.List.{set_split, append_assoc, take_more, take_more_set, drop-set-lt, drop-drop, drop_at, take_at, take-take, take-map, map_push, length-append, length-set, length-take-le, length-drop, get_or_append_left, get_or-take, get_or-drop, reverse-append, reverse-reverse, length-replicate}
 use Rattle.model.specs.declared.values.Value.{Value}
 use Rattle.model.specs.declared.values.Value.TheVariants.{Int, Long, Ref}
 use Rattle.model.specs.declared.values.Entry.{Entry}
@@ -55,13 +55,12 @@ pub record Copied (old : List Entry) (from base i : ℕ) (now : List Entry) (end
   pub items : now ≡ take base old ++ argument_entries (values_between old from i) ++ drop end old
   pub end_is : end ≡ base + units_of_all (values_between old from i)
 
-pub value_next : (old : List Entry) (from base i : ℕ) (now : List Entry) (end : ℕ) (e : Entry) → Copied old from base i now end → from + i < base → base ≤ length old → length now ≡ length old → e ≡ get_or now (from + i) e → value_in e ≡ value_in (get_or old (from + i) Unset)
-value_next old from base i now end e copied before fits long read =
+pub value_next : (old : List Entry) (from base i : ℕ) (now : List Entry) (end : ℕ) (e : Entry) → Copied old from base i now end → from + i < base → base ≤ length old → e ≡ get_or now (from + i) Unset → value_in e ≡ value_in (get_or old (from + i) Unset)
+value_next old from base i now end e copied before fits read =
     let first : length (take base old) ≡ base = length-take-le base old fits in
     let split : now ≡ take base old ++ (argument_entries (values_between old from i) ++ drop end old) = copied.items ∙ append_assoc (take base old) (argument_entries (values_between old from i)) (drop end old) in
-    let at_default : e ≡ get_or now (from + i) Unset = get_or_read now (from + i) e (omega arith) read Unset in
     let left : get_or now (from + i) Unset ≡ get_or (take base old) (from + i) Unset = ap (λ (es : List Entry). get_or es (from + i) Unset) split ∙ get_or_append_left (take base old) (argument_entries (values_between old from i) ++ drop end old) Unset (from + i) (omega arith) in
-    ap value_in (at_default ∙ (left ∙ get_or-take base old (from + i) Unset before))
+    ap value_in (read ∙ (left ∙ get_or-take base old (from + i) Unset before))
 
 pub copied_next : (old : List Entry) (from base i : ℕ) (now after : List Entry) (end : ℕ) (v : Value) → Copied old from base i now end → from + i < base → base ≤ length old → end ≤ length old → v ≡ value_in (get_or old (from + i) Unset) → after ≡ take end now ++ argument_entries (v ∷ []) ++ drop (end + units_of v) now → Copied old from base (i + 1) after (end + units_of v)
 copied_next old from base i now after end v copied before fits inside value put =

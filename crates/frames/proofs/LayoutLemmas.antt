@@ -1,6 +1,6 @@
 -- how the frames read after a write in the region of the last one
 use Rattle.std.proofs.Common.{◌≡◌, ℕ, suc, ◌+◌, ◌-◌, ◌<◌, ◌≤◌, List, [], ◌∷◌, ◌++◌, length, map, slice_set, take, drop, nat_lt, nat_le, ◌&&◌, zero-add, replicate, Ok, Some, None, slice_get, Bool, true, refl, ap, sym, ◌∙◌, subst, arith, get_or}
-use Rattle.std.proofs.lemmas.List.{take-take, take_more, take_all, set_split, drop_all, map_push, length-map, length-set, get_or-map, length-append, take-map, length-take-le, length-drop, length-replicate, append_assoc, take_at, drop_at, take-set-le, get_or-take, get_or-drop, set-get_or, drop-set-add}
+use Rattle.std.proofs.lemmas.List.{take-take, take_more, take_all, set_split, drop_all, map_push, length-map, length-set, get_or-map, length-append, take-map, length-take-le, length-drop, length-replicate, append_assoc, take_at, drop_at, take-set-le, get_or_default, get_or-take, get_or-drop, set-get_or, drop-set-add}
 use Rattle.std.proofs.lemmas.Option.{slice_get_read, slice_get_past}
 use Rattle.std.proofs.Math.Seq.{take-set-lt}
 use Rattle.std.proofs.lemmas.Bool.{lt-ltb, and_parts, ltb-true, leb-true}
@@ -202,12 +202,10 @@ module _ {units : List Entry} {acts : List Activation} {used capacity : ℕ} {fr
   pub holds : (above : ℕ) → above < length (running_frame frames).stack → above < a.values
   holds above there = omega (arith, ap length stack_is, length-stack_of units (a.base + a.locals) a.values)
 
-  pub top_of-held : (above : ℕ) (e : Entry) (v : Value) → above < length (running_frame frames).stack → e ≡ get_or units (a.base + a.locals + (a.values - above - 1)) e → v ≡ value_in e → top_of (drop above (running_frame frames).stack) ≡ Ok v
-  top_of-held above e v there read is =
-      let fits = region_fits in
-      let deep = holds above there in
-      let found = top_of-drop-stack_of units (a.base + a.locals) a.values above e deep (omega arith) read in
-      rw (stack_is, is) (sym found)
+  pub top_of-held : (above : ℕ) (e : Entry) → above < length (running_frame frames).stack → e ≡ get_or units (a.base + a.locals + (a.values - above - 1)) Unset → top_of (drop above (running_frame frames).stack) ≡ Ok (value_in e)
+  top_of-held above e there read =
+      let found = top_of-drop-stack_of units (a.base + a.locals) a.values above e (holds above there) read in
+      rw stack_is (sym found)
 
   -- so many values, which take so many units, leave the stack
   pub drops : (count taken : ℕ) → count ≤ length (running_frame frames).stack → taken ≡ units_of_all (take count (running_frame frames).stack) → (count ≤ a.values) × (taken ≤ a.taken) × (taken + units_of_all (drop count (running_frame frames).stack) ≤ (running_frame frames).room) × Stands units a.base (record a { values = a.values - count; taken = a.taken - taken })
@@ -262,10 +260,11 @@ module _ {units : List Entry} {acts : List Activation} {used capacity : ℕ} {fr
       let fits = region_fits in
       ap length locals_is ∙ length-take-le a.locals (drop a.base units) (omega (arith, length-drop a.base units))
 
-  pub entry_within : (i : ℕ) (e : Entry) → i < a.locals → e ≡ get_or units (a.base + i) e → Some e ≡ slice_get (running_frame frames).locals i
+  pub entry_within : (i : ℕ) (e : Entry) → i < a.locals → e ≡ get_or units (a.base + i) Unset → Some e ≡ slice_get (running_frame frames).locals i
   entry_within i e within read =
-      let place : get_or (running_frame frames).locals i e ≡ get_or units (a.base + i) e = ap (λ (es : List Entry). get_or es i e) locals_is ∙ (get_or-take a.locals (drop a.base units) i e within ∙ get_or-drop a.base units i e) in
-      sym (slice_get_read (running_frame frames).locals a.locals i e (sym length-locals) within (read ∙ sym place))
+      let place : get_or (running_frame frames).locals i Unset ≡ get_or units (a.base + i) Unset = ap (λ (es : List Entry). get_or es i Unset) locals_is ∙ (get_or-take a.locals (drop a.base units) i Unset within ∙ get_or-drop a.base units i Unset) in
+      let default = get_or_default (running_frame frames).locals i Unset e (omega (arith, length-locals)) in
+      sym (slice_get_read (running_frame frames).locals a.locals i e (sym length-locals) within (read ∙ (sym place ∙ default)))
 
   pub entry_past : (i : ℕ) → a.locals ≤ i → None ≡ slice_get (running_frame frames).locals i
   entry_past i past = sym (slice_get_past (running_frame frames).locals i (omega (arith, length-locals)))

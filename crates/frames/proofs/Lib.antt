@@ -5,5 +5,6 @@ pub mod OperandLemmas
 pub mod PushLemmas
 pub mod RootLemmas
 pub mod RunningLemmas
+pub mod SlotLemmas
 pub mod StackLemmas
 pub mod ViewLemmas

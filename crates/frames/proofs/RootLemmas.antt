@@ -1,6 +1,6 @@
 -- the references in a frame's entries
 use Rattle.std.proofs.Common.{◌≡◌, ℕ, zero, suc, ◌+◌, ◌<◌, ◌≤◌, List, [], ◌∷◌, ◌++◌, length, map, reverse, take, drop, Option, Some, None, slice_get, get_or, refl, ap, sym, ◌∙◌, arith}
-use Rattle.std.proofs.lemmas.List.{reverse-reverse, length-map, length-take-le, length-drop, get_or-map, get_or-take, get_or-drop, get_or_read, get_or_past, map-append, reverse-append, drop-drop, length-take}
+use Rattle.std.proofs.lemmas.List.{reverse-reverse, length-map, length-take-le, length-drop, get_or-map, get_or-take, get_or-drop, get_or_past, map-append, reverse-append, drop-drop, length-take}
 use Rattle.std.proofs.Math.Seq.{take-add}
 use Rattle.std.specs.Option.{option_map}
 use Rattle.std.proofs.lemmas.Option.{slice_get-map}
@@ -82,12 +82,11 @@ region_of units acts used capacity d a sound is =
 pub length-entries : (units : List Entry) (a : Activation) → a.base + a.locals + a.values ≤ length units → a.locals + a.values ≡ length (map entry_ref (take (a.locals + a.values) (drop a.base units)))
 length-entries units a fits = omega (arith, length-map (take (a.locals + a.values) (drop a.base units)) entry_ref, length-take-le (a.locals + a.values) (drop a.base units) (omega (arith, length-drop a.base units)))
 
-pub ref_at-entries : (units : List Entry) (a : Activation) (j : ℕ) (e : Entry) → a.base + a.locals + a.values ≤ length units → j < a.locals + a.values → e ≡ get_or units (a.base + j) e → entry_ref e ≡ ref_at (map entry_ref (take (a.locals + a.values) (drop a.base units))) j
+pub ref_at-entries : (units : List Entry) (a : Activation) (j : ℕ) (e : Entry) → a.base + a.locals + a.values ≤ length units → j < a.locals + a.values → e ≡ get_or units (a.base + j) Unset → entry_ref e ≡ ref_at (map entry_ref (take (a.locals + a.values) (drop a.base units))) j
 ref_at-entries units a j e fits h read =
     let many : length (take (a.locals + a.values) (drop a.base units)) ≡ a.locals + a.values = length-take-le (a.locals + a.values) (drop a.base units) (omega (arith, length-drop a.base units)) in
-    let at_default : e ≡ get_or units (a.base + j) Unset = get_or_read units (a.base + j) e (omega arith) read Unset in
     let place : get_or (take (a.locals + a.values) (drop a.base units)) j Unset ≡ get_or units (a.base + j) Unset = get_or-take (a.locals + a.values) (drop a.base units) j Unset h ∙ get_or-drop a.base units j Unset in
-    ap entry_ref (at_default ∙ sym place) ∙ sym (get_or-map entry_ref (take (a.locals + a.values) (drop a.base units)) j Unset None (omega arith))
+    ap entry_ref (read ∙ sym place) ∙ sym (get_or-map entry_ref (take (a.locals + a.values) (drop a.base units)) j Unset None (omega arith))
 
 pub ref_at-past : (units : List Entry) (a : Activation) (j : ℕ) → a.locals + a.values ≤ j → None ≡ ref_at (map entry_ref (take (a.locals + a.values) (drop a.base units))) j
 ref_at-past units a j h =

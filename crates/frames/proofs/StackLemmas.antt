@@ -1,7 +1,7 @@
 -- what the stack above a unit is after a write
 use Rattle.std.proofs.Common.{◌≡◌, ℕ, zero, suc, ◌+◌, ◌-◌, ◌<◌, ◌≤◌, List, [], ◌∷◌, length, slice_set, slice_index_or, take, drop, Result, Ok, Err, refl, ap, sym, ◌∙◌, arith, get_or, add-one}
 use Rattle.std.proofs.lemmas.Grind.{common_steps}
-use Rattle.std.proofs.lemmas.List.{get_or-take, get_or_read, drop-take, take-take}
+use Rattle.std.proofs.lemmas.List.{get_or-take, drop-take, take-take}
 use Rattle.model.specs.declared.values.Entry.{Entry}
 use Rattle.model.specs.declared.values.Entry.TheVariants.{Unset, Holds}
 use Rattle.model.specs.declared.values.Value.{Value}
@@ -65,9 +65,8 @@ length_le_units (Long z ∷ vs) = let h = length_le_units vs in omega arith
 length_le_units (Ref r ∷ vs) = let h = length_le_units vs in omega arith
 
 -- the value that lies below so many others
-pub top_of-drop-stack_of : (units : List Entry) (base n k : ℕ) (e : Entry) → k < n → base + n ≤ length units → e ≡ get_or units (base + (n - k - 1)) e → Ok (value_in e) ≡ top_of (drop k (stack_of units base n))
-top_of-drop-stack_of units base n k e h fits is =
-    let read : e ≡ get_or units (base + (n - k - 1)) Unset = get_or_read units (base + (n - k - 1)) e (omega arith) is Unset in
+pub top_of-drop-stack_of : (units : List Entry) (base n k : ℕ) (e : Entry) → k < n → e ≡ get_or units (base + (n - k - 1)) Unset → Ok (value_in e) ≡ top_of (drop k (stack_of units base n))
+top_of-drop-stack_of units base n k e h read =
     let place : base + (n - k) - 1 ≡ base + (n - k - 1) = omega arith in
     let found : Entry → Result Value Fault = λ x. Ok (value_in x) in
     rw (drop-stack_of units base n k (omega arith), stack_of-suc units base (n - k) (omega arith), place) (ap found read)

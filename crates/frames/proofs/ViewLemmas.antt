@@ -1,5 +1,5 @@
 -- frames as plain data
-use Rattle.std.proofs.Common.{◌≡◌, ℕ, zero, suc, ◌+◌, ◌-◌, ◌<◌, ◌≤◌, List, [], ◌∷◌, length, map, reverse, take, drop, get_or, ap, sym, ◌∙◌, arith}
+use Rattle.std.proofs.Common.{◌≡◌, ℕ, zero, suc, ◌+◌, ◌<◌, ◌≤◌, List, [], ◌∷◌, length, map, reverse, take, drop, get_or, ap, sym, ◌∙◌, arith}
 use Rattle.model.specs.declared.values.Entry.{Entry}
 use Rattle.model.specs.declared.values.Value.{Value}
 use Rattle.frames.specs.declared.activations.Activation.{Activation}
@@ -8,12 +8,8 @@ use Rattle.frames.proofs.LayoutLemmas.{values_fit, laid_le}
 use Rattle.frames.proofs.ArgumentLemmas.{stack_of-between}
 
 -- a frame from copies of its locals and of its values, bottom first
-pub frame_of-copies : (units : List Entry) (a : Activation) (locals : List Entry) (values : List Value) → a.base + a.locals + a.values ≤ length units → locals ≡ take (a.base + a.locals - a.base) (drop a.base units) → values ≡ map value_in (take (a.base + a.locals + a.values - (a.base + a.locals)) (drop (a.base + a.locals) units)) → record { method = a.method; pc = a.pc; locals = locals; stack = reverse values; room = a.room; monitor = a.monitor; mark = a.mark } ≡ frame_of units a
-frame_of-copies units a locals values fits l v =
-    let first : a.base + a.locals - a.base ≡ a.locals = omega arith in
-    let second : a.base + a.locals + a.values - (a.base + a.locals) ≡ a.values = omega arith in
-    let locals_are : locals ≡ take a.locals (drop a.base units) = l ∙ ap (λ (n : ℕ). take n (drop a.base units)) first in
-    let values_are : values ≡ map value_in (take a.values (drop (a.base + a.locals) units)) = v ∙ ap (λ (n : ℕ). map value_in (take n (drop (a.base + a.locals) units))) second in
+pub frame_of-copies : (units : List Entry) (a : Activation) (locals : List Entry) (values : List Value) → a.base + a.locals + a.values ≤ length units → locals ≡ take a.locals (drop a.base units) → values ≡ map value_in (take a.values (drop (a.base + a.locals) units)) → record { method = a.method; pc = a.pc; locals = locals; stack = reverse values; room = a.room; monitor = a.monitor; mark = a.mark } ≡ frame_of units a
+frame_of-copies units a locals values fits locals_are values_are =
     let stack_is : reverse values ≡ stack_of units (a.base + a.locals) a.values = ap reverse values_are ∙ sym (stack_of-between units (a.base + a.locals) a.values fits) in
     cc
 

@@ -43,6 +43,8 @@ pub mod heads;
 mod locals;
 mod operands;
 mod results;
+mod slots;
 mod thread_frames;
+mod units;
 
 pub use thread_frames::Frames;

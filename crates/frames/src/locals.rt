@@ -3,16 +3,18 @@
 ghost use Rattle.std.specs.Prelude.{◌≡◌, ℕ, ◌<◌, ◌≤◌, ◌^◌, length, IsOk, OnErr};
 ghost use Rattle.model.specs.Frames.{running_frame, with_running, as_int};
 ghost use Rattle.model.specs.declared.values.Kind.TheVariants.{Int as IntKind};
-ghost use Rattle.model.specs.Locals.{entries_of as width_of, has_local, of_kind as found, value_on, local_at, freed, with_local, stored, stored_at};
+ghost use Rattle.model.specs.Locals.{entries_of as width_of, has_local, value_on, local_at, freed, with_local, stored, stored_at};
 ghost use Rattle.frames.specs.Told.{told, moved_on};
 
+use crate::slots::{Slot, local_in, operand_in, slot_of};
 use crate::thread_frames::Frames;
 use model::turns::{Abrupt, Fault};
-use model::values::{Entry, Kind, Value};
+use model::values::{Kind, Value};
 
 #[tactic(auto, using(crate::proofs::RunningLemmas::changes))]
 impl Frames {
     /// Whether the running frame has a local of this kind at this index.
+    #[inline(always)]
     pub fn has_local(&self, kind: Kind, index: u16) -> bool
         requires { 0 < length self.now }
         ensures { result ≡ has_local kind (running_frame self.now).locals index }
@@ -22,6 +24,7 @@ impl Frames {
 
     /// The value of this kind in a local. F4 where the local, of a long also its second entry, is out of range, or is
     /// the upper half of a long; F3 where it is unset or of another kind.
+    #[inline(always)]
     pub fn load(&self, kind: Kind, index: u16) -> Result<Value, Fault>
         requires { 0 < length self.now }
         ensures { result ≡ local_at kind (running_frame self.now).locals index }
@@ -29,14 +32,14 @@ impl Frames {
         if !self.has_local(kind, index) {
             return Err(Fault::WrongLocal);
         }
-        match self.entry(index as usize) {
-            Some(Entry::Holds(value)) => of_kind(kind, value),
-            Some(Entry::Unset) => Err(Fault::WrongKind),
-            Some(Entry::UpperHalf) | None => Err(Fault::WrongLocal),
+        match self.local(index as usize) {
+            Some(slot) => local_in(kind, slot),
+            None => Err(Fault::WrongLocal),
         }
     }
 
     /// The int in a local; F4 and F3 as of `load`.
+    #[inline(always)]
     pub fn local_int(&self, index: u16) -> Result<i32, Fault>
         requires { 0 < length self.now }
         ensures { result ≡ as_int (local_at IntKind (running_frame self.now).locals index) }
@@ -48,28 +51,31 @@ impl Frames {
     }
 
     /// The operand of this kind at the top of the stack; F1, F3.
+    #[inline(always)]
     pub fn operand(&self, kind: Kind) -> Result<Value, Fault>
         requires { 0 < length self.now }
         ensures value { result ≡ value_on kind (running_frame self.now).stack }
         ensures deep { IsOk result → 1 ≤ length (running_frame self.now).stack }
     {
-        of_kind(kind, self.value(0)?)
+        operand_in(kind, self.slot(0)?)
     }
 
     /// Makes the other half of a long unset whose one half stands at this index.
+    #[inline(always)]
     fn free(&mut self, index: usize)
         requires some { 0 < length self.old }
         requires small { index < 2 ^ 32 }
         ensures { self.new ≡ with_running self.old (record (running_frame self.old) { locals = freed (running_frame self.old).locals index }) }
     {
-        match self.entry(index) {
-            Some(Entry::Holds(Value::Long(_))) => self.set_entry(index + 1, Entry::Unset),
-            Some(Entry::UpperHalf) => self.set_entry(index.saturating_sub(1), Entry::Unset),
-            Some(Entry::Holds(Value::Int(_) | Value::Ref(_)) | Entry::Unset) | None => {}
+        match self.local(index) {
+            Some(Slot::Long(_)) => self.set_local(index + 1, Slot::Unset),
+            Some(Slot::Upper) => self.set_local(index.saturating_sub(1), Slot::Unset),
+            Some(Slot::Unset | Slot::Int(_) | Slot::Null | Slot::Ref(_)) | None => {}
         }
     }
 
     /// Puts a value into a local.
+    #[inline(always)]
     fn put_local(&mut self, index: u16, value: Value)
         requires { 0 < length self.old }
         ensures { self.new ≡ with_running self.old (record (running_frame self.old) { locals = with_local (running_frame self.old).locals index value }) }
@@ -77,17 +83,18 @@ impl Frames {
         let index = index as usize;
         self.free(index);
         match value {
-            Value::Int(_) => self.set_entry(index, Entry::Holds(value)),
-            Value::Ref(_) => self.set_entry(index, Entry::Holds(value)),
+            Value::Int(_) => self.set_local(index, slot_of(value)),
+            Value::Ref(_) => self.set_local(index, slot_of(value)),
             Value::Long(_) => {
                 self.free(index + 1);
-                self.set_entry(index, Entry::Holds(value));
-                self.set_entry(index + 1, Entry::UpperHalf);
+                self.set_local(index, slot_of(value));
+                self.set_local(index + 1, Slot::Upper);
             }
         }
     }
 
     /// Goes to this pc, without so many values at the top, and with a value in a local.
+    #[inline(always)]
     pub fn store(&mut self, next: u16, count: u8, index: u16, value: Value)
         requires some { 0 < length self.old }
         requires there { count ≤ length (running_frame self.old).stack }
@@ -114,22 +121,12 @@ impl Frames {
 }
 
 /// The entries that a value of this kind takes.
+#[inline(always)]
 fn entries_of(kind: Kind) -> usize
     ensures { result ≡ width_of kind }
 {
     match kind {
         Kind::Int | Kind::Ref => 1,
         Kind::Long => 2,
-    }
-}
-
-/// A value of the kind that is wanted; else F3.
-fn of_kind(kind: Kind, value: Value) -> Result<Value, Fault>
-    ensures { result ≡ found kind value }
-{
-    match (kind, value) {
-        (Kind::Int, Value::Int(_)) | (Kind::Long, Value::Long(_)) | (Kind::Ref, Value::Ref(_)) =>
-            Ok(value),
-        _ => Err(Fault::WrongKind),
     }
 }

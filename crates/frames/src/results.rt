@@ -4,25 +4,43 @@ ghost use Rattle.model.specs.Frames.{running_frame, with_running, replaced, repl
 ghost use Rattle.model.specs.Values.{units_of as units_taken, units_of_all};
 ghost use Rattle.frames.specs.Told.{told, moved_on};
 
-use crate::thread_frames::{Frames, units_of};
+use crate::slots::{units_in, units_of};
+use crate::thread_frames::Frames;
 use model::turns::{Abrupt, Fault};
 use model::values::Value;
 
 impl Frames {
     /// How many units so many values at the top take.
+    // The loop apart, so that nothing is looked at twice where the count is known.
+    #[inline(always)]
     fn units_above(&self, count: u8) -> usize
+        requires some { 0 < length self.now }
+        requires there { count ≤ length (running_frame self.now).stack }
+        ensures { result ≡ units_of_all (take count (running_frame self.now).stack) }
+    {
+        match count {
+            0 => 0,
+            1 => units_in(self.held(0)),
+            2 => units_in(self.held(0)) + units_in(self.held(1)),
+            _ => self.units_above_all(count),
+        }
+    }
+
+    /// The same of any count.
+    fn units_above_all(&self, count: u8) -> usize
         requires some { 0 < length self.now }
         requires there { count ≤ length (running_frame self.now).stack }
         ensures { result ≡ units_of_all (take count (running_frame self.now).stack) }
     {
         let mut units = 0;
         for above in 0..count {
-            units += units_of(self.held(above as usize));
+            units += units_in(self.held(above as usize));
         }
         units
     }
 
     /// Goes to this pc, without so many values at the top.
+    #[inline(always)]
     pub fn discard(&mut self, next: u16, count: u8)
         requires some { 0 < length self.old }
         requires there { count ≤ length (running_frame self.old).stack }
@@ -34,6 +52,7 @@ impl Frames {
     }
 
     /// Goes to this pc, with a value in place of so many at the top, which take no less room.
+    #[inline(always)]
     pub fn replace(&mut self, next: u16, count: u8, value: Value)
         requires some { 0 < length self.old }
         requires there { count ≤ length (running_frame self.old).stack }
@@ -60,6 +79,7 @@ impl Frames {
     }
 
     /// Goes to this pc, with a value in place of so many at the top; F2 where it has no room, and then nothing changes.
+    #[inline(always)]
     pub fn replace_if_room(&mut self, next: u16, count: u8, value: Value) -> Result<(), Abrupt>
         requires some { 0 < length self.old }
         requires there { count ≤ length (running_frame self.old).stack }

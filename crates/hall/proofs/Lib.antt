@@ -1,3 +1,4 @@
-pub mod Rows
+pub mod Dealt
 pub mod Pairs
+pub mod Rows
 pub mod SeatsHome

@@ -15,10 +15,11 @@ use Rattle.model.specs.Ready.{is_ready}
 use Rattle.model.specs.Turns.{overflows, actor_refusal, refusal_after, refusal}
 use Rattle.model.specs.Machines.{Recorded, machine_of, told_of, row_unless_refused, with_row, answer_unless_refused, after_turn_by, answer_to}
 use Rattle.model.specs.Observers.{pick_of, status_of, is_running}
+use Rattle.scheduler.specs.Rounds.{answered_by, is_done, turned_by}
 use Rattle.hall.specs.declared.roles.Role.{Role}
 use Rattle.hall.specs.declared.roles.Role.TheVariants.{Both, Carrier, Collector as Collecting}
-use Rattle.hall.specs.Roles.{carried, carried_answer, last_is_collector, swept_once, swept, swept_after, after_allowed, answer_allowed, after_role, answer_role}
-use Rattle.hall.specs.Shares.{ShareValue, counted_on, with_rows, rows_by, Rises, Takes, CountsRows}
+use Rattle.hall.specs.Roles.{last_is_collector, swept_once, swept, swept_after, after_allowed, answer_allowed, done_so_far, after_more, answer_more, after_rounds, answer_rounds, after_known, answer_known, after_role, answer_role, collected, collected_answer}
+use Rattle.hall.specs.Shares.{ShareValue, counted_on, with_rows, rows_by, gc_of, times, Rises, Takes, CountsRows}
 
 -- ---- a refused turn makes no row, and any other makes one
 
@@ -116,12 +117,13 @@ module _ (v w : Recorded) (actor : Actor) (worker : ℕ) (t : Turn) (is : w ≡ 
     workers_is = ap (λ (x : Recorded). x.journal.workers) (is ∙ (turn_adds v actor worker).world_is);
     worker_is = ap (λ (s : ShareValue). s.worker) e;
     role_is = ap (λ (s : ShareValue). s.role) e;
+    extra_is = ap (λ (s : ShareValue). s.extra) e;
     count_is = (let c : after.count ≡ before.count + rows_by t = ap (λ (s : ShareValue). s.count) e in let l = turn_length in omega arith);
   }
 
 -- ---- a role's turn
 
-carried_adds : (v : Recorded) (worker : ℕ) (picked : Option ℕ) → Adds v (carried v worker picked) worker (rows_by (carried_answer v worker picked))
+carried_adds : (v : Recorded) (worker : ℕ) (picked : Option ℕ) → Adds v (turned_by v worker picked) worker (rows_by (answered_by v worker picked))
 carried_adds v worker None = adds_none v worker 0 refl
 carried_adds v worker (Some t) = turn_adds v (Thread t) worker
 
@@ -154,13 +156,24 @@ swept_adds worker (suc n) v =
       adds = adds_on v (swept_once v worker) (swept v worker (suc n)) worker once.n rest.n once.adds rest.adds;
     }
 
--- w is v with the rows of a role's turn with this answer
-record RoleAdds (v w : Recorded) (role : Role) (answer : Turn) (worker : ℕ) : Type 0 where
+-- ---- one round
+
+-- how many rows one round with this answer makes
+abbrev RisesOnce : Role → Turn → ℕ → Type 0
+RisesOnce role Done n = (1 ≤ n) × (n ≤ 1 + gc_of role)
+RisesOnce role (Fault f) n = n ≡ 1
+RisesOnce role NotReady n = n ≡ 0
+RisesOnce role Stopped n = n ≡ 0
+RisesOnce role OutputFull n = n ≡ 0
+RisesOnce role StepLimit n = n ≡ 0
+
+-- w is v with the rows of a round with this answer
+record OnceAdds (v w : Recorded) (role : Role) (answer : Turn) (worker : ℕ) : Type 0 where
   n : ℕ
-  rises : Rises role answer n
+  rises : RisesOnce role answer n
   adds : Adds v w worker n
 
-rises_one : (role : Role) (t : Turn) → Rises role t (rows_by t)
+rises_one : (role : Role) (t : Turn) → RisesOnce role t (rows_by t)
 rises_one role Done = (omega arith, omega arith)
 rises_one role (Fault f) = refl
 rises_one role NotReady = refl
@@ -168,11 +181,11 @@ rises_one role Stopped = refl
 rises_one role OutputFull = refl
 rises_one role StepLimit = refl
 
--- one turn is a turn of any role
-role_once : (v w : Recorded) (role : Role) (t : Turn) (worker : ℕ) → Adds v w worker (rows_by t) → RoleAdds v w role t worker
+-- one turn is a round of any role
+role_once : (v w : Recorded) (role : Role) (t : Turn) (worker : ℕ) → Adds v w worker (rows_by t) → OnceAdds v w role t worker
 role_once v w role t worker adds = record { n = rows_by t; rises = rises_one role t; adds = adds }
 
-both_adds : (v u : Recorded) (gc worker : ℕ) (t : Turn) → Adds v u worker (rows_by t) → RoleAdds v (swept_after t u worker gc) (Both gc) t worker
+both_adds : (v u : Recorded) (gc worker : ℕ) (t : Turn) → Adds v u worker (rows_by t) → OnceAdds v (swept_after t u worker gc) (Both gc) t worker
 both_adds v u gc worker Done a =
     let rest = swept_adds worker gc u in
     record { n = 1 + rest.n; rises = (omega arith, (let f = rest.few in omega arith)); adds = adds_on v u (swept u worker gc) worker 1 rest.n a rest.adds }
@@ -183,31 +196,130 @@ both_adds v u gc worker OutputFull a = role_once v u (Both gc) OutputFull worker
 both_adds v u gc worker StepLimit a = role_once v u (Both gc) StepLimit worker a
 
 collected_if : (v : Recorded) (worker : ℕ) (last : Bool)
-    → RoleAdds v (if last then v else after_turn_by v Collector worker) Collecting (if last then NotReady else answer_to v Collector worker) worker
-collected_if v worker true = role_once v v Collecting NotReady worker (adds_none v worker 0 refl)
-collected_if v worker false = role_once v _ Collecting (answer_to v Collector worker) worker (turn_adds v Collector worker)
+    → Adds v (if last then v else after_turn_by v Collector worker) worker (rows_by (if last then NotReady else answer_to v Collector worker))
+collected_if v worker true = adds_none v worker 0 refl
+collected_if v worker false = turn_adds v Collector worker
 
-allowed_adds : (v : Recorded) (role : Role) (worker : ℕ) → RoleAdds v (after_allowed v role worker) role (answer_allowed v role worker) worker
-allowed_adds v Carrier worker = role_once v _ Carrier (carried_answer v worker (pick_of v)) worker (carried_adds v worker (pick_of v))
-allowed_adds v Collecting worker = collected_if v worker (last_is_collector v)
-allowed_adds v (Both gc) worker = both_adds v (carried v worker (pick_of v)) gc worker (carried_answer v worker (pick_of v)) (carried_adds v worker (pick_of v))
+allowed_adds : (v : Recorded) (role : Role) (worker : ℕ) → OnceAdds v (after_allowed v role worker) role (answer_allowed v role worker) worker
+allowed_adds v Carrier worker = role_once v _ Carrier (answered_by v worker (pick_of v)) worker (carried_adds v worker (pick_of v))
+allowed_adds v Collecting worker = role_once v _ Collecting (collected_answer v worker) worker (collected_if v worker (last_is_collector v))
+allowed_adds v (Both gc) worker = both_adds v (turned_by v worker (pick_of v)) gc worker (answered_by v worker (pick_of v)) (carried_adds v worker (pick_of v))
 
-known_adds : (v : Recorded) (role : Role) (worker : ℕ) (known : Bool)
-    → RoleAdds v (if known then after_allowed v role worker else v) role (if known then answer_allowed v role worker else NotReady) worker
-known_adds v role worker true = allowed_adds v role worker
-known_adds v role worker false = role_once v v role NotReady worker (adds_none v worker 0 refl)
+-- ---- more rounds
 
-role_adds : (v : Recorded) (role : Role) (worker : ℕ) → RoleAdds v (after_role v role worker) role (answer_role v role worker) worker
+-- how many rows so many more rounds make at most, the last of which has this answer
+abbrev RisesMore : Role → ℕ → Turn → ℕ → Type 0
+RisesMore role extra Done n = n ≤ times extra (1 + gc_of role)
+RisesMore role extra (Fault f) n = (1 ≤ n) × (n + (1 + gc_of role) ≤ 1 + times extra (1 + gc_of role))
+RisesMore role extra NotReady n = ⊥
+RisesMore role extra Stopped n = n + (1 + gc_of role) ≤ times extra (1 + gc_of role)
+RisesMore role extra OutputFull n = n + (1 + gc_of role) ≤ times extra (1 + gc_of role)
+RisesMore role extra StepLimit n = n + (1 + gc_of role) ≤ times extra (1 + gc_of role)
+
+record MoreAdds (v w : Recorded) (role : Role) (extra : ℕ) (answer : Turn) (worker : ℕ) : Type 0 where
+  n : ℕ
+  rises : RisesMore role extra answer n
+  adds : Adds v w worker n
+
+-- a round before them
+grown : (role : Role) (extra d n : ℕ) (t : Turn) → d ≤ 1 + gc_of role → RisesMore role extra t n → RisesMore role (suc extra) t (d + n)
+grown role extra d n Done few h = omega arith
+grown role extra d n (Fault f) few h = (let a = h.0 in omega arith, let b = h.1 in omega arith)
+grown role extra d n NotReady few h = absurd h
+grown role extra d n Stopped few h = omega arith
+grown role extra d n OutputFull few h = omega arith
+grown role extra d n StepLimit few h = omega arith
+
+more_if : (v u : Recorded) (role : Role) (worker extra : ℕ) (t : Turn) → OnceAdds v u role t worker → MoreAdds u (after_more u role worker extra) role extra (answer_more u role worker extra) worker
+    → MoreAdds v (if is_done t then after_more u role worker extra else u) role (suc extra) (if is_done t then answer_more u role worker extra else done_so_far t) worker
+more_if v u role worker extra Done once rest = record {
+  n = once.n + rest.n;
+  rises = grown role extra once.n rest.n (answer_more u role worker extra) once.rises.1 rest.rises;
+  adds = adds_on v u (after_more u role worker extra) worker once.n rest.n once.adds rest.adds;
+}
+more_if v u role worker extra (Fault f) once rest = record { n = once.n; rises = (let e = once.rises in omega arith, let e = once.rises in omega arith); adds = once.adds }
+more_if v u role worker extra NotReady once rest = record { n = once.n; rises = (let e = once.rises in omega arith); adds = once.adds }
+more_if v u role worker extra Stopped once rest = record { n = once.n; rises = (let e = once.rises in omega arith); adds = once.adds }
+more_if v u role worker extra OutputFull once rest = record { n = once.n; rises = (let e = once.rises in omega arith); adds = once.adds }
+more_if v u role worker extra StepLimit once rest = record { n = once.n; rises = (let e = once.rises in omega arith); adds = once.adds }
+
+more_adds : (role : Role) (worker extra : ℕ) (v : Recorded) → MoreAdds v (after_more v role worker extra) role extra (answer_more v role worker extra) worker
+more_adds role worker zero v = record { n = 0; rises = omega arith; adds = adds_none v worker 0 refl }
+more_adds role worker (suc extra) v =
+    more_if v (after_allowed v role worker) role worker extra (answer_allowed v role worker) (allowed_adds v role worker)
+    (more_adds role worker extra (after_allowed v role worker))
+
+-- ---- a role's turn
+
+-- w is v with the rows of a role's turn with this answer
+record RoleAdds (v w : Recorded) (role : Role) (extra : ℕ) (answer : Turn) (worker : ℕ) : Type 0 where
+  n : ℕ
+  rises : Rises role extra answer n
+  adds : Adds v w worker n
+
+whole : (role : Role) (extra d n : ℕ) (t : Turn) → (1 ≤ d) × (d ≤ 1 + gc_of role) → RisesMore role extra t n → Rises role extra t (d + n)
+whole role extra d n Done few h = (let a = few.0 in omega arith, let b = few.1 in omega arith)
+whole role extra d n (Fault f) few h = (let a = few.0 in omega arith, let b = few.1 in let c = h.1 in omega arith)
+whole role extra d n NotReady few h = absurd h
+whole role extra d n Stopped few h = let b = few.1 in omega arith
+whole role extra d n OutputFull few h = let b = few.1 in omega arith
+whole role extra d n StepLimit few h = let b = few.1 in omega arith
+
+rounds_if : (v u : Recorded) (role : Role) (worker extra : ℕ) (t : Turn) → OnceAdds v u role t worker → MoreAdds u (after_more u role worker extra) role extra (answer_more u role worker extra) worker
+    → RoleAdds v (if is_done t then after_more u role worker extra else u) role extra (if is_done t then answer_more u role worker extra else t) worker
+rounds_if v u role worker extra Done once rest = record {
+  n = once.n + rest.n;
+  rises = whole role extra once.n rest.n (answer_more u role worker extra) once.rises rest.rises;
+  adds = adds_on v u (after_more u role worker extra) worker once.n rest.n once.adds rest.adds;
+}
+rounds_if v u role worker extra (Fault f) once rest = record { n = once.n; rises = (let e = once.rises in omega arith, let e = once.rises in omega arith); adds = once.adds }
+rounds_if v u role worker extra NotReady once rest = record { n = once.n; rises = once.rises; adds = once.adds }
+rounds_if v u role worker extra Stopped once rest = record { n = once.n; rises = (let e = once.rises in omega arith); adds = once.adds }
+rounds_if v u role worker extra OutputFull once rest = record { n = once.n; rises = (let e = once.rises in omega arith); adds = once.adds }
+rounds_if v u role worker extra StepLimit once rest = record { n = once.n; rises = (let e = once.rises in omega arith); adds = once.adds }
+
+rounds_add : (v : Recorded) (role : Role) (worker extra : ℕ) → RoleAdds v (after_rounds v role worker extra) role extra (answer_rounds v role worker extra) worker
+rounds_add v role worker extra =
+    rounds_if v (after_allowed v role worker) role worker extra (answer_allowed v role worker) (allowed_adds v role worker)
+    (more_adds role worker extra (after_allowed v role worker))
+
+times_one : (n : ℕ) → times n 1 ≡ n
+times_one zero = refl
+times_one (suc n) = ap (λ (k : ℕ). 1 + k) (times_one n) ∙ omega arith
+
+-- the collector's turns behind its first
+swept_behind : (v u : Recorded) (worker extra : ℕ) (t : Turn) → Adds v u worker (rows_by t) → RoleAdds v (swept_after t u worker extra) Collecting extra t worker
+swept_behind v u worker extra Done a =
+    let rest = swept_adds worker extra u in
+    let ones = times_one extra in
+    record { n = 1 + rest.n; rises = (omega arith, (let f = rest.few in omega arith)); adds = adds_on v u (swept u worker extra) worker 1 rest.n a rest.adds }
+swept_behind v u worker extra (Fault f) a = record { n = 1; rises = (omega arith, omega arith); adds = a }
+swept_behind v u worker extra NotReady a = record { n = 0; rises = refl; adds = a }
+swept_behind v u worker extra Stopped a = record { n = 0; rises = omega arith; adds = a }
+swept_behind v u worker extra OutputFull a = record { n = 0; rises = omega arith; adds = a }
+swept_behind v u worker extra StepLimit a = record { n = 0; rises = omega arith; adds = a }
+
+known_adds : (v : Recorded) (role : Role) (worker extra : ℕ) → RoleAdds v (after_known v role worker extra) role extra (answer_known v role worker extra) worker
+known_adds v Carrier worker extra = rounds_add v Carrier worker extra
+known_adds v Collecting worker extra = swept_behind v (collected v worker) worker extra (collected_answer v worker) (collected_if v worker (last_is_collector v))
+known_adds v (Both gc) worker extra = rounds_add v (Both gc) worker extra
+
+known_if : (v : Recorded) (role : Role) (worker extra : ℕ) (known : Bool)
+    → RoleAdds v (if known then after_known v role worker extra else v) role extra (if known then answer_known v role worker extra else NotReady) worker
+known_if v role worker extra true = known_adds v role worker extra
+known_if v role worker extra false = record { n = 0; rises = refl; adds = adds_none v worker 0 refl }
+
+role_adds : (v : Recorded) (role : Role) (worker extra : ℕ) → RoleAdds v (after_role v role worker extra) role extra (answer_role v role worker extra) worker
 unfolding after_role answer_role
-role_adds v role worker = known_adds v role worker (nat_lt worker v.journal.workers)
+role_adds v role worker extra = known_if v role worker extra (nat_lt worker v.journal.workers)
 
 -- ---- shares
 
-share_same : (a b : ShareValue) → a.worker ≡ b.worker → a.role ≡ b.role → a.count ≡ b.count → a ≡ b
-share_same a b p q r i = record { worker = p i; role = q i; count = r i }
+share_same : (a b : ShareValue) → a.worker ≡ b.worker → a.role ≡ b.role → a.extra ≡ b.extra → a.count ≡ b.count → a ≡ b
+share_same a b p q s r i = record { worker = p i; role = q i; extra = s i; count = r i }
 
 -- a share that counted the new rows of a role's turn
-takes : (v w : Recorded) (answer : Turn) (before after : ShareValue) → RoleAdds v w before.role answer before.worker → CountsRows v w before after → Takes v w answer before after
+takes : (v w : Recorded) (answer : Turn) (before after : ShareValue) → RoleAdds v w before.role before.extra answer before.worker → CountsRows v w before after → Takes v w answer before after
 takes v w answer before after role counts =
     let a = role.adds in
     let grown = adds_length v w before.worker role.n a in
@@ -215,27 +327,29 @@ takes v w answer before after role counts =
       rows = a.rows;
       world_is = a.world_is;
       own = a.own;
-      rises = subst (Rises before.role answer) (sym a.long) role.rises;
+      rises = subst (Rises before.role before.extra answer) (sym a.long) role.rises;
       share_is =
-          share_same after (counted_on before (length a.rows)) counts.worker_is counts.role_is
+          share_same after (counted_on before (length a.rows)) counts.worker_is counts.role_is counts.extra_is
           (let c = counts.count_is in let l = a.long in omega arith);
     }
 
-pub role_takes : (v w : Recorded) (answer : Turn) (before after : ShareValue) → w ≡ after_role v before.role before.worker → answer ≡ answer_role v before.role before.worker
+pub role_takes : (v w : Recorded) (answer : Turn) (before after : ShareValue) → w ≡ after_role v before.role before.worker before.extra
+    → answer ≡ answer_role v before.role before.worker before.extra
     → CountsRows v w before after → Takes v w answer before after
 role_takes v w answer before after is told counts =
-    takes v w answer before after (rw (is, told) (role_adds v before.role before.worker)) counts
+    takes v w answer before after (rw (is, told) (role_adds v before.role before.worker before.extra)) counts
 
 -- ---- counting step by step
 
 pub counts_none : (v : Recorded) (share : ShareValue) → CountsRows v v share share
-counts_none v share = record { workers_is = refl; worker_is = refl; role_is = refl; count_is = refl }
+counts_none v share = record { workers_is = refl; worker_is = refl; role_is = refl; extra_is = refl; count_is = refl }
 
 pub counts_on : (u v w : Recorded) (a b c : ShareValue) → CountsRows u v a b → CountsRows v w b c → CountsRows u w a c
 counts_on u v w a b c x y = record {
   workers_is = y.workers_is ∙ x.workers_is;
   worker_is = y.worker_is ∙ x.worker_is;
   role_is = y.role_is ∙ x.role_is;
+  extra_is = y.extra_is ∙ x.extra_is;
   count_is = (let p = x.count_is in let q = y.count_is in omega arith);
 }
 
@@ -244,3 +358,32 @@ swept_more v worker n i lt = let e : n - i ≡ suc (n - (i + 1)) = omega arith i
 
 pub still_known : (v w : Recorded) (a b : ShareValue) → CountsRows v w a b → a.worker < v.journal.workers → b.worker < w.journal.workers
 still_known v w a b x known = let p = x.worker_is in let q = x.workers_is in omega arith
+
+-- ---- rounds one by one
+
+module _ (v : Recorded) (role : Role) (worker n i : ℕ) (lt : i < n) where
+  next_of : n - i ≡ suc (n - (i + 1))
+  next_of = omega arith
+
+  -- a round that is done
+  pub world_on : (t : Turn) → t ≡ answer_allowed v role worker → is_done t ≡ true → after_more v role worker (n - i) ≡ after_more (after_allowed v role worker) role worker (n - (i + 1))
+  world_on t is done =
+      ap (after_more v role worker) next_of
+      ∙ ap (λ (b : Bool). if b then after_more (after_allowed v role worker) role worker (n - (i + 1)) else after_allowed v role worker) (ap is_done (sym is) ∙ done)
+
+  pub answer_on : (t : Turn) → t ≡ answer_allowed v role worker → is_done t ≡ true → answer_more v role worker (n - i) ≡ answer_more (after_allowed v role worker) role worker (n - (i + 1))
+  answer_on t is done =
+      ap (answer_more v role worker) next_of
+      ∙ ap (λ (b : Bool). if b then answer_more (after_allowed v role worker) role worker (n - (i + 1)) else done_so_far (answer_allowed v role worker)) (ap is_done (sym is) ∙ done)
+
+  -- a round that isn't
+  pub world_ends : (t : Turn) → t ≡ answer_allowed v role worker → is_done t ≡ false → after_more v role worker (n - i) ≡ after_allowed v role worker
+  world_ends t is done =
+      ap (after_more v role worker) next_of
+      ∙ ap (λ (b : Bool). if b then after_more (after_allowed v role worker) role worker (n - (i + 1)) else after_allowed v role worker) (ap is_done (sym is) ∙ done)
+
+  pub answer_ends : (t : Turn) → t ≡ answer_allowed v role worker → is_done t ≡ false → answer_more v role worker (n - i) ≡ done_so_far t
+  answer_ends t is done =
+      ap (answer_more v role worker) next_of
+      ∙ ap (λ (b : Bool). if b then answer_more (after_allowed v role worker) role worker (n - (i + 1)) else done_so_far (answer_allowed v role worker)) (ap is_done (sym is) ∙ done)
+      ∙ ap done_so_far (sym is)

@@ -7,18 +7,9 @@ use Rattle.model.specs.declared.turns.Turn.{Turn}
 use Rattle.model.specs.declared.turns.Turn.TheVariants.{Done, NotReady, Stopped, Fault, OutputFull, StepLimit}
 use Rattle.model.specs.Machines.{Recorded, after_turn_by, answer_to}
 use Rattle.model.specs.Observers.{pick_of, status_of, is_running}
+use Rattle.scheduler.specs.Rounds.{answered_by, is_done, turned_by}
 use Rattle.hall.specs.declared.roles.Role.{Role}
 use Rattle.hall.specs.declared.roles.Role.TheVariants.{Both, Carrier, Collector as Collecting}
-
--- ---- a turn of the picked thread
-
-abbrev pub carried : Recorded → ℕ → Option ℕ → Recorded
-carried v worker None = v
-carried v worker (Some t) = after_turn_by v (Thread t) worker
-
-abbrev pub carried_answer : Recorded → ℕ → Option ℕ → Turn
-carried_answer v worker None = NotReady
-carried_answer v worker (Some t) = answer_to v (Thread t) worker
 
 -- ---- a collector's turn, unless the last row is the collector's
 
@@ -58,21 +49,65 @@ swept_after (Fault f) v worker gc = v
 swept_after OutputFull v worker gc = v
 swept_after StepLimit v worker gc = v
 
--- ---- a turn of a role
+-- ---- one round of a role
 
 abbrev pub after_allowed : Recorded → Role → ℕ → Recorded
-after_allowed v Carrier worker = carried v worker (pick_of v)
+after_allowed v Carrier worker = turned_by v worker (pick_of v)
 after_allowed v Collecting worker = collected v worker
-after_allowed v (Both gc) worker = swept_after (carried_answer v worker (pick_of v)) (carried v worker (pick_of v)) worker gc
+after_allowed v (Both gc) worker = swept_after (answered_by v worker (pick_of v)) (turned_by v worker (pick_of v)) worker gc
 
 abbrev pub answer_allowed : Recorded → Role → ℕ → Turn
-answer_allowed v Carrier worker = carried_answer v worker (pick_of v)
+answer_allowed v Carrier worker = answered_by v worker (pick_of v)
 answer_allowed v Collecting worker = collected_answer v worker
-answer_allowed v (Both gc) worker = carried_answer v worker (pick_of v)
+answer_allowed v (Both gc) worker = answered_by v worker (pick_of v)
 
--- the world after a turn of a role by a worker, and what it answers; a worker that the journal doesn't know does nothing
-unfoldable pub after_role : Recorded → Role → ℕ → Recorded
-after_role v role worker = if nat_lt worker v.journal.workers then after_allowed v role worker else v
+-- ---- rounds of a role: a turn as above and, where it was done, so many more
 
-unfoldable pub answer_role : Recorded → Role → ℕ → Turn
-answer_role v role worker = if nat_lt worker v.journal.workers then answer_allowed v role worker else NotReady
+-- rounds that found nobody ready at their end were done all the same
+abbrev pub done_so_far : Turn → Turn
+done_so_far Done = Done
+done_so_far NotReady = Done
+done_so_far Stopped = Stopped
+done_so_far (Fault f) = Fault f
+done_so_far OutputFull = OutputFull
+done_so_far StepLimit = StepLimit
+
+-- so many rounds more, which end with the first that isn't done
+abbrev pub after_more : Recorded → Role → ℕ → ℕ → Recorded
+after_more v role worker zero = v
+after_more v role worker (suc n) =
+    if is_done (answer_allowed v role worker) then after_more (after_allowed v role worker) role worker n else after_allowed v role worker
+
+abbrev pub answer_more : Recorded → Role → ℕ → ℕ → Turn
+answer_more v role worker zero = Done
+answer_more v role worker (suc n) =
+    if is_done (answer_allowed v role worker) then answer_more (after_allowed v role worker) role worker n
+    else done_so_far (answer_allowed v role worker)
+
+-- a round and, where it is done, so many more
+abbrev pub after_rounds : Recorded → Role → ℕ → ℕ → Recorded
+after_rounds v role worker extra =
+    if is_done (answer_allowed v role worker) then after_more (after_allowed v role worker) role worker extra else after_allowed v role worker
+
+abbrev pub answer_rounds : Recorded → Role → ℕ → ℕ → Turn
+answer_rounds v role worker extra =
+    if is_done (answer_allowed v role worker) then answer_more (after_allowed v role worker) role worker extra else answer_allowed v role worker
+
+-- the collector's rounds behind its first are its turns, each if the world is running
+abbrev pub after_known : Recorded → Role → ℕ → ℕ → Recorded
+after_known v Carrier worker extra = after_rounds v Carrier worker extra
+after_known v Collecting worker extra = swept_after (collected_answer v worker) (collected v worker) worker extra
+after_known v (Both gc) worker extra = after_rounds v (Both gc) worker extra
+
+abbrev pub answer_known : Recorded → Role → ℕ → ℕ → Turn
+answer_known v Carrier worker extra = answer_rounds v Carrier worker extra
+answer_known v Collecting worker extra = collected_answer v worker
+answer_known v (Both gc) worker extra = answer_rounds v (Both gc) worker extra
+
+-- the world after a turn of a role by a worker, with so many rounds behind the first, and what it answers; a worker that the
+-- journal doesn't know does nothing
+unfoldable pub after_role : Recorded → Role → ℕ → ℕ → Recorded
+after_role v role worker extra = if nat_lt worker v.journal.workers then after_known v role worker extra else v
+
+unfoldable pub answer_role : Recorded → Role → ℕ → ℕ → Turn
+answer_role v role worker extra = if nat_lt worker v.journal.workers then answer_known v role worker extra else NotReady

@@ -1,5 +1,6 @@
 //! Halls: a world under a lock, and the shares of its workers.
 ghost use Rattle.std.specs.Prelude.{◌≡◌, ◌<◌, ◌≤◌, ◌↔◌, [], true, IfOk, IfSome, IsErrOf, length, vec_len, sum_by};
+ghost use Rattle.scheduler.specs.Replaying.{IsMade};
 ghost use Rattle.scheduler.specs.Workers.{with_workers};
 ghost use Rattle.hall.specs.Heads.{head_of};
 ghost use Rattle.hall.specs.Shares.{Counts, dealt};
@@ -42,16 +43,17 @@ impl<L: Ledger> Model for Hall<L> {
 fn deal<L: Ledger>(
     alloc: Global,
     roles: &[Role],
+    extra: u32,
     mut all: ledger::Share<L>,
 ) -> Result<Vec<Share<L>>, AllocError>
     requires parts { all.parts ≡ length roles.now }
     requires none { all.amount ≡ 0 }
     requires few { length roles.now ≤ 9 }
-    ensures { IfOk result (λ shares. shares.items ≡ dealt 0 roles.now) }
+    ensures { IfOk result (λ shares. shares.items ≡ dealt extra 0 roles.now) }
 {
     let mut shares = Vec::with_capacity(alloc, roles.len())?;
     for worker in 0..roles.len() {
-        shares.push(Share::new(worker as u8, roles[worker], all.split_off(1, 0)))?;
+        shares.push(Share::new(worker as u8, roles[worker], extra, all.split_off(1, 0)))?;
     }
     Ok(shares)
 }
@@ -70,12 +72,12 @@ fn gathered<L: Ledger>(mut shares: Vec<Share<L>>) -> Option<ledger::Share<L>>
 
 impl<L: Ledger> Hall<L> {
     /// A hall for a world that has made no turn, which then has a worker for each role, and the workers' shares in the
-    /// order of the roles. The blank, a ledger that isn't open yet, has a part for each role. H1 exactly where the number of
-    /// roles isn't 1 to 9, else H2 where memory runs out.
+    /// order of the roles, whose turns have one round each. The blank, a ledger that isn't open yet, has a part for each role.
+    /// H1 exactly where the number of roles isn't 1 to 9, else H2 where memory runs out.
     pub fn new(
         alloc: Global,
         blank: Blank,
-        mut world: World,
+        world: World,
         roles: &[Role],
     ) -> Result<(Hall<L>, Vec<Share<L>>), HallError>
         requires name { blank.name ≡ L.name }
@@ -83,7 +85,27 @@ impl<L: Ledger> Hall<L> {
         requires one_each { blank.parts ≡ length roles.now }
         requires empty { world.journal.rows ≡ [] }
         ensures hall { IfOk result (λ made. made.0 ≡ head_of (with_workers world (length roles.now))) }
-        ensures shares { IfOk result (λ made. made.1.items ≡ dealt 0 roles.now) }
+        ensures shares { IfOk result (λ made. made.1.items ≡ dealt 0 0 roles.now) }
+        ensures number { IsErrOf result HallError.Roles ↔ (¬ ((0 < length roles.now) × (length roles.now ≤ 9))) }
+    {
+        Hall::in_bursts(alloc, blank, world, roles, 0)
+    }
+
+    /// The same with shares whose turns may have so many rounds behind the first, so that a worker makes many rows each time
+    /// it gets the lock.
+    pub fn in_bursts(
+        alloc: Global,
+        blank: Blank,
+        mut world: World,
+        roles: &[Role],
+        extra: u32,
+    ) -> Result<(Hall<L>, Vec<Share<L>>), HallError>
+        requires name { blank.name ≡ L.name }
+        requires parts { blank.parts ≡ L.parts }
+        requires one_each { blank.parts ≡ length roles.now }
+        requires empty { world.journal.rows ≡ [] }
+        ensures hall { IfOk result (λ made. made.0 ≡ head_of (with_workers world (length roles.now))) }
+        ensures shares { IfOk result (λ made. made.1.items ≡ dealt extra 0 roles.now) }
         ensures number { IsErrOf result HallError.Roles ↔ (¬ ((0 < length roles.now) × (length roles.now ≤ 9))) }
     {
         if roles.len() == 0 || roles.len() > MOST_WORKERS {
@@ -95,7 +117,7 @@ impl<L: Ledger> Hall<L> {
         let shape = world.journal().shape();
         let limits = world.journal().limits();
         let (book, all) = blank.open::<L>();
-        let shares = deal(alloc, roles, all)?;
+        let shares = deal(alloc, roles, extra, all)?;
         let hall = Hall {
             lock: Mutex::new(Shared::new(world, book)),
             program,
@@ -125,12 +147,13 @@ impl<L: Ledger> Hall<L> {
     }
 
     /// Takes back all shares, in any order, and gives the world. Its journal has as many rows as the shares counted
-    /// together. H4 where the world isn't of the hall's program, shape, limits and number of workers, which no call brings
-    /// about.
+    /// together, and a run of its program made it: `replay` refuses it for want of memory alone. H4 where the world isn't of
+    /// the hall's program, shape, limits and number of workers, which no call brings about.
     pub fn close(self, shares: Vec<Share<L>>) -> Result<World, HallError>
         requires { vec_len shares ≡ L.parts }
         ensures world { IfOk result (λ world. head_of world ≡ self) }
         ensures rows { IfOk result (λ world. length world.journal.rows ≡ sum_by (λ s. s.count) shares.items) }
+        ensures made { IfOk result IsMade }
     {
         let Hall {
             lock,
@@ -142,6 +165,7 @@ impl<L: Ledger> Hall<L> {
         } = self;
         let all = gathered(shares).ok_or(HallError::World)?;
         let world = lock.into_inner().into_world(all);
+        world.is_made();
         if has_head(&world, &program, shape, limits, workers) {
             Ok(world)
         } else {

@@ -9,11 +9,13 @@ use std::marker::Model;
 use std::sync::ledger;
 use std::sync::ledger::{Book, Ledger};
 
-/// A worker's share of the journal: its number, its role and how many rows it has made. A contract sees these three.
+/// A worker's share of the journal: its number, its role, how many rounds it may make behind the first one of a turn, and how
+/// many rows it has made. A contract sees these four.
 #[derive(Drop)]
 pub struct Share<L: Ledger> {
     worker: u8,
     role: Role,
+    extra: u32,
     count: u64,
     part: ledger::Share<L>,
 }
@@ -24,21 +26,22 @@ impl<L: Ledger> Model for Share<L> {
 
     ghost Value = { ShareValue };
 
-    ghost view = { λ a. record { worker = a.worker; role = a.role; count = a.count } };
+    ghost view = { λ a. record { worker = a.worker; role = a.role; extra = a.extra; count = a.count } };
 
     ghost invariant = { λ a. (a.part.parts ≡ 1) × (a.part.amount ≡ a.count) };
 }
 
 impl<L: Ledger> Share<L> {
     // The share of a worker that has made no row.
-    pub(crate) fn new(worker: u8, role: Role, part: ledger::Share<L>) -> Share<L>
+    pub(crate) fn new(worker: u8, role: Role, extra: u32, part: ledger::Share<L>) -> Share<L>
         requires part { part.parts ≡ 1 }
         requires none { part.amount ≡ 0 }
-        ensures { result ≡ record { worker = worker; role = role; count = 0 } }
+        ensures { result ≡ record { worker = worker; role = role; extra = extra; count = 0 } }
     {
         Share {
             worker,
             role,
+            extra,
             count: 0,
             part,
         }
@@ -56,6 +59,13 @@ impl<L: Ledger> Share<L> {
         ensures { result ≡ self.now.role }
     {
         self.role
+    }
+
+    /// How many rounds it may make behind the first one of a turn.
+    pub fn extra(&self) -> u32
+        ensures { result ≡ self.now.extra }
+    {
+        self.extra
     }
 
     /// How many rows of the journal the worker has made.

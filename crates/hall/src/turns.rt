@@ -2,14 +2,37 @@
 ghost use Rattle.std.specs.Prelude.{◌≡◌, ◌<◌};
 ghost use Rattle.model.specs.Machines.{after_turn_by, answer_to};
 ghost use Rattle.model.specs.Observers.{status_of, pick_of};
-ghost use Rattle.hall.specs.Roles.{after_role, answer_role, carried, carried_answer, collected, collected_answer};
-ghost use Rattle.hall.specs.Roles.{last_is_collector, swept, swept_once, swept_after, after_allowed, answer_allowed};
+ghost use Rattle.scheduler.specs.Rounds.{answered_by, is_done, turned_by};
+ghost use Rattle.hall.specs.Roles.{after_role, answer_role, collected, collected_answer};
+ghost use Rattle.hall.specs.Roles.{last_is_collector, swept, swept_once, swept_after, after_allowed, answer_allowed, after_more, answer_more, after_rounds, answer_rounds, after_known, answer_known, done_so_far};
 ghost use Rattle.hall.specs.Shares.{Takes, CountsRows};
 
 use crate::roles::Role;
 use crate::shares::{Share, Shared};
 use model::turns::{Actor, Status, Turn};
 use std::sync::ledger::Ledger;
+
+// Whether a turn was done.
+fn is_done(answer: Turn) -> bool
+    ensures { result ≡ is_done answer }
+{
+    match answer {
+        Turn::Done => true,
+        Turn::NotReady | Turn::Stopped | Turn::Fault(_) | Turn::OutputFull | Turn::StepLimit => {
+            false
+        }
+    }
+}
+
+// What rounds answer that end with a turn of this answer.
+fn done_so_far(answer: Turn) -> Turn
+    ensures { result ≡ done_so_far answer }
+{
+    match answer {
+        Turn::Done | Turn::NotReady => Turn::Done,
+        Turn::Stopped | Turn::Fault(_) | Turn::OutputFull | Turn::StepLimit => answer,
+    }
+}
 
 impl<L: Ledger> Shared<L> {
     /// How the world stands.
@@ -49,8 +72,8 @@ impl<L: Ledger> Shared<L> {
     // A turn of the picked thread.
     fn carry(&mut self, share: &mut Share<L>) -> Turn
         requires { share.old.worker < self.old.journal.workers }
-        ensures world { self.new ≡ carried self.old share.old.worker (pick_of self.old) }
-        ensures answer { result ≡ carried_answer self.old share.old.worker (pick_of self.old) }
+        ensures world { self.new ≡ turned_by self.old share.old.worker (pick_of self.old) }
+        ensures answer { result ≡ answered_by self.old share.old.worker (pick_of self.old) }
         ensures share { CountsRows self.old self.new share.old share.new }
     {
         match self.world.pick() {
@@ -101,8 +124,8 @@ impl<L: Ledger> Shared<L> {
     // A turn of the picked thread and, where it was done, so many collector turns.
     fn carry_and_sweep(&mut self, share: &mut Share<L>, gc: u32) -> Turn
         requires { share.old.worker < self.old.journal.workers }
-        ensures world { self.new ≡ swept_after result (carried self.old share.old.worker (pick_of self.old)) share.old.worker gc }
-        ensures answer { result ≡ carried_answer self.old share.old.worker (pick_of self.old) }
+        ensures world { self.new ≡ swept_after result (turned_by self.old share.old.worker (pick_of self.old)) share.old.worker gc }
+        ensures answer { result ≡ answered_by self.old share.old.worker (pick_of self.old) }
         ensures share { CountsRows self.old self.new share.old share.new }
     {
         let answer = self.carry(share);
@@ -114,8 +137,8 @@ impl<L: Ledger> Shared<L> {
         answer
     }
 
-    // One turn of the share's role, by a worker that the journal knows.
-    fn turn_of_role(&mut self, share: &mut Share<L>) -> Turn
+    // One round of the share's role, a carrier's or one of both, by a worker that the journal knows.
+    fn round(&mut self, share: &mut Share<L>) -> Turn
         requires { share.old.worker < self.old.journal.workers }
         ensures world { self.new ≡ after_allowed self.old share.old.role share.old.worker }
         ensures answer { result ≡ answer_allowed self.old share.old.role share.old.worker }
@@ -128,11 +151,72 @@ impl<L: Ledger> Shared<L> {
         }
     }
 
+    // So many rounds more, which end with the first that isn't done.
+    fn more_rounds(&mut self, share: &mut Share<L>, extra: u32) -> Turn
+        requires { share.old.worker < self.old.journal.workers }
+        ensures world { self.new ≡ after_more self.old share.old.role share.old.worker extra }
+        ensures answer { result ≡ answer_more self.old share.old.role share.old.worker extra }
+        ensures share { CountsRows self.old self.new share.old share.new }
+    {
+        for _round in 0..extra {
+            let answer = self.round(share);
+            if !is_done(answer) {
+                return done_so_far(answer);
+            }
+        }
+        Turn::Done
+    }
+
+    // A round, and where it is done so many more.
+    fn rounds(&mut self, share: &mut Share<L>, extra: u32) -> Turn
+        requires { share.old.worker < self.old.journal.workers }
+        ensures world { self.new ≡ after_rounds self.old share.old.role share.old.worker extra }
+        ensures answer { result ≡ answer_rounds self.old share.old.role share.old.worker extra }
+        ensures share { CountsRows self.old self.new share.old share.new }
+    {
+        let answer = self.round(share);
+        if is_done(answer) {
+            self.more_rounds(share, extra)
+        } else {
+            answer
+        }
+    }
+
+    // A collector's turn and, where it was done, so many more, each if the world is running.
+    fn collect_and_sweep(&mut self, share: &mut Share<L>, extra: u32) -> Turn
+        requires { share.old.worker < self.old.journal.workers }
+        ensures world { self.new ≡ swept_after result (collected self.old share.old.worker) share.old.worker extra }
+        ensures answer { result ≡ collected_answer self.old share.old.worker }
+        ensures share { CountsRows self.old self.new share.old share.new }
+    {
+        let answer = self.collect(share);
+        match answer {
+            Turn::Done => self.sweep(share, extra),
+            Turn::NotReady | Turn::Stopped | Turn::Fault(_) | Turn::OutputFull | Turn::StepLimit =>
+                {}
+        }
+        answer
+    }
+
+    // One turn of the share's role, by a worker that the journal knows.
+    fn turn_of_role(&mut self, share: &mut Share<L>) -> Turn
+        requires { share.old.worker < self.old.journal.workers }
+        ensures world { self.new ≡ after_known self.old share.old.role share.old.worker share.old.extra }
+        ensures answer { result ≡ answer_known self.old share.old.role share.old.worker share.old.extra }
+        ensures share { CountsRows self.old self.new share.old share.new }
+    {
+        let extra = share.extra();
+        match share.role() {
+            Role::Collector => self.collect_and_sweep(share, extra),
+            Role::Carrier | Role::Both { .. } => self.rounds(share, extra),
+        }
+    }
+
     // The same by any worker.
     #[tactic(auto, unfolding(crate::specs::Roles::after_role, crate::specs::Roles::answer_role))]
     fn turn_if_known(&mut self, share: &mut Share<L>) -> Turn
-        ensures world { self.new ≡ after_role self.old share.old.role share.old.worker }
-        ensures answer { result ≡ answer_role self.old share.old.role share.old.worker }
+        ensures world { self.new ≡ after_role self.old share.old.role share.old.worker share.old.extra }
+        ensures answer { result ≡ answer_role self.old share.old.role share.old.worker share.old.extra }
         ensures share { CountsRows self.old self.new share.old share.new }
     {
         if share.worker() < self.world.journal().workers() {
@@ -142,13 +226,15 @@ impl<L: Ledger> Shared<L> {
         }
     }
 
-    /// One turn of the share's role, by the share's worker: `Both` and `Carrier` take a turn of the picked thread,
+    /// One turn of the share's role, by the share's worker. A round of `Both` and `Carrier` is a turn of the picked thread,
     /// `NotReady` where there is none; after a done one `Both` takes its collector turns, each if the world is running. A
-    /// `Collector` takes a collector turn, `NotReady` where the last row is the collector's. The share counts the rows that
-    /// were added. A worker that isn't below the journal's number of workers does nothing, `NotReady`.
+    /// round of a `Collector` is a collector turn, `NotReady` where the last row is the collector's. Where the first round is
+    /// done, so many more follow as the share has extra ones, until one isn't done; the collector's each if the world is
+    /// running. `Done` where they ended with nobody ready. The share counts the rows that were added. A worker that isn't
+    /// below the journal's number of workers does nothing, `NotReady`.
     pub fn turn_as(&mut self, share: &mut Share<L>) -> Turn
-        ensures world { self.new ≡ after_role self.old share.old.role share.old.worker }
-        ensures answer { result ≡ answer_role self.old share.old.role share.old.worker }
+        ensures world { self.new ≡ after_role self.old share.old.role share.old.worker share.old.extra }
+        ensures answer { result ≡ answer_role self.old share.old.role share.old.worker share.old.extra }
         ensures takes { Takes self.old self.new result share.old share.new }
     {
         self.turn_if_known(share)

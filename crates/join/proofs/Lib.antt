@@ -9,8 +9,10 @@ pub mod Lists
 pub mod Monitors
 pub mod Naming
 pub mod NewBirths
+pub mod ObjectsRead
 pub mod Opening
 pub mod Outcomes
+pub mod Paths
 pub mod Places
 pub mod Reached
 pub mod ReadingBack

@@ -17,7 +17,7 @@ use Rattle.model.specs.Worlds.Contents.{Instance, Array}
 use Rattle.model.specs.Objects.{object_at}
 use Rattle.model.specs.declared.journals.Limits.{Limits}
 use Rattle.model.specs.ClassListings.{ClassListing}
-use Rattle.model.specs.Observers.{status_in}
+use Rattle.model.specs.Observers.{reached_object, status_in}
 use Rattle.model.specs.Ready.{is_ready, thread_numbers}
 use Rattle.model.specs.Turns.{overflows, refusal}
 use Rattle.model.specs.Collector.Runs.{Holds}
@@ -27,12 +27,13 @@ use Rattle.model.specs.Collector.Places.Place.{Slot}
 use Rattle.model.specs.Collector.Places.Reach.{at_root}
 use Rattle.model.specs.Collector.Table.{cell_at}
 use Rattle.model.specs.Collector.Invariant.{Invariant, In}
+use Rattle.model.proofs.CollectorLemmas.Reaching.{is_reached-Reach}
 use Rattle.model.proofs.CollectorLemmas.Moving.{AllMay}
 use Rattle.model.proofs.CollectorLemmas.Known.{ref_may, locals_known, stack_known, monitor_known, word_known}
 use Rattle.join.specs.Naming.{Naming, named_ref, named_value, named_entry, named_frame, named_thread, Named, named_field, named_contents, named_object}
 use Rattle.join.specs.OnCells.{on_cells, InCell, held_object}
-use Rattle.join.specs.Joined.{Bounded, Joint, named_account}
-use Rattle.join.specs.ReadBack.{birth_read, ReadsBack}
+use Rattle.join.specs.Joined.{Bounded, Joined, Joint, named_account}
+use Rattle.join.specs.ReadBack.{birth_read, object_on, ReadsBack}
 use Rattle.join.specs.TurnsOnCells.{CellMachine}
 use Rattle.join.proofs.Agreeing.{threads_agree, fields_agree, contents_agree}
 use Rattle.join.proofs.Reached.{reached_in_cell, in_cell_at}
@@ -41,6 +42,8 @@ use Rattle.join.proofs.Cells.{mapped_at}
 use Rattle.join.proofs.Refusals.{ready_on_cells, overflows_on_cells, numbers_on_cells, status_on_cells, refusal_on_cells}
 use Rattle.join.proofs.Outcomes.{rows_on_cells}
 use Rattle.join.proofs.Joining.{reached_joined}
+use Rattle.join.proofs.Paths.{reached_alike}
+use Rattle.join.proofs.ObjectsRead.{shown_in_cell}
 
 -- what is read of the machine on cells is the ideal machine: a birth's reference leads back to the birth
 
@@ -159,6 +162,16 @@ module _ (h : Naming) (shape : HeapShape) (w : World) (a : Account) (named : Nam
       rw (mapped_at (held_object h w.objects) a.cells c b x held, s.made)
       (ap (λ (k : Contents). let y : Object = record s.object { contents = k } in Some y) (contents_read b s.object r s.made))
 
+-- ---- the object of a birth
+
+shown_read : (h : Naming) (shape : HeapShape) (on : CellMachine) (m : Machine) → Joined h on m → Invariant shape m.world (next_birth m.world) m.account → (b : ℕ) → object_on on b ≡ reached_object m.world b
+shown_read h shape on m j i b =
+    let cells = ap (λ (x : Account). x.cells) j.account in
+    shown_in_cell on m.world b
+    (λ c y held. rw j.world (reached_alike h shape m.world m.account j.named i j.memory_error j.stack_error c b y (rw (← cells) held)))
+    (λ c y held e. rw (cells, j.world) (object_read h shape m.world m.account j.named i c b y (rw (← cells) held) (is_reached-Reach m.world b e)))
+    (λ e. (let s = reached_in_cell h shape m.world m.account j.named i b (is_reached-Reach m.world b e) in (s.cell, (s.colour, rw cells s.held))))
+
 -- ---- the whole
 
 pub reads_back : (program : List ClassListing) (shape : HeapShape) (limits : Limits) (on : CellMachine) (m : Machine) → Holds shape m → Bounded m.world → Joint on m → ReadsBack program limits on m
@@ -182,6 +195,7 @@ reads_back program shape limits on m i bound joint =
       account = rw j.account (account_read h shape w a j.named i);
       reached = λ b r. (let s = reached_in_cell h shape w a j.named i b r in record { cell = s.cell; colour = s.colour; held = rw cells s.held });
       objects = λ b r s. (let held = s.held in rw (cells, j.world) (object_read h shape w a j.named i s.cell b s.colour (rw (← cells) held) r));
+      shown = shown_read h shape on m j i;
       status = ap (status_in program) j.world ∙ status_on_cells h a.cells program limits w u;
       threads_numbered = ap thread_numbers j.world ∙ numbers_on_cells h a.cells program limits w u;
       ready = λ t. ap (λ x. is_ready program x t) j.world ∙ ready_on_cells h a.cells program limits w u t;

@@ -4,3 +4,4 @@ pub mod Noting
 pub mod Workers
 pub mod RowLines
 pub mod Making
+pub mod RoundsLeft

@@ -2,3 +2,4 @@ pub mod JournalReading
 pub mod Worlds
 pub mod Workers
 pub mod Replaying
+pub mod Rounds

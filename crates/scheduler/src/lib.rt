@@ -3,4 +3,5 @@
 
 pub mod journal_texts;
 pub mod replaying;
+pub mod rounds;
 pub mod worlds;

@@ -2,6 +2,7 @@
 
 mod journal_texts;
 mod replaying;
+mod rounds;
 
 use crate::mains::{Op, program};
 use model::colours::{Colour, Phase};

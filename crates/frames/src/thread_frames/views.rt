@@ -1,46 +1,38 @@
 //! Frames as plain data.
-ghost use Rattle.std.specs.Prelude.{◌≡◌, ◌+◌, ◌≤◌, length, map, IfOk};
-ghost use Rattle.frames.specs.Layout.{value_in as value_held, frame_of};
+ghost use Rattle.std.specs.Prelude.{◌≡◌, ◌+◌, ◌≤◌, length, IfOk};
+ghost use Rattle.frames.specs.Layout.{frame_of};
 
-use super::{Frames, value_in};
+use super::Frames;
 use crate::activations::Activation;
-use model::values::{Entry, Value};
+use crate::units::Units;
 use model::views::FrameView;
-use std::alloc::{AllocError, Global};
+use std::alloc::AllocError;
 
 impl Frames {
     /// A copy of each frame, outermost first. `AllocError` where memory runs out.
     pub fn views(&self) -> Result<Vec<FrameView>, AllocError>
         ensures { IfOk result (λ views. views.items ≡ self.now) }
     {
-        let alloc = *self.units.allocator();
+        let alloc = *self.activations.allocator();
         let mut views = Vec::with_capacity(alloc, self.activations.len())?;
         for activation in &self.activations {
-            views.push(view_of(alloc, self.units.as_slice(), *activation)?)?;
+            views.push(view_of(&self.units, *activation)?)?;
         }
         Ok(views)
     }
 }
 
-/// The values that stand in some units, in order.
-fn values_in(alloc: Global, units: &[Entry]) -> Result<Vec<Value>, AllocError>
-    ensures { IfOk result (λ values. values.items ≡ map value_held units.now) }
-{
-    units.iter().map(|unit| value_in(*unit)).collect(alloc)
-}
-
 /// A copy of the frame that an activation of these units stands for.
-fn view_of(alloc: Global, units: &[Entry], activation: Activation) -> Result<FrameView, AllocError>
-    requires { activation.base + activation.locals + activation.values ≤ length units.now }
+fn view_of(units: &Units, activation: Activation) -> Result<FrameView, AllocError>
+    requires fits { activation.base + activation.locals + activation.values ≤ length units.now }
+    requires few { length units.now ≤ 4096 }
     ensures { IfOk result (λ view. view ≡ frame_of units.now activation) }
 {
-    let bottom = activation.base + activation.locals;
-    let top = bottom + activation.values;
     Ok(FrameView {
         method: activation.method,
         pc: activation.pc,
-        locals: Vec::from_slice(alloc, &units[activation.base..bottom])?,
-        stack: values_in(alloc, &units[bottom..top])?,
+        locals: units.entries(activation.base, activation.locals)?,
+        stack: units.values(activation.base + activation.locals, activation.values)?,
         room: activation.room,
         monitor: activation.monitor,
         mark: activation.mark,

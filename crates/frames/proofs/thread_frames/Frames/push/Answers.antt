@@ -28,8 +28,8 @@ overflow_add-running-2 c =
     let p = pushes o c.args.value c.requires.room in
     omega (arith, c.units_of.ensures)
 
-pub index_mut-requires : goal.index_mut-requires
-index_mut-requires c =
+pub put-requires : goal.put-requires
+put-requires c =
     let o = opened _ _ _ _ _ _ _ c.self.invariant c.self.view_is c.requires.some (omega arith) c.index_mut-running.ensures.value in
     let p = pushes o c.args.value c.requires.room in
     omega arith
@@ -38,10 +38,10 @@ pub invariant_of-self : goal.invariant_of-self
 invariant_of-self c =
     let o = opened _ _ _ _ _ _ _ c.self.invariant c.self.view_is c.requires.some (omega arith) c.index_mut-running.ensures.value in
     let p = pushes o c.args.value c.requires.room in
-    rw c.units_of.ensures (sound_put o _ _ (length-set _ _ _) (sym (take-set-le _ _ _ _ (omega arith))) p.3 refl)
+    rw (c.put.ensures, c.slot_of.ensures, c.units_of.ensures) (sound_put o _ _ (length-set _ _ _) (sym (take-set-le _ _ _ _ (omega arith))) p.3 refl)
 
 pub returns : goal.returns
 returns c =
     let o = opened _ _ _ _ _ _ _ c.self.invariant c.self.view_is c.requires.some (omega arith) c.index_mut-running.ensures.value in
     let p = pushes o c.args.value c.requires.room in
-    rw c.units_of.ensures (view_push_value o c.args.value p.1)
+    rw (c.put.ensures, c.slot_of.ensures, c.units_of.ensures) (view_push_value o c.args.value p.1)

@@ -2,10 +2,10 @@ use Rattle.frames.proofs.RunningLemmas.{with_local-int, with_local-long, with_lo
 use Rattle.frames.proofs.thread_frames.Frames.put_local.Goals as goal
 
 pub returns-in-Int : goal.returns-in-Int
-returns-in-Int c = rw (with_local-int _ _ _ _ c.in-Int.is) (puts_one _ _ _ _ _ c.requires c.free.ensures c.set_entry.ensures)
+returns-in-Int c = rw (with_local-int _ _ _ _ c.in-Int.is, ← c.slot_of.ensures) (puts_one _ _ _ _ _ c.requires c.free.ensures c.set_local.ensures)
 
 pub returns-in-Ref : goal.returns-in-Ref
-returns-in-Ref c = rw (with_local-ref _ _ _ _ c.in-Ref.is) (puts_one _ _ _ _ _ c.requires c.free.ensures c.set_entry-in-Ref.ensures)
+returns-in-Ref c = rw (with_local-ref _ _ _ _ c.in-Ref.is, ← c.slot_of-in-Ref.ensures) (puts_one _ _ _ _ _ c.requires c.free.ensures c.set_local-in-Ref.ensures)
 
 pub returns-in-Long : goal.returns-in-Long
-returns-in-Long c = rw (with_local-long _ _ _ _ c.in-Long.is) (puts_two _ _ _ _ _ _ _ c.requires c.free.ensures c.free-in-Long.ensures c.set_entry-in-Long.ensures c.set_entry-in-Long-2.ensures)
+returns-in-Long c = rw (with_local-long _ _ _ _ c.in-Long.is, ← c.slot_of-in-Long.ensures) (puts_two _ _ _ _ _ _ _ c.requires c.free.ensures c.free-in-Long.ensures c.set_local-in-Long.ensures c.set_local-in-Long-2.ensures)

@@ -3,4 +3,4 @@ use Rattle.frames.specs.Layout.{frame_of}
 use Rattle.frames.proofs.thread_frames.Frames.views.Given as goal
 
 abbrev pub invariant-loop-activation : goal.invariant-loop-activation
-invariant-loop-activation l = l.views.items ≡ map (frame_of l.self-inside.units.items) (take l.activation-index l.activation-items)
+invariant-loop-activation l = l.views.items ≡ map (frame_of l.self-inside.units) (take l.activation-index l.activation-items)

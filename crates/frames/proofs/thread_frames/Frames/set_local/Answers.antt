@@ -1,6 +1,6 @@
 use Rattle.std.proofs.Common.{arith}
 use Rattle.frames.proofs.LayoutLemmas.{opened, region_fits, sound_entry, view_entry}
-use Rattle.frames.proofs.thread_frames.Frames.set_entry.Goals as goal
+use Rattle.frames.proofs.thread_frames.Frames.set_local.Goals as goal
 
 pub overflow_add-place : goal.overflow_add-place
 overflow_add-place c =
@@ -8,8 +8,8 @@ overflow_add-place c =
     let fits = region_fits o in
     omega arith
 
-pub index_mut-requires : goal.index_mut-requires
-index_mut-requires c =
+pub put-requires : goal.put-requires
+put-requires c =
     let o = opened _ _ _ _ _ _ _ c.self.invariant c.self.view_is c.requires (omega arith) c.index-running.ensures in
     let fits = region_fits o in
     omega arith
@@ -17,9 +17,9 @@ index_mut-requires c =
 pub invariant_of-self : goal.invariant_of-self
 invariant_of-self c =
     let o = opened _ _ _ _ _ _ _ c.self.invariant c.self.view_is c.requires (omega arith) c.index-running.ensures in
-    sound_entry o _ _ c.if-index-running.true
+    rw c.put.ensures (sound_entry o _ _ c.if-index-running.true)
 
 pub returns-then-index-running : goal.returns-then-index-running
 returns-then-index-running c =
     let o = opened _ _ _ _ _ _ _ c.self.invariant c.self.view_is c.requires (omega arith) c.index-running.ensures in
-    view_entry o _ _ c.if-index-running.true
+    rw c.put.ensures (view_entry o _ _ c.if-index-running.true)

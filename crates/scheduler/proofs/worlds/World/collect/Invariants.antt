@@ -1,0 +1,7 @@
+use Rattle.std.specs.Prelude.{◌≡◌, ◌-◌}
+use Rattle.scheduler.specs.Rounds.{collections}
+use Rattle.scheduler.proofs.worlds.World.collect.Given as goal
+
+-- the turns that are left lead to where all lead
+abbrev pub invariant-loop-turn : goal.invariant-loop-turn
+invariant-loop-turn l = collections l.self 0 (l.turns - l._turn) ≡ collections l.initial.self 0 l.turns

@@ -1,0 +1,60 @@
+-- Rounds of a world: a turn of the thread that is picked, and after it turns of the collector.
+use Rattle.std.specs.Prelude.{ℕ, zero, suc, Bool, true, false, Option, Some, None, if◌then◌else◌}
+use Rattle.model.specs.declared.turns.Actor.TheVariants.{Thread, Collector}
+use Rattle.model.specs.declared.turns.Turn.{Turn}
+use Rattle.model.specs.declared.turns.Turn.TheVariants.{Done, NotReady, Stopped, Fault, OutputFull, StepLimit}
+use Rattle.model.specs.Machines.{Recorded, after_turn_by, answer_to}
+use Rattle.model.specs.Observers.{is_running, pick_of, status_of}
+
+-- ---- the turn of the thread that is picked
+
+abbrev pub turned_by : Recorded → ℕ → Option ℕ → Recorded
+turned_by v worker None = v
+turned_by v worker (Some t) = after_turn_by v (Thread t) worker
+
+abbrev pub answered_by : Recorded → ℕ → Option ℕ → Turn
+answered_by v worker None = NotReady
+answered_by v worker (Some t) = answer_to v (Thread t) worker
+
+abbrev pub picked : Recorded → ℕ → Recorded
+picked v worker = turned_by v worker (pick_of v)
+
+-- NotReady where none is picked, as in a world that doesn't run
+abbrev pub picked_answer : Recorded → ℕ → Turn
+picked_answer v worker = answered_by v worker (pick_of v)
+
+-- ---- the collector's turns
+
+abbrev pub collections : Recorded → ℕ → ℕ → Recorded
+collections v worker zero = v
+collections v worker (suc n) = collections (after_turn_by v Collector worker) worker n
+
+-- so many where the world runs, which they don't change
+abbrev pub swept : Recorded → ℕ → ℕ → Recorded
+swept v worker gc = if is_running (status_of v) then collections v worker gc else v
+
+-- ---- rounds
+
+abbrev pub is_done : Turn → Bool
+is_done Done = true
+is_done NotReady = false
+is_done Stopped = false
+is_done (Fault f) = false
+is_done OutputFull = false
+is_done StepLimit = false
+
+-- one round
+abbrev pub after_round : Recorded → ℕ → ℕ → Recorded
+after_round v worker gc = if is_done (picked_answer v worker) then swept (picked v worker) worker gc else picked v worker
+
+-- so many rounds, the first of which whose thread's turn isn't done being the last
+abbrev pub after_rounds : Recorded → ℕ → ℕ → ℕ → Recorded
+after_rounds v worker gc zero = v
+after_rounds v worker gc (suc n) =
+    if is_done (picked_answer v worker) then after_rounds (after_round v worker gc) worker gc n else after_round v worker gc
+
+-- what the last thread's turn answers, Done where no round was asked for
+abbrev pub rounds_answer : Recorded → ℕ → ℕ → ℕ → Turn
+rounds_answer v worker gc zero = Done
+rounds_answer v worker gc (suc n) =
+    if is_done (picked_answer v worker) then rounds_answer (after_round v worker gc) worker gc n else picked_answer v worker

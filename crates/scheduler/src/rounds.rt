@@ -1,0 +1,80 @@
+//! Rounds: the turns of the threads that are picked, and the collector's between them.
+ghost use Rattle.std.specs.Prelude.{◌≡◌, ◌<◌};
+ghost use Rattle.scheduler.specs.Rounds.{after_round, after_rounds, collections, is_done, picked, picked_answer, rounds_answer, swept};
+
+use crate::worlds::World;
+use model::turns::{Actor, Status, Turn};
+
+/// Whether a turn that answers this was done.
+fn is_done(answer: Turn) -> bool
+    ensures { result ≡ is_done answer }
+{
+    match answer {
+        Turn::Done => true,
+        Turn::NotReady | Turn::Stopped | Turn::Fault(_) | Turn::OutputFull | Turn::StepLimit =>
+            false,
+    }
+}
+
+impl World {
+    /// The turn of the thread that is picked; `NotReady` where none is.
+    fn turn_of_picked(&mut self) -> Turn
+        ensures world { self.new ≡ picked self.old 0 }
+        ensures answer { result ≡ picked_answer self.old 0 }
+    {
+        match self.pick() {
+            Some(thread) => self.turn(Actor::Thread(thread)),
+            None => Turn::NotReady,
+        }
+    }
+
+    /// So many turns of the collector.
+    fn collect(&mut self, turns: u32)
+        ensures { self.new ≡ collections self.old 0 turns }
+    {
+        for _turn in 0..turns {
+            let _ = self.turn(Actor::Collector);
+        }
+    }
+
+    /// The same where the world runs.
+    fn sweep(&mut self, gc: u32)
+        ensures { self.new ≡ swept self.old 0 gc }
+    {
+        if gc == 0 {
+            return; // no look at the status
+        }
+        match self.status() {
+            Status::Running => self.collect(gc),
+            Status::Finished | Status::Stuck | Status::Faulted => {}
+        }
+    }
+
+    /// One round; what its thread's turn answers.
+    fn round(&mut self, gc: u32) -> Turn
+        ensures world { self.new ≡ after_round self.old 0 gc }
+        ensures answer { result ≡ picked_answer self.old 0 }
+    {
+        let answer = self.turn_of_picked();
+        if is_done(answer) {
+            self.sweep(gc);
+        }
+        answer
+    }
+
+    /// So many rounds, all made by worker 0: the turn of the thread that is picked, and where it was done and the world runs
+    /// so many turns of the collector. They end with the first thread's turn that isn't done. Answers what the last thread's
+    /// turn did: `Done` where all rounds were made, `NotReady` where no thread was picked.
+    pub fn rounds(&mut self, n: u32, gc: u32) -> Turn
+        ensures world { self.new ≡ after_rounds self.old 0 gc n }
+        ensures answer { result ≡ rounds_answer self.old 0 gc n }
+    {
+        for _round in 0..n {
+            let answer = self.round(gc);
+            if !is_done(answer) {
+                return answer;
+            }
+        }
+        Turn::Done
+    }
+}

@@ -1,0 +1,109 @@
+#!/usr/bin/env python3
+"""Assembles, disassembles, runs and replays the programs of examples/, and compares what a terminal shows of them.
+
+    tools/run_examples.py [--jvm PATH] [--after LOG]
+
+A text NAME.j that has NAME.out beside it is a program (Square.j with Shape.j): it is run from its texts and from its class
+files, and each run's journal is replayed; NAME.out has its output, its lines on standard error and its status. Each text is
+assembled, disassembled and assembled again, which gives the same class file. The class files of examples/java are run in the
+same way; there NAME.out is what `java` printed.
+
+The last line is 'N passed, M failed'. With --after, the passes and failures in the last line of that file are added.
+"""
+import argparse
+import glob
+import os
+import re
+import subprocess
+import sys
+import tempfile
+
+ROOT = os.path.join(os.path.dirname(os.path.abspath(__file__)), "..")
+EXAMPLES = os.path.join(ROOT, "examples")
+BUILT = os.path.join(ROOT, "crates", "jvm", "out", "jvm")
+# what a program needs beside its own text
+OTHERS = {"Square": ["Shape"]}
+# room for what the programs of examples/java make, and time for the collector
+ROOM = ["--small", "2000", "--medium", "400", "--large", "100", "--steps", "16000000"]
+
+
+def run(*words):
+    """What a terminal shows of a command: its output, its lines of standard error, and its status."""
+    done = subprocess.run(words, stdout=subprocess.PIPE, stderr=subprocess.PIPE, timeout=120)
+    return done.stdout + done.stderr + f"status {done.returncode}\n".encode()
+
+
+def bytes_of(path):
+    with open(path, "rb") as file:
+        return file.read()
+
+
+def round_trip(jvm, text, room):
+    """The class file of a text, and how it differs from that of its disassembled text, or nothing."""
+    made = os.path.join(room, os.path.basename(text).removesuffix(".j") + ".class")
+    again = {"text": f"{room}/again.j", "class": f"{room}/again.class"}
+    said = run(jvm, "asm", text, made)
+    if said != b"status 0\n":
+        return made, f"asm: {said.decode()}"
+    with open(again["text"], "wb") as file:
+        file.write(subprocess.run([jvm, "dis", made], stdout=subprocess.PIPE, timeout=120).stdout)
+    said = run(jvm, "asm", again["text"], again["class"])
+    if said != b"status 0\n":
+        return made, f"asm of its disassembled text: {said.decode()}"
+    return made, None if bytes_of(made) == bytes_of(again["class"]) else "its disassembled text is of another class file"
+
+
+def difference(jvm, files, options, wanted, room):
+    """How a run of these files and its replay differ from what is wanted, or nothing."""
+    journal = f"{room}/journal"
+    shown = run(jvm, "run", *options, "--journal", journal, *files)
+    if shown != wanted:
+        return f"run: {shown.decode(errors='replace')}"
+    shown = run(jvm, "replay", journal, *files)
+    return None if shown == wanted else f"replay: {shown.decode(errors='replace')}"
+
+
+def tried_texts(jvm, room):
+    """What was tried of the texts, each with what is wrong, or nothing."""
+    made = {}
+    for text in sorted(glob.glob(f"{EXAMPLES}/*.j")):
+        name = os.path.basename(text).removesuffix(".j")
+        made[name], why = round_trip(jvm, text, room)
+        yield f"{name}.j, assembled", why
+    for out in sorted(glob.glob(f"{EXAMPLES}/*.out")):
+        name = os.path.basename(out).removesuffix(".out")
+        names = [name, *OTHERS.get(name, [])]
+        texts = [f"{EXAMPLES}/{it}.j" for it in names]
+        yield f"{name}.j", difference(jvm, texts, [], bytes_of(out), room)
+        yield f"{name}.class", difference(jvm, [made[it] for it in names], ["--gc", "7"], bytes_of(out), room)
+
+
+def tried_classes(jvm, room):
+    """The same of the class files that javac made."""
+    for out in sorted(glob.glob(f"{EXAMPLES}/java/*.out")):
+        name = out.removesuffix(".out")
+        files = [f"{name}.class", *sorted(glob.glob(f"{name}$*.class"))]
+        yield f"java/{os.path.basename(name)}", difference(jvm, files, ROOM, bytes_of(out) + b"status 0\n", room)
+
+
+def main():
+    words = argparse.ArgumentParser(description=__doc__.split("\n")[0])
+    words.add_argument("--jvm", default=BUILT)
+    words.add_argument("--after")
+    given = words.parse_args()
+    passed = failed = 0
+    if given.after:
+        last = bytes_of(given.after).decode().rstrip("\n").split("\n")[-1]
+        passed, failed = (int(it) for it in re.match(r"(\d+) passed, (\d+) failed", last).groups())
+    with tempfile.TemporaryDirectory() as room:
+        for tried in (tried_texts, tried_classes):
+            for name, why in tried(os.path.abspath(given.jvm), room):
+                passed, failed = passed + (not why), failed + bool(why)
+                if why:
+                    print(f"examples: {name}: {why}")
+    print(f"{passed} passed, {failed} failed")
+    return 1 if failed else 0
+
+
+if __name__ == "__main__":
+    sys.exit(main())
