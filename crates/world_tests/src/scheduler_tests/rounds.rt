@@ -14,7 +14,7 @@ fn has_pairs(world: &World, pairs: usize) -> bool {
         row(Actor::Thread(0), Outcome::Done),
         row(Actor::Collector, Outcome::Done),
     ];
-    rows.len() == 2 * pairs && rows.chunks(2).all(|found| found == pair.as_slice())
+    rows.len() == pairs.saturating_mul(2) && rows.chunks(2).all(|found| found == pair.as_slice())
 }
 
 #[test]
