@@ -17,10 +17,3 @@ mod widths;
 pub use assembling::{Assembled, assemble};
 pub use error::AsmError;
 pub use listings::listing;
-
-#[cfg(test)]
-mod byte_tests;
-#[cfg(test)]
-mod numbers_tests;
-#[cfg(test)]
-mod tests;

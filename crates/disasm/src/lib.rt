@@ -14,6 +14,3 @@ pub use classes::text;
 pub use files::disassemble;
 pub use laws::texts_come_back;
 pub use rereading::{AgainError, TreeError, again, tree};
-
-#[cfg(test)]
-mod tests;

@@ -19,6 +19,3 @@ pub use error::HallError;
 pub use halls::Hall;
 pub use roles::Role;
 pub use shares::{Share, Shared};
-
-#[cfg(test)]
-mod tests;

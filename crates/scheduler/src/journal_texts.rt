@@ -4,7 +4,5 @@ pub mod errors;
 mod heads;
 pub mod reading;
 mod rows;
-#[cfg(test)]
-mod tests;
 mod words;
 pub mod writing;

@@ -2,15 +2,10 @@
 ghost use Rattle.std.specs.Prelude.{◌≡◌, [], IfOk, All, length, vec_len};
 ghost use Rattle.board.specs.Seats.{IsSeatOf};
 
-use crate::{Gate, Hall, HallError, Role, drive};
+use crate::mains::nops;
 use board::{Board, BoardSeat};
-use loader::accept;
-use loader::programs::Program;
-use model::flags::{ClassFlags, MethodFlags};
-use model::instructions::Instruction;
+use hall::{Gate, Hall, HallError, Role, drive};
 use model::journals::{HeapShape, Limits, Outcome, Row};
-use model::listings::{Code, Listing, Method, Placed};
-use model::names::Name;
 use model::turns::{Actor, Status, Turn};
 use scheduler::worlds::World;
 use std::alloc::Global;
@@ -21,63 +16,17 @@ use std::test::Fail;
 use std::thread;
 use std::thread::Threads;
 
-/// A class with a static `main()V` of this code.
-fn class_of(alloc: Global, instructions: Vec<Placed>) -> Result<Listing, Fail> {
-    let main = Method {
-        flags: MethodFlags::STATIC,
-        name: Name::copy_of(alloc, b"main")?,
-        descriptor: Name::copy_of(alloc, b"()V")?,
-        code: Some(Code {
-            max_stack: 0,
-            max_locals: 0,
-            rows: Vec::new(alloc),
-            instructions,
-        }),
-    };
-    let mut methods = Vec::new(alloc);
-    methods.push(main)?;
-    Ok(Listing {
-        name: Name::copy_of(alloc, b"A")?,
-        flags: ClassFlags::PUBLIC,
-        superclass: Name::copy_of(alloc, b"java/lang/Object")?,
-        interfaces: Vec::new(alloc),
-        fields: Vec::new(alloc),
-        methods,
-    })
-}
-
-/// So many times `nop`, and `return`.
-fn nops(alloc: Global, count: u16) -> Result<Vec<Placed>, Fail> {
-    let mut code = Vec::new(alloc);
-    for pc in 0..count {
-        code.push(Placed {
-            pc,
-            next: pc + 1,
-            instruction: Instruction::Nop,
-        })?;
-    }
-    code.push(Placed {
-        pc: count,
-        next: count.saturating_add(1),
-        instruction: Instruction::Return(None),
-    })?;
-    Ok(code)
-}
-
 /// A world that has made no turn, whose main has so many instructions before its return.
 fn world_of(alloc: Global, count: u16, steps: u32) -> Result<World, Fail>
     ensures { IfOk result (λ world. world.journal.rows ≡ []) }
 {
-    let mut listings = Vec::new(alloc);
-    listings.push(class_of(alloc, nops(alloc, count)?)?)?;
-    accept(alloc, listings.as_slice())?;
     let shape = HeapShape {
         small: 2,
         medium: 0,
         large: 0,
     };
     let limits = Limits { steps, output: 0 };
-    Ok(World::new(alloc, Program::new(alloc, listings)?, shape, limits)?)
+    Ok(World::new(alloc, nops(alloc, count)?, shape, limits)?)
 }
 
 /// What a carrier and a collector are answered in turn, with how many rows each made, and the world afterwards.

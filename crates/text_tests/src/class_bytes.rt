@@ -9,6 +9,10 @@ pub const E: &str =
     0100046d61696e 010003282956 010004436f6465 0021 0002 0004 0000 0000 0001
     0009 0005 0006 0001 0007 0000000d 0000 0000 00000001 b1 0000 0000 0000";
 
+/// The text that has this class file.
+pub const TEXT_OF_E: &str =
+    ".class public E\n.super java/lang/Object\n.method public static main()V\n.limit stack 0\n.limit locals 0\nreturn\n.end method\n";
+
 /// The bytes that a text gives, two hexadecimal digits each; what is no such digit is passed over.
 pub fn hex(alloc: Global, text: &str) -> Result<Vec<u8>, Fail> {
     let mut bytes = Vec::new(alloc);

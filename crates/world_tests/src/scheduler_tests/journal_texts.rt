@@ -1,11 +1,11 @@
 //! Texts of journals by hand, and broken ones against a plain reader.
 ghost use Rattle.std.specs.Prelude.{◌≡◌};
 
-use crate::journal_texts::errors::JournalError;
-use crate::journal_texts::reading::read_journal;
-use crate::journal_texts::writing::write_journal;
 use model::journals::{HeapShape, Journal, Limits, Outcome, Row};
 use model::turns::Actor;
+use scheduler::journal_texts::errors::JournalError;
+use scheduler::journal_texts::reading::read_journal;
+use scheduler::journal_texts::writing::write_journal;
 use std::alloc::{AllocError, Global};
 use std::test::Fail;
 
@@ -25,8 +25,8 @@ fn row(actor: Actor, outcome: Outcome, worker: u8) -> Row
     }
 }
 
-#[test]
-fn a_journal_is_written(rt: HostRuntime) -> Result<(), Fail> {
+/// The text of a journal of three workers with four rows.
+fn written(alloc: Global) -> Result<Vec<u8>, AllocError> {
     let shape = HeapShape {
         small: 2,
         medium: 0,
@@ -36,21 +36,25 @@ fn a_journal_is_written(rt: HostRuntime) -> Result<(), Fail> {
         steps: 9,
         output: 0,
     };
-    let mut journal = Journal::new(rt.alloc(), shape, limits, 3)?;
+    let mut journal = Journal::new(alloc, shape, limits, 3)?;
     journal.add(row(Actor::Thread(0), Outcome::Done, 0))?;
     journal.add(row(Actor::Collector, Outcome::Object, 1))?;
     journal.add(row(Actor::Thread(255), Outcome::NoRoom, 2))?;
     journal.add(row(Actor::Thread(7), Outcome::Fault, 0))?;
-    let text = write_journal(rt.alloc(), &journal)?;
-    assert_eq!(rt; text.as_slice(), SECOND.as_bytes());
+    write_journal(alloc, &journal)
+}
+
+#[test]
+fn a_journal_is_written(rt: HostRuntime) -> Result<(), Fail> {
+    assert_eq!(rt; written(rt.alloc())?.as_slice(), SECOND.as_bytes());
     Ok(())
 }
 
-/// The text of version 2 of the journal that a text has; empty where it has none.
-fn rewritten(alloc: Global, text: &str) -> Result<Vec<u8>, AllocError> {
+/// Whether this is the text of version 2 of the journal that a text has; empty where it has none.
+fn is_rewritten(alloc: Global, text: &str, wanted: &str) -> Result<bool, AllocError> {
     match read_journal(alloc, text.as_bytes()) {
-        Ok(journal) => write_journal(alloc, &journal),
-        Err(_) => Ok(Vec::new(alloc)),
+        Ok(journal) => Ok(write_journal(alloc, &journal)?.as_slice() == wanted.as_bytes()),
+        Err(_) => Ok(wanted.is_empty()),
     }
 }
 
@@ -75,8 +79,7 @@ const READ: [(&str, &str); 5] = [
 #[test]
 fn what_is_read_is_written_again(rt: HostRuntime) -> Result<(), Fail> {
     for (text, wanted) in READ {
-        let written = rewritten(rt.alloc(), text)?;
-        assert_eq!(rt; written.as_slice(), wanted.as_bytes());
+        assert!(rt; is_rewritten(rt.alloc(), text, wanted)?, "{text}");
     }
     Ok(())
 }
@@ -139,26 +142,24 @@ const ROWS: [(&str, &str); 23] = [
     ("end 0\nend 0\n", "N4"),
 ];
 
-/// How the text of a head and of what follows is refused; `read` where it isn't.
-fn refusal(alloc: Global, head: &str, rest: &str) -> Result<String, AllocError> {
+/// Whether the text of a head and of what follows is refused so, or `read`.
+fn is_told(alloc: Global, head: &str, rest: &str, wanted: &str) -> Result<bool, AllocError> {
     let mut text = Vec::from_slice(alloc, head.as_bytes())?;
     text.extend_from_slice(rest.as_bytes())?;
     match read_journal(alloc, &text) {
-        Ok(_) => String::from_str(alloc, "read"),
-        Err(error) => format!(in alloc; "{error}"),
+        Ok(_) => Ok(wanted == "read"),
+        Err(error) => Ok(format!(in alloc; "{error}")?.as_str() == wanted),
     }
 }
 
 #[test]
 fn the_first_fault_is_told(rt: HostRuntime) -> Result<(), Fail> {
     for (rest, wanted) in HEADS {
-        let told = refusal(rt.alloc(), "JVMJ 2", rest)?;
-        assert_eq!(rt; told.as_str(), wanted);
+        assert!(rt; is_told(rt.alloc(), "JVMJ 2", rest, wanted)?, "{rest}");
     }
     let two = "JVMJ 2\nheap 2 0 0\nlimits 9 0\nworkers 2\n";
     for (rest, wanted) in ROWS {
-        let told = refusal(rt.alloc(), two, rest)?;
-        assert_eq!(rt; told.as_str(), wanted);
+        assert!(rt; is_told(rt.alloc(), two, rest, wanted)?, "{rest}");
     }
     Ok(())
 }
@@ -174,9 +175,9 @@ const OLD_ROWS: [(&str, &str); 5] = [
 
 #[test]
 fn version_1_tells_no_workers(rt: HostRuntime) -> Result<(), Fail> {
+    let head = "JVMJ 1\nheap 2 0 0\nlimits 9 0\n";
     for (rest, wanted) in OLD_ROWS {
-        let told = refusal(rt.alloc(), "JVMJ 1\nheap 2 0 0\nlimits 9 0\n", rest)?;
-        assert_eq!(rt; told.as_str(), wanted);
+        assert!(rt; is_told(rt.alloc(), head, rest, wanted)?, "{rest}");
     }
     Ok(())
 }

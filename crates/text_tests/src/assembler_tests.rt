@@ -1,6 +1,9 @@
 //! Texts with the code or the refusal that they have.
 
-use crate::{assemble, listing};
+mod bytes;
+
+use crate::class_bytes::hex;
+use assembler::{assemble, listing};
 use classfile::write;
 use jasmin::read;
 use model::listings::Listing;
@@ -11,7 +14,7 @@ use std::test::Fail;
 const ASSEMBLED: &[u8] = b"\xca\xfe\xba\xbe";
 
 /// The bytes of the class file of a text, or what users are told of it.
-pub fn answer(alloc: Global, text: &str) -> Result<Vec<u8>, Fail> {
+fn answer(alloc: Global, text: &str) -> Result<Vec<u8>, Fail> {
     let tree = read(alloc, text.as_bytes())?;
     match assemble(alloc, &tree) {
         Ok(made) => Ok(write(alloc, &made.file)?),
@@ -19,47 +22,26 @@ pub fn answer(alloc: Global, text: &str) -> Result<Vec<u8>, Fail> {
     }
 }
 
-/// Whether these are the bytes of a text of hexadecimal digits; what is no digit is passed over.
-pub fn is_hex(bytes: &[u8], text: &str) -> bool {
-    let mut place = 0usize;
-    let mut high: Option<u32> = None;
-    for letter in text.chars() {
-        let Some(digit) = letter.to_digit(16) else {
-            continue;
-        };
-        high = match high {
-            None => Some(digit),
-            Some(first) => {
-                let wanted = first.wrapping_mul(16).wrapping_add(digit);
-                if bytes.get(place).map(|byte| u32::from(*byte)) != Some(wanted) {
-                    return false;
-                }
-                place = place.wrapping_add(1);
-                None
-            }
-        };
-    }
-    place == bytes.len()
+/// Whether a text's answer begins with these bytes.
+fn begins(alloc: Global, text: &str, wanted: &[u8]) -> Result<bool, Fail> {
+    Ok(answer(alloc, text)?.starts_with(wanted))
 }
 
-/// Whether bytes end in those of a text of hexadecimal digits.
-fn ends_in(bytes: &[u8], text: &str) -> bool {
-    let digits = text
-        .chars()
-        .filter(|letter| letter.is_ascii_hexdigit())
-        .count();
-    match bytes.len().checked_sub(digits / 2) {
-        Some(start) => is_hex(&bytes[start..], text),
+/// Whether a text's answer has these bytes, in hexadecimal digits, from a place on.
+fn has_at(alloc: Global, text: &str, place: usize, digits: &str) -> Result<bool, Fail> {
+    let bytes = answer(alloc, text)?;
+    let wanted = hex(alloc, digits)?;
+    Ok(match bytes.get(place..) {
+        Some(rest) => rest.starts_with(&wanted),
         None => false,
-    }
+    })
 }
 
-/// Whether these bytes stand in others from a place on.
-fn stand_at(bytes: &[u8], place: usize, wanted: &[u8]) -> bool {
-    match bytes.get(place..) {
-        Some(rest) => rest.starts_with(wanted),
-        None => false,
-    }
+/// Whether a text's answer ends in these bytes, in hexadecimal digits.
+fn ends_in(alloc: Global, text: &str, digits: &str) -> Result<bool, Fail> {
+    let bytes = answer(alloc, text)?;
+    let wanted = hex(alloc, digits)?;
+    Ok(bytes.ends_with(&wanted))
 }
 
 /// A class A over B whose `main()V` has these lines, with a number of lines `nop` in the middle.
@@ -73,11 +55,6 @@ fn main_with(alloc: Global, first: &str, nops: u32, last: &str) -> Result<String
     text.push_str(last)?;
     text.push_str(".end method\n")?;
     Ok(text)
-}
-
-/// What the class A of these lines has for an answer.
-fn answer_of_main(alloc: Global, first: &str, nops: u32, last: &str) -> Result<Vec<u8>, Fail> {
-    answer(alloc, &main_with(alloc, first, nops, last)?)
 }
 
 /// The code of a text, its length before it, and behind it no rows, no attributes of the code and none of the class.
@@ -117,17 +94,17 @@ fn code_of_texts(rt: HostRuntime) -> Result<(), Fail> {
             "0000001d 000000 1201 aa 0000 00000017 7ffffffe 7fffffff 00000017 00000017 b1 0000 0000 0000",
         ),
     ] {
-        let bytes = answer_of_main(rt.alloc(), first, nops, last)?;
-        assert!(rt; ends_in(&bytes, wanted), "{wanted}");
+        let text = main_with(rt.alloc(), first, nops, last)?;
+        assert!(rt; ends_in(rt.alloc(), &text, wanted)?, "{wanted}");
     }
     Ok(())
 }
 
 #[test]
 fn numbers_of_ldc_come_first(rt: HostRuntime) -> Result<(), Fail> {
-    let bytes = answer_of_main(rt.alloc(), "iconst_1\nldc 2147483647\nreturn\n", 0, "")?;
+    let text = main_with(rt.alloc(), "iconst_1\nldc 2147483647\nreturn\n", 0, "")?;
     // the count of the pool, and its first entry
-    assert!(rt; stand_at(&bytes, 8, &[0, 9, 3, 0x7f, 0xff, 0xff, 0xff]));
+    assert!(rt; has_at(rt.alloc(), &text, 8, "0009 03 7fffffff")?);
     Ok(())
 }
 
@@ -174,8 +151,8 @@ fn refused_code(rt: HostRuntime) -> Result<(), Fail> {
         ),
         ("goto X\n", 65_536, "X:\nreturn\n", b"A1 in method main()V"),
     ] {
-        let bytes = answer_of_main(rt.alloc(), first, nops, last)?;
-        assert!(rt; bytes.starts_with(answer), "{first}{nops}");
+        let text = main_with(rt.alloc(), first, nops, last)?;
+        assert!(rt; begins(rt.alloc(), &text, answer)?, "{first}{nops}");
     }
     Ok(())
 }
@@ -192,40 +169,65 @@ fn many_ints(alloc: Global) -> Result<String, Fail> {
 
 #[test]
 fn a_long_ldc_past_255(rt: HostRuntime) -> Result<(), Fail> {
-    let bytes = answer_of_main(rt.alloc(), &many_ints(rt.alloc())?, 0, "return\n")?;
+    let text = main_with(rt.alloc(), &many_ints(rt.alloc())?, 0, "return\n")?;
     // 255 numbers in two bytes, and then that of 255, 256
-    assert!(rt; ends_in(&bytes, "12ff 130100 12ff 130100 b1 0000 0000 0000"));
+    assert!(rt;
+        ends_in(
+            rt.alloc(),
+            &text,
+            "12ff 130100 12ff 130100 b1 0000 0000 0000"
+        )?
+    );
     Ok(())
 }
 
-/// A class with two methods that each push so many longs, all different.
-fn with_longs(alloc: Global, longs: u32) -> Result<String, Fail> {
+/// A class with two methods that each push so many longs, all different, the second one these constants too.
+fn with_longs(alloc: Global, longs: u32, more: &str) -> Result<String, Fail> {
     let mut text = String::from_str(alloc, ".class A\n.super java/lang/Object\n")?;
-    for (method, sign) in [
+    for (method, sign, last) in [
         (
             ".method static m0()V\n.limit stack 2\n.limit locals 0\n",
+            "",
             "",
         ),
         (
             ".method static m1()V\n.limit stack 2\n.limit locals 0\n",
             "-",
+            more,
         ),
     ] {
         text.push_str(method)?;
         for n in 0..longs {
             text.push_str(&format!(in alloc; "ldc2_w {sign}1{n}\n")?)?;
         }
+        text.push_str(last)?;
         text.push_str(".end method\n")?;
     }
     Ok(text)
 }
 
+// Two numbers for each long, and 8 for A and Object with their classes, m0, m1, their descriptor and Code: of 16,381 longs each
+// 65,532. The last number is 65,534.
+
 #[test]
 fn a_pool_is_full(rt: HostRuntime) -> Result<(), Fail> {
-    // two numbers for each long, and 8 for A and Object with their classes, m0, m1, their descriptor and Code
-    for (longs, wanted) in [(16_381, ASSEMBLED), (16_382, b"A3".as_slice())] {
-        let bytes = answer(rt.alloc(), &with_longs(rt.alloc(), longs)?)?;
-        assert!(rt; bytes.starts_with(wanted), "{longs}");
+    for (longs, more, wanted) in [
+        // what is there has its number still
+        (16_381, "ldc_w 1\nldc_w 2\nldc2_w 10\nldc_w 1\n", ASSEMBLED),
+        (16_382, "", b"A3".as_slice()),
+    ] {
+        let text = with_longs(rt.alloc(), longs, more)?;
+        assert!(rt; begins(rt.alloc(), &text, wanted)?, "{longs}{more}");
+    }
+    Ok(())
+}
+
+#[test]
+fn the_last_number_is_65534(rt: HostRuntime) -> Result<(), Fail> {
+    // a long has no room where an int has
+    for more in ["ldc_w 1\nldc_w 2\nldc_w 3\n", "ldc_w 1\nldc2_w 2\n"] {
+        let text = with_longs(rt.alloc(), 16_381, more)?;
+        assert!(rt; begins(rt.alloc(), &text, b"A3")?, "{more}");
     }
     Ok(())
 }
@@ -245,13 +247,12 @@ fn many_labels(alloc: Global) -> Result<String, Fail> {
 
 #[test]
 fn a_switch_has_10000_labels(rt: HostRuntime) -> Result<(), Fail> {
-    let bytes = answer_of_main(rt.alloc(), &many_labels(rt.alloc())?, 0, "")?;
-    // The class file has 74 bytes before the code's length: an int, `tableswitch`, pads of 2, the default, two bounds, 10,000
-    // ways and as many instructions. The last label's instruction stands 10,000 - 1 bytes behind the switch, which takes
-    // 40,015 from pc 1 on.
-    let length = 1 + 1 + 2 + 12 + 40000 + 10000u32;
-    assert!(rt; stand_at(&bytes, 74, &length.to_be_bytes()));
-    assert!(rt; stand_at(&bytes, 78 + 40012, &[0, 0, 195, 94]));
+    let text = main_with(rt.alloc(), &many_labels(rt.alloc())?, 0, "")?;
+    // The class file has 74 bytes before the code's length, 50,016: an int, `tableswitch`, pads of 2, the default, two
+    // bounds, 10,000 ways and as many instructions. The last label's instruction stands 10,000 - 1 bytes behind the switch,
+    // which takes 40,015 from pc 1 on.
+    assert!(rt; has_at(rt.alloc(), &text, 74, "0000c360")?);
+    assert!(rt; has_at(rt.alloc(), &text, 78 + 40012, "0000c35e")?);
     Ok(())
 }
 

@@ -1,6 +1,6 @@
 use Rattle.board.specs.Seats.{IsSeatOf}
 use Rattle.hall.proofs.SeatsHome.{all_but_last, of_last}
-use Rattle.hall.proofs.tests.three_at_once.Goals as goal
+use Rattle.world_tests.proofs.hall_tests.three_at_once.Goals as goal
 
 pub invariant_of-new : goal.invariant_of-new
 invariant_of-new g c = record { mine = of_last (IsSeatOf c.in_ok-board.board) _ _ _ c.in-Some.ensures.items c.in_ok-board.ensures.seats }

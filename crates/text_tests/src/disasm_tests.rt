@@ -1,30 +1,15 @@
 //! Class files by hand, and their texts by the grammar.
 
-use super::*;
+use crate::class_bytes::{E, TEXT_OF_E, hex};
 use bitflags::Flags;
-use classfile::read;
+use classfile::{ClassFile, read};
+use disasm::{again, disassemble, text, texts_come_back, tree};
 use model::flags::ClassFlags;
 use model::listings::Listing;
 use model::names::Name;
+use model::trees::ClassTree;
 use std::alloc::Global;
-use std::test::*;
-
-/// A class E over java/lang/Object with the method `public static main()V`, whose code is one return.
-const E: &str = "cafebabe 0000 0031 0008 01000145 070001
-0100106a6176612f6c616e672f4f626a656374 070003
-0100046d61696e 010003282956 010004436f6465
-0021 0002 0004 0000 0000 0001
-0009 0005 0006 0001 0007 0000000d
-0000 0000 00000001 b1 0000 0000 0000";
-
-const TEXT_OF_E: &str = ".class public E
-.super java/lang/Object
-.method public static main()V
-.limit stack 0
-.limit locals 0
-return
-.end method
-";
+use std::test::Fail;
 
 /// A class with interfaces, fields, a method with code of many words, and methods without.
 const R: &str =
@@ -105,79 +90,64 @@ L122:
 .end method
 ";
 
-/// The bytes that a text gives, two hexadecimal digits each; what is no such digit is passed over.
-fn hex(alloc: Global, text: &str) -> Result<Vec<u8>, Fail> {
-    let mut bytes = Vec::new(alloc);
-    let mut high: Option<u8> = None;
-    for letter in text.as_bytes() {
-        let Some(digit) = char::from(*letter).to_digit(16) else {
-            continue;
-        };
-        let digit = u8::try_from(digit).unwrap_or(0);
-        high = match high {
-            None => Some(digit),
-            Some(first) => {
-                bytes.push(first.wrapping_mul(16).wrapping_add(digit))?;
-                None
-            }
-        };
-    }
-    Ok(bytes)
+/// A class file, given in hexadecimal digits.
+fn file_of(alloc: Global, digits: &str) -> Result<ClassFile, Fail> {
+    Ok(read(alloc, hex(alloc, digits)?.as_slice())?)
 }
 
 /// Whether a class file, given in hexadecimal digits, has this text.
-fn has_text(alloc: Global, file: &str, wanted: &str) -> Result<bool, Fail> {
-    let file = read(alloc, hex(alloc, file)?.as_slice())?;
-    let found = disassemble(alloc, &file)?;
+fn has_text(alloc: Global, digits: &str, wanted: &str) -> Result<bool, Fail> {
+    let found = disassemble(alloc, &file_of(alloc, digits)?)?;
+    Ok(found.as_slice() == wanted.as_bytes())
+}
+
+/// Whether the class file that is made of a class file's text has this text too.
+fn comes_back(alloc: Global, digits: &str, wanted: &str) -> Result<bool, Fail> {
+    let made = again(alloc, &file_of(alloc, digits)?)?;
+    let found = disassemble(alloc, &made)?;
     Ok(found.as_slice() == wanted.as_bytes())
 }
 
 #[test]
-fn the_smallest_class_has_seven_lines(rt: HostRuntime) -> Result<(), Fail> {
-    let is_so = has_text(rt.alloc(), E, TEXT_OF_E)?;
-    assert!(rt; is_so);
+fn class_files_have_these_texts(rt: HostRuntime) -> Result<(), Fail> {
+    for (digits, wanted) in [(E, TEXT_OF_E), (R, TEXT_OF_R)] {
+        assert!(rt; has_text(rt.alloc(), digits, wanted)?, "{wanted}");
+        assert!(rt; comes_back(rt.alloc(), digits, wanted)?, "{wanted}");
+    }
     Ok(())
 }
 
-#[test]
-fn a_class_of_many_words(rt: HostRuntime) -> Result<(), Fail> {
-    let is_so = has_text(rt.alloc(), R, TEXT_OF_R)?;
-    assert!(rt; is_so);
-    Ok(())
+/// Whether a tree has R's name and so many parts as R.
+fn is_of_r(tree: &ClassTree) -> bool {
+    tree.name.is("p/R")
+        && tree.interfaces.len() == 2
+        && tree.fields.len() == 3
+        && tree.methods.len() == 3
 }
 
 #[test]
 fn a_class_file_has_the_tree_of_its_text(rt: HostRuntime) -> Result<(), Fail> {
-    let file = read(rt.alloc(), hex(rt.alloc(), R)?.as_slice())?;
-    let found = tree(rt.alloc(), &file)?;
-    assert_eq!(rt; found.name.as_bytes(), "p/R".as_bytes());
-    assert_eq!(rt; found.interfaces.len(), 2);
-    assert_eq!(rt; found.fields.len(), 3);
-    assert_eq!(rt; found.methods.len(), 3);
+    let found = tree(rt.alloc(), &file_of(rt.alloc(), R)?)?;
+    assert!(rt; is_of_r(&found));
     Ok(())
 }
 
-#[test]
-fn a_class_file_is_assembled_again(rt: HostRuntime) -> Result<(), Fail> {
-    let file = read(rt.alloc(), hex(rt.alloc(), R)?.as_slice())?;
-    let made = again(rt.alloc(), &file)?;
-    let found = disassemble(rt.alloc(), &made)?;
-    assert_eq!(rt; found.as_slice(), TEXT_OF_R.as_bytes());
-    Ok(())
+/// An interface with nothing in it.
+fn interface(alloc: Global) -> Result<Listing, Fail> {
+    Ok(Listing {
+        name: Name::copy_of(alloc, b"a/I")?,
+        flags: ClassFlags::from_bits_retain(0x0601),
+        superclass: Name::copy_of(alloc, b"java/lang/Object")?,
+        interfaces: Vec::new(alloc),
+        fields: Vec::new(alloc),
+        methods: Vec::new(alloc),
+    })
 }
 
 #[test]
 fn an_interface_of_two_lines(rt: HostRuntime) -> Result<(), Fail> {
-    let listing = Listing {
-        name: Name::copy_of(rt.alloc(), b"a/I")?,
-        flags: ClassFlags::from_bits_retain(0x0601),
-        superclass: Name::copy_of(rt.alloc(), b"java/lang/Object")?,
-        interfaces: Vec::new(rt.alloc()),
-        fields: Vec::new(rt.alloc()),
-        methods: Vec::new(rt.alloc()),
-    };
     let wanted = ".interface public a/I\n.super java/lang/Object\n";
-    let found = text(rt.alloc(), &listing)?;
+    let found = text(rt.alloc(), &interface(rt.alloc())?)?;
     assert_eq!(rt; found.as_slice(), wanted.as_bytes());
     texts_come_back();
     Ok(())

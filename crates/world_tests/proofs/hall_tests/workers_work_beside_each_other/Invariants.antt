@@ -1,4 +1,4 @@
-use Rattle.hall.proofs.tests.workers_work_beside_each_other.Given as goal
+use Rattle.world_tests.proofs.hall_tests.workers_work_beside_each_other.Given as goal
 
 -- the ledger is the one that the blank will open
 abbrev pub ghosts-three_at_once : goal.ghosts-three_at_once

@@ -1,4 +1,4 @@
-use Rattle.hall.proofs.tests.one_to_nine_roles_have_a_hall.Given as goal
+use Rattle.world_tests.proofs.hall_tests.one_to_nine_roles_have_a_hall.Given as goal
 
 -- the ledger is the one that the blank will open
 abbrev pub ghosts-shares_for : goal.ghosts-shares_for

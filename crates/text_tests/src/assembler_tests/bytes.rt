@@ -1,14 +1,10 @@
 //! Every statement and mnemonic with the bytes that it assembles to. The bytes are those of tools/plain_asm.py, and `javap`
 //! says of each file what its text says.
 
-use crate::tests::{answer, is_hex};
+use super::answer;
+use crate::class_bytes::{E, TEXT_OF_E, hex};
+use std::alloc::Global;
 use std::test::Fail;
-
-const E: &str =
-    ".class public E\n.super java/lang/Object\n.method public static main()V\n.limit stack 0\n.limit locals 0\nreturn\n.end method\n";
-
-const E_BYTES: &str =
-    "cafebabe 0000 0031 0008 01000145 070001 0100106a6176612f6c616e672f4f626a656374 070003 0100046d61696e 010003282956 010004436f6465 0021 0002 0004 0000 0000 0001 0009 0005 0006 0001 0007 0000000d 0000 0000 00000001 b1 0000 0000 0000";
 
 const K: &str =
     ".class public K\n.super java/lang/Object\n.implements Runn\n.field static final x I = -2\n.field public static l J = 7\n";
@@ -236,16 +232,74 @@ const EVERY_BYTES: &str =
     fed8c8fffffed500aa0000fffffecfffffffff00000000fffffecffffffecfab000000fffffeb800000002fffffffbfffffe\
     b800000007fffffeb8ab000000fffffe9c00000000000000000000";
 
+/// Entries in the order in which the class names them, each behind what it names; the same member of a class and of an
+/// interface is two entries.
+const ORDER: &str = "\
+.class A
+.super B
+.method static f()V
+.limit stack 2
+.limit locals 0
+getstatic A/f I
+invokestatic A/f()V
+invokeinterface A/f()V 1
+new C
+return
+.end method
+";
+
+const ORDER_BYTES: &str =
+    "cafebabe000000310010010001410700010100014207000301000166010003282956010004436f6465010001490c00050008\
+    09000200090c000500060a0002000b0b0002000b0100014307000e0020000200040000000000010008000500060001000700\
+    00001b000200000000000fb2000ab8000cb9000d0100bb000fb1000000000000";
+
+/// What is named again has the number that it has, `Code` as a class's name and as the attribute's among them; a long takes
+/// two numbers.
+const ONCE: &str = "\
+.class A
+.super Code
+.implements A
+.method static f()V
+.limit stack 2
+.limit locals 0
+ldc 7
+ldc2_w 7
+new C
+ldc2_w -7
+ldc -7
+ldc 7
+ldc_w 7
+ldc2_w 7
+new A
+new D
+return
+.end method
+";
+
+const ONCE_BYTES: &str =
+    "cafebabe000000310011030000000703fffffff901000141070003010004436f646507000501000166010003282956050000\
+    0000000000070100014307000b05fffffffffffffff90100014407000f002000040006000100040000000100080007000800\
+    01000500000028000200000000001c1201140009bb000c14000d12021201130001140009bb0004bb0010b1000000000000";
+
+/// Whether a text's class file has these bytes, in hexadecimal digits.
+fn has_bytes(alloc: Global, text: &str, digits: &str) -> Result<bool, Fail> {
+    let found = answer(alloc, text)?;
+    let wanted = hex(alloc, digits)?;
+    Ok(found.as_slice() == wanted.as_slice())
+}
+
 #[test]
 fn texts_have_these_class_files(rt: HostRuntime) -> Result<(), Fail> {
-    for (text, bytes) in [
-        (E, E_BYTES),
+    for (text, digits) in [
+        (TEXT_OF_E, E),
         (K, K_BYTES),
         (PARTS, PARTS_BYTES),
         (INTERFACE, INTERFACE_BYTES),
         (EVERY, EVERY_BYTES),
+        (ORDER, ORDER_BYTES),
+        (ONCE, ONCE_BYTES),
     ] {
-        assert!(rt; is_hex(&answer(rt.alloc(), text)?, bytes), "{text}");
+        assert!(rt; has_bytes(rt.alloc(), text, digits)?, "{text}");
     }
     Ok(())
 }

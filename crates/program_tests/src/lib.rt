@@ -1,0 +1,11 @@
+//! The tests of the crates that load programs, hold frames and carry out plain operations; see text_tests.
+#![tactic(auto)]
+
+#[cfg(test)]
+mod frames_tests;
+#[cfg(test)]
+mod loader_tests;
+#[cfg(test)]
+mod plain_steps_tests;
+#[cfg(test)]
+mod resolve_tests;
