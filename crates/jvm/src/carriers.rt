@@ -1,5 +1,5 @@
 //! A run whose turns several threads carry, with a collector beside them.
-ghost use Rattle.std.specs.Prelude.{◌≡◌, ◌<◌, ◌≤◌, [], All, IfOk, length, vec_len};
+ghost use Rattle.std.specs.Prelude.{◌≡◌, ◌+◌, [], All, IfOk, length, vec_len};
 ghost use Rattle.board.specs.Seats.{IsSeatOf};
 ghost use Rattle.hall.specs.Heads.{head_of};
 ghost use Rattle.scheduler.specs.Workers.{with_workers};
