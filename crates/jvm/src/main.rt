@@ -1,7 +1,6 @@
 //! `jvm`: assembles Jasmin texts, writes class files as texts, and runs both on a small Java virtual machine.
 #![tactic(auto)]
 
-mod carriers;
 mod executing;
 mod explaining;
 #[cfg(test)]
@@ -24,7 +23,6 @@ mod stored_runs;
 #[cfg(test)]
 mod tests;
 
-use crate::carriers::{Carriers, SystemThreads};
 use crate::executing::execute;
 use crate::files::SystemFiles;
 use crate::options::{LineError, options};
@@ -55,8 +53,8 @@ fn refused(rt: &HostRuntime, error: &LineError) -> io::Result<u8> {
     }
 }
 
-/// Does what the words say with these carriers, and answers the exit status.
-fn perform<C: Carriers>(rt: &HostRuntime, carriers: &C) -> io::Result<u8> {
+/// Does what the words say, and answers the exit status.
+fn perform(rt: &HostRuntime) -> io::Result<u8> {
     let alloc = rt.alloc();
     let owned: Vec<String> = env::args(rt)?.collect(alloc)?;
     let mut words = Vec::new(alloc);
@@ -72,7 +70,6 @@ fn perform<C: Carriers>(rt: &HostRuntime, carriers: &C) -> io::Result<u8> {
             Ok(execute(
                 alloc,
                 &command,
-                carriers,
                 &mut files,
                 &mut input,
                 &mut output,
@@ -95,8 +92,7 @@ fn failed(rt: &HostRuntime, error: &io::Error) -> u8 {
 }
 
 fn main(rt: HostRuntime) -> ExitCode {
-    let carriers = SystemThreads { runtime: &rt };
-    let status = match perform(&rt, &carriers) {
+    let status = match perform(&rt) {
         Ok(status) => status,
         Err(error) => failed(&rt, &error),
     };

@@ -8,7 +8,6 @@ mod initializers;
 mod numbers;
 mod threads;
 
-use crate::carriers::NoThreads;
 use crate::executing::execute;
 use crate::files::{Files, ReadError, WriteError};
 use crate::launching::launch;
@@ -83,7 +82,6 @@ fn ending(alloc: Global, command: &Command, sources: &[Vec<u8>]) -> (Vec<u8>, u8
     let status = execute(
         alloc,
         command,
-        &NoThreads,
         &mut files,
         &mut input,
         &mut written,
