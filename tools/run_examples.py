@@ -6,12 +6,13 @@
 A text NAME.j that has NAME.out beside it is a program (Square.j with Shape.j): it is run from its texts and from its class
 files, and each run's journal is replayed; NAME.out has its output, its lines on standard error and its status. Each text is
 assembled, disassembled and assembled again, which gives the same class file. The class files of examples/java are run in the
-same way; there NAME.out is what `java` printed.
+same way; there NAME.out is what `java` printed. The programs of examples/rows.txt are run turn by turn.
 
 The last line is 'N passed, M failed'. With --after, the passes and failures in the last line of that file are added.
 """
 import argparse
 import glob
+import itertools
 import os
 import re
 import subprocess
@@ -78,6 +79,46 @@ def tried_texts(jvm, room):
         yield f"{name}.class", difference(jvm, [made[it] for it in names], ["--gc", "7"], bytes_of(out), room)
 
 
+def tried_others(jvm, room):
+    """A code and a word that is none, explained, and two threads that don't get stuck by another schedule."""
+    shown = run(jvm, "explain", "N1")
+    yield "explain N1", None if shown == b"A journal's first line is not `JVMJ 1` or `JVMJ 2`.\nstatus 0\n" else shown.decode()
+    shown = run(jvm, "explain", "J10")
+    yield "explain J10", None if shown == b"jvm: no code J10\nstatus 7\n" else shown.decode()
+    shown = run(jvm, "replay", f"{EXAMPLES}/D.journal", f"{EXAMPLES}/D.j")
+    yield "D.journal", None if shown == b"status 0\n" else shown.decode()
+
+
+def rows_in(text):
+    """The programs of rows.txt: name, cells, classes, and what comes of them."""
+    for block in text.split("\n== ")[1:]:
+        name, cells, rest = block.rstrip("\n").split("\n", 2)
+        classes, story = rest.split("\n>>\n")
+        yield name, cells.split(" "), classes.split("\n--\n"), story
+
+
+def turns_of(journal):
+    """The outcomes of a journal's turns, by thread; those that follow each other and are alike together."""
+    rows = [line.split(" ")[:2] for line in bytes_of(journal).decode().split("\n")[4:-2]]
+    told = ["".join(row) for row in rows]
+    parts = [(turn, len(list(alike))) for turn, alike in itertools.groupby(told)]
+    return "".join(f" {turn}" + (f"*{count}" if count > 1 else "") for turn, count in parts)
+
+
+def tried_rows(jvm, room):
+    """What was tried of rows.txt, each with what is wrong, or nothing."""
+    for name, cells, classes, story in rows_in(bytes_of(f"{EXAMPLES}/rows.txt").decode()):
+        files = [f"{room}/row{number}.j" for number in range(len(classes))]
+        for path, text in zip(files, classes):
+            with open(path, "w", encoding="ascii") as file:
+                file.write(text + "\n")
+        small, medium, large = cells
+        options = ["--gc", "0", "--small", small, "--medium", medium, "--large", large, "--journal", f"{room}/journal"]
+        shown, _, status = run(jvm, "run", *options, *files).decode().rpartition("status ")
+        told = f"{shown}{status.strip()}:{turns_of(f'{room}/journal')}"
+        yield f"rows: {name}", None if told == story else told
+
+
 def tried_classes(jvm, room):
     """The same of the class files that javac made."""
     for out in sorted(glob.glob(f"{EXAMPLES}/java/*.out")):
@@ -96,7 +137,7 @@ def main():
         last = bytes_of(given.after).decode().rstrip("\n").split("\n")[-1]
         passed, failed = (int(it) for it in re.match(r"(\d+) passed, (\d+) failed", last).groups())
     with tempfile.TemporaryDirectory() as room:
-        for tried in (tried_texts, tried_classes):
+        for tried in (tried_texts, tried_others, tried_rows, tried_classes):
             for name, why in tried(os.path.abspath(given.jvm), room):
                 passed, failed = passed + (not why), failed + bool(why)
                 if why:

@@ -1,16 +1,6 @@
 //! What `jvm explain` answers.
 use crate::explaining::{all_codes, meaning};
-use crate::tests::check;
 use std::test::Fail;
-
-/// A code is told with its lines, and a word that is none is refused.
-#[test]
-fn a_code_is_explained(rt: HostRuntime) -> Result<(), Fail> {
-    let text: &[u8] = b"A journal's first line is not `JVMJ 1` or `JVMJ 2`.\n";
-    check(&rt, rt.alloc(), &["explain", "N1"], b"", 0, text, b"")?;
-    let refused: &[u8] = b"jvm: no code J10\n";
-    check(&rt, rt.alloc(), &["explain", "J10"], b"", 7, b"", refused)
-}
 
 /// Each of the 76 codes and statuses has a line in the list.
 #[test]

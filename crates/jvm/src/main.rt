@@ -14,8 +14,6 @@ mod launching;
 mod laws;
 mod options;
 mod replaying;
-#[cfg(test)]
-mod run_tests;
 mod sources;
 #[cfg(test)]
 mod stored_run_tests;

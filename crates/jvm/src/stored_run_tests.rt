@@ -110,26 +110,6 @@ fn a_journal_is_written_and_upgraded(rt: HostRuntime) -> Result<(), Fail> {
 const DEADLOCK: &[u8] =
     b".class D\n.super java/lang/Thread\n.field static a Ljava/lang/Object;\n.field static b Ljava/lang/Object;\n.method static main()V\n.limit stack 1\n.limit locals 0\nnew java/lang/Object\nputstatic D/a Ljava/lang/Object;\nnew java/lang/Object\nputstatic D/b Ljava/lang/Object;\nnew D\ninvokevirtual D/start()V\ngetstatic D/a Ljava/lang/Object;\nmonitorenter\ngetstatic D/b Ljava/lang/Object;\nmonitorenter\ngetstatic D/b Ljava/lang/Object;\nmonitorexit\ngetstatic D/a Ljava/lang/Object;\nmonitorexit\nreturn\n.end method\n.method run()V\n.limit stack 1\n.limit locals 1\ngetstatic D/b Ljava/lang/Object;\nmonitorenter\ngetstatic D/a Ljava/lang/Object;\nmonitorenter\ngetstatic D/a Ljava/lang/Object;\nmonitorexit\ngetstatic D/b Ljava/lang/Object;\nmonitorexit\nreturn\n.end method\n";
 
-/// Thread 0 to its end, and then thread 1 to its end.
-const ONE_AFTER_THE_OTHER: &[u8] =
-    b"JVMJ 1\nheap 8 0 0\nlimits 1000 0\n0 o\n0 d\n0 o\n0 d\n0 o\n0 d\n0 d\n0 d\n0 d\n0 d\n0 d\n0 d\n0 d\n0 d\n0 d\n1 d\n1 d\n1 d\n1 d\n1 d\n1 d\n1 d\n1 d\n1 d\nend 24\n";
-
-#[test]
-fn another_schedule_is_no_deadlock(rt: HostRuntime) -> Result<(), Fail> {
-    let alloc = rt.alloc();
-    let run = answered(alloc, "run --gc 0 a.j", DEADLOCK, b"")?;
-    assert_eq!(rt;
-        (run.status, run.errors.as_slice()),
-        (5, b"jvm: stuck\n".as_slice())
-    );
-    let again = answered(alloc, "replay in a.j", DEADLOCK, ONE_AFTER_THE_OTHER)?;
-    assert_eq!(rt;
-        (again.status, again.errors.as_slice()),
-        (0, b"".as_slice())
-    );
-    Ok(())
-}
-
 /// A class whose main has so many units that its initializer's frame doesn't fit above it.
 const TOO_WIDE: &[u8] =
     b".class W\n.super java/lang/Object\n.method static <clinit>()V\n.limit stack 0\n.limit locals 4096\nreturn\n.end method\n.method static main()V\n.limit stack 0\n.limit locals 1\nreturn\n.end method\n";
