@@ -4,8 +4,8 @@
 Usage: java_examples.py [--check]
 
 Each source there that has a `main()` without arguments is compiled, without debug tables, its version is set to 49.0, and
-`java` runs it. Its class files are written beside it, and what `java` prints into NAME.out; tools/run_examples.py, which
-the gate calls, runs them. With --check nothing is written, and the tool ends with status 1 where a file isn't what it would
+`java` runs it. Its class files are written beside it, and what `java` prints into NAME.out; tools/run_examples.py runs
+them. With --check nothing is written, and the tool ends with status 1 where a file isn't what it would
 write.
 """
 import glob
