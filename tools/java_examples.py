@@ -1,5 +1,5 @@
 #!/usr/bin/env python3
-"""Writes what the gate wants of the Java programs in examples/java, which `java` and `javac` make of them.
+"""Writes the class files of the Java programs in examples/java, and what they print, by `javac` and `java`.
 
 Usage: java_examples.py [--check]
 
