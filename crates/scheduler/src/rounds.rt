@@ -28,14 +28,28 @@ impl World {
         }
     }
 
-    /// The turn of the thread that is picked; `NotReady` where none is.
-    fn turn_of_picked(&mut self) -> Turn
+    /// The same, where one look at the thread's step may serve.
+    // Apart, so that what a turn of any kind needs costs those nothing that change a frame alone.
+    #[inline(never)]
+    fn turn_by_look(&mut self) -> Turn
         ensures world { self.new ≡ picked self.old 0 }
         ensures answer { result ≡ picked_answer self.old 0 }
     {
         match self.turn_of_first() {
             Some(answer) => answer,
             None => self.turn_of_ready(),
+        }
+    }
+
+    /// The turn of the thread that is picked; `NotReady` where none is.
+    #[inline(always)]
+    fn turn_of_picked(&mut self) -> Turn
+        ensures world { self.new ≡ picked self.old 0 }
+        ensures answer { result ≡ picked_answer self.old 0 }
+    {
+        match self.turn_plainly() {
+            Some(answer) => answer,
+            None => self.turn_by_look(),
         }
     }
 
