@@ -1,0 +1,2 @@
+-- A class file's listing is one that a text spells, but for what no text can say, and it assembles.
+pub mod Pools
