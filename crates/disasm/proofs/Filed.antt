@@ -1,2 +1,3 @@
 -- A class file's listing is one that a text spells, but for what no text can say, and it assembles.
+pub mod Operands
 pub mod Pools
