@@ -67,7 +67,7 @@ two_bytes n h = le-leb n 65535 (omega (arith, h))
 
 -- ---- what the numbers of the pool name
 
-int_tag : (o : Option Entry) → eqb (tag_of o) 3 ≡ true → (z : ℤ) × (o ≡ Some (Integer z))
+pub int_tag : (o : Option Entry) → eqb (tag_of o) 3 ≡ true → (z : ℤ) × (o ≡ Some (Integer z))
 int_tag (Some (Integer z)) h = (z, refl)
 int_tag o h = absurd cc
 
