@@ -16,10 +16,10 @@ pub fn texts_come_back()
     ensures { (l : ClassListing) → is_spelled l ≡ true → pcs_fit l ≡ true → (tree_of (text_of l) ≡ Some (tree_back l)) × (listing_of (tree_back l) ≡ l) }
 {}
 
-/// A class file's listing is that of a text that assembles exactly where a text can say it. None can say a superclass of an
-/// interface other than java/lang/Object, a field or a method of an array, a count of 0 behind invokeinterface, an
-/// exception row that begins, ends or is handled within an instruction or behind the code, and one that takes an array or
-/// a class named `all`; all else that is in a class file (JVMS 4) it can.
+/// A class file's listing is that of a text exactly where a text can say it, and it assembles. No text can say a superclass
+/// of an interface other than java/lang/Object, a field or a method of an array, a count of 0 behind invokeinterface, an
+/// exception row with a bound or a handler at no instruction, but for a bound at the code's end, and one that takes an
+/// array or a class named `all`; all else that is in a class file (JVMS 4) it can.
 pub fn class_files_are_spelled()
     ensures spelled { (bytes : List ℕ) (c : ClassPart) → IsClassFile bytes c → (is_spelled (file_listing c) ≡ true) ↔ (is_sayable (file_listing c) ≡ true) }
     ensures assembled { (bytes : List ℕ) (c : ClassPart) → IsClassFile bytes c → listing_assembles (file_listing c) ≡ true }

@@ -1,5 +1,5 @@
 -- The code of a class file is spelled, but for what no text can say, and it assembles.
-use Rattle.std.proofs.Common.{◌≡◌, ℕ, ℤ, ◌+◌, ◌≤◌, ◌<◌, ◌^◌, Bool, true, false, not, ◌&&◌, ◌==◌, List, [], ◌∷◌, ◌++◌, length, map, Option, Some, None, refl, sym, ap, subst, ◌∙◌, inl, inr, arith, eq-eqb}
+use Rattle.std.proofs.Common.{◌≡◌, ℕ, ◌+◌, true, ◌&&◌, ◌==◌, List, [], ◌∷◌, ◌++◌, length, map, refl, sym, ap, subst, ◌∙◌, inl, inr, arith, eq-eqb}
 use Rattle.std.specs.Prelude.{nat_le}
 use Rattle.std.specs.List.{AllByRecursion, list_all}
 use Rattle.std.proofs.lemmas.Bool.{and_parts, and_from, or_left, or_right, le-leb}
@@ -16,7 +16,6 @@ use Rattle.model.specs.ClassFiles.Codes.{CodePart, is_sound, SpellsCode}
 use Rattle.model.specs.ClassFiles.Entries.{EntryFits}
 use Rattle.model.specs.ClassFiles.Listing.{listed, placed, listed_row, listed_code}
 use Rattle.model.specs.ClassFiles.References.{AreSound}
-use Rattle.model.specs.CodeListings.{CodeListing}
 use Rattle.model.specs.Sizes.{size_at}
 use Rattle.model.specs.Texts.Assembling.{end_from, switch_agrees, size_is_right, reaches, is_countable, code_assembles}
 use Rattle.model.specs.Texts.Disassembling.{targets}

@@ -1,10 +1,10 @@
 -- All that a class file's listing names stands in the file's pool, so that the listing wants no larger one.
-use Rattle.std.proofs.Common.{◌≡◌, ℕ, ℤ, ◌+◌, ◌≤◌, ◌<◌, ◌^◌, eqb, Bool, true, false, ◌&&◌, ◌||◌, cond, ◌==◌, List, [], ◌∷◌, ◌++◌, map, flat_map, Option, Some, None, refl, sym, ap, subst, ◌∙◌, inl, inr, arith}
-use Rattle.std.specs.Prelude.{nat_le, sum_by, codes, if◌then◌else◌}
-use Rattle.std.specs.List.{AllByRecursion, list_all}
+use Rattle.std.proofs.Common.{◌≡◌, ℕ, ◌+◌, ◌≤◌, Bool, true, false, ◌||◌, ◌==◌, List, [], ◌∷◌, ◌++◌, map, flat_map, Option, Some, None, refl, sym, ap, ◌∙◌, inl, inr, arith}
+use Rattle.std.specs.Prelude.{sum_by, codes, if◌then◌else◌}
+use Rattle.std.specs.List.{AllByRecursion}
 use Rattle.std.specs.Option.{option_map, option_and_then}
 use Rattle.std.specs.Str.{bytes_eq}
-use Rattle.std.proofs.lemmas.Bool.{and_parts, and_from, or_cases, cases_Bool, le-leb}
+use Rattle.std.proofs.lemmas.Bool.{and_parts, and_from, cases_Bool}
 use Rattle.std.proofs.lemmas.List.Sums.{sum_by-cons, sum_by-append}
 use Rattle.std.proofs.lemmas.Slice.Eq.{bytes_eq-Decides}
 use Rattle.model.specs.declared.bytecode.Located.{Located}
@@ -37,7 +37,7 @@ use Rattle.model.specs.Texts.Descriptors.{arguments_of}
 use Rattle.model.specs.Texts.Flags.{has}
 use Rattle.model.specs.Texts.Names.{is_field_name, is_method_name}
 use Rattle.classfile.specs.Reading.Methods.{is_code_name}
-use Rattle.classfile.specs.Sound.{is_constant, is_type, FieldStands, CodeStands, CodesStand, MethodStands, ClassStands}
+use Rattle.classfile.specs.Sound.{is_constant, is_type, FieldStands, CodesStand, MethodStands, ClassStands}
 use Rattle.classfile.proofs.SoundLaws.{standing_field, standing_code}
 use Rattle.assembler.specs.Numbering.{item_of, items_of, are_items_of}
 use Rattle.assembler.proofs.NumberingItems.{item_new, item_known}

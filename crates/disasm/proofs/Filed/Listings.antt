@@ -1,6 +1,6 @@
 -- A class file's listing is one that a text spells, but for what no text can say, and it assembles.
-use Rattle.std.proofs.Common.{◌≡◌, ℕ, ◌≤◌, ◌<◌, ◌^◌, Bool, true, ◌&&◌, List, [], ◌∷◌, ◌++◌, map, flat_map, length, Option, Some, None, refl, sym, ap, ◌∙◌, arith}
-use Rattle.std.specs.Prelude.{nat_le, bit_and}
+use Rattle.std.proofs.Common.{◌≡◌, ℕ, ◌<◌, ◌^◌, Bool, true, ◌&&◌, List, [], ◌∷◌, ◌++◌, map, flat_map, length, Option, Some, None, refl, ap, ◌∙◌, arith}
+use Rattle.std.specs.Prelude.{nat_le}
 use Rattle.std.specs.List.{AllByRecursion, list_all}
 use Rattle.std.specs.Option.{option_map}
 use Rattle.std.proofs.lemmas.Bool.{and_parts, and_from, le-leb}
@@ -9,7 +9,7 @@ use Rattle.model.specs.declared.class_files.Entry.{Entry}
 use Rattle.model.specs.ClassFiles.Classes.{ClassPart}
 use Rattle.model.specs.ClassFiles.Codes.{CodePart}
 use Rattle.model.specs.ClassFiles.Entries.{EntryFits}
-use Rattle.model.specs.ClassFiles.Items.{Item, class_items, field_items, method_items, listing_items}
+use Rattle.model.specs.ClassFiles.Items.{class_items, field_items, method_items, listing_items}
 use Rattle.model.specs.ClassFiles.Listing.{class_at, listed_field, listed_code, listed_method, listing_in, listing_of}
 use Rattle.model.specs.ClassFiles.Methods.{MethodPart, wants_code}
 use Rattle.model.specs.ClassFiles.References.{AreSound}
@@ -20,7 +20,7 @@ use Rattle.model.specs.Texts.Spelled.{field_is_spelled, method_is_spelled, head_
 use Rattle.model.specs.Texts.Widths.{different}
 use Rattle.classfile.specs.Classes.{IsClass}
 use Rattle.classfile.specs.Sound.{CodesStand, MethodStands, ClassStands}
-use Rattle.classfile.proofs.SoundLaws.{HeadStands, standing_head, standing_methods, standing_code}
+use Rattle.classfile.proofs.SoundLaws.{standing_head, standing_methods, standing_code}
 use Rattle.disasm.specs.Sayable.{body_is_sayable, method_is_sayable, superclass_is_sayable, is_sayable}
 use Rattle.disasm.proofs.Filed.Codes.{code_made}
 use Rattle.disasm.proofs.Filed.Items.{no_larger, AreSaid, both_said, plain_said, plains_said, fields_said, methods_said}

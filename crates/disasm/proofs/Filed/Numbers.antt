@@ -1,5 +1,5 @@
 -- The numbers that `ldc` uses in a class file stand under numbers of one byte, so they are 255 different ones at most.
-use Rattle.std.proofs.Common.{◌≡◌, ℕ, ℤ, zero, suc, ◌+◌, ◌≤◌, ◌<◌, ◌^◌, eqb, Bool, true, false, not, ◌&&◌, ◌||◌, cond, List, [], ◌∷◌, ◌++◌, length, map, filter, take, flat_map, slice_get, Option, Some, None, refl, sym, ap, subst, ◌∙◌, inl, inr, arith}
+use Rattle.std.proofs.Common.{◌≡◌, ℕ, ℤ, zero, suc, ◌+◌, ◌≤◌, ◌<◌, ◌^◌, Bool, true, false, not, ◌&&◌, ◌||◌, List, [], ◌∷◌, ◌++◌, length, map, filter, take, flat_map, slice_get, Option, Some, None, refl, sym, ap, ◌∙◌, inl, inr, arith}
 use Rattle.std.specs.Prelude.{nat_le}
 use Rattle.std.specs.List.{AllByRecursion, list_all}
 use Rattle.std.specs.Option.{option_map}
@@ -14,10 +14,9 @@ use Rattle.model.specs.declared.instructions.Constant.{Constant}
 use Rattle.model.specs.declared.instructions.Constant.TheVariants as constant
 use Rattle.model.specs.declared.instructions.Instruction.TheVariants as instruction
 use Rattle.model.specs.declared.instructions.Width.TheVariants.{Narrow, Wide}
-use Rattle.model.specs.Bytecode.{StandFrom}
 use Rattle.model.specs.Bytecode.Opcodes.{Instr}
 use Rattle.model.specs.Bytecode.Ranges.{ConstantFits, Fits}
-use Rattle.model.specs.ClassFiles.Codes.{CodePart, tag_of, has_tag, is_sound_constant, is_sound}
+use Rattle.model.specs.ClassFiles.Codes.{CodePart, is_sound_constant, is_sound}
 use Rattle.model.specs.ClassFiles.Listing.{int_of, listed_constant, listed, placed, listed_code, listed_method}
 use Rattle.model.specs.ClassFiles.Methods.{MethodPart, wants_code}
 use Rattle.model.specs.ClassFiles.Pools.{slots_of, held, entry_at}
@@ -69,9 +68,9 @@ few_pass p (z ∷ zs) ks each =
       | inl t ↦
           let there : is_among ks z ≡ true = each z (or_left (int_eq z z) (is_among zs z) ((Decides-int_eq z z).1 refl)) t in
           let rest = few_pass both zs (filter other ks) (λ y h good.
-              let parts = and_parts (other y) (p y) good in
-              let apart : int_eq z y ≡ false = unequal (int_eq z y) parts.0 in
-              among_kept z y ks apart ∙ each y (or_right (int_eq z y) (is_among zs y) h) parts.1) in
+          let parts = and_parts (other y) (p y) good in
+          let apart : int_eq z y ≡ false = unequal (int_eq z y) parts.0 in
+          among_kept z y ks apart ∙ each y (or_right (int_eq z y) (is_among zs y) h) parts.1) in
           rw t (omega (arith, rest, twice, one_gone z ks there))
       | inr f ↦
           let rest = few_pass both zs ks (λ y h good. each y (or_right (int_eq z y) (is_among zs y) h) (and_parts (other y) (p y) good).1) in

@@ -1,8 +1,8 @@
 -- The operands of a class file's instructions have the ranges and forms that a text has for them, but for what none can say.
-use Rattle.std.proofs.Common.{◌≡◌, ℕ, ℤ, pos, negsuc, ◌<◌, ◌^◌, eqb, Bool, true, false, ◌&&◌, List, [], ◌∷◌, length, Option, Some, None, refl, sym, ap, subst, ◌∙◌, arith}
+use Rattle.std.proofs.Common.{◌≡◌, ℕ, ℤ, pos, negsuc, ◌<◌, ◌^◌, eqb, Bool, true, false, List, [], ◌∷◌, length, Option, Some, None, refl, sym, ap, subst, ◌∙◌, arith}
 use Rattle.std.specs.Prelude.{T, nat_le, int_le, FitsSigned}
 use Rattle.std.specs.Int.{w8, w16, w32, w64}
-use Rattle.std.specs.Int.Signed.{lt_z, ◌<ℤ◌}
+use Rattle.std.specs.Int.Signed.{lt_z}
 use Rattle.std.specs.List.{AllByRecursion, list_all}
 use Rattle.std.proofs.lemmas.Bool.{and_parts, and_from, le-leb}
 use Rattle.model.specs.declared.class_files.Entry.{Entry}
@@ -33,7 +33,7 @@ use Rattle.model.specs.ClassFiles.Items.{Item, is_item_of}
 use Rattle.model.specs.ClassFiles.Items.Item.{int_item, long_item, field_item, method_item, interface_item}
 use Rattle.model.specs.ClassFiles.Listing.{class_at, reference_of, referred, member_at, int_of, long_of, listed_constant, listed_array, listed}
 use Rattle.model.specs.ClassFiles.Pools.{entry_at}
-use Rattle.model.specs.ClassFiles.References.{names_class, is_field, is_method, entry_fault, AreSound}
+use Rattle.model.specs.ClassFiles.References.{is_field, is_method, entry_fault, AreSound}
 use Rattle.model.specs.Texts.Assembling.{rise_from, keys_rise, switch_agrees, branch_reaches, reaches}
 use Rattle.model.specs.Texts.Names.{is_class_name}
 use Rattle.model.specs.Texts.Spelled.{is_byte, is_short, is_int, is_long, is_u2, constant_is_spelled, access_is_spelled, array_is_spelled, class_is_spelled, count_is_spelled, method_is_named, operands_are_spelled}

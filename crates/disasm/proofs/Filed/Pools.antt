@@ -1,20 +1,18 @@
 -- What holds of the entries that numbers name in a class file's pool.
-use Rattle.std.proofs.Common.{◌≡◌, ℕ, zero, suc, eqb, Bool, true, false, ◌&&◌, ◌||◌, cond, List, [], ◌∷◌, map, slice_get, Option, Some, None, refl, sym, ap, subst, ◌∙◌, inl, inr}
+use Rattle.std.proofs.Common.{◌≡◌, ℕ, zero, suc, eqb, Bool, true, false, cond, List, [], ◌∷◌, map, slice_get, Option, Some, None, refl, sym, ap, subst, ◌∙◌}
 use Rattle.std.specs.List.{AllByRecursion}
 use Rattle.std.specs.Option.{option_and_then, unwrap_or}
-use Rattle.std.proofs.lemmas.Bool.{cases_Bool, or_left, or_right}
+use Rattle.std.proofs.lemmas.Bool.{or_right}
 use Rattle.model.specs.declared.class_files.Entry.{Entry}
 use Rattle.model.specs.declared.class_files.Entry.TheVariants.{Utf8, Integer, Long, Class, Fieldref, Methodref, InterfaceMethodref, NameAndType}
-use Rattle.model.specs.declared.class_files.FormatFault.{FormatFault}
-use Rattle.model.specs.declared.class_files.FormatFault.TheVariants.{Index, Name}
+use Rattle.model.specs.declared.class_files.FormatFault.TheVariants.{Name}
 use Rattle.model.specs.declared.names.Member.{Member}
 use Rattle.model.specs.ClassFiles.Attributes.{passes}
 use Rattle.model.specs.ClassFiles.Codes.{tag_of, has_tag}
-use Rattle.model.specs.ClassFiles.Entries.{EntryFits}
 use Rattle.model.specs.ClassFiles.Heads.{is_class}
 use Rattle.model.specs.ClassFiles.Items.{Item, is_same_item, is_item_of}
 use Rattle.model.specs.ClassFiles.Items.Item.{text_item, class_item, name_item}
-use Rattle.model.specs.ClassFiles.Listing.{name_at, class_at, reference_of, referred, member_at}
+use Rattle.model.specs.ClassFiles.Listing.{name_at, class_at, referred}
 use Rattle.model.specs.ClassFiles.Pools.{under, slots_of, held, entry_at}
 use Rattle.model.specs.ClassFiles.References.{text_of, text_at, class_of, name_and_type_of, names_class, class_fault, pair_fault, texts_fault, member_fault, entry_fault, AreSound}
 use Rattle.model.specs.Texts.Names.{is_class_name}
