@@ -1,5 +1,7 @@
 //! What the program does at a command.
+ghost use Rattle.std.specs.Prelude.{◌≡◌, [], IfOk};
 
+use crate::carriers::Carriers;
 use crate::explaining::{all_codes, meaning};
 use crate::files::{Files, ReadError};
 use crate::launching::{LaunchError, launch};
@@ -8,6 +10,7 @@ use crate::sources::{SourceError, assembled};
 use crate::stored_runs::{replay, upgrade, write_stored};
 use assembler::AsmError;
 use classfile::ClassError;
+use hall::HallError;
 use jasmin::Fault as TextFault;
 use loader::LoadError;
 use model::journals::{HeapShape, Limits};
@@ -131,9 +134,30 @@ pub fn refused(alloc: Global, names: &[String], error: &LaunchError) -> Ending {
 
 /// Makes turns of the thread that is picked, each followed by so many of the collector, until the world runs no more or a
 /// thread's turn isn't done: as many rounds as the limit of steps allows, and one more.
-fn carry_on(world: &mut World, gc: u32) {
+fn carry_alone(world: &mut World, gc: u32) {
     let steps = world.journal().limits().steps;
     let _ = world.rounds(steps.saturating_add(1), gc);
+}
+
+/// Makes the turns of a world that has made none, alone or with others.
+fn carry_on<C: Carriers>(
+    alloc: Global,
+    options: &RunOptions,
+    carriers: &C,
+    mut world: World,
+) -> Result<World, Ending>
+    requires empty { world.journal.rows ≡ [] }
+{
+    if options.carriers == 1 {
+        carry_alone(&mut world, options.gc);
+        return Ok(world);
+    }
+    match carriers.carry(alloc, world, options.carriers) {
+        Ok(world) => Ok(world),
+        Err(HallError::Memory) => Err(Ending::memory()),
+        Err(HallError::Thread) => Err(Ending::told(6, format!(in alloc; "no thread"))),
+        Err(HallError::Roles | HallError::World) => Err(Ending::told(6, format!(in alloc; "hall"))),
+    }
 }
 
 /// A line for each thread that was ended by an exception, by number, each but the first behind `jvm: `; empty where there is
@@ -182,7 +206,9 @@ pub fn ended(alloc: Global, world: &World) -> Ending {
 }
 
 /// Launches the program of the options' files.
-fn launched<F: Files>(alloc: Global, options: &RunOptions, files: &mut F) -> Result<World, Ending> {
+fn launched<F: Files>(alloc: Global, options: &RunOptions, files: &mut F) -> Result<World, Ending>
+    ensures { IfOk result (λ world. world.journal.rows ≡ []) }
+{
     let names = options.files.as_slice();
     let sources = match read_all(alloc, files, names) {
         Ok(sources) => sources,
@@ -213,14 +239,15 @@ pub fn write_output<W: Write>(alloc: Global, world: &World, output: &mut W) -> R
 }
 
 /// Runs a program, and writes its output and then its journal, where one is wanted.
-fn run<F: Files, W: Write>(
+fn run<C: Carriers, F: Files, W: Write>(
     alloc: Global,
     options: &RunOptions,
+    carriers: &C,
     files: &mut F,
     output: &mut W,
 ) -> Result<Ending, Ending> {
-    let mut world = launched(alloc, options, files)?;
-    carry_on(&mut world, options.gc);
+    let world = launched(alloc, options, files)?;
+    let world = carry_on(alloc, options, carriers, world)?;
     write_output(alloc, &world, output)?;
     if let Some(name) = &options.journal {
         write_stored(alloc, files, name, world.journal())?;
@@ -313,18 +340,19 @@ fn tell<E: Write>(errors: &mut E, ending: &Ending) {
     let _ = errors.write_all(b"\n");
 }
 
-/// Does what a command says with files, standard input, output and error, and answers the exit status: 0 where all threads
+/// Does what a command says with carriers, files, standard input, output and error, and answers the exit status: 0 where all threads
 /// ended or a file was written, 2 refused input, 3 a fault, 4 a limit, 5 stuck, 6 memory or a file that can't be read or written.
-pub fn execute<F: Files, R: Read, W: Write, E: Write>(
+pub fn execute<C: Carriers, F: Files, R: Read, W: Write, E: Write>(
     alloc: Global,
     command: &Command,
+    carriers: &C,
     files: &mut F,
     _input: &mut R,
     output: &mut W,
     errors: &mut E,
 ) -> u8 {
     let ending = match command {
-        Command::Run(options) => either(run(alloc, options, files, output)),
+        Command::Run(options) => either(run(alloc, options, carriers, files, output)),
         Command::Assemble(options) => either(assemble(alloc, options, files)),
         Command::Disassemble(name) => either(disassemble(alloc, name, files, output)),
         Command::Replay(options) => either(replay(alloc, options, files, output)),

@@ -1,6 +1,7 @@
 //! `jvm`: assembles Jasmin texts, writes class files as texts, and runs both on a small Java virtual machine.
 #![tactic(auto)]
 
+mod carriers;
 mod executing;
 mod explaining;
 #[cfg(test)]
@@ -21,6 +22,7 @@ mod stored_runs;
 #[cfg(test)]
 mod tests;
 
+use crate::carriers::{Carriers, SystemThreads};
 use crate::executing::execute;
 use crate::files::SystemFiles;
 use crate::options::{LineError, options};
@@ -51,8 +53,8 @@ fn refused(rt: &HostRuntime, error: &LineError) -> io::Result<u8> {
     }
 }
 
-/// Does what the words say, and answers the exit status.
-fn perform(rt: &HostRuntime) -> io::Result<u8> {
+/// Does what the words say with these carriers, and answers the exit status.
+fn perform<C: Carriers>(rt: &HostRuntime, carriers: &C) -> io::Result<u8> {
     let alloc = rt.alloc();
     let owned: Vec<String> = env::args(rt)?.collect(alloc)?;
     let mut words = Vec::new(alloc);
@@ -68,6 +70,7 @@ fn perform(rt: &HostRuntime) -> io::Result<u8> {
             Ok(execute(
                 alloc,
                 &command,
+                carriers,
                 &mut files,
                 &mut input,
                 &mut output,
@@ -90,7 +93,8 @@ fn failed(rt: &HostRuntime, error: &io::Error) -> u8 {
 }
 
 fn main(rt: HostRuntime) -> ExitCode {
-    let status = match perform(&rt) {
+    let carriers = SystemThreads { runtime: &rt };
+    let status = match perform(&rt, &carriers) {
         Ok(status) => status,
         Err(error) => failed(&rt, &error),
     };

@@ -1,7 +1,9 @@
 //! Runs that are stored, replayed and upgraded, over files in memory. Journals are worked out by hand from the instructions.
 
+use crate::carriers::{Carriers, NoThreads, SystemThreads};
 use crate::executing::execute;
 use crate::files::{Files, ReadError, WriteError};
+use crate::heap_tests::MANY;
 use crate::options::{LineError, options};
 use std::alloc::Global;
 use std::process::Abort;
@@ -48,8 +50,14 @@ struct Answer {
     written: Vec<u8>,
 }
 
-/// What `jvm` answers to these words behind its name, parted by spaces.
-fn answered(alloc: Global, words: &str, text: &[u8], journal: &[u8]) -> Result<Answer, Fail> {
+/// What `jvm` answers to these words behind its name, parted by spaces, with these carriers.
+fn answered_by<C: Carriers>(
+    carriers: &C,
+    alloc: Global,
+    words: &str,
+    text: &[u8],
+    journal: &[u8],
+) -> Result<Answer, Fail> {
     let mut files = Stored {
         text,
         journal,
@@ -67,6 +75,7 @@ fn answered(alloc: Global, words: &str, text: &[u8], journal: &[u8]) -> Result<A
     let status = execute(
         alloc,
         &command,
+        carriers,
         &mut files,
         &mut input,
         &mut output,
@@ -78,6 +87,11 @@ fn answered(alloc: Global, words: &str, text: &[u8], journal: &[u8]) -> Result<A
         errors,
         written: files.written,
     })
+}
+
+/// The same where no thread can be started.
+fn answered(alloc: Global, words: &str, text: &[u8], journal: &[u8]) -> Result<Answer, Fail> {
+    answered_by(&NoThreads, alloc, words, text, journal)
 }
 
 const EMPTY_MAIN: &[u8] =
@@ -255,6 +269,54 @@ fn journals_that_cannot_be_read_or_written(rt: HostRuntime) -> Result<(), Fail> 
     for (words, line) in UNREADABLE {
         fails(&rt, rt.alloc(), words, line)?;
     }
+    Ok(())
+}
+
+/// Runs by several carriers; what they print and how they end may depend on who came first.
+const CARRIED: [(&str, &[u8]); 3] = [
+    ("run --carriers 4 --small 2 --journal out a.j", EMPTY_MAIN),
+    ("run --carriers 4 --journal out a.j", DEADLOCK),
+    (
+        "run --carriers 2 --small 64 --steps 20000 --journal out a.j",
+        MANY,
+    ),
+];
+
+/// Whether the journal of a run by carriers replays to the same output, status and lines.
+fn replays_as_carried<C: Carriers>(
+    carriers: &C,
+    alloc: Global,
+    words: &str,
+    text: &[u8],
+) -> Result<bool, Fail> {
+    let run = answered_by(carriers, alloc, words, text, b"")?;
+    let again = answered(alloc, "replay in a.j", text, run.written.as_slice())?;
+    Ok(
+        !run.written.is_empty()
+            && again.status == run.status
+            && again.output.as_slice() == run.output.as_slice()
+            && again.errors.as_slice() == run.errors.as_slice(),
+    )
+}
+
+#[test]
+fn journals_of_carriers_replay(rt: HostRuntime) -> Result<(), Fail> {
+    let carriers = SystemThreads { runtime: &rt };
+    for (words, text) in CARRIED {
+        assert!(rt; replays_as_carried(&carriers, rt.alloc(), words, text)?);
+    }
+    Ok(())
+}
+
+#[test]
+fn carriers_want_threads(rt: HostRuntime) -> Result<(), Fail> {
+    let run = "run --carriers 2 --journal out a.j";
+    let told = answered(rt.alloc(), run, EMPTY_MAIN, b"")?;
+    assert_eq!(rt;
+        (told.status, told.errors.as_slice()),
+        (6, b"jvm: no thread\n".as_slice())
+    );
+    assert!(rt; told.written.is_empty());
     Ok(())
 }
 

@@ -1,4 +1,5 @@
 //! The program's answers over files in memory.
+use crate::carriers::NoThreads;
 use crate::executing::execute;
 use crate::files::{Files, ReadError, WriteError};
 use crate::options::{LineError, options};
@@ -70,6 +71,7 @@ fn compare(
     let status = execute(
         alloc,
         &command,
+        &NoThreads,
         &mut files,
         &mut input,
         &mut written,
@@ -472,6 +474,7 @@ fn assembled(alloc: Global, text: &[u8]) -> Result<Vec<u8>, Fail> {
     let status = execute(
         alloc,
         &command,
+        &NoThreads,
         &mut files,
         &mut input,
         &mut written,
@@ -726,7 +729,15 @@ fn command_lines_are_taken_or_refused(rt: HostRuntime) -> Result<(), Fail> {
         7
     );
     assert_eq!(rt;
-        line_status(alloc, ["run", "--carriers", "2", "a.j"].as_slice())?,
+        line_status(alloc, ["run", "--carriers", "8", "a.j"].as_slice())?,
+        1
+    );
+    assert_eq!(rt;
+        line_status(alloc, ["run", "--carriers", "0", "a.j"].as_slice())?,
+        7
+    );
+    assert_eq!(rt;
+        line_status(alloc, ["run", "--carriers", "9", "a.j"].as_slice())?,
         7
     );
     assert_eq!(rt;

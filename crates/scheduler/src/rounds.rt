@@ -6,7 +6,7 @@ use crate::worlds::World;
 use model::turns::{Actor, Status, Turn};
 
 /// Whether a turn that answers this was done.
-fn is_done(answer: Turn) -> bool
+pub fn is_done(answer: Turn) -> bool
     ensures { result ≡ is_done answer }
 {
     match answer {
