@@ -1,7 +1,10 @@
-//! A run whose turns several threads carry, with a collector beside them.
-ghost use Rattle.std.specs.Prelude.{◌≡◌, ◌+◌, [], All, IfOk, length, vec_len};
+//! Who makes the turns of a run: one carrier, or several and a collector beside them.
+ghost use Rattle.std.specs.Prelude.{◌≡◌, ◌+◌, [], All, IfOk, length, suc, vec_len};
 ghost use Rattle.board.specs.Seats.{IsSeatOf};
 ghost use Rattle.hall.specs.Heads.{head_of};
+ghost use Rattle.jvm.specs.Carrying.{IsCarried, IsShared};
+ghost use Rattle.scheduler.specs.Replaying.{IsMade};
+ghost use Rattle.scheduler.specs.Rounds.{after_rounds};
 ghost use Rattle.scheduler.specs.Workers.{with_workers};
 
 use board::{Board, BoardSeat};
@@ -58,7 +61,8 @@ fn shared<L: Ledger + Send + Sync, R: Threads + Wait + Sync>(
     requires name { blank.name ≡ L.name }
     requires parts { (blank.parts ≡ L.parts) × (blank.parts ≡ length roles.now) }
     requires empty { world.journal.rows ≡ [] }
-    ensures { IfOk result (λ after. head_of after ≡ head_of (with_workers world (length roles.now))) }
+    ensures head { IfOk result (λ after. head_of after ≡ head_of (with_workers world (length roles.now))) }
+    ensures made { IfOk result IsMade }
 {
     let (hall, shares) = Hall::<L>::in_bursts(alloc, blank, world, roles, EXTRA)?;
     let (board, seats) = board_of(alloc, roles.len())?;
@@ -66,43 +70,47 @@ fn shared<L: Ledger + Send + Sync, R: Threads + Wait + Sync>(
     hall.close(shares)
 }
 
-/// Who makes the turns of a run that several carriers share.
-pub trait Carriers {
-    /// Makes the turns of a world that has made none, each by one of so many carriers or by the collector, until the world
-    /// runs no more or its steps or its output are at their limit. The journal tells the worker of each turn: the carriers by
-    /// number from 0, the collector behind them. H2 where memory runs out, H3 where a thread couldn't be started.
-    fn carry(&self, alloc: Global, world: World, carriers: u8) -> Result<World, HallError>
-        requires empty { world.journal.rows ≡ [] }
-        ensures { IfOk result (λ after. head_of after ≡ head_of (with_workers world (carriers + 1))) };
+/// The world after the turns of so many carriers and a collector, each in a thread.
+fn carried_together<R: Threads + Wait + Sync>(
+    rt: &R,
+    alloc: Global,
+    world: World,
+    carriers: u8,
+) -> Result<World, HallError>
+    requires empty { world.journal.rows ≡ [] }
+    ensures { IfOk result (IsShared world carriers) }
+{
+    let roles = roles_of(alloc, carriers)?;
+    let blank = Blank::new(roles.len() as u64);
+    shared::<Brand, R>(rt, alloc, blank, world, roles.as_slice())
 }
 
-/// Carriers that are threads of the system.
-#[derive(Drop)]
-pub struct SystemThreads<'a, R: Threads + Wait + Sync> {
-    pub runtime: &'a R,
+/// The world after rounds of the thread that is picked and the collector, as many as the limit of steps allows and one more.
+fn carried_alone(mut world: World, gc: u32) -> World
+    ensures { result ≡ after_rounds world 0 gc (suc world.journal.limits.steps) }
+{
+    let steps = world.journal().limits().steps;
+    let _ = world.rounds(steps + 1, gc);
+    world
 }
 
-impl<R: Threads + Wait + Sync> Carriers for SystemThreads<'_, R> {
-    fn carry(&self, alloc: Global, world: World, carriers: u8) -> Result<World, HallError>
-        requires empty { world.journal.rows ≡ [] }
-        ensures { IfOk result (λ after. head_of after ≡ head_of (with_workers world (carriers + 1))) }
-    {
-        let roles = roles_of(alloc, carriers)?;
-        let blank = Blank::new(roles.len() as u64);
-        shared::<Brand, R>(self.runtime, alloc, blank, world, roles.as_slice())
-    }
-}
-
-/// No thread can be started.
-#[cfg(test)]
-pub(crate) struct NoThreads;
-
-#[cfg(test)]
-impl Carriers for NoThreads {
-    fn carry(&self, _alloc: Global, _world: World, _carriers: u8) -> Result<World, HallError>
-        requires empty { _world.journal.rows ≡ [] }
-        ensures { IfOk result (λ after. head_of after ≡ head_of (with_workers _world (_carriers + 1))) }
-    {
-        Err(HallError::Thread)
+/// Makes the turns of a world that has made none, until it runs no more or its steps or its output are at their limit. One
+/// carrier makes rounds of the thread that is picked and so many turns of the collector; several share the turns of the threads,
+/// and one worker more makes the collector's, each in a thread of the system. The journal tells the worker of each turn: the
+/// carriers by number from 0, the collector behind them. H2 where memory runs out, H3 where a thread couldn't be started.
+pub fn carried<R: Threads + Wait + Sync>(
+    rt: &R,
+    alloc: Global,
+    world: World,
+    carriers: u8,
+    gc: u32,
+) -> Result<World, HallError>
+    requires empty { world.journal.rows ≡ [] }
+    ensures { IfOk result (IsCarried world carriers gc) }
+{
+    if 1 < carriers {
+        carried_together(rt, alloc, world, carriers)
+    } else {
+        Ok(carried_alone(world, gc))
     }
 }

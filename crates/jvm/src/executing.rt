@@ -1,7 +1,7 @@
 //! What the program does at a command.
 ghost use Rattle.std.specs.Prelude.{◌≡◌, [], IfOk};
 
-use crate::carriers::Carriers;
+use crate::carriers::carried;
 use crate::explaining::{all_codes, meaning};
 use crate::files::{Files, ReadError};
 use crate::launching::{LaunchError, launch};
@@ -19,6 +19,8 @@ use model::views::ThreadState;
 use scheduler::worlds::{World, WorldError};
 use std::alloc::{AllocError, Global};
 use std::io::{Read, Write};
+use std::sync::Wait;
+use std::thread::Threads;
 
 /// A status, and the line that goes to standard error behind `jvm: `.
 #[derive(Drop)]
@@ -132,34 +134,6 @@ pub fn refused(alloc: Global, names: &[String], error: &LaunchError) -> Ending {
     }
 }
 
-/// Makes turns of the thread that is picked, each followed by so many of the collector, until the world runs no more or a
-/// thread's turn isn't done: as many rounds as the limit of steps allows, and one more.
-fn carry_alone(world: &mut World, gc: u32) {
-    let steps = world.journal().limits().steps;
-    let _ = world.rounds(steps.saturating_add(1), gc);
-}
-
-/// Makes the turns of a world that has made none, alone or with others.
-fn carry_on<C: Carriers>(
-    alloc: Global,
-    options: &RunOptions,
-    carriers: &C,
-    mut world: World,
-) -> Result<World, Ending>
-    requires empty { world.journal.rows ≡ [] }
-{
-    if options.carriers == 1 {
-        carry_alone(&mut world, options.gc);
-        return Ok(world);
-    }
-    match carriers.carry(alloc, world, options.carriers) {
-        Ok(world) => Ok(world),
-        Err(HallError::Memory) => Err(Ending::memory()),
-        Err(HallError::Thread) => Err(Ending::told(6, format!(in alloc; "no thread"))),
-        Err(HallError::Roles | HallError::World) => Err(Ending::told(6, format!(in alloc; "hall"))),
-    }
-}
-
 /// A line for each thread that was ended by an exception, by number, each but the first behind `jvm: `; empty where there is
 /// none. `AllocError` where memory runs out.
 fn exceptions_told(alloc: Global, world: &World) -> Result<String, AllocError> {
@@ -238,21 +212,45 @@ pub fn write_output<W: Write>(alloc: Global, world: &World, output: &mut W) -> R
     Ok(())
 }
 
-/// Runs a program, and writes its output and then its journal, where one is wanted.
-fn run<C: Carriers, F: Files, W: Write>(
+/// The end of a run that has no world.
+fn not_carried(alloc: Global, error: HallError) -> Ending {
+    match error {
+        HallError::Memory => Ending::memory(),
+        HallError::Thread => Ending::told(6, format!(in alloc; "no thread")),
+        HallError::Roles | HallError::World => Ending::told(6, format!(in alloc; "hall")),
+    }
+}
+
+/// Writes the output of a run and then its journal, where one is wanted.
+pub fn written<F: Files, W: Write>(
     alloc: Global,
     options: &RunOptions,
-    carriers: &C,
+    carried: Result<World, HallError>,
     files: &mut F,
     output: &mut W,
 ) -> Result<Ending, Ending> {
-    let world = launched(alloc, options, files)?;
-    let world = carry_on(alloc, options, carriers, world)?;
+    let world = match carried {
+        Ok(world) => world,
+        Err(error) => return Err(not_carried(alloc, error)),
+    };
     write_output(alloc, &world, output)?;
     if let Some(name) = &options.journal {
         write_stored(alloc, files, name, world.journal())?;
     }
     Ok(ended(alloc, &world))
+}
+
+/// Runs a program.
+fn run<R: Threads + Wait + Sync, F: Files, W: Write>(
+    rt: &R,
+    alloc: Global,
+    options: &RunOptions,
+    files: &mut F,
+    output: &mut W,
+) -> Result<Ending, Ending> {
+    let world = launched(alloc, options, files)?;
+    let carried = carried(rt, alloc, world, options.carriers, options.gc);
+    written(alloc, options, carried, files, output)
 }
 
 /// The class file of a text, as bytes.
@@ -340,19 +338,20 @@ fn tell<E: Write>(errors: &mut E, ending: &Ending) {
     let _ = errors.write_all(b"\n");
 }
 
-/// Does what a command says with carriers, files, standard input, output and error, and answers the exit status: 0 where all threads
-/// ended or a file was written, 2 refused input, 3 a fault, 4 a limit, 5 stuck, 6 memory or a file that can't be read or written.
-pub fn execute<C: Carriers, F: Files, R: Read, W: Write, E: Write>(
+/// Does what a command says with files, standard input, output and error, and answers the exit status: 0 where all threads
+/// ended or a file was written, 2 refused input, 3 a fault, 4 a limit, 5 stuck, 6 memory, a thread that can't be started or a
+/// file that can't be read or written. The carriers of a run are threads of the runtime.
+pub fn execute<R: Threads + Wait + Sync, F: Files, I: Read, W: Write, E: Write>(
+    rt: &R,
     alloc: Global,
     command: &Command,
-    carriers: &C,
     files: &mut F,
-    _input: &mut R,
+    _input: &mut I,
     output: &mut W,
     errors: &mut E,
 ) -> u8 {
     let ending = match command {
-        Command::Run(options) => either(run(alloc, options, carriers, files, output)),
+        Command::Run(options) => either(run(rt, alloc, options, files, output)),
         Command::Assemble(options) => either(assemble(alloc, options, files)),
         Command::Disassemble(name) => either(disassemble(alloc, name, files, output)),
         Command::Replay(options) => either(replay(alloc, options, files, output)),

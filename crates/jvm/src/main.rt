@@ -22,12 +22,13 @@ mod stored_runs;
 #[cfg(test)]
 mod tests;
 
-use crate::carriers::{Carriers, SystemThreads};
 use crate::executing::execute;
 use crate::files::SystemFiles;
 use crate::options::{LineError, options};
 use std::io::{ErrorKind, Write};
 use std::process::ExitCode;
+use std::sync::Wait;
+use std::thread::Threads;
 use std::{env, io};
 
 /// The status of a command line that stands for no command; what there is to say is said.
@@ -53,8 +54,8 @@ fn refused(rt: &HostRuntime, error: &LineError) -> io::Result<u8> {
     }
 }
 
-/// Does what the words say with these carriers, and answers the exit status.
-fn perform<C: Carriers>(rt: &HostRuntime, carriers: &C) -> io::Result<u8> {
+/// Does what the words say with these threads, and answers the exit status.
+fn perform<R: Threads + Wait + Sync>(rt: &HostRuntime, threads: &R) -> io::Result<u8> {
     let alloc = rt.alloc();
     let owned: Vec<String> = env::args(rt)?.collect(alloc)?;
     let mut words = Vec::new(alloc);
@@ -68,9 +69,9 @@ fn perform<C: Carriers>(rt: &HostRuntime, carriers: &C) -> io::Result<u8> {
             let mut output = rt.stdout();
             let mut errors = rt.stderr();
             Ok(execute(
+                threads,
                 alloc,
                 &command,
-                carriers,
                 &mut files,
                 &mut input,
                 &mut output,
@@ -93,8 +94,7 @@ fn failed(rt: &HostRuntime, error: &io::Error) -> u8 {
 }
 
 fn main(rt: HostRuntime) -> ExitCode {
-    let carriers = SystemThreads { runtime: &rt };
-    let status = match perform(&rt, &carriers) {
+    let status = match perform(&rt, &rt) {
         Ok(status) => status,
         Err(error) => failed(&rt, &error),
     };
