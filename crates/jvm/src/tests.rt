@@ -1,6 +1,7 @@
 //! The program's answers over files in memory.
 use crate::executing::execute;
 use crate::files::{Files, ReadError, WriteError};
+use crate::laws::sources_are_well_named;
 use crate::options::{LineError, options};
 use std::alloc::{AllocError, Global};
 use std::process::Abort;
@@ -737,5 +738,12 @@ fn command_lines_are_taken_or_refused(rt: HostRuntime) -> Result<(), Fail> {
     for (words, status) in LINES {
         assert_eq!(rt; line_status(rt.alloc(), words)?, status, "{words}");
     }
+    Ok(())
+}
+
+/// A law does nothing where it is called.
+#[test]
+fn a_law_is_called(_rt: HostRuntime) -> Result<(), Fail> {
+    sources_are_well_named();
     Ok(())
 }
