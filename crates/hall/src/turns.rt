@@ -65,10 +65,11 @@ impl<L: Ledger> Shared<L> {
         ensures answer { result ≡ answered_by self.old share.old.worker (pick_of self.old) }
         ensures share { CountsRows self.old self.new share.old share.new }
     {
-        match self.world.pick() {
-            None => Turn::NotReady,
-            Some(thread) => self.make(share, Actor::Thread(thread)),
-        }
+        let Shared { world, book } = self;
+        let answer = world.turn_of_picked(share.worker());
+        let rows = world.journal().rows().len();
+        share.note(book, answer, rows);
+        answer
     }
 
     // A collector's turn, unless the last row is the collector's.
