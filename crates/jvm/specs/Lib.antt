@@ -1,3 +1,4 @@
+pub mod Carrying
 pub mod Commands
 pub mod Launching
 pub mod Replaying

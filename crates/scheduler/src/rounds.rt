@@ -6,7 +6,7 @@ use crate::worlds::World;
 use model::turns::{Actor, Status, Turn};
 
 /// Whether a turn that answers this was done.
-fn is_done(answer: Turn) -> bool
+pub fn is_done(answer: Turn) -> bool
     ensures { result ≡ is_done answer }
 {
     match answer {
@@ -18,24 +18,26 @@ fn is_done(answer: Turn) -> bool
 
 impl World {
     /// The turn of the thread that is picked, as it comes about for any of them; `NotReady` where none is.
-    fn turn_of_ready(&mut self) -> Turn
-        ensures world { self.new ≡ picked self.old 0 }
-        ensures answer { result ≡ picked_answer self.old 0 }
+    fn turn_of_ready(&mut self, worker: u8) -> Turn
+        requires { worker < self.old.journal.workers }
+        ensures world { self.new ≡ picked self.old worker }
+        ensures answer { result ≡ picked_answer self.old worker }
     {
         match self.pick() {
-            Some(thread) => self.turn(Actor::Thread(thread)),
+            Some(thread) => self.turn_by(Actor::Thread(thread), worker),
             None => Turn::NotReady,
         }
     }
 
-    /// The turn of the thread that is picked; `NotReady` where none is.
-    fn turn_of_picked(&mut self) -> Turn
-        ensures world { self.new ≡ picked self.old 0 }
-        ensures answer { result ≡ picked_answer self.old 0 }
+    /// The turn of the thread that is picked, made by a worker; `NotReady` where none is.
+    pub fn turn_of_picked(&mut self, worker: u8) -> Turn
+        requires { worker < self.old.journal.workers }
+        ensures world { self.new ≡ picked self.old worker }
+        ensures answer { result ≡ picked_answer self.old worker }
     {
-        match self.turn_of_first() {
+        match self.turn_of_first(worker) {
             Some(answer) => answer,
-            None => self.turn_of_ready(),
+            None => self.turn_of_ready(worker),
         }
     }
 
@@ -66,7 +68,8 @@ impl World {
         ensures world { self.new ≡ after_round self.old 0 gc }
         ensures answer { result ≡ picked_answer self.old 0 }
     {
-        let answer = self.turn_of_picked();
+        let first = self.first_worker();
+        let answer = self.turn_of_picked(first);
         if is_done(answer) {
             self.sweep(gc);
         }

@@ -1,5 +1,5 @@
 use Rattle.board.specs.Seats.{IsSeatOf, IsSameSeat}
-use Rattle.hall.proofs.patience.Patience.give_way.Given as goal
+use Rattle.hall.proofs.patience.wait_for_more.Given as goal
 
 abbrev pub invariant-loop-look : goal.invariant-loop-look
 invariant-loop-look l = record {
