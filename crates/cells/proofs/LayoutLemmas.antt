@@ -1,7 +1,7 @@
-use Rattle.std.proofs.Common.{◌≡◌, ℕ, zero, suc, ◌+◌, ◌≤◌, List, [], ◌∷◌, ◌++◌, length, map, take, drop, set, slice_get, Option, Some, None, refl, sym, ◌∙◌, ap, subst, arith, length-drop}
+use Rattle.std.proofs.Common.{◌≡◌, ℕ, zero, suc, ◌+◌, ◌≤◌, ◌<◌, List, [], ◌∷◌, ◌++◌, length, map, take, drop, set, slice_get, Option, Some, None, refl, sym, ◌∙◌, ap, subst, arith, length-drop}
 use Rattle.std.specs.Prelude.{Bool, true, false, nat_lt, replicate, if◌then◌else◌}
 use Rattle.std.proofs.lemmas.List.{length-take-le, length_push, map_push, replicate_more}
-use Rattle.std.proofs.lemmas.Option.{slice_get-map}
+use Rattle.std.proofs.lemmas.Option.{slice_get-map, slice_get_past}
 use Rattle.std.specs.Option.{option_map}
 use Rattle.model.specs.declared.values.Value.{Value}
 use Rattle.model.specs.declared.journals.HeapShape.{HeapShape}
@@ -138,6 +138,35 @@ length_found room words hs cell h laid found =
     let within = at.1 in
     ap length (words_found room words hs cell h laid found)
     ∙ length-take-le h.length (drop h.base words) (omega (arith, fits, room_is, within, length-drop h.base words))
+
+-- ---- one word of a cell
+
+get-take : {A : Type 0} (xs : List A) (count n : ℕ) → n < count → slice_get (take count xs) n ≡ slice_get xs n
+get-take xs zero n within = absurd (omega (arith, within))
+get-take [] (suc count) n within = refl
+get-take (x ∷ xs) (suc count) zero within = refl
+get-take (x ∷ xs) (suc count) (suc n) within = get-take xs count n (omega (arith, within))
+
+get-drop : {A : Type 0} (xs : List A) (base n : ℕ) → slice_get (drop base xs) n ≡ slice_get xs (base + n)
+get-drop xs zero n = ap (slice_get xs) (omega arith)
+get-drop [] (suc base) n = refl
+get-drop (x ∷ xs) (suc base) n = let e : suc (base + n) ≡ suc base + n = omega arith in get-drop xs base n ∙ ap (slice_get (x ∷ xs)) e
+
+-- a word that the object of a cell uses is one of the array's
+pub word_found : {K : Type 0} (room : ℕ → ℕ) (words : List Value) (hs : List (Header K)) (cell index : ℕ) (h : Header K) → AreLaidOut room 0 0 hs (length words) → slice_get hs cell ≡ Some h → index < h.length → slice_get (words_if (object_if (slice_get (map (stored_in words) hs) cell))) index ≡ slice_get words (h.base + index)
+word_found room words hs cell index h laid found within =
+    ap (λ ws. slice_get ws index) (words_found room words hs cell h laid found)
+    ∙ get-take (drop h.base words) h.length index within ∙ get-drop words h.base index
+
+-- there is none past those
+pub no_word : {K : Type 0} (room : ℕ → ℕ) (words : List Value) (hs : List (Header K)) (cell index : ℕ) (h : Header K) → AreLaidOut room 0 0 hs (length words) → slice_get hs cell ≡ Some h → h.length ≤ index → slice_get (words_if (object_if (slice_get (map (stored_in words) hs) cell))) index ≡ None
+no_word room words hs cell index h laid found past =
+    let long = length_found room words hs cell h laid found in
+    slice_get_past _ index (omega (arith, long, past))
+
+-- nor where there is no such cell
+pub no_words : {K : Type 0} (words : List Value) (hs : List (Header K)) (cell index : ℕ) → slice_get hs cell ≡ None → slice_get (words_if (object_if (slice_get (map (stored_in words) hs) cell))) index ≡ None
+no_words words hs cell index missing = ap (λ o. slice_get (words_if o) index) (object_missing words hs cell missing)
 
 -- ---- what the code looked up
 

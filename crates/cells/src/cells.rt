@@ -1,7 +1,9 @@
 //! The cells of a heap: a header each, and the words of all in one array.
-ghost use Rattle.std.specs.Prelude.{◌≡◌, ◌≤◌, ◌<◌, ◌↔◌, IsTrue, IfOk, Some, None, ◌+◌, ◌++◌, length, slice_get, take, drop, replicate};
+ghost use Rattle.std.specs.Prelude.{◌≡◌, ◌≤◌, ◌<◌, ◌↔◌, IsTrue, IfOk, Some, None, length, slice_get};
 ghost use Rattle.model.specs.Limits.{ShapeFits};
 ghost use Rattle.model.specs.Room.{words_of_cell};
+ghost use Rattle.values.specs.Slots.{value_of};
+ghost use Rattle.std.specs.Option.{option_map};
 ghost use Rattle.cells.specs.Objects.{empty_cells, made_object, new_object, kind_at, words_at, monitor_at, thread_at, with_object, with_word, with_monitor, with_thread};
 
 use crate::headers::{Header, header_at, occupied, room_of, vacant};
@@ -10,26 +12,30 @@ use model::journals::HeapShape;
 use model::values::Value;
 use std::alloc::{AllocError, Global};
 use std::marker::Model;
+use values::Words;
+use values::slots::Slot;
 
 /// The cells of a heap.
 #[derive(Drop)]
 pub struct Cells<K: Copy> {
     shape: HeapShape,
     headers: Vec<Header<K>>,
-    words: Vec<Value>,
+    words: Words,
 }
 
 impl<K: Copy> Model for Cells<K> {
     ghost use Rattle.std.specs.Prelude.{length};
     ghost use Rattle.model.specs.Room.{words_of_cell};
+    ghost use Rattle.values.specs.Slots.{value_of};
+    ghost use Rattle.std.specs.Option.{option_map};
     ghost use Rattle.cells.specs.Objects.{CellsValue};
     ghost use Rattle.cells.specs.Layout.{cells_in, AreLaidOut};
 
     ghost Value = { CellsValue K };
 
-    ghost view = { λ a. cells_in a.shape a.words.items a.headers.items };
+    ghost view = { λ a. cells_in a.shape a.words a.headers.items };
 
-    ghost invariant = { λ a. AreLaidOut (words_of_cell a.shape) 0 0 a.headers.items (length a.words.items) };
+    ghost invariant = { λ a. AreLaidOut (words_of_cell a.shape) 0 0 a.headers.items (length a.words) };
 }
 
 impl<K: Copy> Cells<K> {
@@ -47,7 +53,7 @@ impl<K: Copy> Cells<K> {
             headers.push(vacant(end, room))?;
             end += u32::from(room);
         }
-        let words = vec![in alloc; Value::Ref(None); end as usize]?;
+        let words = Words::new(alloc, end as usize, Value::Ref(None))?;
         Ok(Cells {
             shape,
             headers,
@@ -94,24 +100,27 @@ impl<K: Copy> Cells<K> {
         }
     }
 
-    /// The words that the object in a cell uses, in order. None of them where nobody is.
-    pub fn words(&self, cell: u32) -> &[Value]
-        ensures { result.now ≡ words_at self.now cell }
+    /// A copy of the words that the object in a cell uses, in order: none of them where nobody is. `AllocError` where there is no
+    /// memory for it.
+    pub fn values(&self, cell: u32) -> Result<Vec<Value>, AllocError>
+        ensures { IfOk result (λ values. values.items ≡ words_at self.now cell) }
     {
         match header_at(&self.headers, cell) {
-            None => &self.words[..0],
-            Some(header) => {
-                let base = header.base as usize;
-                &self.words[base..base + header.length as usize]
-            }
+            None => self.words.values(0, 0),
+            Some(header) => self.words.values(header.base, header.length),
         }
     }
 
-    /// A word of the object in a cell. None past its length, and where nobody is.
-    pub fn word(&self, cell: u32, index: u32) -> Option<Value>
-        ensures { result ≡ slice_get (words_at self.now cell) index }
+    /// What a word of the object in a cell holds. None past its length, and where nobody is.
+    #[inline]
+    pub fn word(&self, cell: u32, index: u32) -> Option<Slot>
+        ensures { option_map value_of result ≡ slice_get (words_at self.now cell) index }
     {
-        self.words(cell).get(index as usize).copied()
+        let header = header_at(&self.headers, cell)?;
+        if index >= u32::from(header.length) {
+            return None;
+        }
+        self.words.get(header.base as usize + index as usize)
     }
 
     /// The monitor of the object in a cell. Nobody's where nobody is.
@@ -153,7 +162,7 @@ impl<K: Copy> Cells<K> {
         ensures { self.new ≡ with_object self.old cell (Some (new_object kind count zero)) }
     {
         if let Some(header) = header_at(&self.headers, cell) {
-            fill(&mut self.words, header.base, count, zero);
+            self.words.fill(header.base, count, zero);
             self.headers[cell as usize] = occupied(header, kind, count as u16);
         }
     }
@@ -165,7 +174,7 @@ impl<K: Copy> Cells<K> {
         ensures { self.new ≡ with_object self.old cell (Some (made_object kind words.now)) }
     {
         if let Some(header) = header_at(&self.headers, cell) {
-            write(&mut self.words, header.base, words);
+            self.words.write(header.base, words);
             self.headers[cell as usize] = occupied(header, kind, words.len() as u16);
         }
     }
@@ -190,7 +199,7 @@ impl<K: Copy> Cells<K> {
         if index >= u32::from(header.length) {
             return false;
         }
-        self.words[header.base as usize + index as usize] = value;
+        self.words.put(header.base as usize + index as usize, value);
         true
     }
 
@@ -211,22 +220,4 @@ impl<K: Copy> Cells<K> {
             self.headers[cell as usize].thread = thread;
         }
     }
-}
-
-/// Writes these words from one on.
-fn write(words: &mut [Value], base: u32, values: &[Value])
-    requires { base + length values.now ≤ length words.old }
-    ensures { words.new ≡ take base words.old ++ values.now ++ drop (base + length values.now) words.old }
-{
-    let from = base as usize;
-    words[from..from + values.len()].copy_from_slice(values);
-}
-
-/// Makes so many words from this one on the same.
-fn fill(words: &mut [Value], base: u32, count: u32, value: Value)
-    requires { base + count ≤ length words.old }
-    ensures { words.new ≡ take base words.old ++ replicate count value ++ drop (base + count) words.old }
-{
-    let from = base as usize;
-    words[from..from + count as usize].fill(value);
 }

@@ -66,6 +66,7 @@ pub fn room_of(shape: HeapShape, cell: u32) -> u16
 }
 
 /// A cell's header, if there is such a cell.
+#[inline(always)]
 pub fn header_at<K: Copy>(headers: &[Header<K>], cell: u32) -> Option<Header<K>>
     ensures { result ≡ slice_get headers.now cell }
 {

@@ -7,7 +7,8 @@ use Rattle.model.specs.declared.values.Entry.{Entry}
 use Rattle.model.specs.declared.values.Entry.TheVariants.{Unset, Holds, UpperHalf}
 use Rattle.model.specs.Values.{units_of, units_of_all}
 use Rattle.model.specs.Locals.{argument_entries}
-use Rattle.frames.specs.Layout.{value_in, stack_of, values_between}
+use Rattle.values.specs.Slots.{value_in}
+use Rattle.frames.specs.Layout.{stack_of, values_between}
 use Rattle.frames.proofs.PushLemmas.{units_of_all-take_le}
 
 -- one entry, or two, are written

@@ -5,12 +5,13 @@ use Rattle.std.proofs.lemmas.Option.{slice_get_read, slice_get_past}
 use Rattle.std.proofs.Math.Seq.{take-set-lt}
 use Rattle.std.proofs.lemmas.Bool.{lt-ltb, and_parts, ltb-true, leb-true}
 use Rattle.model.specs.declared.values.Entry.{Entry}
-use Rattle.model.specs.declared.values.Entry.TheVariants.{Unset, Holds}
+use Rattle.model.specs.declared.values.Entry.TheVariants.{Unset}
 use Rattle.model.specs.declared.values.Value.{Value}
 use Rattle.model.specs.Values.{units_of, units_of_all}
 use Rattle.model.specs.Frames.{Frame, running_frame, top_of, with_running, no_frame, units_of_frames, has_room_for}
 use Rattle.frames.specs.declared.activations.Activation.{Activation}
-use Rattle.frames.specs.Layout.{value_in, stack_of, frame_of, Stands, AreLaidOut, IsSound}
+use Rattle.values.specs.Slots.{value_in}
+use Rattle.frames.specs.Layout.{stack_of, frame_of, Stands, AreLaidOut, IsSound}
 use Rattle.frames.proofs.StackLemmas.{stack_of-agree, locals-agree, length-stack_of, length_le_units, units_of_all-take-drop, units_of-pos, drop-stack_of, stack_of-push, stack_of-set_below, top_of-drop-stack_of}
 
 -- a list of activations and its last one
@@ -228,28 +229,28 @@ module _ {units : List Entry} {acts : List Activation} {used capacity : ℕ} {fr
       rw (running_is, ← left) (view_put units (record a { pc = next; values = a.values - count; taken = a.taken - taken }) refl)
 
   -- a value is written above the stack
-  pub pushes : (v : Value) → units_of v + units_of_all (running_frame frames).stack ≤ (running_frame frames).room → (a.values < a.room) × (a.base + a.locals + a.values < length units) × (a.taken + units_of v ≤ a.room) × Stands (slice_set units (a.base + a.locals + a.values) (Holds v)) a.base (record a { values = a.values + 1; taken = a.taken + units_of v })
-  pushes v room =
+  pub pushes : (e : Entry) → units_of (value_in e) + units_of_all (running_frame frames).stack ≤ (running_frame frames).room → (a.values < a.room) × (a.base + a.locals + a.values < length units) × (a.taken + units_of (value_in e) ≤ a.room) × Stands (slice_set units (a.base + a.locals + a.values) e) a.base (record a { values = a.values + 1; taken = a.taken + units_of (value_in e) })
+  pushes e room =
       let last = stands_last in
       let total = last.stands.taken_is in
       let fits = region_fits in
       let room_is : (running_frame frames).room ≡ a.room = ap (λ (f : Frame). f.room) running_is in
       let units_are : units_of_all (running_frame frames).stack ≡ units_of_all (stack_of units (a.base + a.locals) a.values) = ap units_of_all stack_is in
-      let some = units_of-pos v in
+      let some = units_of-pos (value_in e) in
       let few = length_le_units (stack_of units (a.base + a.locals) a.values) in
       let count = length-stack_of units (a.base + a.locals) a.values in
       let inside : a.base + a.locals + a.values < length units = omega arith in
-      let pushed = stack_of-push units (a.base + a.locals) a.values v inside in
+      let pushed = stack_of-push units (a.base + a.locals) a.values e inside in
       (omega arith, inside, omega arith, record { begins = refl; taken_is = let e = ap units_of_all pushed in omega arith; fits = omega arith })
 
-  pub view_push_value : (v : Value) → a.base + a.locals + a.values < length units → map (frame_of (slice_set units (a.base + a.locals + a.values) (Holds v))) (slice_set acts (n - 1) (record a { values = a.values + 1; taken = a.taken + units_of v })) ≡ with_running frames (record (running_frame frames) { stack = v ∷ (running_frame frames).stack })
-  view_push_value v inside =
-      let units' = slice_set units (a.base + a.locals + a.values) (Holds v) in
-      let same : take a.base units ≡ take a.base units' = sym (take-set-le a.base units (a.base + a.locals + a.values) (Holds v) (omega arith)) in
-      let below : take (a.base + a.locals) units' ≡ take (a.base + a.locals) units = take-set-le (a.base + a.locals) units (a.base + a.locals + a.values) (Holds v) (omega arith) in
+  pub view_push_value : (e : Entry) → a.base + a.locals + a.values < length units → map (frame_of (slice_set units (a.base + a.locals + a.values) e)) (slice_set acts (n - 1) (record a { values = a.values + 1; taken = a.taken + units_of (value_in e) })) ≡ with_running frames (record (running_frame frames) { stack = value_in e ∷ (running_frame frames).stack })
+  view_push_value e inside =
+      let units' = slice_set units (a.base + a.locals + a.values) e in
+      let same : take a.base units ≡ take a.base units' = sym (take-set-le a.base units (a.base + a.locals + a.values) e (omega arith)) in
+      let below : take (a.base + a.locals) units' ≡ take (a.base + a.locals) units = take-set-le (a.base + a.locals) units (a.base + a.locals + a.values) e (omega arith) in
       let locals : take a.locals (drop a.base units') ≡ take a.locals (drop a.base units) = locals-agree units' units (a.base + a.locals) a.base a.locals below (omega arith) in
-      let stack : stack_of units' (a.base + a.locals) (a.values + 1) ≡ v ∷ stack_of units (a.base + a.locals) a.values = stack_of-push units (a.base + a.locals) a.values v inside in
-      rw (running_is, ← stack, ← locals) (view_put units' (record a { values = a.values + 1; taken = a.taken + units_of v }) same)
+      let stack : stack_of units' (a.base + a.locals) (a.values + 1) ≡ value_in e ∷ stack_of units (a.base + a.locals) a.values = stack_of-push units (a.base + a.locals) a.values e inside in
+      rw (running_is, ← stack, ← locals) (view_put units' (record a { values = a.values + 1; taken = a.taken + units_of (value_in e) }) same)
 
   -- the running frame's locals
   pub locals_is : (running_frame frames).locals ≡ take a.locals (drop a.base units)

@@ -11,7 +11,8 @@ use Rattle.model.specs.Collector.Places.{ref_of, entry_ref, ref_at, frame_refs, 
 use Rattle.frames.specs.declared.activations.Activation.{Activation}
 use Rattle.frames.specs.declared.heads.FrameHead.{FrameHead}
 use Rattle.frames.specs.Heads.{head_at, head_of}
-use Rattle.frames.specs.Layout.{value_in, values_between, stack_of, frame_of, Stands, AreLaidOut, IsSound}
+use Rattle.values.specs.Slots.{value_in}
+use Rattle.frames.specs.Layout.{values_between, stack_of, frame_of, Stands, AreLaidOut, IsSound}
 use Rattle.frames.proofs.ArgumentLemmas.{stack_of-between}
 use Rattle.frames.proofs.LayoutLemmas.{laid_le, values_fit}
 

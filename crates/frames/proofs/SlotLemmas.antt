@@ -4,10 +4,9 @@ use Rattle.std.proofs.lemmas.List.{get_or-map, map-set, map-append, take-map, dr
 use Rattle.model.specs.declared.values.Entry.{Entry}
 use Rattle.model.specs.declared.values.Entry.TheVariants.{Unset as UnsetEntry}
 use Rattle.model.specs.declared.values.Value.{Value}
-use Rattle.frames.specs.declared.slots.Slot.{Slot}
-use Rattle.frames.specs.declared.slots.Slot.TheVariants.{Unset}
-use Rattle.frames.specs.Layout.{value_in}
-use Rattle.frames.specs.Slots.{entry_of, value_of}
+use Rattle.values.specs.declared.slots.Slot.{Slot}
+use Rattle.values.specs.declared.slots.Slot.TheVariants.{Unset}
+use Rattle.values.specs.Slots.{entry_of, value_of, value_in}
 
 pub entry_of-get_or : (slots : List Slot) (place : ℕ) (d : Slot) → place < length slots → entry_of (get_or slots place d) ≡ get_or (map entry_of slots) place UnsetEntry
 entry_of-get_or slots place d h = sym (get_or-map entry_of slots place d UnsetEntry h)

@@ -3,14 +3,15 @@ use Rattle.std.proofs.Common.{◌≡◌, ℕ, zero, suc, ◌+◌, ◌-◌, ◌<�
 use Rattle.std.proofs.lemmas.Grind.{common_steps}
 use Rattle.std.proofs.lemmas.List.{get_or-take, drop-take, take-take}
 use Rattle.model.specs.declared.values.Entry.{Entry}
-use Rattle.model.specs.declared.values.Entry.TheVariants.{Unset, Holds}
+use Rattle.model.specs.declared.values.Entry.TheVariants.{Unset}
 use Rattle.model.specs.declared.values.Value.{Value}
 use Rattle.model.specs.declared.values.Value.TheVariants.{Int, Long, Ref}
 use Rattle.model.specs.declared.turns.Fault.{Fault}
 use Rattle.model.specs.declared.turns.Fault.TheVariants.{StackEmpty}
 use Rattle.model.specs.Frames.{top_of}
 use Rattle.model.specs.Values.{units_of, units_of_all}
-use Rattle.frames.specs.Layout.{stack_of, value_in}
+use Rattle.values.specs.Slots.{value_in}
+use Rattle.frames.specs.Layout.{stack_of}
 
 pub length-stack_of : (units : List Entry) (base n : ℕ) → length (stack_of units base n) ≡ n
 length-stack_of units base zero = refl
@@ -39,9 +40,9 @@ drop-stack_of units base (suc n) (suc k) h = grind (arith, common_steps, drop-st
 pub drop_all-stack_of : (units : List Entry) (base n k : ℕ) → n ≤ k → drop k (stack_of units base n) ≡ []
 drop_all-stack_of units base n k h = grind (arith, common_steps, length-stack_of units base n)
 
--- a value that is written above the top is the new top
-pub stack_of-push : (units : List Entry) (base n : ℕ) (v : Value) → base + n < length units → stack_of (slice_set units (base + n) (Holds v)) base (n + 1) ≡ v ∷ stack_of units base n
-stack_of-push units base n v h = grind (arith, common_steps, stack_of-suc, stack_of-set)
+-- what is written above the top is the new top
+pub stack_of-push : (units : List Entry) (base n : ℕ) (e : Entry) → base + n < length units → stack_of (slice_set units (base + n) e) base (n + 1) ≡ value_in e ∷ stack_of units base n
+stack_of-push units base n e h = grind (arith, common_steps, stack_of-suc, stack_of-set)
 
 -- a stack depends on its own units alone
 pub stack_of-agree : (units units' : List Entry) (m base n : ℕ) → take m units ≡ take m units' → base + n ≤ m → stack_of units base n ≡ stack_of units' base n

@@ -3,7 +3,8 @@ use Rattle.std.proofs.Common.{◌≡◌, ℕ, zero, suc, ◌+◌, ◌<◌, ◌�
 use Rattle.model.specs.declared.values.Entry.{Entry}
 use Rattle.model.specs.declared.values.Value.{Value}
 use Rattle.frames.specs.declared.activations.Activation.{Activation}
-use Rattle.frames.specs.Layout.{value_in, stack_of, frame_of, AreLaidOut, IsSound}
+use Rattle.values.specs.Slots.{value_in}
+use Rattle.frames.specs.Layout.{stack_of, frame_of, AreLaidOut, IsSound}
 use Rattle.frames.proofs.LayoutLemmas.{values_fit, laid_le}
 use Rattle.frames.proofs.ArgumentLemmas.{stack_of-between}
 

@@ -1,17 +1,11 @@
-use Rattle.std.specs.Prelude.{◌≡◌, ℕ, zero, suc, ◌+◌, ◌≤◌, List, [], ◌∷◌, length, take, drop, map, slice_index_or, None}
+use Rattle.std.specs.Prelude.{◌≡◌, ℕ, zero, suc, ◌+◌, ◌≤◌, List, [], ◌∷◌, length, take, drop, map, slice_index_or}
 use Rattle.model.specs.declared.values.Value.{Value}
-use Rattle.model.specs.declared.values.Value.TheVariants.{Ref}
 use Rattle.model.specs.declared.values.Entry.{Entry}
-use Rattle.model.specs.declared.values.Entry.TheVariants.{Unset, Holds, UpperHalf}
+use Rattle.model.specs.declared.values.Entry.TheVariants.{Unset}
 use Rattle.model.specs.Values.{units_of_all}
+use Rattle.values.specs.Slots.{value_in}
 use Rattle.model.specs.Frames.{Frame}
 use Rattle.frames.specs.declared.activations.Activation.{Activation}
-
--- the value that stands in a unit of a stack: it is there, and null stands for what never is
-abbrev pub value_in : Entry → Value
-value_in Unset = Ref None
-value_in (Holds v) = v
-value_in UpperHalf = Ref None
 
 -- the stack of so many values from this unit on, its top first: each value stands in one unit
 abbrev pub stack_of : List Entry → ℕ → ℕ → List Value

@@ -1,4 +1,3 @@
 pub mod Heads
 pub mod Layout
-pub mod Slots
 pub mod Told

@@ -5,9 +5,9 @@ ghost use Rattle.model.specs.Locals.{argument_entries};
 ghost use Rattle.model.specs.declared.values.Entry.TheVariants.{Unset};
 ghost use Rattle.frames.specs.Layout.{values_between};
 
-use crate::slots::{Slot, slot_of, value_in};
 use crate::units::Units;
 use model::values::Value;
+use values::slots::{Slot, slot_of, value_in};
 
 /// Writes an argument from this unit on, and says behind which unit it ends.
 fn put_argument(units: &mut Units, end: usize, value: Value) -> usize

@@ -20,9 +20,9 @@
 //! | `clear(pc)` | `with_running frames (record f { pc = pc; stack = [] })` |
 //! | `set_monitor(m)`, `set_mark(m)` | `with_running frames (record f { monitor = m })`, `with_running frames (record f { mark = m })` |
 //! | `discard(next, n)` | under `n ≤ length f.stack`: `with_running frames (replaced next f n []).frame` |
-//! | `replace(next, n, v)` | also under `units_of v ≤ units_of_all (take n f.stack)`: `with_running frames (replaced next f n (v ∷ [])).frame` |
+//! | `replace(next, n, v)`, `replace_slot(next, n, s)` with v for `value_of s` | also under `units_of v ≤ units_of_all (take n f.stack)`: `with_running frames (replaced next f n (v ∷ [])).frame` |
 //! | `replace_all(next, n, vs)` | under `n ≤ length f.stack` and `units_of_all vs ≤ units_of_all (take n f.stack)`: `with_running frames (replaced next f n vs).frame` |
-//! | `replace_if_room(next, n, v)`, `replace_all_if_room(next, n, vs)` | under `n ≤ length f.stack`: `told result after ≡ moved_on frames (replaced_if_room next f n vs)`, and nothing changes on an `Err` |
+//! | `replace_if_room(next, n, v)`, `replace_slot_if_room(next, n, s)`, `replace_all_if_room(next, n, vs)` | under `n ≤ length f.stack`: `told result after ≡ moved_on frames (replaced_if_room next f n vs)`, and nothing changes on an `Err` |
 //! | `entry(i)` | `slice_get f.locals i` |
 //! | `has_local(kind, i)`, `load(kind, i)`, `local_int(i)` | `has_local kind f.locals i`, `local_at kind f.locals i`, `as_int (local_at Int f.locals i)` |
 //! | `operand(kind)` | `value_on kind f.stack` |
@@ -43,7 +43,6 @@ pub mod heads;
 mod locals;
 mod operands;
 mod results;
-mod slots;
 mod thread_frames;
 mod units;
 

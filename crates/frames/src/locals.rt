@@ -5,17 +5,18 @@ ghost use Rattle.model.specs.Frames.{running_frame, with_running, as_int};
 ghost use Rattle.model.specs.declared.values.Kind.TheVariants.{Int as IntKind};
 ghost use Rattle.model.specs.Locals.{entries_of as width_of, has_local, value_on, local_at, freed, with_local, stored, stored_at};
 ghost use Rattle.model.specs.declared.values.Entry.TheVariants.{UpperHalf};
-ghost use Rattle.frames.specs.Slots.{entry_of};
+ghost use Rattle.values.specs.Slots.{entry_of};
 ghost use Rattle.frames.specs.Told.{told, moved_on};
 
-use crate::slots::{Slot, local_in, operand_in, slot_of};
 use crate::thread_frames::Frames;
 use model::turns::{Abrupt, Fault};
 use model::values::{Kind, Value};
+use values::slots::{Slot, local_in, operand_in, slot_of};
 
 #[tactic(auto, using(crate::proofs::RunningLemmas::changes))]
 impl Frames {
     /// Whether the running frame has a local of this kind at this index.
+    #[inline(always)]
     pub fn has_local(&self, kind: Kind, index: u16) -> bool
         requires { 0 < length self.now }
         ensures { result ≡ has_local kind (running_frame self.now).locals index }
@@ -25,6 +26,7 @@ impl Frames {
 
     /// The value of this kind in a local. F4 where the local, of a long also its second entry, is out of range, or is
     /// the upper half of a long; F3 where it is unset or of another kind.
+    #[inline(always)]
     pub fn load(&self, kind: Kind, index: u16) -> Result<Value, Fault>
         requires { 0 < length self.now }
         ensures { result ≡ local_at kind (running_frame self.now).locals index }
@@ -39,6 +41,7 @@ impl Frames {
     }
 
     /// The int in a local; F4 and F3 as of `load`.
+    #[inline(always)]
     pub fn local_int(&self, index: u16) -> Result<i32, Fault>
         requires { 0 < length self.now }
         ensures { result ≡ as_int (local_at IntKind (running_frame self.now).locals index) }
@@ -50,6 +53,7 @@ impl Frames {
     }
 
     /// The operand of this kind at the top of the stack; F1, F3.
+    #[inline(always)]
     pub fn operand(&self, kind: Kind) -> Result<Value, Fault>
         requires { 0 < length self.now }
         ensures value { result ≡ value_on kind (running_frame self.now).stack }
@@ -136,6 +140,7 @@ impl Frames {
     }
 
     /// Goes to this pc, without so many values at the top, and with a value in a local.
+    #[inline(always)]
     pub fn store(&mut self, next: u16, count: u8, index: u16, value: Value)
         requires some { 0 < length self.old }
         requires there { count ≤ length (running_frame self.old).stack }

@@ -2,12 +2,13 @@
 ghost use Rattle.std.specs.Prelude.{◌≡◌, ℕ, ◌+◌, ◌*◌, ◌<◌, ◌≤◌, [], ◌∷◌, length, take, drop, OnErr};
 ghost use Rattle.model.specs.Frames.{running_frame, with_running, replaced, replaced_if_room, push_all};
 ghost use Rattle.model.specs.Values.{units_of as units_taken, units_of_all};
+ghost use Rattle.values.specs.Slots.{value_of};
 ghost use Rattle.frames.specs.Told.{told, moved_on};
 
-use crate::slots::{units_in, units_of};
 use crate::thread_frames::Frames;
 use model::turns::{Abrupt, Fault};
 use model::values::Value;
+use values::slots::{Slot, slot_of, units_in, units_of};
 
 impl Frames {
     /// How many units so many values at the top take.
@@ -40,6 +41,7 @@ impl Frames {
     }
 
     /// Goes to this pc, without so many values at the top.
+    #[inline(always)]
     pub fn discard(&mut self, next: u16, count: u8)
         requires some { 0 < length self.old }
         requires there { count ≤ length (running_frame self.old).stack }
@@ -49,16 +51,28 @@ impl Frames {
         self.drop_values(next, count, units);
     }
 
-    /// Goes to this pc, with a value in place of so many at the top, which take no less room.
+    /// Goes to this pc, with the value of a slot in place of so many at the top, which take no less room.
+    #[inline(always)]
+    pub fn replace_slot(&mut self, next: u16, count: u8, slot: Slot)
+        requires some { 0 < length self.old }
+        requires there { count ≤ length (running_frame self.old).stack }
+        requires room { units_taken (value_of slot) ≤ units_of_all (take count (running_frame self.old).stack) }
+        ensures { self.new ≡ with_running self.old (replaced next (running_frame self.old) count (value_of slot ∷ [])).frame }
+    {
+        let units = self.units_above(count);
+        self.drop_values(next, count, units);
+        self.push(slot);
+    }
+
+    /// The same with a value.
+    #[inline(always)]
     pub fn replace(&mut self, next: u16, count: u8, value: Value)
         requires some { 0 < length self.old }
         requires there { count ≤ length (running_frame self.old).stack }
         requires room { units_taken value ≤ units_of_all (take count (running_frame self.old).stack) }
         ensures { self.new ≡ with_running self.old (replaced next (running_frame self.old) count (value ∷ [])).frame }
     {
-        let units = self.units_above(count);
-        self.drop_values(next, count, units);
-        self.push(value);
+        self.replace_slot(next, count, slot_of(value));
     }
 
     /// Goes to this pc, with values, bottom first, in place of so many at the top, which take no less room.
@@ -73,20 +87,33 @@ impl Frames {
         self.push_all(values); // they fit
     }
 
-    /// Goes to this pc, with a value in place of so many at the top; F2 where it has no room, and then nothing changes.
+    /// Goes to this pc, with the value of a slot in place of so many at the top; F2 where it has no room, and then nothing
+    /// changes.
+    #[inline(always)]
+    pub fn replace_slot_if_room(&mut self, next: u16, count: u8, slot: Slot) -> Result<(), Abrupt>
+        requires some { 0 < length self.old }
+        requires there { count ≤ length (running_frame self.old).stack }
+        ensures step { told result self.new ≡ moved_on self.old (replaced_if_room next (running_frame self.old) count (value_of slot ∷ [])) }
+        ensures kept { OnErr result (self.new ≡ self.old) }
+    {
+        let units = self.units_above(count);
+        if self.taken() - units + units_in(slot) > self.room() {
+            return Err(Abrupt::Fault(Fault::StackFull));
+        }
+        self.drop_values(next, count, units);
+        self.push(slot);
+        Ok(())
+    }
+
+    /// The same with a value.
+    #[inline(always)]
     pub fn replace_if_room(&mut self, next: u16, count: u8, value: Value) -> Result<(), Abrupt>
         requires some { 0 < length self.old }
         requires there { count ≤ length (running_frame self.old).stack }
         ensures step { told result self.new ≡ moved_on self.old (replaced_if_room next (running_frame self.old) count (value ∷ [])) }
         ensures kept { OnErr result (self.new ≡ self.old) }
     {
-        let units = self.units_above(count);
-        if self.taken() - units + units_of(value) > self.room() {
-            return Err(Abrupt::Fault(Fault::StackFull));
-        }
-        self.drop_values(next, count, units);
-        self.push(value);
-        Ok(())
+        self.replace_slot_if_room(next, count, slot_of(value))
     }
 
     /// Values, bottom first, on top of the running frame's stack.
@@ -96,7 +123,7 @@ impl Frames {
         ensures { self.new ≡ with_running self.old (record (running_frame self.old) { stack = push_all values.now (running_frame self.old).stack }) }
     {
         for value in values {
-            self.push(*value);
+            self.push(slot_of(*value));
         }
     }
 

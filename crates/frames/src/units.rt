@@ -1,14 +1,14 @@
 //! The array of units of a thread's frames.
 ghost use Rattle.std.specs.Prelude.{◌≡◌, ◌+◌, ◌-◌, ◌<◌, ◌≤◌, ◌++◌, length, map, slice_index_or, slice_set, take, drop, replicate, vec_len, IfOk};
 ghost use Rattle.model.specs.declared.values.Entry.TheVariants.{Unset};
-ghost use Rattle.frames.specs.Layout.{value_in as value_held};
-ghost use Rattle.frames.specs.Slots.{entry_of, value_of};
-ghost use Rattle.frames.specs.declared.slots.Slot.TheVariants.{Unset as UnsetSlot};
+ghost use Rattle.values.specs.Slots.{value_in as value_held};
+ghost use Rattle.values.specs.Slots.{entry_of, value_of};
+ghost use Rattle.values.specs.declared.slots.Slot.TheVariants.{Unset as UnsetSlot};
 
-use crate::slots::{Slot, entry_in, value_in};
 use model::values::{Entry, Value};
 use std::alloc::{AllocError, Global};
 use std::marker::Model;
+use values::slots::{Slot, entry_in, value_in};
 
 /// So many units, each with its entry.
 #[derive(Drop)]
@@ -19,7 +19,7 @@ pub struct Units {
 impl Model for Units {
     ghost use Rattle.std.specs.Prelude.{List, map};
     ghost use Rattle.model.specs.declared.values.Entry.{Entry};
-    ghost use Rattle.frames.specs.Slots.{entry_of};
+    ghost use Rattle.values.specs.Slots.{entry_of};
 
     ghost Value = { List Entry };
 

@@ -84,7 +84,7 @@ module _ (program : List ClassListing) (f : Frame) (scene : Scene) (m : Machine)
       → Some reference ≡ reference_taken o → units_of_all (drop taken f.stack) < f.room
       → after.frames ≡ with_running m.frames (replaced next f taken (Ref (Some reference) ∷ [])).frame
       → after.heap ≡ shaded (created m.heap kind words o) (Some reference)
-      → after.slots.items ≡ m.slots.items → after.states.items ≡ m.states.items → after.output.items ≡ m.output.items
+      → after.slots ≡ m.slots → after.states.items ≡ m.states.items → after.output.items ≡ m.output.items
       → (shown program scene after Live, GotObject) ≡ turned program x m.thread (Creates next taken contents)
   new_told after reference None came is room frames heap slots states output = cc
   new_told after reference (Some cell) came is room frames heap slots states output =

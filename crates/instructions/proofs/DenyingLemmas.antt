@@ -241,7 +241,7 @@ module _ (program : List ClassListing) (classes : List ℕ) where
 
     pub denies_told : (t : Turned)
         → told before m.thread (shown program scene raised) (Ok t) ≡ turned program before m.thread (Raises NoClassDefFound)
-        → after.frames ≡ raised.frames → after.slots.items ≡ raised.slots.items
+        → after.frames ≡ raised.frames → after.slots ≡ raised.slots
         → after.states.items ≡ with_states Failed classes raised.states.items → after.output.items ≡ raised.output.items
         → after.heap ≡ raised.heap
         → told before m.thread (shown program scene after) (Ok t)

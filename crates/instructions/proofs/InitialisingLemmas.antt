@@ -66,7 +66,7 @@ module _ (program : List ClassListing) (scene : Scene) (m after : Machine) (here
   abbrev claiming : World
   claiming = with_class_states before (with_states (Running m.thread) (claimed program class count) m.states.items)
 
-  pub claim_told : within_limits entered ≡ true → after.frames ≡ entered → after.slots.items ≡ m.slots.items
+  pub claim_told : within_limits entered ≡ true → after.frames ≡ entered → after.slots ≡ m.slots
       → after.states.items ≡ with_states (Running m.thread) (claimed program class count) m.states.items
       → after.output.items ≡ m.output.items → after.heap ≡ m.heap
       → told (shown program scene m Live) m.thread (shown program scene after) (Ok (done_in Live))

@@ -24,14 +24,14 @@ module _ (program : List ClassListing) (scene : Scene) (m after : Machine) (here
   abbrev printed : ℕ → Result ℤ Fault → Completion
   printed n r = prints_on (site_at program m before.world n) bytes r
 
-  bytes_line : (n : ℕ) (z : ℤ) → after.frames ≡ with_running m.frames (replaced n (running_frame m.frames) 1 []).frame → after.slots.items ≡ m.slots.items
+  bytes_line : (n : ℕ) (z : ℤ) → after.frames ≡ with_running m.frames (replaced n (running_frame m.frames) 1 []).frame → after.slots ≡ m.slots
       → after.states.items ≡ m.states.items → after.output.items ≡ m.output.items ++ bytes z → after.heap ≡ m.heap → Tells (Ok (done_in Live)) (printed n (Ok z))
   unfolding turned_on
   bytes_line n z frames slots states output heap =
       rw (frames, slots, states, output, heap, frames_shown program scene m here, thread_set scene m.thread here (LiveThread m.frames) (LiveThread (with_running m.frames (replaced n (running_frame m.frames) 1 []).frame))) refl
 
   pub bytes_told : (n : ℕ) (z : ℤ) (r : Result ℤ Fault) → Ok z ≡ r → after.frames ≡ with_running m.frames (replaced n (running_frame m.frames) 1 []).frame
-      → after.slots.items ≡ m.slots.items → after.states.items ≡ m.states.items → after.output.items ≡ m.output.items ++ bytes z → after.heap ≡ m.heap
+      → after.slots ≡ m.slots → after.states.items ≡ m.states.items → after.output.items ≡ m.output.items ++ bytes z → after.heap ≡ m.heap
       → Tells (Ok (done_in Live)) (printed n r)
   bytes_told n z r is frames slots states output heap =
       subst (λ r. Tells (Ok (done_in Live)) (printed n r)) is (bytes_line n z frames slots states output heap)

@@ -186,7 +186,7 @@ module _ (program : List ClassListing) (scene : Scene) (m after : Machine) (here
 
   begins_in : (courses : List Course) → AreIn courses (threads_shown scene (LiveThread [])) → (next birth : ℕ) (o : StoredObject Kind) (begun : Begun)
       → held m.heap birth ≡ Some o → after.frames ≡ with_running m.frames (replaced next (running_frame m.frames) 1 []).frame
-      → after.slots.items ≡ m.slots.items → after.states.items ≡ m.states.items → after.output.items ≡ m.output.items
+      → after.slots ≡ m.slots → after.states.items ≡ m.states.items → after.output.items ≡ m.output.items
       → after.heap.objects ≡ (with_thread_on m.heap birth (length courses)).objects
       → shade_cells m.heap.account (begun_writes birth begun) ≡ after.heap.account → after.heap.births ≡ m.heap.births
       → (with_begun (Some begun) (shown program scene after Live), Done)
@@ -206,7 +206,7 @@ module _ (program : List ClassListing) (scene : Scene) (m after : Machine) (here
   -- the object at the top goes, and knows its thread by its number
   pub begins_told : (courses : List Course) → AreIn courses (threads_shown scene (LiveThread [])) → (next birth : ℕ) (begun : Begun)
       → is_some (held m.heap birth) ≡ true → after.frames ≡ with_running m.frames (replaced next (running_frame m.frames) 1 []).frame
-      → after.slots.items ≡ m.slots.items → after.states.items ≡ m.states.items → after.output.items ≡ m.output.items
+      → after.slots ≡ m.slots → after.states.items ≡ m.states.items → after.output.items ≡ m.output.items
       → after.heap ≡ all_shaded (with_thread_on m.heap birth (length courses)) (begun_writes birth begun)
       → (with_begun (Some begun) (shown program scene after Live), Done)
       ≡ turned program x m.thread (begins (site_at program m x.world next) birth (object_shown program (held m.heap birth)) (Some begun))

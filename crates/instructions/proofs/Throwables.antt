@@ -180,7 +180,7 @@ module _ (program : List ClassListing) (scene : Scene) (m : Machine) (here : len
 
   module _ (x : CellMachine) (mid after : Machine) (left : ℕ) (within : left < length m.frames)
       (has_left : HasLeft program Failed (innermost left m.frames) m mid) (stay : mid.frames ≡ kept left m.frames)
-      (slots : after.slots.items ≡ mid.slots.items) (states : after.states.items ≡ mid.states.items)
+      (slots : after.slots ≡ mid.slots) (states : after.states.items ≡ mid.states.items)
       (output : after.output.items ≡ mid.output.items) where
     abbrev stays : List Frame
     stays = kept left m.frames
@@ -208,7 +208,7 @@ module _ (program : List ClassListing) (scene : Scene) (m : Machine) (here : len
           objects,
           account,
           births,
-          ap (λ (v : _). v.items) has_left.slots,
+          has_left.slots,
           has_left.states,
           ap (λ (v : _). v.items) has_left.output,
           has_left.heap,
@@ -250,7 +250,7 @@ module _ (program : List ClassListing) (scene : Scene) (m : Machine) (here : len
       ap (carried_on x m.heap.account m.heap.births) (thrown_is program scene m here reference kind target.Nowhere held way x.world)
       ∙ rw (
         ← all,
-        ap (λ (v : _). v.items) has_left.slots,
+        has_left.slots,
         has_left.states,
         ap (λ (v : _). v.items) has_left.output,
         has_left.heap,

@@ -153,7 +153,7 @@ module _ (a : Inside) (t : ℕ) (sound : Sound a) (g : IsGoing a t) (v : Threads
   before_is : (loaded a).machine ≡ before
   before_is =
       rw (g.faultless, s.slots, s.states, s.heap, s.output)
-      (ap (λ threads. machine_shown a.program threads a.machine.slots.items a.machine.states.items a.machine.heap a.machine.output.items None a.rows) among)
+      (ap (λ threads. machine_shown a.program threads a.machine.slots a.machine.states.items a.machine.heap a.machine.output.items None a.rows) among)
 
   abbrev comes_to : Completion
   comes_to = completion a.program (loaded a).machine.world t
@@ -198,7 +198,7 @@ module _ (a : Inside) (t : ℕ) (sound : Sound a) (g : IsGoing a t) (v : Threads
   pub sound_after : (after : Machine) (w : ThreadsValue) → Keeps a.program m after → after.heap.births ≤ a.machine.heap.births + 1
       → length w.courses ≤ 64 → length w.parked ≡ 64 → t < length w.courses → IsSound a.program a.limits after w (a.rows + 1)
   sound_after after w keeps births few parked begun =
-      let slots : length m.slots.items ≡ length a.machine.slots.items = ap (λ (v : Vec Value Global). length v.items) s.slots in
+      let slots : length m.slots ≡ length a.machine.slots = ap length s.slots in
       let kept_slots = keeps.slots in
       let capacity : vec_capacity m.output ≡ vec_capacity a.machine.output = ap (λ (v : Vec ℕ Global). vec_capacity v) s.output in
       record {
@@ -262,7 +262,7 @@ module _ (a : Inside) (t : ℕ) (sound : Sound a) (g : IsGoing a t) (v : Threads
     noted_in = record { courses = slice_set v.courses t stepped.turned.course; parked = v.parked }
 
     counted : (o : Option Begun) (threads : List Thread) → threads ≡ (with_begun o left).world.threads
-        → machine_shown a.program threads after.slots.items after.states.items after.heap after.output.items None (a.rows + 1) ≡ counted_on (with_begun o left)
+        → machine_shown a.program threads after.slots after.states.items after.heap after.output.items None (a.rows + 1) ≡ counted_on (with_begun o left)
     counted None threads is = rw is refl
     counted (Some begun) threads is = rw is refl
 
@@ -349,7 +349,7 @@ module _ (a : Inside) (t : ℕ) (sound : Sound a) (g : IsGoing a t) (v : Threads
 
 -- ---- a turn of the collector
 
-pub collected_shown : (a : Inside) → record { program = a.program; limits = a.limits; shape = a.machine.heap.shape; machine = machine_shown a.program (threads_now a) a.machine.slots.items a.machine.states.items (collected a.program (threads_now a) a.machine.slots.items a.machine.heap) a.machine.output.items a.fault (a.rows + 1) } ≡ after_collection (loaded a)
+pub collected_shown : (a : Inside) → record { program = a.program; limits = a.limits; shape = a.machine.heap.shape; machine = machine_shown a.program (threads_now a) a.machine.slots a.machine.states.items (collected a.program (threads_now a) a.machine.slots a.machine.heap) a.machine.output.items a.fault (a.rows + 1) } ≡ after_collection (loaded a)
 collected_shown a =
     ap (λ (x : CellMachine). let s : Loaded = record { program = a.program; limits = a.limits; shape = a.machine.heap.shape; machine = counted_on x } in s)
-    (sym (collected_on_shown a.program (threads_now a) a.machine.slots.items a.machine.states.items a.machine.output.items a.fault a.rows a.machine.heap))
+    (sym (collected_on_shown a.program (threads_now a) a.machine.slots a.machine.states.items a.machine.output.items a.fault a.rows a.machine.heap))

@@ -117,11 +117,11 @@ module _ (a : Inside) where
   module _ (sound : IsSound a.program a.limits a.machine a.threads a.rows) where
     -- a world with other threads is one that the code keeps by numbers
     pub kept : (threads : List Thread) (fault : Option (Fault × ℕ))
-        → IsKept a.program (machine_shown a.program threads a.machine.slots.items a.machine.states.items a.machine.heap a.machine.output.items fault a.rows).world a.machine.heap
+        → IsKept a.program (machine_shown a.program threads a.machine.slots a.machine.states.items a.machine.heap a.machine.output.items fault a.rows).world a.machine.heap
     kept threads fault = record {
       accepted = sound.accepted;
       names = sound.named;
-      slots = a.machine.slots.items;
+      slots = a.machine.slots;
       objects_are = refl;
       stored = sound.stored;
       fields_are = refl;

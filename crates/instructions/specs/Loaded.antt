@@ -60,7 +60,7 @@ machine_shown program threads slots states heap output fault rows = record {
 -- the parts of a state, with its threads
 abbrev pub state_shown : List ClassListing → Machine → ThreadsValue → Option (Fault × ℕ) → ℕ → CellMachine
 state_shown program m threads fault rows =
-    machine_shown program (all_shown program threads m.thread m.frames) m.slots.items m.states.items m.heap m.output.items fault rows
+    machine_shown program (all_shown program threads m.thread m.frames) m.slots m.states.items m.heap m.output.items fault rows
 
 -- what holds of the parts: names of the program are names, no rule refuses it, each class has a state, objects have all words
 -- of their classes, the machine runs a thread that was started, and a turn makes one birth at most
@@ -73,8 +73,8 @@ pub record IsSound (program : List ClassListing) (limits : Limits) (m : Machine)
   pub few_threads : length threads.courses ≤ 64
   pub parked : length threads.parked ≡ 64
   pub sized : length m.states.items ≡ length program
-  pub few_slots : length m.slots.items < 2 ^ 32
-  pub slots_are : length m.slots.items ≡ length (opening_slots program)
+  pub few_slots : length m.slots < 2 ^ 32
+  pub slots_are : length m.slots ≡ length (opening_slots program)
   pub classes : m.heap.classes ≡ length program
   pub stored : AreStored program m.heap.objects
   pub births : m.heap.births ≤ rows + 3

@@ -10,7 +10,7 @@ use crate::types::is_object_of;
 use loader::operations::TypeNumber;
 use loader::programs::Program;
 use model::turns::{Exception, Fault};
-use model::values::Value;
+use values::slots::Slot;
 
 impl Machine {
     /// checkcast: the reference at the top stays, where it is null or its object is of a type. F1 and F3 where there is
@@ -30,12 +30,12 @@ impl Machine {
         match self.frames.reference() {
             Ok(Some(reference)) => {
                 if is_object_of(program, &self.heap, reference, above) {
-                    self.exchange(program, next, 1, Value::Ref(Some(reference)))
+                    self.exchange(program, next, 1, Slot::Ref(reference))
                 } else {
                     self.raise(program, Exception::ClassCast)
                 }
             }
-            Ok(None) => self.exchange(program, next, 1, Value::Ref(None)),
+            Ok(None) => self.exchange(program, next, 1, Slot::Null),
             Err(fault) => Err(fault),
         }
     }
@@ -60,7 +60,7 @@ impl Machine {
                     Some(reference) => is_object_of(program, &self.heap, reference, above),
                     None => false,
                 };
-                self.exchange(program, next, 1, Value::Int(i32::from(is)))
+                self.exchange(program, next, 1, Slot::Int(i32::from(is)))
             }
             Err(fault) => Err(fault),
         }

@@ -2,6 +2,7 @@
 ghost use Rattle.std.specs.Prelude.{[], ◌≡◌, ◌+◌, ◌<◌, ◌^◌, length, slice_get, IfOk, IfSome, Some};
 ghost use Rattle.model.specs.Accounts.{has_room, take_cell};
 ghost use Rattle.std.specs.Option.{option_map};
+ghost use Rattle.values.specs.Slots.{value_of};
 ghost use Rattle.model.specs.Limits.{ShapeFits};
 ghost use Rattle.model.specs.Observers.{cell_view};
 ghost use Rattle.model.specs.Room.{words_of_cell};
@@ -27,7 +28,6 @@ pub(crate) use entering::is_full;
 use frames::Frames;
 use loader::programs::Program;
 use looking::Looked;
-pub(crate) use looking::value_at;
 use model::colours::{Cell, Phase};
 use model::journals::HeapShape;
 use model::turns::Exception;
@@ -36,6 +36,8 @@ use model::views::CellView;
 use plain_steps::Written;
 use std::alloc::{AllocError, Global};
 use std::marker::Model;
+use values::Words;
+use values::slots::Slot;
 
 /// The heap of a running program. A contract sees its shape, the account, the object of each cell, and the number of the
 /// next birth. A reference is the number of a cell and one more. No call but `new` and `reached` takes memory.
@@ -93,6 +95,7 @@ impl Heap {
     }
 
     /// Shades what a turn wrote, in the order of writing.
+    #[inline]
     pub(crate) fn shade_all(&mut self, written: &Written)
         ensures { self.new ≡ all_shaded self.old written.now }
     {
@@ -150,9 +153,10 @@ impl Heap {
         Kind::Instance(self.classes + 17)
     }
 
-    /// A word of the object of a reference. `None` past its last word, and where there is no object.
-    pub(crate) fn word(&self, reference: u32, index: u32) -> Option<Value>
-        ensures { result ≡ slice_get (words_held self.now reference) index }
+    /// What a word of the object of a reference holds. `None` past its last word, and where there is no object.
+    #[inline]
+    pub(crate) fn word(&self, reference: u32, index: u32) -> Option<Slot>
+        ensures { option_map value_of result ≡ slice_get (words_held self.now reference) index }
     {
         self.cells.word(reference.checked_sub(1)?, index)
     }
@@ -218,7 +222,7 @@ impl Heap {
         threads: &Threads,
         running: u8,
         frames: &Frames,
-        slots: &[Value],
+        slots: &Words,
     )
         requires few { length slots.now < 2 ^ 32 }
         requires running { running < 64 }

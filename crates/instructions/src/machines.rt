@@ -5,8 +5,8 @@ use crate::threads::Threads;
 use frames::Frames;
 use loader::programs::Program;
 use model::turns::ClassState;
-use model::values::Value;
 use std::alloc::{AllocError, Global};
+use values::Words;
 
 /// What a turn of a thread reads and changes: the thread's number and frames, the static fields, the states of the classes,
 /// the heap and the output.
@@ -14,7 +14,7 @@ use std::alloc::{AllocError, Global};
 pub(crate) struct Machine {
     pub(crate) thread: u8,
     pub(crate) frames: Frames,
-    pub(crate) slots: Vec<Value>,
+    pub(crate) slots: Words,
     pub(crate) states: Vec<ClassState>,
     pub(crate) heap: Heap,
     pub(crate) output: Vec<u8>,
@@ -30,9 +30,9 @@ impl Machine {
 
     /// The collector's turn.
     pub(crate) fn collect(&mut self, program: &Program, threads: &Threads)
-        requires few { length self.old.slots.items < 2 ^ 32 }
+        requires few { length self.old.slots < 2 ^ 32 }
         requires running { self.old.thread < 64 }
-        ensures heap { self.new.heap ≡ collected program.now (all_shown program.now threads.now self.old.thread self.old.frames) self.old.slots.items self.old.heap }
+        ensures heap { self.new.heap ≡ collected program.now (all_shown program.now threads.now self.old.thread self.old.frames) self.old.slots self.old.heap }
         ensures thread { self.new.thread ≡ self.old.thread }
         ensures frames { self.new.frames ≡ self.old.frames }
         ensures slots { self.new.slots ≡ self.old.slots }
@@ -47,7 +47,7 @@ impl Machine {
             heap,
             output: _,
         } = self;
-        heap.collect(program, threads, *thread, frames, slots.as_slice());
+        heap.collect(program, threads, *thread, frames, slots);
     }
 
     /// Whether a path from the threads' frames, the static fields and the two errors leads to the object in a cell, in which
@@ -59,16 +59,20 @@ impl Machine {
         threads: &Threads,
         cell: u32,
     ) -> Result<bool, AllocError>
-        requires few { length self.now.slots.items < 2 ^ 32 }
+        requires few { length self.now.slots < 2 ^ 32 }
         requires running { self.now.thread < 64 }
         requires there { is_some (object_if (slice_get self.now.heap.objects cell)) ≡ true }
-        ensures { let w : World = looked_at program.now (all_shown program.now threads.now self.now.thread self.now.frames) self.now.slots.items self.now.heap in
+        ensures { let w : World = looked_at program.now (all_shown program.now threads.now self.now.thread self.now.frames) self.now.slots self.now.heap in
             IfOk result (λ reached. reached ≡ is_reached w (suc cell)) }
     {
-        let slots = self.slots.as_slice();
-        let marks = self
-            .heap
-            .reached(alloc, program, threads, self.thread, &self.frames, slots)?;
+        let marks = self.heap.reached(
+            alloc,
+            program,
+            threads,
+            self.thread,
+            &self.frames,
+            &self.slots,
+        )?;
         Ok(marks[cell as usize + 1])
     }
 }

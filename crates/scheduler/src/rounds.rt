@@ -29,8 +29,10 @@ impl World {
         }
     }
 
-    /// The turn of the thread that is picked, made by a worker; `NotReady` where none is.
-    pub fn turn_of_picked(&mut self, worker: u8) -> Turn
+    /// The same, where one look at the thread's step may serve.
+    // Apart, so that what a turn of any kind needs costs those nothing that change a frame alone.
+    #[inline(never)]
+    fn turn_by_look(&mut self, worker: u8) -> Turn
         requires { worker < self.old.journal.workers }
         ensures world { self.new ≡ picked self.old worker }
         ensures answer { result ≡ picked_answer self.old worker }
@@ -38,6 +40,19 @@ impl World {
         match self.turn_of_first(worker) {
             Some(answer) => answer,
             None => self.turn_of_ready(worker),
+        }
+    }
+
+    /// The turn of the thread that is picked, made by a worker; `NotReady` where none is.
+    #[inline(always)]
+    pub fn turn_of_picked(&mut self, worker: u8) -> Turn
+        requires { worker < self.old.journal.workers }
+        ensures world { self.new ≡ picked self.old worker }
+        ensures answer { result ≡ picked_answer self.old worker }
+    {
+        match self.turn_plainly(worker) {
+            Some(answer) => answer,
+            None => self.turn_by_look(worker),
         }
     }
 

@@ -4,6 +4,7 @@ ghost use Rattle.std.specs.Option.{option_map};
 ghost use Rattle.model.specs.Worlds.{frames_of};
 ghost use Rattle.model.specs.Worlds.Thread.{Live};
 ghost use Rattle.model.specs.Collector.Places.{ref_at};
+ghost use Rattle.values.specs.Slots.{value_of};
 ghost use Rattle.collector.specs.ListedWorlds.{frame_with, leads_of, listed_world};
 
 use super::roots::{FrameRoots, Roots};
@@ -14,6 +15,7 @@ use model::colours::{Cell, Phase};
 use model::journals::HeapShape;
 use model::values::Value;
 use std::alloc::{AllocError, Global};
+use values::slots::{Slot, number_in, value_in};
 
 pub(crate) const SHAPE: HeapShape = HeapShape {
     small: 8,
@@ -110,13 +112,13 @@ fn held_at(list: &[Option<u32>], place: u32) -> Option<u32>
     }
 }
 
-/// Where a value leads, if there is one.
-fn led_to(value: Option<Value>) -> Option<u32>
-    ensures { result ≡ leads_of value }
+/// Where a slot leads, if there is one.
+fn led_to(slot: Option<Slot>) -> Option<u32>
+    ensures { result ≡ leads_of (option_map value_of slot) }
 {
-    match value {
-        Some(Value::Ref(leads)) => leads,
-        Some(Value::Int(_) | Value::Long(_)) | None => None,
+    match slot {
+        Some(slot) => number_in(slot),
+        None => None,
     }
 }
 
@@ -165,7 +167,7 @@ impl RealHeap {
 
     /// Where a word leads, if there is such a word.
     pub(crate) fn word(&self, reference: u32, word: u32) -> Option<Option<u32>> {
-        match self.places.cells.word(reference.checked_sub(1)?, word)? {
+        match value_in(self.places.cells.word(reference.checked_sub(1)?, word)?) {
             Value::Ref(leads) => Some(leads),
             Value::Int(_) | Value::Long(_) => None,
         }

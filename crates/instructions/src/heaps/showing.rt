@@ -17,8 +17,8 @@ use collector::reached;
 use frames::Frames;
 use loader::programs::Program;
 use model::colours::Cell;
-use model::values::Value;
 use std::alloc::{AllocError, Global};
+use values::Words;
 
 impl Heap {
     /// Whether a cell holds a birth.
@@ -72,7 +72,7 @@ impl Heap {
         threads: &Threads,
         running: u8,
         frames: &Frames,
-        slots: &[Value],
+        slots: &Words,
     ) -> Result<Vec<bool>, AllocError>
         requires few { length slots.now < 2 ^ 32 }
         requires running { running < 64 }

@@ -115,7 +115,8 @@ fn object_view(
     let Some(kind) = cells.kind(cell) else {
         return Ok(None);
     };
-    let contents = contents_view(alloc, program, heap, kind, cells.words(cell))?;
+    let words = cells.values(cell)?;
+    let contents = contents_view(alloc, program, heap, kind, &words)?;
     let monitor = cells.monitor(cell);
     Ok(Some(ObjectView {
         contents,

@@ -1,6 +1,6 @@
 use Rattle.std.proofs.Common.{arith, ◌∙◌}
 use Rattle.frames.proofs.ArgumentLemmas.{Copied, value_next, copied_next, room_for_copy}
-use Rattle.frames.specs.Slots.{entry_of}
+use Rattle.values.specs.Slots.{entry_of}
 use Rattle.frames.proofs.arguments.copy_arguments.Goals as goal
 
 pub put_argument-end-requires : goal.put_argument-end-requires

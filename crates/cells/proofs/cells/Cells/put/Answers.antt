@@ -7,7 +7,7 @@ use Rattle.cells.proofs.cells.Cells.put.Goals as goal
 pub returns-in_default-clause-after : goal.returns-in_default-clause-after
 returns-in_default-clause-after g c =
     let missing = looked_up _ _ _ _ _ c.deref.ensures.value c.header_at.ensures c.in_default.is in
-    let none = ap (λ o. length (words_if o)) (object_missing c.self.inside.words.items c.self.inside.headers.items c.args.cell missing) in
+    let none = ap (λ o. length (words_if o)) (object_missing c.self.inside.words c.self.inside.headers.items c.args.cell missing) in
     rw (← c.self.view_is) (unwritten _ c.args.cell c.args.index c.args.value (omega (arith, none)))
 
 pub returns-then-index-from-clause-there : goal.returns-then-index-from-clause-there
@@ -22,8 +22,8 @@ returns-then-index-from-clause-after g c =
     let long = length_found _ _ _ _ _ c.self.invariant found in
     rw (← c.self.view_is) (unwritten _ c.args.cell c.args.index c.args.value (omega (arith, long)))
 
-pub index_mut-requires : goal.index_mut-requires
-index_mut-requires g c =
+pub put-requires : goal.put-requires
+put-requires g c =
     let found = looked_up _ _ _ _ _ c.deref.ensures.value c.header_at.ensures c.in-Some.is in
     let at = stands_at _ _ _ _ _ _ c.args.cell _ c.self.invariant found (omega arith) in
     let fits = at.0.fits in
@@ -40,4 +40,4 @@ returns-clause-there g c =
 pub returns-clause-after : goal.returns-clause-after
 returns-clause-after g c =
     let found = looked_up _ _ _ _ _ c.deref.ensures.value c.header_at.ensures c.in-Some.is in
-    rw (← c.self.view_is) (written _ _ _ _ _ _ _ _ c.self.invariant found (omega arith))
+    rw (← c.self.view_is, c.put.ensures) (written _ _ _ _ _ _ _ _ c.self.invariant found (omega arith))

@@ -1,5 +1,6 @@
 use Rattle.std.proofs.Common.{refl, sym, arith, length-set}
 use Rattle.std.proofs.lemmas.List.{take-set-le}
+use Rattle.values.specs.Slots.{entry_of}
 use Rattle.frames.proofs.LayoutLemmas.{opened, sound_put, pushes, view_push_value, region_fits}
 use Rattle.frames.proofs.thread_frames.Frames.push.Goals as goal
 
@@ -25,23 +26,23 @@ pub overflow_add-running-2 : goal.overflow_add-running-2
 overflow_add-running-2 c =
     let o = opened _ _ _ _ _ _ _ c.self.invariant c.self.view_is c.requires.some (omega arith) c.index_mut-running.ensures.value in
     let fits = region_fits o in
-    let p = pushes o c.args.value c.requires.room in
-    omega (arith, c.units_of.ensures)
+    let p = pushes o (entry_of c.args.slot) c.requires.room in
+    omega (arith, c.units_in.ensures)
 
 pub put-requires : goal.put-requires
 put-requires c =
     let o = opened _ _ _ _ _ _ _ c.self.invariant c.self.view_is c.requires.some (omega arith) c.index_mut-running.ensures.value in
-    let p = pushes o c.args.value c.requires.room in
+    let p = pushes o (entry_of c.args.slot) c.requires.room in
     omega arith
 
 pub invariant_of-self : goal.invariant_of-self
 invariant_of-self c =
     let o = opened _ _ _ _ _ _ _ c.self.invariant c.self.view_is c.requires.some (omega arith) c.index_mut-running.ensures.value in
-    let p = pushes o c.args.value c.requires.room in
-    rw (c.put.ensures, c.slot_of.ensures, c.units_of.ensures) (sound_put o _ _ (length-set _ _ _) (sym (take-set-le _ _ _ _ (omega arith))) p.3 refl)
+    let p = pushes o (entry_of c.args.slot) c.requires.room in
+    rw (c.put.ensures, c.units_in.ensures) (sound_put o _ _ (length-set _ _ _) (sym (take-set-le _ _ _ _ (omega arith))) p.3 refl)
 
 pub returns : goal.returns
 returns c =
     let o = opened _ _ _ _ _ _ _ c.self.invariant c.self.view_is c.requires.some (omega arith) c.index_mut-running.ensures.value in
-    let p = pushes o c.args.value c.requires.room in
-    rw (c.put.ensures, c.slot_of.ensures, c.units_of.ensures) (view_push_value o c.args.value p.1)
+    let p = pushes o (entry_of c.args.slot) c.requires.room in
+    rw (c.put.ensures, c.units_in.ensures) (view_push_value o (entry_of c.args.slot) p.1)

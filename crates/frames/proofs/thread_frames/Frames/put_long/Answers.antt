@@ -1,5 +1,5 @@
 use Rattle.std.proofs.Common.{sym}
-use Rattle.frames.specs.Slots.{entry_of}
+use Rattle.values.specs.Slots.{entry_of}
 use Rattle.frames.proofs.RunningLemmas.{puts_two, puts_over_long}
 use Rattle.frames.proofs.thread_frames.Frames.put_long.Goals as goal
 

@@ -1,7 +1,6 @@
-use Rattle.std.proofs.Common.{◌≡◌, refl, rules, ◌∙◌}
-use Rattle.std.specs.Vec.{with_item}
+use Rattle.std.proofs.Common.{◌≡◌, refl, rules, ap, ◌∙◌}
+use Rattle.std.specs.Prelude.{slice_set}
 use Rattle.model.specs.Collector.Places.{ref_of}
-use Rattle.model.specs.Stores.{kept}
 use Rattle.loader.specs.Storages.{shown_storage}
 use Rattle.instructions.specs.Heaps.{shaded}
 use Rattle.instructions.proofs.PushLemmas.{barrier, put_fault_told, put_told}
@@ -13,9 +12,9 @@ returns-in-Ok-clause-step c = λ scene here.
     let program = c.args.program.now in
     let v = c.in-Ok.value in
     let heap : c.shade.new.self ≡ shaded m.heap (ref_of v) = search rules in
-    rw (c.to.ensures, c.kept.ensures) (put_told program scene m
-    (record { thread = m.thread; frames = c.discard.new.self; slots = with_item m.slots c.args.slot (kept (shown_storage c.args.storage) v); states = m.states; heap = c.shade.new.self; output = m.output })
-    here c.args.next c.args.slot (shown_storage c.args.storage) v _ (rw c.kind.ensures at c.in-Ok.ensures.value) c.discard.ensures refl refl refl
+    rw c.to.ensures (put_told program scene m
+    (record { thread = m.thread; frames = c.discard.new.self; slots = c.put.new.self; states = m.states; heap = c.shade.new.self; output = m.output })
+    here c.args.next c.args.slot (shown_storage c.args.storage) v _ (rw c.kind.ensures at c.in-Ok.ensures.value) c.discard.ensures (c.put.ensures ∙ ap (slice_set m.slots c.args.slot) c.kept.ensures) refl refl
     (heap ∙ barrier m.heap v))
 
 pub returns-in-Err-clause-step : goal.returns-in-Err-clause-step

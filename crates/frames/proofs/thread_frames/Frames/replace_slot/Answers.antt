@@ -1,5 +1,5 @@
 use Rattle.frames.proofs.RunningLemmas.{replaces}
-use Rattle.frames.proofs.thread_frames.Frames.replace.Goals as goal
+use Rattle.frames.proofs.thread_frames.Frames.replace_slot.Goals as goal
 
 pub returns : goal.returns
 returns c = replaces _ _ _ _ _ _ c.requires.some c.drop_values.ensures.left c.push.ensures

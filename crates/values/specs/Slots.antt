@@ -5,9 +5,8 @@ use Rattle.model.specs.declared.values.Entry.{Entry}
 use Rattle.model.specs.declared.values.Entry.TheVariants.{Unset as UnsetEntry, Holds, UpperHalf}
 use Rattle.model.specs.declared.turns.Fault.{Fault}
 use Rattle.model.specs.declared.turns.Fault.TheVariants.{WrongKind, WrongLocal}
-use Rattle.frames.specs.declared.slots.Slot.{Slot}
-use Rattle.frames.specs.declared.slots.Slot.TheVariants.{Unset, Int, Long, Null, Ref, Upper}
-use Rattle.frames.specs.Layout.{value_in}
+use Rattle.values.specs.declared.slots.Slot.{Slot}
+use Rattle.values.specs.declared.slots.Slot.TheVariants.{Unset, Int, Long, Null, Ref, Upper}
 
 -- the entry that a slot stands for
 abbrev pub entry_of : Slot → Entry
@@ -18,7 +17,13 @@ entry_of Null = Holds (RefValue None)
 entry_of (Ref number) = Holds (RefValue (Some number))
 entry_of Upper = UpperHalf
 
--- the value that stands in a slot of a stack
+-- the value that an entry holds: null where it holds none, of which nobody asks it
+abbrev pub value_in : Entry → Value
+value_in UnsetEntry = RefValue None
+value_in (Holds v) = v
+value_in UpperHalf = RefValue None
+
+-- the value that stands in a slot
 abbrev pub value_of : Slot → Value
 value_of slot = value_in (entry_of slot)
 

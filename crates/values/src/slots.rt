@@ -1,17 +1,17 @@
-//! What stands in one unit of a thread's array.
+//! Values and entries in one flat form, in which frames, objects and static fields keep them.
 ghost use Rattle.std.specs.Prelude.{◌≡◌, Some, Ok, ◌∷◌, []};
 ghost use Rattle.model.specs.Values.{units_of as units_taken};
 ghost use Rattle.model.specs.Frames.{as_int, as_long, as_ref};
 ghost use Rattle.model.specs.Locals.{of_kind, value_in_entry};
-ghost use Rattle.model.specs.Collector.Places.{entry_ref};
+ghost use Rattle.model.specs.Collector.Places.{entry_ref, ref_of};
 ghost use Rattle.model.specs.declared.values.Entry.TheVariants.{Holds};
-ghost use Rattle.frames.specs.Slots.{entry_of, value_of, wrong_entry};
+ghost use Rattle.values.specs.Slots.{entry_of, value_of, wrong_entry};
 
 use model::turns::Fault;
 use model::values::{Entry, Kind, Value};
 
-/// An entry of a frame's locals or a value of its stack, of 16 bytes and with no enum in it, so that one look at the tag
-/// tells what stands there.
+/// An entry of a frame's locals, a value of its stack, a word of an object or the value of a static field, of 16 bytes and with
+/// no enum in it, so that one look at the tag tells what stands there.
 // The order lets each question on a slot be two comparisons at most: what is a number, what is no number and no reference
 // to an object, and what is one.
 #[derive(Clone, Copy)]
@@ -27,8 +27,9 @@ pub enum Slot {
 
 /// The slot of a value.
 #[inline(always)]
-pub(crate) fn slot_of(value: Value) -> Slot
-    ensures { entry_of result ≡ Holds value }
+pub fn slot_of(value: Value) -> Slot
+    ensures entry { entry_of result ≡ Holds value }
+    ensures value { value_of result ≡ value }
 {
     match value {
         Value::Int(z) => Slot::Int(z),
@@ -38,9 +39,9 @@ pub(crate) fn slot_of(value: Value) -> Slot
     }
 }
 
-/// The value that stands in a slot of a stack.
+/// The value that stands in a slot: null where there is none.
 #[inline(always)]
-pub(crate) fn value_in(slot: Slot) -> Value
+pub fn value_in(slot: Slot) -> Value
     ensures { result ≡ value_of slot }
 {
     match slot {
@@ -53,7 +54,7 @@ pub(crate) fn value_in(slot: Slot) -> Value
 
 /// The entry that stands in a slot.
 #[inline(always)]
-pub(crate) fn entry_in(slot: Slot) -> Entry
+pub fn entry_in(slot: Slot) -> Entry
     ensures { result ≡ entry_of slot }
 {
     match slot {
@@ -68,7 +69,7 @@ pub(crate) fn entry_in(slot: Slot) -> Entry
 
 /// The units that a value takes on a stack: 2 for a long, else 1 (JVMS 2.6.2).
 #[inline(always)]
-pub(crate) fn units_of(value: Value) -> usize
+pub fn units_of(value: Value) -> usize
     ensures { result ≡ units_taken value }
 {
     match value {
@@ -79,7 +80,7 @@ pub(crate) fn units_of(value: Value) -> usize
 
 /// The units that the value in a slot of a stack takes.
 #[inline(always)]
-pub(crate) fn units_in(slot: Slot) -> usize
+pub fn units_in(slot: Slot) -> usize
     ensures { result ≡ units_taken (value_of slot) }
 {
     match slot {
@@ -90,7 +91,7 @@ pub(crate) fn units_in(slot: Slot) -> usize
 
 /// The int in a slot of a stack; else F3.
 #[inline(always)]
-pub(crate) fn int_in(slot: Slot) -> Result<i32, Fault>
+pub fn int_in(slot: Slot) -> Result<i32, Fault>
     ensures { result ≡ as_int (Ok (value_of slot)) }
 {
     match slot {
@@ -103,7 +104,7 @@ pub(crate) fn int_in(slot: Slot) -> Result<i32, Fault>
 
 /// The long in a slot of a stack; else F3.
 #[inline(always)]
-pub(crate) fn long_in(slot: Slot) -> Result<i64, Fault>
+pub fn long_in(slot: Slot) -> Result<i64, Fault>
     ensures { result ≡ as_long (Ok (value_of slot)) }
 {
     match slot {
@@ -116,7 +117,7 @@ pub(crate) fn long_in(slot: Slot) -> Result<i64, Fault>
 
 /// The reference in a slot of a stack; else F3.
 #[inline(always)]
-pub(crate) fn reference_in(slot: Slot) -> Result<Option<u32>, Fault>
+pub fn reference_in(slot: Slot) -> Result<Option<u32>, Fault>
     ensures { result ≡ as_ref (Ok (value_of slot)) }
 {
     match slot {
@@ -128,7 +129,7 @@ pub(crate) fn reference_in(slot: Slot) -> Result<Option<u32>, Fault>
 
 /// The value in a slot of a stack, where it is of the kind that is wanted; else F3.
 #[inline(always)]
-pub(crate) fn operand_in(kind: Kind, slot: Slot) -> Result<Value, Fault>
+pub fn operand_in(kind: Kind, slot: Slot) -> Result<Value, Fault>
     ensures { result ≡ of_kind kind (value_of slot) }
 {
     match kind {
@@ -141,7 +142,7 @@ pub(crate) fn operand_in(kind: Kind, slot: Slot) -> Result<Value, Fault>
 /// The value in a local's slot, where it is of the kind that is wanted; F3 where it is unset or of another kind, F4 where
 /// it is the upper half of a long.
 #[inline(always)]
-pub(crate) fn local_in(kind: Kind, slot: Slot) -> Result<Value, Fault>
+pub fn local_in(kind: Kind, slot: Slot) -> Result<Value, Fault>
     ensures { result ≡ value_in_entry kind (Some (entry_of slot)) }
 {
     match kind {
@@ -180,8 +181,9 @@ fn wrong_local(slot: Slot) -> Fault
 
 /// The reference in a slot, if there is one.
 #[inline(always)]
-pub(crate) fn number_in(slot: Slot) -> Option<u32>
-    ensures { result ≡ entry_ref (entry_of slot) }
+pub fn number_in(slot: Slot) -> Option<u32>
+    ensures entry { result ≡ entry_ref (entry_of slot) }
+    ensures value { result ≡ ref_of (value_of slot) }
 {
     match slot {
         Slot::Ref(number) => Some(number),
