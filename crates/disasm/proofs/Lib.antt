@@ -1,5 +1,5 @@
 mod Back
-mod Filed
+mod ClassFiles
 mod MarkLemmas
 pub mod NumberWords
 pub mod PlainWords

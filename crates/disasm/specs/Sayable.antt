@@ -58,3 +58,21 @@ superclass_is_sayable flags superclass = not (has flags 0x0200) || bytes_eq supe
 -- whether a text can say what the listing of a class file says
 unfoldable pub is_sayable : ClassListing → Bool
 is_sayable l = superclass_is_sayable l.flags.0 l.superclass && list_all method_is_sayable l.methods
+
+-- ---- what is left of this in programs
+
+-- no class named `all` is taken
+abbrev pub catch_is_plain : Option (List ℕ) → Bool
+catch_is_plain None = true
+catch_is_plain (Some name) = not (bytes_eq name (codes "all"))
+
+abbrev pub body_is_plain : Option CodeListing → Bool
+body_is_plain None = true
+body_is_plain (Some c) = list_all (λ r. catch_is_plain r.class) c.rows
+
+-- an interface's superclass is java/lang/Object, and no exception row takes a class named `all`
+unfoldable pub is_plain : ClassListing → Bool
+is_plain l = superclass_is_sayable l.flags.0 l.superclass && list_all (λ m. body_is_plain m.code) l.methods
+
+abbrev pub are_named : List ClassListing → Bool
+are_named classes = list_all (λ c. is_class_name c.name) classes

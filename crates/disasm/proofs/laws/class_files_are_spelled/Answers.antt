@@ -1,5 +1,5 @@
-use Rattle.disasm.proofs.Filed.Exactly.{spelled_is_sayable}
-use Rattle.disasm.proofs.Filed.Listings.{file_is_spelled, file_assembles}
+use Rattle.disasm.proofs.ClassFiles.Exactly.{spelled_is_sayable}
+use Rattle.disasm.proofs.ClassFiles.Listings.{file_is_spelled, file_assembles}
 use Rattle.model.specs.ClassFiles.Listing.{listing_of}
 use Rattle.disasm.proofs.laws.class_files_are_spelled.Goals as goal
 

@@ -26,9 +26,9 @@ use Rattle.model.specs.Texts.Spelled.{is_u2, is_int, is_long, code_is_spelled, b
 use Rattle.classfile.specs.Sound.{is_constant, is_type, FieldStands, CodesStand, MethodStands}
 use Rattle.classfile.proofs.SoundLaws.{standing_field, standing_code}
 use Rattle.disasm.specs.Sayable.{body_is_sayable, superclass_is_sayable}
-use Rattle.disasm.proofs.Filed.Codes.{code_spelled}
-use Rattle.disasm.proofs.Filed.Operands.{two_bytes, int_is, long_is}
-use Rattle.disasm.proofs.Filed.Pools.{entry_meets, text_under}
+use Rattle.disasm.proofs.ClassFiles.Codes.{code_spelled}
+use Rattle.disasm.proofs.ClassFiles.Operands.{two_bytes, int_is, long_is}
+use Rattle.disasm.proofs.ClassFiles.Pools.{entry_meets, text_under}
 
 -- ---- a class's flags without SUPER
 

@@ -25,8 +25,8 @@ use Rattle.model.specs.Texts.Widths.{is_among, different}
 use Rattle.classfile.specs.Sound.{CodesStand}
 use Rattle.disasm.proofs.Back.Lists.{all_joined}
 use Rattle.disasm.proofs.Back.Widths.{among_kept}
-use Rattle.disasm.proofs.Filed.Codes.{each_fits}
-use Rattle.disasm.proofs.Filed.Operands.{int_tag}
+use Rattle.disasm.proofs.ClassFiles.Codes.{each_fits}
+use Rattle.disasm.proofs.ClassFiles.Operands.{int_tag}
 
 -- ---- different numbers that are all among others are no more than these
 

@@ -22,12 +22,12 @@ use Rattle.classfile.specs.Classes.{IsClass}
 use Rattle.classfile.specs.Sound.{CodesStand, MethodStands, ClassStands}
 use Rattle.classfile.proofs.SoundLaws.{standing_head, standing_methods, standing_code}
 use Rattle.disasm.specs.Sayable.{body_is_sayable, method_is_sayable, superclass_is_sayable, is_sayable}
-use Rattle.disasm.proofs.Filed.Codes.{code_made}
-use Rattle.disasm.proofs.Filed.Items.{no_larger, AreSaid, both_said, plain_said, plains_said, fields_said, methods_said}
-use Rattle.disasm.proofs.Filed.Members.{interface_still, head_spelled, fields_spelled, method_spelled}
-use Rattle.disasm.proofs.Filed.Numbers.{few_numbers}
-use Rattle.disasm.proofs.Filed.Operands.{two_bytes}
-use Rattle.disasm.proofs.Filed.Pools.{plain_under}
+use Rattle.disasm.proofs.ClassFiles.Codes.{code_made}
+use Rattle.disasm.proofs.ClassFiles.Items.{no_larger, AreSaid, both_said, plain_said, plains_said, fields_said, methods_said}
+use Rattle.disasm.proofs.ClassFiles.Members.{interface_still, head_spelled, fields_spelled, method_spelled}
+use Rattle.disasm.proofs.ClassFiles.Numbers.{few_numbers}
+use Rattle.disasm.proofs.ClassFiles.Operands.{two_bytes}
+use Rattle.disasm.proofs.ClassFiles.Pools.{plain_under}
 
 module _ (pool : List Entry) where
   classes_spelled : (ns : List ℕ) → AreSound pool → AllByRecursion (ClassStands pool) ns → list_all is_class_name (map (class_at pool) ns) ≡ true

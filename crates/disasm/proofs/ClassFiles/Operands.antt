@@ -39,7 +39,7 @@ use Rattle.model.specs.Texts.Names.{is_class_name}
 use Rattle.model.specs.Texts.Spelled.{is_byte, is_short, is_int, is_long, is_u2, constant_is_spelled, access_is_spelled, array_is_spelled, class_is_spelled, count_is_spelled, method_is_named, operands_are_spelled}
 use Rattle.assembler.specs.Numbering.{items_of}
 use Rattle.disasm.specs.Sayable.{count_is_sayable, operand_is_sayable}
-use Rattle.disasm.proofs.Filed.Pools.{entry_meets, is_said, MemberUnder, member_under, class_under, plain_under}
+use Rattle.disasm.proofs.ClassFiles.Pools.{entry_meets, is_said, MemberUnder, member_under, class_under, plain_under}
 
 -- ---- numbers
 

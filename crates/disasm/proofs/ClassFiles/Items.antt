@@ -42,8 +42,8 @@ use Rattle.classfile.proofs.SoundLaws.{standing_field, standing_code}
 use Rattle.assembler.specs.Numbering.{item_of, items_of, are_items_of}
 use Rattle.assembler.proofs.NumberingItems.{item_new, item_known}
 use Rattle.assembler.proofs.NumberingCounts.{count_is_less}
-use Rattle.disasm.proofs.Filed.Pools.{is_said, ClassUnder, MemberUnder, text_under, class_under, plain_under}
-use Rattle.disasm.proofs.Filed.Operands.{int_under, long_under, field_under, method_under, interface_under}
+use Rattle.disasm.proofs.ClassFiles.Pools.{is_said, ClassUnder, MemberUnder, text_under, class_under, plain_under}
+use Rattle.disasm.proofs.ClassFiles.Operands.{int_under, long_under, field_under, method_under, interface_under}
 
 -- ---- a pool is as large as what it says
 

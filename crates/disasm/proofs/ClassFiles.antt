@@ -7,3 +7,4 @@ pub mod Members
 pub mod Numbers
 pub mod Operands
 pub mod Pools
+pub mod Programs

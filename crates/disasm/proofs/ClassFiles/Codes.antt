@@ -23,7 +23,7 @@ use Rattle.model.specs.Texts.Spelled.{is_u2, stand_from, is_pc, operands_are_spe
 use Rattle.model.proofs.SizeLaws.{listed_size}
 use Rattle.disasm.specs.Sayable.{operand_is_sayable, code_is_sayable}
 use Rattle.disasm.proofs.Back.Lists.{all_joined}
-use Rattle.disasm.proofs.Filed.Operands.{two_bytes, operands_spelled, agrees, near}
+use Rattle.disasm.proofs.ClassFiles.Operands.{two_bytes, operands_spelled, agrees, near}
 
 -- ---- instructions stand one behind the other
 
