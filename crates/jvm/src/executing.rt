@@ -59,7 +59,9 @@ impl Ending {
 }
 
 /// The heap of some options.
-fn shape_of(options: &RunOptions) -> HeapShape {
+fn shape_of(options: &RunOptions) -> HeapShape
+    ensures { result ≡ record { small = options.now.small; medium = options.now.medium; large = options.now.large } }
+{
     HeapShape {
         small: options.small,
         medium: options.medium,

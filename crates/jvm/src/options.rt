@@ -1,6 +1,8 @@
 //! The command line.
 ghost use Rattle.std.specs.Prelude.{◌≡◌, ◌<◌, ◌≤◌, IfOk, length};
+ghost use Rattle.clap.specs.Words.{found_of};
 ghost use Rattle.jvm.specs.Commands.{HasFiles, InRange};
+ghost use Rattle.jvm.specs.Numbers.{HasNumbers, IsNumber};
 
 use clap::error::ErrorKind;
 use clap::{Arg, ArgAction, ArgMatches, Command as Line, Error as ClapError, value_parser};
@@ -229,12 +231,15 @@ fn path(alloc: Global, matches: &ArgMatches<'_>, name: &str) -> Result<Option<St
 }
 
 /// The number of an option; 0 where it has none, which its default rules out.
-fn number_of(matches: &ArgMatches<'_>, name: &str) -> u32 {
+fn number_of(matches: &ArgMatches<'_>, name: &str) -> u32
+    ensures { IsNumber (found_of matches.now) name.now result }
+{
     matches.get_one::<u32>(name).unwrap_or(0)
 }
 
-/// The options of `run`.
+/// The options of `run`, each number from the words behind its own name.
 fn run_options(alloc: Global, matches: &ArgMatches<'_>) -> Result<RunOptions, LineError>
+    ensures numbers { IfOk result (HasNumbers (found_of matches.now)) }
     ensures files { IfOk result (λ options. 0 < length options.files.items) }
     ensures gc { IfOk result (λ options. options.gc ≤ 1000) }
     ensures some { IfOk result (λ options. 1 ≤ options.carriers) }

@@ -53,7 +53,7 @@ struct Answer {
 }
 
 /// The words behind the program's name, parted by spaces, as a command.
-fn command_of(alloc: Global, words: &str) -> Result<Command, Fail> {
+pub fn command_of(alloc: Global, words: &str) -> Result<Command, Fail> {
     let mut line = Vec::new(alloc);
     line.push("jvm")?;
     for word in words.split(' ') {

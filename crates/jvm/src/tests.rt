@@ -2,7 +2,8 @@
 use crate::executing::execute;
 use crate::files::{Files, ReadError, WriteError};
 use crate::laws::sources_are_well_named;
-use crate::options::{LineError, options};
+use crate::options::{Command, LineError, options};
+use crate::stored_run_tests::command_of;
 use std::alloc::{AllocError, Global};
 use std::process::Abort;
 use std::sync::Wait;
@@ -694,6 +695,38 @@ fn a_file_that_is_not_there_is_told(rt: HostRuntime) -> Result<(), Fail> {
         b"",
         b"jvm: cannot read b.j\n",
     )
+}
+
+/// The numbers of a run's options: cells of the three sizes, steps, bytes of output, the collector's turns, carriers.
+fn numbers_of(alloc: Global, words: &str) -> Result<[u32; 7], Fail> {
+    match command_of(alloc, words)? {
+        Command::Run(run) => Ok([
+            run.small,
+            run.medium,
+            run.large,
+            run.steps,
+            run.output,
+            run.gc,
+            u32::from(run.carriers),
+        ]),
+        _ => Ok([0; 7]),
+    }
+}
+
+const NUMBERS: [(&str, [u32; 7]); 2] = [
+    ("run a.j", [64, 16, 4, 1_000_000, 65_536, 1, 1]),
+    (
+        "run --small 2 --medium 3 --large 5 --steps 7 --output 11 --gc 13 --carriers 8 a.j",
+        [2, 3, 5, 7, 11, 13, 8],
+    ),
+];
+
+#[test]
+fn options_have_numbers(rt: HostRuntime) -> Result<(), Fail> {
+    for (words, numbers) in NUMBERS {
+        assert!(rt; numbers_of(rt.alloc(), words)? == numbers);
+    }
+    Ok(())
 }
 
 /// What is wrong with these words behind the program's name, parted by spaces: 6 memory, 7 options, 8 clap's mistakes, 0 what
