@@ -29,12 +29,12 @@ PROGRAMS = {
         "long x = l; for (int k = 0; k < 100; k++) { x = x * 31L + i ^ x >>> 3; if ((x & 1L) == 0L) x += i; } l = x; s = (int) l;",
     ),
     "sieve": (
-        """static boolean[] sieve = new boolean[240];
+        """static byte[] sieve = new byte[240];
     static int primes() {
-        boolean[] passed = sieve; int count = 0;
-        for (int n = 0; n < 240; n++) passed[n] = false;
+        byte[] passed = sieve; int count = 0;
+        for (int n = 0; n < 240; n++) passed[n] = 0;
         for (int n = 2; n < 240; n++) {
-            if (!passed[n]) { count++; for (int m = n + n; m < 240; m += n) passed[m] = true; }
+            if (passed[n] == 0) { count++; for (int m = n + n; m < 240; m += n) passed[m] = 1; }
         }
         return count;
     }""",
@@ -46,8 +46,9 @@ PROGRAMS = {
     static class Square implements Shape { public int area(int x) { return x * x; } }
     static class Strip implements Shape { public int area(int x) { return x; } }
     static class Twice extends Strip { public int area(int x) { return x + x; } }
+    static Square square = new Square(); static Strip strip = new Strip(); static Twice twice = new Twice();
     static int both(Shape a, Strip b, int x) { return a.area(x) + b.area(x); }""",
-        """Square a = new Square(); Strip b = new Strip(); Twice c = new Twice();
+        """Square a = square; Strip b = strip; Twice c = twice;
         for (int k = 0; k < 100; k++) s += both(a, c, k) + both(b, b, k) + both(c, c, k);""",
     ),
     "allocation": (

@@ -4,9 +4,10 @@
     tools/run_examples.py [--jvm PATH] [--after LOG]
 
 A text NAME.j that has NAME.out beside it is a program (Square.j with Shape.j): it is run from its texts and from its class
-files, and each run's journal is replayed; NAME.out has its output, its lines on standard error and its status. Each text is
-assembled, disassembled and assembled again, which gives the same class file. The class files of examples/java are run in the
-same way; there NAME.out is what `java` printed. The programs of examples/rows.txt are run turn by turn.
+files, twice each with one journal, and the journal is replayed; NAME.out has its output, its lines on standard error and its
+status. Each text is assembled, disassembled and assembled again, which gives the same class file. The class files of
+examples/java are run in the same way; there NAME.out is what `java` printed. The programs of examples/rows.txt are run turn
+by turn.
 
 The last line is 'N passed, M failed'. With --after, the passes and failures in the last line of that file are added.
 """
@@ -55,12 +56,15 @@ def round_trip(jvm, text, room):
 
 
 def difference(jvm, files, options, wanted, room):
-    """How a run of these files and its replay differ from what is wanted, or nothing."""
-    journal = f"{room}/journal"
-    shown = run(jvm, "run", *options, "--journal", journal, *files)
-    if shown != wanted:
-        return f"run: {shown.decode(errors='replace')}"
-    shown = run(jvm, "replay", journal, *files)
+    """How a run of these files, its replay and a second run differ from what is wanted, or nothing."""
+    journals = [f"{room}/journal", f"{room}/second"]
+    for journal in journals:
+        shown = run(jvm, "run", *options, "--journal", journal, *files)
+        if shown != wanted:
+            return f"run: {shown.decode(errors='replace')}"
+    if bytes_of(journals[0]) != bytes_of(journals[1]):
+        return "two runs have two journals"
+    shown = run(jvm, "replay", journals[0], *files)
     return None if shown == wanted else f"replay: {shown.decode(errors='replace')}"
 
 
@@ -136,6 +140,9 @@ def main():
     if given.after:
         last = bytes_of(given.after).decode().rstrip("\n").split("\n")[-1]
         passed, failed = (int(it) for it in re.match(r"(\d+) passed, (\d+) failed", last).groups())
+    if not os.path.exists(given.jvm):
+        print(f"examples: there is no {given.jvm}\n{passed} passed, {failed + 1} failed")
+        return 1
     with tempfile.TemporaryDirectory() as room:
         for tried in (tried_texts, tried_others, tried_rows, tried_classes):
             for name, why in tried(os.path.abspath(given.jvm), room):

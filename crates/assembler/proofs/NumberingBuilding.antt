@@ -15,8 +15,8 @@ use Rattle.model.specs.declared.class_files.Entry.TheVariants.{Utf8, Integer, Lo
 use Rattle.model.specs.declared.names.Member.{Member}
 use Rattle.classfile.specs.declared.error.ClassError.{ClassError}
 use Rattle.classfile.specs.declared.error.ClassError.TheVariants as class_error
-use Rattle.assembler.specs.declared.numbers.NumberError.{NumberError}
-use Rattle.assembler.specs.declared.numbers.NumberError.TheVariants as error
+use Rattle.assembler.specs.declared.pool_numbers.NumberError.{NumberError}
+use Rattle.assembler.specs.declared.pool_numbers.NumberError.TheVariants as error
 use Rattle.assembler.specs.Numbering.{number_of, entry_of, entries_of, item_of, items_of, named_by, are_items_of, AreClosed, IsPool, said, IsEntry, reference_items}
 use Rattle.assembler.proofs.NumberingItems.{same_is as same_item_is, same_self, with_item_keeps, with_items_have, one_of, among_first, named_are, closed_are_different, item_new, item_known, with_item_has, closed_grows}
 use Rattle.assembler.proofs.NumberingEntries.{item_under, number_left, still_number, still_numbers, count_is}

@@ -9,8 +9,8 @@ use Rattle.assembler.specs.Numbering.{number_of}
 use Rattle.assembler.specs.Told.{told}
 use Rattle.assembler.specs.declared.error.AsmError.{AsmError}
 use Rattle.assembler.specs.declared.error.AsmError.TheVariants as error
-use Rattle.assembler.specs.declared.numbers.NumberError.{NumberError}
-use Rattle.assembler.specs.declared.numbers.NumberError.TheVariants.{Full, Memory}
+use Rattle.assembler.specs.declared.pool_numbers.NumberError.{NumberError}
+use Rattle.assembler.specs.declared.pool_numbers.NumberError.TheVariants.{Full, Memory}
 use Rattle.assembler.proofs.NumberingItems.{among_right, among_first, with_items-append, with_items_have, counts_grow}
 use Rattle.assembler.proofs.NumberingEntries.{still_numbers}
 

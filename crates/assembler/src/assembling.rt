@@ -13,10 +13,10 @@ ghost use Rattle.assembler.specs.Checks.{has_few_rows, has_short_lists};
 ghost use Rattle.assembler.specs.declared.error.AsmError.TheVariants as error;
 
 use crate::error::AsmError;
-use crate::lasting::int;
+use crate::kept_numbers::int;
 use crate::listings::listing;
 use crate::numbered_class::class_file;
-use crate::numbers::Numbers;
+use crate::pool_numbers::Numbers;
 use bitflags::Flags;
 use classfile::ClassFile;
 use model::instructions::{Constant, Instruction, Width};

@@ -5,7 +5,7 @@ ghost use Rattle.model.specs.Texts.Widths.{widened, widened_constant};
 ghost use Rattle.assembler.specs.Checks.{pc_in};
 
 use crate::labels::label_pc;
-use crate::widths::among;
+use crate::ldc_numbers::among;
 use jasmin::Labels;
 use model::instructions::{
     ArrayOperation, Constant, Instruction, LookupSwitch, TableSwitch, Width,

@@ -5,14 +5,14 @@ mod assembling;
 mod checks;
 mod error;
 mod instructions;
+mod kept_numbers;
 mod labels;
-mod lasting;
+mod ldc_numbers;
 mod listings;
 mod numbered_class;
 mod numbered_code;
-mod numbers;
+mod pool_numbers;
 mod sizes;
-mod widths;
 
 pub use assembling::{Assembled, assemble};
 pub use error::AsmError;

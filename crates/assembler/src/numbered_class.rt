@@ -9,9 +9,9 @@ ghost use Rattle.assembler.specs.Numbering.{number_of, numbered_value, numbered_
 ghost use Rattle.assembler.specs.declared.error.AsmError.TheVariants as error;
 
 use crate::error::AsmError;
-use crate::lasting::{attribute, class, int, long, text};
+use crate::kept_numbers::{attribute, class, int, long, text};
 use crate::numbered_code::numbered_code;
-use crate::numbers::Numbers;
+use crate::pool_numbers::Numbers;
 use bitflags::Flags;
 use classfile::{Body, ClassFile, CodeEntry, MethodEntry};
 use model::class_files::{ConstantValue, FieldEntry};

@@ -9,8 +9,8 @@ ghost use Rattle.assembler.specs.Numbering.{number_of, called_item, numbered_row
 ghost use Rattle.assembler.specs.declared.error.AsmError.TheVariants as error;
 
 use crate::error::AsmError;
-use crate::lasting::{attribute, class, field, int, interface_method, long, method};
-use crate::numbers::Numbers;
+use crate::kept_numbers::{attribute, class, field, int, interface_method, long, method};
+use crate::pool_numbers::Numbers;
 use classfile::{CodeEntry, CodeRow, Instructions};
 use model::bytecode::Instr;
 use model::instructions::{

@@ -5,7 +5,7 @@ ghost use Rattle.model.specs.Texts.Assembling.{size_is_right};
 ghost use Rattle.model.specs.Texts.Labels.{pc_behind};
 ghost use Rattle.model.specs.Texts.Widths.{widened, widened_constant, widened_line};
 
-use crate::widths::among;
+use crate::ldc_numbers::among;
 use model::instructions::{
     ArrayOperation, Constant, Increment, Instruction, Invocation, Local, LocalAccess, Test, Width,
 };

@@ -9,9 +9,9 @@ ghost use Rattle.classfile.specs.Writing.{code_bytes, code_info, code_attribute_
 
 use crate::attributes::{sized_at, skip_attributes};
 use crate::error::ClassError;
+use crate::exception_rows::{CodeRow, put_rows, rows_at};
 use crate::instructions::{Instructions, Signature};
 use crate::operands::all_sound;
-use crate::rows::{CodeRow, put_rows, rows_at};
 use model::class_files::FormatFault;
 use pool::fields::u16_at;
 use pool::{Pool, ReadError};

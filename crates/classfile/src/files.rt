@@ -190,6 +190,13 @@ impl ClassFile {
         Ok(ClassFile { head, methods })
     }
 
+    /// Every class file is that of some bytes, so that what the format says (JVMS 4) holds of it.
+    pub fn has_bytes(&self)
+        ensures { IsClass self.now }
+    {
+        let _ = &self.head;
+    }
+
     /// What stands before the methods.
     pub fn head(&self) -> &ClassHead
         ensures { result.now ≡ self.now.head }

@@ -14,10 +14,10 @@ ghost use Rattle.classfile.specs.Reading.Methods.{method_type_test};
 ghost use Rattle.classfile.specs.Sound.{CodeStands, CodesStand, MethodStands};
 
 use crate::codes::CodeEntry;
+use crate::exception_rows::CodeRow;
 use crate::fields::is_static;
 use crate::methods::{MethodEntry, are_method_flags, is_code_name, is_method_type, wants_code};
 use crate::operands::{all_sound, has_tag};
-use crate::rows::CodeRow;
 use crate::sound_fields::{both, is_count};
 use bitflags::Flags;
 use model::bytecode::Located;

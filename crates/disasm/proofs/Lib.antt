@@ -1,4 +1,5 @@
 mod Back
+mod ClassFiles
 mod MarkLemmas
 pub mod NumberWords
 pub mod PlainWords

@@ -1,4 +1,5 @@
 pub mod Back
 pub mod Marks
 pub mod Rereading
+pub mod Sayable
 pub mod Statements

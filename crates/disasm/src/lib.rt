@@ -12,5 +12,5 @@ mod words;
 
 pub use classes::text;
 pub use files::disassemble;
-pub use laws::texts_come_back;
+pub use laws::{class_files_are_spelled, programs_are_sayable, texts_come_back};
 pub use rereading::{AgainError, TreeError, again, tree};

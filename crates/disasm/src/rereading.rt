@@ -1,14 +1,13 @@
 //! The text of a class file, read again.
-ghost use Rattle.std.specs.Prelude.{◌≡◌, ℕ, List, Some, true, MatchResult};
+ghost use Rattle.std.specs.Prelude.{◌≡◌, true, MatchResult};
 ghost use Rattle.disasm.specs.Rereading.{LacksMemory, IsForMemory};
+ghost use Rattle.disasm.specs.Sayable.{is_sayable};
 ghost use Rattle.model.specs.ClassFiles.Listing.{listing_of};
-ghost use Rattle.model.specs.Texts.{tree_of};
 ghost use Rattle.model.specs.Texts.Assembling.{assembles};
 ghost use Rattle.model.specs.Texts.ListingOfTree as texts;
-ghost use Rattle.model.specs.Texts.Trees.{Tree};
 
 use crate::files::disassemble;
-use crate::laws::texts_come_back;
+use crate::laws::class_files_are_spelled;
 use assembler::{AsmError, assemble};
 use classfile::ClassFile;
 use jasmin::TextError;
@@ -27,14 +26,13 @@ pub enum TreeError {
     Memory,
 }
 
-/// The tree of a class file's text. Where the file's listing is that of a text that assembles, the tree has this listing
-/// and assembles too, and memory alone is an error.
+/// The tree of a class file's text. Where a text can say what the file does (`class_files_are_spelled`), the tree has the
+/// file's listing and assembles, and memory alone is an error.
 pub fn tree(alloc: Global, file: &ClassFile) -> Result<ClassTree, TreeError>
-    ensures { (text : List ℕ) (t : Tree) → tree_of text ≡ Some t → assembles t ≡ true → texts.listing_of t ≡ listing_of file.now
-        → MatchResult result (λ tree. (texts.listing_of tree ≡ listing_of file.now) × (assembles tree ≡ true)) LacksMemory }
+    ensures { is_sayable (listing_of file.now) ≡ true → MatchResult result (λ tree. (texts.listing_of tree ≡ listing_of file.now) × (assembles tree ≡ true)) LacksMemory }
 {
-    jasmin::texts_are_spelled();
-    texts_come_back();
+    file.has_bytes();
+    class_files_are_spelled();
     let text = match disassemble(alloc, file) {
         Ok(text) => text,
         Err(_) => return Err(TreeError::Memory),
@@ -56,13 +54,13 @@ pub enum AgainError {
     Assembly(AsmError),
 }
 
-/// The class file that the text of a class file assembles to. Where the file's listing is that of a text that assembles, it
-/// has this listing, and memory alone is an error.
+/// The class file that the text of a class file assembles to. Where a text can say what the file does
+/// (`class_files_are_spelled`), it has the same listing, and memory alone is an error.
 pub fn again(alloc: Global, file: &ClassFile) -> Result<ClassFile, AgainError>
-    ensures { (text : List ℕ) (t : Tree) → tree_of text ≡ Some t → assembles t ≡ true → texts.listing_of t ≡ listing_of file.now
-        → MatchResult result (λ made. listing_of made ≡ listing_of file.now) IsForMemory }
+    ensures { is_sayable (listing_of file.now) ≡ true → MatchResult result (λ made. listing_of made ≡ listing_of file.now) IsForMemory }
 {
-    jasmin::texts_are_spelled();
+    file.has_bytes();
+    class_files_are_spelled();
     let tree = match tree(alloc, file) {
         Ok(tree) => tree,
         Err(error) => return Err(AgainError::Tree(error)),

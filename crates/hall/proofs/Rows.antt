@@ -108,13 +108,24 @@ turn_adds v actor worker =
     (refusal v.program v.journal.limits (machine_of v).world actor)
     (refused_none v.program v.journal.limits (machine_of v).world actor)
 
-module _ (v w : Recorded) (actor : Actor) (worker : ℕ) (t : Turn) (is : w ≡ after_turn_by v actor worker) (answer : t ≡ answer_to v actor worker) where
+pub turn_made : (v w : Recorded) (actor : Actor) (worker : ℕ) (t : Turn) → w ≡ after_turn_by v actor worker → t ≡ answer_to v actor worker → Adds v w worker (rows_by t)
+turn_made v w actor worker t is answer = rw (is, answer) (turn_adds v actor worker)
+
+-- the same of the turn of the thread that is picked
+carried_adds : (v : Recorded) (worker : ℕ) (picked : Option ℕ) → Adds v (turned_by v worker picked) worker (rows_by (answered_by v worker picked))
+carried_adds v worker None = adds_none v worker 0 refl
+carried_adds v worker (Some t) = turn_adds v (Thread t) worker
+
+pub pick_made : (v w : Recorded) (worker : ℕ) (t : Turn) → w ≡ turned_by v worker (pick_of v) → t ≡ answered_by v worker (pick_of v) → Adds v w worker (rows_by t)
+pick_made v w worker t is answer = rw (is, answer) (carried_adds v worker (pick_of v))
+
+module _ (v w : Recorded) (worker : ℕ) (t : Turn) (adds : Adds v w worker (rows_by t)) where
   pub turn_length : length v.journal.rows + rows_by t ≡ length w.journal.rows
-  turn_length = sym (rw (is, answer) (adds_length v (after_turn_by v actor worker) worker (rows_by (answer_to v actor worker)) (turn_adds v actor worker)))
+  turn_length = sym (adds_length v w worker (rows_by t) adds)
 
   pub turn_counts : (before after : ShareValue) → after ≡ counted_on before (rows_by t) → CountsRows v w before after
   turn_counts before after e = record {
-    workers_is = ap (λ (x : Recorded). x.journal.workers) (is ∙ (turn_adds v actor worker).world_is);
+    workers_is = ap (λ (x : Recorded). x.journal.workers) adds.world_is;
     worker_is = ap (λ (s : ShareValue). s.worker) e;
     role_is = ap (λ (s : ShareValue). s.role) e;
     extra_is = ap (λ (s : ShareValue). s.extra) e;
@@ -122,10 +133,6 @@ module _ (v w : Recorded) (actor : Actor) (worker : ℕ) (t : Turn) (is : w ≡ 
   }
 
 -- ---- a role's turn
-
-carried_adds : (v : Recorded) (worker : ℕ) (picked : Option ℕ) → Adds v (turned_by v worker picked) worker (rows_by (answered_by v worker picked))
-carried_adds v worker None = adds_none v worker 0 refl
-carried_adds v worker (Some t) = turn_adds v (Thread t) worker
 
 small : (t : Turn) → rows_by t ≤ 1
 small Done = omega arith

@@ -19,7 +19,7 @@ pub trait Gate {
 
 /// Takes turns of the share's role, each behind the gate and followed by a pulse where it was done, until a stop is asked,
 /// or the world isn't running, or the turn was `OutputFull`, `StepLimit` or `Stopped`; in these last cases it asks for a
-/// stop. A carrier that sees no row of the collector's for a while yields to it. It takes no memory.
+/// stop. A carrier yields to a collector that lags. It takes no memory.
 pub fn carry<L: Ledger, G: Gate, R: Wait>(
     rt: &R,
     hall: &Hall<L>,
@@ -33,7 +33,7 @@ pub fn carry<L: Ledger, G: Gate, R: Wait>(
     ensures seat { IsSameSeat seat.old seat.new }
 {
     let mut turn: u64 = 1;
-    let mut patience = Patience::new(share.role(), hall.collector());
+    let mut patience = Patience::new(share.role(), share.extra(), hall.collector());
     for _round in rt.forever() {
         gate.before(seat.worker(), turn);
         turn = turn.saturating_add(1);

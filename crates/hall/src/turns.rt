@@ -2,7 +2,7 @@
 ghost use Rattle.std.specs.Prelude.{◌≡◌, ◌<◌};
 ghost use Rattle.model.specs.Machines.{after_turn_by, answer_to};
 ghost use Rattle.model.specs.Observers.{status_of, pick_of};
-ghost use Rattle.scheduler.specs.Rounds.{answered_by, is_done, turned_by};
+ghost use Rattle.scheduler.specs.Rounds.{answered_by, turned_by};
 ghost use Rattle.hall.specs.Roles.{after_role, answer_role, collected, collected_answer};
 ghost use Rattle.hall.specs.Roles.{last_is_collector, swept, swept_once, swept_after, after_allowed, answer_allowed, after_more, answer_more, after_rounds, answer_rounds, after_known, answer_known, done_so_far};
 ghost use Rattle.hall.specs.Shares.{Takes, CountsRows};
@@ -10,19 +10,8 @@ ghost use Rattle.hall.specs.Shares.{Takes, CountsRows};
 use crate::roles::Role;
 use crate::shares::{Share, Shared};
 use model::turns::{Actor, Status, Turn};
+use scheduler::rounds::is_done;
 use std::sync::ledger::Ledger;
-
-// Whether a turn was done.
-fn is_done(answer: Turn) -> bool
-    ensures { result ≡ is_done answer }
-{
-    match answer {
-        Turn::Done => true,
-        Turn::NotReady | Turn::Stopped | Turn::Fault(_) | Turn::OutputFull | Turn::StepLimit => {
-            false
-        }
-    }
-}
 
 // What rounds answer that end with a turn of this answer.
 fn done_so_far(answer: Turn) -> Turn
@@ -76,10 +65,11 @@ impl<L: Ledger> Shared<L> {
         ensures answer { result ≡ answered_by self.old share.old.worker (pick_of self.old) }
         ensures share { CountsRows self.old self.new share.old share.new }
     {
-        match self.world.pick() {
-            None => Turn::NotReady,
-            Some(thread) => self.make(share, Actor::Thread(thread)),
-        }
+        let Shared { world, book } = self;
+        let answer = world.turn_of_picked(share.worker());
+        let rows = world.journal().rows().len();
+        share.note(book, answer, rows);
+        answer
     }
 
     // A collector's turn, unless the last row is the collector's.

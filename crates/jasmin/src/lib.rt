@@ -6,6 +6,7 @@
 mod bodies;
 mod catches;
 mod errors;
+mod fault_lines;
 mod fields;
 mod flags;
 mod heads;
@@ -14,14 +15,13 @@ mod labels;
 mod laws;
 mod locals;
 mod mnemonics;
-mod numbers;
 mod operands;
 mod reader;
 mod signatures;
 mod switches;
 mod tables;
-mod telling;
 mod uses;
+mod written_numbers;
 
 pub use errors::{Fault, TextError};
 pub use labels::Labels;

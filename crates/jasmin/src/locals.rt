@@ -3,8 +3,8 @@ ghost use Rattle.std.specs.Prelude.{◌≡◌, None, Some, MatchResult};
 ghost use Rattle.model.specs.Texts.Locals.{local_form, increment_form, increment_of, local_by};
 
 use crate::errors::Fault;
-use crate::numbers::{integer, natural};
 use crate::operands::{both, only_natural};
+use crate::written_numbers::{integer, natural};
 use jasmin_words::words::Words;
 use model::instructions::{Increment, Local, LocalAccess, Width};
 use model::mnemonics::LocalMnemonic;

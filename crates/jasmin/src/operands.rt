@@ -4,7 +4,7 @@ ghost use Rattle.model.specs.Texts.Instructions.{alone};
 ghost use Rattle.model.specs.Texts.Operands.{only, both, only_number, only_natural};
 
 use crate::errors::Fault;
-use crate::numbers::{integer, natural};
+use crate::written_numbers::{integer, natural};
 use jasmin_words::words::Words;
 use model::trees::Written;
 

@@ -11,10 +11,10 @@ ghost use Rattle.jasmin.specs.Bodies.{block_of, behind_block, first_parts, first
 
 use crate::bodies::{Given, Part, end_of, next_of, part_of};
 use crate::errors::{Fault, TextError};
+use crate::fault_lines::told;
 use crate::fields::field;
 use crate::heads::{MethodHead, class_head, interface_name, method_head, super_name};
 use crate::switches::OpenSwitch;
-use crate::telling::told;
 use crate::uses::labels_agree;
 use bitflags::Flags;
 use jasmin_words::statements::{Statement, Statements};

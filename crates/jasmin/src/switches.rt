@@ -7,8 +7,8 @@ ghost use Rattle.jasmin.specs.Switches.{switch_of, line_said};
 
 use crate::errors::Fault;
 use crate::instructions::label_named;
-use crate::numbers::integer;
 use crate::operands::only_number;
+use crate::written_numbers::integer;
 use jasmin_words::statements::Statement;
 use jasmin_words::words::Words;
 use model::instructions::{Instruction, LookupSwitch, TableSwitch};

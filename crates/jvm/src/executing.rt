@@ -1,5 +1,7 @@
 //! What the program does at a command.
+ghost use Rattle.std.specs.Prelude.{◌≡◌, [], IfOk};
 
+use crate::carriers::carried;
 use crate::explaining::{all_codes, meaning};
 use crate::files::{Files, ReadError};
 use crate::launching::{LaunchError, launch};
@@ -8,6 +10,7 @@ use crate::sources::{SourceError, assembled};
 use crate::stored_runs::{replay, upgrade, write_stored};
 use assembler::AsmError;
 use classfile::ClassError;
+use hall::HallError;
 use jasmin::Fault as TextFault;
 use loader::LoadError;
 use model::journals::{HeapShape, Limits};
@@ -16,6 +19,8 @@ use model::views::ThreadState;
 use scheduler::worlds::{World, WorldError};
 use std::alloc::{AllocError, Global};
 use std::io::{Read, Write};
+use std::sync::Wait;
+use std::thread::Threads;
 
 /// A status, and the line that goes to standard error behind `jvm: `.
 #[derive(Drop)]
@@ -54,7 +59,9 @@ impl Ending {
 }
 
 /// The heap of some options.
-fn shape_of(options: &RunOptions) -> HeapShape {
+fn shape_of(options: &RunOptions) -> HeapShape
+    ensures { result ≡ record { small = options.now.small; medium = options.now.medium; large = options.now.large } }
+{
     HeapShape {
         small: options.small,
         medium: options.medium,
@@ -129,13 +136,6 @@ pub fn refused(alloc: Global, names: &[String], error: &LaunchError) -> Ending {
     }
 }
 
-/// Makes turns of the thread that is picked, each followed by so many of the collector, until the world runs no more or a
-/// thread's turn isn't done: as many rounds as the limit of steps allows, and one more.
-fn carry_on(world: &mut World, gc: u32) {
-    let steps = world.journal().limits().steps;
-    let _ = world.rounds(steps.saturating_add(1), gc);
-}
-
 /// A line for each thread that was ended by an exception, by number, each but the first behind `jvm: `; empty where there is
 /// none. `AllocError` where memory runs out.
 fn exceptions_told(alloc: Global, world: &World) -> Result<String, AllocError> {
@@ -182,7 +182,9 @@ pub fn ended(alloc: Global, world: &World) -> Ending {
 }
 
 /// Launches the program of the options' files.
-fn launched<F: Files>(alloc: Global, options: &RunOptions, files: &mut F) -> Result<World, Ending> {
+fn launched<F: Files>(alloc: Global, options: &RunOptions, files: &mut F) -> Result<World, Ending>
+    ensures { IfOk result (λ world. world.journal.rows ≡ []) }
+{
     let names = options.files.as_slice();
     let sources = match read_all(alloc, files, names) {
         Ok(sources) => sources,
@@ -212,20 +214,45 @@ pub fn write_output<W: Write>(alloc: Global, world: &World, output: &mut W) -> R
     Ok(())
 }
 
-/// Runs a program, and writes its output and then its journal, where one is wanted.
-fn run<F: Files, W: Write>(
+/// The end of a run that has no world.
+fn not_carried(alloc: Global, error: HallError) -> Ending {
+    match error {
+        HallError::Memory => Ending::memory(),
+        HallError::Thread => Ending::told(6, format!(in alloc; "no thread")),
+        HallError::Roles | HallError::World => Ending::told(6, format!(in alloc; "hall")),
+    }
+}
+
+/// Writes the output of a run and then its journal, where one is wanted.
+pub fn written<F: Files, W: Write>(
     alloc: Global,
     options: &RunOptions,
+    carried: Result<World, HallError>,
     files: &mut F,
     output: &mut W,
 ) -> Result<Ending, Ending> {
-    let mut world = launched(alloc, options, files)?;
-    carry_on(&mut world, options.gc);
+    let world = match carried {
+        Ok(world) => world,
+        Err(error) => return Err(not_carried(alloc, error)),
+    };
     write_output(alloc, &world, output)?;
     if let Some(name) = &options.journal {
         write_stored(alloc, files, name, world.journal())?;
     }
     Ok(ended(alloc, &world))
+}
+
+/// Runs a program.
+fn run<R: Threads + Wait + Sync, F: Files, W: Write>(
+    rt: &R,
+    alloc: Global,
+    options: &RunOptions,
+    files: &mut F,
+    output: &mut W,
+) -> Result<Ending, Ending> {
+    let world = launched(alloc, options, files)?;
+    let carried = carried(rt, alloc, world, options.carriers, options.gc);
+    written(alloc, options, carried, files, output)
 }
 
 /// The class file of a text, as bytes.
@@ -314,17 +341,19 @@ fn tell<E: Write>(errors: &mut E, ending: &Ending) {
 }
 
 /// Does what a command says with files, standard input, output and error, and answers the exit status: 0 where all threads
-/// ended or a file was written, 2 refused input, 3 a fault, 4 a limit, 5 stuck, 6 memory or a file that can't be read or written.
-pub fn execute<F: Files, R: Read, W: Write, E: Write>(
+/// ended or a file was written, 2 refused input, 3 a fault, 4 a limit, 5 stuck, 6 memory, a thread that can't be started or a
+/// file that can't be read or written. The carriers of a run are threads of the runtime.
+pub fn execute<R: Threads + Wait + Sync, F: Files, I: Read, W: Write, E: Write>(
+    rt: &R,
     alloc: Global,
     command: &Command,
     files: &mut F,
-    _input: &mut R,
+    _input: &mut I,
     output: &mut W,
     errors: &mut E,
 ) -> u8 {
     let ending = match command {
-        Command::Run(options) => either(run(alloc, options, files, output)),
+        Command::Run(options) => either(run(rt, alloc, options, files, output)),
         Command::Assemble(options) => either(assemble(alloc, options, files)),
         Command::Disassemble(name) => either(disassemble(alloc, name, files, output)),
         Command::Replay(options) => either(replay(alloc, options, files, output)),

@@ -4,7 +4,9 @@
 use crate::tests::check;
 use std::alloc::Global;
 use std::process::Abort;
+use std::sync::Wait;
 use std::test::Fail;
+use std::thread::Threads;
 
 const FACTORIAL: &[u8] =
     b".class F\n.super java/lang/Object\n.method static of(I)J\n.limit stack 4\n.limit locals 1\niload_0\nifgt More\nlconst_1\nlreturn\nMore:\niload_0\ni2l\niload_0\niconst_1\nisub\ninvokestatic F/of(I)J\nlmul\nlreturn\n.end method\n.method static main()V\n.limit stack 2\n.limit locals 0\nbipush 20\ninvokestatic F/of(I)J\ninvokestatic vm/Sys/printl(J)V\nreturn\n.end method\n";
@@ -33,17 +35,19 @@ const SWITCHED: &[u8] =
 const GUARDED: &[u8] =
     b".class G\n.super java/lang/Object\n.method static main()V\n.limit stack 2\n.limit locals 1\n.catch java/lang/IllegalMonitorStateException from Try to Tried using Illegal\n.catch java/lang/NullPointerException from Try to Tried using Null\nnew java/lang/Object\nastore_0\naload_0\nmonitorenter\naload_0\nmonitorenter\niconst_1\ninvokestatic vm/Sys/print(I)V\naload_0\nmonitorexit\naload_0\nmonitorexit\niconst_2\ninvokestatic vm/Sys/print(I)V\nTry:\naload_0\nmonitorexit\nreturn\nIllegal:\npop\niconst_3\ninvokestatic vm/Sys/print(I)V\naconst_null\nmonitorenter\nreturn\nTried:\nreturn\nNull:\npop\niconst_4\ninvokestatic vm/Sys/print(I)V\nreturn\n.end method\n";
 
-/// Runs a text, which ends with this status, output and errors.
-fn runs(
-    rt: &impl Abort,
+/// Runs a text by one carrier and by four, where it ends with this status, output and errors.
+fn runs<R: Abort + Threads + Wait + Sync>(
+    rt: &R,
     alloc: Global,
     text: &[u8],
     status: u8,
     output: &[u8],
     errors: &[u8],
 ) -> Result<(), Fail> {
-    let words = ["run", "a.j"];
-    check(rt, alloc, words.as_slice(), text, status, output, errors)
+    let alone = ["run", "a.j"];
+    check(rt, alloc, alone.as_slice(), text, status, output, errors)?;
+    let together = ["run", "--carriers", "4", "a.j"];
+    check(rt, alloc, together.as_slice(), text, status, output, errors)
 }
 
 /// A method that calls itself, and a synchronized method of an object: longs go in and come out.

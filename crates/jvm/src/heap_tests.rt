@@ -24,7 +24,7 @@ const LINKED: &[u8] =
 const DROPPED: &[u8] =
     b".class K\n.super java/lang/Object\n.field x I\n.method static main()V\n.limit stack 1\n.limit locals 0\nnew K\npop\nreturn\n.end method\n";
 
-const MANY: &[u8] =
+pub(crate) const MANY: &[u8] =
     b".class G\n.super java/lang/Object\n.method static main()V\n.limit stack 2\n.limit locals 1\niconst_0\nistore_0\nTop:\nnew G\npop\niinc 0 1\niload_0\nsipush 10000\nif_icmplt Top\nreturn\n.end method\n";
 
 const STATICS: &[u8] =

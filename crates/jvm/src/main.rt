@@ -1,6 +1,7 @@
 //! `jvm`: assembles Jasmin texts, writes class files as texts, and runs both on a small Java virtual machine.
 #![tactic(auto)]
 
+mod carriers;
 mod executing;
 mod explaining;
 #[cfg(test)]
@@ -26,6 +27,8 @@ use crate::files::SystemFiles;
 use crate::options::{LineError, options};
 use std::io::{ErrorKind, Write};
 use std::process::ExitCode;
+use std::sync::Wait;
+use std::thread::Threads;
 use std::{env, io};
 
 /// The status of a command line that stands for no command; what there is to say is said.
@@ -51,8 +54,8 @@ fn refused(rt: &HostRuntime, error: &LineError) -> io::Result<u8> {
     }
 }
 
-/// Does what the words say, and answers the exit status.
-fn perform(rt: &HostRuntime) -> io::Result<u8> {
+/// Does what the words say with these threads, and answers the exit status.
+fn perform<R: Threads + Wait + Sync>(rt: &HostRuntime, threads: &R) -> io::Result<u8> {
     let alloc = rt.alloc();
     let owned: Vec<String> = env::args(rt)?.collect(alloc)?;
     let mut words = Vec::new(alloc);
@@ -66,6 +69,7 @@ fn perform(rt: &HostRuntime) -> io::Result<u8> {
             let mut output = rt.stdout();
             let mut errors = rt.stderr();
             Ok(execute(
+                threads,
                 alloc,
                 &command,
                 &mut files,
@@ -90,7 +94,7 @@ fn failed(rt: &HostRuntime, error: &io::Error) -> u8 {
 }
 
 fn main(rt: HostRuntime) -> ExitCode {
-    let status = match perform(&rt) {
+    let status = match perform(&rt, &rt) {
         Ok(status) => status,
         Err(error) => failed(&rt, &error),
     };

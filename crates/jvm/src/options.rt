@@ -1,6 +1,8 @@
 //! The command line.
 ghost use Rattle.std.specs.Prelude.{◌≡◌, ◌<◌, ◌≤◌, IfOk, length};
+ghost use Rattle.clap.specs.Words.{found_of};
 ghost use Rattle.jvm.specs.Commands.{HasFiles, InRange};
+ghost use Rattle.jvm.specs.Numbers.{HasNumbers, IsNumber};
 
 use clap::error::ErrorKind;
 use clap::{Arg, ArgAction, ArgMatches, Command as Line, Error as ClapError, value_parser};
@@ -43,6 +45,8 @@ pub struct RunOptions {
     pub output: u32,
     /// how many turns the collector makes after each turn of a thread
     pub gc: u32,
+    /// how many threads carry turns; where there are several, the collector is one of its own
+    pub carriers: u8,
     /// where the journal is written, if anywhere
     pub journal: Option<String>,
     pub files: Vec<String>,
@@ -143,7 +147,7 @@ fn run_line<'a>(alloc: Global) -> Result<Line<'a>, AllocError> {
             alloc,
             "carriers",
             "1",
-            "threads that carry turns (1 so far)",
+            "threads that carry turns, 1 to 8; from 2 on the collector is one beside them, and --gc says nothing",
         )?)?
         .arg(journal)?
         .arg(sources(alloc))
@@ -227,17 +231,23 @@ fn path(alloc: Global, matches: &ArgMatches<'_>, name: &str) -> Result<Option<St
 }
 
 /// The number of an option; 0 where it has none, which its default rules out.
-fn number_of(matches: &ArgMatches<'_>, name: &str) -> u32 {
+fn number_of(matches: &ArgMatches<'_>, name: &str) -> u32
+    ensures { IsNumber (found_of matches.now) name.now result }
+{
     matches.get_one::<u32>(name).unwrap_or(0)
 }
 
-/// The options of `run`.
+/// The options of `run`, each number from the words behind its own name.
 fn run_options(alloc: Global, matches: &ArgMatches<'_>) -> Result<RunOptions, LineError>
+    ensures numbers { IfOk result (HasNumbers (found_of matches.now)) }
     ensures files { IfOk result (λ options. 0 < length options.files.items) }
-    ensures range { IfOk result (λ options. options.gc ≤ 1000) }
+    ensures gc { IfOk result (λ options. options.gc ≤ 1000) }
+    ensures some { IfOk result (λ options. 1 ≤ options.carriers) }
+    ensures few { IfOk result (λ options. options.carriers ≤ 8) }
 {
     let gc = number_of(matches, "gc");
-    if gc > 1000 || number_of(matches, "carriers") != 1 {
+    let carriers = number_of(matches, "carriers");
+    if gc > 1000 || carriers < 1 || carriers > 8 {
         return Err(LineError::Options);
     }
     Ok(RunOptions {
@@ -247,6 +257,7 @@ fn run_options(alloc: Global, matches: &ArgMatches<'_>) -> Result<RunOptions, Li
         steps: number_of(matches, "steps"),
         output: number_of(matches, "output"),
         gc,
+        carriers: carriers as u8,
         journal: path(alloc, matches, "journal")?,
         files: files(alloc, matches)?,
     })

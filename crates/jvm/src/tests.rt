@@ -1,10 +1,14 @@
 //! The program's answers over files in memory.
 use crate::executing::execute;
 use crate::files::{Files, ReadError, WriteError};
-use crate::options::{LineError, options};
+use crate::laws::sources_are_well_named;
+use crate::options::{Command, LineError, options};
+use crate::stored_run_tests::command_of;
 use std::alloc::{AllocError, Global};
 use std::process::Abort;
+use std::sync::Wait;
 use std::test::Fail;
+use std::thread::Threads;
 
 /// One file that is there, and one that can be written.
 #[derive(Drop)]
@@ -47,8 +51,8 @@ struct Answer<'a> {
 }
 
 /// Runs `jvm` with these words behind its name on one file `a.j`, and compares what it answers.
-fn compare(
-    rt: &impl Abort,
+fn compare<R: Abort + Threads + Wait + Sync>(
+    rt: &R,
     alloc: Global,
     words: &[&str],
     text: &[u8],
@@ -68,6 +72,7 @@ fn compare(
     let mut told = Vec::new(alloc);
     let mut input = b"".as_slice();
     let status = execute(
+        rt,
         alloc,
         &command,
         &mut files,
@@ -83,8 +88,8 @@ fn compare(
 }
 
 /// The same where no file is written.
-pub(crate) fn check(
-    rt: &impl Abort,
+pub(crate) fn check<R: Abort + Threads + Wait + Sync>(
+    rt: &R,
     alloc: Global,
     words: &[&str],
     text: &[u8],
@@ -458,7 +463,11 @@ fn class_files_that_break_a_rule_are_told(rt: HostRuntime) -> Result<(), Fail> {
 }
 
 /// The class file that `jvm asm` makes of a text.
-fn assembled(alloc: Global, text: &[u8]) -> Result<Vec<u8>, Fail> {
+fn assembled<R: Threads + Wait + Sync>(
+    rt: &R,
+    alloc: Global,
+    text: &[u8],
+) -> Result<Vec<u8>, Fail> {
     let mut files = TwoFiles {
         name: "a.j",
         text,
@@ -470,6 +479,7 @@ fn assembled(alloc: Global, text: &[u8]) -> Result<Vec<u8>, Fail> {
     let mut written = Vec::new(alloc);
     let mut told = Vec::new(alloc);
     let status = execute(
+        rt,
         alloc,
         &command,
         &mut files,
@@ -534,7 +544,7 @@ fn broken_rules_of_loading_are_told(rt: HostRuntime) -> Result<(), Fail> {
         ),
     ] {
         check(&rt, rt.alloc(), words, text, 2, b"", answer)?;
-        let file = assembled(rt.alloc(), text)?;
+        let file = assembled(&rt, rt.alloc(), text)?;
         check(&rt, rt.alloc(), words, file.as_slice(), 2, b"", answer)?;
     }
     Ok(())
@@ -687,12 +697,46 @@ fn a_file_that_is_not_there_is_told(rt: HostRuntime) -> Result<(), Fail> {
     )
 }
 
-/// What is wrong with these words behind the program's name: 6 memory, 7 options, 8 clap's mistakes, 0 what clap shows, 1
-/// nothing.
-fn line_status(alloc: Global, words: &[&str]) -> Result<u8, Fail> {
+/// The numbers of a run's options: cells of the three sizes, steps, bytes of output, the collector's turns, carriers.
+fn numbers_of(alloc: Global, words: &str) -> Result<[u32; 7], Fail> {
+    match command_of(alloc, words)? {
+        Command::Run(run) => Ok([
+            run.small,
+            run.medium,
+            run.large,
+            run.steps,
+            run.output,
+            run.gc,
+            u32::from(run.carriers),
+        ]),
+        _ => Ok([0; 7]),
+    }
+}
+
+const NUMBERS: [(&str, [u32; 7]); 2] = [
+    ("run a.j", [64, 16, 4, 1_000_000, 65_536, 1, 1]),
+    (
+        "run --small 2 --medium 3 --large 5 --steps 7 --output 11 --gc 13 --carriers 8 a.j",
+        [2, 3, 5, 7, 11, 13, 8],
+    ),
+];
+
+#[test]
+fn options_have_numbers(rt: HostRuntime) -> Result<(), Fail> {
+    for (words, numbers) in NUMBERS {
+        assert!(rt; numbers_of(rt.alloc(), words)? == numbers);
+    }
+    Ok(())
+}
+
+/// What is wrong with these words behind the program's name, parted by spaces: 6 memory, 7 options, 8 clap's mistakes, 0 what
+/// clap shows, 1 nothing.
+fn line_status(alloc: Global, words: &str) -> Result<u8, Fail> {
     let mut line = Vec::new(alloc);
     line.push("jvm")?;
-    line.extend_from_slice(words)?;
+    for word in words.split(' ') {
+        line.push(word)?;
+    }
     match options(alloc, line.as_slice()) {
         Ok(_) => Ok(1),
         Err(LineError::Memory) => Ok(6),
@@ -701,44 +745,38 @@ fn line_status(alloc: Global, words: &[&str]) -> Result<u8, Fail> {
     }
 }
 
+const LINES: [(&str, u8); 18] = [
+    ("run a.j b.j", 1),
+    ("run", 7),
+    ("asm a.j a.class", 1),
+    ("asm a.j", 8),
+    ("dis a.class", 1),
+    ("dis", 8),
+    ("dis a.class b.class", 8),
+    ("run --gc 1000 a.j", 1),
+    ("run --gc 1001 a.j", 7),
+    ("run --carriers 1 a.j", 1),
+    ("run --carriers 8 a.j", 1),
+    ("run --carriers 0 a.j", 7),
+    ("run --carriers 9 a.j", 7),
+    ("run --journal p a.j", 1),
+    ("run --small many a.j", 8),
+    ("walk a.j", 8),
+    ("--help", 0),
+    ("--version", 0),
+];
+
 #[test]
 fn command_lines_are_taken_or_refused(rt: HostRuntime) -> Result<(), Fail> {
-    let alloc = rt.alloc();
-    assert_eq!(rt; line_status(alloc, ["run", "a.j", "b.j"].as_slice())?, 1);
-    assert_eq!(rt; line_status(alloc, ["run"].as_slice())?, 7);
-    assert_eq!(rt;
-        line_status(alloc, ["asm", "a.j", "a.class"].as_slice())?,
-        1
-    );
-    assert_eq!(rt; line_status(alloc, ["asm", "a.j"].as_slice())?, 8);
-    assert_eq!(rt; line_status(alloc, ["dis", "a.class"].as_slice())?, 1);
-    assert_eq!(rt; line_status(alloc, ["dis"].as_slice())?, 8);
-    assert_eq!(rt;
-        line_status(alloc, ["dis", "a.class", "b.class"].as_slice())?,
-        8
-    );
-    assert_eq!(rt;
-        line_status(alloc, ["run", "--gc", "1000", "a.j"].as_slice())?,
-        1
-    );
-    assert_eq!(rt;
-        line_status(alloc, ["run", "--gc", "1001", "a.j"].as_slice())?,
-        7
-    );
-    assert_eq!(rt;
-        line_status(alloc, ["run", "--carriers", "2", "a.j"].as_slice())?,
-        7
-    );
-    assert_eq!(rt;
-        line_status(alloc, ["run", "--journal", "p", "a.j"].as_slice())?,
-        1
-    );
-    assert_eq!(rt;
-        line_status(alloc, ["run", "--small", "many", "a.j"].as_slice())?,
-        8
-    );
-    assert_eq!(rt; line_status(alloc, ["walk", "a.j"].as_slice())?, 8);
-    assert_eq!(rt; line_status(alloc, ["--help"].as_slice())?, 0);
-    assert_eq!(rt; line_status(alloc, ["--version"].as_slice())?, 0);
+    for (words, status) in LINES {
+        assert_eq!(rt; line_status(rt.alloc(), words)?, status, "{words}");
+    }
+    Ok(())
+}
+
+/// A law does nothing where it is called.
+#[test]
+fn a_law_is_called(_rt: HostRuntime) -> Result<(), Fail> {
+    sources_are_well_named();
     Ok(())
 }

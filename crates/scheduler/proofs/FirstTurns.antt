@@ -14,7 +14,7 @@ use Rattle.scheduler.specs.Rounds.{answered_by, picked, picked_answer, turned_by
 use Rattle.scheduler.specs.Worlds.{IsOf, recorded}
 use Rattle.scheduler.proofs.Noting.{after_is, noted_is, pick_is, refusal_is, row_fits}
 
-module _ (s : Loaded) (j : JournalValue) (k : ℕ) (is : IsOf s j k) (t : ℕ) (outcome : Outcome) (after : Loaded) (made : IsFirstTurn s k after (t, outcome)) where
+module _ (s : Loaded) (j : JournalValue) (k : ℕ) (is : IsOf s j k) (worker t : ℕ) (outcome : Outcome) (after : Loaded) (made : IsFirstTurn s k after (t, outcome)) where
   abbrev v : Recorded
   v = recorded s j
 
@@ -25,29 +25,29 @@ module _ (s : Loaded) (j : JournalValue) (k : ℕ) (is : IsOf s j k) (t : ℕ) (
   pick = sym (pick_is s j k is) ∙ made.picked
 
   abbrev row : Outcome → Row
-  row o = record { actor = Thread t; outcome = o; worker = 0 }
+  row o = record { actor = Thread t; outcome = o; worker = worker }
 
   pub first_fits : length j.rows < j.limits.steps
-  first_fits = row_fits s j k is (Thread t) 0 allowed
+  first_fits = row_fits s j k is (Thread t) worker allowed
 
   pub first_noted : IsOf after (with_row j (row outcome)) (t + 1)
   first_noted =
       subst (λ (o : Outcome). IsOf after (with_row j (row o)) (t + 1)) (sym made.outcome)
       (subst (λ (x : Loaded). IsOf x (with_row j (row (outcome_on s.program s.machine (Thread t)))) (t + 1)) (sym made.turn)
-      (noted_is s j k is (Thread t) 0 allowed))
+      (noted_is s j k is (Thread t) worker allowed))
 
-  turned : recorded after (with_row j (row outcome)) ≡ after_turn_by v (Thread t) 0
+  turned : recorded after (with_row j (row outcome)) ≡ after_turn_by v (Thread t) worker
   turned =
       ap (λ (x : Loaded). recorded x (with_row j (row outcome))) made.turn
       ∙ ap (λ (o : Outcome). noted v (row o)) made.outcome
-      ∙ sym (after_is s j k is (Thread t) 0 allowed)
+      ∙ sym (after_is s j k is (Thread t) worker allowed)
 
-  pub first_picked : recorded after (with_row j (row outcome)) ≡ picked v 0
-  first_picked = turned ∙ sym (ap (turned_by v 0) pick)
+  pub first_picked : recorded after (with_row j (row outcome)) ≡ picked v worker
+  first_picked = turned ∙ sym (ap (turned_by v worker) pick)
 
-  answered : answer_to v (Thread t) 0 ≡ told_of (ideal (after_turn_by v (Thread t) 0)).fault
+  answered : answer_to v (Thread t) worker ≡ told_of (ideal (after_turn_by v (Thread t) worker)).fault
   unfolding answer_to
-  answered = ap (answer_unless_refused (after_turn_by v (Thread t) 0)) allowed
+  answered = ap (answer_unless_refused (after_turn_by v (Thread t) worker)) allowed
 
-  pub first_answer : told_of (ideal (recorded after (with_row j (row outcome)))).fault ≡ picked_answer v 0
-  first_answer = ap (λ (u : Recorded). told_of (ideal u).fault) turned ∙ sym answered ∙ sym (ap (answered_by v 0) pick)
+  pub first_answer : told_of (ideal (recorded after (with_row j (row outcome)))).fault ≡ picked_answer v worker
+  first_answer = ap (λ (u : Recorded). told_of (ideal u).fault) turned ∙ sym answered ∙ sym (ap (answered_by v worker) pick)

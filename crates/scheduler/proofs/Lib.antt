@@ -6,3 +6,4 @@ pub mod RowLines
 pub mod Making
 pub mod RoundsLeft
 pub mod FirstTurns
+pub mod LosesNothing

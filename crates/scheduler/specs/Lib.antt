@@ -3,3 +3,4 @@ pub mod Worlds
 pub mod Workers
 pub mod Replaying
 pub mod Rounds
+pub mod LosesNothing

@@ -6,7 +6,7 @@ use crate::worlds::World;
 use model::turns::{Actor, Status, Turn};
 
 /// Whether a turn that answers this was done.
-fn is_done(answer: Turn) -> bool
+pub fn is_done(answer: Turn) -> bool
     ensures { result ≡ is_done answer }
 {
     match answer {
@@ -18,12 +18,13 @@ fn is_done(answer: Turn) -> bool
 
 impl World {
     /// The turn of the thread that is picked, as it comes about for any of them; `NotReady` where none is.
-    fn turn_of_ready(&mut self) -> Turn
-        ensures world { self.new ≡ picked self.old 0 }
-        ensures answer { result ≡ picked_answer self.old 0 }
+    fn turn_of_ready(&mut self, worker: u8) -> Turn
+        requires { worker < self.old.journal.workers }
+        ensures world { self.new ≡ picked self.old worker }
+        ensures answer { result ≡ picked_answer self.old worker }
     {
         match self.pick() {
-            Some(thread) => self.turn(Actor::Thread(thread)),
+            Some(thread) => self.turn_by(Actor::Thread(thread), worker),
             None => Turn::NotReady,
         }
     }
@@ -31,25 +32,27 @@ impl World {
     /// The same, where one look at the thread's step may serve.
     // Apart, so that what a turn of any kind needs costs those nothing that change a frame alone.
     #[inline(never)]
-    fn turn_by_look(&mut self) -> Turn
-        ensures world { self.new ≡ picked self.old 0 }
-        ensures answer { result ≡ picked_answer self.old 0 }
+    fn turn_by_look(&mut self, worker: u8) -> Turn
+        requires { worker < self.old.journal.workers }
+        ensures world { self.new ≡ picked self.old worker }
+        ensures answer { result ≡ picked_answer self.old worker }
     {
-        match self.turn_of_first() {
+        match self.turn_of_first(worker) {
             Some(answer) => answer,
-            None => self.turn_of_ready(),
+            None => self.turn_of_ready(worker),
         }
     }
 
-    /// The turn of the thread that is picked; `NotReady` where none is.
+    /// The turn of the thread that is picked, made by a worker; `NotReady` where none is.
     #[inline(always)]
-    fn turn_of_picked(&mut self) -> Turn
-        ensures world { self.new ≡ picked self.old 0 }
-        ensures answer { result ≡ picked_answer self.old 0 }
+    pub fn turn_of_picked(&mut self, worker: u8) -> Turn
+        requires { worker < self.old.journal.workers }
+        ensures world { self.new ≡ picked self.old worker }
+        ensures answer { result ≡ picked_answer self.old worker }
     {
-        match self.turn_plainly() {
+        match self.turn_plainly(worker) {
             Some(answer) => answer,
-            None => self.turn_by_look(),
+            None => self.turn_by_look(worker),
         }
     }
 
@@ -80,7 +83,8 @@ impl World {
         ensures world { self.new ≡ after_round self.old 0 gc }
         ensures answer { result ≡ picked_answer self.old 0 }
     {
-        let answer = self.turn_of_picked();
+        let first = self.first_worker();
+        let answer = self.turn_of_picked(first);
         if is_done(answer) {
             self.sweep(gc);
         }

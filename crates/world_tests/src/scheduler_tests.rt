@@ -253,6 +253,7 @@ fn no_free_cell_is_out_of_memory(rt: HostRuntime) -> Result<(), Fail> {
     assert!(rt; has(&world, &[done, done, row(MAIN, Outcome::NoRoom)], b""));
     assert!(rt; has_ended(&world, Some("java/lang/OutOfMemoryError"))?);
     assert_eq!(rt; world.next_birth(), 3);
+    world.loses_nothing();
     Ok(())
 }
 

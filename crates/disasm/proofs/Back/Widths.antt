@@ -80,7 +80,7 @@ used_methods (m ∷ ms) = ap₂ (λ xs ys. xs ++ ys) (used_code m.code) (used_me
 
 -- ---- numbers among the different ones
 
-among_kept : (x z : ℤ) (ds : List ℤ) → int_eq x z ≡ false → is_among (filter (λ y. not (int_eq x y)) ds) z ≡ is_among ds z
+pub among_kept : (x z : ℤ) (ds : List ℤ) → int_eq x z ≡ false → is_among (filter (λ y. not (int_eq x y)) ds) z ≡ is_among ds z
 among_kept x z [] other = refl
 among_kept x z (d ∷ ds) other = elim (cases_Bool (int_eq x d)) [
   | inl same ↦ ap (λ b. is_among (cond (not b) (d ∷ filter (λ y. not (int_eq x y)) ds) (filter (λ y. not (int_eq x y)) ds)) z) same ∙ among_kept x z ds other

@@ -3,14 +3,15 @@ use Rattle.std.proofs.Common.{◌+◌, ℕ, length, ap, sym, subst, ◌∙◌}
 use Rattle.model.specs.Journals.{JournalValue}
 use Rattle.model.specs.Machines.{Recorded}
 use Rattle.hall.specs.Shares.{CountsRows, rows_by}
-use Rattle.hall.proofs.Rows.{turn_length, turn_counts}
+use Rattle.hall.proofs.Rows.{turn_made, turn_length, turn_counts}
 use Rattle.hall.proofs.shares.Shared.make.Goals as goal
 
 pub note-requires : goal.note-requires
 note-requires g c =
     let t = c.turn_by-answer.result in
+    let adds = turn_made c.self.inside.world c.turn_by-answer.new.self c.args.actor c.worker.result t c.turn_by-answer.ensures.world c.turn_by-answer.ensures.answer in
     ap (λ (n : ℕ). n + rows_by t) (sym c.self.invariant)
-    ∙ turn_length c.self.inside.world c.turn_by-answer.new.self c.args.actor c.worker.result t c.turn_by-answer.ensures.world c.turn_by-answer.ensures.answer
+    ∙ turn_length c.self.inside.world c.turn_by-answer.new.self c.worker.result t adds
     ∙ sym (ap length c.rows-rows.ensures.value ∙ ap (λ (j : JournalValue). length j.rows) c.journal.ensures)
 
 pub invariant_of-self : goal.invariant_of-self
@@ -18,5 +19,7 @@ invariant_of-self g c = sym (c.note.ensures.total ∙ ap length c.rows-rows.ensu
 
 pub returns-clause-share : goal.returns-clause-share
 returns-clause-share g c =
+    let t = c.turn_by-answer.result in
+    let adds = turn_made c.self.inside.world c.turn_by-answer.new.self c.args.actor c.worker.result t c.turn_by-answer.ensures.world c.turn_by-answer.ensures.answer in
     subst (λ (v : Recorded). CountsRows v c.turn_by-answer.new.self c.args.share.now c.note.new.self) c.self.view_is
-    (turn_counts c.self.inside.world c.turn_by-answer.new.self c.args.actor c.worker.result c.turn_by-answer.result c.turn_by-answer.ensures.world c.turn_by-answer.ensures.answer c.args.share.now c.note.new.self c.note.ensures.share)
+    (turn_counts c.self.inside.world c.turn_by-answer.new.self c.worker.result t adds c.args.share.now c.note.new.self c.note.ensures.share)

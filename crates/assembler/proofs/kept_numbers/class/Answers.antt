@@ -1,0 +1,12 @@
+use Rattle.std.proofs.Common.{[], ◌∷◌, ◌++◌}
+use Rattle.model.specs.ClassFiles.Items.Item.{text_item, class_item}
+use Rattle.assembler.proofs.StayingLaws as laws
+use Rattle.assembler.proofs.kept_numbers.class.Goals as goal
+
+pub returns-clause-found : goal.returns-clause-found
+returns-clause-found c =
+    laws.found c.args.numbers.now c.class.new.self ((text_item c.args.name.now ∷ []) ++ (class_item c.args.name.now) ∷ []) (class_item c.args.name.now) c.class.result c.told.result (laws.last_among (text_item c.args.name.now ∷ []) (class_item c.args.name.now)) c.told.ensures c.class.ensures.numbered
+
+pub returns-clause-only : goal.returns-clause-only
+returns-clause-only c =
+    laws.only c.args.numbers.now ((text_item c.args.name.now ∷ []) ++ (class_item c.args.name.now) ∷ []) c.class.result c.told.result c.told.ensures c.class.ensures.full
