@@ -1,4 +1,4 @@
-use Rattle.std.specs.Prelude.{◌≡◌, ℕ, suc, ◌+◌, Bool, true, false, nat_lt}
+use Rattle.std.specs.Prelude.{◌≡◌, ℕ, ◌+◌, Bool, true, false, nat_lt}
 use Rattle.model.specs.Machines.{Recorded}
 use Rattle.scheduler.specs.Replaying.{IsMade}
 use Rattle.scheduler.specs.Rounds.{after_rounds}
@@ -14,7 +14,7 @@ pub record IsShared (before : Recorded) (carriers : ℕ) (after : Recorded) : Ty
 -- one carrier makes rounds, as many as the limit of steps allows and one more
 abbrev pub IsCarriedBy : Bool → Recorded → ℕ → ℕ → Recorded → Type 0
 IsCarriedBy true before carriers gc after = IsShared before carriers after
-IsCarriedBy false before carriers gc after = after ≡ after_rounds before 0 gc (suc before.journal.limits.steps)
+IsCarriedBy false before carriers gc after = after ≡ after_rounds before 0 gc (before.journal.limits.steps + 1)
 
 -- what `jvm run` leaves of a world that has made no turn, by so many carriers and so many collector turns after one of a thread
 abbrev pub IsCarried : Recorded → ℕ → ℕ → Recorded → Type 0

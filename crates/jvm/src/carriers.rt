@@ -1,5 +1,5 @@
 //! Who makes the turns of a run: one carrier, or several and a collector beside them.
-ghost use Rattle.std.specs.Prelude.{◌≡◌, ◌+◌, [], All, IfOk, length, suc, vec_len};
+ghost use Rattle.std.specs.Prelude.{◌≡◌, ◌+◌, [], All, IfOk, length, vec_len};
 ghost use Rattle.board.specs.Seats.{IsSeatOf};
 ghost use Rattle.hall.specs.Heads.{head_of};
 ghost use Rattle.jvm.specs.Carrying.{IsCarried, IsShared};
@@ -85,12 +85,19 @@ fn carried_together<R: Threads + Wait + Sync>(
     shared::<Brand, R>(rt, alloc, blank, world, roles.as_slice())
 }
 
-/// The world after rounds of the thread that is picked and the collector, as many as the limit of steps allows and one more.
-fn carried_alone(mut world: World, gc: u32) -> World
-    ensures { result ≡ after_rounds world 0 gc (suc world.journal.limits.steps) }
+/// As many rounds as the limit of steps allows, and one more.
+fn all_rounds(world: &World) -> u32
+    ensures { result ≡ world.now.journal.limits.steps + 1 }
 {
-    let steps = world.journal().limits().steps;
-    let _ = world.rounds(steps + 1, gc);
+    world.journal().limits().steps + 1
+}
+
+/// The world after so many rounds of the thread that is picked and the collector.
+fn carried_alone(mut world: World, gc: u32) -> World
+    ensures { result ≡ after_rounds world 0 gc (world.journal.limits.steps + 1) }
+{
+    let rounds = all_rounds(&world);
+    let _ = world.rounds(rounds, gc);
     world
 }
 
