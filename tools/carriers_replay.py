@@ -33,7 +33,7 @@ TEXT = """.class public Four
 .method public run()V
 .limit stack 3
 .limit locals 3
-    sipush 500
+    sipush 2000
     istore_1
 Again:
     getstatic Four/lock Ljava/lang/Object;
@@ -46,12 +46,16 @@ Again:
     putstatic Four/count I
     aload_2
     monitorexit
+    iload_1
+    bipush 15
+    iand
+    ifne Next
     aload_0
     new Four
     putfield Four/next LFour;
-    bipush 9
-    newarray int
+    new java/lang/Object
     pop
+Next:
     iinc 1 -1
     iload_1
     ifne Again
@@ -129,7 +133,7 @@ def main():
     words.add_argument("--jvm", default=BUILT)
     words.add_argument("--runs", type=int, default=100)
     words.add_argument("--carriers", type=int, default=4)
-    words.add_argument("--options", default="")
+    words.add_argument("--options", default="--small 300 --medium 0 --large 0")
     words.add_argument("files", nargs="*")
     given = words.parse_args()
     machine = os.path.abspath(given.jvm)
