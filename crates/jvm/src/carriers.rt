@@ -9,6 +9,7 @@ ghost use Rattle.scheduler.specs.Workers.{with_workers};
 
 use board::{Board, BoardSeat};
 use hall::{Gate, Hall, HallError, Role, drive};
+use model::journals::HeapShape;
 use scheduler::worlds::World;
 use std::alloc::{AllocError, Global};
 use std::marker::Brand;
@@ -16,8 +17,18 @@ use std::sync::Wait;
 use std::sync::ledger::{Blank, Ledger};
 use std::thread::Threads;
 
-/// How many rounds a worker makes behind its first one, each time it has the lock.
+/// How many rounds a worker makes at most behind its first one, each time it has the lock.
 const EXTRA: u32 = 255;
+
+/// How many rounds a worker makes behind its first one on a heap of this shape: a burst makes an object for an eighth of the
+/// cells at most, so that a small heap isn't full before the collector had its turn.
+fn extra_rounds(shape: HeapShape) -> u32 {
+    let cells = shape
+        .small
+        .saturating_add(shape.medium)
+        .saturating_add(shape.large);
+    EXTRA.min(cells / 8)
+}
 
 /// A gate that holds nobody up.
 #[derive(Drop)]
@@ -64,7 +75,8 @@ fn shared<L: Ledger + Send + Sync, R: Threads + Wait + Sync>(
     ensures head { IfOk result (λ after. head_of after ≡ head_of (with_workers world (length roles.now))) }
     ensures made { IfOk result IsMade }
 {
-    let (hall, shares) = Hall::<L>::in_bursts(alloc, blank, world, roles, EXTRA)?;
+    let extra = extra_rounds(world.journal().shape());
+    let (hall, shares) = Hall::<L>::in_bursts(alloc, blank, world, roles, extra)?;
     let (board, seats) = board_of(alloc, roles.len())?;
     let (shares, _seats) = drive(rt, &hall, &board, &Open, shares, seats)?;
     hall.close(shares)
