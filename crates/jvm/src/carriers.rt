@@ -61,13 +61,15 @@ fn board_of(alloc: Global, workers: usize) -> Result<(Board, Vec<BoardSeat>), Ha
     }
 }
 
-/// The world after the turns of these roles, each in a thread, until they end.
+/// The world after the turns of these roles, each in a thread and in bursts of so many rounds behind the first one, until they
+/// end.
 fn shared<L: Ledger + Send + Sync, R: Threads + Wait + Sync>(
     rt: &R,
     alloc: Global,
     blank: Blank,
     world: World,
     roles: &[Role],
+    extra: u32,
 ) -> Result<World, HallError>
     requires name { blank.name ≡ L.name }
     requires parts { (blank.parts ≡ L.parts) × (blank.parts ≡ length roles.now) }
@@ -75,7 +77,6 @@ fn shared<L: Ledger + Send + Sync, R: Threads + Wait + Sync>(
     ensures head { IfOk result (λ after. head_of after ≡ head_of (with_workers world (length roles.now))) }
     ensures made { IfOk result IsMade }
 {
-    let extra = extra_rounds(world.journal().shape());
     let (hall, shares) = Hall::<L>::in_bursts(alloc, blank, world, roles, extra)?;
     let (board, seats) = board_of(alloc, roles.len())?;
     let (shares, _seats) = drive(rt, &hall, &board, &Open, shares, seats)?;
@@ -94,7 +95,8 @@ fn carried_together<R: Threads + Wait + Sync>(
 {
     let roles = roles_of(alloc, carriers)?;
     let blank = Blank::new(roles.len() as u64);
-    shared::<Brand, R>(rt, alloc, blank, world, roles.as_slice())
+    let extra = extra_rounds(world.journal().shape());
+    shared::<Brand, R>(rt, alloc, blank, world, roles.as_slice(), extra)
 }
 
 /// As many rounds as the limit of steps allows, and one more.
