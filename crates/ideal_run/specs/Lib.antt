@@ -1,0 +1,9 @@
+pub mod Called
+pub mod Completed
+pub mod Elements
+pub mod Groups
+pub mod Started
+pub mod Steps
+pub mod Threads
+pub mod Told
+pub mod Whole

@@ -1,0 +1,4 @@
+#[test]
+fn compiles(rt: HostRuntime) {
+    let _ = rt.alloc();
+}
