@@ -1,6 +1,6 @@
 -- arguments in the locals of a method that begins
 use Rattle.std.proofs.Common.{◌≡◌, ℕ, ◌+◌, ◌-◌, ◌<◌, ◌≤◌, List, [], ◌∷◌, ◌++◌, length, take, get_or, replicate, append-nil, refl, ap, sym, ◌∙◌, arith}
-use Rattle.std.proofs.lemmas.List.{take_more, take-all}
+use Rattle.std.proofs.lemmas.List.{take_more, take_all}
 use Rattle.model.specs.declared.values.Value.{Value}
 use Rattle.model.specs.declared.values.Value.TheVariants.{Int, Long, Ref}
 use Rattle.model.specs.declared.values.Entry.{Entry}
@@ -34,7 +34,7 @@ replicated es m n e = ap (λ (k : ℕ). es ++ replicate k Unset) e
 pub filled : (vs : List Value) (es all : List Entry) (n : ℕ) → es ≡ argument_entries vs → length es < n → all ≡ take n es ++ replicate (n - length es) Unset → all ≡ argument_entries vs ++ replicate (n - units_of_all vs) Unset
 filled vs es all n is less filled_up =
     let size : length es ≡ units_of_all vs = ap length is ∙ length-arguments vs in
-    filled_up ∙ (ap (λ (l : List Entry). l ++ replicate (n - length es) Unset) (take-all n es (omega arith) ∙ is)
+    filled_up ∙ (ap (λ (l : List Entry). l ++ replicate (n - length es) Unset) (take_all n es (omega arith) ∙ is)
     ∙ ap (λ (k : ℕ). argument_entries vs ++ replicate (n - k) Unset) size)
 
 -- there are no more

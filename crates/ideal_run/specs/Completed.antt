@@ -3,11 +3,12 @@ use Rattle.model.specs.declared.turns.Abrupt.{Abrupt}
 use Rattle.model.specs.declared.turns.ClassState.{ClassState}
 use Rattle.model.specs.declared.turns.ClassState.TheVariants.{Done}
 use Rattle.model.specs.Completions as completion
-use Rattle.model.specs.Completions.{Site, completes_abruptly, with_frame}
-use Rattle.model.specs.Completions.Completion as completed
-use Rattle.model.specs.Frames.{Frame, with_running, replaced}
+use Rattle.model.specs.Completions.{Site, completes_abruptly, frames_in, with_frame}
+use Rattle.model.specs.Completions.Completion.{Goes, Prints, Creates, Throws, Raises, Denies, Faults, Waits}
+use Rattle.model.specs.Frames.{Frame, with_running, callers, replaced}
 use Rattle.model.specs.Initialisation.{with_states}
 use Rattle.model.specs.Monitors.{released, with_monitor_of}
+use Rattle.model.specs.Table.Returns.{left_world}
 use Rattle.model.specs.Table.Threads.{with_more}
 use Rattle.model.specs.Views.{contents_in}
 use Rattle.model.specs.Words.{with_slot, with_word}
@@ -16,7 +17,7 @@ use Rattle.model.specs.Worlds.Thread.{Live}
 use Rattle.ideal_run.specs.declared.completions.Change.{Change}
 use Rattle.ideal_run.specs.declared.completions.Change.TheVariants.{Nothing, Slot, Word, Monitor, Left, States}
 use Rattle.ideal_run.specs.declared.completions.Completion.{Completion}
-use Rattle.ideal_run.specs.declared.completions.Completion.TheVariants.{Goes, Starts, Prints, Creates, Throws, Raises, Denies, Faults, Waits}
+use Rattle.ideal_run.specs.declared.completions.Completion.TheVariants as code
 use Rattle.ideal_run.specs.declared.worlds.Step.{Step}
 use Rattle.ideal_run.specs.Steps.{monitor_in, stepped, started_on}
 
@@ -42,36 +43,41 @@ runs_on w changed t f = with_thread changed t (Live (with_running (frames_at w t
 
 -- a completion of the definitions, with no births written
 abbrev pub told : World → ℕ → Completion → completion.Completion
-told w t (Goes change step) = completed.Goes (moved_to w (changed w t change) t step) []
-told w t (Starts birth f thread) = completed.Goes (with_more (runs_on w (started_on w birth) t f) thread) []
-told w t (Prints f bytes) = completed.Prints (runs_on w w t f) bytes.items
-told w t (Creates next taken contents) = completed.Creates next taken (contents_in contents)
-told w t (Throws birth) = completed.Throws birth
-told w t (Raises exception) = completed.Raises exception
-told w t (Denies states) = completed.Denies states.items
-told w t (Faults fault) = completed.Faults fault
-told w t Waits = completed.Waits
+told w t (code.Goes change step) = Goes (moved_to w (changed w t change) t step) []
+told w t (code.Starts birth f thread) = Goes (with_more (runs_on w (started_on w birth) t f) thread) []
+told w t (code.Prints f bytes) = Prints (runs_on w w t f) bytes.items
+told w t (code.Creates next taken contents) = Creates next taken (contents_in contents)
+told w t (code.Throws birth) = Throws birth
+told w t (code.Raises exception) = Raises exception
+told w t (code.Denies states) = Denies states.items
+told w t (code.Faults fault) = Faults fault
+told w t code.Waits = Waits
 
 -- a completion without the births that are written on the way, which only a collector asks for
 abbrev pub plainly : completion.Completion → completion.Completion
-plainly (completed.Goes after writes) = completed.Goes after []
-plainly (completed.Prints after bytes) = completed.Prints after bytes
-plainly (completed.Creates next taken contents) = completed.Creates next taken contents
-plainly (completed.Throws birth) = completed.Throws birth
-plainly (completed.Raises exception) = completed.Raises exception
-plainly (completed.Denies states) = completed.Denies states
-plainly (completed.Faults fault) = completed.Faults fault
-plainly completed.Waits = completed.Waits
+plainly (Goes after writes) = Goes after []
+plainly (Prints after bytes) = Prints after bytes
+plainly (Creates next taken contents) = Creates next taken contents
+plainly (Throws birth) = Throws birth
+plainly (Raises exception) = Raises exception
+plainly (Denies states) = Denies states
+plainly (Faults fault) = Faults fault
+plainly Waits = Waits
 
 -- an instruction that changes the running frame alone
 abbrev pub completes_with : Site → Result Frame Abrupt → completion.Completion
-completes_with s (Ok f) = completed.Goes (with_frame s.world s f) []
+completes_with s (Ok f) = Goes (with_frame s.world s f) []
 completes_with s (Err abrupt) = completes_abruptly abrupt
+
+-- the caller goes on once the running frame is left
+abbrev pub resumes_with : Site → Result Frame Abrupt → completion.Completion
+resumes_with s (Ok f) = Goes (with_thread (left_world s) s.thread (Live (with_running (callers (frames_in s)) f))) []
+resumes_with s (Err abrupt) = completes_abruptly abrupt
 
 -- so many operands go, in a world that differs in more
 abbrev pub pops_in : Site → ℕ → World → completion.Completion
-pops_in s n after = completed.Goes (with_frame after s (replaced s.next s.frame n []).frame) []
+pops_in s n after = Goes (with_frame after s (replaced s.next s.frame n []).frame) []
 
 -- the operand goes once the bytes are printed
 abbrev pub prints_in : Site → List ℕ → completion.Completion
-prints_in s bytes = completed.Prints (with_frame s.world s (replaced s.next s.frame 1 []).frame) bytes
+prints_in s bytes = Prints (with_frame s.world s (replaced s.next s.frame 1 []).frame) bytes

@@ -1,8 +1,9 @@
 use Rattle.std.specs.Prelude.{ℕ, List, [], ◌∷◌, ◌++◌, length, take, Option, Some, None}
+use Rattle.model.specs.declared.turns.ClassState.{ClassState}
 use Rattle.model.specs.Frames.{Frame, with_running, callers}
 use Rattle.model.specs.Objects.{object_at, with_object}
 use Rattle.model.specs.Table.Threads.{numbered}
-use Rattle.model.specs.Worlds.{World, Thread, Object, Monitor}
+use Rattle.model.specs.Worlds.{World, Thread, FieldValue, Object, Monitor}
 use Rattle.model.specs.Worlds.Thread.{Live, Ended}
 use Rattle.ideal_run.specs.declared.worlds.Monitor.{Monitor as MonitorOf}
 use Rattle.ideal_run.specs.declared.worlds.Step.{Step}
@@ -28,3 +29,14 @@ started_if w birth (Some object) = numbered w birth object
 
 abbrev pub started_on : World → ℕ → World
 started_on w birth = started_if w birth (object_at w birth)
+
+-- a world in which nothing was printed and no turn was made
+abbrev pub new_world : List Thread → List FieldValue → List ClassState → List Object → World
+new_world threads fields states objects = record {
+  threads = threads;
+  statics = record { fields = fields; states = states };
+  output = [];
+  objects = objects;
+  fault = None;
+  rows = 0;
+}

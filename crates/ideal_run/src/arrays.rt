@@ -81,7 +81,7 @@ fn array_made(site: &Site<'_, '_>, element: &[u8]) -> Result<Completion, AllocEr
 
 /// How many elements an array has; `None` where the object is no array.
 fn length_in(object: Option<&ObjectView>) -> Option<usize>
-    ensures { result ≡ length_in (contents_if (option_copied object)) }
+    ensures { result ≡ length_in (contents_if (option_copied object.entry)) }
 {
     match object {
         None => None,
@@ -147,7 +147,7 @@ fn has_elements(letter: &[u8], element: &[u8]) -> bool
 }
 
 fn is_array_of(kind: ElementKind, object: Option<&ObjectView>) -> bool
-    ensures { result ≡ is_array_of kind (contents_if (option_copied object)) }
+    ensures { result ≡ is_array_of kind (contents_if (option_copied object.entry)) }
 {
     match object {
         None => false,
@@ -162,7 +162,7 @@ fn is_array_of(kind: ElementKind, object: Option<&ObjectView>) -> bool
 
 /// Where an index leads in an array; `None` where it is outside.
 fn index_in(index: i32, object: Option<&ObjectView>) -> Option<usize>
-    ensures { result ≡ index_in index (contents_if (option_copied object)) }
+    ensures { result ≡ index_in index (contents_if (option_copied object.entry)) }
 {
     let place = natural(index)?;
     match length_in(object) {
@@ -202,6 +202,7 @@ fn index_and_array(stack: &[Value]) -> Result<(i32, Option<u32>), Fault>
     Ok((index, array))
 }
 
+#[tactic(auto, using(crate::proofs::PlainLemmas::plain))]
 fn loaded(site: &Site<'_, '_>, kind: ElementKind) -> Result<Completion, AllocError>
     ensures { IfOk result (λ c. told site.now.world site.now.thread c ≡ plainly (array_operated site.now (Load kind))) }
 {
@@ -216,7 +217,7 @@ fn loaded(site: &Site<'_, '_>, kind: ElementKind) -> Result<Completion, AllocErr
 
 /// The descriptor of an array's elements; empty where the object is no array.
 fn element_in(object: Option<&ObjectView>) -> &[u8]
-    ensures { described result.now ≡ element_in (contents_if (option_copied object)) }
+    ensures { described result.now ≡ element_in (contents_if (option_copied object.entry)) }
 {
     match object {
         None => &[],
@@ -273,6 +274,7 @@ fn element_put(
 }
 
 /// The value lies above the index.
+#[tactic(auto, using(crate::proofs::PlainLemmas::plain))]
 fn array_stored(site: &Site<'_, '_>, kind: ElementKind) -> Result<Completion, AllocError>
     ensures { IfOk result (λ c. told site.now.world site.now.thread c ≡ plainly (array_operated site.now (Store kind))) }
 {

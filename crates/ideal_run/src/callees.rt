@@ -19,7 +19,7 @@ pub enum Callee<'c> {
 
 /// A method that isn't the machine's own.
 fn coded<'c>(program: &Program<'_>, found: Found<'c, Method>) -> Callee<'c>
-    ensures { callee_in result ≡ callee_by program.now found None }
+    ensures { callee_in result ≡ callee_by program.now found.entry None }
 {
     let method = found.member;
     match method.code.as_ref() {
@@ -33,7 +33,7 @@ fn coded<'c>(program: &Program<'_>, found: Found<'c, Method>) -> Callee<'c>
 
 /// What a method that was found has to run.
 pub fn callee_of<'c>(program: &Program<'_>, found: Option<Found<'c, Method>>) -> Callee<'c>
-    ensures { callee_in result ≡ callee_of program.now found }
+    ensures { callee_in result ≡ callee_of program.now found.entry }
 {
     match found {
         None => Callee::NoCode,

@@ -1,8 +1,9 @@
 //! Frames of methods that begin: arguments in the first locals, and whether a thread has room (JVMS 2.6.1).
-ghost use Rattle.std.specs.Prelude.{◌≡◌, ◌∷◌, [], ◌++◌, ◌+◌, ◌-◌, IfOk, OnOk, nat_le, replicate};
+ghost use Rattle.std.specs.Prelude.{◌≡◌, ◌∷◌, [], ◌++◌, ◌-◌, IfOk, OnOk, replicate};
 ghost use Rattle.model.specs.Values.{units_of_all};
 ghost use Rattle.model.specs.declared.values.Entry.TheVariants.{Unset};
-ghost use Rattle.model.specs.Frames.{opening_frame, units_of_frames, has_room_for, within_limits};
+ghost use Rattle.model.specs.Frames.{opening_frame, has_room_for, within_limits};
+ghost use Rattle.ideal_run.specs.Rooms.{room_left};
 ghost use Rattle.model.specs.Locals.{argument_entries, called_frame, arguments_on};
 
 use crate::frames::Frame;
@@ -100,27 +101,24 @@ pub fn arguments_on(alloc: Global, n: usize, stack: &[Value]) -> Result<Vec<Valu
     Ok(arguments)
 }
 
-/// Whether so many units and those of the frames are within a number.
+/// What is left of so many units once the frames have theirs; `None` where they have more.
 #[tactic(auto, using(crate::proofs::UnitLemmas::units))]
-fn are_within(frames: &[Frame], more: usize, most: usize) -> bool
-    ensures { result ≡ nat_le (units_of_frames frames.now + more) most }
+fn room_left(frames: &[Frame], room: usize) -> Option<usize>
+    ensures { result ≡ room_left frames.now room }
 {
-    if most < more {
-        return false;
-    }
-    let mut left = most - more;
+    let mut left = room;
     for frame in frames {
         let locals = frame.locals.len();
         if left < locals {
-            return false;
+            return None;
         }
         left -= locals;
         if left < frame.room {
-            return false;
+            return None;
         }
         left -= frame.room;
     }
-    true
+    Some(left)
 }
 
 /// Whether a thread has room for another frame: at most 256 frames, of 4,096 units in all.
@@ -129,13 +127,21 @@ pub fn has_room_for(frames: &[Frame], code: &Code) -> bool
     ensures { result ≡ has_room_for frames.now code.now.max_locals code.now.max_stack }
 {
     let units = usize::from(code.max_locals) + usize::from(code.max_stack);
-    frames.len() < 256 && are_within(frames, units, 4096)
+    frames.len() < 256
+        && match room_left(frames, 4096) {
+            None => false,
+            Some(left) => units <= left,
+        }
 }
 
-/// Whether frames are within a thread's limits.
+/// Whether frames with others above them are within a thread's limits.
 #[tactic(auto, using(crate::proofs::UnitLemmas::units))]
-pub fn within_limits(frames: &[Frame]) -> bool
-    ensures { result ≡ within_limits frames.now }
+pub fn are_within_limits(frames: &[Frame], above: &[Frame]) -> bool
+    ensures { result ≡ within_limits (frames.now ++ above.now) }
 {
-    frames.len() <= 256 && are_within(frames, 0, 4096)
+    frames.len() + above.len() <= 256
+        && match room_left(frames, 4096) {
+            None => false,
+            Some(left) => room_left(above, left).is_some(),
+        }
 }

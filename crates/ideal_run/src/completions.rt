@@ -54,6 +54,7 @@ pub enum Completion {
 }
 
 /// A thread's turn as it begins: its running frame stands at an instruction, behind which is the next.
+#[derive(Drop)]
 pub struct Site<'s, 'p> {
     pub alloc: Global,
     pub program: &'s Program<'p>,
@@ -115,7 +116,8 @@ impl<'s, 'p> Site<'s, 'p> {
     pub fn stack(&self) -> &'s [Value]
         ensures { result.now ≡ self.now.frame.stack }
     {
-        &self.frame.stack
+        let frame = self.frame;
+        &frame.stack
     }
 
     /// The pc behind the instruction.

@@ -40,6 +40,7 @@ fn field_place(
     }
 }
 
+#[tactic(auto, using(crate::proofs::PlainLemmas::plain))]
 fn word_got(site: &Site<'_, '_>, member: &Member, birth: u32) -> Result<Completion, AllocError>
     ensures { IfOk result (λ c. told site.now.world site.now.thread c ≡ plainly (word_got site.now birth (field_place site.now member.now birth))) }
 {

@@ -83,8 +83,8 @@ fn has_room(stack: &[Value], room: usize) -> bool
     true
 }
 
-/// The frame with another stack, at another pc.
-fn with_stack(alloc: Global, frame: &Frame, pc: u16, stack: Vec<Value>) -> Result<Frame, AllocError>
+/// The frame with another stack, at another pc. `AllocError` where memory runs out.
+pub fn with_stack(alloc: Global, frame: &Frame, pc: u16, stack: Vec<Value>) -> Result<Frame, AllocError>
     ensures { IfOk result (λ after. after ≡ record frame.now { pc = pc; stack = stack.items }) }
 {
     let locals = Vec::from_slice(alloc, &frame.locals)?;

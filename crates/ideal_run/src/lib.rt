@@ -8,23 +8,35 @@ mod branches;
 mod builtins;
 mod callees;
 mod calls;
+mod claims;
 mod completions;
 mod constants;
+mod effects;
 mod fields;
 mod frames;
+mod ideal;
+mod initialisation;
+mod invokes;
 mod locals;
 mod monitors;
 mod numbers;
 mod objects;
+mod opening;
 mod operands;
 mod programs;
+mod returns;
 mod stacks;
 mod statics;
 mod switches;
+mod table;
 mod threads;
 mod throws;
+mod unwinding;
 mod words;
 mod worlds;
+
+pub use effects::Choice;
+pub use ideal::Ideal;
 
 #[cfg(test)]
 mod tests;

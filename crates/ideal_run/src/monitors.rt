@@ -1,7 +1,7 @@
 //! The monitor of an object (JVMS 2.11.10), `monitorenter` and `monitorexit` (JVMS 6.5).
 ghost use Rattle.std.specs.Prelude.{◌≡◌, IfOk, false};
 ghost use Rattle.model.specs.Monitors.{is_owner, may_enter, is_full, entered, exited};
-ghost use Rattle.model.specs.Table.Monitors.{operates, monitor_operated};
+ghost use Rattle.model.specs.Table.Monitors.{operates, operates_if, monitor_operated};
 ghost use Rattle.model.specs.declared.instructions.MonitorOperation.TheVariants.{Enter, Exit};
 ghost use Rattle.ideal_run.specs.Completed.{told, plainly};
 ghost use Rattle.ideal_run.specs.Steps.{monitor_in};
@@ -93,6 +93,24 @@ fn exits(site: &Site<'_, '_>, birth: u32) -> Result<Completion, AllocError>
     }
 }
 
+/// On an object that is there, else F6.
+fn operates_if(
+    site: &Site<'_, '_>,
+    operation: MonitorOperation,
+    birth: u32,
+    is_there: bool,
+) -> Result<Completion, AllocError>
+    ensures { IfOk result (λ c. told site.now.world site.now.thread c ≡ plainly (operates_if site.now operation birth is_there)) }
+{
+    if !is_there {
+        return Ok(Completion::Faults(Fault::WrongClass));
+    }
+    match operation {
+        MonitorOperation::Enter => enters(site, birth),
+        MonitorOperation::Exit => exits(site, birth),
+    }
+}
+
 /// A monitor is entered or exited: a null, then F6 where there is no object, a monitor of another thread, F10.
 /// `AllocError` where memory runs out.
 pub fn monitor_operated(
@@ -105,13 +123,8 @@ pub fn monitor_operated(
         Err(fault) => Ok(Completion::Faults(fault)),
         Ok(None) => Ok(raises(Exception::NullPointer)),
         Ok(Some(birth)) => {
-            if !is_instance(site, b"java/lang/Object", birth)? {
-                return Ok(Completion::Faults(Fault::WrongClass));
-            }
-            match operation {
-                MonitorOperation::Enter => enters(site, birth),
-                MonitorOperation::Exit => exits(site, birth),
-            }
+            let is_there = is_instance(site, b"java/lang/Object", birth)?;
+            operates_if(site, operation, birth, is_there)
         }
     }
 }

@@ -21,6 +21,7 @@ fn slot_of(site: &Site<'_, '_>, member: &Member) -> Option<usize>
     field_index(site.world().statics(), &field)
 }
 
+#[tactic(auto, using(crate::proofs::PlainLemmas::plain))]
 fn static_got(site: &Site<'_, '_>, slot: Option<usize>) -> Result<Completion, AllocError>
     ensures { IfOk result (λ c. told site.now.world site.now.thread c ≡ plainly (static_got site.now slot)) }
 {

@@ -51,7 +51,7 @@ fn thread_added(
 
 /// What the object's `run()V` has to run begins; that of the machine's own method has ended at once.
 fn begins(site: &Site<'_, '_>, birth: u32, callee: Callee<'_>) -> Result<Completion, AllocError>
-    ensures { IfOk result (λ c. told site.now.world site.now.thread c ≡ begins_on site.now birth (callee_in callee)) }
+    ensures { IfOk result (λ c. told site.now.world site.now.thread c ≡ begins_on site.now birth (callee_in callee.entry)) }
 {
     match callee {
         Callee::NoCode => Ok(Completion::Faults(Fault::NoMethod)),

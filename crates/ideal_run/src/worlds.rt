@@ -1,5 +1,5 @@
 //! The ideal world (JVMS 2.5, 2.6): what threads, statics, output and objects are on a heap where nothing is ever freed.
-ghost use Rattle.std.specs.Prelude.{◌≡◌, ◌∷◌, [], ◌++◌, ◌<◌, ◌+◌, IfOk, OnOk, Some, None, take};
+ghost use Rattle.std.specs.Prelude.{◌≡◌, ◌∷◌, [], ◌++◌, IfOk, OnOk, Some, slice_get, slice_set, take};
 ghost use Rattle.std.specs.Option.{option_copied};
 ghost use Rattle.model.specs.Frames.{running, with_running, callers};
 ghost use Rattle.model.specs.Monitors.{monitor_of, with_monitor_of};
@@ -7,9 +7,9 @@ ghost use Rattle.model.specs.Objects.{class_of, class_at, object_at, with_new};
 ghost use Rattle.model.specs.Views.{contents_in};
 ghost use Rattle.model.specs.Table.Fields.{fields_in};
 ghost use Rattle.model.specs.Table.Threads.{with_more};
-ghost use Rattle.model.specs.Words.{slot_at, value_at, word_of, contents_at, with_slot, with_word_in, with_word};
+ghost use Rattle.model.specs.Words.{slot_at, value_at, word_of, contents_at, with_slot, with_value_at, with_word_in, with_word};
 ghost use Rattle.model.specs.Worlds.{frames_of, frames_at, lives, is_live, next_birth, with_thread, with_fault, with_class_states, with_output, counted};
-ghost use Rattle.ideal_run.specs.Steps.{monitor_in, stepped, started_on};
+ghost use Rattle.ideal_run.specs.Steps.{monitor_in, new_world, stepped, started_on};
 
 use crate::frames::Frame;
 use model::names::Name;
@@ -95,7 +95,7 @@ impl Model for World {
 
 /// The frames of a thread, outermost first; none where it was never started or has ended.
 fn frames_of(thread: Option<&Thread>) -> &[Frame]
-    ensures { result.now ≡ frames_of (option_copied thread) }
+    ensures { result.now ≡ frames_of (option_copied thread.entry) }
 {
     match thread {
         None => &[],
@@ -107,7 +107,7 @@ fn frames_of(thread: Option<&Thread>) -> &[Frame]
 }
 
 fn lives(thread: Option<&Thread>) -> bool
-    ensures { result ≡ lives (option_copied thread) }
+    ensures { result ≡ lives (option_copied thread.entry) }
 {
     match thread {
         None => false,
@@ -237,25 +237,103 @@ fn frames_from(alloc: Global, thread: Thread) -> Vec<Frame>
     }
 }
 
+/// What a field becomes where it holds another value.
+fn set_value_in(field: &mut FieldView, value: Value)
+    ensures { field.new ≡ record field.old { value = value } }
+{
+    field.value = value;
+}
+
+/// A field holds another value.
+#[tactic(auto, using(crate::proofs::WorldLemmas::worlds))]
+fn set_value(fields: &mut [FieldView], place: usize, value: Value)
+    ensures { fields.new ≡ with_value_at fields.old place value }
+{
+    if place < fields.len() {
+        set_value_in(&mut fields[place], value);
+    }
+}
+
+fn set_element(values: &mut [Value], place: usize, value: Value)
+    ensures { values.new ≡ slice_set values.old place value }
+{
+    if place < values.len() {
+        values[place] = value;
+    }
+}
+
+/// What an object becomes where it has another monitor.
+fn set_monitor_in(object: &mut ObjectView, monitor: Monitor)
+    ensures { object.new ≡ record object.old { monitor = monitor_in monitor } }
+{
+    object.owner = monitor.owner;
+    object.entries = monitor.count;
+}
+
+/// What an object becomes where a thread of this number was started on it.
+fn set_thread_in(object: &mut ObjectView, number: u32)
+    ensures { object.new ≡ record object.old { thread = Some number } }
+{
+    object.thread = Some(number);
+}
+
+/// What becomes of the thread of a number. `AllocError` where memory runs out.
+#[tactic(auto, using(crate::proofs::WorldLemmas::worlds))]
+fn step_at(
+    threads: &mut [Thread],
+    alloc: Global,
+    place: usize,
+    step: Step,
+) -> Result<(), AllocError>
+    ensures { OnOk result (threads.new ≡ slice_set threads.old place (stepped (frames_of (slice_get threads.old place)) step)) }
+{
+    if place < threads.len() {
+        let nobody = Thread {
+            state: ThreadState::Ended(None),
+        };
+        let thread = mem::replace(&mut threads[place], nobody);
+        let after = stepped(frames_from(alloc, thread), step)?;
+        drop(mem::replace(&mut threads[place], after));
+    }
+    Ok(())
+}
+
 /// What an object becomes where a word of it is written.
 fn set_word_in(object: &mut ObjectView, place: usize, value: Value)
     ensures { object.new ≡ record object.old { contents = with_word_in object.old.contents place value } }
 {
     match &mut object.contents {
         ContentsView::Instance { class: _, fields } => {
-            if place < fields.len() {
-                fields[place].value = value;
-            }
+            set_value(fields, place, value);
         }
         ContentsView::Array { element: _, values } => {
-            if place < values.len() {
-                values[place] = value;
-            }
+            set_element(values, place, value);
         }
     }
 }
 
 impl World {
+    /// A world in which nothing was printed and no turn was made.
+    pub fn new(
+        alloc: Global,
+        threads: Vec<Thread>,
+        statics: Vec<FieldView>,
+        states: Vec<ClassState>,
+        objects: Vec<ObjectView>,
+    ) -> World
+        ensures { result ≡ new_world threads.items statics.items states.items objects.items }
+    {
+        World {
+            threads,
+            statics,
+            states,
+            output: Vec::new(alloc),
+            objects,
+            fault: None,
+            rows: 0,
+        }
+    }
+
     /// The threads that were started, in order.
     pub fn threads(&self) -> &[Thread]
         ensures { result.now ≡ self.now.threads }
@@ -368,8 +446,7 @@ impl World {
 
     /// The monitor of a birth.
     pub fn monitor_of(&self, birth: u32) -> Monitor
-        ensures owner { result.owner ≡ (monitor_of self.now birth).owner }
-        ensures count { result.count ≡ (monitor_of self.now birth).count }
+        ensures { monitor_in result ≡ monitor_of self.now birth }
     {
         match self.object_at(birth) {
             None => Monitor { owner: None, count: 0 },
@@ -396,9 +473,7 @@ impl World {
     pub fn set_slot(&mut self, slot: usize, value: Value)
         ensures { self.new ≡ with_slot self.old slot value }
     {
-        if slot < self.statics.len() {
-            self.statics[slot].value = value;
-        }
+        set_value(&mut self.statics, slot, value);
     }
 
     /// The classes are in other states.
@@ -438,15 +513,21 @@ impl World {
         self.fault = Some((fault, thread));
     }
 
-    /// One turn more.
-    pub fn count(&mut self)
-        requires { self.old.rows < 4294967295 }
-        ensures { self.new ≡ counted self.old }
+    /// One turn more. `AllocError` where turns can't be counted further, at 2^32.
+    pub fn count(&mut self) -> Result<(), AllocError>
+        ensures { OnOk result (self.new ≡ counted self.old) }
     {
-        self.rows += 1;
+        match self.rows.checked_add(1) {
+            Some(rows) => {
+                self.rows = rows;
+                Ok(())
+            }
+            None => Err(AllocError),
+        }
     }
 
     /// A word of the object of a birth holds another value.
+    #[tactic(auto, using(crate::proofs::WorldLemmas::worlds))]
     pub fn set_word(&mut self, birth: u32, place: usize, value: Value)
         ensures { self.new ≡ with_word self.old birth place value }
     {
@@ -457,17 +538,18 @@ impl World {
     }
 
     /// The object of a birth has another monitor.
+    #[tactic(auto, using(crate::proofs::WorldLemmas::worlds))]
     pub fn set_monitor(&mut self, birth: u32, monitor: Monitor)
         ensures { self.new ≡ with_monitor_of self.old birth (monitor_in monitor) }
     {
         let object = birth as usize;
         if object < self.objects.len() {
-            self.objects[object].owner = monitor.owner;
-            self.objects[object].entries = monitor.count;
+            set_monitor_in(&mut self.objects[object], monitor);
         }
     }
 
     /// The object of a birth knows its thread by the thread's number, that of the next one.
+    #[tactic(auto, using(crate::proofs::WorldLemmas::worlds))]
     pub fn set_started(&mut self, birth: u32) -> Result<(), AllocError>
         ensures { OnOk result (self.new ≡ started_on self.old birth) }
     {
@@ -476,7 +558,7 @@ impl World {
             let Ok(number) = u32::try_from(self.threads.len()) else {
                 return Err(AllocError);
             };
-            self.objects[object].thread = Some(number);
+            set_thread_in(&mut self.objects[object], number);
         }
         Ok(())
     }
@@ -485,14 +567,6 @@ impl World {
     pub fn step(&mut self, alloc: Global, thread: u8, step: Step) -> Result<(), AllocError>
         ensures { OnOk result (self.new ≡ with_thread self.old thread (stepped (frames_at self.old thread) step)) }
     {
-        let place = usize::from(thread);
-        if place < self.threads.len() {
-            let nobody = Thread {
-                state: ThreadState::Ended(None),
-            };
-            let thread = mem::replace(&mut self.threads[place], nobody);
-            self.threads[place] = stepped(frames_from(alloc, thread), step)?;
-        }
-        Ok(())
+        step_at(&mut self.threads, alloc, usize::from(thread), step)
     }
 }
