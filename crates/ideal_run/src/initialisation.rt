@@ -1,10 +1,10 @@
 //! Class initialisation (JVMS 5.5): which classes want it, what states they are in, and the frames of a thread that
 //! claims classes.
-ghost use Rattle.std.specs.Prelude.{◌≡◌, ◌++◌, ◌&&◌, ◌||◌, IfOk, OnOk, map, slice_index_or, slice_set};
+ghost use Rattle.std.specs.Prelude.{◌≡◌, ◌++◌, ◌&&◌, IfOk, OnOk, map, slice_index_or, slice_set};
 ghost use Rattle.std.specs.List.{list_any};
 ghost use Rattle.std.specs.Str.{bytes_eq};
 ghost use Rattle.model.specs.declared.turns.ClassState.TheVariants.{Done, Unused};
-ghost use Rattle.model.specs.Classes.Search.{upwards};
+ghost use Rattle.model.specs.Classes.Search.{superclasses, upwards};
 ghost use Rattle.model.specs.Initialisation.{with_states, declares_initializer, wants_initialising, state_if, opening_states, chain_end, chain_with, chain_from, chain_of, started_at, waiting, callers_waiting, initializer_frames, first_claim, opening_frames, claimed_states};
 ghost use Rattle.ideal_run.specs.Initialised.{is_initialised_for};
 
@@ -16,6 +16,7 @@ use model::flags::ClassFlags;
 use model::listings::Listing;
 use model::places::MethodPlace;
 use model::turns::{ClassState, Mark};
+use resolve::classes::Classes;
 use std::alloc::{AllocError, Global};
 use std::marker::Model;
 
@@ -62,36 +63,30 @@ fn declares_initializer(class: &Listing) -> bool
         .any(|method| is_class_initializer(method))
 }
 
-fn either(a: bool, b: bool) -> bool
-    ensures { result ≡ (a || b) }
+/// Whether a class is the class of a name or one of its superclasses.
+fn is_upwards(classes: &Classes<'_>, name: &[u8], above: &[u8]) -> bool
+    ensures { result ≡ list_any (bytes_eq above.now) (superclasses classes.now name.now) }
 {
-    a || b
-}
-
-/// Whether a class is among those of a name and so many superclasses upwards.
-#[tactic(auto, using(crate::proofs::ChainLemmas::chains))]
-fn is_upwards(program: &Program<'_>, steps: usize, name: &[u8], above: &[u8]) -> bool
-    ensures { result ≡ list_any (bytes_eq above.now) (upwards steps program.now name.now) }
-{
-    if steps == 0 {
-        return false;
-    }
-    match program.classes().class_named(name) {
-        None => false,
-        Some(class) => {
-            let superclass = class.superclass.as_bytes();
-            let is_further = is_upwards(program, steps - 1, superclass, above);
-            either(above == name, is_further)
+    let mut next = name;
+    for _ in 0..classes.enough_steps() {
+        match classes.class_named(next) {
+            Some(class) => {
+                if above == next {
+                    return true;
+                }
+                next = class.superclass.as_bytes();
+            }
+            None => return false,
         }
     }
+    false
 }
 
 /// Whether a class declares an initializer and is the class of a name or one of its superclasses.
 fn is_initialised_for(program: &Program<'_>, name: &[u8], above: &Listing) -> bool
     ensures { result ≡ is_initialised_for program.now name.now above.now }
 {
-    let steps = program.classes().enough_steps();
-    declares_initializer(above) && is_upwards(program, steps, name, above.name.as_bytes())
+    declares_initializer(above) && is_upwards(program.classes(), name, above.name.as_bytes())
 }
 
 fn both(a: bool, b: bool) -> bool
@@ -244,29 +239,44 @@ fn add_initializers(
     Ok(())
 }
 
-#[tactic(auto, using(crate::proofs::WaitingLemmas::waits))]
-fn all_waiting(frames: &mut [Frame])
-    ensures { frames.new ≡ map waiting frames.old }
+/// A frame that waits until the classes above its own are initialised. `AllocError` where memory runs out.
+fn waiting(alloc: Global, frame: &Frame) -> Result<Frame, AllocError>
+    ensures { IfOk result (λ after. after ≡ waiting frame.now) }
 {
-    for n in 0..frames.len() {
-        let frame = &mut frames[n];
-        frame.mark = Mark::Waiting;
+    Ok(Frame {
+        method: frame.method,
+        pc: frame.pc,
+        locals: Vec::from_slice(alloc, &frame.locals)?,
+        stack: Vec::from_slice(alloc, &frame.stack)?,
+        room: frame.room,
+        monitor: frame.monitor,
+        mark: Mark::Waiting,
+    })
+}
+
+fn all_waiting(alloc: Global, frames: &[Frame]) -> Result<Vec<Frame>, AllocError>
+    ensures { IfOk result (λ after. after.items ≡ map waiting frames.now) }
+{
+    let mut after = Vec::new(alloc);
+    for frame in frames {
+        after.push(waiting(alloc, frame)?)?;
     }
+    Ok(after)
 }
 
 /// Of these frames only the last one runs, and the others wait until the classes above theirs are initialised.
 /// `AllocError` where memory runs out.
 #[tactic(auto, using(crate::proofs::WaitingLemmas::waits))]
-fn callers_waiting(frames: Vec<Frame>) -> Result<Vec<Frame>, AllocError>
+fn callers_waiting(alloc: Global, frames: Vec<Frame>) -> Result<Vec<Frame>, AllocError>
     ensures { IfOk result (λ after. after.items ≡ callers_waiting frames.items) }
 {
     let mut frames = frames;
     match frames.pop() {
         None => Ok(frames),
         Some(last) => {
-            all_waiting(&mut frames);
-            frames.push(last)?;
-            Ok(frames)
+            let mut after = all_waiting(alloc, &frames)?;
+            after.push(last)?;
+            Ok(after)
         }
     }
 }
@@ -281,7 +291,7 @@ pub fn claim_frames(
 {
     let mut frames = Vec::new(alloc);
     add_initializers(&mut frames, alloc, program, classes)?;
-    callers_waiting(frames)
+    callers_waiting(alloc, frames)
 }
 
 /// The classes that thread 0 claims first: main's class and those above it where they are unused.
@@ -316,7 +326,7 @@ fn opening_frames(
         add_started(&mut frames, alloc, program, main)?;
     }
     add_initializers(&mut frames, alloc, program, classes)?;
-    callers_waiting(frames)
+    callers_waiting(alloc, frames)
 }
 
 /// The frames and class states of the opening world. `AllocError` where memory runs out.

@@ -1,6 +1,7 @@
 //! The monitor of an object (JVMS 2.11.10), `monitorenter` and `monitorexit` (JVMS 6.5).
-ghost use Rattle.std.specs.Prelude.{◌≡◌, IfOk, false};
+ghost use Rattle.std.specs.Prelude.{◌≡◌, IfOk, false, codes};
 ghost use Rattle.model.specs.Monitors.{is_owner, may_enter, is_full, entered, exited};
+ghost use Rattle.model.specs.Table.Objects.{is_instance};
 ghost use Rattle.model.specs.Table.Monitors.{operates, operates_if, monitor_operated};
 ghost use Rattle.model.specs.declared.instructions.MonitorOperation.TheVariants.{Enter, Exit};
 ghost use Rattle.ideal_run.specs.Completed.{told, plainly};
@@ -111,6 +112,22 @@ fn operates_if(
     }
 }
 
+/// The same, where it was found out whether the object is there.
+fn operates_at(
+    site: &Site<'_, '_>,
+    operation: MonitorOperation,
+    birth: u32,
+    is_there: bool,
+) -> Result<Completion, AllocError>
+    requires { is_there ≡ is_instance site.now (codes "java/lang/Object") birth }
+    ensures { IfOk result (λ c. told site.now.world site.now.thread c ≡ plainly (operates_if site.now operation birth (is_instance site.now (codes "java/lang/Object") birth))) }
+{
+    match operates_if(site, operation, birth, is_there) {
+        Ok(completion) => Ok(completion),
+        Err(error) => Err(error),
+    }
+}
+
 /// A monitor is entered or exited: a null, then F6 where there is no object, a monitor of another thread, F10.
 /// `AllocError` where memory runs out.
 pub fn monitor_operated(
@@ -124,7 +141,7 @@ pub fn monitor_operated(
         Ok(None) => Ok(raises(Exception::NullPointer)),
         Ok(Some(birth)) => {
             let is_there = is_instance(site, b"java/lang/Object", birth)?;
-            operates_if(site, operation, birth, is_there)
+            operates_at(site, operation, birth, is_there)
         }
     }
 }

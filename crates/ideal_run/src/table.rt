@@ -2,7 +2,10 @@
 ghost use Rattle.std.specs.Prelude.{◌≡◌, IfOk, Some};
 ghost use Rattle.std.specs.Option.{option_copied};
 ghost use Rattle.model.specs.Classes.Resolution.{resolved_field};
+ghost use Rattle.model.specs.Completions.{completes};
 ghost use Rattle.model.specs.Frames.{running};
+ghost use Rattle.model.specs.Table.Branches.{branched};
+ghost use Rattle.model.specs.Table.Numbers.{number};
 ghost use Rattle.model.specs.Programs.{instruction_of};
 ghost use Rattle.model.specs.Table.Initialisation.{declarer};
 ghost use Rattle.model.specs.Worlds.{frames_at};
@@ -28,11 +31,32 @@ use crate::statics::static_accessed;
 use crate::switches::{lookup_switched, table_switched};
 use crate::throws::threw;
 use crate::worlds::{World, running};
-use model::instructions::{ClassOperation, Instruction, Invocation};
+use model::instructions::{ClassOperation, Instruction, Invocation, NumberOperation, Test};
 use model::listings::Listed;
 use model::names::{Member, Name};
 use model::turns::{Exception, Fault, Mark};
 use std::alloc::{AllocError, Global};
+
+fn number_at(
+    site: &Site<'_, '_>,
+    operation: NumberOperation,
+) -> Result<Completion, AllocError>
+    ensures { IfOk result (λ c. told site.now.world site.now.thread c ≡ plainly (completes site.now (number site.now.next operation site.now.frame))) }
+{
+    let moved = number(site.alloc(), site.next(), operation, site.frame())?;
+    Ok(site.completes(moved))
+}
+
+fn branched_at(
+    site: &Site<'_, '_>,
+    test: Test,
+    target: u16,
+) -> Result<Completion, AllocError>
+    ensures { IfOk result (λ c. told site.now.world site.now.thread c ≡ plainly (completes site.now (branched site.now.next test target site.now.frame))) }
+{
+    let moved = branched(site.alloc(), site.next(), test, target, site.frame())?;
+    Ok(site.completes(moved))
+}
 
 /// Each family's case.
 #[tactic(auto, using(crate::proofs::PlainLemmas::plain))]
@@ -50,10 +74,10 @@ fn by_family(site: &Site<'_, '_>, instruction: &Listed) -> Result<Completion, Al
             Ok(site.completes(rearranged(alloc, next, *operation, frame)?))
         }
         Instruction::Number(operation) => {
-            Ok(site.completes(number(alloc, next, *operation, frame)?))
+            number_at(site, *operation)
         }
         Instruction::Branch(test, target) => {
-            Ok(site.completes(branched(alloc, next, *test, *target, frame)?))
+            branched_at(site, *test, *target)
         }
         Instruction::TableSwitch(table) => Ok(site.completes(table_switched(alloc, table, frame)?)),
         Instruction::LookupSwitch(lookup) => {

@@ -352,7 +352,10 @@ pub fn land(
 ) -> Result<(), AllocError>
     ensures { OnOk result (world.new ≡ with_thread (without program.now world.old thread (way_in (frames_at world.old thread) way).left) thread (thread_landed birth class.now (way_in (frames_at world.old thread) way).landing)) }
 {
-    let step = landed(alloc, world.frames_at(thread), way, birth, class)?;
+    let towards = landed(alloc, world.frames_at(thread), way, birth, class)?;
     leave(world, alloc, program, thread, way)?;
-    world.step(alloc, thread, step)
+    match world.step(alloc, thread, towards) {
+        Ok(()) => Ok(()),
+        Err(error) => Err(error),
+    }
 }
