@@ -80,9 +80,9 @@ module _ (s : Site) (member : Member) (object : Option ℕ) (method : Method) (c
       ap (λ (k : ℕ). enters_with s k (monitor_called object method) after code place) n-is
       ∙ ap (λ (w : World). enters_with s (arguments_in member + option_len object) (monitor_called object method) w code place) after-is
       ∙ ap (λ (fs : List Frame). Goes (with_thread (world_entered s (monitor_called object method)) s.thread (Live fs)) [])
-          (sym (entered-is (frames_in s) s.frame (monitor_called object method) place code (arguments_in member + option_len object) runs))
+      (sym (entered-is (frames_in s) s.frame (monitor_called object method) place code (arguments_in member + option_len object) runs))
       ∙ ap plainly (sym (picked (may_enter s.thread (monitor_wanted s.world (monitor_called object method)).owner) (has_room_for (frames_in s) code.max_locals code.max_stack)
-          (is_full (monitor_wanted s.world (monitor_called object method))) may room count Waits (raises StackOverflow) (Faults MonitorLimit) (enters_frame call coded)))
+      (is_full (monitor_wanted s.world (monitor_called object method))) may room count Waits (raises StackOverflow) (Faults MonitorLimit) (enters_frame call coded)))
 
   pub call-tested : (n : ℕ) (after : World) (birth : Option ℕ) (m : Monitor) → running (frames_in s) ≡ Some s.frame
       → birth ≡ monitor_called object method → m ≡ monitor_wanted s.world birth

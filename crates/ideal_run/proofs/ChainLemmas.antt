@@ -125,7 +125,7 @@ module _ (program : List ClassListing) where
         chain-some name (enough_steps program + 1) k (omega arith) is
         ∙ ap (λ (n : ℕ). chain_with k (slice_index_or states k Done) (chain_from program states (upwards n program (superclass_at program k)))) less
         ∙ ap (λ (above : List ℕ). chain_with k (slice_index_or states k Done) (chain_from program states (superclasses program above)))
-            (superclass-at k (class_there program k within) there ∙ sym (ap superclass_in (named-at name k (class_there program k within) is there)))
+        (superclass-at k (class_there program k within) there ∙ sym (ap superclass_in (named-at name k (class_there program k within) is there)))
         ∙ sym (ap (λ (o : Option ℕ). chain_if states o (chain_from program states (superclasses program (superclass_in (class_named program name))))) (sym is))
 
     pub chain_of-is : (name : List ℕ) (steps : ℕ) → steps ≡ enough_steps program + 1 → chain_from program states (upwards steps program name) ≡ chain_of program states name

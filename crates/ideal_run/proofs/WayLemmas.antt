@@ -96,7 +96,7 @@ module _ (program : List ClassListing) (class : List ℕ) (frames : List Frame) 
   way-leaves whole n f is some h at answers =
       is ∙ (ap (behind n) (ahead-one n f Leaves some h at answers)
       ∙ ap (λ (l : List Frame). record { landing = (ahead (n - 1)).landing; left = l })
-          (sym (append_assoc (reverse (drop n frames)) (f ∷ []) (ahead (n - 1)).left) ∙ sym (ap (λ (l : List Frame). l ++ (ahead (n - 1)).left) (reverse-drop frames n f some h at))))
+      (sym (append_assoc (reverse (drop n frames)) (f ∷ []) (ahead (n - 1)).left) ∙ sym (ap (λ (l : List Frame). l ++ (ahead (n - 1)).left) (reverse-drop frames n f some h at))))
 
   got : (n : ℕ) (f : Frame) → n < length frames → f ≡ get_or frames n f → slice_index_or frames n no_frame ≡ f
   got n f h is = get_or_default frames n no_frame f h ∙ sym is

@@ -85,12 +85,7 @@ fn initialise(world: &mut World, alloc: Global, class: Option<usize>) -> Result<
 }
 
 /// What changes beside the thread. `AllocError` where memory runs out.
-fn change(
-    world: &mut World,
-    alloc: Global,
-    thread: u8,
-    change: Change,
-) -> Result<(), AllocError>
+fn change(world: &mut World, alloc: Global, thread: u8, change: Change) -> Result<(), AllocError>
     ensures { OnOk result (world.new ≡ changed world.old thread change) }
 {
     match change {
@@ -195,7 +190,16 @@ fn raises(
             let class = exception_class(exception);
             let object = plain_object(alloc, class)?;
             let birth = world.next_birth()?;
-            throw(world, alloc, program, thread, birth, class, states, Some(object))
+            throw(
+                world,
+                alloc,
+                program,
+                thread,
+                birth,
+                class,
+                states,
+                Some(object),
+            )
         }
         Choice::NoRoom => throws(world, alloc, program, thread, 1, states),
     }
@@ -321,7 +325,15 @@ pub fn carry_out(
         }
         Completion::Denies(states) => {
             let exception = Exception::NoClassDefFound;
-            raises(world, alloc, program, thread, exception, Some(states), choice)
+            raises(
+                world,
+                alloc,
+                program,
+                thread,
+                exception,
+                Some(states),
+                choice,
+            )
         }
         Completion::Faults(fault) => {
             world.set_fault(thread, fault);

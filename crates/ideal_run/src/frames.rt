@@ -39,11 +39,7 @@ pub type Moved = Result<Frame, Abrupt>;
 pub fn below(stack: &[Value], n: usize) -> &[Value]
     ensures { result.now ≡ drop n stack.now }
 {
-    if n <= stack.len() {
-        &stack[n..]
-    } else {
-        &[]
-    }
+    if n <= stack.len() { &stack[n..] } else { &[] }
 }
 
 /// Values, bottom first, on top of a stack.
@@ -84,7 +80,12 @@ fn has_room(stack: &[Value], room: usize) -> bool
 }
 
 /// The frame with another stack, at another pc. `AllocError` where memory runs out.
-pub fn with_stack(alloc: Global, frame: &Frame, pc: u16, stack: Vec<Value>) -> Result<Frame, AllocError>
+pub fn with_stack(
+    alloc: Global,
+    frame: &Frame,
+    pc: u16,
+    stack: Vec<Value>,
+) -> Result<Frame, AllocError>
     ensures { IfOk result (λ after. after ≡ record frame.now { pc = pc; stack = stack.items }) }
 {
     let locals = Vec::from_slice(alloc, &frame.locals)?;

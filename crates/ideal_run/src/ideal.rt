@@ -141,6 +141,13 @@ impl<'a> Ideal<'a> {
     pub fn turn(&mut self, actor: Actor, choice: Choice) -> Result<(), AllocError>
         ensures { OnOk result (self.new ≡ run_after self.old actor (choice_in choice)) }
     {
-        turn(&mut self.world, self.alloc, &self.program, self.limits, actor, choice)
+        turn(
+            &mut self.world,
+            self.alloc,
+            &self.program,
+            self.limits,
+            actor,
+            choice,
+        )
     }
 }

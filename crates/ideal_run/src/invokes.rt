@@ -66,11 +66,7 @@ fn arguments_in(alloc: Global, member: &Member) -> Result<usize, AllocError>
 }
 
 /// How many operands of a call go: the arguments, and the object below them. `AllocError` where memory runs out.
-fn operands_in(
-    alloc: Global,
-    member: &Member,
-    object: Option<u32>,
-) -> Result<usize, AllocError>
+fn operands_in(alloc: Global, member: &Member, object: Option<u32>) -> Result<usize, AllocError>
     ensures { IfOk result (λ n. n ≡ arguments_in member.now + option_len object) }
 {
     let arguments = arguments_in(alloc, member)?;

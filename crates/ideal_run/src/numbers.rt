@@ -33,12 +33,7 @@ fn long_operands(op: Operator, stack: &[Value]) -> Result<(i64, i64), Fault>
 }
 
 /// An operator on two ints.
-fn int_operation(
-    alloc: Global,
-    next: u16,
-    op: Operator,
-    frame: &Frame,
-) -> Result<Moved, AllocError>
+fn int_operation(alloc: Global, next: u16, op: Operator, frame: &Frame) -> Result<Moved, AllocError>
     ensures { IfOk result (λ moved. moved ≡ frame_in (number next (Binary Int op) frame.now)) }
 {
     match two_ints_on(&frame.stack) {

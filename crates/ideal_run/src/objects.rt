@@ -35,10 +35,7 @@ fn unwritten(found: &Found<'_, Field>) -> Result<FieldView, AllocError>
 }
 
 /// Fields before they are written.
-fn all_unwritten(
-    alloc: Global,
-    layout: &[Found<'_, Field>],
-) -> Result<Vec<FieldView>, AllocError>
+fn all_unwritten(alloc: Global, layout: &[Found<'_, Field>]) -> Result<Vec<FieldView>, AllocError>
     ensures { IfOk result (λ fields. fields.items ≡ map unwritten layout.now) }
 {
     let mut fields = Vec::new(alloc);

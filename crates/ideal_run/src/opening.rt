@@ -47,11 +47,7 @@ fn is_static_field(field: &Field) -> bool
 }
 
 /// Adds the static fields among those of a class. `AllocError` where memory runs out.
-fn add_slots(
-    slots: &mut Vec<FieldView>,
-    class: &Name,
-    fields: &[Field],
-) -> Result<(), AllocError>
+fn add_slots(slots: &mut Vec<FieldView>, class: &Name, fields: &[Field]) -> Result<(), AllocError>
     ensures { OnOk result (slots.new.items ≡ slots.old.items ++ map (opening_slot class.now) (filter is_static_field fields.now)) }
 {
     for field in fields {
@@ -74,11 +70,7 @@ fn opening_slots(alloc: Global, program: &[Listing]) -> Result<Vec<FieldView>, A
 }
 
 /// Adds an object of a class without fields. `AllocError` where memory runs out.
-fn add_object(
-    objects: &mut Vec<ObjectView>,
-    alloc: Global,
-    class: &[u8],
-) -> Result<(), AllocError>
+fn add_object(objects: &mut Vec<ObjectView>, alloc: Global, class: &[u8]) -> Result<(), AllocError>
     ensures { OnOk result (objects.new.items ≡ objects.old.items ++ plain_object class.now ∷ []) }
 {
     objects.push(plain_object(alloc, class)?)?;

@@ -85,11 +85,7 @@ fn awake(alloc: Global, frame: &Frame) -> Result<Frame, AllocError>
 }
 
 /// The caller as it goes on.
-fn resumed(
-    site: &Site<'_, '_>,
-    caller: &Frame,
-    value: Option<Value>,
-) -> Result<Moved, AllocError>
+fn resumed(site: &Site<'_, '_>, caller: &Frame, value: Option<Value>) -> Result<Moved, AllocError>
     ensures { IfOk result (λ moved. moved ≡ frame_in (resumed site.now caller.now value (runs_initializer site.now.program site.now.frame))) }
 {
     if site.program().runs_initializer(site.frame()) {

@@ -67,11 +67,7 @@ fn unit_on(alloc: Global, stack: &[Value]) -> Result<Result<Group, Fault>, Alloc
 }
 
 /// A value over one unit.
-fn over_unit(
-    alloc: Global,
-    top: Value,
-    stack: &[Value],
-) -> Result<Result<Group, Fault>, AllocError>
+fn over_unit(alloc: Global, top: Value, stack: &[Value]) -> Result<Result<Group, Fault>, AllocError>
     ensures { IfOk result (λ group. group ≡ with_top top (unit_on stack.now)) }
 {
     match unit_on(alloc, stack)? {
@@ -123,12 +119,7 @@ fn groups_on(
     }
 }
 
-fn popped_on(
-    alloc: Global,
-    next: u16,
-    frame: &Frame,
-    units: Units,
-) -> Result<Moved, AllocError>
+fn popped_on(alloc: Global, next: u16, frame: &Frame, units: Units) -> Result<Moved, AllocError>
     ensures { IfOk result (λ moved. moved ≡ frame_in (popped_on next frame.now (group_on (units_in units) frame.now.stack))) }
 {
     match group_on(alloc, units, &frame.stack)? {
@@ -138,12 +129,7 @@ fn popped_on(
 }
 
 /// The group twice.
-fn doubled_on(
-    alloc: Global,
-    next: u16,
-    frame: &Frame,
-    units: Units,
-) -> Result<Moved, AllocError>
+fn doubled_on(alloc: Global, next: u16, frame: &Frame, units: Units) -> Result<Moved, AllocError>
     ensures { IfOk result (λ moved. moved ≡ frame_in (doubled_on next frame.now (group_on (units_in units) frame.now.stack))) }
 {
     match group_on(alloc, units, &frame.stack)? {

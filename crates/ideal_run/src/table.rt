@@ -37,21 +37,14 @@ use model::names::{Member, Name};
 use model::turns::{Exception, Fault, Mark};
 use std::alloc::{AllocError, Global};
 
-fn number_at(
-    site: &Site<'_, '_>,
-    operation: NumberOperation,
-) -> Result<Completion, AllocError>
+fn number_at(site: &Site<'_, '_>, operation: NumberOperation) -> Result<Completion, AllocError>
     ensures { IfOk result (λ c. told site.now.world site.now.thread c ≡ plainly (completes site.now (number site.now.next operation site.now.frame))) }
 {
     let moved = number(site.alloc(), site.next(), operation, site.frame())?;
     Ok(site.completes(moved))
 }
 
-fn branched_at(
-    site: &Site<'_, '_>,
-    test: Test,
-    target: u16,
-) -> Result<Completion, AllocError>
+fn branched_at(site: &Site<'_, '_>, test: Test, target: u16) -> Result<Completion, AllocError>
     ensures { IfOk result (λ c. told site.now.world site.now.thread c ≡ plainly (completes site.now (branched site.now.next test target site.now.frame))) }
 {
     let moved = branched(site.alloc(), site.next(), test, target, site.frame())?;
@@ -68,17 +61,15 @@ fn by_family(site: &Site<'_, '_>, instruction: &Listed) -> Result<Completion, Al
     let frame = site.frame();
     match instruction {
         Instruction::Nop => Ok(site.completes(moved(alloc, next, frame, 0, &[])?)),
-        Instruction::Constant(operand) => Ok(site.completes(constant(alloc, next, *operand, frame)?)),
+        Instruction::Constant(operand) => Ok(site.completes(constant(
+            alloc, next, *operand, frame,
+        )?)),
         Instruction::Local(access) => Ok(site.completes(local(alloc, next, *access, frame)?)),
         Instruction::Stack(operation) => {
             Ok(site.completes(rearranged(alloc, next, *operation, frame)?))
         }
-        Instruction::Number(operation) => {
-            number_at(site, *operation)
-        }
-        Instruction::Branch(test, target) => {
-            branched_at(site, *test, *target)
-        }
+        Instruction::Number(operation) => { number_at(site, *operation) }
+        Instruction::Branch(test, target) => { branched_at(site, *test, *target) }
         Instruction::TableSwitch(table) => Ok(site.completes(table_switched(alloc, table, frame)?)),
         Instruction::LookupSwitch(lookup) => {
             Ok(site.completes(lookup_switched(alloc, lookup, frame)?))

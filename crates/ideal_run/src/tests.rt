@@ -30,12 +30,7 @@ fn print(alloc: Global) -> Result<Listed, AllocError> {
     Ok(Instruction::Invoke(Invocation::Static, member))
 }
 
-fn add(
-    code: &mut Vec<Placed>,
-    pc: u16,
-    next: u16,
-    instruction: Listed,
-) -> Result<(), AllocError> {
+fn add(code: &mut Vec<Placed>, pc: u16, next: u16, instruction: Listed) -> Result<(), AllocError> {
     code.push(Placed {
         pc,
         next,

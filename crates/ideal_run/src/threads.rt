@@ -38,11 +38,7 @@ fn coded_thread(
 }
 
 /// One thread more, and the object goes.
-fn thread_added(
-    site: &Site<'_, '_>,
-    birth: u32,
-    thread: Thread,
-) -> Result<Completion, AllocError>
+fn thread_added(site: &Site<'_, '_>, birth: u32, thread: Thread) -> Result<Completion, AllocError>
     ensures { IfOk result (λ c. told site.now.world site.now.thread c ≡ thread_added_on site.now birth thread) }
 {
     let frame = replaced(site.alloc(), site.next(), site.frame(), 1, &[])?;
@@ -68,11 +64,7 @@ fn begins(site: &Site<'_, '_>, birth: u32, callee: Callee<'_>) -> Result<Complet
 }
 
 /// The object is started: IllegalThreadStateException where it was before, then F8, then F9.
-fn starts(
-    site: &Site<'_, '_>,
-    birth: u32,
-    object: &ObjectView,
-) -> Result<Completion, AllocError>
+fn starts(site: &Site<'_, '_>, birth: u32, object: &ObjectView) -> Result<Completion, AllocError>
     requires { object_at site.now.world birth ≡ Some object.now }
     ensures { IfOk result (λ c. told site.now.world site.now.thread c ≡ plainly (starts site.now birth (Some object.now))) }
 {

@@ -267,7 +267,12 @@ fn frame_at(alloc: Global, frames: &[Frame], below: usize) -> Result<Frame, Allo
             monitor: None,
             mark: Mark::Unmarked,
         }),
-        Some(frame) => with_stack(alloc, frame, frame.pc, Vec::from_slice(alloc, &frame.stack)?),
+        Some(frame) => with_stack(
+            alloc,
+            frame,
+            frame.pc,
+            Vec::from_slice(alloc, &frame.stack)?,
+        ),
     }
 }
 

@@ -449,7 +449,10 @@ impl World {
         ensures { monitor_in result ≡ monitor_of self.now birth }
     {
         match self.object_at(birth) {
-            None => Monitor { owner: None, count: 0 },
+            None => Monitor {
+                owner: None,
+                count: 0,
+            },
             Some(object) => Monitor {
                 owner: object.owner,
                 count: object.entries,
