@@ -1,0 +1,15 @@
+pub mod ArgumentLemmas
+pub mod CallLemmas
+pub mod ChainLemmas
+pub mod EffectLemmas
+pub mod KeyLemmas
+pub mod OpeningLemmas
+pub mod PlaceLemmas
+pub mod PlainLemmas
+pub mod PopLemmas
+pub mod StackLemmas
+pub mod TurnLemmas
+pub mod UnitLemmas
+pub mod WaitingLemmas
+pub mod WayLemmas
+pub mod WorldLemmas

@@ -1,0 +1,16 @@
+pub mod Called
+pub mod Calls
+pub mod Claimed
+pub mod Completed
+pub mod Effected
+pub mod Elements
+pub mod Groups
+pub mod Initialised
+pub mod Rooms
+pub mod Runs
+pub mod Started
+pub mod Steps
+pub mod Threads
+pub mod Told
+pub mod Ways
+pub mod Whole

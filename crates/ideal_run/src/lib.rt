@@ -1,0 +1,42 @@
+//! The ideal run of a program: threads, statics, objects and output on a heap where nothing is ever freed, moved by
+//! actors and choices. It is plain and slow, so that it can be laid beside the definitions in the crate `model`, family
+//! by family: each function has the name of its definition.
+#![tactic(auto)]
+
+mod arrays;
+mod branches;
+mod builtins;
+mod callees;
+mod calls;
+mod claims;
+mod completions;
+mod constants;
+mod effects;
+mod fields;
+mod frames;
+mod ideal;
+mod initialisation;
+mod invokes;
+mod locals;
+mod monitors;
+mod numbers;
+mod objects;
+mod opening;
+mod operands;
+mod programs;
+mod returns;
+mod stacks;
+mod statics;
+mod switches;
+mod table;
+mod threads;
+mod throws;
+mod unwinding;
+mod words;
+mod worlds;
+
+pub use effects::Choice;
+pub use ideal::Ideal;
+
+#[cfg(test)]
+mod tests;
