@@ -13,7 +13,7 @@ mod completions;
 mod constants;
 mod effects;
 mod fields;
-mod frames;
+pub mod frames;
 mod ideal;
 mod initialisation;
 mod invokes;
@@ -33,7 +33,7 @@ mod threads;
 mod throws;
 mod unwinding;
 mod words;
-mod worlds;
+pub mod worlds;
 
 pub use effects::Choice;
 pub use ideal::Ideal;
