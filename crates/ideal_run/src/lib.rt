@@ -37,6 +37,3 @@ pub mod worlds;
 
 pub use effects::Choice;
 pub use ideal::Ideal;
-
-#[cfg(test)]
-mod tests;

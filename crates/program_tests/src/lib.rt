@@ -4,6 +4,8 @@
 #[cfg(test)]
 mod frames_tests;
 #[cfg(test)]
+mod ideal_run_tests;
+#[cfg(test)]
 mod loader_tests;
 #[cfg(test)]
 mod plain_steps_tests;

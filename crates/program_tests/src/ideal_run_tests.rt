@@ -1,6 +1,6 @@
 //! The run of a small program, turn by turn: what it prints was worked out by hand.
 
-use crate::{Choice, Ideal};
+use ideal_run::{Choice, Ideal};
 use model::flags::{ClassFlags, MethodFlags};
 use model::instructions::{
     Constant, Instruction, Invocation, NumberKind, NumberOperation, Operator, SmallInt,
