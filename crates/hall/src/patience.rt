@@ -13,7 +13,7 @@ const TURNS: u64 = 3;
 const ROUNDS: u32 = 64;
 
 // So often it yields at most, until the collector has a turn.
-const YIELDS: u8 = 100;
+const YIELDS: u32 = 10_000;
 
 // A carrier's turns are short, so that a collector's thread, once it waits, comes too late for the lock nearly each time:
 // without this, heaps would run full beside an idle collector.
