@@ -6,7 +6,8 @@
 Runs a program N times (a hundred where nothing is said) with several carriers (four), each time with a journal, which it
 replays: output, lines and status are to be the same. Each journal has as many rows as its last line says, each of a worker
 that it has, and the collector's rows are all of the last worker. Without files the program is one whose main starts four
-threads that count under one monitor and make garbage on a small heap, and waits for them.
+threads that count under one monitor and make garbage on a small heap, and waits for them; each run prints 8000 and ends well,
+since its garbage fits.
 
 Then it runs the program once as a user who may start no thread: that is told, and no journal is written.
 
@@ -112,13 +113,15 @@ def without_threads(machine, files, room):
     return "without threads a journal is written" if os.path.exists(journal) else None
 
 
-def replayed(machine, given, files, room):
+def replayed(machine, given, files, room, wanted):
     """The rows of each worker in all runs, how often each end was seen, and how many runs were wrong."""
     total, ends, failed, journal = Counter(), Counter(), 0, f"{room}/journal"
     for number in range(given.runs):
         told = run(machine, "run", "--carriers", str(given.carriers), "--journal", journal, *given.options.split(), *files)
         ends[told[2], told[1].decode().strip()] += 1
         rows, why = rows_of(journal, given.carriers)
+        if not why and wanted and told != wanted:
+            why = f"it ended with {told}"
         if not why and run(machine, "replay", journal, *files) != told:
             why = "its replay ends otherwise"
         if why:
@@ -142,7 +145,8 @@ def main():
         if not given.files:
             with open(files[0], "w", encoding="ascii") as file:
                 file.write(TEXT % (STARTS + JOINS))
-        total, ends, failed = replayed(machine, given, files, room)
+        wanted = None if given.files else (b"8000\n", b"", 0)
+        total, ends, failed = replayed(machine, given, files, room, wanted)
         why = without_threads(machine, files, room)
     for (status, line), times in ends.most_common():
         print(f"{times} runs ended with status {status} {line}")

@@ -4,10 +4,12 @@
     tools/run_examples.py [--jvm PATH] [--after LOG]
 
 A text NAME.j that has NAME.out beside it is a program (Square.j with Shape.j): it is run from its texts and from its class
-files, twice each with one journal, and the journal is replayed; NAME.out has its output, its lines on standard error and its
-status. Each text is assembled, disassembled and assembled again, which gives the same class file. The class files of
-examples/java are run in the same way; there NAME.out is what `java` printed. The programs of examples/rows.txt are run turn
-by turn.
+files, twice each with one journal, and the journal is replayed. NAME.out has its output, its lines on standard error and its
+status. Each text is assembled, disassembled and assembled again, which gives the
+same class file. The class files of examples/java are run in the same way; there NAME.out is what `java`
+printed. The programs of examples/rows.txt are run turn by turn. All but those of rows.txt that have
+several threads, or find no room for an object, are also run by four carriers, and the journals of these runs are replayed:
+they print the same, whoever took which turn. The sessions of examples/sessions.txt are played command by command.
 
 The last line is 'N passed, M failed'. With --after, the passes and failures in the last line of that file are added.
 """
@@ -20,6 +22,8 @@ import subprocess
 import sys
 import tempfile
 
+from sessions import tried_commands
+
 ROOT = os.path.join(os.path.dirname(os.path.abspath(__file__)), "..")
 EXAMPLES = os.path.join(ROOT, "examples")
 BUILT = os.path.join(ROOT, "crates", "jvm", "out", "jvm")
@@ -27,6 +31,9 @@ BUILT = os.path.join(ROOT, "crates", "jvm", "out", "jvm")
 OTHERS = {"Square": ["Shape"]}
 # room for what the programs of examples/java make, and time for the collector
 ROOM = ["--small", "2000", "--medium", "400", "--large", "100", "--steps", "16000000"]
+CARRIERS = ["--carriers", "4"]
+# what threads come to that may lock each other out
+BY_SCHEDULE = {"D"}
 
 
 def run(*words):
@@ -68,6 +75,18 @@ def difference(jvm, files, options, wanted, room):
     return None if shown == wanted else f"replay: {shown.decode(errors='replace')}"
 
 
+def carried(jvm, files, options, wanted, room):
+    """How a run of these files by four carriers, or its replay, differs from what is wanted, or nothing."""
+    journal = f"{room}/carried"
+    shown = run(jvm, "run", *CARRIERS, *options, "--journal", journal, *files)
+    if shown != wanted:
+        return f"by four carriers: {shown.decode(errors='replace')}"
+    if b"\nworkers 5\n" not in bytes_of(journal):
+        return "by four carriers: the journal doesn't have five workers"
+    shown = run(jvm, "replay", journal, *files)
+    return None if shown == wanted else f"replay of four carriers: {shown.decode(errors='replace')}"
+
+
 def tried_texts(jvm, room):
     """What was tried of the texts, each with what is wrong, or nothing."""
     made = {}
@@ -81,16 +100,17 @@ def tried_texts(jvm, room):
         texts = [f"{EXAMPLES}/{it}.j" for it in names]
         yield f"{name}.j", difference(jvm, texts, [], bytes_of(out), room)
         yield f"{name}.class", difference(jvm, [made[it] for it in names], ["--gc", "7"], bytes_of(out), room)
+        if name not in BY_SCHEDULE:
+            yield f"{name}.j by four carriers", carried(jvm, texts, ROOM, bytes_of(out), room)
 
 
 def tried_others(jvm, room):
-    """A code and a word that is none, explained, and two threads that don't get stuck by another schedule."""
-    shown = run(jvm, "explain", "N1")
-    yield "explain N1", None if shown == b"A journal's first line is not `JVMJ 1` or `JVMJ 2`.\nstatus 0\n" else shown.decode()
-    shown = run(jvm, "explain", "J10")
-    yield "explain J10", None if shown == b"jvm: no code J10\nstatus 7\n" else shown.decode()
+    """Two threads that don't get stuck by another schedule, and may by carriers."""
     shown = run(jvm, "replay", f"{EXAMPLES}/D.journal", f"{EXAMPLES}/D.j")
     yield "D.journal", None if shown == b"status 0\n" else shown.decode()
+    shown = run(jvm, "run", *CARRIERS, "--journal", f"{room}/carried", f"{EXAMPLES}/D.j")
+    again = run(jvm, "replay", f"{room}/carried", f"{EXAMPLES}/D.j")
+    yield "D.j by four carriers", None if shown == again else f"{shown.decode()}, and replayed {again.decode()}"
 
 
 def rows_in(text):
@@ -117,10 +137,14 @@ def tried_rows(jvm, room):
             with open(path, "w", encoding="ascii") as file:
                 file.write(text + "\n")
         small, medium, large = cells
-        options = ["--gc", "0", "--small", small, "--medium", medium, "--large", large, "--journal", f"{room}/journal"]
-        shown, _, status = run(jvm, "run", *options, *files).decode().rpartition("status ")
-        told = f"{shown}{status.strip()}:{turns_of(f'{room}/journal')}"
+        shape = ["--small", small, "--medium", medium, "--large", large]
+        shown = run(jvm, "run", "--gc", "0", *shape, "--journal", f"{room}/journal", *files)
+        printed, _, status = shown.decode().rpartition("status ")
+        turns = turns_of(f"{room}/journal")
+        told = f"{printed}{status.strip()}:{turns}"
         yield f"rows: {name}", None if told == story else told
+        if " 1" not in turns and " 0n" not in turns:
+            yield f"rows: {name}, by four carriers", carried(jvm, files, shape, shown, room)
 
 
 def tried_classes(jvm, room):
@@ -128,7 +152,9 @@ def tried_classes(jvm, room):
     for out in sorted(glob.glob(f"{EXAMPLES}/java/*.out")):
         name = out.removesuffix(".out")
         files = [f"{name}.class", *sorted(glob.glob(f"{name}$*.class"))]
-        yield f"java/{os.path.basename(name)}", difference(jvm, files, ROOM, bytes_of(out) + b"status 0\n", room)
+        wanted = bytes_of(out) + b"status 0\n"
+        yield f"java/{os.path.basename(name)}", difference(jvm, files, ROOM, wanted, room)
+        yield f"java/{os.path.basename(name)} by four carriers", carried(jvm, files, ROOM, wanted, room)
 
 
 def main():
@@ -144,7 +170,7 @@ def main():
         print(f"examples: there is no {given.jvm}\n{passed} passed, {failed + 1} failed")
         return 1
     with tempfile.TemporaryDirectory() as room:
-        for tried in (tried_texts, tried_others, tried_rows, tried_classes):
+        for tried in (tried_texts, tried_others, tried_rows, tried_classes, tried_commands):
             for name, why in tried(os.path.abspath(given.jvm), room):
                 passed, failed = passed + (not why), failed + bool(why)
                 if why:

@@ -19,12 +19,11 @@ use crate::numbered_class::class_file;
 use crate::pool_numbers::Numbers;
 use bitflags::Flags;
 use classfile::ClassFile;
+use classfile::flags::SUPER;
 use model::instructions::{Constant, Instruction, Width};
 use model::listings::{Listing, Method};
 use model::trees::{BodyTree, ClassTree, MethodTree, TextLine, Written};
 use std::alloc::Global;
-
-const SUPER: u16 = 0x0020;
 
 /// What a tree assembles to.
 #[derive(Drop)]

@@ -13,16 +13,13 @@ use crate::kept_numbers::{attribute, class, int, long, text};
 use crate::numbered_code::numbered_code;
 use crate::pool_numbers::Numbers;
 use bitflags::Flags;
+use classfile::flags::{INTERFACE, SUPER};
 use classfile::{Body, ClassFile, CodeEntry, MethodEntry};
 use model::class_files::{ConstantValue, FieldEntry};
 use model::flags::ClassFlags;
 use model::listings::{Code, Constant, Field, Listing, Method};
 use model::names::Name;
 use std::alloc::Global;
-
-const SUPER: u16 = 0x0020;
-
-const INTERFACE: u16 = 0x0200;
 
 /// The class file of a listing, in whose pool other items stand first. A3 where the pool has no room, and where the format
 /// refuses the class file.

@@ -10,6 +10,7 @@ ghost use Rattle.classfile.specs.Reading.Attributes.{attribute_from, attributes_
 ghost use Rattle.classfile.specs.Reading.Fields.{value_of, constant_from, constants_from, field_flags_from, field_from};
 
 use crate::attributes::{field_name_at, field_type_at, sized_at, text_at};
+use crate::flags::{INTERFACE, OF_INTERFACE_FIELD, OF_NO_FIELD, STATIC};
 use bitflags::Flags;
 use model::class_files::{ConstantValue, Entry, FieldEntry, FormatFault};
 use model::descriptors::{is_int_type, is_long_type};
@@ -18,15 +19,12 @@ use pool::fields::u16_at;
 use pool::{Pool, ReadError};
 use std::alloc::AllocError;
 
-const STATIC: u16 = 0x0008;
-
-const INTERFACE: u16 = 0x0200;
-
 /// Whether a field may have these flags in a class of those.
 pub fn are_field_flags(class: u16, flags: u16) -> bool
     ensures { result ≡ definition.are_field_flags class flags }
 {
-    flags & 0xff20 == 0 && (class & INTERFACE == 0 || flags & 0x0019 == 0x0019)
+    flags & OF_NO_FIELD == 0
+        && (class & INTERFACE == 0 || flags & OF_INTERFACE_FIELD == OF_INTERFACE_FIELD)
 }
 
 /// Whether an entry may be the value of a field of this type.

@@ -15,6 +15,7 @@ ghost use Rattle.classfile.specs.Reading.Heads.{opening_from, class_flags_from, 
 ghost use Rattle.classfile.specs.Sound.{ClassStands};
 
 use crate::fields::{field_of, put_field};
+use crate::flags::{ABSTRACT, FINAL, INTERFACE, OF_NO_CLASS};
 use crate::sound_fields::{both, fields_stand, is_count};
 use bitflags::Flags;
 use model::class_files::{FieldEntry, FormatFault};
@@ -67,9 +68,9 @@ fn opening_of(bytes: &[u8]) -> Result<(u16, &[u8]), ReadError>
 fn are_class_flags(flags: u16) -> bool
     ensures { result ≡ definition.are_class_flags flags }
 {
-    flags & 0xf9ce == 0
-        && (flags & 0x0200 == 0 || flags & 0x0400 != 0)
-        && !(flags & 0x0010 != 0 && flags & 0x0400 != 0)
+    flags & OF_NO_CLASS == 0
+        && (flags & INTERFACE == 0 || flags & ABSTRACT != 0)
+        && !(flags & FINAL != 0 && flags & ABSTRACT != 0)
 }
 
 /// The flags of a class. C11 where they don't go together.

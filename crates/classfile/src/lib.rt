@@ -8,6 +8,7 @@ mod error;
 mod exception_rows;
 mod fields;
 mod files;
+pub mod flags;
 mod heads;
 mod instructions;
 mod listed_code;

@@ -4,6 +4,7 @@ ghost use Rattle.std.specs.Prelude.{◌≡◌, map, IfOk};
 ghost use Rattle.model.specs.ClassFiles.Listing as listing;
 ghost use Rattle.model.specs.ClassFiles.Listing.{listing_of};
 
+use crate::flags::BUT_SUPER;
 use crate::listed_code::listed_instructions;
 use crate::listed_members::{class_names, listed_fields};
 use crate::{ClassFile, CodeEntry, CodeRow, MethodEntry};
@@ -35,7 +36,7 @@ pub fn listing(alloc: Global, file: &ClassFile) -> Result<Listing, AllocError>
 fn listed_flags(flags: u16) -> ClassFlags
     ensures { result ≡ listing.listed_flags (record { 0 = flags }) }
 {
-    ClassFlags::from_bits_retain(flags & 0xffdf)
+    ClassFlags::from_bits_retain(flags & BUT_SUPER)
 }
 
 fn listed_methods(

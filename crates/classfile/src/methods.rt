@@ -17,6 +17,7 @@ use crate::attributes::{Text, sized_at, text_at};
 use crate::codes::{CodeEntry, code_of, put_code};
 use crate::error::ClassError;
 use crate::fields::is_static;
+use crate::flags::{ABSTRACT, INTERFACE, NATIVE, NEVER_ABSTRACT, OF_NO_METHOD, PUBLIC};
 use crate::instructions::Signature;
 use bitflags::Flags;
 use model::class_files::FormatFault;
@@ -48,10 +49,10 @@ impl Model for MethodEntry {
 pub fn are_method_flags(class: u16, flags: u16) -> bool
     ensures { result ≡ definition.are_method_flags class flags }
 {
-    let is_abstract = flags & 0x0400 != 0;
-    flags & 0xfac0 == 0
-        && !(is_abstract && flags & 0x013a != 0)
-        && (class & 0x0200 == 0 || (flags & 0x0001 != 0 && is_abstract))
+    let is_abstract = flags & ABSTRACT != 0;
+    flags & OF_NO_METHOD == 0
+        && !(is_abstract && flags & NEVER_ABSTRACT != 0)
+        && (class & INTERFACE == 0 || (flags & PUBLIC != 0 && is_abstract))
 }
 
 /// The flags of a method in a class of these flags. C11 where they don't go together.
@@ -71,7 +72,7 @@ fn method_flags_at(class: u16, bytes: &[u8]) -> Result<(u16, &[u8]), ReadError>
 pub fn wants_code(flags: u16) -> bool
     ensures { result ≡ definition.wants_code flags }
 {
-    flags & 0x0400 == 0 && flags & 0x0100 == 0
+    flags & ABSTRACT == 0 && flags & NATIVE == 0
 }
 
 /// Whether the text under a number is a method's descriptor whose arguments take 255 units at most, with the object where

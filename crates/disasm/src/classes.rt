@@ -8,6 +8,7 @@ use crate::code::put_code;
 use crate::instructions::put_name;
 use crate::words::{put, put_line, put_number};
 use bitflags::Flags;
+use classfile::flags::INTERFACE;
 use model::flags::{
     CLASS_FLAGS, ClassFlags, FIELD_FLAGS, INTERFACE_FLAGS, METHOD_FLAGS, MethodFlags,
 };
@@ -41,7 +42,7 @@ fn put_head(out: &mut Vec<u8>, flags: ClassFlags, name: &Name) -> Result<(), All
     ensures { OnOk result (out.new.items ≡ out.old.items ++ definition.class_line (has flags.0 0x0200) flags.0 name.now) }
 {
     let flags = flags.bits();
-    if flags & 0x0200 != 0 {
+    if flags & INTERFACE != 0 {
         put(out, ".interface ")?;
         put_flags(out, &INTERFACE_FLAGS, flags)?;
     } else {

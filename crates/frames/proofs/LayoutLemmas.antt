@@ -1,6 +1,6 @@
 -- how the frames read after a write in the region of the last one
-use Rattle.std.proofs.Common.{◌≡◌, ℕ, suc, ◌+◌, ◌-◌, ◌<◌, ◌≤◌, List, [], ◌∷◌, ◌++◌, length, map, slice_set, take, drop, nat_lt, nat_le, ◌&&◌, zero-add, replicate, Ok, Some, None, slice_get, Bool, true, refl, ap, sym, ◌∙◌, subst, arith, get_or}
-use Rattle.std.proofs.lemmas.List.{take-take, take_more, take_all, set_split, drop_all, map_push, length-map, length-set, get_or-map, length-append, take-map, length-take-le, length-drop, length-replicate, append_assoc, take_at, drop_at, take-set-le, get_or_default, get_or-take, get_or-drop, set-get_or, drop-set-add}
+use Rattle.std.proofs.Common.{◌≡◌, ℕ, ◌+◌, ◌-◌, ◌<◌, ◌≤◌, List, [], ◌∷◌, ◌++◌, length, map, slice_set, take, drop, nat_lt, nat_le, ◌&&◌, zero-add, replicate, Ok, Some, None, slice_get, Bool, true, refl, ap, sym, ◌∙◌, subst, arith, get_or}
+use Rattle.std.proofs.lemmas.List.{take-take, take_more, take_all, map_push, length-map, length-set, get_or-map, length-append, take-map, length-take-le, length-drop, length-replicate, append_assoc, take_at, drop_at, take-set-le, get_or_default, get_or-take, get_or-drop, set-get_or, drop-set-add}
 use Rattle.std.proofs.lemmas.Option.{slice_get_read, slice_get_past}
 use Rattle.std.proofs.Math.Seq.{take-set-lt}
 use Rattle.std.proofs.lemmas.Bool.{lt-ltb, and_parts, ltb-true, leb-true}
@@ -8,10 +8,12 @@ use Rattle.model.specs.declared.values.Entry.{Entry}
 use Rattle.model.specs.declared.values.Entry.TheVariants.{Unset}
 use Rattle.model.specs.declared.values.Value.{Value}
 use Rattle.model.specs.Values.{units_of, units_of_all}
-use Rattle.model.specs.Frames.{Frame, running_frame, top_of, with_running, no_frame, units_of_frames, has_room_for}
+use Rattle.model.specs.Frames.{Frame, running_frame, callers, top_of, with_running, no_frame, units_of_frames, has_room_for}
 use Rattle.frames.specs.declared.activations.Activation.{Activation}
 use Rattle.values.specs.Slots.{value_in}
+use Rattle.frames.specs.Activations.{last_of, with_last, no_activation}
 use Rattle.frames.specs.Layout.{stack_of, frame_of, Stands, AreLaidOut, IsSound}
+use Rattle.frames.proofs.ListLemmas.{set_last}
 use Rattle.frames.proofs.StackLemmas.{stack_of-agree, locals-agree, length-stack_of, length_le_units, units_of_all-take-drop, units_of-pos, drop-stack_of, stack_of-push, stack_of-set_below, top_of-drop-stack_of}
 
 -- a list of activations and its last one
@@ -19,12 +21,6 @@ pub split_last : (acts : List Activation) (a : Activation) → 0 < length acts �
 split_last acts a some is =
     let whole : take (length acts - 1 + 1) acts ≡ take (length acts - 1) acts ++ get_or acts (length acts - 1) a ∷ [] = take_more acts (length acts - 1) a (omega arith) in
     let all : take (length acts - 1 + 1) acts ≡ acts = take_all (length acts - 1 + 1) acts (omega arith) in
-    cc
-
-pub set_last : {X : Type 0} → (xs : List X) (x : X) → 0 < length xs → slice_set xs (length xs - 1) x ≡ take (length xs - 1) xs ++ x ∷ []
-set_last xs x some =
-    let split = set_split xs (length xs - 1) x (omega arith) in
-    let none : drop (suc (length xs - 1)) xs ≡ [] = drop_all (suc (length xs - 1)) xs (omega arith) in
     cc
 
 -- what the last of so many activations is known to do
@@ -103,32 +99,28 @@ units_of_frames-laid units base end (x ∷ xs) h fits =
 
 -- ---- a frame is entered or left
 
-pub sound_push : (units units' : List Entry) (acts : List Activation) (used capacity capacity' end : ℕ) (a : Activation) → IsSound units acts used capacity → length units' ≡ length units → take used units ≡ take used units' → Stands units' used a → used + a.locals + a.room ≡ end → end ≤ 4096 → length acts < 256 → capacity ≤ capacity' → IsSound units' (acts ++ a ∷ []) end capacity'
-sound_push units units' acts used capacity capacity' end a sound long same stands ends fits few more =
-    let wide = sound.capacity_is in
+pub sound_push : (units units' : List Entry) (acts : List Activation) (used end : ℕ) (a : Activation) → IsSound units acts used → length units' ≡ length units → take used units ≡ take used units' → Stands units' used a → used + a.locals + a.room ≡ end → end ≤ 4096 → length acts < 256 → IsSound units' (acts ++ a ∷ []) end
+sound_push units units' acts used end a sound long same stands ends fits few =
     record {
       units_are = long ∙ sound.units_are;
-      capacity_is = omega arith;
       count_is = omega (arith, length-append acts (a ∷ []));
       used_is = fits;
       laid_out = laid_join units' 0 used end acts a (laid-agree units units' used 0 used acts same sound.laid_out (omega arith)) stands ends;
     }
 
-pub view_push : (units units' : List Entry) (acts : List Activation) (used capacity : ℕ) (a : Activation) (frames : List Frame) → IsSound units acts used capacity → map (frame_of units) acts ≡ frames → take used units ≡ take used units' → map (frame_of units') (acts ++ a ∷ []) ≡ frames ++ frame_of units' a ∷ []
-view_push units units' acts used capacity a frames sound view same =
+pub view_push : (units units' : List Entry) (acts : List Activation) (used : ℕ) (a : Activation) (frames : List Frame) → IsSound units acts used → map (frame_of units) acts ≡ frames → take used units ≡ take used units' → map (frame_of units') (acts ++ a ∷ []) ≡ frames ++ frame_of units' a ∷ []
+view_push units units' acts used a frames sound view same =
     let below : map (frame_of units) acts ≡ map (frame_of units') acts = frames-agree units units' used 0 used acts same sound.laid_out (omega arith) in
     map_push (frame_of units') acts a ∙ ap (λ (fs : List Frame). fs ++ frame_of units' a ∷ []) (sym below ∙ view)
 
-pub sound_pop : (units : List Entry) (acts rest : List Activation) (used capacity capacity' : ℕ) (a : Activation) → IsSound units acts used capacity → acts ≡ rest ++ a ∷ [] → capacity' ≡ capacity → IsSound units rest a.base capacity'
-sound_pop units acts rest used capacity capacity' a sound split same =
+pub sound_pop : (units : List Entry) (acts rest : List Activation) (used : ℕ) (a : Activation) → IsSound units acts used → acts ≡ rest ++ a ∷ [] → IsSound units rest a.base
+sound_pop units acts rest used a sound split =
     let last = laid_split units 0 used rest a (let P : List Activation → Type 0 = λ l. AreLaidOut units 0 l used in subst P split sound.laid_out) in
     let ends = last.ends in
-    let wide = sound.capacity_is in
     let count = sound.count_is in
     let used_is = sound.used_is in
     record {
       units_are = sound.units_are;
-      capacity_is = omega arith;
       count_is = omega (arith, ap length split, length-append rest (a ∷ []));
       used_is = omega arith;
       laid_out = last.below;
@@ -136,25 +128,30 @@ sound_pop units acts rest used capacity capacity' a sound split same =
 
 -- ---- the parts as a whole, while a frame runs: `a` is the last activation
 
--- what a method finds: so many activations, n, which show so many frames, of which one runs
-pub record Opened (units : List Entry) (acts : List Activation) (used capacity : ℕ) (frames : List Frame) (n : ℕ) (a : Activation) : Type 0 where
-  pub sound : IsSound units acts used capacity
+-- what a method finds: activations that show so many frames, of which one runs
+pub record Opened (units : List Entry) (acts : List Activation) (used : ℕ) (frames : List Frame) (a : Activation) : Type 0 where
+  pub sound : IsSound units acts used
   pub some : 0 < length acts
   pub view : map (frame_of units) acts ≡ frames
-  pub count : n ≡ length acts
   pub last : a ≡ get_or acts (length acts - 1) a
 
-pub opened : (units : List Entry) (acts : List Activation) (used capacity : ℕ) (frames : List Frame) (n : ℕ) (a : Activation) → IsSound units acts used capacity → map (frame_of units) acts ≡ frames → 0 < length frames → n ≡ length acts → a ≡ get_or acts (n - 1) a → Opened units acts used capacity frames n a
-opened units acts used capacity frames n a sound view some count last =
+pub some_act : (units : List Entry) (acts : List Activation) (frames : List Frame) → map (frame_of units) acts ≡ frames → 0 < length frames → 0 < length acts
+some_act units acts frames view some =
+    let e : length (map (frame_of units) acts) ≡ length acts = length-map acts (frame_of units) in
+    let f : length (map (frame_of units) acts) ≡ length frames = ap length view in
+    omega arith
+
+pub opened : (units : List Entry) (acts : List Activation) (used : ℕ) (frames : List Frame) (a : Activation) → IsSound units acts used → map (frame_of units) acts ≡ frames → 0 < length frames → a ≡ last_of acts → Opened units acts used frames a
+opened units acts used frames a sound view some last =
+    let is : 0 < length acts = some_act units acts frames view some in
     record {
       sound = sound;
-      some = let e : length (map (frame_of units) acts) ≡ length acts = length-map acts (frame_of units) in let f : length (map (frame_of units) acts) ≡ length frames = ap length view in omega arith;
+      some = is;
       view = view;
-      count = count;
-      last = last ∙ ap (λ (k : ℕ). get_or acts (k - 1) a) count;
+      last = last ∙ get_or_default acts (length acts - 1) no_activation a (omega arith);
     }
 
-module _ {units : List Entry} {acts : List Activation} {used capacity : ℕ} {frames : List Frame} {n : ℕ} {a : Activation} (o : Opened units acts used capacity frames n a) where
+module _ {units : List Entry} {acts : List Activation} {used : ℕ} {frames : List Frame} {a : Activation} (o : Opened units acts used frames a) where
   pub running_is : running_frame frames ≡ frame_of units a
   running_is = ap running_frame (sym o.view) ∙ rw length-map (get_or-map (frame_of units) acts (length acts - 1) a no_frame (let some = o.some in omega arith) ∙ ap (frame_of units) (sym o.last))
 
@@ -163,21 +160,20 @@ module _ {units : List Entry} {acts : List Activation} {used capacity : ℕ} {fr
       laid_split units 0 used (take (length acts - 1) acts) a (let P : List Activation → Type 0 = λ l. AreLaidOut units 0 l used in subst P (split_last acts a o.some o.last) o.sound.laid_out)
 
   -- the last activation and units from its base on are written
-  pub sound_put : (units' : List Entry) (a' : Activation) → length units' ≡ length units → take a.base units ≡ take a.base units' → Stands units' a.base a' → a'.locals + a'.room ≡ a.locals + a.room → IsSound units' (slice_set acts (n - 1) a') used capacity
+  pub sound_put : (units' : List Entry) (a' : Activation) → length units' ≡ length units → take a.base units ≡ take a.base units' → Stands units' a.base a' → a'.locals + a'.room ≡ a.locals + a.room → IsSound units' (with_last acts a') used
   sound_put units' a' long same stands kept =
       let last = stands_last in
       let ends = last.ends in
       let below = laid-agree units units' a.base 0 a.base (take (length acts - 1) acts) same last.below (omega arith) in
       let laid = laid_join units' 0 a.base used (take (length acts - 1) acts) a' below stands (omega arith) in
-      rw o.count (record {
+      record {
         units_are = long ∙ o.sound.units_are;
-        capacity_is = o.sound.capacity_is;
         count_is = rw length-set o.sound.count_is;
         used_is = o.sound.used_is;
         laid_out = let P : List Activation → Type 0 = λ l. AreLaidOut units' 0 l used in subst P (sym (set_last acts a' o.some)) laid;
-      })
+      }
 
-  pub view_put : (units' : List Entry) (a' : Activation) → take a.base units ≡ take a.base units' → map (frame_of units') (slice_set acts (n - 1) a') ≡ with_running frames (frame_of units' a')
+  pub view_put : (units' : List Entry) (a' : Activation) → take a.base units ≡ take a.base units' → map (frame_of units') (with_last acts a') ≡ with_running frames (frame_of units' a')
   view_put units' a' same =
       let last = stands_last in
       let below : map (frame_of units) (take (length acts - 1) acts) ≡ map (frame_of units') (take (length acts - 1) acts) = frames-agree units units' a.base 0 a.base (take (length acts - 1) acts) same last.below (omega arith) in
@@ -186,7 +182,16 @@ module _ {units : List Entry} {acts : List Activation} {used capacity : ℕ} {fr
       let written : slice_set (map (frame_of units) acts) (length (map (frame_of units) acts) - 1) (frame_of units' a') ≡ take (length (map (frame_of units) acts) - 1) (map (frame_of units) acts) ++ frame_of units' a' ∷ [] = set_last (map (frame_of units) acts) (frame_of units' a') (omega arith) in
       let callers : take (length (map (frame_of units) acts) - 1) (map (frame_of units) acts) ≡ map (frame_of units) (take (length acts - 1) acts) = ap (λ (k : ℕ). take (k - 1) (map (frame_of units) acts)) count ∙ take-map (frame_of units) (length acts - 1) acts in
       let put : map (frame_of units') (slice_set acts (length acts - 1) a') ≡ with_running (map (frame_of units) acts) (frame_of units' a') = ap (map (frame_of units')) (set_last acts a' o.some) ∙ (map_push (frame_of units') (take (length acts - 1) acts) a' ∙ (ap (λ (fs : List Frame). fs ++ frame_of units' a' ∷ []) (sym below ∙ sym callers) ∙ sym written)) in
-      ap (λ (k : ℕ). map (frame_of units') (slice_set acts (k - 1) a')) o.count ∙ (put ∙ ap (λ (fs : List Frame). with_running fs (frame_of units' a')) o.view)
+      put ∙ ap (λ (fs : List Frame). with_running fs (frame_of units' a')) o.view
+
+  -- the last activation goes
+  pub sound_leave : IsSound units (take (length acts - 1) acts) a.base
+  sound_leave = sound_pop units acts (take (length acts - 1) acts) used a o.sound (split_last acts a o.some o.last)
+
+  pub view_leave : map (frame_of units) (take (length acts - 1) acts) ≡ callers frames
+  view_leave =
+      let count : length (map (frame_of units) acts) ≡ length acts = length-map acts (frame_of units) in
+      sym (ap callers (sym o.view) ∙ (ap (λ (k : ℕ). take (k - 1) (map (frame_of units) acts)) count ∙ take-map (frame_of units) (length acts - 1) acts))
 
   -- the running frame's region lies within the units, and its stack within its room
   pub region_fits : (a.base + a.locals + a.room ≤ 4096) × (a.values ≤ a.room) × (a.taken ≤ a.room) × (length units ≡ 4096)
@@ -223,7 +228,7 @@ module _ {units : List Entry} {acts : List Activation} {used capacity : ℕ} {fr
       let room_is : (running_frame frames).room ≡ a.room = ap (λ (f : Frame). f.room) running_is in
       (deep, omega arith, omega arith, record { begins = refl; taken_is = omega arith; fits = omega arith })
 
-  pub view_drop : (next count taken : ℕ) → count ≤ a.values → map (frame_of units) (slice_set acts (n - 1) (record a { pc = next; values = a.values - count; taken = a.taken - taken })) ≡ with_running frames (record (running_frame frames) { pc = next; stack = drop count (running_frame frames).stack })
+  pub view_drop : (next count taken : ℕ) → count ≤ a.values → map (frame_of units) (with_last acts (record a { pc = next; values = a.values - count; taken = a.taken - taken })) ≡ with_running frames (record (running_frame frames) { pc = next; stack = drop count (running_frame frames).stack })
   view_drop next count taken deep =
       let left : stack_of units (a.base + a.locals) (a.values - count) ≡ drop count (stack_of units (a.base + a.locals) a.values) = sym (drop-stack_of units (a.base + a.locals) a.values count deep) in
       rw (running_is, ← left) (view_put units (record a { pc = next; values = a.values - count; taken = a.taken - taken }) refl)
@@ -243,7 +248,7 @@ module _ {units : List Entry} {acts : List Activation} {used capacity : ℕ} {fr
       let pushed = stack_of-push units (a.base + a.locals) a.values e inside in
       (omega arith, inside, omega arith, record { begins = refl; taken_is = let e = ap units_of_all pushed in omega arith; fits = omega arith })
 
-  pub view_push_value : (e : Entry) → a.base + a.locals + a.values < length units → map (frame_of (slice_set units (a.base + a.locals + a.values) e)) (slice_set acts (n - 1) (record a { values = a.values + 1; taken = a.taken + units_of (value_in e) })) ≡ with_running frames (record (running_frame frames) { stack = value_in e ∷ (running_frame frames).stack })
+  pub view_push_value : (e : Entry) → a.base + a.locals + a.values < length units → map (frame_of (slice_set units (a.base + a.locals + a.values) e)) (with_last acts (record a { values = a.values + 1; taken = a.taken + units_of (value_in e) })) ≡ with_running frames (record (running_frame frames) { stack = value_in e ∷ (running_frame frames).stack })
   view_push_value e inside =
       let units' = slice_set units (a.base + a.locals + a.values) e in
       let same : take a.base units ≡ take a.base units' = sym (take-set-le a.base units (a.base + a.locals + a.values) e (omega arith)) in
@@ -271,18 +276,18 @@ module _ {units : List Entry} {acts : List Activation} {used capacity : ℕ} {fr
   entry_past i past = sym (slice_get_past (running_frame frames).locals i (omega (arith, length-locals)))
 
   -- an entry of them is written
-  acts_stay : slice_set acts (n - 1) a ≡ acts
-  acts_stay = ap (λ (k : ℕ). slice_set acts (k - 1) a) o.count ∙ (ap (λ (x : Activation). slice_set acts (length acts - 1) x) o.last ∙ set-get_or acts (length acts - 1) a)
+  acts_stay : with_last acts a ≡ acts
+  acts_stay = ap (λ (x : Activation). with_last acts x) o.last ∙ set-get_or acts (length acts - 1) a
 
   stands_entry : (i : ℕ) (e : Entry) → i < a.locals → stack_of (slice_set units (a.base + i) e) (a.base + a.locals) a.values ≡ stack_of units (a.base + a.locals) a.values
   stands_entry i e within = stack_of-set_below units (a.base + a.locals) a.values (a.base + i) e (omega arith)
 
-  pub sound_entry : (i : ℕ) (e : Entry) → i < a.locals → IsSound (slice_set units (a.base + i) e) acts used capacity
+  pub sound_entry : (i : ℕ) (e : Entry) → i < a.locals → IsSound (slice_set units (a.base + i) e) acts used
   sound_entry i e within =
       let stands = stands_last.stands in
       let same : take a.base units ≡ take a.base (slice_set units (a.base + i) e) = sym (take-set-le a.base units (a.base + i) e (omega arith)) in
       let put = sound_put (slice_set units (a.base + i) e) a (length-set units (a.base + i) e) same (record { begins = refl; taken_is = stands.taken_is ∙ ap units_of_all (sym (stands_entry i e within)); fits = stands.fits }) refl in
-      let P : List Activation → Type 0 = λ l. IsSound (slice_set units (a.base + i) e) l used capacity in
+      let P : List Activation → Type 0 = λ l. IsSound (slice_set units (a.base + i) e) l used in
       subst P acts_stay put
 
   pub view_entry : (i : ℕ) (e : Entry) → i < a.locals → map (frame_of (slice_set units (a.base + i) e)) acts ≡ with_running frames (record (running_frame frames) { locals = slice_set (running_frame frames).locals i e })
@@ -295,18 +300,18 @@ module _ {units : List Entry} {acts : List Activation} {used capacity : ℕ} {fr
       rw (running_is, ← locals, ← stack) put
 
   -- the running frame calls a method: values leave its stack, and a frame is made behind it
-  pub sound_call : (units' : List Entry) (a' b : Activation) (count taken capacity' end : ℕ) → count ≤ length (running_frame frames).stack → taken ≡ units_of_all (take count (running_frame frames).stack) → a' ≡ record a { values = a.values - count; taken = a.taken - taken } → length units' ≡ length units → take used units ≡ take used units' → Stands units' used b → used + b.locals + b.room ≡ end → end ≤ 4096 → length acts < 256 → capacity ≤ capacity' → IsSound units' (slice_set acts (n - 1) a' ++ b ∷ []) end capacity'
-  sound_call units' a' b count taken capacity' end there sized is long same stands ends fits few more =
+  pub sound_call : (units' : List Entry) (a' b : Activation) (count taken end : ℕ) → count ≤ length (running_frame frames).stack → taken ≡ units_of_all (take count (running_frame frames).stack) → a' ≡ record a { values = a.values - count; taken = a.taken - taken } → length units' ≡ length units → take used units ≡ take used units' → Stands units' used b → used + b.locals + b.room ≡ end → end ≤ 4096 → length acts < 256 → IsSound units' (with_last acts a' ++ b ∷ []) end
+  sound_call units' a' b count taken end there sized is long same stands ends fits few =
       let last = stands_last in
       let below = last.ends in
       let d = drops count taken there sized in
       let narrow : take a.base units ≡ take a.base units' = take-agree units units' used a.base same (omega arith) in
       let caller : Stands units' a.base (record a { values = a.values - count; taken = a.taken - taken }) = stands-agree units units' used a.base (record a { values = a.values - count; taken = a.taken - taken }) same d.3 (omega arith) in
       let put = sound_put units' (record a { values = a.values - count; taken = a.taken - taken }) long narrow caller refl in
-      let count_is : length (slice_set acts (n - 1) (record a { values = a.values - count; taken = a.taken - taken })) ≡ length acts = length-set acts (n - 1) (record a { values = a.values - count; taken = a.taken - taken }) in
-      rw is (sound_push units' units' (slice_set acts (n - 1) (record a { values = a.values - count; taken = a.taken - taken })) used capacity capacity' end b put refl refl stands ends fits (omega arith) more)
+      let count_is : length (with_last acts (record a { values = a.values - count; taken = a.taken - taken })) ≡ length acts = length-set acts (length acts - 1) (record a { values = a.values - count; taken = a.taken - taken }) in
+      rw is (sound_push units' units' (with_last acts (record a { values = a.values - count; taken = a.taken - taken })) used end b put refl refl stands ends fits (omega arith))
 
-  pub view_call : (units' : List Entry) (a' b : Activation) (count taken : ℕ) → count ≤ length (running_frame frames).stack → taken ≡ units_of_all (take count (running_frame frames).stack) → a' ≡ record a { values = a.values - count; taken = a.taken - taken } → take used units ≡ take used units' → map (frame_of units') (slice_set acts (n - 1) a' ++ b ∷ []) ≡ with_running frames (record (running_frame frames) { stack = drop count (running_frame frames).stack }) ++ frame_of units' b ∷ []
+  pub view_call : (units' : List Entry) (a' b : Activation) (count taken : ℕ) → count ≤ length (running_frame frames).stack → taken ≡ units_of_all (take count (running_frame frames).stack) → a' ≡ record a { values = a.values - count; taken = a.taken - taken } → take used units ≡ take used units' → map (frame_of units') (with_last acts a' ++ b ∷ []) ≡ with_running frames (record (running_frame frames) { stack = drop count (running_frame frames).stack }) ++ frame_of units' b ∷ []
   view_call units' a' b count taken there sized is same =
       let last = stands_last in
       let below = last.ends in
@@ -316,11 +321,11 @@ module _ {units : List Entry} {acts : List Activation} {used capacity : ℕ} {fr
       let kept : frame_of units (record a { values = a.values - count; taken = a.taken - taken }) ≡ frame_of units' (record a { values = a.values - count; taken = a.taken - taken }) = frame_of-agree units units' used a.base (record a { values = a.values - count; taken = a.taken - taken }) same d.3 (omega arith) in
       let left : stack_of units (a.base + a.locals) (a.values - count) ≡ drop count (stack_of units (a.base + a.locals) a.values) = sym (drop-stack_of units (a.base + a.locals) a.values count d.0) in
       let frame : frame_of units' (record a { values = a.values - count; taken = a.taken - taken }) ≡ record (running_frame frames) { stack = drop count (running_frame frames).stack } = sym kept ∙ rw (running_is, ← left) in
-      rw is (map_push (frame_of units') (slice_set acts (n - 1) (record a { values = a.values - count; taken = a.taken - taken })) b ∙ ap (λ (fs : List Frame). fs ++ frame_of units' b ∷ []) (put ∙ ap (with_running frames) frame))
+      rw is (map_push (frame_of units') (with_last acts (record a { values = a.values - count; taken = a.taken - taken })) b ∙ ap (λ (fs : List Frame). fs ++ frame_of units' b ∷ []) (put ∙ ap (with_running frames) frame))
 
 -- whether another frame fits, from the units in use
-pub has_room-laid : (units : List Entry) (acts : List Activation) (used capacity : ℕ) (frames : List Frame) (max_locals max_stack : ℕ) → IsSound units acts used capacity → map (frame_of units) acts ≡ frames → has_room_for frames max_locals max_stack ≡ nat_lt (length acts) 256 && nat_le (used + max_locals + max_stack) 4096
-has_room-laid units acts used capacity frames max_locals max_stack sound view =
+pub has_room-laid : (units : List Entry) (acts : List Activation) (used : ℕ) (frames : List Frame) (max_locals max_stack : ℕ) → IsSound units acts used → map (frame_of units) acts ≡ frames → has_room_for frames max_locals max_stack ≡ nat_lt (length acts) 256 && nat_le (used + max_locals + max_stack) 4096
+has_room-laid units acts used frames max_locals max_stack sound view =
     let count : length frames ≡ length acts = sym (ap length view) ∙ length-map acts (frame_of units) in
     let fits = sound.used_is in
     let long = sound.units_are in
@@ -328,13 +333,13 @@ has_room-laid units acts used capacity frames max_locals max_stack sound view =
     let taken : units_of_frames frames ≡ used = sym (ap units_of_frames view) ∙ total in
     rw (count, taken)
 
-pub has_room-few : (units : List Entry) (acts : List Activation) (used capacity n : ℕ) (frames : List Frame) (max_locals max_stack : ℕ) → IsSound units acts used capacity → map (frame_of units) acts ≡ frames → n ≡ length acts → n < 256 → nat_le (used + max_locals + max_stack) 4096 ≡ has_room_for frames max_locals max_stack
-has_room-few units acts used capacity n frames max_locals max_stack sound view count few =
-    sym (has_room-laid units acts used capacity frames max_locals max_stack sound view ∙ ap (λ (b : Bool). b && nat_le (used + max_locals + max_stack) 4096) (lt-ltb (length acts) 256 (omega arith)))
+pub has_room-few : (units : List Entry) (acts : List Activation) (used n : ℕ) (frames : List Frame) (max_locals max_stack : ℕ) → IsSound units acts used → map (frame_of units) acts ≡ frames → n ≡ length acts → n < 256 → nat_le (used + max_locals + max_stack) 4096 ≡ has_room_for frames max_locals max_stack
+has_room-few units acts used n frames max_locals max_stack sound view count few =
+    sym (has_room-laid units acts used frames max_locals max_stack sound view ∙ ap (λ (b : Bool). b && nat_le (used + max_locals + max_stack) 4096) (lt-ltb (length acts) 256 (omega arith)))
 
-pub has_room-facts : (units : List Entry) (acts : List Activation) (used capacity : ℕ) (frames : List Frame) (max_locals max_stack : ℕ) → IsSound units acts used capacity → map (frame_of units) acts ≡ frames → has_room_for frames max_locals max_stack ≡ true → (length acts < 256) × (used + max_locals + max_stack ≤ 4096) × (length units ≡ 4096)
-has_room-facts units acts used capacity frames max_locals max_stack sound view has =
-    let both = and_parts (nat_lt (length acts) 256) (nat_le (used + max_locals + max_stack) 4096) (sym (has_room-laid units acts used capacity frames max_locals max_stack sound view) ∙ has) in
+pub has_room-facts : (units : List Entry) (acts : List Activation) (used : ℕ) (frames : List Frame) (max_locals max_stack : ℕ) → IsSound units acts used → map (frame_of units) acts ≡ frames → has_room_for frames max_locals max_stack ≡ true → (length acts < 256) × (used + max_locals + max_stack ≤ 4096) × (length units ≡ 4096)
+has_room-facts units acts used frames max_locals max_stack sound view has =
+    let both = and_parts (nat_lt (length acts) 256) (nat_le (used + max_locals + max_stack) 4096) (sym (has_room-laid units acts used frames max_locals max_stack sound view) ∙ has) in
     (ltb-true (length acts) 256 both.0, leb-true (used + max_locals + max_stack) 4096 both.1, sound.units_are)
 
 -- units of which so many were made unset

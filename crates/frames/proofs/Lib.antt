@@ -1,6 +1,8 @@
+pub mod ActivationLemmas
 pub mod ArgumentLemmas
 pub mod CallLemmas
 pub mod LayoutLemmas
+pub mod ListLemmas
 pub mod OperandLemmas
 pub mod PushLemmas
 pub mod RootLemmas

@@ -57,8 +57,8 @@ frame_refs-frame_of units a w =
 
 -- ---- the entries of a frame, as its activation has them
 
-pub entries-some : (units : List Entry) (acts : List Activation) (frames : List Frame) (used capacity d : ℕ) (a : Activation) → IsSound units acts used capacity → map (frame_of units) acts ≡ frames → slice_get acts d ≡ Some a → entries_at frames d ≡ map entry_ref (take (a.locals + a.values) (drop a.base units))
-entries-some units acts frames used capacity d a sound view is =
+pub entries-some : (units : List Entry) (acts : List Activation) (frames : List Frame) (used d : ℕ) (a : Activation) → IsSound units acts used → map (frame_of units) acts ≡ frames → slice_get acts d ≡ Some a → entries_at frames d ≡ map entry_ref (take (a.locals + a.values) (drop a.base units))
+entries-some units acts frames used d a sound view is =
     let long = sound.units_are in
     let used_is = sound.used_is in
     let w = within units 0 used acts d a sound.laid_out (omega arith) is in
@@ -71,8 +71,8 @@ entries-none units acts frames d view is =
     ap refs_of_frame found
 
 -- where an activation's region lies
-pub region_of : (units : List Entry) (acts : List Activation) (used capacity d : ℕ) (a : Activation) → IsSound units acts used capacity → slice_get acts d ≡ Some a → (a.base + a.locals + a.values ≤ 4096) × (length units ≡ 4096)
-region_of units acts used capacity d a sound is =
+pub region_of : (units : List Entry) (acts : List Activation) (used d : ℕ) (a : Activation) → IsSound units acts used → slice_get acts d ≡ Some a → (a.base + a.locals + a.values ≤ 4096) × (length units ≡ 4096)
+region_of units acts used d a sound is =
     let long = sound.units_are in
     let used_is = sound.used_is in
     let w = within units 0 used acts d a sound.laid_out (omega arith) is in
@@ -96,8 +96,8 @@ ref_at-past units a j h =
 
 -- ---- a frame but for its locals and the values on its stack, as its activation has it
 
-pub head-some : (units : List Entry) (acts : List Activation) (frames : List Frame) (used capacity d : ℕ) (a : Activation) → IsSound units acts used capacity → map (frame_of units) acts ≡ frames → slice_get acts d ≡ Some a → head_at frames d ≡ Some (record { method = a.method; pc = a.pc; taken = a.taken; room = a.room; monitor = a.monitor; mark = a.mark })
-head-some units acts frames used capacity d a sound view is =
+pub head-some : (units : List Entry) (acts : List Activation) (frames : List Frame) (used d : ℕ) (a : Activation) → IsSound units acts used → map (frame_of units) acts ≡ frames → slice_get acts d ≡ Some a → head_at frames d ≡ Some (record { method = a.method; pc = a.pc; taken = a.taken; room = a.room; monitor = a.monitor; mark = a.mark })
+head-some units acts frames used d a sound view is =
     let long = sound.units_are in
     let used_is = sound.used_is in
     let w = within units 0 used acts d a sound.laid_out (omega arith) is in

@@ -1,11 +1,13 @@
 -- frames as plain data
-use Rattle.std.proofs.Common.{◌≡◌, ℕ, zero, suc, ◌+◌, ◌<◌, ◌≤◌, List, [], ◌∷◌, length, map, reverse, take, drop, get_or, ap, sym, ◌∙◌, arith}
+use Rattle.std.proofs.Common.{◌≡◌, ℕ, ◌+◌, ◌<◌, ◌≤◌, List, [], ◌∷◌, ◌++◌, length, slice_get, Some, map, reverse, take, drop, get_or, ap, sym, ◌∙◌}
+use Rattle.std.proofs.lemmas.List.{take_more, map_push}
+use Rattle.std.proofs.lemmas.Option.{slice_get_within, get_or_from_slice_get}
+use Rattle.model.specs.Frames.{Frame}
 use Rattle.model.specs.declared.values.Entry.{Entry}
 use Rattle.model.specs.declared.values.Value.{Value}
 use Rattle.frames.specs.declared.activations.Activation.{Activation}
 use Rattle.values.specs.Slots.{value_in}
-use Rattle.frames.specs.Layout.{stack_of, frame_of, AreLaidOut, IsSound}
-use Rattle.frames.proofs.LayoutLemmas.{values_fit, laid_le}
+use Rattle.frames.specs.Layout.{stack_of, frame_of}
 use Rattle.frames.proofs.ArgumentLemmas.{stack_of-between}
 
 -- a frame from copies of its locals and of its values, bottom first
@@ -14,19 +16,10 @@ frame_of-copies units a locals values fits locals_are values_are =
     let stack_is : reverse values ≡ stack_of units (a.base + a.locals) a.values = ap reverse values_are ∙ sym (stack_of-between units (a.base + a.locals) a.values fits) in
     cc
 
--- an activation's units end before those of the last one do
-pub laid_within : (units : List Entry) (base end : ℕ) (acts : List Activation) (k : ℕ) (d : Activation) → AreLaidOut units base acts end → k < length acts → (get_or acts k d).base + (get_or acts k d).locals + (get_or acts k d).values ≤ end
-laid_within units base end [] k d h some = absurd (omega arith)
-laid_within units base end (x ∷ xs) zero d h some =
-    let few = values_fit units base x h.0 in
-    let up = laid_le units (base + x.locals + x.room) end xs h.1 in
-    let begins = h.0.begins in
-    omega arith
-laid_within units base end (x ∷ xs) (suc k) d h some = laid_within units (base + x.locals + x.room) end xs k d h.1 (omega arith)
-
-pub sound_within : (units : List Entry) (acts : List Activation) (used capacity k : ℕ) (d : Activation) → IsSound units acts used capacity → k < length acts → (get_or acts k d).base + (get_or acts k d).locals + (get_or acts k d).values ≤ length units
-sound_within units acts used capacity k d sound some =
-    let within = laid_within units 0 used acts k d sound.laid_out some in
-    let few = sound.used_is in
-    let all = sound.units_are in
-    omega arith
+-- one frame more
+pub views_more : (units : List Entry) (acts : List Activation) (d : ℕ) (a : Activation) (view : Frame) (views after : List Frame) → slice_get acts d ≡ Some a → views ≡ map (frame_of units) (take d acts) → view ≡ frame_of units a → after ≡ views ++ view ∷ [] → after ≡ map (frame_of units) (take (d + 1) acts)
+views_more units acts d a view views after found so_far is pushed =
+    let there : d < length acts = slice_get_within acts d a found in
+    let more : take (d + 1) acts ≡ take d acts ++ get_or acts d a ∷ [] = take_more acts d a there in
+    let here : get_or acts d a ≡ a = get_or_from_slice_get acts d a a found in
+    rw (pushed, so_far, is, more, here) (sym (map_push (frame_of units) (take d acts) a))

@@ -1,3 +1,4 @@
+pub mod Activations
 pub mod Heads
 pub mod Layout
 pub mod Told

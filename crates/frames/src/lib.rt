@@ -7,7 +7,7 @@
 //! | call | what it ensures |
 //! |---|---|
 //! | `new` | `[]` |
-//! | `depth`, `is_empty` | how many frames there are |
+//! | `depth` | how many frames there are |
 //! | `has_room_for(max_locals, max_stack)` | `has_room_for frames max_locals max_stack` |
 //! | `enter(method, max_locals, max_stack)` | under `has_room_for`: `frames ++ opening_frame method max_locals max_stack ∷ []` |
 //! | `call(method, max_locals, max_stack, n)` | under `has_room_for`, `n ≤ length f.stack` and `units_of_all (take n f.stack) ≤ max_locals`: `frames_of_call frames method max_locals max_stack n`, where the n values at the top of the caller's stack are the first locals |
@@ -23,18 +23,17 @@
 //! | `replace(next, n, v)`, `replace_slot(next, n, s)` with v for `value_of s` | also under `units_of v ≤ units_of_all (take n f.stack)`: `with_running frames (replaced next f n (v ∷ [])).frame` |
 //! | `replace_all(next, n, vs)` | under `n ≤ length f.stack` and `units_of_all vs ≤ units_of_all (take n f.stack)`: `with_running frames (replaced next f n vs).frame` |
 //! | `replace_if_room(next, n, v)`, `replace_slot_if_room(next, n, s)`, `replace_all_if_room(next, n, vs)` | under `n ≤ length f.stack`: `told result after ≡ moved_on frames (replaced_if_room next f n vs)`, and nothing changes on an `Err` |
-//! | `entry(i)` | `slice_get f.locals i` |
 //! | `has_local(kind, i)`, `load(kind, i)`, `local_int(i)` | `has_local kind f.locals i`, `local_at kind f.locals i`, `as_int (local_at Int f.locals i)` |
 //! | `operand(kind)` | `value_on kind f.stack` |
 //! | `entries(d)`, `reference_at(d, j)`, `monitor_at(d)` | of the frame d, counted from the outermost: `length (entries_at frames d)`, `ref_at (entries_at frames d) j`, `monitor_at frames d` |
 //! | `frame_at(d)` | of the frame d, counted from the outermost: `head_at frames d`, its method, pc, monitor and mark, and the units that its stack takes and may take |
 //! | `store(next, n, i, v)` | under `n ≤ length f.stack`: `with_running frames (stored next f n i v).frame` |
-//! | `store_top(next, kind, i)` | `told result after ≡ moved_on frames (stored_at next kind i f)`, and nothing changes on an `Err` |
 //! | `views()` | `frames`, as plain data |
 //!
 //! Inside, an activation record says where a frame's locals begin in the array; its stack stands behind them, a value in
 //! one unit each, while the units that the values take are counted beside them. So each call takes the time of the
-//! values that it moves.
+//! values that it moves. The running frame's record stands apart from those below it, in fields of its own: where `Frames` is a
+//! variable of a loop that only makes calls that are inlined, these fields stay in the processor's registers.
 #![tactic(auto)]
 
 mod activations;

@@ -3,13 +3,12 @@
 ghost use Rattle.std.specs.Prelude.{◌≡◌, ℕ, ◌+◌, ◌<◌, ◌≤◌, ◌^◌, length, slice_set, IsOk, OnErr};
 ghost use Rattle.model.specs.Frames.{running_frame, with_running, as_int};
 ghost use Rattle.model.specs.declared.values.Kind.TheVariants.{Int as IntKind};
-ghost use Rattle.model.specs.Locals.{entries_of as width_of, has_local, value_on, local_at, freed, with_local, stored, stored_at};
+ghost use Rattle.model.specs.Locals.{entries_of as width_of, has_local, value_on, local_at, freed, with_local, stored};
 ghost use Rattle.model.specs.declared.values.Entry.TheVariants.{UpperHalf};
 ghost use Rattle.values.specs.Slots.{entry_of};
-ghost use Rattle.frames.specs.Told.{told, moved_on};
 
 use crate::thread_frames::Frames;
-use model::turns::{Abrupt, Fault};
+use model::turns::Fault;
 use model::values::{Kind, Value};
 use values::slots::{Slot, local_in, operand_in, slot_of};
 
@@ -65,20 +64,6 @@ impl Frames {
     /// Makes the other half of a long unset whose one half stands at this index.
     #[inline(always)]
     fn free(&mut self, index: usize)
-        requires some { 0 < length self.old }
-        requires small { index < 2 ^ 32 }
-        ensures { self.new ≡ with_running self.old (record (running_frame self.old) { locals = freed (running_frame self.old).locals index }) }
-    {
-        match self.local(index) {
-            Some(Slot::Long(_) | Slot::Upper) => self.free_half(index),
-            Some(Slot::Int(_) | Slot::Unset | Slot::Null | Slot::Ref(_)) | None => {}
-        }
-    }
-
-    /// The same, apart, since it is rare.
-    #[cold]
-    #[inline(never)]
-    fn free_half(&mut self, index: usize)
         requires some { 0 < length self.old }
         requires small { index < 2 ^ 32 }
         ensures { self.new ≡ with_running self.old (record (running_frame self.old) { locals = freed (running_frame self.old).locals index }) }
@@ -148,21 +133,6 @@ impl Frames {
     {
         self.discard(next, count);
         self.put_local(index, value);
-    }
-
-    /// Goes to this pc, with the operand of this kind at the top moved into a local; F1, F3 of the operand, then F4
-    /// where the local is out of range, and then nothing changes.
-    pub fn store_top(&mut self, next: u16, kind: Kind, index: u16) -> Result<(), Abrupt>
-        requires { 0 < length self.old }
-        ensures step { told result self.new ≡ moved_on self.old (stored_at next kind index (running_frame self.old)) }
-        ensures kept { OnErr result (self.new ≡ self.old) }
-    {
-        let value = self.operand(kind)?;
-        if !self.has_local(kind, index) {
-            return Err(Abrupt::Fault(Fault::WrongLocal));
-        }
-        self.store(next, 1, index, value);
-        Ok(())
     }
 }
 

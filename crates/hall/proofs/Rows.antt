@@ -14,12 +14,13 @@ use Rattle.model.specs.Worlds.{World}
 use Rattle.model.specs.Ready.{is_ready}
 use Rattle.model.specs.Turns.{overflows, actor_refusal, refusal_after, refusal}
 use Rattle.model.specs.Machines.{Recorded, machine_of, told_of, row_unless_refused, with_row, answer_unless_refused, after_turn_by, answer_to}
-use Rattle.model.specs.Observers.{pick_of, status_of, is_running}
-use Rattle.scheduler.specs.Rounds.{answered_by, is_done, turned_by}
+use Rattle.model.specs.Observers.{next_birth_of, phase_of, pick_of, status_of, is_running}
+use Rattle.scheduler.specs.Rounds.{after_round, after_rounds as after_thread_rounds, answered_by, is_done, picked, picked_answer, rounds_answer as thread_rounds_answer, turned_by}
+use Rattle.hall.specs.declared.roles.Burst.{Burst}
 use Rattle.hall.specs.declared.roles.Role.{Role}
 use Rattle.hall.specs.declared.roles.Role.TheVariants.{Both, Carrier, Collector as Collecting}
-use Rattle.hall.specs.Roles.{last_is_collector, swept_once, swept, swept_after, after_allowed, answer_allowed, done_so_far, after_more, answer_more, after_rounds, answer_rounds, after_known, answer_known, after_role, answer_role, collected, collected_answer}
-use Rattle.hall.specs.Shares.{ShareValue, counted_on, with_rows, rows_by, gc_of, times, Rises, Takes, CountsRows}
+use Rattle.hall.specs.Roles.{last_is_collector, swept_once, swept, swept_after, after_allowed, answer_allowed, done_so_far, after_more, answer_more, after_rounds, answer_rounds, after_known, answer_known, after_role, answer_role, collected, collected_answer, cycled, cycled_after, is_idle, goes_on, after_bursts, answer_bursts, after_carried, answer_carried}
+use Rattle.hall.specs.Shares.{ShareValue, behind, counted_on, with_rows, rows_by, gc_of, times, Counts, Rises, Takes, CountsRows}
 
 -- ---- a refused turn makes no row, and any other makes one
 
@@ -128,7 +129,7 @@ module _ (v w : Recorded) (worker : ℕ) (t : Turn) (adds : Adds v w worker (row
     workers_is = ap (λ (x : Recorded). x.journal.workers) adds.world_is;
     worker_is = ap (λ (s : ShareValue). s.worker) e;
     role_is = ap (λ (s : ShareValue). s.role) e;
-    extra_is = ap (λ (s : ShareValue). s.extra) e;
+    burst_is = ap (λ (s : ShareValue). s.burst) e;
     count_is = (let c : after.count ≡ before.count + rows_by t = ap (λ (s : ShareValue). s.count) e in let l = turn_length in omega arith);
   }
 
@@ -256,6 +257,92 @@ more_adds role worker (suc extra) v =
     more_if v (after_allowed v role worker) role worker extra (answer_allowed v role worker) (allowed_adds v role worker)
     (more_adds role worker extra (after_allowed v role worker))
 
+-- ---- more than so many rounds
+
+times_plus : (e k m : ℕ) → times (e + k) m ≡ times e m + times k m
+times_plus zero k m =
+    let none : 0 + k ≡ k = omega arith in
+    let same : times (0 + k) m ≡ times k m = ap (λ (j : ℕ). times j m) none in
+    omega (arith, same)
+times_plus (suc e) k m =
+    let rest = times_plus e k m in
+    let next : suc e + k ≡ suc (e + k) = omega arith in
+    let first : times (suc e + k) m ≡ m + times (e + k) m = ap (λ (j : ℕ). times j m) next in
+    omega (arith, rest, first)
+
+-- so many rounds and so many more, the last of which answers this
+more_on : (role : Role) (e k m n : ℕ) (t : Turn) → RisesMore role e Done m → RisesMore role k t n → RisesMore role (e + k) t (m + n)
+more_on role e k m n Done few h = let sum = times_plus e k (1 + gc_of role) in omega arith
+more_on role e k m n (Fault f) few h = let sum = times_plus e k (1 + gc_of role) in (let a = h.0 in omega arith, let b = h.1 in omega arith)
+more_on role e k m n NotReady few h = absurd h
+more_on role e k m n Stopped few h = let sum = times_plus e k (1 + gc_of role) in omega arith
+more_on role e k m n OutputFull few h = let sum = times_plus e k (1 + gc_of role) in omega arith
+more_on role e k m n StepLimit few h = let sum = times_plus e k (1 + gc_of role) in omega arith
+
+more_wide : (role : Role) (e k n : ℕ) (t : Turn) → RisesMore role e t n → RisesMore role (e + k) t n
+more_wide role e k n Done h = let sum = times_plus e k (1 + gc_of role) in omega arith
+more_wide role e k n (Fault f) h = let sum = times_plus e k (1 + gc_of role) in (let a = h.0 in omega arith, let b = h.1 in omega arith)
+more_wide role e k n NotReady h = absurd h
+more_wide role e k n Stopped h = let sum = times_plus e k (1 + gc_of role) in omega arith
+more_wide role e k n OutputFull h = let sum = times_plus e k (1 + gc_of role) in omega arith
+more_wide role e k n StepLimit h = let sum = times_plus e k (1 + gc_of role) in omega arith
+
+wide_more : (v w : Recorded) (role : Role) (e k : ℕ) (t : Turn) (worker : ℕ) → MoreAdds v w role e t worker → MoreAdds v w role (e + k) t worker
+wide_more v w role e k t worker m = record { n = m.n; rises = more_wide role e k m.n t m.rises; adds = m.adds }
+
+-- ---- a carrier's bursts
+
+unswept : (d r : Bool) (u : Recorded) → (if d then (if r then u else u) else u) ≡ u
+unswept true true u = refl
+unswept true false u = refl
+unswept false r u = refl
+
+-- a round without a collector's turn is a turn of the thread that is picked
+thread_round : (v : Recorded) (worker : ℕ) → after_round v worker 0 ≡ after_allowed v Carrier worker
+thread_round v worker = unswept (is_done (picked_answer v worker)) (is_running (status_of (picked v worker))) (picked v worker)
+
+thread_rounds : (worker n : ℕ) (v : Recorded) → after_thread_rounds v worker 0 n ≡ after_more v Carrier worker n
+thread_rounds worker zero v = refl
+thread_rounds worker (suc n) v =
+    ap (λ (u : Recorded). if is_done (picked_answer v worker) then after_thread_rounds u worker 0 n else u) (thread_round v worker)
+    ∙ ap (λ (w : Recorded). if is_done (picked_answer v worker) then w else after_allowed v Carrier worker) (thread_rounds worker n (after_allowed v Carrier worker))
+
+done_if : (d : Bool) (a b c : Turn) → done_so_far a ≡ c → done_so_far (if d then a else b) ≡ (if d then c else done_so_far b)
+done_if true a b c e = e
+done_if false a b c e = refl
+
+thread_answers : (worker n : ℕ) (v : Recorded) → done_so_far (thread_rounds_answer v worker 0 n) ≡ answer_more v Carrier worker n
+thread_answers worker zero v = refl
+thread_answers worker (suc n) v =
+    done_if (is_done (picked_answer v worker)) (thread_rounds_answer (after_round v worker 0) worker 0 n) (picked_answer v worker) (answer_more (after_allowed v Carrier worker) Carrier worker n)
+    (ap (λ (u : Recorded). done_so_far (thread_rounds_answer u worker 0 n)) (thread_round v worker) ∙ thread_answers worker n (after_allowed v Carrier worker))
+
+carried_on : (worker extra : ℕ) (v : Recorded) → MoreAdds v (after_thread_rounds v worker 0 extra) Carrier extra (done_so_far (thread_rounds_answer v worker 0 extra)) worker
+carried_on worker extra v = rw (thread_rounds worker extra v, thread_answers worker extra v) (more_adds Carrier worker extra v)
+
+-- rounds with this answer, and rounds behind them if they go on
+module _ (v u w : Recorded) (worker e k b c : ℕ) (t : Turn) where
+  burst_if : (a : Turn) → MoreAdds v u Carrier e (done_so_far a) worker → MoreAdds u w Carrier k t worker
+      → MoreAdds v (if goes_on a b c then w else u) Carrier (e + k) (if goes_on a b c then t else done_so_far a) worker
+  burst_if Done one rest = by_births (nat_lt b c)
+    where
+      by_births : (below : Bool) → MoreAdds v (if below then w else u) Carrier (e + k) (if below then t else Done) worker
+      by_births true = record { n = one.n + rest.n; rises = more_on Carrier e k one.n rest.n t one.rises rest.rises; adds = adds_on v u w worker one.n rest.n one.adds rest.adds }
+      by_births false = wide_more v u Carrier e k Done worker one
+  burst_if (Fault f) one rest = wide_more v u Carrier e k (Fault f) worker one
+  burst_if NotReady one rest = wide_more v u Carrier e k Done worker one
+  burst_if Stopped one rest = wide_more v u Carrier e k Stopped worker one
+  burst_if OutputFull one rest = wide_more v u Carrier e k OutputFull worker one
+  burst_if StepLimit one rest = wide_more v u Carrier e k StepLimit worker one
+
+bursts_add : (worker due extra again : ℕ) (v : Recorded) → MoreAdds v (after_bursts v worker due extra again) Carrier (times (suc again) extra) (answer_bursts v worker due extra again) worker
+bursts_add worker due extra zero v =
+    wide_more v (after_thread_rounds v worker 0 extra) Carrier extra 0 (done_so_far (thread_rounds_answer v worker 0 extra)) worker (carried_on worker extra v)
+bursts_add worker due extra (suc again) v =
+    burst_if v (after_thread_rounds v worker 0 extra) (after_bursts (after_thread_rounds v worker 0 extra) worker due extra again) worker extra (times (suc again) extra)
+    (next_birth_of (after_thread_rounds v worker 0 extra)) due (answer_bursts (after_thread_rounds v worker 0 extra) worker due extra again)
+    (thread_rounds_answer v worker 0 extra) (carried_on worker extra v) (bursts_add worker due extra again (after_thread_rounds v worker 0 extra))
+
 -- ---- a role's turn
 
 -- w is v with the rows of a role's turn with this answer
@@ -272,61 +359,88 @@ whole role extra d n Stopped few h = let b = few.1 in omega arith
 whole role extra d n OutputFull few h = let b = few.1 in omega arith
 whole role extra d n StepLimit few h = let b = few.1 in omega arith
 
-rounds_if : (v u : Recorded) (role : Role) (worker extra : ℕ) (t : Turn) → OnceAdds v u role t worker → MoreAdds u (after_more u role worker extra) role extra (answer_more u role worker extra) worker
-    → RoleAdds v (if is_done t then after_more u role worker extra else u) role extra (if is_done t then answer_more u role worker extra else t) worker
-rounds_if v u role worker extra Done once rest = record {
-  n = once.n + rest.n;
-  rises = whole role extra once.n rest.n (answer_more u role worker extra) once.rises rest.rises;
-  adds = adds_on v u (after_more u role worker extra) worker once.n rest.n once.adds rest.adds;
-}
-rounds_if v u role worker extra (Fault f) once rest = record { n = once.n; rises = (let e = once.rises in omega arith, let e = once.rises in omega arith); adds = once.adds }
-rounds_if v u role worker extra NotReady once rest = record { n = once.n; rises = once.rises; adds = once.adds }
-rounds_if v u role worker extra Stopped once rest = record { n = once.n; rises = (let e = once.rises in omega arith); adds = once.adds }
-rounds_if v u role worker extra OutputFull once rest = record { n = once.n; rises = (let e = once.rises in omega arith); adds = once.adds }
-rounds_if v u role worker extra StepLimit once rest = record { n = once.n; rises = (let e = once.rises in omega arith); adds = once.adds }
+-- a round with this answer, and others behind it if it was done
+module _ (v u w : Recorded) (role : Role) (worker extra : ℕ) (answer : Turn) where
+  rounds_if : (t : Turn) → OnceAdds v u role t worker → MoreAdds u w role extra answer worker
+      → RoleAdds v (if is_done t then w else u) role extra (if is_done t then answer else t) worker
+  rounds_if Done once rest = record {
+    n = once.n + rest.n;
+    rises = whole role extra once.n rest.n answer once.rises rest.rises;
+    adds = adds_on v u w worker once.n rest.n once.adds rest.adds;
+  }
+  rounds_if (Fault f) once rest = record { n = once.n; rises = (let e = once.rises in omega arith, let e = once.rises in omega arith); adds = once.adds }
+  rounds_if NotReady once rest = record { n = once.n; rises = once.rises; adds = once.adds }
+  rounds_if Stopped once rest = record { n = once.n; rises = (let e = once.rises in omega arith); adds = once.adds }
+  rounds_if OutputFull once rest = record { n = once.n; rises = (let e = once.rises in omega arith); adds = once.adds }
+  rounds_if StepLimit once rest = record { n = once.n; rises = (let e = once.rises in omega arith); adds = once.adds }
 
 rounds_add : (v : Recorded) (role : Role) (worker extra : ℕ) → RoleAdds v (after_rounds v role worker extra) role extra (answer_rounds v role worker extra) worker
 rounds_add v role worker extra =
-    rounds_if v (after_allowed v role worker) role worker extra (answer_allowed v role worker) (allowed_adds v role worker)
+    rounds_if v (after_allowed v role worker) (after_more (after_allowed v role worker) role worker extra) role worker extra
+    (answer_more (after_allowed v role worker) role worker extra) (answer_allowed v role worker) (allowed_adds v role worker)
     (more_adds role worker extra (after_allowed v role worker))
+
+carried_add : (v : Recorded) (worker : ℕ) (burst : Burst) (due : ℕ) → RoleAdds v (after_carried v worker burst due) Carrier (behind Carrier burst) (answer_carried v worker burst due) worker
+carried_add v worker burst due =
+    rounds_if v (after_allowed v Carrier worker) (after_bursts (after_allowed v Carrier worker) worker due burst.extra burst.again) Carrier worker (behind Carrier burst)
+    (answer_bursts (after_allowed v Carrier worker) worker due burst.extra burst.again) (answer_allowed v Carrier worker) (allowed_adds v Carrier worker)
+    (bursts_add worker due burst.extra burst.again (after_allowed v Carrier worker))
 
 times_one : (n : ℕ) → times n 1 ≡ n
 times_one zero = refl
 times_one (suc n) = ap (λ (k : ℕ). 1 + k) (times_one n) ∙ omega arith
 
 -- the collector's turns behind its first
-swept_behind : (v u : Recorded) (worker extra : ℕ) (t : Turn) → Adds v u worker (rows_by t) → RoleAdds v (swept_after t u worker extra) Collecting extra t worker
-swept_behind v u worker extra Done a =
-    let rest = swept_adds worker extra u in
-    let ones = times_one extra in
-    record { n = 1 + rest.n; rises = (omega arith, (let f = rest.few in omega arith)); adds = adds_on v u (swept u worker extra) worker 1 rest.n a rest.adds }
-swept_behind v u worker extra (Fault f) a = record { n = 1; rises = (omega arith, omega arith); adds = a }
-swept_behind v u worker extra NotReady a = record { n = 0; rises = refl; adds = a }
-swept_behind v u worker extra Stopped a = record { n = 0; rises = omega arith; adds = a }
-swept_behind v u worker extra OutputFull a = record { n = 0; rises = omega arith; adds = a }
-swept_behind v u worker extra StepLimit a = record { n = 0; rises = omega arith; adds = a }
+cycled_if : (v : Recorded) (worker n : ℕ) (idle : Bool) → AddsFew (swept_once v worker) (cycled (swept_once v worker) worker n) worker n
+    → AddsFew v (if idle then v else cycled (swept_once v worker) worker n) worker (suc n)
+cycled_if v worker n true rest = record { n = 0; few = omega arith; adds = adds_none v worker 0 refl }
+cycled_if v worker n false rest =
+    let once = once_if v worker (is_running (status_of v)) in
+    record {
+      n = once.n + rest.n;
+      few = (let f = once.few in let g = rest.few in omega arith);
+      adds = adds_on v (swept_once v worker) (cycled (swept_once v worker) worker n) worker once.n rest.n once.adds rest.adds;
+    }
 
-known_adds : (v : Recorded) (role : Role) (worker extra : ℕ) → RoleAdds v (after_known v role worker extra) role extra (answer_known v role worker extra) worker
-known_adds v Carrier worker extra = rounds_add v Carrier worker extra
-known_adds v Collecting worker extra = swept_behind v (collected v worker) worker extra (collected_answer v worker) (collected_if v worker (last_is_collector v))
-known_adds v (Both gc) worker extra = rounds_add v (Both gc) worker extra
+cycled_adds : (worker n : ℕ) (v : Recorded) → AddsFew v (cycled v worker n) worker n
+cycled_adds worker zero v = record { n = 0; few = omega arith; adds = adds_none v worker 0 refl }
+cycled_adds worker (suc n) v = cycled_if v worker n (is_idle (phase_of v)) (cycled_adds worker n (swept_once v worker))
 
-known_if : (v : Recorded) (role : Role) (worker extra : ℕ) (known : Bool)
-    → RoleAdds v (if known then after_known v role worker extra else v) role extra (if known then answer_known v role worker extra else NotReady) worker
-known_if v role worker extra true = known_adds v role worker extra
-known_if v role worker extra false = record { n = 0; rises = refl; adds = adds_none v worker 0 refl }
+cycled_behind : (v u : Recorded) (worker most : ℕ) (t : Turn) → Adds v u worker (rows_by t) → RoleAdds v (cycled_after t u worker most) Collecting most t worker
+cycled_behind v u worker most Done a =
+    let rest = cycled_adds worker most u in
+    let ones = times_one most in
+    record { n = 1 + rest.n; rises = (omega arith, (let f = rest.few in omega arith)); adds = adds_on v u (cycled u worker most) worker 1 rest.n a rest.adds }
+cycled_behind v u worker most (Fault f) a = record { n = 1; rises = (omega arith, omega arith); adds = a }
+cycled_behind v u worker most NotReady a = record { n = 0; rises = refl; adds = a }
+cycled_behind v u worker most Stopped a = record { n = 0; rises = omega arith; adds = a }
+cycled_behind v u worker most OutputFull a = record { n = 0; rises = omega arith; adds = a }
+cycled_behind v u worker most StepLimit a = record { n = 0; rises = omega arith; adds = a }
 
-role_adds : (v : Recorded) (role : Role) (worker extra : ℕ) → RoleAdds v (after_role v role worker extra) role extra (answer_role v role worker extra) worker
+known_adds : (v : Recorded) (role : Role) (worker : ℕ) (burst : Burst) (due : ℕ)
+    → RoleAdds v (after_known v role worker burst due) role (behind role burst) (answer_known v role worker burst due) worker
+known_adds v Carrier worker burst due = carried_add v worker burst due
+known_adds v Collecting worker burst due =
+    cycled_behind v (collected v worker) worker burst.sweep (collected_answer v worker) (collected_if v worker (last_is_collector v))
+known_adds v (Both gc) worker burst due = rounds_add v (Both gc) worker burst.extra
+
+known_if : (v : Recorded) (role : Role) (worker : ℕ) (burst : Burst) (due : ℕ) (known : Bool)
+    → RoleAdds v (if known then after_known v role worker burst due else v) role (behind role burst) (if known then answer_known v role worker burst due else NotReady) worker
+known_if v role worker burst due true = known_adds v role worker burst due
+known_if v role worker burst due false = record { n = 0; rises = refl; adds = adds_none v worker 0 refl }
+
+role_adds : (v : Recorded) (role : Role) (worker : ℕ) (burst : Burst) (due : ℕ)
+    → RoleAdds v (after_role v role worker burst due) role (behind role burst) (answer_role v role worker burst due) worker
 unfolding after_role answer_role
-role_adds v role worker extra = known_if v role worker extra (nat_lt worker v.journal.workers)
+role_adds v role worker burst due = known_if v role worker burst due (nat_lt worker v.journal.workers)
 
 -- ---- shares
 
-share_same : (a b : ShareValue) → a.worker ≡ b.worker → a.role ≡ b.role → a.extra ≡ b.extra → a.count ≡ b.count → a ≡ b
-share_same a b p q s r i = record { worker = p i; role = q i; extra = s i; count = r i }
+share_same : (a b : ShareValue) → a.worker ≡ b.worker → a.role ≡ b.role → a.burst ≡ b.burst → a.count ≡ b.count → a ≡ b
+share_same a b p q s r i = record { worker = p i; role = q i; burst = s i; count = r i }
 
 -- a share that counted the new rows of a role's turn
-takes : (v w : Recorded) (answer : Turn) (before after : ShareValue) → RoleAdds v w before.role before.extra answer before.worker → CountsRows v w before after → Takes v w answer before after
+takes : (v w : Recorded) (answer : Turn) (before after : ShareValue) → RoleAdds v w before.role (behind before.role before.burst) answer before.worker → CountsRows v w before after → Takes v w answer before after
 takes v w answer before after role counts =
     let a = role.adds in
     let grown = adds_length v w before.worker role.n a in
@@ -334,34 +448,52 @@ takes v w answer before after role counts =
       rows = a.rows;
       world_is = a.world_is;
       own = a.own;
-      rises = subst (Rises before.role before.extra answer) (sym a.long) role.rises;
+      rises = subst (Rises before.role (behind before.role before.burst) answer) (sym a.long) role.rises;
       share_is =
-          share_same after (counted_on before (length a.rows)) counts.worker_is counts.role_is counts.extra_is
+          share_same after (counted_on before (length a.rows)) counts.worker_is counts.role_is counts.burst_is
           (let c = counts.count_is in let l = a.long in omega arith);
     }
 
-pub role_takes : (v w : Recorded) (answer : Turn) (before after : ShareValue) → w ≡ after_role v before.role before.worker before.extra
-    → answer ≡ answer_role v before.role before.worker before.extra
+pub role_takes : (v w : Recorded) (answer : Turn) (before after : ShareValue) (due : ℕ) → w ≡ after_role v before.role before.worker before.burst due
+    → answer ≡ answer_role v before.role before.worker before.burst due
     → CountsRows v w before after → Takes v w answer before after
-role_takes v w answer before after is told counts =
-    takes v w answer before after (rw (is, told) (role_adds v before.role before.worker before.extra)) counts
+role_takes v w answer before after due is told counts =
+    takes v w answer before after (rw (is, told) (role_adds v before.role before.worker before.burst due)) counts
+
+-- what it counted, with no word of the worlds
+pub counted : (v w : Recorded) (answer : Turn) (before after : ShareValue) → Takes v w answer before after → Counts answer before after
+counted v w answer before after t = record { n = length t.rows; rises = t.rises; share_is = t.share_is }
+
+-- a turn that isn't taken
+pub counts_nothing : (share : ShareValue) → Counts NotReady share share
+counts_nothing share = record { n = 0; rises = refl; share_is = share_same share (counted_on share 0) refl refl refl (omega arith) }
 
 -- ---- counting step by step
 
 pub counts_none : (v : Recorded) (share : ShareValue) → CountsRows v v share share
-counts_none v share = record { workers_is = refl; worker_is = refl; role_is = refl; extra_is = refl; count_is = refl }
+counts_none v share = record { workers_is = refl; worker_is = refl; role_is = refl; burst_is = refl; count_is = refl }
 
 pub counts_on : (u v w : Recorded) (a b c : ShareValue) → CountsRows u v a b → CountsRows v w b c → CountsRows u w a c
 counts_on u v w a b c x y = record {
   workers_is = y.workers_is ∙ x.workers_is;
   worker_is = y.worker_is ∙ x.worker_is;
   role_is = y.role_is ∙ x.role_is;
-  extra_is = y.extra_is ∙ x.extra_is;
+  burst_is = y.burst_is ∙ x.burst_is;
   count_is = (let p = x.count_is in let q = y.count_is in omega arith);
 }
 
 pub swept_more : (v : Recorded) (worker n i : ℕ) → i < n → swept v worker (n - i) ≡ swept (swept_once v worker) worker (n - (i + 1))
 swept_more v worker n i lt = let e : n - i ≡ suc (n - (i + 1)) = omega arith in ap (swept v worker) e
+
+module _ (v : Recorded) (worker n i : ℕ) (lt : i < n) where
+  next_cycled : n - i ≡ suc (n - (i + 1))
+  next_cycled = omega (arith, lt)
+
+  pub cycled_ends : is_idle (phase_of v) ≡ true → cycled v worker (n - i) ≡ v
+  cycled_ends idle = ap (cycled v worker) next_cycled ∙ ap (λ (b : Bool). if b then v else cycled (swept_once v worker) worker (n - (i + 1))) idle
+
+  pub cycled_more : is_idle (phase_of v) ≡ false → cycled v worker (n - i) ≡ cycled (swept_once v worker) worker (n - (i + 1))
+  cycled_more idle = ap (cycled v worker) next_cycled ∙ ap (λ (b : Bool). if b then v else cycled (swept_once v worker) worker (n - (i + 1))) idle
 
 pub still_known : (v w : Recorded) (a b : ShareValue) → CountsRows v w a b → a.worker < v.journal.workers → b.worker < w.journal.workers
 still_known v w a b x known = let p = x.worker_is in let q = x.workers_is in omega arith
@@ -394,3 +526,62 @@ module _ (v : Recorded) (role : Role) (worker n i : ℕ) (lt : i < n) where
       ap (answer_more v role worker) next_of
       ∙ ap (λ (b : Bool). if b then answer_more (after_allowed v role worker) role worker (n - (i + 1)) else done_so_far (answer_allowed v role worker)) (ap is_done (sym is) ∙ done)
       ∙ ap done_so_far (sym is)
+
+-- ---- so many rounds counted at once
+
+-- rounds without a collector's turn add rows of their worker
+pub rounds_longer : (v w : Recorded) (worker extra : ℕ) → w ≡ after_thread_rounds v worker 0 extra → length v.journal.rows ≤ length w.journal.rows
+rounds_longer v w worker extra is =
+    let more = carried_on worker extra v in
+    let long = adds_length v (after_thread_rounds v worker 0 extra) worker more.n more.adds in
+    let same : length w.journal.rows ≡ length (after_thread_rounds v worker 0 extra).journal.rows = ap (λ (x : Recorded). length x.journal.rows) is in
+    omega (arith, long, same)
+
+pub rounds_counted : (v w : Recorded) (worker extra made : ℕ) (before after : ShareValue) → w ≡ after_thread_rounds v worker 0 extra → length v.journal.rows + made ≡ length w.journal.rows
+    → after ≡ counted_on before made → CountsRows v w before after
+rounds_counted v w worker extra made before after is sum e =
+    let more = carried_on worker extra v in
+    record {
+      workers_is = ap (λ (x : Recorded). x.journal.workers) is ∙ ap (λ (x : Recorded). x.journal.workers) more.adds.world_is;
+      worker_is = ap (λ (s : ShareValue). s.worker) e;
+      role_is = ap (λ (s : ShareValue). s.role) e;
+      burst_is = ap (λ (s : ShareValue). s.burst) e;
+      count_is = (let c : after.count ≡ before.count + made = ap (λ (s : ShareValue). s.count) e in omega (arith, c, sum));
+    }
+
+-- ---- bursts, seen from their first one
+
+module _ (v w : Recorded) (worker due extra again i : ℕ) (lt : i < again) (t : Turn) (is : w ≡ after_thread_rounds v worker 0 extra) (told : t ≡ thread_rounds_answer v worker 0 extra) where
+  left : again - i ≡ suc (again - (i + 1))
+  left = omega (arith, lt)
+
+  further : goes_on (thread_rounds_answer v worker 0 extra) (next_birth_of (after_thread_rounds v worker 0 extra)) due ≡ goes_on t (next_birth_of w) due
+  further =
+      ap (λ (a : Turn). goes_on a (next_birth_of (after_thread_rounds v worker 0 extra)) due) (sym told)
+      ∙ ap (λ (x : Recorded). goes_on t (next_birth_of x) due) (sym is)
+
+  -- what is left where they go on
+  pub bursts_left : goes_on t (next_birth_of w) due ≡ true → after_bursts v worker due extra (again - i) ≡ after_bursts w worker due extra (again - (i + 1))
+  bursts_left on =
+      ap (after_bursts v worker due extra) left
+      ∙ ap (λ (b : Bool). if b then after_bursts (after_thread_rounds v worker 0 extra) worker due extra (again - (i + 1)) else after_thread_rounds v worker 0 extra) (further ∙ on)
+      ∙ ap (λ (x : Recorded). after_bursts x worker due extra (again - (i + 1))) (sym is)
+
+  pub answers_left : goes_on t (next_birth_of w) due ≡ true → answer_bursts v worker due extra (again - i) ≡ answer_bursts w worker due extra (again - (i + 1))
+  answers_left on =
+      ap (answer_bursts v worker due extra) left
+      ∙ ap (λ (b : Bool). if b then answer_bursts (after_thread_rounds v worker 0 extra) worker due extra (again - (i + 1)) else done_so_far (thread_rounds_answer v worker 0 extra)) (further ∙ on)
+      ∙ ap (λ (x : Recorded). answer_bursts x worker due extra (again - (i + 1))) (sym is)
+
+  -- and where they end
+  pub bursts_end : goes_on t (next_birth_of w) due ≡ false → after_bursts v worker due extra (again - i) ≡ w
+  bursts_end off =
+      ap (after_bursts v worker due extra) left
+      ∙ ap (λ (b : Bool). if b then after_bursts (after_thread_rounds v worker 0 extra) worker due extra (again - (i + 1)) else after_thread_rounds v worker 0 extra) (further ∙ off)
+      ∙ sym is
+
+  pub answers_end : goes_on t (next_birth_of w) due ≡ false → answer_bursts v worker due extra (again - i) ≡ done_so_far t
+  answers_end off =
+      ap (answer_bursts v worker due extra) left
+      ∙ ap (λ (b : Bool). if b then answer_bursts (after_thread_rounds v worker 0 extra) worker due extra (again - (i + 1)) else done_so_far (thread_rounds_answer v worker 0 extra)) (further ∙ off)
+      ∙ ap done_so_far (sym told)

@@ -1,13 +1,16 @@
 -- What a worker of a role does under the lock, on a world as contracts see it.
 use Rattle.std.specs.Prelude.{ℕ, zero, suc, ◌-◌, Bool, true, false, Option, Some, None, nat_lt, length, slice_get, if◌then◌else◌}
+use Rattle.model.specs.declared.colours.Phase.{Phase}
+use Rattle.model.specs.declared.colours.Phase.TheVariants.{Idle, Statics, Frames, Mark, Append}
 use Rattle.model.specs.declared.journals.Row.{Row}
 use Rattle.model.specs.declared.turns.Actor.{Actor}
 use Rattle.model.specs.declared.turns.Actor.TheVariants.{Thread, Collector}
 use Rattle.model.specs.declared.turns.Turn.{Turn}
 use Rattle.model.specs.declared.turns.Turn.TheVariants.{Done, NotReady, Stopped, Fault, OutputFull, StepLimit}
 use Rattle.model.specs.Machines.{Recorded, after_turn_by, answer_to}
-use Rattle.model.specs.Observers.{pick_of, status_of, is_running}
-use Rattle.scheduler.specs.Rounds.{answered_by, is_done, turned_by}
+use Rattle.model.specs.Observers.{next_birth_of, phase_of, pick_of, status_of, is_running}
+use Rattle.scheduler.specs.Rounds.{answered_by, is_done, turned_by, after_rounds as after_thread_rounds, rounds_answer as thread_rounds_answer}
+use Rattle.hall.specs.declared.roles.Burst.{Burst}
 use Rattle.hall.specs.declared.roles.Role.{Role}
 use Rattle.hall.specs.declared.roles.Role.TheVariants.{Both, Carrier, Collector as Collecting}
 
@@ -93,21 +96,73 @@ abbrev pub answer_rounds : Recorded → Role → ℕ → ℕ → Turn
 answer_rounds v role worker extra =
     if is_done (answer_allowed v role worker) then answer_more (after_allowed v role worker) role worker extra else answer_allowed v role worker
 
--- the collector's rounds behind its first are its turns, each if the world is running
-abbrev pub after_known : Recorded → Role → ℕ → ℕ → Recorded
-after_known v Carrier worker extra = after_rounds v Carrier worker extra
-after_known v Collecting worker extra = swept_after (collected_answer v worker) (collected v worker) worker extra
-after_known v (Both gc) worker extra = after_rounds v (Both gc) worker extra
+-- ---- a carrier's rounds behind its first, again and again while all were done and no collection is due
 
-abbrev pub answer_known : Recorded → Role → ℕ → ℕ → Turn
-answer_known v Carrier worker extra = answer_rounds v Carrier worker extra
-answer_known v Collecting worker extra = collected_answer v worker
-answer_known v (Both gc) worker extra = answer_rounds v (Both gc) worker extra
+-- whether rounds that answered this are followed by as many; a collection is due from the birth `due` on
+abbrev pub goes_on : Turn → ℕ → ℕ → Bool
+goes_on answer next due = if is_done answer then nat_lt next due else false
 
--- the world after a turn of a role by a worker, with so many rounds behind the first, and what it answers; a worker that the
--- journal doesn't know does nothing
-unfoldable pub after_role : Recorded → Role → ℕ → ℕ → Recorded
-after_role v role worker extra = if nat_lt worker v.journal.workers then after_known v role worker extra else v
+-- so many rounds, and so often again as many
+abbrev pub after_bursts : Recorded → ℕ → ℕ → ℕ → ℕ → Recorded
+after_bursts v worker due extra zero = after_thread_rounds v worker 0 extra
+after_bursts v worker due extra (suc again) =
+    if goes_on (thread_rounds_answer v worker 0 extra) (next_birth_of (after_thread_rounds v worker 0 extra)) due
+    then after_bursts (after_thread_rounds v worker 0 extra) worker due extra again else after_thread_rounds v worker 0 extra
 
-unfoldable pub answer_role : Recorded → Role → ℕ → ℕ → Turn
-answer_role v role worker extra = if nat_lt worker v.journal.workers then answer_known v role worker extra else NotReady
+abbrev pub answer_bursts : Recorded → ℕ → ℕ → ℕ → ℕ → Turn
+answer_bursts v worker due extra zero = done_so_far (thread_rounds_answer v worker 0 extra)
+answer_bursts v worker due extra (suc again) =
+    if goes_on (thread_rounds_answer v worker 0 extra) (next_birth_of (after_thread_rounds v worker 0 extra)) due
+    then answer_bursts (after_thread_rounds v worker 0 extra) worker due extra again else done_so_far (thread_rounds_answer v worker 0 extra)
+
+abbrev pub after_carried : Recorded → ℕ → Burst → ℕ → Recorded
+after_carried v worker burst due =
+    if is_done (answer_allowed v Carrier worker) then after_bursts (after_allowed v Carrier worker) worker due burst.extra burst.again
+    else after_allowed v Carrier worker
+
+abbrev pub answer_carried : Recorded → ℕ → Burst → ℕ → Turn
+answer_carried v worker burst due =
+    if is_done (answer_allowed v Carrier worker) then answer_bursts (after_allowed v Carrier worker) worker due burst.extra burst.again
+    else answer_allowed v Carrier worker
+
+-- ---- a collector's turns behind its first, until a cycle ends, each if the world is running
+
+abbrev pub is_idle : Phase → Bool
+is_idle Idle = true
+is_idle (Statics slot) = false
+is_idle (Frames thread frame entry) = false
+is_idle (Mark word) = false
+is_idle (Append cell) = false
+
+abbrev pub cycled : Recorded → ℕ → ℕ → Recorded
+cycled v worker zero = v
+cycled v worker (suc n) = if is_idle (phase_of v) then v else cycled (swept_once v worker) worker n
+
+-- they follow a collector's turn that was done
+abbrev pub cycled_after : Turn → Recorded → ℕ → ℕ → Recorded
+cycled_after Done v worker n = cycled v worker n
+cycled_after NotReady v worker n = v
+cycled_after Stopped v worker n = v
+cycled_after (Fault f) v worker n = v
+cycled_after OutputFull v worker n = v
+cycled_after StepLimit v worker n = v
+
+-- ---- a turn of a role, a collection being due from the birth `due` on
+
+abbrev pub after_known : Recorded → Role → ℕ → Burst → ℕ → Recorded
+after_known v Carrier worker burst due = after_carried v worker burst due
+after_known v Collecting worker burst due = cycled_after (collected_answer v worker) (collected v worker) worker burst.sweep
+after_known v (Both gc) worker burst due = after_rounds v (Both gc) worker burst.extra
+
+abbrev pub answer_known : Recorded → Role → ℕ → Burst → ℕ → Turn
+answer_known v Carrier worker burst due = answer_carried v worker burst due
+answer_known v Collecting worker burst due = collected_answer v worker
+answer_known v (Both gc) worker burst due = answer_rounds v (Both gc) worker burst.extra
+
+-- the world after a turn of a role by a worker, with rounds behind the first as its burst says, and what it answers; a worker that
+-- the journal doesn't know does nothing
+unfoldable pub after_role : Recorded → Role → ℕ → Burst → ℕ → Recorded
+after_role v role worker burst due = if nat_lt worker v.journal.workers then after_known v role worker burst due else v
+
+unfoldable pub answer_role : Recorded → Role → ℕ → Burst → ℕ → Turn
+answer_role v role worker burst due = if nat_lt worker v.journal.workers then answer_known v role worker burst due else NotReady

@@ -4,21 +4,21 @@ use Rattle.model.specs.declared.journals.Row.{Row}
 use Rattle.model.specs.declared.turns.Turn.{Turn}
 use Rattle.model.specs.declared.turns.Turn.TheVariants.{Done, NotReady, Stopped, Fault, OutputFull, StepLimit}
 use Rattle.model.specs.Machines.{Recorded}
+use Rattle.hall.specs.declared.roles.Burst.{Burst}
 use Rattle.hall.specs.declared.roles.Role.{Role}
 use Rattle.hall.specs.declared.roles.Role.TheVariants.{Both, Carrier, Collector}
 
--- whose share it is, what this worker does, how many rounds it may make behind the first one of a turn, and how many rows it has
--- made
+-- whose share it is, what this worker does, which rounds it may make behind the first one of a turn, and how many rows it has made
 pub record ShareValue : Type 0 where
   pub worker : ℕ
   pub role : Role
-  pub extra : ℕ
+  pub burst : Burst
   pub count : ℕ
 
--- a share for each role with so many extra rounds, of the workers from one on, none of which has made a row
-abbrev pub dealt : ℕ → ℕ → List Role → List ShareValue
-dealt extra worker [] = []
-dealt extra worker (role ∷ roles) = record { worker = worker; role = role; extra = extra; count = 0 } ∷ dealt extra (worker + 1) roles
+-- a share for each role with this burst, of the workers from one on, none of which has made a row
+abbrev pub dealt : Burst → ℕ → List Role → List ShareValue
+dealt burst worker [] = []
+dealt burst worker (role ∷ roles) = record { worker = worker; role = role; burst = burst; count = 0 } ∷ dealt burst (worker + 1) roles
 
 -- the share when its worker has made so many rows more
 abbrev pub counted_on : ShareValue → ℕ → ShareValue
@@ -48,6 +48,12 @@ abbrev pub times : ℕ → ℕ → ℕ
 times zero most = 0
 times (suc n) most = most + times n most
 
+-- how many rounds a burst has behind the first one of a role's turn, at most
+abbrev pub behind : Role → Burst → ℕ
+behind Carrier burst = times (suc burst.again) burst.extra
+behind Collector burst = burst.sweep
+behind (Both gc) burst = burst.extra
+
 -- how many rows a role's turn with this answer makes, the rounds behind the first being so many at most
 abbrev pub Rises : Role → ℕ → Turn → ℕ → Type 0
 Rises role extra Done n = (1 ≤ n) × (n ≤ times (suc extra) (1 + gc_of role))
@@ -60,7 +66,7 @@ Rises role extra StepLimit n = n ≤ times extra (1 + gc_of role)
 -- a share before and after a turn of its role with this answer: nothing of it has changed but that it counted the rows
 pub record Counts (answer : Turn) (before after : ShareValue) : Type 0 where
   pub n : ℕ
-  pub rises : Rises before.role before.extra answer n
+  pub rises : Rises before.role (behind before.role before.burst) answer n
   pub share_is : after ≡ counted_on before n
 
 -- the same with the worlds before and after: the rows that were counted are the ones that were added, all of this worker,
@@ -69,7 +75,7 @@ pub record Takes (v w : Recorded) (answer : Turn) (before after : ShareValue) : 
   pub rows : List Row
   pub world_is : w ≡ with_rows v rows
   pub own : All (λ (row : Row). row.worker ≡ before.worker) rows
-  pub rises : Rises before.role before.extra answer (length rows)
+  pub rises : Rises before.role (behind before.role before.burst) answer (length rows)
   pub share_is : after ≡ counted_on before (length rows)
 
 -- a share that counted the rows by which one world's journal is longer than another's, of as many workers
@@ -77,5 +83,5 @@ pub record CountsRows (v w : Recorded) (before after : ShareValue) : Type 0 wher
   pub workers_is : w.journal.workers ≡ v.journal.workers
   pub worker_is : after.worker ≡ before.worker
   pub role_is : after.role ≡ before.role
-  pub extra_is : after.extra ≡ before.extra
+  pub burst_is : after.burst ≡ before.burst
   pub count_is : after.count + length v.journal.rows ≡ before.count + length w.journal.rows

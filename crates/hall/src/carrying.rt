@@ -19,7 +19,7 @@ pub trait Gate {
 
 /// Takes turns of the share's role, each behind the gate and followed by a pulse where it was done, until a stop is asked,
 /// or the world isn't running, or the turn was `OutputFull`, `StepLimit` or `Stopped`; in these last cases it asks for a
-/// stop. A carrier yields to a collector that lags. It takes no memory.
+/// stop. Where its turn isn't ready it yields, a carrier until the collector has had one. It takes no memory.
 pub fn carry<L: Ledger, G: Gate, R: Wait>(
     rt: &R,
     hall: &Hall<L>,
@@ -33,14 +33,14 @@ pub fn carry<L: Ledger, G: Gate, R: Wait>(
     ensures seat { IsSameSeat seat.old seat.new }
 {
     let mut turn: u64 = 1;
-    let mut patience = Patience::new(share.role(), share.extra(), hall.collector());
+    let mut patience = Patience::new(share.role(), hall.collector());
     for _round in rt.forever() {
         gate.before(seat.worker(), turn);
         turn = turn.saturating_add(1);
-        if is_last_turn(rt, hall, board, share, seat) {
+        patience.look(board, seat);
+        if is_last_turn(rt, hall, board, share, seat, patience) {
             break;
         }
-        patience.give_way(board, seat);
     }
 }
 
@@ -51,14 +51,17 @@ fn is_last_turn<L: Ledger, R: Wait>(
     board: &Board,
     share: &mut Share<L>,
     seat: &mut BoardSeat,
+    patience: Patience,
 ) -> bool
     requires { IsSeatOf board.now seat.old }
     ensures share { IsLater share.old share.new }
     ensures seat { IsSameSeat seat.old seat.new }
 {
     let (answer, status) = hall.turn_for(rt, share);
-    if answer == Turn::Done {
-        pulse(board, seat);
+    match answer {
+        Turn::Done => pulse(board, seat),
+        Turn::NotReady => patience.wait(board, seat), // another worker's turn comes first
+        Turn::Stopped | Turn::Fault(_) | Turn::OutputFull | Turn::StepLimit => {}
     }
     if board.stop_asked(seat) {
         return true;

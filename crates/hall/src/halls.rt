@@ -6,7 +6,7 @@ ghost use Rattle.hall.specs.Heads.{head_of};
 ghost use Rattle.hall.specs.Shares.{Counts, dealt};
 
 use crate::error::HallError;
-use crate::roles::Role;
+use crate::roles::{Burst, Role, SINGLE};
 use crate::shares::{Share, Shared};
 use loader::programs::Program;
 use model::journals::{HeapShape, Limits};
@@ -43,19 +43,26 @@ impl<L: Ledger> Model for Hall<L> {
 fn deal<L: Ledger>(
     alloc: Global,
     roles: &[Role],
-    extra: u32,
+    burst: Burst,
     mut all: ledger::Share<L>,
 ) -> Result<Vec<Share<L>>, AllocError>
     requires parts { all.parts ≡ length roles.now }
     requires none { all.amount ≡ 0 }
     requires few { length roles.now ≤ 9 }
-    ensures { IfOk result (λ shares. shares.items ≡ dealt extra 0 roles.now) }
+    ensures { IfOk result (λ shares. shares.items ≡ dealt burst 0 roles.now) }
 {
     let mut shares = Vec::with_capacity(alloc, roles.len())?;
     for worker in 0..roles.len() {
-        shares.push(Share::new(worker as u8, roles[worker], extra, all.split_off(1, 0)))?;
+        shares.push(Share::new(worker as u8, roles[worker], burst, all.split_off(1, 0)))?;
     }
     Ok(shares)
+}
+
+// The first worker that collects and does nothing else, if there is one.
+fn collector_in(roles: &[Role]) -> Option<usize> {
+    roles
+        .iter()
+        .position(|role| matches!(role, Role::Collector))
 }
 
 // The parts of all shares as one.
@@ -85,27 +92,27 @@ impl<L: Ledger> Hall<L> {
         requires one_each { blank.parts ≡ length roles.now }
         requires empty { world.journal.rows ≡ [] }
         ensures hall { IfOk result (λ made. made.0 ≡ head_of (with_workers world (length roles.now))) }
-        ensures shares { IfOk result (λ made. made.1.items ≡ dealt 0 0 roles.now) }
+        ensures shares { IfOk result (λ made. made.1.items ≡ dealt (record { extra = 0; again = 0; sweep = 0 }) 0 roles.now) }
         ensures number { IsErrOf result HallError.Roles ↔ (¬ ((0 < length roles.now) × (length roles.now ≤ 9))) }
     {
-        Hall::in_bursts(alloc, blank, world, roles, 0)
+        Hall::in_bursts(alloc, blank, world, roles, SINGLE)
     }
 
-    /// The same with shares whose turns may have so many rounds behind the first, so that a worker makes many rows each time
-    /// it gets the lock.
+    /// The same with shares whose turns may have more rounds behind the first, so that a worker makes many rows each time it
+    /// gets the lock.
     pub fn in_bursts(
         alloc: Global,
         blank: Blank,
         mut world: World,
         roles: &[Role],
-        extra: u32,
+        burst: Burst,
     ) -> Result<(Hall<L>, Vec<Share<L>>), HallError>
         requires name { blank.name ≡ L.name }
         requires parts { blank.parts ≡ L.parts }
         requires one_each { blank.parts ≡ length roles.now }
         requires empty { world.journal.rows ≡ [] }
         ensures hall { IfOk result (λ made. made.0 ≡ head_of (with_workers world (length roles.now))) }
-        ensures shares { IfOk result (λ made. made.1.items ≡ dealt extra 0 roles.now) }
+        ensures shares { IfOk result (λ made. made.1.items ≡ dealt burst 0 roles.now) }
         ensures number { IsErrOf result HallError.Roles ↔ (¬ ((0 < length roles.now) × (length roles.now ≤ 9))) }
     {
         if roles.len() == 0 || roles.len() > MOST_WORKERS {
@@ -117,16 +124,15 @@ impl<L: Ledger> Hall<L> {
         let shape = world.journal().shape();
         let limits = world.journal().limits();
         let (book, all) = blank.open::<L>();
-        let shares = deal(alloc, roles, extra, all)?;
+        let shares = deal(alloc, roles, burst, all)?;
+        let collector = collector_in(roles);
         let hall = Hall {
-            lock: Mutex::new(Shared::new(world, book)),
+            lock: Mutex::new(Shared::new(world, book, collector.is_some())),
             program,
             shape,
             limits,
             workers,
-            collector: roles
-                .iter()
-                .position(|role| matches!(role, Role::Collector)),
+            collector,
         };
         Ok((hall, shares))
     }
@@ -137,12 +143,13 @@ impl<L: Ledger> Hall<L> {
     }
 
     /// One turn of the share's role under the lock, for which it waits, and how the world stands then. The share counts the
-    /// rows that the turn made.
+    /// rows that the turn made. A carrier's is `NotReady`, and makes none, where there is a collector whose turn comes first,
+    /// since a collection is due.
     pub fn turn_for<R: Wait>(&self, rt: &R, share: &mut Share<L>) -> (Turn, Status)
         ensures { Counts result.0 share.old share.new }
     {
         let mut shared = self.lock.lock(rt);
-        let answer = shared.turn_as(share);
+        let answer = shared.turn_if_not_due(share);
         (answer, shared.status())
     }
 

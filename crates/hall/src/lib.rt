@@ -6,6 +6,7 @@
 
 mod carrying;
 mod driving;
+mod dues;
 mod error;
 mod halls;
 mod patience;
@@ -17,5 +18,5 @@ pub use carrying::{Gate, carry};
 pub use driving::drive;
 pub use error::HallError;
 pub use halls::Hall;
-pub use roles::Role;
+pub use roles::{Burst, Role};
 pub use shares::{Share, Shared};

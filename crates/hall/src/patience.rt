@@ -1,90 +1,69 @@
-//! Carriers let a collector come to the lock.
-ghost use Rattle.std.specs.Prelude.{◌<◌};
-ghost use Rattle.board.specs.Seats.{IsSeatOf, IsSameSeat, workers_of};
+//! Carriers wait for a collector whose turn comes first.
+ghost use Rattle.board.specs.Seats.{IsSeatOf, IsSameSeat};
 
 use crate::roles::Role;
 use board::{Board, BoardSeat};
 use std::thread;
 
-// The carriers are to have so many turns together for each one of the collector's.
-const TURNS: u64 = 3;
-
-// A carrier looks after the collector when it has had so many rounds since it last did.
-const ROUNDS: u32 = 64;
-
-// So often it yields at most, until the collector has a turn.
+// So often a carrier yields at most, until the collector has had a turn. Then it asks the hall again.
 const YIELDS: u32 = 10_000;
 
-// A carrier's turns are short, so that a collector's thread, once it waits, comes too late for the lock nearly each time:
-// without this, heaps would run full beside an idle collector.
-#[derive(Drop)]
+// For whom a worker waits where its turn isn't ready, and how often that one had pulsed before.
+#[derive(Clone, Copy)]
 pub(crate) struct Patience {
     collector: Option<usize>,
-    // of one turn, at most
-    rounds: u32,
-    // since the last look
-    unseen: u32,
+    pulses: u64,
 }
 
 impl Patience {
-    // Of a worker of this role, whose turns have so many rounds behind the first one. Only a carrier looks after the
-    // collector, if there is one.
-    pub(crate) fn new(role: Role, extra: u32, collector: Option<usize>) -> Patience {
+    // Of a worker of this role. Only a carrier waits for the collector, if there is one.
+    pub(crate) fn new(role: Role, collector: Option<usize>) -> Patience {
         let collector = match role {
             Role::Carrier => collector,
             Role::Collector | Role::Both { .. } => None,
         };
         Patience {
             collector,
-            rounds: extra.saturating_add(1),
-            unseen: 0,
+            pulses: 0,
         }
     }
 
-    // Called after each turn. Where the collector lags, the carrier yields until it has had a turn, for a while at most.
-    pub(crate) fn give_way(&mut self, board: &Board, seat: &mut BoardSeat)
+    // Called before each turn: a collector's turn that comes behind this look is seen by the wait.
+    pub(crate) fn look(&mut self, board: &Board, seat: &mut BoardSeat)
         requires { IsSeatOf board.now seat.old }
         ensures { IsSameSeat seat.old seat.new }
     {
-        let Some(collector) = self.collector else {
-            return;
-        };
-        self.unseen = self.unseen.saturating_add(self.rounds);
-        if self.unseen < ROUNDS || collector >= board.workers() {
-            return;
+        if let Some(collector) = self.collector {
+            if collector < board.workers() {
+                self.pulses = board.read(seat, collector);
+            }
         }
-        self.unseen = 0;
-        let collected = board.read(seat, collector);
-        if collected < carried(board, seat, collector) / TURNS {
-            wait_for_more(board, seat, collector, collected);
+    }
+
+    // Called where a turn wasn't ready: yields, a carrier until the collector has had a turn or a stop is asked.
+    pub(crate) fn wait(&self, board: &Board, seat: &mut BoardSeat)
+        requires { IsSeatOf board.now seat.old }
+        ensures { IsSameSeat seat.old seat.new }
+    {
+        thread::yield_now();
+        if let Some(collector) = self.collector {
+            for _look in 0..YIELDS {
+                if is_over(board, seat, collector, self.pulses) {
+                    return;
+                }
+                thread::yield_now();
+            }
         }
     }
 }
 
-// How many turns all workers but this one have had.
-fn carried(board: &Board, seat: &mut BoardSeat, collector: usize) -> u64
+// Whether a worker has pulsed again, or a stop is asked.
+fn is_over(board: &Board, seat: &mut BoardSeat, worker: usize, pulses: u64) -> bool
     requires { IsSeatOf board.now seat.old }
     ensures { IsSameSeat seat.old seat.new }
 {
-    let mut turns: u64 = 0;
-    for worker in 0..board.workers() {
-        if worker != collector {
-            turns = turns.saturating_add(board.read(seat, worker));
-        }
+    if worker >= board.workers() || board.read(seat, worker) != pulses {
+        return true;
     }
-    turns
-}
-
-// Yields until a worker's count isn't this any more, for a while at most.
-fn wait_for_more(board: &Board, seat: &mut BoardSeat, worker: usize, count: u64)
-    requires mine { IsSeatOf board.now seat.old }
-    requires worker { worker < workers_of board.now }
-    ensures { IsSameSeat seat.old seat.new }
-{
-    for _look in 0..YIELDS {
-        if board.read(seat, worker) != count {
-            return;
-        }
-        thread::yield_now();
-    }
+    board.stop_asked(seat)
 }

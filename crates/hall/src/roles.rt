@@ -1,4 +1,4 @@
-//! What a worker does.
+//! What a worker does, and how long it keeps the lock.
 
 /// What a worker does each time it has the lock.
 #[derive(Clone, Copy, Debug, PartialEq, Eq)]
@@ -10,3 +10,21 @@ pub enum Role {
     /// A collector turn, unless the journal's last row is the collector's.
     Collector,
 }
+
+/// How many rounds a worker makes behind the first one of a turn, each time it has the lock.
+#[derive(Clone, Copy, Debug, PartialEq, Eq)]
+pub struct Burst {
+    /// So many rounds behind the first one, where the worker isn't a collector.
+    pub extra: u32,
+    /// So often a carrier makes as many again, each time only if all of the last ones were done and no collection is due.
+    pub again: u32,
+    /// So many turns of a collector behind its first one, at most: a cycle's end is theirs.
+    pub sweep: u32,
+}
+
+/// One round a turn.
+pub const SINGLE: Burst = Burst {
+    extra: 0,
+    again: 0,
+    sweep: 0,
+};

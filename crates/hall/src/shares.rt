@@ -2,20 +2,21 @@
 ghost use Rattle.std.specs.Prelude.{◌≡◌, ◌+◌, [], length};
 ghost use Rattle.hall.specs.Shares.{counted_on, rows_by};
 
-use crate::roles::Role;
+use crate::dues::due_in;
+use crate::roles::{Burst, Role};
 use model::turns::Turn;
 use scheduler::worlds::World;
 use std::marker::Model;
 use std::sync::ledger;
 use std::sync::ledger::{Book, Ledger};
 
-/// A worker's share of the journal: its number, its role, how many rounds it may make behind the first one of a turn, and how
-/// many rows it has made. A contract sees these four.
+/// A worker's share of the journal: its number, its role, which rounds it may make behind the first one of a turn, and how many
+/// rows it has made. A contract sees these four.
 #[derive(Drop)]
 pub struct Share<L: Ledger> {
     worker: u8,
     role: Role,
-    extra: u32,
+    burst: Burst,
     count: u64,
     part: ledger::Share<L>,
 }
@@ -26,22 +27,22 @@ impl<L: Ledger> Model for Share<L> {
 
     ghost Value = { ShareValue };
 
-    ghost view = { λ a. record { worker = a.worker; role = a.role; extra = a.extra; count = a.count } };
+    ghost view = { λ a. record { worker = a.worker; role = a.role; burst = a.burst; count = a.count } };
 
     ghost invariant = { λ a. (a.part.parts ≡ 1) × (a.part.amount ≡ a.count) };
 }
 
 impl<L: Ledger> Share<L> {
     // The share of a worker that has made no row.
-    pub(crate) fn new(worker: u8, role: Role, extra: u32, part: ledger::Share<L>) -> Share<L>
+    pub(crate) fn new(worker: u8, role: Role, burst: Burst, part: ledger::Share<L>) -> Share<L>
         requires part { part.parts ≡ 1 }
         requires none { part.amount ≡ 0 }
-        ensures { result ≡ record { worker = worker; role = role; extra = extra; count = 0 } }
+        ensures { result ≡ record { worker = worker; role = role; burst = burst; count = 0 } }
     {
         Share {
             worker,
             role,
-            extra,
+            burst,
             count: 0,
             part,
         }
@@ -61,11 +62,11 @@ impl<L: Ledger> Share<L> {
         self.role
     }
 
-    /// How many rounds it may make behind the first one of a turn.
-    pub fn extra(&self) -> u32
-        ensures { result ≡ self.now.extra }
+    /// Which rounds it may make behind the first one of a turn.
+    pub fn burst(&self) -> Burst
+        ensures { result ≡ self.now.burst }
     {
-        self.extra
+        self.burst
     }
 
     /// How many rows of the journal the worker has made.
@@ -83,21 +84,21 @@ impl<L: Ledger> Share<L> {
         ensures share { self.new ≡ counted_on self.old (rows_by answer) }
     {
         match answer {
-            Turn::Done | Turn::Fault(_) => self.note_row(book, rows),
+            Turn::Done | Turn::Fault(_) => self.note_rows(book, 1, rows),
             Turn::NotReady | Turn::Stopped | Turn::OutputFull | Turn::StepLimit => {}
         }
     }
 
-    // Counts a row more. With it the journal has so many rows.
-    fn note_row(&mut self, book: &mut Book<L>, rows: usize)
-        requires { book.old.total + 1 ≡ rows }
+    // Counts so many rows more. With them the journal has so many rows.
+    pub(crate) fn note_rows(&mut self, book: &mut Book<L>, made: usize, rows: usize)
+        requires { book.old.total + made ≡ rows }
         ensures total { book.new.total ≡ rows }
-        ensures share { self.new ≡ counted_on self.old 1 }
+        ensures share { self.new ≡ counted_on self.old made }
     {
         let Share { count, part, .. } = self;
         book.audit(part);
-        book.add(part, 1);
-        *count += 1;
+        book.add(part, made as u64);
+        *count += made as u64;
     }
 
     // The part of the ledger.
@@ -115,6 +116,8 @@ impl<L: Ledger> Share<L> {
 pub struct Shared<L: Ledger> {
     pub(crate) world: World,
     pub(crate) book: Book<L>,
+    // from which birth on a collection is due
+    pub(crate) due: u32,
 }
 
 impl<L: Ledger> Model for Shared<L> {
@@ -129,13 +132,14 @@ impl<L: Ledger> Model for Shared<L> {
 }
 
 impl<L: Ledger> Shared<L> {
-    // A world that has made no turn, and a book that is empty.
-    pub(crate) fn new(world: World, book: Book<L>) -> Shared<L>
+    // A world that has made no turn, and a book that is empty. Collections come due where there is a collector.
+    pub(crate) fn new(world: World, book: Book<L>, collects: bool) -> Shared<L>
         requires world { world.journal.rows ≡ [] }
         requires book { book.total ≡ 0 }
         ensures { result ≡ world }
     {
-        Shared { world, book }
+        let due = if collects { due_in(&world) } else { u32::MAX };
+        Shared { world, book, due }
     }
 
     // The world. All parts of the ledger have counted its rows.
@@ -144,7 +148,11 @@ impl<L: Ledger> Shared<L> {
         ensures world { result ≡ self }
         ensures rows { length self.journal.rows ≡ all.amount }
     {
-        let Shared { world, mut book } = self;
+        let Shared {
+            world,
+            mut book,
+            ..
+        } = self;
         book.audit(&mut all);
         world
     }

@@ -1,14 +1,15 @@
 //! What is done under the lock.
 ghost use Rattle.std.specs.Prelude.{◌≡◌, ◌<◌};
 ghost use Rattle.model.specs.Machines.{after_turn_by, answer_to};
-ghost use Rattle.model.specs.Observers.{status_of, pick_of};
-ghost use Rattle.scheduler.specs.Rounds.{answered_by, turned_by};
-ghost use Rattle.hall.specs.Roles.{after_role, answer_role, collected, collected_answer};
+ghost use Rattle.model.specs.Observers.{next_birth_of, phase_of, status_of, pick_of};
+ghost use Rattle.scheduler.specs.Rounds.{answered_by, turned_by, after_rounds as after_thread_rounds, rounds_answer as thread_rounds_answer};
+ghost use Rattle.hall.specs.Roles.{after_bursts, after_carried, after_role, answer_bursts, answer_carried, answer_role, collected, collected_answer, cycled, cycled_after, goes_on, is_idle};
 ghost use Rattle.hall.specs.Roles.{last_is_collector, swept, swept_once, swept_after, after_allowed, answer_allowed, after_more, answer_more, after_rounds, answer_rounds, after_known, answer_known, done_so_far};
 ghost use Rattle.hall.specs.Shares.{Takes, CountsRows};
 
-use crate::roles::Role;
+use crate::roles::{Burst, Role};
 use crate::shares::{Share, Shared};
+use model::colours::Phase;
 use model::turns::{Actor, Status, Turn};
 use scheduler::rounds::is_done;
 use std::sync::ledger::Ledger;
@@ -20,6 +21,23 @@ fn done_so_far(answer: Turn) -> Turn
     match answer {
         Turn::Done | Turn::NotReady => Turn::Done,
         Turn::Stopped | Turn::Fault(_) | Turn::OutputFull | Turn::StepLimit => answer,
+    }
+}
+
+// Whether rounds that answered this are followed by as many; a collection is due from the birth `due` on.
+fn goes_on(answer: Turn, next: u32, due: u32) -> bool
+    ensures { result ≡ goes_on answer next due }
+{
+    is_done(answer) && next < due
+}
+
+fn is_idle(phase: Phase) -> bool
+    ensures { result ≡ is_idle phase }
+{
+    match phase {
+        Phase::Idle => true,
+        Phase::Statics { .. } | Phase::Frames { .. } | Phase::Mark { .. } | Phase::Append { .. } =>
+            false,
     }
 }
 
@@ -51,7 +69,7 @@ impl<L: Ledger> Shared<L> {
         ensures answer { result ≡ answer_to self.old actor share.old.worker }
         ensures share { CountsRows self.old self.new share.old share.new }
     {
-        let Shared { world, book } = self;
+        let Shared { world, book, .. } = self;
         let answer = world.turn_by(actor, share.worker());
         let rows = world.journal().rows().len();
         share.note(book, answer, rows);
@@ -65,7 +83,7 @@ impl<L: Ledger> Shared<L> {
         ensures answer { result ≡ answered_by self.old share.old.worker (pick_of self.old) }
         ensures share { CountsRows self.old self.new share.old share.new }
     {
-        let Shared { world, book } = self;
+        let Shared { world, book, .. } = self;
         let answer = world.turn_of_picked(share.worker());
         let rows = world.journal().rows().len();
         share.note(book, answer, rows);
@@ -172,16 +190,90 @@ impl<L: Ledger> Shared<L> {
         }
     }
 
-    // A collector's turn and, where it was done, so many more, each if the world is running.
-    fn collect_and_sweep(&mut self, share: &mut Share<L>, extra: u32) -> Turn
+    // So many rounds of the picked threads, in one call, and what the last of them answered.
+    fn carry_on(&mut self, share: &mut Share<L>, extra: u32) -> Turn
         requires { share.old.worker < self.old.journal.workers }
-        ensures world { self.new ≡ swept_after result (collected self.old share.old.worker) share.old.worker extra }
+        ensures world { self.new ≡ after_thread_rounds self.old share.old.worker 0 extra }
+        ensures answer { result ≡ thread_rounds_answer self.old share.old.worker 0 extra }
+        ensures share { CountsRows self.old self.new share.old share.new }
+    {
+        let Shared { world, book, .. } = self;
+        let before = world.journal().rows().len();
+        let answer = world.rounds_by(share.worker(), extra);
+        let rows = world.journal().rows().len();
+        share.note_rows(book, rows - before, rows);
+        answer
+    }
+
+    // The number of the next birth.
+    pub(crate) fn next_birth(&self) -> u32
+        ensures { result ≡ next_birth_of self.now }
+    {
+        self.world.next_birth()
+    }
+
+    // So many rounds of the picked threads, and so often again as many, while all were done and no collection is due.
+    fn carry_again(&mut self, share: &mut Share<L>, burst: Burst, due: u32) -> Turn
+        requires { share.old.worker < self.old.journal.workers }
+        ensures world { self.new ≡ after_bursts self.old share.old.worker due burst.extra burst.again }
+        ensures answer { result ≡ answer_bursts self.old share.old.worker due burst.extra burst.again }
+        ensures share { CountsRows self.old self.new share.old share.new }
+    {
+        for _burst in 0..burst.again {
+            let answer = self.carry_on(share, burst.extra);
+            if !goes_on(answer, self.next_birth(), due) {
+                return done_so_far(answer);
+            }
+        }
+        done_so_far(self.carry_on(share, burst.extra))
+    }
+
+    // A round of a carrier and, where it was done, its burst.
+    fn carry_in_bursts(&mut self, share: &mut Share<L>, due: u32) -> Turn
+        requires { share.old.worker < self.old.journal.workers }
+        ensures world { self.new ≡ after_carried self.old share.old.worker share.old.burst due }
+        ensures answer { result ≡ answer_carried self.old share.old.worker share.old.burst due }
+        ensures share { CountsRows self.old self.new share.old share.new }
+    {
+        let answer = self.carry(share);
+        if is_done(answer) {
+            self.carry_again(share, share.burst(), due)
+        } else {
+            answer
+        }
+    }
+
+    // Whether the collector's cycle has ended.
+    pub(crate) fn is_idle(&self) -> bool
+        ensures { result ≡ is_idle (phase_of self.now) }
+    {
+        is_idle(self.world.phase())
+    }
+
+    // So many collector turns at most, until a cycle ends, each if the world is running.
+    fn end_cycle(&mut self, share: &mut Share<L>, most: u32)
+        requires { share.old.worker < self.old.journal.workers }
+        ensures world { self.new ≡ cycled self.old share.old.worker most }
+        ensures share { CountsRows self.old self.new share.old share.new }
+    {
+        for _turn in 0..most {
+            if self.is_idle() {
+                return;
+            }
+            self.sweep_once(share);
+        }
+    }
+
+    // A collector's turn and, where it was done, so many more at most.
+    fn collect_cycle(&mut self, share: &mut Share<L>, most: u32) -> Turn
+        requires { share.old.worker < self.old.journal.workers }
+        ensures world { self.new ≡ cycled_after result (collected self.old share.old.worker) share.old.worker most }
         ensures answer { result ≡ collected_answer self.old share.old.worker }
         ensures share { CountsRows self.old self.new share.old share.new }
     {
         let answer = self.collect(share);
         match answer {
-            Turn::Done => self.sweep(share, extra),
+            Turn::Done => self.end_cycle(share, most),
             Turn::NotReady | Turn::Stopped | Turn::Fault(_) | Turn::OutputFull | Turn::StepLimit =>
                 {}
         }
@@ -189,28 +281,29 @@ impl<L: Ledger> Shared<L> {
     }
 
     // One turn of the share's role, by a worker that the journal knows.
-    fn turn_of_role(&mut self, share: &mut Share<L>) -> Turn
+    fn turn_of_role(&mut self, share: &mut Share<L>, due: u32) -> Turn
         requires { share.old.worker < self.old.journal.workers }
-        ensures world { self.new ≡ after_known self.old share.old.role share.old.worker share.old.extra }
-        ensures answer { result ≡ answer_known self.old share.old.role share.old.worker share.old.extra }
+        ensures world { self.new ≡ after_known self.old share.old.role share.old.worker share.old.burst due }
+        ensures answer { result ≡ answer_known self.old share.old.role share.old.worker share.old.burst due }
         ensures share { CountsRows self.old self.new share.old share.new }
     {
-        let extra = share.extra();
+        let Burst { extra, sweep, .. } = share.burst();
         match share.role() {
-            Role::Collector => self.collect_and_sweep(share, extra),
-            Role::Carrier | Role::Both { .. } => self.rounds(share, extra),
+            Role::Collector => self.collect_cycle(share, sweep),
+            Role::Carrier => self.carry_in_bursts(share, due),
+            Role::Both { .. } => self.rounds(share, extra),
         }
     }
 
     // The same by any worker.
     #[tactic(auto, unfolding(crate::specs::Roles::after_role, crate::specs::Roles::answer_role))]
-    fn turn_if_known(&mut self, share: &mut Share<L>) -> Turn
-        ensures world { self.new ≡ after_role self.old share.old.role share.old.worker share.old.extra }
-        ensures answer { result ≡ answer_role self.old share.old.role share.old.worker share.old.extra }
+    fn turn_if_known(&mut self, share: &mut Share<L>, due: u32) -> Turn
+        ensures world { self.new ≡ after_role self.old share.old.role share.old.worker share.old.burst due }
+        ensures answer { result ≡ answer_role self.old share.old.role share.old.worker share.old.burst due }
         ensures share { CountsRows self.old self.new share.old share.new }
     {
         if share.worker() < self.world.journal().workers() {
-            self.turn_of_role(share)
+            self.turn_of_role(share, due)
         } else {
             Turn::NotReady
         }
@@ -219,14 +312,16 @@ impl<L: Ledger> Shared<L> {
     /// One turn of the share's role, by the share's worker. A round of `Both` and `Carrier` is a turn of the picked thread,
     /// `NotReady` where there is none; after a done one `Both` takes its collector turns, each if the world is running. A
     /// round of a `Collector` is a collector turn, `NotReady` where the last row is the collector's. Where the first round is
-    /// done, so many more follow as the share has extra ones, until one isn't done; the collector's each if the world is
-    /// running. `Done` where they ended with nobody ready. The share counts the rows that were added. A worker that isn't
-    /// below the journal's number of workers does nothing, `NotReady`.
-    pub fn turn_as(&mut self, share: &mut Share<L>) -> Turn
-        ensures world { self.new ≡ after_role self.old share.old.role share.old.worker share.old.extra }
-        ensures answer { result ≡ answer_role self.old share.old.role share.old.worker share.old.extra }
+    /// done, so many more follow as the share's burst has extra ones, until one isn't done. A carrier makes them so often
+    /// again as its burst says, each time only if all were done and the next birth is below `due`, from which on a collection
+    /// is due. The collector's are as many as its burst's sweep at most, until a cycle ends, each if the world is running.
+    /// `Done` where they ended with nobody ready. The share counts the rows that were added. A worker that isn't below the
+    /// journal's number of workers does nothing, `NotReady`.
+    pub fn turn_as(&mut self, share: &mut Share<L>, due: u32) -> Turn
+        ensures world { self.new ≡ after_role self.old share.old.role share.old.worker share.old.burst due }
+        ensures answer { result ≡ answer_role self.old share.old.role share.old.worker share.old.burst due }
         ensures takes { Takes self.old self.new result share.old share.new }
     {
-        self.turn_if_known(share)
+        self.turn_if_known(share, due)
     }
 }

@@ -10,7 +10,7 @@ use Rattle.join.specs.ReadBack.{cell_from}
 use Rattle.join.proofs.ObjectsRead.{holding}
 use Rattle.instructions.specs.HeapsAgree.{is_taken}
 
-is_there : {K : Type 0} (cells : List Cell) (objects : List (Option (StoredObject K))) (c b : ℕ) (x : Colour)
+pub is_there : {K : Type 0} (cells : List Cell) (objects : List (Option (StoredObject K))) (c b : ℕ) (x : Colour)
     → map is_taken cells ≡ map is_some objects → cell_at cells c ≡ Taken b x → is_some (object_if (slice_get objects c)) ≡ true
 is_there [] objects c b x taken held = absurd (cc)
 is_there (z ∷ cells) [] c b x taken held = absurd (cc)

@@ -24,6 +24,7 @@ mod FieldLemmas
 pub mod FieldsShown
 pub mod FirstTurnLemmas
 pub mod HeldLemmas
+pub mod HeldShown
 pub mod CreatedLemmas
 pub mod DenyingLemmas
 pub mod InitialisingAgreement
@@ -51,6 +52,7 @@ pub mod ObjectCallAgreement
 pub mod OpeningClaims
 pub mod OpeningState
 pub mod OwnWords
+pub mod PlainRunLemmas
 pub mod PrintLemmas
 pub mod PushLemmas
 pub mod ReachedLemmas
@@ -66,8 +68,10 @@ pub mod ShownLemmas
 pub mod Silent
 pub mod SelectedRows
 pub mod SelectorsCalled
+pub mod StayingInMethod
 pub mod Stepping
 pub mod StartAgreement
+pub mod StaticsShown
 pub mod StartingLemmas
 pub mod StoredLemmas
 pub mod ThreadLemmas

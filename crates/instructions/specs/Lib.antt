@@ -9,6 +9,8 @@ pub mod HeapThreads
 pub mod FirstTurns
 pub mod Heaps
 pub mod HeapsAgree
+pub mod HeldOnCells
+pub mod HeldViews
 pub mod Initialising
 pub mod InitialisingByNumbers
 pub mod Leaving
@@ -18,9 +20,11 @@ pub mod MonitorsByNumbers
 pub mod NamedThings
 pub mod Operated
 pub mod OwnCalls
+pub mod PlainRuns
 pub mod ReturnsByNumbers
 pub mod Shown
 pub mod Starting
+pub mod StaticKeys
 pub mod Threads
 pub mod Switching
 pub mod Throwing

@@ -13,6 +13,7 @@ mod exchanges;
 mod fields;
 mod first_turns;
 mod heaps;
+pub mod held;
 mod initialising;
 mod invoking;
 pub mod kinds;

@@ -1,4 +1,5 @@
 pub mod BodyLemmas
+pub mod CatchLemmas
 pub mod DeclarationLemmas
 pub mod LabelLemmas
 pub mod MethodLemmas

@@ -1,3 +1,5 @@
 pub mod Bodies
+pub mod Classes
+pub mod Locals
 pub mod Statements
 pub mod Switches

@@ -148,8 +148,7 @@ pub fn end_of(class: ClassFlags, statement: Statement<'_>) -> Result<(), Fault>
     ensures { MatchResult result (λ _. is_end (Some (statement.entry.first.now ∷ statement.entry.operands)) ≡ true) (λ _. is_end (Some (statement.entry.first.now ∷ statement.entry.operands)) ≡ false) }
 {
     if statement.first == b".end".as_slice() {
-        end(statement.operands)?;
-        return Ok(());
+        return ends_method(statement.operands);
     }
     if statement.first == b".method".as_slice() {
         return Err(other_fault(class, statement));
@@ -162,8 +161,18 @@ pub fn end_of(class: ClassFlags, statement: Statement<'_>) -> Result<(), Fault>
 fn end(operands: Words<'_>) -> Result<Part, Fault>
     ensures { MatchResult result (λ part. Says None (Some (codes ".end" ∷ operands.entry)) part) (λ _. SaysNothing None (Some (codes ".end" ∷ operands.entry))) }
 {
+    match ends_method(operands) {
+        Ok(()) => Ok(Part::End),
+        Err(fault) => Err(fault),
+    }
+}
+
+/// That `method` stands behind `.end`, alone.
+fn ends_method(operands: Words<'_>) -> Result<(), Fault>
+    ensures { MatchResult result (λ _. is_end (Some (codes ".end" ∷ operands.entry)) ≡ true) (λ _. is_end (Some (codes ".end" ∷ operands.entry)) ≡ false) }
+{
     if only(operands)? == b"method".as_slice() {
-        Ok(Part::End)
+        Ok(())
     } else {
         Err(Fault::Operand)
     }

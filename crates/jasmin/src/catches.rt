@@ -1,8 +1,9 @@
 //! The rows of a method's exception table.
-ghost use Rattle.std.specs.Prelude.{◌≡◌, ◌≢◌, [], ◌∷◌, None, Some, MatchResult};
+ghost use Rattle.std.specs.Prelude.{◌≡◌, ◌≢◌, [], ◌∷◌, None, Some, MatchResult, MatchOption, ◌<◌, length};
 ghost use Rattle.std.specs.Prelude.{◌&&◌, codes};
+ghost use Rattle.std.specs.Option.{option_map};
 ghost use Rattle.std.specs.Str.{bytes_eq};
-ghost use Rattle.model.specs.Texts.Methods.{catch_of, catch_class};
+ghost use Rattle.model.specs.Texts.Methods.{catch_of, catch_class, row_with};
 ghost use Rattle.model.specs.Texts.Names.{is_part};
 
 use crate::errors::Fault;
@@ -29,10 +30,16 @@ struct CatchWords<'a> {
 pub fn catch_row(alloc: Global, operands: Words<'_>) -> Result<CatchRow, Fault>
     ensures { MatchResult result (λ row. catch_of operands.entry ≡ Some row) (λ e. e ≢ Fault.Memory → catch_of operands.entry ≡ None) }
 {
-    let words = catch_words(operands)?;
-    if !has_form(words) {
-        return Err(Fault::Operand);
+    match catch_words(operands) {
+        Some(words) if has_form(words) => row_of(alloc, words),
+        _ => Err(Fault::Operand),
     }
+}
+
+/// The row that words of its form spell.
+fn row_of(alloc: Global, words: CatchWords<'_>) -> Result<CatchRow, Fault>
+    ensures { MatchResult result (λ row. option_map (row_with words.entry.start.now words.entry.end.now words.entry.handler.now) (catch_class words.entry.class.now) ≡ Some row) (λ e. e ≢ Fault.Memory → option_map (row_with words.entry.start.now words.entry.end.now words.entry.handler.now) (catch_class words.entry.class.now) ≡ None) }
+{
     let class = catch_class(alloc, words.class)?;
     Ok(CatchRow {
         class,
@@ -42,18 +49,26 @@ pub fn catch_row(alloc: Global, operands: Words<'_>) -> Result<CatchRow, Fault>
     })
 }
 
-fn catch_words<'a>(mut operands: Words<'a>) -> Result<CatchWords<'a>, Fault>
-    ensures { MatchResult result (λ w. operands.entry ≡ w.class.now ∷ w.from.now ∷ w.start.now ∷ w.to.now ∷ w.end.now ∷ w.using.now ∷ w.handler.now ∷ []) (λ _. catch_of operands.entry ≡ None) }
+/// The next two words.
+fn next_two<'a>(operands: &mut Words<'a>) -> Option<(&'a [u8], &'a [u8])>
+    ensures { MatchOption result (length operands.old < 2) (λ words. operands.old ≡ words.0.now ∷ words.1.now ∷ operands.new) }
 {
-    let class = operands.next_word().ok_or(Fault::Operand)?;
-    let from = operands.next_word().ok_or(Fault::Operand)?;
-    let start = operands.next_word().ok_or(Fault::Operand)?;
-    let to = operands.next_word().ok_or(Fault::Operand)?;
-    let end = operands.next_word().ok_or(Fault::Operand)?;
-    let using = operands.next_word().ok_or(Fault::Operand)?;
-    let handler = operands.next_word().ok_or(Fault::Operand)?;
+    let first = operands.next_word()?;
+    let second = operands.next_word()?;
+    Some((first, second))
+}
+
+/// The seven words of a row.
+#[tactic(auto, using(crate::proofs::CatchLemmas::not_seven))]
+fn catch_words<'a>(mut operands: Words<'a>) -> Option<CatchWords<'a>>
+    ensures { MatchOption result (catch_of operands.entry ≡ None) (λ w. operands.entry ≡ w.class.now ∷ w.from.now ∷ w.start.now ∷ w.to.now ∷ w.end.now ∷ w.using.now ∷ w.handler.now ∷ []) }
+{
+    let class = operands.next_word()?;
+    let (from, start) = next_two(&mut operands)?;
+    let (to, end) = next_two(&mut operands)?;
+    let (using, handler) = next_two(&mut operands)?;
     match operands.next_word() {
-        None => Ok(CatchWords {
+        None => Some(CatchWords {
             class,
             from,
             start,
@@ -62,7 +77,7 @@ fn catch_words<'a>(mut operands: Words<'a>) -> Result<CatchWords<'a>, Fault>
             using,
             handler,
         }),
-        Some(_) => Err(Fault::Operand),
+        Some(_) => None,
     }
 }
 

@@ -7,7 +7,7 @@ ghost use Rattle.model.specs.Texts.Heads.{field_words, field_of, constant_of, va
 ghost use Rattle.model.specs.Texts.Names.{is_field_name};
 
 use crate::errors::Fault;
-use crate::flags::{field_flags_agree, with_flag};
+use crate::flags::{STATIC, field_flags_agree, with_flag};
 use crate::operands::only_number;
 use bitflags::Flags;
 use jasmin_words::statements::Statement;
@@ -107,7 +107,7 @@ fn constant_of(
 fn value_of(flags: u16, descriptor: &[u8], number: Words<'_>) -> Result<Constant, Fault>
     ensures { MatchResult result (λ v. value_of (has flags 0x0008) descriptor.now number.entry ≡ Some v) (λ _. value_of (has flags 0x0008) descriptor.now number.entry ≡ None) }
 {
-    let is_static = flags & 0x0008 != 0;
+    let is_static = flags & STATIC != 0;
     if is_static && is_int_type(descriptor) {
         let n = only_number(number, -0x8000_0000, 0x7fff_ffff)?;
         return Ok(Constant::Int(n as i32));

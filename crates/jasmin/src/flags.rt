@@ -8,6 +8,29 @@ use crate::errors::Fault;
 use crate::tables::named;
 use jasmin_words::words::Words;
 
+/// JVMS 4.1, 4.5, 4.6
+pub const PUBLIC: u16 = 0x0001;
+
+pub const STATIC: u16 = 0x0008;
+
+pub const FINAL: u16 = 0x0010;
+
+pub const INTERFACE: u16 = 0x0200;
+
+pub const ABSTRACT: u16 = 0x0400;
+
+/// What a text's interface has: INTERFACE and ABSTRACT.
+pub const OF_INTERFACE: u16 = 0x0600;
+
+/// A method with one of these, NATIVE and ABSTRACT, has no code.
+pub const WITHOUT_CODE: u16 = 0x0500;
+
+/// What each field of an interface has: PUBLIC, STATIC and FINAL.
+const OF_INTERFACE_FIELD: u16 = 0x0019;
+
+/// What no abstract method has: PRIVATE, STATIC, FINAL, SYNCHRONIZED and NATIVE.
+const NEVER_ABSTRACT: u16 = 0x013a;
+
 /// The words behind a directive that takes flags and one word more: the flags, which a table lists and of which none
 /// is given twice, and that last word.
 pub fn flags_and_word<'a>(
@@ -40,20 +63,20 @@ pub fn with_flag(table: &[(&str, u16)], flags: u16, word: &[u8]) -> Result<u16, 
 pub fn class_flags_agree(flags: u16) -> bool
     ensures { result ≡ class_flags_agree flags }
 {
-    !(flags & 0x0010 != 0 && flags & 0x0400 != 0)
+    !(flags & FINAL != 0 && flags & ABSTRACT != 0)
 }
 
 /// Whether a field may have these flags together, in a class with those.
 pub fn field_flags_agree(class: u16, flags: u16) -> bool
     ensures { result ≡ field_flags_agree class flags }
 {
-    class & 0x0200 == 0 || flags & 0x0019 == 0x0019
+    class & INTERFACE == 0 || flags & OF_INTERFACE_FIELD == OF_INTERFACE_FIELD
 }
 
 /// Whether a method may have these flags together, in a class with those.
 pub fn method_flags_agree(class: u16, flags: u16) -> bool
     ensures { result ≡ method_flags_agree class flags }
 {
-    !(flags & 0x0400 != 0 && flags & 0x013a != 0)
-        && (class & 0x0200 == 0 || (flags & 0x0001 != 0 && flags & 0x0400 != 0))
+    !(flags & ABSTRACT != 0 && flags & NEVER_ABSTRACT != 0)
+        && (class & INTERFACE == 0 || (flags & PUBLIC != 0 && flags & ABSTRACT != 0))
 }

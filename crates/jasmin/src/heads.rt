@@ -6,7 +6,9 @@ ghost use Rattle.model.specs.Texts.Flags.{has, method_flags_agree};
 ghost use Rattle.model.specs.Texts.Names.{is_class_name, is_method_name};
 
 use crate::errors::Fault;
-use crate::flags::{class_flags_agree, flags_and_word, method_flags_agree};
+use crate::flags::{
+    INTERFACE, OF_INTERFACE, STATIC, class_flags_agree, flags_and_word, method_flags_agree,
+};
 use crate::operands::only;
 use crate::signatures::{Signature, cut_signature};
 use bitflags::Flags;
@@ -56,7 +58,7 @@ fn interface_with(flags: u16, name: &[u8]) -> Result<ClassHead<'_>, Fault>
 {
     if is_class_name(name) {
         Ok(ClassHead {
-            flags: ClassFlags::from_bits_retain(flags | 0x0600),
+            flags: ClassFlags::from_bits_retain(flags | OF_INTERFACE),
             name,
         })
     } else {
@@ -83,7 +85,7 @@ pub fn super_name(class: ClassFlags, statement: Statement<'_>) -> Result<&[u8], 
 fn is_superclass(class: ClassFlags, name: &[u8]) -> bool
     ensures { result ≡ (is_class_name name.now && (not (has class.0 0x0200) || bytes_eq name.now (codes "java/lang/Object"))) }
 {
-    is_class_name(name) && (class.bits() & 0x0200 == 0 || name == b"java/lang/Object".as_slice())
+    is_class_name(name) && (class.bits() & INTERFACE == 0 || name == b"java/lang/Object".as_slice())
 }
 
 /// The name of an `.implements`.
@@ -151,7 +153,7 @@ fn is_method(class: ClassFlags, flags: u16, signature: Signature<'_>) -> bool
 fn units_fit(flags: u16, units: usize) -> bool
     ensures { result ≡ nat_le (units_with_object flags units) 255 }
 {
-    if flags & 0x0008 != 0 {
+    if flags & STATIC != 0 {
         units <= 255
     } else {
         units < 255

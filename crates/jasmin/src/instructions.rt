@@ -1,6 +1,8 @@
 //! Instructions.
 ghost use Rattle.std.specs.Prelude.{◌≡◌, ◌≢◌, ◌∷◌, pos, None, Some, MatchResult, IfOk};
 ghost use Rattle.std.specs.Option.{option_and_then};
+ghost use Rattle.model.specs.declared.mnemonics.Mnemonic.TheVariants as variant;
+ghost use Rattle.jasmin.specs.Locals.{local_instruction};
 ghost use Rattle.model.specs.Texts.Instructions.{instruction_by, wide_by, wide_instruction, operand_of, field_of, interface_call};
 ghost use Rattle.model.specs.Texts.Numbers.{number_in};
 ghost use Rattle.model.specs.Texts.Operands.{only, both, method_named, class_named, type_named, label_named, primitives};
@@ -17,9 +19,10 @@ use jasmin_words::words::Words;
 use model::descriptors::is_array_descriptor;
 use model::good_names::{is_class_name, is_part};
 use model::instructions::{
-    ArrayOperation, ClassOperation, Constant, Instruction, Invocation, Primitive, Width,
+    Access, ArrayOperation, ClassOperation, Constant, Instruction, Invocation, Primitive, Test,
+    Width,
 };
-use model::mnemonics::Mnemonic;
+use model::mnemonics::{LocalMnemonic, Mnemonic};
 use model::names::{Member, Name};
 use model::trees::Written;
 use std::alloc::Global;
@@ -46,41 +49,20 @@ pub fn instruction_by(
         Mnemonic::Null => alone(Instruction::Constant(Constant::Null), operands),
         Mnemonic::SmallInt(n) => alone(Instruction::Constant(Constant::SmallInt(n)), operands),
         Mnemonic::SmallLong(n) => alone(Instruction::Constant(Constant::SmallLong(n)), operands),
-        Mnemonic::Byte => {
-            let n = only_number(operands, -0x80, 0x7f)?;
-            Ok(Instruction::Constant(Constant::Byte(n as i8)))
-        }
-        Mnemonic::Short => {
-            let n = only_number(operands, -0x8000, 0x7fff)?;
-            Ok(Instruction::Constant(Constant::Short(n as i16)))
-        }
-        Mnemonic::Int(width) => {
-            let n = only_number(operands, -0x8000_0000, 0x7fff_ffff)?;
-            Ok(Instruction::Constant(Constant::Int(width, n as i32)))
-        }
-        Mnemonic::Long => {
-            let n = only_number(operands, i64::MIN, i64::MAX)?;
-            Ok(Instruction::Constant(Constant::Long(n)))
-        }
-        Mnemonic::Local(m) => Ok(Instruction::Local(local_by(Width::Narrow, m, operands)?)),
+        Mnemonic::Byte => byte(operands),
+        Mnemonic::Short => short(operands),
+        Mnemonic::Int(width) => int(width, operands),
+        Mnemonic::Long => long(operands),
+        Mnemonic::Local(m) => local(Width::Narrow, m, operands),
         Mnemonic::FirstLocal(access) => alone(Instruction::Local(access), operands),
         Mnemonic::Stack(operation) => alone(Instruction::Stack(operation), operands),
         Mnemonic::Number(operation) => alone(Instruction::Number(operation), operands),
-        Mnemonic::Branch(test) => {
-            let label = label_named(alloc, only(operands)?)?;
-            Ok(Instruction::Branch(test, label))
-        }
+        Mnemonic::Branch(test) => branch(alloc, test, operands),
         Mnemonic::Return(kind) => alone(Instruction::Return(kind), operands),
-        Mnemonic::Static(access) => Ok(Instruction::Static(access, field_of(alloc, operands)?)),
-        Mnemonic::Field(access) => Ok(Instruction::Field(access, field_of(alloc, operands)?)),
-        Mnemonic::NewArray => {
-            let primitive = named(&PRIMITIVES, only(operands)?).ok_or(Fault::Operand)?;
-            Ok(Instruction::Array(ArrayOperation::New(primitive)))
-        }
-        Mnemonic::NewArrayOf => {
-            let class = type_named(alloc, only(operands)?)?;
-            Ok(Instruction::Array(ArrayOperation::NewOf(class)))
-        }
+        Mnemonic::Static(access) => static_access(alloc, access, operands),
+        Mnemonic::Field(access) => field_access(alloc, access, operands),
+        Mnemonic::NewArray => new_array(operands),
+        Mnemonic::NewArrayOf => new_array_of(alloc, operands),
         Mnemonic::ArrayLength => alone(Instruction::Array(ArrayOperation::Length), operands),
         Mnemonic::ArrayLoad(kind) => alone(
             Instruction::Array(ArrayOperation::Load(kind)),
@@ -89,21 +71,105 @@ pub fn instruction_by(
         Mnemonic::ArrayStore(kind) => {
             alone(Instruction::Array(ArrayOperation::Store(kind)), operands)
         }
-        Mnemonic::Class(operation) => {
-            let class = operand_of(alloc, operation, only(operands)?)?;
-            Ok(Instruction::Class(operation, class))
-        }
-        Mnemonic::Invoke(invocation) => {
-            let method = method_named(alloc, only(operands)?)?;
-            Ok(Instruction::Invoke(invocation, method))
-        }
-        Mnemonic::InvokeInterface => {
-            let (word, count) = both(operands)?;
-            interface_call(alloc, word, count)
-        }
+        Mnemonic::Class(operation) => class_operation(alloc, operation, operands),
+        Mnemonic::Invoke(invocation) => invoke(alloc, invocation, operands),
+        Mnemonic::InvokeInterface => invoke_interface(alloc, operands),
         Mnemonic::Throw => alone(Instruction::Throw, operands),
         Mnemonic::Monitor(operation) => alone(Instruction::Monitor(operation), operands),
     }
+}
+
+/// The instruction of `bipush`, by its operands, and so on below.
+fn byte(operands: Words<'_>) -> Result<Written, Fault>
+    ensures { MatchResult result (λ i. instruction_by variant.Byte operands.entry ≡ Some i) (λ _. instruction_by variant.Byte operands.entry ≡ None) }
+{
+    let n = only_number(operands, -0x80, 0x7f)?;
+    Ok(Instruction::Constant(Constant::Byte(n as i8)))
+}
+
+fn short(operands: Words<'_>) -> Result<Written, Fault>
+    ensures { MatchResult result (λ i. instruction_by variant.Short operands.entry ≡ Some i) (λ _. instruction_by variant.Short operands.entry ≡ None) }
+{
+    let n = only_number(operands, -0x8000, 0x7fff)?;
+    Ok(Instruction::Constant(Constant::Short(n as i16)))
+}
+
+fn int(width: Width, operands: Words<'_>) -> Result<Written, Fault>
+    ensures { MatchResult result (λ i. instruction_by (variant.Int width) operands.entry ≡ Some i) (λ _. instruction_by (variant.Int width) operands.entry ≡ None) }
+{
+    let n = only_number(operands, -0x8000_0000, 0x7fff_ffff)?;
+    Ok(Instruction::Constant(Constant::Int(width, n as i32)))
+}
+
+fn long(operands: Words<'_>) -> Result<Written, Fault>
+    ensures { MatchResult result (λ i. instruction_by variant.Long operands.entry ≡ Some i) (λ _. instruction_by variant.Long operands.entry ≡ None) }
+{
+    let n = only_number(operands, i64::MIN, i64::MAX)?;
+    Ok(Instruction::Constant(Constant::Long(n)))
+}
+
+fn local(width: Width, mnemonic: LocalMnemonic, operands: Words<'_>) -> Result<Written, Fault>
+    ensures { MatchResult result (λ i. local_instruction width mnemonic operands.entry ≡ Some i) (λ _. local_instruction width mnemonic operands.entry ≡ None) }
+{
+    Ok(Instruction::Local(local_by(width, mnemonic, operands)?))
+}
+
+fn branch(alloc: Global, test: Test, operands: Words<'_>) -> Result<Written, Fault>
+    ensures { MatchResult result (λ i. instruction_by (variant.Branch test) operands.entry ≡ Some i) (λ e. e ≢ Fault.Memory → instruction_by (variant.Branch test) operands.entry ≡ None) }
+{
+    let label = label_named(alloc, only(operands)?)?;
+    Ok(Instruction::Branch(test, label))
+}
+
+fn static_access(alloc: Global, access: Access, operands: Words<'_>) -> Result<Written, Fault>
+    ensures { MatchResult result (λ i. instruction_by (variant.Static access) operands.entry ≡ Some i) (λ e. e ≢ Fault.Memory → instruction_by (variant.Static access) operands.entry ≡ None) }
+{
+    Ok(Instruction::Static(access, field_of(alloc, operands)?))
+}
+
+fn field_access(alloc: Global, access: Access, operands: Words<'_>) -> Result<Written, Fault>
+    ensures { MatchResult result (λ i. instruction_by (variant.Field access) operands.entry ≡ Some i) (λ e. e ≢ Fault.Memory → instruction_by (variant.Field access) operands.entry ≡ None) }
+{
+    Ok(Instruction::Field(access, field_of(alloc, operands)?))
+}
+
+fn new_array(operands: Words<'_>) -> Result<Written, Fault>
+    ensures { MatchResult result (λ i. instruction_by variant.NewArray operands.entry ≡ Some i) (λ _. instruction_by variant.NewArray operands.entry ≡ None) }
+{
+    let primitive = named(&PRIMITIVES, only(operands)?).ok_or(Fault::Operand)?;
+    Ok(Instruction::Array(ArrayOperation::New(primitive)))
+}
+
+fn new_array_of(alloc: Global, operands: Words<'_>) -> Result<Written, Fault>
+    ensures { MatchResult result (λ i. instruction_by variant.NewArrayOf operands.entry ≡ Some i) (λ e. e ≢ Fault.Memory → instruction_by variant.NewArrayOf operands.entry ≡ None) }
+{
+    let class = type_named(alloc, only(operands)?)?;
+    Ok(Instruction::Array(ArrayOperation::NewOf(class)))
+}
+
+fn class_operation(
+    alloc: Global,
+    operation: ClassOperation,
+    operands: Words<'_>,
+) -> Result<Written, Fault>
+    ensures { MatchResult result (λ i. instruction_by (variant.Class operation) operands.entry ≡ Some i) (λ e. e ≢ Fault.Memory → instruction_by (variant.Class operation) operands.entry ≡ None) }
+{
+    let class = operand_of(alloc, operation, only(operands)?)?;
+    Ok(Instruction::Class(operation, class))
+}
+
+fn invoke(alloc: Global, invocation: Invocation, operands: Words<'_>) -> Result<Written, Fault>
+    ensures { MatchResult result (λ i. instruction_by (variant.Invoke invocation) operands.entry ≡ Some i) (λ e. e ≢ Fault.Memory → instruction_by (variant.Invoke invocation) operands.entry ≡ None) }
+{
+    let method = method_named(alloc, only(operands)?)?;
+    Ok(Instruction::Invoke(invocation, method))
+}
+
+fn invoke_interface(alloc: Global, operands: Words<'_>) -> Result<Written, Fault>
+    ensures { MatchResult result (λ i. instruction_by variant.InvokeInterface operands.entry ≡ Some i) (λ e. e ≢ Fault.Memory → instruction_by variant.InvokeInterface operands.entry ≡ None) }
+{
+    let (word, count) = both(operands)?;
+    interface_call(alloc, word, count)
 }
 
 /// The instruction behind `wide`, which asks for the wide form of a local.
@@ -112,7 +178,7 @@ pub fn wide_instruction(mut operands: Words<'_>) -> Result<Written, Fault>
 {
     let word = operands.next_word().ok_or(Fault::Operand)?;
     match mnemonic(word) {
-        Some(Mnemonic::Local(m)) => Ok(Instruction::Local(local_by(Width::Wide, m, operands)?)),
+        Some(Mnemonic::Local(m)) => local(Width::Wide, m, operands),
         Some(_) => Err(Fault::Operand),
         None => Err(Fault::Mnemonic),
     }

@@ -6,11 +6,11 @@
 mod bodies;
 mod catches;
 mod errors;
-mod fault_lines;
 mod fields;
 mod flags;
 mod heads;
 mod instructions;
+mod label_lines;
 mod labels;
 mod laws;
 mod locals;

@@ -7,13 +7,15 @@ ghost use Rattle.model.specs.Texts.Flags.{has};
 ghost use Rattle.model.specs.Texts.Heads.{MethodHead as Head};
 ghost use Rattle.model.specs.Texts.Methods.{body_with, method_without};
 ghost use Rattle.jasmin.specs.Statements.{ahead};
-ghost use Rattle.jasmin.specs.Bodies.{block_of, behind_block, first_parts, first_body, first_method};
+ghost use Rattle.jasmin.specs.Bodies.{Says, SaysNothing, opened, block_of, behind_block, first_parts, first_body, first_method};
+ghost use Rattle.jasmin.specs.Classes.{class_under};
 
 use crate::bodies::{Given, Part, end_of, next_of, part_of};
 use crate::errors::{Fault, TextError};
-use crate::fault_lines::told;
 use crate::fields::field;
-use crate::heads::{MethodHead, class_head, interface_name, method_head, super_name};
+use crate::flags::WITHOUT_CODE;
+use crate::heads::{ClassHead, MethodHead, class_head, interface_name, method_head, super_name};
+use crate::label_lines::LabelLines;
 use crate::switches::OpenSwitch;
 use crate::uses::labels_agree;
 use bitflags::Flags;
@@ -30,27 +32,45 @@ pub fn read(alloc: Global, text: &[u8]) -> Result<ClassTree, TextError>
     ensures { MatchResult result (λ tree. tree_of text.now ≡ Some tree) (λ e. e.fault ≢ Fault.Memory → tree_of text.now ≡ None) }
 {
     let mut statements = Statements::new(text);
-    match class_tree(alloc, &mut statements) {
+    let mut labels = LabelLines::new(alloc);
+    match class_tree(alloc, &mut statements, &mut labels) {
         Ok(tree) => Ok(tree),
         Err(fault) => {
             let line = statements.line();
-            Err(told(alloc, text, TextError { line, fault }))
+            Err(labels.told(alloc, text, TextError { line, fault }))
         }
     }
 }
 
 /// The class that statements spell.
-fn class_tree(alloc: Global, statements: &mut Statements<'_>) -> Result<ClassTree, Fault>
+fn class_tree(
+    alloc: Global,
+    statements: &mut Statements<'_>,
+    labels: &mut LabelLines,
+) -> Result<ClassTree, Fault>
     ensures { MatchResult result (λ tree. class_tree statements.old ≡ Some tree) (λ e. e ≢ Fault.Memory → class_tree statements.old ≡ None) }
 {
     let first = next_of(statements)?.ok_or(Fault::Statement)?;
     let head = class_head(first)?;
     let second = next_of(statements)?.ok_or(Fault::Statement)?;
     let superclass = super_name(head.flags, second)?;
+    members_behind(alloc, head, superclass, statements, labels)
+}
+
+/// The class of a head and a superclass, by the statements of its interfaces, fields and methods.
+fn members_behind(
+    alloc: Global,
+    head: ClassHead<'_>,
+    superclass: &[u8],
+    statements: &mut Statements<'_>,
+    labels: &mut LabelLines,
+) -> Result<ClassTree, Fault>
+    ensures { MatchResult result (λ tree. class_under head.entry.flags head.entry.name.now superclass.now statements.old ≡ Some tree) (λ e. e ≢ Fault.Memory → class_under head.entry.flags head.entry.name.now superclass.now statements.old ≡ None) }
+{
     let third = next_of(statements)?;
     let (interfaces, behind) = interfaces_of(alloc, third, statements)?;
     let (fields, behind) = fields_of(alloc, head.flags, behind, statements)?;
-    let methods = methods_of(alloc, head.flags, behind, statements)?;
+    let methods = methods_of(alloc, head.flags, behind, statements, labels)?;
     Ok(ClassTree {
         flags: head.flags,
         name: Name::copy_of(alloc, head.name)?,
@@ -121,6 +141,7 @@ fn methods_of<'a>(
     class: ClassFlags,
     first: Option<Statement<'a>>,
     statements: &mut Statements<'a>,
+    labels: &mut LabelLines,
 ) -> Result<Vec<MethodTree>, Fault>
     ensures { MatchResult result (λ methods. methods_of class (ahead first.entry statements.old) ≡ Some methods.items) (λ e. e ≢ Fault.Memory → methods_of class (ahead first.entry statements.old) ≡ None) }
 {
@@ -128,7 +149,7 @@ fn methods_of<'a>(
     let mut next = first;
     'rows: while let Some(statement) = next {
         let head = method_head(class, statement)?;
-        let method = method_under(alloc, class, head, statements)?;
+        let method = method_under(alloc, class, head, statements, labels)?;
         methods.push(method)?;
         next = next_of(statements)?;
     }
@@ -142,13 +163,14 @@ fn method_under(
     class: ClassFlags,
     head: MethodHead<'_>,
     statements: &mut Statements<'_>,
+    labels: &mut LabelLines,
 ) -> Result<MethodTree, Fault>
     ensures { MatchResult result (λ method. (first_method (record { flags = head.entry.flags; name = head.entry.name.now; descriptor = head.entry.descriptor.now }) statements.old ≡ Some method) × (statements.new ≡ behind_block statements.old)) (λ e. e ≢ Fault.Memory → first_method (record { flags = head.entry.flags; name = head.entry.name.now; descriptor = head.entry.descriptor.now }) statements.old ≡ None) }
 {
     let name = Name::copy_of(alloc, head.name)?;
     let descriptor = Name::copy_of(alloc, head.descriptor)?;
     let flags = head.flags;
-    if flags.bits() & 0x0500 != 0 {
+    if flags.bits() & WITHOUT_CODE != 0 {
         no_body(class, statements)?;
         return Ok(MethodTree {
             flags,
@@ -157,7 +179,7 @@ fn method_under(
             body: None,
         });
     }
-    let body = body(alloc, class, statements)?;
+    let body = body(alloc, class, statements, labels)?;
     Ok(MethodTree {
         flags,
         name,
@@ -181,11 +203,13 @@ fn body(
     alloc: Global,
     class: ClassFlags,
     statements: &mut Statements<'_>,
+    labels: &mut LabelLines,
 ) -> Result<BodyTree, Fault>
     ensures { MatchResult result (λ body. (first_body statements.old ≡ Some body) × (statements.new ≡ behind_block statements.old)) (λ e. e ≢ Fault.Memory → first_body statements.old ≡ None) }
 {
-    let body = body_parts(alloc, class, statements)?;
+    let body = body_parts(alloc, class, statements, labels)?;
     labels_agree(alloc, body.rows.as_slice(), body.lines.as_slice())?;
+    labels.clear();
     Ok(body)
 }
 
@@ -195,6 +219,7 @@ fn body_parts(
     alloc: Global,
     class: ClassFlags,
     statements: &mut Statements<'_>,
+    labels: &mut LabelLines,
 ) -> Result<BodyTree, Fault>
     ensures { MatchResult result (λ body. (first_parts statements.old ≡ Some body) × (statements.new ≡ behind_block statements.old)) (λ e. e ≢ Fault.Memory → first_parts statements.old ≡ None) }
 {
@@ -204,12 +229,14 @@ fn body_parts(
     let mut lines = Vec::new(alloc);
     let mut open: Option<OpenSwitch> = None;
     'rows: while let Some(statement) = next_of(statements)? {
-        match part_of(
+        match noted_part(
             alloc,
             class,
             given_of(stack, locals),
             open.take(),
             statement,
+            labels,
+            statements.line(),
         )? {
             Part::End => return whole_body(stack, locals, rows, lines),
             Part::StackLimit(n) => {
@@ -230,6 +257,24 @@ fn body_parts(
         }
     }
     Err(Fault::End)
+}
+
+/// What a statement of a body says, in a class with these flags, where a switch may be open; the labels on its line are
+/// noted.
+fn noted_part(
+    alloc: Global,
+    class: ClassFlags,
+    given: Given,
+    current: Option<OpenSwitch>,
+    statement: Statement<'_>,
+    labels: &mut LabelLines,
+    line: usize,
+) -> Result<Part, Fault>
+    ensures { MatchResult result (λ part. Says (opened current) (Some (statement.entry.first.now ∷ statement.entry.operands)) part) (λ e. e ≢ Fault.Memory → SaysNothing (opened current) (Some (statement.entry.first.now ∷ statement.entry.operands))) }
+{
+    let part = part_of(alloc, class, given, current, statement)?;
+    labels.note(&part, line)?;
+    Ok(part)
 }
 
 fn given_of(stack: Option<u16>, locals: Option<u16>) -> Given {

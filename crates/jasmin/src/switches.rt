@@ -53,6 +53,19 @@ pub enum OpenSwitch {
     Lookup(OpenLookup),
 }
 
+impl OpenSwitch {
+    /// The label on the line that was read last, if there is one.
+    pub fn last_label(&self) -> Option<&Name> {
+        match self {
+            OpenSwitch::Table(table) => table.targets.as_slice().last(),
+            OpenSwitch::Lookup(lookup) => match lookup.pairs.as_slice() {
+                [.., (_, label)] => Some(label),
+                [] => None,
+            },
+        }
+    }
+}
+
 /// What a line of a switch says: what is to follow, or by its default the whole instruction.
 #[derive(Drop)]
 pub enum SwitchLine {

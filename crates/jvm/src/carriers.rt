@@ -8,7 +8,7 @@ ghost use Rattle.scheduler.specs.Rounds.{after_rounds};
 ghost use Rattle.scheduler.specs.Workers.{with_workers};
 
 use board::{Board, BoardSeat};
-use hall::{Gate, Hall, HallError, Role, drive};
+use hall::{Burst, Gate, Hall, HallError, Role, drive};
 use model::journals::HeapShape;
 use scheduler::worlds::World;
 use std::alloc::{AllocError, Global};
@@ -17,17 +17,25 @@ use std::sync::Wait;
 use std::sync::ledger::{Blank, Ledger};
 use std::thread::Threads;
 
-/// How many rounds a worker makes at most behind its first one, each time it has the lock.
+/// How many rounds a carrier makes at most behind its first one, before it looks whether a collection is due.
 const EXTRA: u32 = 255;
 
-/// How many rounds a worker makes behind its first one on a heap of this shape: a burst makes an object for an eighth of the
-/// cells at most, so that a small heap isn't full before the collector had its turn.
-fn extra_rounds(shape: HeapShape) -> u32 {
+/// How many rounds it makes at most each time it has the lock, and how many turns the collector.
+const ROUNDS: u32 = 16_384;
+
+/// How many rounds a worker makes behind its first one on a heap of this shape: on a small one a carrier looks sooner whether a
+/// collection is due, so that it isn't full of garbage before.
+fn burst_of(shape: HeapShape) -> Burst {
     let cells = shape
         .small
         .saturating_add(shape.medium)
         .saturating_add(shape.large);
-    EXTRA.min(cells / 8)
+    let extra = EXTRA.min(cells / 16).max(1);
+    Burst {
+        extra,
+        again: ROUNDS / extra,
+        sweep: ROUNDS,
+    }
 }
 
 /// A gate that holds nobody up.
@@ -61,15 +69,14 @@ fn board_of(alloc: Global, workers: usize) -> Result<(Board, Vec<BoardSeat>), Ha
     }
 }
 
-/// The world after the turns of these roles, each in a thread and in bursts of so many rounds behind the first one, until they
-/// end.
+/// The world after the turns of these roles, each in a thread and with this burst, until they end.
 fn shared<L: Ledger + Send + Sync, R: Threads + Wait + Sync>(
     rt: &R,
     alloc: Global,
     blank: Blank,
     world: World,
     roles: &[Role],
-    extra: u32,
+    burst: Burst,
 ) -> Result<World, HallError>
     requires name { blank.name ≡ L.name }
     requires parts { (blank.parts ≡ L.parts) × (blank.parts ≡ length roles.now) }
@@ -77,7 +84,7 @@ fn shared<L: Ledger + Send + Sync, R: Threads + Wait + Sync>(
     ensures head { IfOk result (λ after. head_of after ≡ head_of (with_workers world (length roles.now))) }
     ensures made { IfOk result IsMade }
 {
-    let (hall, shares) = Hall::<L>::in_bursts(alloc, blank, world, roles, extra)?;
+    let (hall, shares) = Hall::<L>::in_bursts(alloc, blank, world, roles, burst)?;
     let (board, seats) = board_of(alloc, roles.len())?;
     let (shares, _seats) = drive(rt, &hall, &board, &Open, shares, seats)?;
     hall.close(shares)
@@ -95,8 +102,8 @@ fn carried_together<R: Threads + Wait + Sync>(
 {
     let roles = roles_of(alloc, carriers)?;
     let blank = Blank::new(roles.len() as u64);
-    let extra = extra_rounds(world.journal().shape());
-    shared::<Brand, R>(rt, alloc, blank, world, roles.as_slice(), extra)
+    let burst = burst_of(world.journal().shape());
+    shared::<Brand, R>(rt, alloc, blank, world, roles.as_slice(), burst)
 }
 
 /// As many rounds as the limit of steps allows, and one more.

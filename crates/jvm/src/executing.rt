@@ -2,6 +2,7 @@
 ghost use Rattle.std.specs.Prelude.{◌≡◌, [], IfOk};
 
 use crate::carriers::carried;
+use crate::endings::{Ending, Exit};
 use crate::explaining::{all_codes, meaning};
 use crate::files::{Files, ReadError};
 use crate::launching::{LaunchError, launch};
@@ -22,42 +23,6 @@ use std::io::{Read, Write};
 use std::sync::Wait;
 use std::thread::Threads;
 
-/// A status, and the line that goes to standard error behind `jvm: `.
-#[derive(Drop)]
-pub struct Ending {
-    pub status: u8,
-    pub line: Option<String>,
-}
-
-impl Ending {
-    /// A good end.
-    pub fn good() -> Ending {
-        Ending {
-            status: 0,
-            line: None,
-        }
-    }
-
-    /// This status and this line; `jvm: memory` where there is no memory for the line.
-    pub fn told(status: u8, line: Result<String, AllocError>) -> Ending {
-        match line {
-            Ok(line) => Ending {
-                status,
-                line: Some(line),
-            },
-            Err(_) => Ending::memory(),
-        }
-    }
-
-    /// Memory ran out: status 6.
-    pub fn memory() -> Ending {
-        Ending {
-            status: 6,
-            line: None,
-        }
-    }
-}
-
 /// The heap of some options.
 fn shape_of(options: &RunOptions) -> HeapShape
     ensures { result ≡ record { small = options.now.small; medium = options.now.medium; large = options.now.large } }
@@ -74,7 +39,10 @@ pub fn read_one<F: Files>(alloc: Global, files: &mut F, name: &String) -> Result
     match files.read(alloc, name.as_str()) {
         Ok(bytes) => Ok(bytes),
         Err(ReadError::Memory) => Err(Ending::memory()),
-        Err(ReadError::Failed) => Err(Ending::told(6, format!(in alloc; "cannot read {name}"))),
+        Err(ReadError::Failed) => Err(Ending::told(
+            Exit::System,
+            format!(in alloc; "cannot read {name}"),
+        )),
     }
 }
 
@@ -103,7 +71,7 @@ pub fn write_one<F: Files>(
 ) -> Result<(), Ending> {
     match files.write(name.as_str(), bytes) {
         Ok(()) => Ok(()),
-        Err(_) => Err(Ending::told(6, format!(in alloc; "cannot write {name}"))),
+        Err(_) => Err(Ending::told(Exit::System, format!(in alloc; "cannot write {name}"))),
     }
 }
 
@@ -118,7 +86,7 @@ fn source_refused(alloc: Global, name: &String, error: &SourceError) -> Ending {
     if lacks_memory {
         Ending::memory()
     } else {
-        Ending::told(2, format!(in alloc; "{name}: {error}"))
+        Ending::told(Exit::Refused, format!(in alloc; "{name}: {error}"))
     }
 }
 
@@ -130,9 +98,12 @@ pub fn refused(alloc: Global, names: &[String], error: &LaunchError) -> Ending {
             None => Ending::memory(),
         },
         LaunchError::Load(LoadError::Memory(_)) => Ending::memory(),
-        LaunchError::Load(error) => Ending::told(2, format!(in alloc; "load: {error}")),
+        LaunchError::Load(error) => Ending::told(Exit::Refused, format!(in alloc; "load: {error}")),
         LaunchError::World(WorldError::Memory) => Ending::memory(),
-        LaunchError::World(error) => Ending::told(2, format!(in alloc; "world: {error}")),
+        LaunchError::World(error) => Ending::told(
+            Exit::Refused,
+            format!(in alloc; "world: {error}"),
+        ),
     }
 }
 
@@ -159,7 +130,7 @@ fn exceptions_told(alloc: Global, world: &World) -> Result<String, AllocError> {
 fn finished(alloc: Global, world: &World) -> Ending {
     match exceptions_told(alloc, world) {
         Ok(lines) if lines.is_empty() => Ending::good(),
-        lines => Ending::told(1, lines),
+        lines => Ending::told(Exit::Exception, lines),
     }
 }
 
@@ -167,15 +138,18 @@ fn finished(alloc: Global, world: &World) -> Ending {
 pub fn ended(alloc: Global, world: &World) -> Ending {
     match (world.fault(), world.status()) {
         (Some((fault, thread)), _) => {
-            Ending::told(3, format!(in alloc; "fault {fault} in thread {thread}"))
+            Ending::told(
+                Exit::Fault,
+                format!(in alloc; "fault {fault} in thread {thread}"),
+            )
         }
         (None, Status::Finished) => finished(alloc, world),
-        (None, Status::Stuck) => Ending::told(5, format!(in alloc; "stuck")),
+        (None, Status::Stuck) => Ending::told(Exit::Stuck, format!(in alloc; "stuck")),
         (None, _) => {
             if world.output_full() {
-                Ending::told(4, format!(in alloc; "output limit"))
+                Ending::told(Exit::Limit, format!(in alloc; "output limit"))
             } else {
-                Ending::told(4, format!(in alloc; "step limit"))
+                Ending::told(Exit::Limit, format!(in alloc; "step limit"))
             }
         }
     }
@@ -204,7 +178,7 @@ fn launched<F: Files>(alloc: Global, options: &RunOptions, files: &mut F) -> Res
 fn write_text<W: Write>(alloc: Global, bytes: &[u8], output: &mut W) -> Result<Ending, Ending> {
     match output.write_all(bytes) {
         Ok(()) => Ok(Ending::good()),
-        Err(_) => Err(Ending::told(6, format!(in alloc; "cannot write -"))),
+        Err(_) => Err(Ending::told(Exit::System, format!(in alloc; "cannot write -"))),
     }
 }
 
@@ -218,13 +192,16 @@ pub fn write_output<W: Write>(alloc: Global, world: &World, output: &mut W) -> R
 fn not_carried(alloc: Global, error: HallError) -> Ending {
     match error {
         HallError::Memory => Ending::memory(),
-        HallError::Thread => Ending::told(6, format!(in alloc; "no thread")),
-        HallError::Roles | HallError::World => Ending::told(6, format!(in alloc; "hall")),
+        HallError::Thread => Ending::told(Exit::System, format!(in alloc; "no thread")),
+        HallError::Roles | HallError::World => Ending::told(
+            Exit::System,
+            format!(in alloc; "hall"),
+        ),
     }
 }
 
 /// Writes the output of a run and then its journal, where one is wanted.
-pub fn written<F: Files, W: Write>(
+fn written<F: Files, W: Write>(
     alloc: Global,
     options: &RunOptions,
     carried: Result<World, HallError>,
@@ -312,7 +289,7 @@ fn explain<W: Write>(
     match code {
         Some(code) => match meaning(code.as_str()) {
             Some(text) => write_text(alloc, text.as_bytes(), output),
-            None => Err(Ending::told(7, format!(in alloc; "no code {code}"))),
+            None => Err(Ending::told(Exit::CommandLine, format!(in alloc; "no code {code}"))),
         },
         None => match all_codes(alloc) {
             Ok(lines) => write_text(alloc, lines.as_str().as_bytes(), output),
@@ -330,9 +307,9 @@ fn either(ending: Result<Ending, Ending>) -> Ending {
 
 /// Writes the line of an ending, if it has one. What can't be written is let go.
 fn tell<E: Write>(errors: &mut E, ending: &Ending) {
-    let line = match (&ending.line, ending.status) {
+    let line = match (&ending.line, ending.exit) {
         (Some(line), _) => line.as_bytes(),
-        (None, 0) => return,
+        (None, Exit::Good) => return,
         (None, _) => b"memory",
     };
     let _ = errors.write_all(b"jvm: ");
@@ -341,8 +318,8 @@ fn tell<E: Write>(errors: &mut E, ending: &Ending) {
 }
 
 /// Does what a command says with files, standard input, output and error, and answers the exit status: 0 where all threads
-/// ended or a file was written, 2 refused input, 3 a fault, 4 a limit, 5 stuck, 6 memory, a thread that can't be started or a
-/// file that can't be read or written. The carriers of a run are threads of the runtime.
+/// ended or a file was written, 1 a thread ended by an exception, 2 refused input, 3 a fault, 4 a limit, 5 stuck, 6 memory, a
+/// thread that can't be started or a file that can't be read or written. The carriers of a run are threads of the runtime.
 pub fn execute<R: Threads + Wait + Sync, F: Files, I: Read, W: Write, E: Write>(
     rt: &R,
     alloc: Global,
@@ -361,5 +338,5 @@ pub fn execute<R: Threads + Wait + Sync, F: Files, I: Read, W: Write, E: Write>(
         Command::Explain(code) => either(explain(alloc, code, output)),
     };
     tell(errors, &ending);
-    ending.status
+    ending.exit.status()
 }

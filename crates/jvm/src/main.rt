@@ -2,26 +2,18 @@
 #![tactic(auto)]
 
 mod carriers;
+mod endings;
 mod executing;
 mod explaining;
-#[cfg(test)]
-mod explaining_tests;
-#[cfg(test)]
-mod family_tests;
 mod files;
-#[cfg(test)]
-mod heap_tests;
 mod launching;
 mod laws;
 mod options;
 mod replaying;
 mod sources;
-#[cfg(test)]
-mod stored_run_tests;
 mod stored_runs;
-#[cfg(test)]
-mod tests;
 
+use crate::endings::Exit;
 use crate::executing::execute;
 use crate::files::SystemFiles;
 use crate::options::{LineError, options};
@@ -31,24 +23,24 @@ use std::sync::Wait;
 use std::thread::Threads;
 use std::{env, io};
 
-/// The status of a command line that stands for no command; what there is to say is said.
-fn refused(rt: &HostRuntime, error: &LineError) -> io::Result<u8> {
+/// The end of a command line that stands for no command; what there is to say is said.
+fn refused(rt: &HostRuntime, error: &LineError) -> io::Result<Exit> {
     match error {
         LineError::Memory => {
             eprintln!(rt; "jvm: memory")?;
-            Ok(6)
+            Ok(Exit::System)
         }
         LineError::Options => {
             eprintln!(rt; "jvm: options")?;
-            Ok(7)
+            Ok(Exit::CommandLine)
         }
         LineError::Words { text, mistake } => {
             if *mistake {
                 eprint!(rt; "{text}")?;
-                Ok(7)
+                Ok(Exit::CommandLine)
             } else {
                 print!(rt; "{text}")?;
-                Ok(0)
+                Ok(Exit::Good)
             }
         }
     }
@@ -78,25 +70,25 @@ fn perform<R: Threads + Wait + Sync>(rt: &HostRuntime, threads: &R) -> io::Resul
                 &mut errors,
             ))
         }
-        Err(error) => refused(rt, &error),
+        Err(error) => Ok(refused(rt, &error)?.status()),
     }
 }
 
-/// The status where the words of the command line couldn't be had, for want of memory, or what is to say of them
-/// couldn't be written.
-fn failed(rt: &HostRuntime, error: &io::Error) -> u8 {
+/// The end where the words of the command line couldn't be had, for want of memory, or what is to say of them couldn't be
+/// written.
+fn failed(rt: &HostRuntime, error: &io::Error) -> Exit {
     let line = match error.kind() {
         ErrorKind::OutOfMemory => "memory",
         _ => "cannot write -",
     };
     let _ = eprintln!(rt; "jvm: {line}");
-    6
+    Exit::System
 }
 
 fn main(rt: HostRuntime) -> ExitCode {
     let status = match perform(&rt, &rt) {
         Ok(status) => status,
-        Err(error) => failed(&rt, &error),
+        Err(error) => failed(&rt, &error).status(),
     };
     ExitCode::from(status)
 }

@@ -1,6 +1,7 @@
 //! Runs that are stored as journals, replayed from them, and journals that are upgraded.
 
-use crate::executing::{Ending, ended, read_all, read_one, refused, write_one, write_output};
+use crate::endings::{Ending, Exit};
+use crate::executing::{ended, read_all, read_one, refused, write_one, write_output};
 use crate::files::Files;
 use crate::options::{ReplayOptions, UpgradeOptions};
 use crate::replaying::{ReplayedError, replayed};
@@ -36,7 +37,7 @@ fn read_stored<F: Files>(
     match read_journal(alloc, text.as_slice()) {
         Ok(journal) => Ok(journal),
         Err(JournalError::Memory) => Err(Ending::memory()),
-        Err(error) => Err(Ending::told(2, format!(in alloc; "journal {error}"))),
+        Err(error) => Err(Ending::told(Exit::Refused, format!(in alloc; "journal {error}"))),
     }
 }
 
@@ -46,9 +47,12 @@ fn not_replayed(alloc: Global, names: &[String], error: &ReplayedError) -> Endin
         ReplayedError::Launch(error) => refused(alloc, names, error),
         ReplayedError::Replay(ReplayError::Memory) => Ending::memory(),
         ReplayedError::Replay(ReplayError::Frames) => {
-            Ending::told(2, format!(in alloc; "world: P4"))
+            Ending::told(Exit::Refused, format!(in alloc; "world: P4"))
         }
-        ReplayedError::Replay(error) => Ending::told(2, format!(in alloc; "journal {error}")),
+        ReplayedError::Replay(error) => Ending::told(
+            Exit::Refused,
+            format!(in alloc; "journal {error}"),
+        ),
     }
 }
 

@@ -5,6 +5,7 @@ pub mod EqualPrograms
 pub mod Errors
 pub mod Initializers
 pub mod MemberPlaces
+pub mod MethodCodes
 pub mod MethodFacts
 pub mod MethodTables
 pub mod Numbering

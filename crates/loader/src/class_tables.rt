@@ -16,7 +16,7 @@ use std::alloc::{AllocError, Global};
 use std::marker::Model;
 
 /// A word of an object: the number of the class that declares its field, and what it keeps.
-#[derive(Clone, Copy, Debug, PartialEq, Eq)]
+#[derive(Clone, Copy, PartialEq, Eq)]
 pub struct Word {
     pub class: usize,
     pub storage: Storage,
@@ -144,18 +144,31 @@ fn add_tables(
     Ok(())
 }
 
+/// The tables of a program's classes and of the machine's own.
+fn tables_of(
+    alloc: Global,
+    classes: &Classes<'_>,
+    numbers: &ClassNumbers<'_>,
+) -> Result<Vec<ClassTable>, AllocError>
+    requires { numbers.now ≡ classes.now }
+    ensures { IfOk result (λ tables. tables.items ≡ class_tables classes.now) }
+{
+    let own = builtin_classes(alloc)?;
+    let mut tables = Vec::new(alloc);
+    add_tables(alloc, &mut tables, classes, numbers, classes.program())?;
+    add_tables(alloc, &mut tables, classes, numbers, &own)?;
+    Ok(tables)
+}
+
 impl ClassTables {
     /// The tables of a program. `AllocError` where memory runs out.
     pub fn new(alloc: Global, classes: &Classes<'_>) -> Result<ClassTables, AllocError>
         ensures { IfOk result (λ tables. tables ≡ class_tables classes.now) }
     {
-        let program = classes.program();
-        let numbers = ClassNumbers::new(alloc, program)?;
-        let own = builtin_classes(alloc)?;
-        let mut tables = Vec::new(alloc);
-        add_tables(alloc, &mut tables, classes, &numbers, program)?;
-        add_tables(alloc, &mut tables, classes, &numbers, &own)?;
-        Ok(ClassTables { classes: tables })
+        let numbers = ClassNumbers::new(alloc, classes.program())?;
+        Ok(ClassTables {
+            classes: tables_of(alloc, classes, &numbers)?,
+        })
     }
 
     /// The number of a class's superclass. `None` for `java/lang/Object`, and where there is no such class.

@@ -19,7 +19,7 @@ use std::marker::Model;
 
 /// The initializer of a class by its place there, behind the last method where the class declares none; and whether the
 /// class wants initialising.
-#[derive(Clone, Copy, Debug, PartialEq, Eq)]
+#[derive(Clone, Copy, PartialEq, Eq)]
 pub struct ClassInitializer {
     method: usize,
     is_wanted: bool,

@@ -14,6 +14,7 @@ pub mod initializers;
 mod limits;
 mod member_places;
 mod members;
+pub mod method_codes;
 pub mod method_tables;
 mod narrowing;
 mod numbered_operations;

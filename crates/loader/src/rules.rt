@@ -1,5 +1,5 @@
 //! The rules in their order, and the first that a list of listings breaks.
-ghost use Rattle.std.specs.Prelude.{◌≡◌, None, IfOk, IfErr, OnOk};
+ghost use Rattle.std.specs.Prelude.{◌≡◌, None, Some, IfOk, IfErr, OnOk};
 ghost use Rattle.std.specs.Option.{option_copied};
 ghost use Rattle.std.specs.List.{find, list_any};
 ghost use Rattle.model.specs.Programs.{is_main};
@@ -13,7 +13,7 @@ ghost use Rattle.model.specs.Accepted.ExceptionRows.{has_bad_row};
 ghost use Rattle.model.specs.Accepted.Refusals.{refused_by, refused_main, refusal_of};
 ghost use Rattle.resolve.specs.Hierarchies.{IsHierarchy};
 ghost use Rattle.loader.specs.declared.rules.Stop.TheVariants.{Refused, Memory};
-ghost use Rattle.loader.specs.Told.{refusal_in, StopsAt, StopsFor, parents_refused};
+ghost use Rattle.loader.specs.Told.{refusal_in, refusal_value, StopsAt, StopsFor, parents_refused};
 
 use crate::exception_rows::has_bad_row;
 use crate::limits::first_past_limits;
@@ -173,18 +173,29 @@ fn known_classes(alloc: Global, program: &[Listing]) -> Result<Classes<'_>, Stop
     ensures parents { OnOk result (IsHierarchy program.now) }
     ensures stops { IfErr result (StopsFor (parents_refused program.now)) }
 {
-    if let Some(classes) = Classes::new(alloc, program)? {
-        return Ok(classes);
+    match Classes::new(alloc, program)? {
+        Some(classes) => Ok(classes),
+        None => Err(Stop::Refused(refused_parents(alloc, program)?)),
     }
+}
+
+/// Why a program is no hierarchy: the first class that has a parent that isn't there, or else the first on a cycle.
+/// `AllocError` where memory runs out.
+fn refused_parents(alloc: Global, program: &[Listing]) -> Result<Refusal<'_>, AllocError>
+    requires { IsHierarchy program.now → ⊥ }
+    ensures { IfOk result (λ refusal. parents_refused program.now ≡ Some (refusal_value refusal)) }
+{
     let index = Index::new(alloc, program)?;
-    keeps(
-        LoadRule::MissingSuperclass,
-        first_with_missing_parent(&index, program),
-    )?;
-    Err(Stop::Refused(Refusal {
-        rule: LoadRule::Cycle,
-        class: first_on_cycle(alloc, &index, program)?,
-    }))
+    match first_with_missing_parent(&index, program) {
+        Some(class) => Ok(Refusal {
+            rule: LoadRule::MissingSuperclass,
+            class: Some(class),
+        }),
+        None => Ok(Refusal {
+            rule: LoadRule::Cycle,
+            class: first_on_cycle(alloc, &index, program)?,
+        }),
+    }
 }
 
 /// The rules behind those on names and parents: `Err` with the first that some class breaks, and the first class that

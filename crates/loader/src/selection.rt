@@ -1,8 +1,9 @@
 //! What `invokevirtual` and `invokeinterface` find for the objects of each class, looked up by numbers (JVMS 6.5).
 ghost use Rattle.std.specs.Prelude.{◌≡◌, ◌<◌, List, map, IfOk};
 ghost use Rattle.model.specs.ClassListings.{ClassListing};
+ghost use Rattle.resolve.specs.Numbers.{all_classes};
 ghost use Rattle.loader.specs.Selections.{gathered};
-ghost use Rattle.loader.specs.SelectionTables.{IsRowAt, IsSelection, IsTableAt, IsTableOf, table_count};
+ghost use Rattle.loader.specs.SelectionTables.{AreTables, IsRowAt, IsSelection, IsTableAt, IsTableOf, table_count};
 
 use crate::selection_rows::{ClassRows, SelectionRow};
 use crate::selectors::Selectors;
@@ -56,18 +57,32 @@ fn table_of<'a>(
     Ok(ClassTable { rows, by_selector })
 }
 
+/// The tables of all classes by their numbers.
+fn tables_of<'a>(
+    alloc: Global,
+    classes: &'a Classes<'_>,
+    selectors: &Selectors<'a>,
+) -> Result<Vec<ClassTable>, AllocError>
+    requires { selectors.now ≡ classes.now }
+    ensures { IfOk result (λ tables. AreTables classes.now tables.items (all_classes classes.now)) }
+{
+    let mut tables = Vec::new(alloc);
+    for number in 0..classes.len() {
+        let class = classes.class(number);
+        tables.push(table_of(alloc, classes, selectors, class.name.as_bytes())?)?;
+    }
+    Ok(tables)
+}
+
 impl Selection {
     /// The selection tables of these classes.
     pub fn new(alloc: Global, classes: &Classes<'_>) -> Result<Selection, AllocError>
         ensures { IfOk result (λ selection. IsSelection classes.now selection) }
     {
         let selectors = Selectors::new(alloc, classes.program())?;
-        let mut tables = Vec::new(alloc);
-        for number in 0..classes.len() {
-            let class = classes.class(number);
-            tables.push(table_of(alloc, classes, &selectors, class.name.as_bytes())?)?;
-        }
-        Ok(Selection { tables })
+        Ok(Selection {
+            tables: tables_of(alloc, classes, &selectors)?,
+        })
     }
 
     /// How many tables there are, one for each class.

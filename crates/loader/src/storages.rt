@@ -7,7 +7,7 @@ ghost use Rattle.loader.specs.Storages.{descriptor_storage, shown_storage};
 use model::values::{IntType, Kind, Value};
 
 /// What a field keeps: the bits of a number of its type, or a reference.
-#[derive(Clone, Copy, Debug, PartialEq, Eq)]
+#[derive(Clone, Copy, PartialEq, Eq)]
 pub enum Storage {
     Byte,
     Char,

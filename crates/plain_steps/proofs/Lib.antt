@@ -1,4 +1,5 @@
 pub mod BirthLemmas
 pub mod GroupLemmas
+pub mod HotLemmas
 pub mod KeyLemmas
 pub mod TableLemmas

@@ -1,5 +1,5 @@
 //! The branches.
-ghost use Rattle.std.specs.Prelude.{◌≡◌, ◌<◌, [], length, OnErr};
+ghost use Rattle.std.specs.Prelude.{◌≡◌, ◌<◌, [], length, OnErr, ◌≤◌, IfOk};
 ghost use Rattle.model.specs.Frames.{replaced, running_frame, with_running};
 ghost use Rattle.model.specs.declared.instructions.Test.TheVariants.{Zero, Ints, Refs, Null};
 ghost use Rattle.model.specs.Table.Branches.{identity_holds, same_reference, branch_pc, branched as branch_move};
@@ -7,25 +7,8 @@ ghost use Rattle.plain_steps.specs.Told.{told_with, moved_with};
 
 use crate::written::Written;
 use frames::Frames;
-use model::instructions::{Comparison, Identity, Test};
+use model::instructions::{Comparison, Identity};
 use model::turns::Abrupt;
-
-/// A branch (JVMS 6.5): the frame goes to the target where the test holds, else to the next instruction. Faults of the
-/// operands, F1 and F3, from the top.
-#[inline(always)]
-pub fn branched(frames: &mut Frames, next: u16, test: Test, target: u16) -> Result<Written, Abrupt>
-    requires { 0 < length frames.old }
-    ensures step { told_with result frames.new ≡ moved_with frames.old (branch_move next test target (running_frame frames.old)) }
-    ensures kept { OnErr result (frames.new ≡ frames.old) }
-{
-    match test {
-        Test::Always(_) => Ok(go(frames, target)),
-        Test::Zero(comparison) => if_zero(frames, next, comparison, target),
-        Test::Ints(comparison) => if_ints(frames, next, comparison, target),
-        Test::Refs(identity) => if_references(frames, next, identity, target),
-        Test::Null(identity) => if_null(frames, next, identity, target),
-    }
-}
 
 /// The frame goes to a pc, and nothing else changes: a `goto`, or a `nop` to the next instruction.
 #[inline(always)]
@@ -49,6 +32,7 @@ pub(crate) fn if_zero(
     requires { 0 < length frames.old }
     ensures step { told_with result frames.new ≡ moved_with frames.old (branch_move next (Zero comparison) target (running_frame frames.old)) }
     ensures kept { OnErr result (frames.new ≡ frames.old) }
+    ensures few { IfOk result (λ written. length written ≤ 1) }
 {
     let value = frames.int()?;
     let taken = values::compare_ints(comparison, value, 0);
@@ -67,6 +51,7 @@ pub(crate) fn if_ints(
     requires { 0 < length frames.old }
     ensures step { told_with result frames.new ≡ moved_with frames.old (branch_move next (Ints comparison) target (running_frame frames.old)) }
     ensures kept { OnErr result (frames.new ≡ frames.old) }
+    ensures few { IfOk result (λ written. length written ≤ 1) }
 {
     let (right, left) = frames.two_ints()?;
     let taken = values::compare_ints(comparison, left, right);
@@ -85,6 +70,7 @@ pub(crate) fn if_references(
     requires { 0 < length frames.old }
     ensures step { told_with result frames.new ≡ moved_with frames.old (branch_move next (Refs identity) target (running_frame frames.old)) }
     ensures kept { OnErr result (frames.new ≡ frames.old) }
+    ensures few { IfOk result (λ written. length written ≤ 1) }
 {
     let (right, left) = frames.two_references()?;
     let taken = compare_references(identity, left, right);
@@ -103,6 +89,7 @@ pub(crate) fn if_null(
     requires { 0 < length frames.old }
     ensures step { told_with result frames.new ≡ moved_with frames.old (branch_move next (Null identity) target (running_frame frames.old)) }
     ensures kept { OnErr result (frames.new ≡ frames.old) }
+    ensures few { IfOk result (λ written. length written ≤ 1) }
 {
     let reference = frames.reference()?;
     let taken = compare_references(identity, reference, None);

@@ -1,5 +1,5 @@
 //! The instructions that push a constant.
-ghost use Rattle.std.specs.Prelude.{◌≡◌, ◌<◌, length, OnErr};
+ghost use Rattle.std.specs.Prelude.{◌≡◌, ◌<◌, length, OnErr, ◌≤◌, IfOk};
 ghost use Rattle.model.specs.Frames.{running_frame};
 ghost use Rattle.model.specs.Table.Constants.{constant_value as constant_value_of, constant as constant_move};
 ghost use Rattle.plain_steps.specs.Told.{told_with, moved_with};
@@ -22,6 +22,7 @@ pub fn constant(
     requires { 0 < length frames.old }
     ensures step { told_with result frames.new ≡ moved_with frames.old (constant_move next constant (running_frame frames.old)) }
     ensures kept { OnErr result (frames.new ≡ frames.old) }
+    ensures few { IfOk result (λ written. length written ≤ 1) }
 {
     frames.replace_if_room(next, 0, constant_value(constant))?;
     Ok(Written::none())

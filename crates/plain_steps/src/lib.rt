@@ -7,12 +7,11 @@
 //! | call | what it ensures |
 //! |---|---|
 //! | `constant(frames, next, c)` | `told_with result frames.new ≡ moved_with frames.old (constant next c f)` |
-//! | `number(frames, next, operation)` | the same with `number next operation f` |
-//! | `local(frames, next, access)` | the same with `local next access f` |
-//! | `rearranged(frames, next, operation)` | the same with `rearranged next operation f` |
-//! | `branched(frames, next, test, target)` | the same with `branched next test target f` |
 //! | `table_switched(frames, table)`, `lookup_switched(frames, lookup)` | the same with `table_switched table f`, `lookup_switched lookup f` |
 //! | `plain_step(frames, step)` | the same with `plain_move step.next step.operation f`, where that is `Some` |
+//! | `hot_step(frames, step)` | where it answers `Some(written)`, what `plain_step` does, and `written` is the reference written, if any; where it answers `None`, nothing changed |
+//!
+//! `hot_step` is for a loop of turns over frames that are a variable of the loop: it is inlined whole, and leaves out what is rare.
 //!
 //! `proofs/TableLemmas.antt` says what such an equation comes to in the instruction table: by `family_moves` an instruction's
 //! plain operation moves the frame as its family does; `by_family-plain`, and then `completes-done` or `completes-abrupt`,
@@ -21,6 +20,7 @@
 
 mod branches;
 mod constants;
+mod hot_steps;
 mod locals;
 mod numbers;
 mod stacks;
@@ -28,11 +28,8 @@ mod steps;
 mod switches;
 mod written;
 
-pub use branches::branched;
 pub use constants::constant;
-pub use locals::local;
-pub use numbers::number;
-pub use stacks::rearranged;
+pub use hot_steps::hot_step;
 pub use steps::plain_step;
 pub use switches::{lookup_switched, table_switched};
 pub use written::Written;

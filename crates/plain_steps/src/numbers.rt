@@ -1,5 +1,5 @@
 //! The instructions on numbers.
-ghost use Rattle.std.specs.Prelude.{◌≡◌, ◌<◌, ◌≤◌, length, take, IsOk, OnErr};
+ghost use Rattle.std.specs.Prelude.{◌≡◌, ◌<◌, ◌≤◌, length, take, IsOk, OnErr, IfOk};
 ghost use Rattle.model.specs.Values.{units_of_all};
 ghost use Rattle.model.specs.Frames.{running_frame};
 ghost use Rattle.model.specs.Table.Numbers.{number as number_move, operands_of};
@@ -9,27 +9,9 @@ ghost use Rattle.plain_steps.specs.Told.{told_with, moved_with};
 
 use crate::written::Written;
 use frames::Frames;
-use model::instructions::{Conversion, NumberKind, NumberOperation, Operator};
+use model::instructions::{Conversion, Operator};
 use model::turns::{Abrupt, Exception, Fault};
 use values::{IntType, Value};
-
-/// An operator, a change of sign, a conversion or a comparison (JVMS 6.5). Faults of the operands come first, F1 and
-/// F3 from the top; then ArithmeticException of a division by zero; then F2 of a conversion.
-#[inline(always)]
-pub fn number(frames: &mut Frames, next: u16, operation: NumberOperation) -> Result<Written, Abrupt>
-    requires { 0 < length frames.old }
-    ensures step { told_with result frames.new ≡ moved_with frames.old (number_move next operation (running_frame frames.old)) }
-    ensures kept { OnErr result (frames.new ≡ frames.old) }
-{
-    match operation {
-        NumberOperation::Binary(NumberKind::Int, op) => int_operation(frames, next, op),
-        NumberOperation::Binary(NumberKind::Long, op) => long_operation(frames, next, op),
-        NumberOperation::Negate(NumberKind::Int) => int_negation(frames, next),
-        NumberOperation::Negate(NumberKind::Long) => long_negation(frames, next),
-        NumberOperation::Convert(conversion) => convert(frames, next, conversion),
-        NumberOperation::CompareLongs => comparison(frames, next),
-    }
-}
 
 /// An operator on two ints.
 #[inline(always)]
@@ -37,6 +19,7 @@ pub(crate) fn int_operation(frames: &mut Frames, next: u16, op: Operator) -> Res
     requires { 0 < length frames.old }
     ensures step { told_with result frames.new ≡ moved_with frames.old (number_move next (Binary Int op) (running_frame frames.old)) }
     ensures kept { OnErr result (frames.new ≡ frames.old) }
+    ensures few { IfOk result (λ written. length written ≤ 1) }
 {
     let (right, left) = frames.two_ints()?;
     match values::iop(op, left, right) {
@@ -58,6 +41,7 @@ pub(crate) fn long_operation(
     requires { 0 < length frames.old }
     ensures step { told_with result frames.new ≡ moved_with frames.old (number_move next (Binary Long op) (running_frame frames.old)) }
     ensures kept { OnErr result (frames.new ≡ frames.old) }
+    ensures few { IfOk result (λ written. length written ≤ 1) }
 {
     let (right, left) = long_operands(frames, op)?;
     match values::lop(op, left, right) {
@@ -99,6 +83,7 @@ pub(crate) fn int_negation(frames: &mut Frames, next: u16) -> Result<Written, Ab
     requires { 0 < length frames.old }
     ensures step { told_with result frames.new ≡ moved_with frames.old (number_move next (Negate Int) (running_frame frames.old)) }
     ensures kept { OnErr result (frames.new ≡ frames.old) }
+    ensures few { IfOk result (λ written. length written ≤ 1) }
 {
     let value = frames.int()?;
     frames.replace(next, 1, Value::Int(values::negate_int(value)));
@@ -111,6 +96,7 @@ pub(crate) fn long_negation(frames: &mut Frames, next: u16) -> Result<Written, A
     requires { 0 < length frames.old }
     ensures step { told_with result frames.new ≡ moved_with frames.old (number_move next (Negate Long) (running_frame frames.old)) }
     ensures kept { OnErr result (frames.new ≡ frames.old) }
+    ensures few { IfOk result (λ written. length written ≤ 1) }
 {
     let value = frames.long()?;
     frames.replace(next, 1, Value::Long(values::negate_long(value)));
@@ -127,6 +113,7 @@ pub(crate) fn convert(
     requires { 0 < length frames.old }
     ensures step { told_with result frames.new ≡ moved_with frames.old (number_move next (Convert conversion) (running_frame frames.old)) }
     ensures kept { OnErr result (frames.new ≡ frames.old) }
+    ensures few { IfOk result (λ written. length written ≤ 1) }
 {
     let value = match conversion {
         Conversion::IntToLong => Value::Long(values::int_to_long(frames.int()?)),
@@ -145,6 +132,7 @@ pub(crate) fn comparison(frames: &mut Frames, next: u16) -> Result<Written, Abru
     requires { 0 < length frames.old }
     ensures step { told_with result frames.new ≡ moved_with frames.old (number_move next CompareLongs (running_frame frames.old)) }
     ensures kept { OnErr result (frames.new ≡ frames.old) }
+    ensures few { IfOk result (λ written. length written ≤ 1) }
 {
     let (right, left) = frames.two_longs()?;
     frames.replace(next, 2, Value::Int(values::compare_longs(left, right)));

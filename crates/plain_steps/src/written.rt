@@ -1,5 +1,5 @@
 //! The references that an instruction writes.
-ghost use Rattle.std.specs.Prelude.{◌≡◌, ℕ, ◌≤◌, List, [], ◌∷◌, take, length};
+ghost use Rattle.std.specs.Prelude.{◌≡◌, ℕ, ◌≤◌, List, [], ◌∷◌, take, length, slice_get};
 ghost use Rattle.std.specs.Option.{option_to_list};
 ghost use Rattle.model.specs.Values.{births_of};
 
@@ -39,7 +39,8 @@ impl Written {
     // Without a loop, so that nothing is left of it where the value's kind is known.
     #[inline(always)]
     pub fn one(value: Value) -> Written
-        ensures { result ≡ births_of (value ∷ []) }
+        ensures births { result ≡ births_of (value ∷ []) }
+        ensures few { length result ≤ 1 }
     {
         match reference(value) {
             Some(number) => Written {
@@ -64,6 +65,18 @@ impl Written {
             }
         }
         Written { numbers, count }
+    }
+
+    /// The first one, if there is any.
+    #[inline(always)]
+    pub fn first(&self) -> Option<u32>
+        ensures { result ≡ slice_get self.now 0 }
+    {
+        if self.count > 0 {
+            Some(self.numbers[0])
+        } else {
+            None
+        }
     }
 
     /// The numbers, in order.

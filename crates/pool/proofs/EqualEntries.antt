@@ -1,6 +1,6 @@
 -- Entries that are equal are one.
 use Rattle.std.proofs.Common.{◌≡◌, ◌∙◌, ℕ, true, ◌&&◌, eqb, ap}
-use Rattle.std.proofs.lemmas.Bool.{eqb-true, and_parts}
+use Rattle.std.proofs.lemmas.Bool.{eqb-true, and_parts, false≢true}
 use Rattle.std.proofs.lemmas.Bool.Decides.{Decides-int_eq}
 use Rattle.std.proofs.lemmas.Slice.Eq.{bytes_eq-Decides}
 use Rattle.model.specs.ClassFiles.Adding.{is_same}
@@ -21,4 +21,4 @@ same_is (Fieldref a b) (Fieldref m n) e = pair_is Fieldref a b m n e
 same_is (Methodref a b) (Methodref m n) e = pair_is Methodref a b m n e
 same_is (InterfaceMethodref a b) (InterfaceMethodref m n) e = pair_is InterfaceMethodref a b m n e
 same_is (NameAndType a b) (NameAndType m n) e = pair_is NameAndType a b m n e
-same_is a b e = absurd cc
+same_is a b e = absurd (false≢true e)

@@ -31,7 +31,7 @@ fn main_frame(alloc: Global, max_locals: u16, max_stack: u16) -> Result<Frames, 
 
 /// Pushes a value, and goes to this pc.
 fn push(frames: &mut Frames, next: u16, value: Value) -> Result<(), Abrupt> {
-    if frames.is_empty() {
+    if frames.depth() == 0 {
         return Err(Abrupt::Fault(Fault::NoInstruction));
     }
     frames.replace_if_room(next, 0, value)
@@ -39,7 +39,7 @@ fn push(frames: &mut Frames, next: u16, value: Value) -> Result<(), Abrupt> {
 
 /// How many frames there are, the pc of the running one, how many values stand on its stack, and the upper three.
 fn seen(frames: &Frames) -> (usize, u16, usize, [Option<Value>; 3]) {
-    if frames.is_empty() {
+    if frames.depth() == 0 {
         return (0, 0, 0, [None; 3]);
     }
     let upper = [
@@ -51,22 +51,23 @@ fn seen(frames: &Frames) -> (usize, u16, usize, [Option<Value>; 3]) {
 }
 
 /// The entries of the running frame's locals, up to four.
-fn locals(frames: &Frames) -> (usize, [Option<Entry>; 4]) {
-    if frames.is_empty() {
-        return (0, [None; 4]);
-    }
+fn locals(frames: &Frames) -> Result<(usize, [Option<Entry>; 4]), AllocError> {
+    let views = frames.views()?;
+    let Some(frame) = views.last() else {
+        return Ok((0, [None; 4]));
+    };
     let entries = [
-        frames.entry(0),
-        frames.entry(1),
-        frames.entry(2),
-        frames.entry(3),
+        frame.locals.get(0).copied(),
+        frame.locals.get(1).copied(),
+        frame.locals.get(2).copied(),
+        frame.locals.get(3).copied(),
     ];
-    (frames.locals(), entries)
+    Ok((frame.locals.len(), entries))
 }
 
 /// What the two ints on top come to, in place of both.
 fn subtract(frames: &mut Frames) -> Result<i32, Fault> {
-    if frames.is_empty() {
+    if frames.depth() == 0 {
         return Err(Fault::NoInstruction);
     }
     let (right, left) = frames.two_ints()?;
@@ -90,7 +91,7 @@ fn subtracts(rt: HostRuntime) -> Result<(), Fail> {
 
 /// The two ints on top the other way round, and then the lower one is dropped.
 fn swap(frames: &mut Frames) -> Result<(i32, i32), Fault> {
-    if frames.is_empty() {
+    if frames.depth() == 0 {
         return Err(Fault::NoInstruction);
     }
     let (right, left) = frames.two_ints()?;
@@ -113,7 +114,7 @@ fn swaps(rt: HostRuntime) -> Result<(), Fail> {
 
 /// Calls a method with an int and a long behind a null, which stays.
 fn call(frames: &mut Frames) -> Result<(), Abrupt> {
-    if frames.is_empty() {
+    if frames.depth() == 0 {
         return Err(Abrupt::Fault(Fault::NoInstruction));
     }
     let arguments = [Value::Ref(None), Value::Int(5), Value::Long(9)];
@@ -127,7 +128,7 @@ fn call(frames: &mut Frames) -> Result<(), Abrupt> {
 
 /// The running frame's method, which is then left.
 fn leave(frames: &mut Frames) -> Option<MethodPlace> {
-    if frames.is_empty() {
+    if frames.depth() == 0 {
         return None;
     }
     let method = frames.method();
@@ -143,7 +144,7 @@ fn hands_over_arguments(rt: HostRuntime) -> Result<(), Fail> {
     let five = Some(Entry::Holds(Value::Int(5)));
     let nine = Some(Entry::Holds(Value::Long(9)));
     let entries = [five, nine, Some(Entry::UpperHalf), Some(Entry::Unset)];
-    assert!(rt; locals(&frames) == (4, entries));
+    assert!(rt; locals(&frames)? == (4, entries));
     assert_eq!(rt; seen(&frames), (2, 0, 0, [None; 3]));
     assert!(rt; leave(&mut frames) == Some(CALLEE));
     assert_eq!(rt;
@@ -169,7 +170,7 @@ fn open_callee(frames: &mut Frames) -> Result<(), Abrupt> {
 
 /// What is told of the running frame: its monitor, its mark, and the units that its stack may take and takes.
 fn told(frames: &Frames) -> Option<(Option<u32>, Mark, usize, usize)> {
-    if frames.is_empty() {
+    if frames.depth() == 0 {
         return None;
     }
     Some((
@@ -225,7 +226,7 @@ fn tells_of_its_frames(rt: HostRuntime) -> Result<(), Fail> {
 
 /// Goes to a pc with an empty stack, and then to another.
 fn clear(frames: &mut Frames) {
-    if !frames.is_empty() {
+    if 0 < frames.depth() {
         frames.clear(8);
         frames.go_to(9);
     }
@@ -251,10 +252,11 @@ fn is_full(rt: HostRuntime) -> Result<(), Fail> {
 
 /// `lstore_0`, with what local 0 and the int in local 1 are then.
 fn store_long(frames: &mut Frames) -> Result<(Value, Fault), Abrupt> {
-    if frames.is_empty() {
+    if frames.depth() == 0 {
         return Err(Abrupt::Fault(Fault::NoInstruction));
     }
-    frames.store_top(2, Kind::Long, 0)?;
+    let long = frames.operand(Kind::Long)?;
+    frames.store(2, 1, 0, long);
     let long = frames.load(Kind::Long, 0)?;
     match frames.local_int(1) {
         Ok(_) => Err(Abrupt::Fault(Fault::WrongKind)),
@@ -264,18 +266,18 @@ fn store_long(frames: &mut Frames) -> Result<(Value, Fault), Abrupt> {
 
 /// `istore_1`, with the value that it takes off the stack, that of local 1, and whether local 0 holds a long.
 fn store_int(frames: &mut Frames) -> Result<(Value, i32, bool), Abrupt> {
-    if frames.is_empty() {
+    if frames.depth() == 0 {
         return Err(Abrupt::Fault(Fault::NoInstruction));
     }
     let value = frames.operand(Kind::Int)?;
-    frames.store_top(4, Kind::Int, 1)?;
+    frames.store(4, 1, 1, value);
     let local = frames.local_int(1)?;
     Ok((value, local, frames.load(Kind::Long, 0).is_ok()))
 }
 
 /// Whether local 2 can hold an int, and a long.
 fn last_local(frames: &Frames) -> (bool, bool) {
-    if frames.is_empty() {
+    if frames.depth() == 0 {
         return (false, false);
     }
     (
@@ -301,7 +303,7 @@ fn stores_over_half_a_long(rt: HostRuntime) -> Result<(), Fail> {
 
 /// `dup_x1` of a null and a reference, and then `pop`.
 fn duplicate(frames: &mut Frames) -> Result<(), Abrupt> {
-    if frames.is_empty() {
+    if frames.depth() == 0 {
         return Err(Abrupt::Fault(Fault::NoInstruction));
     }
     let null = Value::Ref(None);
@@ -317,7 +319,7 @@ fn duplicate(frames: &mut Frames) -> Result<(), Abrupt> {
 
 /// Why the two values on top are no longs, and no long below a count; and what the long on top is.
 fn no_longs(frames: &Frames) -> [Option<Fault>; 3] {
-    if frames.is_empty() {
+    if frames.depth() == 0 {
         return [None; 3];
     }
     [

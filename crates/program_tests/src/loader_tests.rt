@@ -216,10 +216,16 @@ fn program_of(alloc: Global, words: &str) -> Result<Program, Fail> {
 }
 
 /// Where the instruction behind the one at a pc stands, by the listing and by the step, and the step's operation.
-fn step_at(program: &Program, place: MethodPlace, pc: u16) -> (u16, u16, Operation) {
+fn step_at(program: &Program, place: MethodPlace, pc: u16) -> (u16, u16, &'static str) {
     let behind = program.placed(place, pc).map_or(0, |placed| placed.next);
     let step = program.step(place, pc);
-    (behind, step.next, step.operation)
+    let operation = match step.operation {
+        Operation::Nop => "nop",
+        Operation::Return => "return",
+        Operation::Invalid => "none",
+        _ => "another",
+    };
+    (behind, step.next, operation)
 }
 
 /// Main's instructions by their pcs, and the initializer behind a class's last method (JVMS 2.9).
@@ -227,14 +233,14 @@ fn step_at(program: &Program, place: MethodPlace, pc: u16) -> (u16, u16, Operati
 fn instructions_by_their_pcs(rt: HostRuntime) -> Result<(), Fail> {
     let program = program_of(rt.alloc(), "E main()V@9,0,0; F")?;
     for (class, method, pc, next, operation) in [
-        (0, 0, 0, 1, Operation::Nop),
-        (0, 0, 1, 2, Operation::Return),
-        (0, 0, 2, 0, Operation::Invalid),
-        (0, 1, 0, 1, Operation::Return),
-        (0, 1, 1, 0, Operation::Invalid),
-        (0, 2, 0, 0, Operation::Invalid),
-        (1, 0, 0, 1, Operation::Return),
-        (2, 0, 0, 0, Operation::Invalid),
+        (0, 0, 0, 1, "nop"),
+        (0, 0, 1, 2, "return"),
+        (0, 0, 2, 0, "none"),
+        (0, 1, 0, 1, "return"),
+        (0, 1, 1, 0, "none"),
+        (0, 2, 0, 0, "none"),
+        (1, 0, 0, 1, "return"),
+        (2, 0, 0, 0, "none"),
     ] {
         let place = MethodPlace { class, method };
         assert!(rt; step_at(&program, place, pc) == (next, next, operation));

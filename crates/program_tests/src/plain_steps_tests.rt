@@ -27,7 +27,7 @@ fn frame_of(alloc: Global, room: u16) -> Result<Frames, AllocError> {
 /// Carries out operations, none of which writes a reference, up to the first that isn't plain; whether all were.
 fn carry_out(frames: &mut Frames, operations: &[Operation]) -> Result<bool, Abrupt> {
     for operation in operations {
-        if frames.is_empty() {
+        if frames.depth() == 0 {
             return Ok(false);
         }
         let step = Step {
@@ -62,14 +62,14 @@ fn run(
 fn pc_after(alloc: Global, operations: &[Operation]) -> Result<Option<u16>, AllocError> {
     let mut frames = frame_of(alloc, 4)?;
     match carry_out(&mut frames, operations) {
-        Ok(true) if !frames.is_empty() => Ok(Some(frames.pc())),
+        Ok(true) if 0 < frames.depth() => Ok(Some(frames.pc())),
         _ => Ok(None),
     }
 }
 
 /// The value on top of the running frame's stack, if there is one.
 fn top(frames: &Frames) -> Option<Value> {
-    if frames.is_empty() {
+    if frames.depth() == 0 {
         return None;
     }
     frames.value(0).ok()

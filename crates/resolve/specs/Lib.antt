@@ -8,4 +8,5 @@ pub mod Layouts
 pub mod Members
 pub mod Numbers
 pub mod Reached
+pub mod Settled
 pub mod Tables

@@ -1,11 +1,14 @@
 //! The classes of a program by their names, the machine's own among them (JVMS 5.3, 5.4.3).
-ghost use Rattle.std.specs.Prelude.{◌≡◌, ◌<◌, length, slice_get, IfOk, IfSome, Some};
+ghost use Rattle.std.specs.Prelude.{◌≡◌, ◌<◌, length, slice_get, IfOk, IfSome, None, Some};
 ghost use Rattle.std.specs.Option.{option_and_then, option_copied, option_map};
 ghost use Rattle.std.specs.List.{find};
 ghost use Rattle.model.specs.Classes.Named.{is_named, class_named, listed};
 ghost use Rattle.model.specs.Classes.Subclasses.{enough_steps, is_subclass};
-ghost use Rattle.resolve.specs.Hierarchies.{AreMade};
-ghost use Rattle.resolve.specs.Interfaces.{interfaces_once};
+ghost use Rattle.model.specs.Classes.Builtin.{builtin_classes};
+ghost use Rattle.resolve.specs.Above.{AreAbove};
+ghost use Rattle.resolve.specs.Hierarchies.{AreMade, IsHierarchy};
+ghost use Rattle.resolve.specs.Interfaces.{interfaces_once, lists_in};
+ghost use Rattle.resolve.specs.Settled.{AreSettled};
 ghost use Rattle.resolve.specs.Numbers.{all_classes, class_number};
 
 use crate::above::{above_all_interfaces, is_subclass};
@@ -58,6 +61,51 @@ fn first_named<'a>(classes: &'a [Listing], name: &[u8]) -> Option<&'a Listing>
     classes.iter().find(|class| is_named(class, name))
 }
 
+/// The superinterfaces of each class of a program; `None` where a superclass or superinterface isn't there, or a class is
+/// above itself. `AllocError` where memory runs out.
+fn checked_interfaces<'a>(
+    alloc: Global,
+    index: &Index<'a>,
+) -> Result<Option<Interfaces<'a>>, AllocError>
+    ensures none { IfOk result (λ found. found ≡ None → IsHierarchy index.now → ⊥) }
+    ensures some { IfOk result (λ found. IfSome found (λ interfaces. IsHierarchy index.now × AreSettled index.now (lists_in interfaces.lists.entries))) }
+{
+    if first_with_missing_parent(index, index.program()).is_some() {
+        return Ok(None);
+    }
+    let interfaces = Interfaces::new(alloc, index)?;
+    if has_cycle(alloc, index, &interfaces)? {
+        return Ok(None);
+    }
+    Ok(Some(interfaces))
+}
+
+/// What is made of each class of a program that has its parents.
+#[derive(Drop)]
+struct Tables<'a> {
+    own: Vec<Listing>,
+    members: Vec<Members<'a>>,
+    above: Vec<Reached<'a>>,
+}
+
+impl<'a> Tables<'a> {
+    /// The tables of a program. `AllocError` where memory runs out.
+    fn new(alloc: Global, index: &Index<'a>) -> Result<Tables<'a>, AllocError>
+        ensures own { IfOk result (λ tables. tables.own.items ≡ builtin_classes) }
+        ensures members { IfOk result (λ tables. tables.members.items ≡ index.now) }
+        ensures above { IfOk result (λ tables. AreAbove index.now index.now tables.above.items) }
+    {
+        let own = builtin_classes(alloc)?;
+        let members = members_of_all(alloc, index.program())?;
+        let above = above_all_interfaces(alloc, index)?;
+        Ok(Tables {
+            own,
+            members,
+            above,
+        })
+    }
+}
+
 impl<'a> Classes<'a> {
     /// The classes of a program; `None` where a superclass or superinterface isn't there, or a class is above itself.
     /// `AllocError` where memory runs out.
@@ -65,23 +113,19 @@ impl<'a> Classes<'a> {
         ensures { IfOk result (λ classes. AreMade program.now classes) }
     {
         let index = Index::new(alloc, program)?;
-        if first_with_missing_parent(&index, program).is_some() {
-            return Ok(None);
+        match checked_interfaces(alloc, &index)? {
+            Some(interfaces) => {
+                let tables = Tables::new(alloc, &index)?;
+                Ok(Some(Classes {
+                    index,
+                    own: tables.own,
+                    members: tables.members,
+                    interfaces,
+                    above: tables.above,
+                }))
+            }
+            None => Ok(None),
         }
-        let interfaces = Interfaces::new(alloc, &index)?;
-        if has_cycle(alloc, &index, &interfaces)? {
-            return Ok(None);
-        }
-        let own = builtin_classes(alloc)?;
-        let members = members_of_all(alloc, program)?;
-        let above = above_all_interfaces(alloc, &index)?;
-        Ok(Some(Classes {
-            index,
-            own,
-            members,
-            interfaces,
-            above,
-        }))
     }
 
     /// The classes of the program, in order.

@@ -141,9 +141,19 @@ impl<'a> Interfaces<'a> {
         Ok(())
     }
 
-    /// The lists of a program's classes, of all where none is above itself. Each is made once, from those of its parents,
-    /// as long as each class stands behind its parents in the order that is tried first. `AllocError` where memory runs
-    /// out.
+    /// Adds the lists of a program's classes, of all where none is above itself. Each is made once, from those of its
+    /// parents, as long as each class stands behind its parents in the order that is tried first.
+    fn add_all(&mut self, alloc: Global, index: &Index<'a>) -> Result<(), AllocError>
+        requires { AreLists index.now (lists_in self.old.lists.entries) }
+        ensures lists { OnOk result (AreLists index.now (lists_in self.new.lists.entries)) }
+        ensures full { OnOk result (AreFull index.now (lists_in self.new.lists.entries)) }
+    {
+        let names = parents_first(alloc, index)?;
+        self.add_ready(alloc, index, &names)?;
+        self.add_rest(alloc, index)
+    }
+
+    /// The lists of a program's classes, of all where none is above itself. `AllocError` where memory runs out.
     pub fn new(alloc: Global, index: &Index<'a>) -> Result<Interfaces<'a>, AllocError>
         ensures lists { IfOk result (λ found. AreLists index.now (lists_in found.lists.entries)) }
         ensures full { IfOk result (λ found. AreFull index.now (lists_in found.lists.entries)) }
@@ -151,9 +161,7 @@ impl<'a> Interfaces<'a> {
         let mut interfaces = Interfaces {
             lists: IndexMap::new(alloc),
         };
-        let names = parents_first(alloc, index)?;
-        interfaces.add_ready(alloc, index, &names)?;
-        interfaces.add_rest(alloc, index)?;
+        interfaces.add_all(alloc, index)?;
         Ok(interfaces)
     }
 

@@ -53,6 +53,15 @@ impl<'a> Climb<'a> {
         }
         Ok(())
     }
+
+    /// Looks at all classes of a program.
+    fn visit_program(&mut self, index: &Index<'a>) -> Result<(), AllocError> {
+        for class in index.program() {
+            self.waiting.push(class.name.as_bytes())?;
+            self.visit_all(index)?;
+        }
+        Ok(())
+    }
 }
 
 /// The names of the classes of a program, each behind its parents in the program where no class is above itself; nothing
@@ -63,9 +72,6 @@ pub fn parents_first<'a>(alloc: Global, index: &Index<'a>) -> Result<Reached<'a>
         opened: Reached::new(alloc),
         waiting: Vec::new(alloc),
     };
-    for class in index.program() {
-        climb.waiting.push(class.name.as_bytes())?;
-        climb.visit_all(index)?;
-    }
+    climb.visit_program(index)?;
     Ok(climb.done)
 }

@@ -6,4 +6,11 @@ pub mod RowLines
 pub mod Making
 pub mod RoundsLeft
 pub mod FirstTurns
+pub mod Bursts
 pub mod LosesNothing
+pub mod Alike
+pub mod Deciding
+pub mod HeldCells
+pub mod Observing
+pub mod Shown
+pub mod Followed

@@ -12,7 +12,7 @@ use Rattle.model.specs.Journals.{JournalValue}
 use Rattle.model.specs.Machines.{Machine, Recorded, advance, advance_all, after_turn_by, machine_of, noted, opened, opening_machine, row_by, row_for, with_row}
 use Rattle.scheduler.specs.declared.replaying.ReplayError.{ReplayError}
 use Rattle.scheduler.specs.declared.replaying.ReplayError.TheVariants.{Row as AtRow, Memory, Frames}
-use Rattle.scheduler.specs.Replaying.{AreMade, DiffersFirst, Excuses, IsMade, with_all}
+use Rattle.scheduler.specs.Replaying.{AreMade, DiffersFirst, Excuses, IsMade, front, with_all}
 use Rattle.scheduler.specs.Workers.{with_workers}
 
 abbrev row_or : Row → Option Row → Row
@@ -47,6 +47,14 @@ pub none_differs : (v : Recorded) (number : ℕ) → IsMade v → DiffersFirst v
 unfolding machine_of
 none_differs v number is d =
     d.differs (made_at v.program v.journal.shape v.journal.limits (opening_machine v.program v.journal.shape) v.journal.rows d.before d.row is.rows d.there)
+
+-- each row is the one that its turn makes behind those before it
+pub row_made_at : (v : Recorded) (n : ℕ) (d : Row) → IsMade v → n < length v.journal.rows
+    → row_for (front v n) (get_or v.journal.rows n d).actor (get_or v.journal.rows n d).worker ≡ Some (get_or v.journal.rows n d)
+unfolding machine_of
+row_made_at v n d is inside =
+    made_at v.program v.journal.shape v.journal.limits (opening_machine v.program v.journal.shape) v.journal.rows n (get_or v.journal.rows n d) is.rows
+    (slice_get-get_or v.journal.rows n d inside)
 
 -- ---- a turn and its row
 

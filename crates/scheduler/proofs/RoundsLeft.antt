@@ -1,21 +1,12 @@
 -- So many rounds, seen from their first one.
-use Rattle.std.proofs.Common.{◌≡◌, ◌<◌, ◌-◌, ◌+◌, ℕ, suc, Bool, true, false, ap, sym, refl, ◌∙◌, arith}
+use Rattle.std.proofs.Common.{◌≡◌, ◌<◌, ◌-◌, ◌+◌, ℕ, suc, Bool, ap, ◌∙◌, arith}
 use Rattle.std.specs.Prelude.{if◌then◌else◌}
 use Rattle.model.specs.declared.turns.Actor.TheVariants.{Collector}
 use Rattle.model.specs.Machines.{Recorded, after_turn_by}
-use Rattle.scheduler.specs.Rounds.{after_round, after_rounds, collections, is_done, picked_answer, rounds_answer, swept}
-use Rattle.model.specs.Observers.{is_running, status_of}
+use Rattle.scheduler.specs.Rounds.{after_round, after_rounds, collections, is_done, picked_answer, rounds_answer}
 
 pub collections-more : (v : Recorded) (n i : ℕ) → i < n → collections v 0 (n - i) ≡ collections (after_turn_by v Collector 0) 0 (n - (i + 1))
 collections-more v n i lt = let e : n - i ≡ suc (n - (i + 1)) = omega (arith, lt) in ap (collections v 0) e
-
--- no turn of the collector, whether the world runs or not
-pub swept-none : (v : Recorded) (gc : ℕ) → gc ≡ 0 → v ≡ swept v 0 gc
-swept-none v gc none = by (is_running (status_of v)) ∙ sym (ap (swept v 0) none)
-  where
-    by : (b : Bool) → v ≡ (if b then v else v)
-    by true = refl
-    by false = refl
 
 module _ (v : Recorded) (gc n i : ℕ) where
   module _ (lt : i < n) where

@@ -4,3 +4,5 @@ pub mod Workers
 pub mod Replaying
 pub mod Rounds
 pub mod LosesNothing
+pub mod Showing
+pub mod Checking

@@ -1,8 +1,11 @@
 -- Rounds of a world: a turn of the thread that is picked, and after it turns of the collector.
-use Rattle.std.specs.Prelude.{ℕ, zero, suc, Bool, true, false, Option, Some, None, if◌then◌else◌}
+use Rattle.std.specs.Prelude.{◌≡◌, ◌+◌, ℕ, zero, suc, Bool, true, false, Option, Some, None, if◌then◌else◌}
+use Rattle.model.specs.declared.journals.Outcome.TheVariants.{Done as DoneOutcome}
+use Rattle.model.specs.declared.journals.Row.{Row}
 use Rattle.model.specs.declared.turns.Actor.TheVariants.{Thread, Collector}
 use Rattle.model.specs.declared.turns.Turn.{Turn}
 use Rattle.model.specs.declared.turns.Turn.TheVariants.{Done, NotReady, Stopped, Fault, OutputFull, StepLimit}
+use Rattle.model.specs.Journals.{JournalValue, with_row}
 use Rattle.model.specs.Machines.{Recorded, after_turn_by, answer_to}
 use Rattle.model.specs.Observers.{is_running, pick_of, status_of}
 
@@ -58,3 +61,21 @@ abbrev pub rounds_answer : Recorded → ℕ → ℕ → ℕ → Turn
 rounds_answer v worker gc zero = Done
 rounds_answer v worker gc (suc n) =
     if is_done (picked_answer v worker) then rounds_answer (after_round v worker gc) worker gc n else picked_answer v worker
+
+-- ---- many rounds in one call
+
+-- the row of a thread's turn that was done and asked for no cell
+abbrev pub done_by : ℕ → ℕ → Row
+done_by thread worker = record { actor = Thread thread; outcome = DoneOutcome; worker = worker }
+
+-- with a row so many times
+abbrev pub noted_times : JournalValue → Row → ℕ → JournalValue
+noted_times journal row zero = journal
+noted_times journal row (suc n) = with_row (noted_times journal row n) row
+
+-- so many rounds by a worker, with no turn of the collector, lead from one world to another, and each thread's turn is done:
+-- with any rounds more, both lead to the same world and answer the same
+abbrev pub LeadsOn : Recorded → ℕ → ℕ → Recorded → Type 0
+LeadsOn v worker n w =
+    (more : ℕ) → (after_rounds v worker 0 (n + more) ≡ after_rounds w worker 0 more)
+    × (rounds_answer v worker 0 (n + more) ≡ rounds_answer w worker 0 more)

@@ -56,6 +56,19 @@ impl World {
         }
     }
 
+    /// The same behind so many turns in one call: where there were any, the next step is none of those.
+    fn turn_behind(&mut self, worker: u8, made: u32) -> Turn
+        requires { worker < self.old.journal.workers }
+        ensures world { self.new ≡ picked self.old worker }
+        ensures answer { result ≡ picked_answer self.old worker }
+    {
+        if made > 0 {
+            self.turn_by_look(worker)
+        } else {
+            self.turn_of_picked(worker)
+        }
+    }
+
     /// So many turns of the collector.
     fn collect(&mut self, turns: u32)
         ensures { self.new ≡ collections self.old 0 turns }
@@ -69,9 +82,6 @@ impl World {
     fn sweep(&mut self, gc: u32)
         ensures { self.new ≡ swept self.old 0 gc }
     {
-        if gc == 0 {
-            return; // no look at the status
-        }
         match self.status() {
             Status::Running => self.collect(gc),
             Status::Finished | Status::Stuck | Status::Faulted => {}
@@ -91,10 +101,31 @@ impl World {
         answer
     }
 
-    /// So many rounds, all made by worker 0: the turn of the thread that is picked, and where it was done and the world runs
-    /// so many turns of the collector. They end with the first thread's turn that isn't done. Answers what the last thread's
-    /// turn did: `Done` where all rounds were made, `NotReady` where no thread was picked.
-    pub fn rounds(&mut self, n: u32, gc: u32) -> Turn
+    /// So many rounds by a worker, with no turn of the collector. They end with the first thread's turn that isn't done.
+    /// Answers what the last thread's turn did: `Done` where all rounds were made, `NotReady` where no thread was picked.
+    // Many in one call where that can be, and else one by one.
+    pub fn rounds_by(&mut self, worker: u8, n: u32) -> Turn
+        requires { worker < self.old.journal.workers }
+        ensures world { self.new ≡ after_rounds self.old worker 0 n }
+        ensures answer { result ≡ rounds_answer self.old worker 0 n }
+    {
+        let mut left = n;
+        'rounds: loop {
+            let made = self.rounds_plainly(worker, left);
+            left -= made;
+            if left == 0 {
+                return Turn::Done;
+            }
+            let answer = self.turn_behind(worker, made);
+            if !is_done(answer) {
+                return answer;
+            }
+            left -= 1;
+        }
+    }
+
+    /// So many rounds by worker 0, one by one.
+    fn rounds_and_sweeps(&mut self, n: u32, gc: u32) -> Turn
         ensures world { self.new ≡ after_rounds self.old 0 gc n }
         ensures answer { result ≡ rounds_answer self.old 0 gc n }
     {
@@ -105,5 +136,19 @@ impl World {
             }
         }
         Turn::Done
+    }
+
+    /// So many rounds, all made by worker 0: the turn of the thread that is picked, and where it was done and the world runs
+    /// so many turns of the collector. They end with the first thread's turn that isn't done. Answers what the last thread's
+    /// turn did: `Done` where all rounds were made, `NotReady` where no thread was picked.
+    pub fn rounds(&mut self, n: u32, gc: u32) -> Turn
+        ensures world { self.new ≡ after_rounds self.old 0 gc n }
+        ensures answer { result ≡ rounds_answer self.old 0 gc n }
+    {
+        if gc > 0 {
+            return self.rounds_and_sweeps(n, gc);
+        }
+        let first = self.first_worker();
+        self.rounds_by(first, n)
     }
 }

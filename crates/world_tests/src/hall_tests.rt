@@ -2,7 +2,7 @@
 ghost use Rattle.std.specs.Prelude.{◌≡◌, [], IfOk, All, length, vec_len};
 ghost use Rattle.board.specs.Seats.{IsSeatOf};
 
-use crate::mains::nops;
+use crate::mains::{Op, nops, program};
 use board::{Board, BoardSeat};
 use hall::{Gate, Hall, HallError, Role, drive};
 use model::journals::{HeapShape, Limits, Outcome, Row};
@@ -95,6 +95,76 @@ fn a_carrier_and_a_collector_take_turns(rt: HostRuntime) -> Result<(), Fail> {
         [collected, row(MAIN, 0), row(MAIN, 0), collected].as_slice()
     );
     assert_eq!(rt; world.journal().workers(), 2);
+    Ok(())
+}
+
+/// A world that has made no turn, on a heap of four small cells, whose main makes two arrays.
+fn world_of_arrays(alloc: Global) -> Result<World, Fail>
+    ensures { IfOk result (λ world. world.journal.rows ≡ []) }
+{
+    let ops = [
+        Op::One,
+        Op::NewInts,
+        Op::Pop,
+        Op::One,
+        Op::NewInts,
+        Op::Pop,
+        Op::Return,
+    ];
+    let program = program(alloc, 1, ops.as_slice())?;
+    let shape = HeapShape {
+        small: 4,
+        medium: 0,
+        large: 0,
+    };
+    let limits = Limits {
+        steps: 100,
+        output: 0,
+    };
+    Ok(World::new(alloc, program, shape, limits)?)
+}
+
+/// What a carrier is answered until a collection is due and once more, what the collector then, and the carrier behind it.
+fn due_collection<L: Ledger, R: Wait>(
+    rt: &R,
+    alloc: Global,
+    blank: Blank,
+    world: World,
+) -> Result<([Turn; 6], World), HallError>
+    requires name { blank.name ≡ L.name }
+    requires parts { (blank.parts ≡ L.parts) × (blank.parts ≡ 2) }
+    requires empty { world.journal.rows ≡ [] }
+{
+    let roles = [Role::Carrier, Role::Collector];
+    let (hall, mut shares) = Hall::<L>::new(alloc, blank, world, roles.as_slice())?;
+    let (Some(mut collector), Some(mut carrier)) = (shares.pop(), shares.pop()) else {
+        return Err(HallError::World);
+    };
+    let answers = [
+        hall.turn_for(rt, &mut carrier).0,
+        hall.turn_for(rt, &mut carrier).0,
+        hall.turn_for(rt, &mut carrier).0,
+        hall.turn_for(rt, &mut collector).0,
+        hall.turn_for(rt, &mut collector).0,
+        hall.turn_for(rt, &mut carrier).0,
+    ];
+    let world = hall.close(vec![in alloc; collector, carrier]?)?;
+    Ok((answers, world))
+}
+
+/// Two cells of four are free, so that one object may be made before the collector has its turn.
+#[test]
+fn a_carrier_waits_where_a_collection_is_due(rt: HostRuntime) -> Result<(), Fail> {
+    let world = world_of_arrays(rt.alloc())?;
+    let (answers, world) = due_collection::<Brand, HostRuntime>(
+        &rt,
+        rt.alloc(),
+        Blank::new(2),
+        world,
+    )?;
+    let (done, none) = (Turn::Done, Turn::NotReady);
+    assert_eq!(rt; answers, [done, done, none, done, none, done]);
+    assert_eq!(rt; world.journal().rows().len(), 4);
     Ok(())
 }
 

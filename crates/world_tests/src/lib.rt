@@ -4,6 +4,8 @@
 #[cfg(test)]
 mod hall_tests;
 #[cfg(test)]
+mod heap_tests;
+#[cfg(test)]
 mod mains;
 #[cfg(test)]
 mod scheduler_tests;

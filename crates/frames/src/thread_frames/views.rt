@@ -13,10 +13,10 @@ impl Frames {
     pub fn views(&self) -> Result<Vec<FrameView>, AllocError>
         ensures { IfOk result (λ views. views.items ≡ self.now) }
     {
-        let alloc = *self.activations.allocator();
+        let alloc = self.activations.allocator();
         let mut views = Vec::with_capacity(alloc, self.activations.len())?;
-        for activation in &self.activations {
-            views.push(view_of(&self.units, *activation)?)?;
+        for depth in 0..self.activations.len() {
+            views.push(view_of(&self.units, self.activations.at(depth))?)?;
         }
         Ok(views)
     }

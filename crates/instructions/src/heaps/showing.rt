@@ -6,6 +6,7 @@ ghost use Rattle.model.specs.Worlds.{World};
 ghost use Rattle.cells.specs.Objects.{object_if};
 ghost use Rattle.join.specs.ReadBack.{cell_from, holds_birth};
 ghost use Rattle.instructions.specs.Heaps.{looked_at};
+ghost use Rattle.instructions.specs.HeldOnCells.{birth_if};
 ghost use Rattle.instructions.specs.Threads.{all_shown};
 
 use super::Heap;
@@ -54,6 +55,24 @@ impl Heap {
     {
         let _account = &self.account;
         self.first_holding(birth)
+    }
+
+    /// How many cells there are.
+    pub(crate) fn count(&self) -> u32
+        ensures { result ≡ length self.now.account.cells }
+    {
+        self.account.cells() as u32
+    }
+
+    /// The birth that a cell holds, whose object is in it; none where it is free, and past the last one.
+    pub(crate) fn birth_in(&self, cell: u32) -> Option<u32>
+        ensures birth { result ≡ birth_if (cell_at self.now.account.cells cell) }
+        ensures there { IfSome result (λ birth. is_some (object_if (slice_get self.now.objects cell)) ≡ true) }
+    {
+        match self.account.cell(cell) {
+            Cell::Free => None,
+            Cell::Taken { birth, colour: _ } => Some(birth),
+        }
     }
 
     /// The objects in their cells.

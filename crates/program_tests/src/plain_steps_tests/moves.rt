@@ -3,14 +3,12 @@
 
 use super::frame_of;
 use frames::Frames;
-use model::instructions::{
-    Comparison, Constant, Conversion, FirstLocal, Identity, Increment, Local, LocalAccess,
-    LookupSwitch, NumberKind, NumberOperation, Operator, SmallInt, SmallLong, StackOperation,
-    TableSwitch, Test, Width,
-};
+use loader::operations::Operation;
+use loader::programs::Step;
+use model::instructions::{Constant, LookupSwitch, SmallInt, SmallLong, TableSwitch, Width};
 use model::turns::{Abrupt, Fault};
-use model::values::{Kind, Value};
-use plain_steps::{branched, constant, local, lookup_switched, number, rearranged, table_switched};
+use model::values::Value;
+use plain_steps::{constant, lookup_switched, plain_step, table_switched};
 use std::alloc::{AllocError, Global};
 use std::process::Abort;
 
@@ -22,36 +20,27 @@ const KIND: Abrupt = Abrupt::Fault(Fault::WrongKind);
 
 const LOCAL: Abrupt = Abrupt::Fault(Fault::WrongLocal);
 
-/// One call of a family with its operand.
-#[derive(Clone, Copy)]
-enum Call {
-    Constant(Constant<i32, i64>),
-    Number(NumberOperation),
-    Local(LocalAccess),
-    Stack(StackOperation),
-    Branch(Test),
-}
-
-/// Carries out a call; a branch leads to 40, and the next instruction stands at 7. Tells how many references it wrote, and
-/// the first.
-fn carry_out(frames: &mut Frames, call: Call) -> Result<(usize, Option<u32>), Abrupt> {
-    if frames.is_empty() {
-        return Err(EMPTY);
+/// Carries out an operation; a branch leads to 40, and the next instruction stands at 7. Tells how many references it wrote,
+/// and the first.
+fn carry_out(
+    frames: &mut Frames,
+    operation: Operation,
+) -> Option<Result<(usize, Option<u32>), Abrupt>> {
+    if frames.depth() == 0 {
+        return None;
     }
-    let written = match call {
-        Call::Constant(operand) => constant(frames, 7, operand)?,
-        Call::Number(operation) => number(frames, 7, operation)?,
-        Call::Local(access) => local(frames, 7, access)?,
-        Call::Stack(operation) => rearranged(frames, 7, operation)?,
-        Call::Branch(test) => branched(frames, 7, test, 40)?,
-    };
-    let written = written.as_slice();
-    Ok((written.len(), written.first().copied()))
+    match plain_step(frames, Step { next: 7, operation })? {
+        Ok(written) => {
+            let written = written.as_slice();
+            Some(Ok((written.len(), written.first().copied())))
+        }
+        Err(abrupt) => Some(Err(abrupt)),
+    }
 }
 
 /// The pc, and the three values at the top, the upper ones first.
 fn shown(frames: &Frames) -> (u16, [Option<Value>; 3]) {
-    if frames.is_empty() {
+    if frames.depth() == 0 {
         return (0, [None; 3]);
     }
     let values = [
@@ -62,9 +51,9 @@ fn shown(frames: &Frames) -> (u16, [Option<Value>; 3]) {
     (frames.pc(), values)
 }
 
-/// A call, the references that it writes or why it is not carried out, and the pc and the upper three values then.
+/// An operation, the references that it writes or why it is not carried out, and the pc and the upper three values then.
 type Row = (
-    Call,
+    Operation,
     Result<(usize, Option<u32>), Abrupt>,
     u16,
     [Option<Value>; 3],
@@ -72,10 +61,10 @@ type Row = (
 
 const NONE_WRITTEN: Result<(usize, Option<u32>), Abrupt> = Ok((0, None));
 
-/// Carries out the calls of these rows, one behind the other.
+/// Carries out the operations of these rows, one behind the other.
 fn compare(rt: &impl Abort, frames: &mut Frames, rows: &[Row]) {
-    for (call, told, pc, values) in rows {
-        assert_eq!(rt; carry_out(frames, *call), *told);
+    for (operation, told, pc, values) in rows {
+        assert_eq!(rt; carry_out(frames, *operation), Some(*told));
         assert_eq!(rt; shown(frames), (*pc, *values));
     }
 }
@@ -84,11 +73,19 @@ fn compare(rt: &impl Abort, frames: &mut Frames, rows: &[Row]) {
 fn frame_with(alloc: Global, room: u16, values: &[Value]) -> Result<Frames, AllocError> {
     let mut frames = frame_of(alloc, room)?;
     for value in values {
-        if !frames.is_empty() {
+        if 0 < frames.depth() {
             let _room = frames.replace_if_room(0, 0, *value).is_ok();
         }
     }
     Ok(frames)
+}
+
+/// The value that a constant pushes, if there is room for it.
+fn pushed(frames: &mut Frames, operand: Constant<i32, i64>) -> Option<Value> {
+    if frames.depth() == 0 || constant(frames, 7, operand).is_err() {
+        return None;
+    }
+    shown(frames).1[0]
 }
 
 /// Each constant alone, on a stack for a long.
@@ -105,13 +102,7 @@ fn constants_are_pushed(rt: HostRuntime) -> Result<(), AllocError> {
         (Constant::Long(i64::MIN), Value::Long(i64::MIN)),
     ] {
         let mut frames = frame_of(rt.alloc(), 2)?;
-        let row = (
-            Call::Constant(operand),
-            NONE_WRITTEN,
-            7,
-            [Some(value), None, None],
-        );
-        compare(&rt, &mut frames, [row].as_slice());
+        assert_eq!(rt; pushed(&mut frames, operand), Some(value));
     }
     Ok(())
 }
@@ -119,23 +110,21 @@ fn constants_are_pushed(rt: HostRuntime) -> Result<(), AllocError> {
 #[test]
 fn numbers_are_computed(rt: HostRuntime) -> Result<(), AllocError> {
     let mut frames = frame_with(rt.alloc(), 2, [Value::Int(7), Value::Int(1)].as_slice())?;
-    let halved = NumberOperation::Binary(NumberKind::Int, Operator::Shr);
-    let widened = NumberOperation::Convert(Conversion::IntToLong);
     let rows: [Row; 3] = [
         (
-            Call::Number(halved),
+            Operation::Ishr,
             NONE_WRITTEN,
             7,
             [Some(Value::Int(3)), None, None],
         ),
         (
-            Call::Number(widened),
+            Operation::I2l,
             NONE_WRITTEN,
             7,
             [Some(Value::Long(3)), None, None],
         ),
         (
-            Call::Number(widened),
+            Operation::I2l,
             Err(KIND),
             7,
             [Some(Value::Long(3)), None, None],
@@ -145,7 +134,7 @@ fn numbers_are_computed(rt: HostRuntime) -> Result<(), AllocError> {
     Ok(())
 }
 
-/// `lstore_1`, `astore 0`, `wide aload 0`, `lload_1`, `iload_2` of the long's upper half, and `istore_0` of a long.
+/// `lstore 1`, `astore 0`, `aload 0`, `lload 1`, `iload 2` of the long's upper half, and `istore 0` of a long.
 #[test]
 fn locals_are_stored_and_loaded(rt: HostRuntime) -> Result<(), AllocError> {
     let five = Some(Value::Ref(Some(5)));
@@ -155,45 +144,13 @@ fn locals_are_stored_and_loaded(rt: HostRuntime) -> Result<(), AllocError> {
         6,
         [Value::Ref(Some(5)), Value::Long(7)].as_slice(),
     )?;
-    let one = Local::First(FirstLocal::One);
-    let two = Local::First(FirstLocal::Two);
     let rows: [Row; 6] = [
-        (
-            Call::Local(LocalAccess::Store(Kind::Long, one)),
-            NONE_WRITTEN,
-            7,
-            [five, None, None],
-        ),
-        (
-            Call::Local(LocalAccess::Store(Kind::Ref, Local::Byte(0))),
-            Ok((1, Some(5))),
-            7,
-            [None; 3],
-        ),
-        (
-            Call::Local(LocalAccess::Load(Kind::Ref, Local::Wide(0))),
-            Ok((1, Some(5))),
-            7,
-            [five, None, None],
-        ),
-        (
-            Call::Local(LocalAccess::Load(Kind::Long, one)),
-            NONE_WRITTEN,
-            7,
-            [seven, five, None],
-        ),
-        (
-            Call::Local(LocalAccess::Load(Kind::Int, two)),
-            Err(LOCAL),
-            7,
-            [seven, five, None],
-        ),
-        (
-            Call::Local(LocalAccess::Store(Kind::Int, Local::Byte(0))),
-            Err(KIND),
-            7,
-            [seven, five, None],
-        ),
+        (Operation::Lstore(1), NONE_WRITTEN, 7, [five, None, None]),
+        (Operation::Astore(0), Ok((1, Some(5))), 7, [None; 3]),
+        (Operation::Aload(0), Ok((1, Some(5))), 7, [five, None, None]),
+        (Operation::Lload(1), NONE_WRITTEN, 7, [seven, five, None]),
+        (Operation::Iload(2), Err(LOCAL), 7, [seven, five, None]),
+        (Operation::Istore(0), Err(KIND), 7, [seven, five, None]),
     ];
     compare(&rt, &mut frames, rows.as_slice());
     Ok(())
@@ -202,28 +159,17 @@ fn locals_are_stored_and_loaded(rt: HostRuntime) -> Result<(), AllocError> {
 #[test]
 fn an_increment_wraps(rt: HostRuntime) -> Result<(), AllocError> {
     let mut frames = frame_with(rt.alloc(), 6, [Value::Int(i32::MAX)].as_slice())?;
-    let two = Local::First(FirstLocal::Two);
     let rows: [Row; 4] = [
+        (Operation::Istore(2), NONE_WRITTEN, 7, [None; 3]),
+        (Operation::Iinc(2, 1), NONE_WRITTEN, 7, [None; 3]),
         (
-            Call::Local(LocalAccess::Store(Kind::Int, two)),
-            NONE_WRITTEN,
-            7,
-            [None; 3],
-        ),
-        (
-            Call::Local(LocalAccess::Increment(Increment::Byte(2, 1))),
-            NONE_WRITTEN,
-            7,
-            [None; 3],
-        ),
-        (
-            Call::Local(LocalAccess::Load(Kind::Int, two)),
+            Operation::Iload(2),
             NONE_WRITTEN,
             7,
             [Some(Value::Int(i32::MIN)), None, None],
         ),
         (
-            Call::Local(LocalAccess::Increment(Increment::Wide(3, -1))),
+            Operation::Iinc(3, -1),
             Err(LOCAL),
             7,
             [Some(Value::Int(i32::MIN)), None, None],
@@ -239,30 +185,10 @@ fn longs_are_rearranged(rt: HostRuntime) -> Result<(), AllocError> {
     let nine = Some(Value::Long(9));
     let mut frames = frame_with(rt.alloc(), 6, [Value::Long(7), Value::Long(9)].as_slice())?;
     let rows: [Row; 4] = [
-        (
-            Call::Stack(StackOperation::Dup2X2),
-            NONE_WRITTEN,
-            7,
-            [nine, seven, nine],
-        ),
-        (
-            Call::Stack(StackOperation::Dup2),
-            Err(FULL),
-            7,
-            [nine, seven, nine],
-        ),
-        (
-            Call::Stack(StackOperation::Dup),
-            Err(KIND),
-            7,
-            [nine, seven, nine],
-        ),
-        (
-            Call::Stack(StackOperation::Pop2),
-            NONE_WRITTEN,
-            7,
-            [seven, nine, None],
-        ),
+        (Operation::Dup2X2, NONE_WRITTEN, 7, [nine, seven, nine]),
+        (Operation::Dup2, Err(FULL), 7, [nine, seven, nine]),
+        (Operation::Dup, Err(KIND), 7, [nine, seven, nine]),
+        (Operation::Pop2, NONE_WRITTEN, 7, [seven, nine, None]),
     ];
     compare(&rt, &mut frames, rows.as_slice());
     Ok(())
@@ -278,30 +204,10 @@ fn values_of_one_unit_are_rearranged(rt: HostRuntime) -> Result<(), AllocError> 
         [Value::Int(1), Value::Ref(Some(5))].as_slice(),
     )?;
     let rows: [Row; 4] = [
-        (
-            Call::Stack(StackOperation::DupX1),
-            Ok((2, Some(5))),
-            7,
-            [five, one, five],
-        ),
-        (
-            Call::Stack(StackOperation::Swap),
-            Ok((1, Some(5))),
-            7,
-            [one, five, five],
-        ),
-        (
-            Call::Stack(StackOperation::Pop),
-            NONE_WRITTEN,
-            7,
-            [five, five, None],
-        ),
-        (
-            Call::Stack(StackOperation::DupX2),
-            Err(EMPTY),
-            7,
-            [five, five, None],
-        ),
+        (Operation::DupX1, Ok((2, Some(5))), 7, [five, one, five]),
+        (Operation::Swap, Ok((1, Some(5))), 7, [one, five, five]),
+        (Operation::Pop, NONE_WRITTEN, 7, [five, five, None]),
+        (Operation::DupX2, Err(EMPTY), 7, [five, five, None]),
     ];
     compare(&rt, &mut frames, rows.as_slice());
     Ok(())
@@ -318,48 +224,28 @@ fn branches_are_taken(rt: HostRuntime) -> Result<(), AllocError> {
     let all = [Some(Value::Int(1)), Some(minus), Some(null)];
     let references = [Some(null), Some(three), None];
     let rows: [Row; 7] = [
+        (Operation::Goto(40), NONE_WRITTEN, 40, all),
         (
-            Call::Branch(Test::Always(Width::Wide)),
-            NONE_WRITTEN,
-            40,
-            all,
-        ),
-        (
-            Call::Branch(Test::Zero(Comparison::LessOrEqual)),
+            Operation::Ifle(40),
             NONE_WRITTEN,
             7,
             [Some(minus), Some(null), Some(three)],
         ),
+        (Operation::Iflt(40), NONE_WRITTEN, 40, references),
+        (Operation::Iflt(40), Err(KIND), 40, references),
         (
-            Call::Branch(Test::Zero(Comparison::Less)),
-            NONE_WRITTEN,
-            40,
-            references,
-        ),
-        (
-            Call::Branch(Test::Zero(Comparison::Less)),
-            Err(KIND),
-            40,
-            references,
-        ),
-        (
-            Call::Branch(Test::Null(Identity::Same)),
+            Operation::Ifnull(40),
             NONE_WRITTEN,
             40,
             [Some(three), None, None],
         ),
         (
-            Call::Branch(Test::Refs(Identity::Different)),
+            Operation::IfAcmpne(40),
             Err(EMPTY),
             40,
             [Some(three), None, None],
         ),
-        (
-            Call::Branch(Test::Null(Identity::Same)),
-            NONE_WRITTEN,
-            7,
-            [None; 3],
-        ),
+        (Operation::Ifnull(40), NONE_WRITTEN, 7, [None; 3]),
     ];
     compare(&rt, &mut frames, rows.as_slice());
     Ok(())
@@ -367,14 +253,14 @@ fn branches_are_taken(rt: HostRuntime) -> Result<(), AllocError> {
 
 /// The pc behind a switch; none where it is not carried out.
 fn pc_by_table(frames: &mut Frames, table: &TableSwitch<u16>) -> Option<u16> {
-    if frames.is_empty() || table_switched(frames, table).is_err() {
+    if frames.depth() == 0 || table_switched(frames, table).is_err() {
         return None;
     }
     Some(shown(frames).0)
 }
 
 fn pc_by_lookup(frames: &mut Frames, lookup: &LookupSwitch<u16>) -> Option<u16> {
-    if frames.is_empty() || lookup_switched(frames, lookup).is_err() {
+    if frames.depth() == 0 || lookup_switched(frames, lookup).is_err() {
         return None;
     }
     Some(shown(frames).0)

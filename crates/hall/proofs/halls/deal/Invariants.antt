@@ -7,5 +7,5 @@ abbrev pub invariant-loop-worker : goal.invariant-loop-worker
 invariant-loop-worker g l = record {
   parts : l.all.parts + l.worker ≡ length l.roles;
   none : l.all.amount ≡ 0;
-  rest : l.shares.items ++ dealt l.extra l.worker (drop l.worker l.roles) ≡ dealt l.extra 0 l.roles;
+  rest : l.shares.items ++ dealt l.burst l.worker (drop l.worker l.roles) ≡ dealt l.burst 0 l.roles;
 }

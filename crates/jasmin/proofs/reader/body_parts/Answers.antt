@@ -3,19 +3,19 @@ use Rattle.std.proofs.lemmas.Result.{err_from_is_err_and, MatchResult-weaker}
 use Rattle.jasmin.proofs.BodyLemmas.{rest_nothing, rest_line, rest_row, rest_opens, rest_stack, rest_stack_twice, rest_locals, rest_locals_twice, rest_end, behind_end, behind_other}
 use Rattle.jasmin.proofs.reader.body_parts.Goals as goal
 
-pub returns-in_err-part_of : goal.returns-in_err-part_of
-returns-in_err-part_of c =
-    let p = err_from_is_err_and c.from_residual-in_err-part_of.result c.from_residual-in_err-part_of.ensures.1 in
+pub returns-in_err-noted_part : goal.returns-in_err-noted_part
+returns-in_err-noted_part c =
+    let p = err_from_is_err_and c.from_residual-in_err-noted_part.result c.from_residual-in_err-noted_part.ensures.1 in
     let read = rw c.in-Some.is at c.in_ok-statement.ensures in
     let begun = rw (← c.take.ensures.value) at c.rows.invariant.rest in
     rw (p.1, p.2)
-    (λ h. sym begun ∙ rest_nothing c.rows.stack c.rows.locals c.rows.rows.items c.rows.lines.items _ c.rows.statements _ _ read (c.in_err-part_of.ensures h))
+    (λ h. sym begun ∙ rest_nothing c.rows.stack c.rows.locals c.rows.rows.items c.rows.lines.items _ c.rows.statements _ _ read (c.in_err-noted_part.ensures h))
 
 pub returns-in-End : goal.returns-in-End
 returns-in-End c =
     let read = rw c.in-Some.is at c.in_ok-statement.ensures in
     let begun = rw (← c.take.ensures.value) at c.rows.invariant.rest in
-    let says = rw c.in-End.is at c.in_ok-part_of.ensures in
+    let says = rw c.in-End.is at c.in_ok-noted_part.ensures in
     let whole = sym begun ∙ rest_end c.rows.stack c.rows.locals c.rows.rows.items c.rows.lines.items _ c.rows.statements _ _ read says in
     MatchResult-weaker c.whole_body.result c.whole_body.ensures
     (λ body h. (whole ∙ h, sym (behind_end c.rows.statements _ _ read says.1) ∙ c.rows.invariant.behind))
@@ -25,14 +25,14 @@ pub returns-then-is_some : goal.returns-then-is_some
 returns-then-is_some c =
     let read = rw c.in-Some.is at c.in_ok-statement.ensures in
     let begun = rw (← c.take.ensures.value) at c.rows.invariant.rest in
-    let says = rw c.in-StackLimit.is at c.in_ok-part_of.ensures in
+    let says = rw c.in-StackLimit.is at c.in_ok-noted_part.ensures in
     λ _. sym begun ∙ rest_stack_twice c.rows.stack c.rows.locals c.rows.rows.items c.rows.lines.items _ c.rows.statements _ _ c.in-StackLimit.n c.if-is_some.ensures read says
 
 pub rows-preserved-in-StackLimit : goal.rows-preserved-in-StackLimit
 rows-preserved-in-StackLimit c =
     let read = rw c.in-Some.is at c.in_ok-statement.ensures in
     let begun = rw (← c.take.ensures.value) at c.rows.invariant.rest in
-    let says = rw c.in-StackLimit.is at c.in_ok-part_of.ensures in
+    let says = rw c.in-StackLimit.is at c.in_ok-noted_part.ensures in
     rw c.take.ensures.after
     record {
       rest = sym (rest_stack c.rows.stack c.rows.locals c.rows.rows.items c.rows.lines.items _ c.rows.statements _ _ c.in-StackLimit.n c.if-is_some.ensures read says) ∙ begun;
@@ -43,14 +43,14 @@ pub returns-then-is_some-2 : goal.returns-then-is_some-2
 returns-then-is_some-2 c =
     let read = rw c.in-Some.is at c.in_ok-statement.ensures in
     let begun = rw (← c.take.ensures.value) at c.rows.invariant.rest in
-    let says = rw c.in-LocalsLimit.is at c.in_ok-part_of.ensures in
+    let says = rw c.in-LocalsLimit.is at c.in_ok-noted_part.ensures in
     λ _. sym begun ∙ rest_locals_twice c.rows.stack c.rows.locals c.rows.rows.items c.rows.lines.items _ c.rows.statements _ _ c.in-LocalsLimit.n c.if-is_some-2.ensures read says
 
 pub rows-preserved-in-LocalsLimit : goal.rows-preserved-in-LocalsLimit
 rows-preserved-in-LocalsLimit c =
     let read = rw c.in-Some.is at c.in_ok-statement.ensures in
     let begun = rw (← c.take.ensures.value) at c.rows.invariant.rest in
-    let says = rw c.in-LocalsLimit.is at c.in_ok-part_of.ensures in
+    let says = rw c.in-LocalsLimit.is at c.in_ok-noted_part.ensures in
     rw c.take.ensures.after
     record {
       rest = sym (rest_locals c.rows.stack c.rows.locals c.rows.rows.items c.rows.lines.items _ c.rows.statements _ _ c.in-LocalsLimit.n c.if-is_some-2.ensures read says) ∙ begun;
@@ -61,7 +61,7 @@ pub rows-preserved-in-Continue-branch-5 : goal.rows-preserved-in-Continue-branch
 rows-preserved-in-Continue-branch-5 c =
     let read = rw c.in-Some.is at c.in_ok-statement.ensures in
     let begun = rw (← c.take.ensures.value) at c.rows.invariant.rest in
-    let says = rw c.in-Row.is at c.in_ok-part_of.ensures in
+    let says = rw c.in-Row.is at c.in_ok-noted_part.ensures in
     rw (c.take.ensures.after, c.in_ok-push-in-Row.ensures.items)
     record {
       rest = sym (rest_row c.rows.stack c.rows.locals c.rows.rows.items c.rows.lines.items _ c.rows.statements _ _ c.in-Row.row read says) ∙ begun;
@@ -72,7 +72,7 @@ pub rows-preserved-in-Continue-branch-6 : goal.rows-preserved-in-Continue-branch
 rows-preserved-in-Continue-branch-6 c =
     let read = rw c.in-Some.is at c.in_ok-statement.ensures in
     let begun = rw (← c.take.ensures.value) at c.rows.invariant.rest in
-    let says = rw c.in-Line.is at c.in_ok-part_of.ensures in
+    let says = rw c.in-Line.is at c.in_ok-noted_part.ensures in
     rw (c.take.ensures.after, c.in_ok-push-in-Line.ensures.items)
     record {
       rest = sym (rest_line c.rows.stack c.rows.locals c.rows.rows.items c.rows.lines.items _ c.rows.statements _ _ c.in-Line.line read says) ∙ begun;
@@ -83,7 +83,7 @@ pub rows-preserved : goal.rows-preserved
 rows-preserved c =
     let read = rw c.in-Some.is at c.in_ok-statement.ensures in
     let begun = rw (← c.take.ensures.value) at c.rows.invariant.rest in
-    let says = rw c.in-Open.is at c.in_ok-part_of.ensures in
+    let says = rw c.in-Open.is at c.in_ok-noted_part.ensures in
     record {
       rest = sym (rest_opens c.rows.stack c.rows.locals c.rows.rows.items c.rows.lines.items _ c.rows.statements _ _ _ read says.0 says.1) ∙ begun;
       behind = sym (behind_other c.rows.statements _ _ read says.0) ∙ c.rows.invariant.behind;

@@ -5,6 +5,6 @@ pub returns-in-Ok : goal.returns-in-Ok
 unfolding tree_of
 returns-in-Ok c = rw (← c.new-statements.ensures) c.in-Ok.ensures
 
-pub returns-in-Err : goal.returns-in-Err
+pub returns : goal.returns
 unfolding tree_of
-returns-in-Err c = λ h. rw (← c.new-statements.ensures) (c.in-Err.ensures (λ e. h (c.told.ensures e)))
+returns c = λ h. rw (← c.new-statements.ensures) (c.in-Err.ensures (λ e. h (c.told.ensures e)))

@@ -1,14 +1,15 @@
 use Rattle.std.proofs.Common.{refl, arith}
+use Rattle.frames.specs.Activations.{last_of}
 use Rattle.frames.proofs.LayoutLemmas.{opened, sound_put, view_put, running_is, stands_last}
 use Rattle.frames.proofs.thread_frames.Frames.clear.Goals as goal
 
 pub invariant_of-self : goal.invariant_of-self
 invariant_of-self c =
-    let o = opened _ _ _ _ _ _ _ c.self.invariant c.self.view_is c.requires (omega arith) c.index_mut-running.ensures.value in
+    let o = opened _ _ _ _ (last_of c.self.inside.activations) c.self.invariant c.self.view_is c.requires refl in
     let stands = (stands_last o).stands in
-    sound_put o _ _ refl refl (record { begins = refl; taken_is = refl; fits = omega arith }) refl
+    rw c.set_stack.ensures (sound_put o _ _ refl refl (record { begins = refl; taken_is = refl; fits = omega arith }) refl)
 
 pub returns : goal.returns
 returns c =
-    let o = opened _ _ _ _ _ _ _ c.self.invariant c.self.view_is c.requires (omega arith) c.index_mut-running.ensures.value in
-    rw (running_is o) (view_put o _ _ refl)
+    let o = opened _ _ _ _ (last_of c.self.inside.activations) c.self.invariant c.self.view_is c.requires refl in
+    rw (c.set_stack.ensures, running_is o) (view_put o _ _ refl)

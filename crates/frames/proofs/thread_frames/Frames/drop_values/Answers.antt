@@ -1,29 +1,29 @@
-use Rattle.std.proofs.Common.{refl, arith}
+use Rattle.std.proofs.Common.{refl}
 use Rattle.frames.proofs.LayoutLemmas.{opened, sound_put, drops, view_drop}
 use Rattle.frames.proofs.thread_frames.Frames.drop_values.Goals as goal
 
-pub overflow_sub-running : goal.overflow_sub-running
-overflow_sub-running c =
-    let o = opened _ _ _ _ _ _ _ c.self.invariant c.self.view_is c.requires.some (omega arith) c.index_mut-running.ensures.value in
+pub overflow_sub-values : goal.overflow_sub-values
+overflow_sub-values c =
+    let o = opened _ _ _ _ _ c.self.invariant c.self.view_is c.requires.some c.running-running.ensures in
     (drops o _ _ c.requires.there c.requires.sized).0
 
-pub overflow_sub-running-2 : goal.overflow_sub-running-2
-overflow_sub-running-2 c =
-    let o = opened _ _ _ _ _ _ _ c.self.invariant c.self.view_is c.requires.some (omega arith) c.index_mut-running.ensures.value in
+pub overflow_sub-running : goal.overflow_sub-running
+overflow_sub-running c =
+    let o = opened _ _ _ _ _ c.self.invariant c.self.view_is c.requires.some c.running-running.ensures in
     (drops o _ _ c.requires.there c.requires.sized).1
 
 pub invariant_of-self : goal.invariant_of-self
 invariant_of-self c =
-    let o = opened _ _ _ _ _ _ _ c.self.invariant c.self.view_is c.requires.some (omega arith) c.index_mut-running.ensures.value in
+    let o = opened _ _ _ _ _ c.self.invariant c.self.view_is c.requires.some c.running-running.ensures in
     let stands = (drops o _ _ c.requires.there c.requires.sized).3 in
-    sound_put o _ _ refl refl (record { begins = stands.begins; taken_is = stands.taken_is; fits = stands.fits }) refl
+    rw (c.set_stack.ensures, ← c.running-running.ensures) (sound_put o _ _ refl refl (record { begins = stands.begins; taken_is = stands.taken_is; fits = stands.fits }) refl)
 
 pub returns-clause-left : goal.returns-clause-left
 returns-clause-left c =
-    let o = opened _ _ _ _ _ _ _ c.self.invariant c.self.view_is c.requires.some (omega arith) c.index_mut-running.ensures.value in
-    view_drop o _ _ _ (drops o _ _ c.requires.there c.requires.sized).0
+    let o = opened _ _ _ _ _ c.self.invariant c.self.view_is c.requires.some c.running-running.ensures in
+    rw (c.set_stack.ensures, ← c.running-running.ensures) (view_drop o _ _ _ (drops o _ _ c.requires.there c.requires.sized).0)
 
 pub returns-clause-room : goal.returns-clause-room
 returns-clause-room c =
-    let o = opened _ _ _ _ _ _ _ c.self.invariant c.self.view_is c.requires.some (omega arith) c.index_mut-running.ensures.value in
+    let o = opened _ _ _ _ _ c.self.invariant c.self.view_is c.requires.some c.running-running.ensures in
     (drops o _ _ c.requires.there c.requires.sized).2

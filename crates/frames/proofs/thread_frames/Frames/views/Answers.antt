@@ -1,11 +1,12 @@
-use Rattle.std.proofs.Common.{arith}
-use Rattle.frames.proofs.ViewLemmas.{sound_within}
+use Rattle.std.proofs.Common.{sym, arith}
+use Rattle.frames.proofs.RootLemmas.{region_of}
+use Rattle.frames.proofs.ViewLemmas.{views_more}
 use Rattle.frames.proofs.thread_frames.Frames.views.Goals as goal
 
 pub view_of-requires : goal.view_of-requires
 view_of-requires c =
-    let long = c.self.invariant.units_are in
-    record {
-      fits = rw c.deref-activation-items.ensures.value (sound_within _ _ _ _ _ _ c.self.invariant (rw c.deref-activation-items.ensures.value at c.loop-activation-test.true));
-      few = omega arith;
-    }
+    let region = region_of _ _ _ _ _ c.self.invariant (sym c.at.ensures) in
+    record { fits = omega arith; few = omega arith }
+
+pub loop-depth-preserved : goal.loop-depth-preserved
+loop-depth-preserved c = views_more _ _ _ _ _ _ _ (sym c.at.ensures) c.loop-depth.invariant c.in_ok-view_of.ensures c.in_ok-push.ensures.items

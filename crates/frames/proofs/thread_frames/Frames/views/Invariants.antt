@@ -2,5 +2,5 @@ use Rattle.std.proofs.Common.{◌≡◌, map, take}
 use Rattle.frames.specs.Layout.{frame_of}
 use Rattle.frames.proofs.thread_frames.Frames.views.Given as goal
 
-abbrev pub invariant-loop-activation : goal.invariant-loop-activation
-invariant-loop-activation l = l.views.items ≡ map (frame_of l.self-inside.units) (take l.activation-index l.activation-items)
+abbrev pub invariant-loop-depth : goal.invariant-loop-depth
+invariant-loop-depth l = l.views.items ≡ map (frame_of l.self-inside.units) (take l.depth l.self-inside.activations)

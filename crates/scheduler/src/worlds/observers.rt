@@ -1,0 +1,48 @@
+//! All that a world shows, for those who compare it with another one.
+ghost use Rattle.std.specs.Prelude.{◌≡◌, IfOk, length, map};
+ghost use Rattle.model.specs.Machines.{machine_of};
+ghost use Rattle.model.specs.Observers.{ideal};
+ghost use Rattle.scheduler.specs.Showing.{shown_in};
+
+use super::World;
+use instructions::held::HeldView;
+use model::turns::ClassState;
+use model::views::FieldView;
+use std::alloc::AllocError;
+
+impl World {
+    /// How many turns were done or at fault.
+    pub(crate) fn rows(&self) -> u32
+        ensures { result ≡ (ideal self.now).rows }
+    {
+        self.state.rows()
+    }
+
+    /// How many threads were started.
+    pub(crate) fn thread_count(&self) -> u8
+        ensures { result ≡ length (ideal self.now).threads }
+    {
+        self.state.thread_count()
+    }
+
+    /// The states of the program's classes, in order.
+    pub(crate) fn class_states(&self) -> &[ClassState]
+        ensures { result.now ≡ (ideal self.now).statics.states }
+    {
+        self.state.class_states()
+    }
+
+    /// A copy of the static fields, in class and field order. `AllocError` where memory runs out.
+    pub(crate) fn static_fields(&self) -> Result<Vec<FieldView>, AllocError>
+        ensures { IfOk result (λ views. views.items ≡ (ideal self.now).statics.fields) }
+    {
+        self.state.static_fields()
+    }
+
+    /// A copy of what each cell holds, in order; none where no path leads to its birth. `AllocError` where memory runs out.
+    pub(crate) fn helds(&self) -> Result<Vec<Option<HeldView>>, AllocError>
+        ensures { IfOk result (λ views. views.items ≡ map (shown_in (machine_of self.now)) (machine_of self.now).account.cells) }
+    {
+        self.state.helds()
+    }
+}

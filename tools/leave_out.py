@@ -1,0 +1,145 @@
+#!/usr/bin/env python3
+"""Writes the second half of a wrong body's edit: what its function doesn't need is left out, so that the gate proves a
+few functions for it, and not the crate.
+
+    tools/leave_out.py CRATE EDIT [--try]
+
+The module of the edit's first file stays, with all that it names: modules, definitions and lemmas. Other modules stand
+under cfg(test), and what names one of them (a file of specs/ or proofs/) is a comment. The pairs come behind the line
+MARK, in place of what stood there. With --try the crate without what is left out is checked, wrong body and all but the
+first file's pairs, and has to be proved. It gains where the edit is the crate's only one: with two or more the gate
+proves the whole crate once more.
+"""
+
+import os
+import re
+import sys
+
+from try_wrong_bodies import load_rt
+
+MARK = "The rest leaves out what its function doesn't need, and is written by tools/leave_out.py."
+
+
+def read(path):
+    with open(path, encoding="utf-8") as file:
+        return file.read()
+
+
+def files_below(folder, ending):
+    return [f"{at}/{name}" for at, _, names in os.walk(folder) for name in sorted(names) if name.endswith(ending)]
+
+
+class Parts:
+    """The parts of a crate: its modules by name, and its files of definitions and lemmas by dotted path."""
+
+    def __init__(self, folder, crate):
+        self.folder, self.crate = folder, crate
+        self.root = read(f"{folder}/src/lib.rt")
+        modules = re.findall(r"^(?:pub )?mod (\w+);", self.root, re.M)
+        self.modules = {name: self.text_of_module(name) for name in modules}
+        self.passed_on = {}
+        for module, names in re.findall(r"^pub use (?:crate::)?(\w+)::(.*?);", self.root, re.M | re.S):
+            self.passed_on.update({name: module for name in re.findall(r"\w+", names)})
+        self.paths = {}
+        for kind in ("specs", "proofs"):
+            for path in files_below(f"{folder}/{kind}", ".antt"):
+                inside = os.path.relpath(path, f"{folder}/{kind}")[: -len(".antt")]
+                of_module = kind == "proofs" and inside.split("/")[0] in self.modules
+                if inside != "Lib" and not of_module:
+                    self.paths[f"{kind}.{inside.replace('/', '.')}"] = path
+        self.files = {name: read(path) for name, path in self.paths.items()}
+
+    def text_of_module(self, name):
+        paths = [f"{self.folder}/{part}/{name}{end}" for part, end in (("src", ".rt"), ("proofs", ".antt"))]
+        paths = [path for path in paths if os.path.isfile(path)]
+        paths += files_below(f"{self.folder}/src/{name}", ".rt") + files_below(f"{self.folder}/proofs/{name}", ".antt")
+        return "\n".join(read(path) for path in paths)
+
+    def modules_in(self, text):
+        named = set(re.findall(r"\bcrate::(\w+)", text))
+        named |= set(re.findall(rf"Rattle\.{self.crate}\.(?:specs\.declared|specs\.contracts|proofs)\.(\w+)", text))
+        for group in re.findall(r"\buse crate::\{(.*?)\};", text, re.S):
+            named |= set(re.findall(r"\w+", group))
+        return {self.passed_on.get(name, name) for name in named} & set(self.modules)
+
+    def files_in(self, text):
+        named = set()
+        for path in re.findall(rf"(?:Rattle\.{self.crate}\.|crate::)((?:specs|proofs)(?:\.|::)[\w.:]+)", text):
+            path = path.replace("::", ".").rstrip(".")
+            while path and path not in self.files:
+                path = path.rpartition(".")[0]
+            named |= {path} - {""}
+        return named
+
+    def needed(self, module):
+        """The module and all that it names."""
+        found, left = set(), [module]
+        while left:
+            name = left.pop()
+            if name not in found:
+                found.add(name)
+                text = self.modules[name] if name in self.modules else self.files[name]
+                left += self.modules_in(text) | self.files_in(text)
+        return found
+
+    def lost(self, needed):
+        """The files that name what is left out."""
+        lost = {name for name, text in self.files.items() if name not in needed and self.modules_in(text) - needed}
+        while more := {name for name, text in self.files.items() if name not in needed | lost and self.files_in(text) & lost}:
+            lost |= more
+        return lost
+
+
+def as_comment(text):
+    """The pairs that make a file of definitions a comment. Each line that they name stands in it once; where its last line
+    is a brace, that becomes the end of an import."""
+    lines = text.rstrip("\n").split("\n")
+    ends = [lines[0], lines[-1]] if lines[-1] != "}" else [lines[0], *lines[-3:-1]]
+    if re.search(r"^(pub )?mod ", text, re.M) or any(text.count(line) != 1 for line in ends):
+        return None
+    new = ["{-", "-}", "use Rattle.std.specs.Prelude.{Some"]
+    return [part for pair in zip(ends, new) for part in (f"old: {pair[0]}", f"new: {pair[1]}")]
+
+
+def pairs(parts, needed):
+    lines = ["file: src/lib.rt"]
+    for line in parts.root.split("\n"):
+        found = re.match(r"(?:pub )?mod (\w+);|pub use (?:crate::)?(\w+)::", line)
+        name = found and (found[1] or found[2])
+        if name in parts.modules and name not in needed and f"#[cfg(test)]\n{line}" not in parts.root:
+            lines += [f"old: {found[0]}", f"new: #[cfg(test)] {found[0]}"]
+    for name in sorted(parts.lost(needed)):
+        found = as_comment(parts.files[name])
+        if not found:
+            sys.exit(f"{name} can't be made a comment: its first or last line stands twice in it, or it names files")
+        lines += [f"file: {os.path.relpath(parts.paths[name], parts.folder)}", *found]
+    return lines
+
+
+def main():
+    if len(sys.argv) < 3:
+        print(__doc__)
+        return 2
+    crate, name = sys.argv[1], sys.argv[2].removesuffix(".edit")
+    folder = os.path.join(os.path.dirname(os.path.dirname(os.path.realpath(__file__))), "crates", crate)
+    edit = f"{folder}/must-fail/{name}.edit"
+    wrong = read(edit).split(MARK)[0].rstrip("\n").split("\n")
+    module = next(line for line in wrong if line.startswith("file: src/")).removeprefix("file: src/")
+    parts = Parts(folder, crate)
+    rest = pairs(parts, parts.needed(re.split(r"[/.]", module)[0]))
+    with open(edit, "w", encoding="utf-8") as file:
+        file.write("\n".join([*wrong, MARK, *rest, ""]))
+    if "--try" not in sys.argv:
+        return 0
+    rt = load_rt()
+    root = os.path.dirname(os.path.dirname(folder))
+    os.chdir(root)
+    found = next(it for it in rt.rtlib.crates_below(root) if it.name == crate)
+    texts, why = rt.edited("\n".join(rest), folder)
+    ran = why or rt.checked(found, texts, ["--jobs", "1"], None)
+    print(ran if why else ran.stdout.rstrip("\n").split("\n")[-1])
+    return 1 if why else ran.returncode
+
+
+if __name__ == "__main__":
+    sys.exit(main())
