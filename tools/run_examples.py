@@ -4,12 +4,12 @@
     tools/run_examples.py [--jvm PATH] [--after LOG]
 
 A text NAME.j that has NAME.out beside it is a program (Square.j with Shape.j): it is run from its texts and from its class
-files, twice each with one journal, and the journal is replayed. NAME.out has its output, its lines on standard error and its
-status. Each text is assembled, disassembled and assembled again, which gives the
+files, twice each with one journal, the second time beside the ideal run (`--check`), and the journal is replayed. NAME.out has
+its output, its lines on standard error and its status. Each text is assembled, disassembled and assembled again, which gives the
 same class file. The class files of examples/java are run in the same way; there NAME.out is what `java`
 printed. The programs of examples/rows.txt are run turn by turn. All but those of rows.txt that have
-several threads, or find no room for an object, are also run by four carriers, and the journals of these runs are replayed:
-they print the same, whoever took which turn. The sessions of examples/sessions.txt are played command by command.
+several threads, or find no room for an object, are also run by four carriers beside the ideal run, and the journals of these
+runs are replayed: they print the same, whoever took which turn. The sessions of examples/sessions.txt are played command by command.
 
 The last line is 'N passed, M failed'. With --after, the passes and failures in the last line of that file are added.
 """
@@ -32,6 +32,8 @@ OTHERS = {"Square": ["Shape"]}
 # room for what the programs of examples/java make, and time for the collector
 ROOM = ["--small", "2000", "--medium", "400", "--large", "100", "--steps", "16000000"]
 CARRIERS = ["--carriers", "4"]
+# beside the ideal run, with which each turn is compared
+CHECK = "--check"
 # what threads come to that may lock each other out
 BY_SCHEDULE = {"D"}
 
@@ -63,10 +65,10 @@ def round_trip(jvm, text, room):
 
 
 def difference(jvm, files, options, wanted, room):
-    """How a run of these files, its replay and a second run differ from what is wanted, or nothing."""
+    """How a run of these files, its replay and a second run, beside the ideal run, differ from what is wanted, or nothing."""
     journals = [f"{room}/journal", f"{room}/second"]
-    for journal in journals:
-        shown = run(jvm, "run", *options, "--journal", journal, *files)
+    for journal, more in zip(journals, ([], [CHECK])):
+        shown = run(jvm, "run", *options, *more, "--journal", journal, *files)
         if shown != wanted:
             return f"run: {shown.decode(errors='replace')}"
     if bytes_of(journals[0]) != bytes_of(journals[1]):
@@ -76,9 +78,9 @@ def difference(jvm, files, options, wanted, room):
 
 
 def carried(jvm, files, options, wanted, room):
-    """How a run of these files by four carriers, or its replay, differs from what is wanted, or nothing."""
+    """How a run of these files by four carriers beside the ideal run, or its replay, differs from what is wanted, or nothing."""
     journal = f"{room}/carried"
-    shown = run(jvm, "run", *CARRIERS, *options, "--journal", journal, *files)
+    shown = run(jvm, "run", *CARRIERS, CHECK, *options, "--journal", journal, *files)
     if shown != wanted:
         return f"by four carriers: {shown.decode(errors='replace')}"
     if b"\nworkers 5\n" not in bytes_of(journal):
@@ -138,7 +140,7 @@ def tried_rows(jvm, room):
                 file.write(text + "\n")
         small, medium, large = cells
         shape = ["--small", small, "--medium", medium, "--large", large]
-        shown = run(jvm, "run", "--gc", "0", *shape, "--journal", f"{room}/journal", *files)
+        shown = run(jvm, "run", CHECK, "--gc", "0", *shape, "--journal", f"{room}/journal", *files)
         printed, _, status = shown.decode().rpartition("status ")
         turns = turns_of(f"{room}/journal")
         told = f"{printed}{status.strip()}:{turns}"

@@ -21,6 +21,8 @@ pub enum Exit {
     System,
     /// no command line
     CommandLine,
+    /// a run differs from the ideal run of its program
+    Differs,
 }
 
 impl Exit {
@@ -35,6 +37,7 @@ impl Exit {
             Exit::Stuck => 5,
             Exit::System => 6,
             Exit::CommandLine => 7,
+            Exit::Differs => 8,
         }
     }
 }

@@ -17,6 +17,7 @@ use loader::LoadError;
 use model::journals::{HeapShape, Limits};
 use model::turns::Status;
 use model::views::ThreadState;
+use scheduler::checking::first_difference;
 use scheduler::worlds::{World, WorldError};
 use std::alloc::{AllocError, Global};
 use std::io::{Read, Write};
@@ -200,7 +201,17 @@ fn not_carried(alloc: Global, error: HallError) -> Ending {
     }
 }
 
-/// Writes the output of a run and then its journal, where one is wanted.
+/// The end of a run that was compared with the ideal run of its program: its own, unless they differ or memory runs out.
+fn checked(alloc: Global, world: &World) -> Ending {
+    match first_difference(alloc, world) {
+        Ok(None) => ended(alloc, world),
+        Ok(Some(row)) => Ending::told(Exit::Differs, format!(in alloc; "row {row} differs")),
+        Err(_) => Ending::memory(),
+    }
+}
+
+/// Writes the output of a run and then its journal, where one is wanted, and compares it with the ideal run, where that is
+/// wanted.
 fn written<F: Files, W: Write>(
     alloc: Global,
     options: &RunOptions,
@@ -215,6 +226,9 @@ fn written<F: Files, W: Write>(
     write_output(alloc, &world, output)?;
     if let Some(name) = &options.journal {
         write_stored(alloc, files, name, world.journal())?;
+    }
+    if options.check {
+        return Ok(checked(alloc, &world));
     }
     Ok(ended(alloc, &world))
 }
@@ -319,7 +333,8 @@ fn tell<E: Write>(errors: &mut E, ending: &Ending) {
 
 /// Does what a command says with files, standard input, output and error, and answers the exit status: 0 where all threads
 /// ended or a file was written, 1 a thread ended by an exception, 2 refused input, 3 a fault, 4 a limit, 5 stuck, 6 memory, a
-/// thread that can't be started or a file that can't be read or written. The carriers of a run are threads of the runtime.
+/// thread that can't be started or a file that can't be read or written, 8 a run that differs from the ideal run with which it
+/// is compared. The carriers of a run are threads of the runtime.
 pub fn execute<R: Threads + Wait + Sync, F: Files, I: Read, W: Write, E: Write>(
     rt: &R,
     alloc: Global,

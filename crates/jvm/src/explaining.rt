@@ -60,7 +60,7 @@ const FAMILIES: [Family; 10] = [
     Family {
         letter: "",
         first: 0,
-        last: 7,
+        last: 8,
     },
 ];
 
@@ -309,6 +309,9 @@ fn status_meaning(number: u32) -> Option<&'static str> {
         6 =>
             "Memory ran out, a file could not be read or written, or a thread could not be started.\n",
         7 => "The command line is wrong: see `jvm --help`.\n",
+        8 =>
+            "A run by `--check` differs from the ideal run of its program: `jvm: row 12 differs`.\n\
+             It is proved that this can't be: please report it, with the files and the journal.\n",
         _ => return None,
     };
     Some(meaning)

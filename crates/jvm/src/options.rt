@@ -49,6 +49,8 @@ pub struct RunOptions {
     pub carriers: u8,
     /// where the journal is written, if anywhere
     pub journal: Option<String>,
+    /// whether the run is compared with the ideal run, turn by turn
+    pub check: bool,
     pub files: Vec<String>,
 }
 
@@ -130,6 +132,12 @@ fn run_line<'a>(alloc: Global) -> Result<Line<'a>, AllocError> {
         .long("journal")
         .value_name("PATH")
         .help("writes the journal of the run, which `jvm replay` takes");
+    let check = Arg::new(alloc, "check")
+        .long("check")
+        .action(ArgAction::SetTrue)
+        .help(
+            "makes each turn once more beside a plain run on whose heap nothing is freed, and compares all that is seen; the time of a turn grows with the heap",
+        );
     Line::new(alloc, "run")
         .about("Runs the main of the first file's class")
         .arg(number(alloc, "small", "64", "cells of 4 words")?)?
@@ -150,6 +158,7 @@ fn run_line<'a>(alloc: Global) -> Result<Line<'a>, AllocError> {
             "threads that carry turns, 1 to 8; from 2 on the collector is one beside them, and --gc says nothing",
         )?)?
         .arg(journal)?
+        .arg(check)?
         .arg(sources(alloc))
 }
 
@@ -259,6 +268,7 @@ fn run_options(alloc: Global, matches: &ArgMatches<'_>) -> Result<RunOptions, Li
         gc,
         carriers: carriers as u8,
         journal: path(alloc, matches, "journal")?,
+        check: matches.get_flag("check"),
         files: files(alloc, matches)?,
     })
 }

@@ -2,6 +2,8 @@
 #![tactic(auto)]
 
 #[cfg(test)]
+mod checking_tests;
+#[cfg(test)]
 mod hall_tests;
 #[cfg(test)]
 mod heap_tests;
