@@ -4,7 +4,7 @@ ghost use Rattle.std.specs.Option.{option_map};
 ghost use Rattle.model.specs.Accepted.Refusals.{refusal_of};
 ghost use Rattle.model.specs.Frames.{running, running_frame};
 ghost use Rattle.instructions.specs.CallsByNumbers.{printed_by_call};
-ghost use Rattle.instructions.specs.Operated.{printed_at, standing, waits_at, waits_by};
+ghost use Rattle.instructions.specs.Operated.{may_wait, printed_at, standing, waits_at, waits_by};
 
 use crate::kinds::Course;
 use crate::machines::Machine;
@@ -13,6 +13,21 @@ use frames::Frames;
 use loader::operations::Operation;
 use loader::programs::Program;
 use model::turns::Mark;
+
+/// Whether an operation may wait: it uses a class, calls a method on an object, or enters a monitor.
+#[inline(always)]
+fn may_wait(operation: Operation) -> bool
+    ensures { result ≡ may_wait operation }
+{
+    match operation {
+        Operation::Getstatic(_) | Operation::Putstatic(_) | Operation::New(_) => true,
+        Operation::Invokestatic(_, _)
+        | Operation::Invokevirtual(_, _)
+        | Operation::Invokespecial(_, _, _)
+        | Operation::Monitorenter => true,
+        _ => false,
+    }
+}
 
 /// How many bytes an operation would print, its operand being right.
 #[tactic(auto, using(crate::proofs::ReadinessLemmas::others))]
@@ -57,7 +72,7 @@ pub(crate) fn print_length(program: &Program, frames: &Frames) -> Option<usize>
 
 impl Machine {
     /// Whether the step of a thread's running frame waits for another thread: for its initialisation of a class, for a
-    /// monitor, or for its end.
+    /// monitor, or for its end. Most steps are such that they never do.
     fn step_waits(&self, program: &Program, courses: &[Course], thread: u8, frames: &Frames) -> bool
         requires accepted { refusal_of program.now ≡ None }
         requires some { 0 < length frames.now }
@@ -66,6 +81,9 @@ impl Machine {
             result ≡ waits_by program.now courses.now self.now thread f (standing program.now f).operation }
     {
         let step = program.step(frames.method(), frames.pc());
+        if !may_wait(step.operation) {
+            return false;
+        }
         self.must_wait(program, thread, step.operation)
             || self.awaits_thread(program, courses, thread, frames, step.operation)
     }
