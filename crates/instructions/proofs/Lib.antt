@@ -55,6 +55,7 @@ pub mod OwnWords
 pub mod PlainRunLemmas
 pub mod PrintLemmas
 pub mod PushLemmas
+pub mod QuickLemmas
 pub mod ReachedLemmas
 pub mod ReadinessLemmas
 pub mod Refusing

@@ -28,6 +28,8 @@ mod opening;
 mod own_prints;
 mod printing;
 mod pushes;
+mod quick_arrays;
+mod quick_fields;
 mod readiness;
 mod returns;
 mod starting;
