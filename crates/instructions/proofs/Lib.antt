@@ -39,6 +39,7 @@ pub mod KeyedFields
 pub mod KeyedLemmas
 pub mod Layouts
 mod LandingLemmas
+pub mod LeapLemmas
 pub mod LeavingLemmas
 pub mod ListPlaces
 pub mod LookedLemmas

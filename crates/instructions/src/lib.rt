@@ -29,6 +29,7 @@ mod own_prints;
 mod printing;
 mod pushes;
 mod quick_arrays;
+mod quick_calls;
 mod quick_fields;
 mod readiness;
 mod returns;
