@@ -23,6 +23,7 @@ impl Frames {
             0 => 0,
             1 => units_in(self.held(0)),
             2 => units_in(self.held(0)) + units_in(self.held(1)),
+            3 => units_in(self.held(0)) + units_in(self.held(1)) + units_in(self.held(2)),
             _ => self.units_above_all(count),
         }
     }

@@ -39,6 +39,7 @@ pub mod KeyedFields
 pub mod KeyedLemmas
 pub mod Layouts
 mod LandingLemmas
+pub mod LeapLemmas
 pub mod LeavingLemmas
 pub mod ListPlaces
 pub mod LookedLemmas
@@ -55,6 +56,7 @@ pub mod OwnWords
 pub mod PlainRunLemmas
 pub mod PrintLemmas
 pub mod PushLemmas
+pub mod QuickLemmas
 pub mod ReachedLemmas
 pub mod ReadinessLemmas
 pub mod Refusing

@@ -6,7 +6,6 @@ use Rattle.model.specs.declared.values.Value.{Value}
 use Rattle.model.specs.declared.instructions.Comparison.TheVariants as comparison
 use Rattle.model.specs.declared.instructions.Constant.{Constant}
 use Rattle.model.specs.declared.instructions.Constant.TheVariants as constant
-use Rattle.model.specs.declared.instructions.Conversion.{Conversion}
 use Rattle.model.specs.declared.instructions.Conversion.TheVariants as conversion
 use Rattle.model.specs.declared.instructions.Identity.TheVariants as identity
 use Rattle.model.specs.declared.instructions.Increment.TheVariants as increment
@@ -35,7 +34,7 @@ use Rattle.model.specs.Table.Branches.{branched, branched_on, ints_test, null_te
 use Rattle.model.specs.Table.Constants.{constant as pushed, constant_value}
 use Rattle.model.specs.Table.Locals.{incremented_on, increment_amount, increment_index, loaded_on, local as accessed, local_index}
 use Rattle.model.specs.Table.Numbers.{binary_on, compared_on, converted_on, negated_on, number as computed, number_value, operand_of, operands_of, operated, source_kind, target_kind}
-use Rattle.model.specs.Table.Stacks.{Units, doubled_on, group_on, groups_on, inserted_on, popped_on, rearranged, swapped_on}
+use Rattle.model.specs.Table.Stacks.{doubled_on, group_on, groups_on, inserted_on, popped_on, rearranged, swapped_on}
 use Rattle.model.specs.Table.Stacks.Units.{One, Two}
 use Rattle.loader.specs.declared.operations.Operation.{Operation}
 use Rattle.loader.specs.declared.operations.Operation.TheVariants as operation

@@ -9,7 +9,6 @@ use Rattle.model.specs.declared.journals.Outcome.TheVariants.{Fault as FaultOutc
 use Rattle.model.specs.declared.turns.Actor.TheVariants.{Thread as ByThread}
 use Rattle.model.specs.declared.turns.ClassState.{ClassState}
 use Rattle.model.specs.declared.turns.Fault.{Fault}
-use Rattle.model.specs.declared.values.Value.{Value}
 use Rattle.model.specs.ClassListings.{ClassListing}
 use Rattle.model.specs.Completions.{Completion}
 use Rattle.model.specs.Frames.{Frame, running}

@@ -10,6 +10,7 @@ ghost use Rattle.model.specs.Values.{births_of, units_of_all};
 ghost use Rattle.model.specs.Worlds.{free_monitor};
 ghost use Rattle.instructions.specs.Acting.{Keeps, Ready, Stays, Turns, site_at};
 ghost use Rattle.instructions.specs.CallsByNumbers.{called_static, enters, enters_frame, known_at, no_own, runs};
+ghost use Rattle.instructions.specs.FirstTurns.{goes_on_plainly};
 ghost use Rattle.instructions.specs.HeapMonitors.{monitor_held};
 ghost use Rattle.instructions.specs.Heaps.{all_shaded, held};
 
@@ -81,8 +82,8 @@ fn shade_operands(heap: &mut Heap, frames: &Frames, count: u16)
 
 impl Machine {
     /// A frame is entered with the operands, which go, as its first locals, and with its monitor.
-    fn enter_frame(&mut self, program: &Program, next: u16, called: Called) -> Turned
-        requires ready { Ready program.now self.old }
+    pub(crate) fn enter_frame(&mut self, program: &Program, next: u16, called: Called) -> Turned
+        requires some { 0 < length self.old.frames }
         requires there { called.count ≤ length (running_frame self.old.frames).stack }
         requires enough { units_of_all (take called.count (running_frame self.old.frames).stack) ≤ called.max_locals }
         requires room { IsTrue (has_room_for self.old.frames called.max_locals called.max_stack) }
@@ -90,6 +91,7 @@ impl Machine {
         requires limit { is_full (option_map_or (monitor_held self.old.heap) called.monitor free_monitor) ≡ false }
         ensures step { Turns program.now self.old self.new (Ok result) (λ w. enters_frame (site_at program.now self.old w next)
             called.place called.max_locals called.max_stack called.count called.monitor) }
+        ensures plain { result ≡ goes_on_plainly }
         ensures keeps { Keeps program.now self.old self.new }
     {
         shade_operands(&mut self.heap, &self.frames, called.count);

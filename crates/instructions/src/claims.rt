@@ -20,7 +20,7 @@ pub(crate) struct UnusedClasses {
 }
 
 /// The state of a class. The machine's own are initialised.
-fn state_at(states: &[ClassState], class: usize) -> ClassState
+pub(crate) fn state_at(states: &[ClassState], class: usize) -> ClassState
     ensures { result ≡ slice_index_or states.now class Done }
 {
     states.get(class).copied().unwrap_or(ClassState::Done)

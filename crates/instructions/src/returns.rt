@@ -1,11 +1,12 @@
 //! Returns (JVMS 2.6.4, 6.5): the frame is left, and its caller goes on behind its call.
-ghost use Rattle.std.specs.Prelude.{◌≡◌, ◌≤◌, ◌<◌, ◌+◌, ◌∷◌, [], ℕ, OnErr, length};
+ghost use Rattle.std.specs.Prelude.{◌≡◌, ◌≤◌, ◌<◌, ◌+◌, ◌∷◌, [], ℕ, IfOk, OnErr, length};
 ghost use Rattle.std.specs.Option.{option_map};
 ghost use Rattle.model.specs.Frames.{callers, replaced, replaced_if_room, running, running_frame, with_running};
 ghost use Rattle.model.specs.Table.Returns.{leaves_with, resumes, returned};
 ghost use Rattle.model.specs.Values.{units_of as units_taken, units_of_all};
 ghost use Rattle.frames.specs.Heads.{head_of};
-ghost use Rattle.instructions.specs.Acting.{Keeps, Ready, Stays, Turns, site_at};
+ghost use Rattle.instructions.specs.Acting.{Keeps, Stays, Turns, site_at};
+ghost use Rattle.instructions.specs.FirstTurns.{goes_on_plainly};
 ghost use Rattle.instructions.specs.ReturnsByNumbers.{IsCaller, next_at, past};
 
 use crate::acting::Turned;
@@ -74,6 +75,8 @@ impl Machine {
             (n : ℕ) → Turns program.now self.old self.new result
             (λ w. resumes (site_at program.now self.old w n) (replaced_if_room next below 0 (value ∷ []))) }
         ensures kept { OnErr result (Stays self.old self.new) }
+        ensures same { OnErr result (self.new ≡ self.old) }
+        ensures plain { IfOk result (λ turned. turned ≡ goes_on_plainly) }
         ensures keeps { Keeps program.now self.old self.new }
     {
         if caller.room.saturating_sub(caller.taken) < units_of(value) {
@@ -99,6 +102,8 @@ impl Machine {
         ensures step { (n : ℕ) → Turns program.now self.old self.new result
             (λ w. resumes (site_at program.now self.old w n) (past (running_frame (callers self.old.frames)) value next)) }
         ensures kept { OnErr result (Stays self.old self.new) }
+        ensures same { OnErr result (self.new ≡ self.old) }
+        ensures plain { IfOk result (λ turned. turned ≡ goes_on_plainly) }
         ensures keeps { Keeps program.now self.old self.new }
     {
         match value {
@@ -124,6 +129,8 @@ impl Machine {
         requires caller { IsCaller self.old.frames caller }
         ensures step { (n : ℕ) → Turns program.now self.old self.new result (λ w. leaves_with (site_at program.now self.old w n) value) }
         ensures kept { OnErr result (Stays self.old self.new) }
+        ensures same { OnErr result (self.new ≡ self.old) }
+        ensures plain { IfOk result (λ turned. turned ≡ goes_on_plainly) }
         ensures keeps { Keeps program.now self.old self.new }
     {
         if is_initializer(program, self.frames.method()) {
@@ -142,6 +149,8 @@ impl Machine {
         requires { 0 < length self.old.frames }
         ensures step { (n : ℕ) → Turns program.now self.old self.new result (λ w. leaves_with (site_at program.now self.old w n) value) }
         ensures kept { OnErr result (Stays self.old self.new) }
+        ensures same { OnErr result (self.new ≡ self.old) }
+        ensures plain { 1 < length self.old.frames → IfOk result (λ turned. turned ≡ goes_on_plainly) }
         ensures keeps { Keeps program.now self.old self.new }
     {
         match caller_of(&self.frames) {
@@ -160,9 +169,11 @@ impl Machine {
         program: &Program,
         kind: Option<Kind>,
     ) -> Result<Turned, Fault>
-        requires ready { Ready program.now self.old }
+        requires { 0 < length self.old.frames }
         ensures step { (n : ℕ) → Turns program.now self.old self.new result (λ w. returned (site_at program.now self.old w n) kind) }
         ensures kept { OnErr result (Stays self.old self.new) }
+        ensures same { OnErr result (self.new ≡ self.old) }
+        ensures plain { 1 < length self.old.frames → IfOk result (λ turned. turned ≡ goes_on_plainly) }
         ensures keeps { Keeps program.now self.old self.new }
     {
         if !gives(program, self.frames.method(), kind) {
