@@ -1,6 +1,5 @@
 -- A pool of items that grows by an entry.
 use Rattle.std.proofs.Common.{◌≡◌, ℕ, ℤ, ◌^◌, ◌≤◌, ◌<◌, true, false, ◌&&◌, ◌↔◌, List, [], ◌∷◌, ◌++◌, map, Some, Result, Ok, Err, refl, sym, ◌∙◌, ap, subst, inl, inr, eqb, arith}
-use Rattle.std.specs.Prelude.{IfOk}
 use Rattle.std.proofs.lemmas.Bool.{cases_Bool, and_parts, and_from, or_cases, or_left, or_right, false_from_ne_true, true≢false, eq-eqb}
 use Rattle.std.proofs.lemmas.Bool.Decides.{Decides-int_eq}
 use Rattle.std.proofs.lemmas.List.{map-append}
@@ -8,7 +7,7 @@ use Rattle.std.proofs.lemmas.Slice.Eq.{bytes_eq-Decides}
 use Rattle.pool.proofs.EqualEntries.{same_is as equal_is}
 use Rattle.model.specs.ClassFiles.Pools.{entry_at, pool_count}
 use Rattle.model.specs.ClassFiles.Adding.{is_same, is_among, added}
-use Rattle.model.specs.ClassFiles.Items.{Item, is_same_item, is_item_of, with_item, with_items, items_count, class_items, name_items}
+use Rattle.model.specs.ClassFiles.Items.{Item, is_same_item, is_item_of, with_item, with_items, items_count}
 use Rattle.model.specs.ClassFiles.Items.Item.{text_item, int_item, long_item, class_item, name_item, field_item, method_item, interface_item}
 use Rattle.model.specs.declared.class_files.Entry.{Entry}
 use Rattle.model.specs.declared.class_files.Entry.TheVariants.{Utf8, Integer, Long, Class, Fieldref, Methodref, InterfaceMethodref, NameAndType}

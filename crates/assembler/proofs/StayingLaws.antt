@@ -1,5 +1,5 @@
 -- What has a number in a pool keeps it when the pool grows.
-use Rattle.std.specs.Prelude.{IfOk, IfErr, IsErrAnd, Result, Ok, Err}
+use Rattle.std.specs.Prelude.{IfErr, IsErrAnd, Result, Ok, Err}
 use Rattle.std.proofs.lemmas.Result.{err_from_is_err_and}
 use Rattle.std.specs.List.{flat_map}
 use Rattle.std.proofs.Common.{◌≡◌, ℕ, ◌+◌, ◌≤◌, ◌^◌, true, List, [], ◌∷◌, ◌++◌, map, drop, refl, sym, ◌∙◌, ap, subst, arith, append_assoc, append-nil}

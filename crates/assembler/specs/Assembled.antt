@@ -1,5 +1,5 @@
 -- The class file of a listing, with the numbers that a pool of items gives (JVMS 4.1).
-use Rattle.std.specs.Prelude.{◌≡◌, ℕ, ℤ, ◌^◌, ◌<◌, Bool, true, bit_or, List, [], ◌++◌, map, codes, Option, Some, None, if◌then◌else◌}
+use Rattle.std.specs.Prelude.{◌≡◌, ℕ, ◌^◌, ◌<◌, Bool, true, bit_or, List, [], ◌++◌, map, codes, Option, Some, None, if◌then◌else◌}
 use Rattle.std.specs.Option.{option_map}
 use Rattle.model.specs.Bytecode.{IsCode}
 use Rattle.model.specs.ClassFiles.Classes.{ClassPart}

@@ -1,5 +1,5 @@
 //! Fields, methods and the class with pool numbers for names.
-ghost use Rattle.std.specs.Prelude.{◌≡◌, [], ◌∷◌, ◌++◌, List, true, map, IfOk, IfErr};
+ghost use Rattle.std.specs.Prelude.{◌≡◌, [], ◌∷◌, true, map, IfOk, IfErr};
 ghost use Rattle.std.specs.List.{flat_map, list_all, AllByRecursion};
 ghost use Rattle.std.specs.Option.{option_map};
 ghost use Rattle.classfile.specs.Classes.{IsClass};

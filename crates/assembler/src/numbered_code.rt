@@ -1,5 +1,5 @@
 //! Code with pool numbers for names.
-ghost use Rattle.std.specs.Prelude.{◌≡◌, ◌∷◌, ◌++◌, List, true, map, codes, IfOk, IfErr, Some};
+ghost use Rattle.std.specs.Prelude.{◌≡◌, true, map, IfOk, Some};
 ghost use Rattle.std.specs.List.{flat_map};
 ghost use Rattle.model.specs.ClassFiles.Items.{instruction_items, constant_items, array_items, call_items, placed_items, row_items, catch_items, code_items};
 ghost use Rattle.model.specs.Texts.Spelled.{stand_from};

@@ -8,7 +8,7 @@ ghost use Rattle.classfile.specs.Made.{made};
 ghost use Rattle.classfile.specs.declared.error.ClassError.TheVariants as class_error;
 ghost use Rattle.assembler.specs.Answers.{Gives, HasNumber, OnlyFull};
 ghost use Rattle.assembler.specs.Assembled.{Grows};
-ghost use Rattle.assembler.specs.Numbering.{number_of, entries_of, reference_items, reference_numbers, IsPool, said, IsEntry};
+ghost use Rattle.assembler.specs.Numbering.{entries_of, reference_items, reference_numbers, IsPool, said, IsEntry};
 
 use crate::error::AsmError;
 use classfile::{Body, ClassError, ClassFile};

@@ -1,5 +1,5 @@
 //! The words that a text is made of.
-ghost use Rattle.std.specs.Prelude.{◌≡◌, ◌++◌, ◌<◌, ◌^◌, decimal, OnOk};
+ghost use Rattle.std.specs.Prelude.{◌≡◌, ◌++◌, decimal, OnOk};
 ghost use Rattle.std.specs.Fmt.{signed_decimal};
 ghost use Rattle.model.specs.Texts.Disassembling as definition;
 ghost use Rattle.jasmin.specs.Words.{word_of};
