@@ -1,14 +1,13 @@
 //! Each call, with the values of small methods worked out by hand from the JVMS.
 //!
-//! What is done to frames stands in functions that borrow them: a test that owns frames and asks twenty questions takes
-//! minutes to prove.
+//! A story is a function that borrows the frames, which one test makes and drops: a test that owns frames and asks them
+//! twenty things takes minutes to prove.
 
 use frames::Frames;
 use model::places::MethodPlace;
 use model::turns::{Abrupt, Fault, Mark};
 use model::values::{Entry, Kind, Value};
 use std::alloc::{AllocError, Global};
-use std::test::Fail;
 
 const MAIN: MethodPlace = MethodPlace {
     class: 0,
@@ -19,6 +18,9 @@ const CALLEE: MethodPlace = MethodPlace {
     class: 2,
     method: 3,
 };
+
+/// A frame is wanted, and there is none.
+const NO_FRAME: Abrupt = Abrupt::Fault(Fault::NoInstruction);
 
 /// One frame, of main, with so many locals and so many units of stack.
 fn main_frame(alloc: Global, max_locals: u16, max_stack: u16) -> Result<Frames, AllocError> {
@@ -32,7 +34,7 @@ fn main_frame(alloc: Global, max_locals: u16, max_stack: u16) -> Result<Frames, 
 /// Pushes a value, and goes to this pc.
 fn push(frames: &mut Frames, next: u16, value: Value) -> Result<(), Abrupt> {
     if frames.depth() == 0 {
-        return Err(Abrupt::Fault(Fault::NoInstruction));
+        return Err(NO_FRAME);
     }
     frames.replace_if_room(next, 0, value)
 }
@@ -50,72 +52,48 @@ fn seen(frames: &Frames) -> (usize, u16, usize, [Option<Value>; 3]) {
     (frames.depth(), frames.pc(), frames.values(), upper)
 }
 
-/// The entries of the running frame's locals, up to four.
-fn locals(frames: &Frames) -> Result<(usize, [Option<Entry>; 4]), AllocError> {
-    let views = frames.views()?;
-    let Some(frame) = views.last() else {
-        return Ok((0, [None; 4]));
-    };
+/// `bipush 7`, `bipush 5`, `isub`.
+fn subtracts(frames: &mut Frames) -> Result<bool, Abrupt> {
+    push(frames, 2, Value::Int(7))?;
+    push(frames, 4, Value::Int(5))?;
+    if frames.depth() == 0 {
+        return Err(NO_FRAME);
+    }
+    let (right, left) = frames.two_ints()?;
+    frames.replace(5, 2, Value::Int(left.wrapping_sub(right)));
+    let int = frames.int()?;
+    Ok(int == 2 && seen(frames) == (1, 5, 1, [Some(Value::Int(2)), None, None]))
+}
+
+/// `swap` of 7 and 5.
+fn swaps(frames: &mut Frames) -> Result<bool, Abrupt> {
+    push(frames, 2, Value::Int(7))?;
+    push(frames, 4, Value::Int(5))?;
+    if frames.depth() == 0 {
+        return Err(NO_FRAME);
+    }
+    let (right, left) = frames.two_ints()?;
+    frames.replace_all(5, 2, [Value::Int(right), Value::Int(left)].as_slice());
+    Ok(frames.two_ints()? == (7, 5))
+}
+
+/// How many frames there are; of the running one how many locals, and the first four of their entries.
+fn locals(frames: &Frames) -> Option<(usize, usize, [Option<Entry>; 4])> {
+    let views = frames.views().ok()?;
+    let frame = views.last()?;
     let entries = [
         frame.locals.get(0).copied(),
         frame.locals.get(1).copied(),
         frame.locals.get(2).copied(),
         frame.locals.get(3).copied(),
     ];
-    Ok((frame.locals.len(), entries))
-}
-
-/// What the two ints on top come to, in place of both.
-fn subtract(frames: &mut Frames) -> Result<i32, Fault> {
-    if frames.depth() == 0 {
-        return Err(Fault::NoInstruction);
-    }
-    let (right, left) = frames.two_ints()?;
-    frames.replace(5, 2, Value::Int(left.wrapping_sub(right)));
-    frames.int()
-}
-
-/// `bipush 7`, `bipush 5`, `isub`.
-#[test]
-fn subtracts(rt: HostRuntime) -> Result<(), Fail> {
-    let mut frames = main_frame(rt.alloc(), 2, 2)?;
-    let pushed = (
-        push(&mut frames, 2, Value::Int(7)),
-        push(&mut frames, 4, Value::Int(5)),
-    );
-    assert_eq!(rt; pushed, (Ok(()), Ok(())));
-    assert_eq!(rt; subtract(&mut frames), Ok(2));
-    assert_eq!(rt; seen(&frames), (1, 5, 1, [Some(Value::Int(2)), None, None]));
-    Ok(())
-}
-
-/// The two ints on top the other way round, and then the lower one is dropped.
-fn swap(frames: &mut Frames) -> Result<(i32, i32), Fault> {
-    if frames.depth() == 0 {
-        return Err(Fault::NoInstruction);
-    }
-    let (right, left) = frames.two_ints()?;
-    frames.replace_all(5, 2, [Value::Int(right), Value::Int(left)].as_slice());
-    frames.two_ints()
-}
-
-/// `swap` of 7 and 5.
-#[test]
-fn swaps(rt: HostRuntime) -> Result<(), Fail> {
-    let mut frames = main_frame(rt.alloc(), 0, 2)?;
-    let pushed = (
-        push(&mut frames, 2, Value::Int(7)),
-        push(&mut frames, 4, Value::Int(5)),
-    );
-    assert_eq!(rt; pushed, (Ok(()), Ok(())));
-    assert_eq!(rt; swap(&mut frames), Ok((7, 5)));
-    Ok(())
+    Some((views.len(), frame.locals.len(), entries))
 }
 
 /// Calls a method with an int and a long behind a null, which stays.
 fn call(frames: &mut Frames) -> Result<(), Abrupt> {
     if frames.depth() == 0 {
-        return Err(Abrupt::Fault(Fault::NoInstruction));
+        return Err(NO_FRAME);
     }
     let arguments = [Value::Ref(None), Value::Int(5), Value::Long(9)];
     frames.replace_all_if_room(3, 0, arguments.as_slice())?;
@@ -137,21 +115,16 @@ fn leave(frames: &mut Frames) -> Option<MethodPlace> {
 }
 
 /// `f(IJ)V` is called with 5 and 9: its locals 0 and 1 hold them, local 2 the long's upper half, and local 3 is unset.
-#[test]
-fn hands_over_arguments(rt: HostRuntime) -> Result<(), Fail> {
-    let mut frames = main_frame(rt.alloc(), 1, 4)?;
-    assert_eq!(rt; call(&mut frames), Ok(()));
+fn hands_over(frames: &mut Frames) -> Result<bool, Abrupt> {
+    call(frames)?;
     let five = Some(Entry::Holds(Value::Int(5)));
     let nine = Some(Entry::Holds(Value::Long(9)));
     let entries = [five, nine, Some(Entry::UpperHalf), Some(Entry::Unset)];
-    assert!(rt; locals(&frames)? == (4, entries));
-    assert_eq!(rt; seen(&frames), (2, 0, 0, [None; 3]));
-    assert!(rt; leave(&mut frames) == Some(CALLEE));
-    assert_eq!(rt;
-        seen(&frames),
-        (1, 3, 1, [Some(Value::Ref(None)), None, None])
-    );
-    Ok(())
+    if locals(frames) != Some((2, 4, entries)) || seen(frames) != (2, 0, 0, [None; 3]) {
+        return Ok(false);
+    }
+    let left = [Some(Value::Ref(None)), None, None];
+    Ok(leave(frames) == Some(CALLEE) && seen(frames) == (1, 3, 1, left))
 }
 
 /// A frame of a method over main's, with a monitor, a mark, a local that holds the reference 5, and 7 and the reference 6 on its
@@ -197,63 +170,52 @@ fn told_at(
     ))
 }
 
+fn tells_of_frames(frames: &mut Frames) -> Result<bool, Abrupt> {
+    open_callee(frames)?;
+    Ok(
+        told(frames) == Some((Some(8), Mark::Waiting, 3, 3))
+            && told_at(frames, 1) == Some((CALLEE, 2, Some(8), Mark::Waiting, 3, 3))
+            && told_at(frames, 2) == None
+            && locals(frames).is_some_and(|(count, _, _)| count == 2),
+    )
+}
+
 /// What a collector finds in two frames: the callee's local, then its stack bottom first, and the monitors.
-#[test]
-fn shows_its_roots(rt: HostRuntime) -> Result<(), Fail> {
-    let mut frames = main_frame(rt.alloc(), 1, 1)?;
-    assert_eq!(rt; open_callee(&mut frames), Ok(()));
+fn shows_roots(frames: &mut Frames) -> Result<bool, Abrupt> {
+    open_callee(frames)?;
     for (depth, entries, monitor) in [(0usize, 1usize, None), (1, 3, Some(8u32)), (2, 0, None)] {
-        let found = (frames.entries(depth), frames.monitor_at(depth));
-        assert_eq!(rt; found, (entries, monitor));
+        if (frames.entries(depth), frames.monitor_at(depth)) != (entries, monitor) {
+            return Ok(false);
+        }
     }
     for (entry, wanted) in [(0usize, Some(5u32)), (1, None), (2, Some(6)), (3, None)] {
-        assert_eq!(rt; frames.reference_at(1, entry), wanted);
+        if frames.reference_at(1, entry) != wanted {
+            return Ok(false);
+        }
     }
-    Ok(())
+    Ok(true)
 }
 
-#[test]
-fn tells_of_its_frames(rt: HostRuntime) -> Result<(), Fail> {
-    let mut frames = main_frame(rt.alloc(), 1, 1)?;
-    assert_eq!(rt; open_callee(&mut frames), Ok(()));
-    assert!(rt; told(&frames) == Some((Some(8), Mark::Waiting, 3, 3)));
-    assert!(rt; told_at(&frames, 1) == Some((CALLEE, 2, Some(8), Mark::Waiting, 3, 3)));
-    assert!(rt; told_at(&frames, 2) == None);
-    let views = frames.views()?;
-    assert_eq!(rt; views.len(), 2);
-    Ok(())
-}
-
-/// Goes to a pc with an empty stack, and then to another.
-fn clear(frames: &mut Frames) {
-    if 0 < frames.depth() {
-        frames.clear(8);
-        frames.go_to(9);
+/// A long takes both units of a stack of two: a push beside it is F2, and changes nothing. Then the stack is cleared.
+fn is_full(frames: &mut Frames) -> Result<bool, Abrupt> {
+    push(frames, 1, Value::Long(-1))?;
+    let full = Err(Abrupt::Fault(Fault::StackFull));
+    let long = [Some(Value::Long(-1)), None, None];
+    if push(frames, 2, Value::Int(1)) != full || seen(frames) != (1, 1, 1, long) {
+        return Ok(false);
     }
-}
-
-/// A long takes both units of a stack of two: a push beside it is F2, and changes nothing.
-#[test]
-fn is_full(rt: HostRuntime) -> Result<(), Fail> {
-    let mut frames = main_frame(rt.alloc(), 0, 2)?;
-    let pushed = (
-        push(&mut frames, 1, Value::Long(-1)),
-        push(&mut frames, 2, Value::Int(1)),
-    );
-    assert_eq!(rt; pushed, (Ok(()), Err(Abrupt::Fault(Fault::StackFull))));
-    assert_eq!(rt;
-        seen(&frames),
-        (1, 1, 1, [Some(Value::Long(-1)), None, None])
-    );
-    clear(&mut frames);
-    assert_eq!(rt; seen(&frames), (1, 9, 0, [None; 3]));
-    Ok(())
+    if frames.depth() == 0 {
+        return Err(NO_FRAME);
+    }
+    frames.clear(8);
+    frames.go_to(9);
+    Ok(seen(frames) == (1, 9, 0, [None; 3]))
 }
 
 /// `lstore_0`, with what local 0 and the int in local 1 are then.
 fn store_long(frames: &mut Frames) -> Result<(Value, Fault), Abrupt> {
     if frames.depth() == 0 {
-        return Err(Abrupt::Fault(Fault::NoInstruction));
+        return Err(NO_FRAME);
     }
     let long = frames.operand(Kind::Long)?;
     frames.store(2, 1, 0, long);
@@ -267,7 +229,7 @@ fn store_long(frames: &mut Frames) -> Result<(Value, Fault), Abrupt> {
 /// `istore_1`, with the value that it takes off the stack, that of local 1, and whether local 0 holds a long.
 fn store_int(frames: &mut Frames) -> Result<(Value, i32, bool), Abrupt> {
     if frames.depth() == 0 {
-        return Err(Abrupt::Fault(Fault::NoInstruction));
+        return Err(NO_FRAME);
     }
     let value = frames.operand(Kind::Int)?;
     frames.store(4, 1, 1, value);
@@ -287,24 +249,22 @@ fn last_local(frames: &Frames) -> (bool, bool) {
 }
 
 /// `lstore_0`, then `istore_1` over its upper half: the long's first entry is unset.
-#[test]
-fn stores_over_half_a_long(rt: HostRuntime) -> Result<(), Fail> {
-    let mut frames = main_frame(rt.alloc(), 3, 2)?;
-    assert_eq!(rt; push(&mut frames, 1, Value::Long(8)), Ok(()));
-    assert_eq!(rt;
-        store_long(&mut frames),
-        Ok((Value::Long(8), Fault::WrongLocal))
-    );
-    assert_eq!(rt; push(&mut frames, 3, Value::Int(6)), Ok(()));
-    assert_eq!(rt; store_int(&mut frames), Ok((Value::Int(6), 6, false)));
-    assert_eq!(rt; last_local(&frames), (true, false));
-    Ok(())
+fn stores_over_half_a_long(frames: &mut Frames) -> Result<bool, Abrupt> {
+    push(frames, 1, Value::Long(8))?;
+    let long = store_long(frames)?;
+    push(frames, 3, Value::Int(6))?;
+    let int = store_int(frames)?;
+    Ok(
+        long == (Value::Long(8), Fault::WrongLocal)
+            && int == (Value::Int(6), 6, false)
+            && last_local(frames) == (true, false),
+    )
 }
 
 /// `dup_x1` of a null and a reference, and then `pop`.
 fn duplicate(frames: &mut Frames) -> Result<(), Abrupt> {
     if frames.depth() == 0 {
-        return Err(Abrupt::Fault(Fault::NoInstruction));
+        return Err(NO_FRAME);
     }
     let null = Value::Ref(None);
     let cell = Value::Ref(Some(3));
@@ -329,12 +289,44 @@ fn no_longs(frames: &Frames) -> [Option<Fault>; 3] {
     ]
 }
 
-#[test]
-fn rearranges(rt: HostRuntime) -> Result<(), Fail> {
-    let mut frames = main_frame(rt.alloc(), 0, 4)?;
-    assert_eq!(rt; duplicate(&mut frames), Ok(()));
+fn rearranges(frames: &mut Frames) -> Result<bool, Abrupt> {
+    duplicate(frames)?;
     let left = [Some(Value::Ref(None)), Some(Value::Ref(Some(3))), None];
-    assert_eq!(rt; seen(&frames), (1, 3, 2, left));
-    assert_eq!(rt; no_longs(&frames), [Some(Fault::WrongKind); 3]);
+    Ok(seen(frames) == (1, 3, 2, left) && no_longs(frames) == [Some(Fault::WrongKind); 3])
+}
+
+/// Stories, with the locals of main's frame and the units of its stack.
+const STORIES: &[(&str, u16, u16)] = &[
+    ("subtracts", 2, 2),
+    ("swaps", 0, 2),
+    ("hands over arguments", 1, 4),
+    ("shows its roots", 1, 1),
+    ("tells of its frames", 1, 1),
+    ("is full", 0, 2),
+    ("stores over half a long", 3, 2),
+    ("rearranges", 0, 4),
+];
+
+/// Whether a story goes as it is to.
+fn goes_well(frames: &mut Frames, story: &str) -> Result<bool, Abrupt> {
+    match story {
+        "subtracts" => subtracts(frames),
+        "swaps" => swaps(frames),
+        "hands over arguments" => hands_over(frames),
+        "shows its roots" => shows_roots(frames),
+        "tells of its frames" => tells_of_frames(frames),
+        "is full" => is_full(frames),
+        "stores over half a long" => stores_over_half_a_long(frames),
+        "rearranges" => rearranges(frames),
+        _ => Ok(false),
+    }
+}
+
+#[test]
+fn stories_go_well(rt: HostRuntime) -> Result<(), AllocError> {
+    for (story, max_locals, max_stack) in STORIES {
+        let mut frames = main_frame(rt.alloc(), *max_locals, *max_stack)?;
+        assert!(rt; goes_well(&mut frames, story) == Ok(true), "{story}");
+    }
     Ok(())
 }

@@ -2,6 +2,8 @@
 #![tactic(auto)]
 
 #[cfg(test)]
+mod cells_tests;
+#[cfg(test)]
 mod frames_tests;
 #[cfg(test)]
 mod ideal_run_tests;
@@ -11,3 +13,7 @@ mod loader_tests;
 mod plain_steps_tests;
 #[cfg(test)]
 mod resolve_tests;
+#[cfg(test)]
+mod texts;
+#[cfg(test)]
+mod values_tests;

@@ -1,313 +1,235 @@
 //! Resolution, selection and subclasses on small programs.
 
-use bitflags::Flags;
-use model::flags::{ClassFlags, FieldFlags, MethodFlags};
-use model::listings::{Field, Listing, Method};
+use crate::texts::{classes, layers};
+use model::listings::Listing;
 use model::names::{Member, Name};
 use resolve::classes::Classes;
 use std::alloc::{AllocError, Global};
-use std::fmt::Write;
 use std::process::Abort;
 use std::test::Fail;
 
-/// A class with its superclass, perhaps an interface, and the flags of a field `x I` and of a method `f()I`, where it has
-/// them.
+/// A has an f, B over A a private one, C over B none. D over A implements K, which extends J.
+const CLASSES: &str =
+    "class A|.field public x I|code 1 0 public f()I; class B < A|code 1 0 private f()I; class C < B; interface J|.field public static final x I|.method public abstract f()I|end; interface K|.implements J; class D < A|.implements K";
+
+/// What is asked of two names.
 #[derive(Clone, Copy)]
-struct Row {
-    name: &'static str,
-    above: &'static str,
-    interfaces: &'static [&'static str],
-    field: Option<u16>,
-    method: Option<u16>,
+enum Asked {
+    /// Whether the first class's field x is found in the second; an empty name stands for none.
+    Field,
+    /// The same of its method f.
+    Method,
+    /// The same of the f that is selected for it.
+    Selected,
+    IsSubclass,
+    IsSubtype,
+    IsType,
+    /// Whether a class has a number, and this has its name; an empty one stands for none.
+    Number,
+    /// Whether the fields of a class's objects are declared by the classes of these names.
+    Fields,
 }
 
-macro_rules! row {
-    ($name:expr, $above:expr, $interfaces:expr, $field:expr, $method:expr) => {
-        Row {
-            name: $name,
-            above: $above,
-            interfaces: $interfaces,
-            field: $field,
-            method: $method,
-        }
-    };
-}
-
-const OBJECT: &str = "java/lang/Object";
-
-/// A has an f, B over A a private one, C over B none. D over A has its own x, but implements K, which extends J.
-const ROWS: [Row; 6] = [
-    row!("A", OBJECT, &[], Some(1), Some(1)),
-    row!("B", "A", &[], None, Some(2)),
-    row!("C", "B", &[], None, None),
-    row!("J", OBJECT, &[], Some(0x19), Some(0x0401)),
-    row!("K", OBJECT, &["J"], None, None),
-    row!("D", "A", &["K"], None, None),
+/// JVMS 5.4.3.2, 5.4.3.3 and 6.5, invokevirtual and instanceof; 4.4.1. The program's six classes are counted from 0, the
+/// machine's own behind them.
+const ROWS: &[(Asked, &str, &str, bool)] = &[
+    // a superinterface's field comes before the superclass's, the superclass's method before a superinterface's
+    (Asked::Field, "D", "J", true),
+    (Asked::Method, "D", "A", true),
+    (Asked::Field, "C", "A", true),
+    (Asked::Method, "K", "J", true),
+    // a private method is resolved, but passed over by a selection
+    (Asked::Method, "C", "B", true),
+    (Asked::Selected, "C", "A", true),
+    // no superinterface is looked at by a selection
+    (Asked::Selected, "K", "", true),
+    (Asked::Field, "java/lang/Thread", "", true),
+    (Asked::IsSubclass, "D", "J", true),
+    (Asked::IsSubclass, "D", "java/lang/Object", true),
+    (Asked::IsSubclass, "C", "J", false),
+    (Asked::IsSubclass, "A", "D", false),
+    (
+        Asked::IsSubclass,
+        "java/lang/StackOverflowError",
+        "java/lang/Throwable",
+        true,
+    ),
+    (Asked::IsSubclass, "E", "E", true),
+    (Asked::IsSubclass, "E", "java/lang/Object", false),
+    (Asked::IsSubtype, "D", "J", true),
+    (Asked::IsSubtype, "[D", "java/lang/Object", true),
+    (Asked::IsSubtype, "[LD;", "[LJ;", true),
+    (Asked::IsSubtype, "[LJ;", "[LD;", false),
+    (Asked::IsSubtype, "[[I", "[Ljava/lang/Object;", true),
+    (Asked::IsSubtype, "[I", "[J", false),
+    (Asked::IsSubtype, "[I", "[Ljava/lang/Object;", false),
+    (Asked::IsSubtype, "J", "[LJ;", false),
+    (Asked::IsType, "D", "", true),
+    (Asked::IsType, "E", "", false),
+    (Asked::IsType, "[[I", "", true),
+    (Asked::IsType, "[LD;", "", true),
+    (Asked::IsType, "[[LE;", "", false),
+    (Asked::Number, "A", "0", true),
+    (Asked::Number, "D", "5", true),
+    (Asked::Number, "java/lang/Object", "6", true),
+    (Asked::Number, "vm/Sys", "28", true),
+    (Asked::Number, "E", "", true),
 ];
 
-fn name(alloc: Global, text: &str) -> Result<Name, AllocError> {
-    Name::copy_of(alloc, text.as_bytes())
+/// JVMS 2.4: the superclass's fields come first, and static ones have no word.
+const FIELDS: &str =
+    "class B < A|.field private x I; class A|.field public x I; class C < B|.implements J|.field public static x I; interface J|.field public static final x I";
+
+const FIELD_ROWS: &[(Asked, &str, &str, bool)] = &[(Asked::Fields, "C", "A B", true)];
+
+/// A search looks at each interface once.
+const LAYER_ROWS: &[(Asked, &str, &str, bool)] = &[
+    (Asked::IsSubclass, "A1", "B20", true),
+    (Asked::Field, "A1", "", true),
+];
+
+/// Whether a class was found that has this name, or none where the name is empty.
+fn is_named(found: Option<&Listing>, name: &str) -> bool {
+    match found {
+        Some(class) => class.name.is(name),
+        None => name.is_empty(),
+    }
 }
 
-fn listing(alloc: Global, row: Row) -> Result<Listing, AllocError> {
-    let mut class = Listing {
-        name: name(alloc, row.name)?,
-        flags: ClassFlags::PUBLIC,
-        superclass: name(alloc, row.above)?,
-        interfaces: Vec::new(alloc),
-        fields: Vec::new(alloc),
-        methods: Vec::new(alloc),
-    };
-    for interface in row.interfaces {
-        class.interfaces.push(name(alloc, *interface)?)?;
-    }
-    if let Some(flags) = row.field {
-        class.fields.push(Field {
-            flags: FieldFlags::from_bits_retain(flags),
-            name: name(alloc, "x")?,
-            descriptor: name(alloc, "I")?,
-            constant: None,
-        })?;
-    }
-    if let Some(flags) = row.method {
-        class.methods.push(Method {
-            flags: MethodFlags::from_bits_retain(flags),
-            name: name(alloc, "f")?,
-            descriptor: name(alloc, "()I")?,
-            code: None,
-        })?;
-    }
-    Ok(class)
-}
-
-fn listings(alloc: Global, rows: &[Row]) -> Result<Vec<Listing>, AllocError> {
-    let mut program = Vec::new(alloc);
-    for row in rows {
-        program.push(listing(alloc, *row)?)?;
-    }
-    Ok(program)
-}
-
-fn member(alloc: Global, class: &str, text: &str, descriptor: &str) -> Result<Member, AllocError> {
+fn member(
+    alloc: Global,
+    class: &str,
+    name: &[u8],
+    descriptor: &[u8],
+) -> Result<Member, AllocError> {
     Ok(Member {
-        class: name(alloc, class)?,
-        name: name(alloc, text)?,
-        descriptor: name(alloc, descriptor)?,
+        class: Name::copy_of(alloc, class.as_bytes())?,
+        name: Name::copy_of(alloc, name)?,
+        descriptor: Name::copy_of(alloc, descriptor)?,
     })
 }
 
-/// The class in which the field x, the method f or the selected f of a class is found; empty where there is none.
-fn found_in(
+fn has_field(
     alloc: Global,
     classes: &Classes<'_>,
-    kind: &str,
     class: &str,
-) -> Result<Name, AllocError> {
-    let x = member(alloc, class, "x", "I")?;
-    let f = member(alloc, class, "f", "()I")?;
-    let found = match kind {
-        "field" => classes.field(&x).map(|found| found.class),
-        "method" => classes.method(&f).map(|found| found.class),
-        _ => classes
-            .select(class.as_bytes(), b"f".as_slice(), b"()I".as_slice())
-            .map(|found| found.class),
+    declarer: &str,
+) -> Result<bool, AllocError> {
+    let x = member(alloc, class, b"x", b"I")?;
+    let found = match classes.field(&x) {
+        Some(found) => Some(found.class),
+        None => None,
     };
-    match found {
-        Some(class) => Name::copy_of(alloc, class.name.as_bytes()),
-        None => name(alloc, ""),
+    Ok(is_named(found, declarer))
+}
+
+fn has_method(
+    alloc: Global,
+    classes: &Classes<'_>,
+    class: &str,
+    declarer: &str,
+) -> Result<bool, AllocError> {
+    let f = member(alloc, class, b"f", b"()I")?;
+    let found = match classes.method(&f) {
+        Some(found) => Some(found.class),
+        None => None,
+    };
+    Ok(is_named(found, declarer))
+}
+
+fn selects(classes: &Classes<'_>, class: &str, declarer: &str) -> bool {
+    match classes.select(class.as_bytes(), b"f", b"()I") {
+        Some(found) => is_named(Some(found.class), declarer),
+        None => declarer.is_empty(),
     }
 }
 
-/// The classes of a program that has no fault.
-fn classes_of(alloc: Global, program: &[Listing]) -> Result<Classes<'_>, Fail> {
-    match Classes::new(alloc, program)? {
-        Some(classes) => Ok(classes),
-        None => Err(Fail::new("no classes")),
+fn has_number(classes: &Classes<'_>, name: &str, number: &str) -> bool {
+    match (classes.number(name.as_bytes()), number.parse::<usize>()) {
+        (Some(found), Ok(wanted)) => {
+            found == wanted && found < classes.len() && classes.class(found).name.is(name)
+        }
+        (None, Err(_)) => true,
+        _ => false,
     }
 }
 
-fn compare_members(rt: &impl Abort, alloc: Global, classes: &Classes<'_>) -> Result<(), Fail> {
-    for (kind, class, expected) in [
-        // a superinterface's field comes before the superclass's, the superclass's method before a superinterface's
-        ("field", "D", "J"),
-        ("method", "D", "A"),
-        ("field", "C", "A"),
-        ("method", "K", "J"),
-        // a private method is resolved, but passed over by a selection
-        ("method", "C", "B"),
-        ("selected", "C", "A"),
-        // no superinterface is looked at by a selection
-        ("selected", "K", ""),
-        ("field", "java/lang/Thread", ""),
-    ] {
-        let found = found_in(alloc, classes, kind, class)?;
-        assert_eq!(rt; found.as_bytes(), expected.as_bytes());
-    }
-    Ok(())
-}
-
-/// JVMS 5.4.3.2, 5.4.3.3 and 6.5, invokevirtual.
-#[test]
-fn members_are_found(rt: HostRuntime) -> Result<(), Fail> {
-    let program = listings(rt.alloc(), &ROWS)?;
-    let classes = classes_of(rt.alloc(), &program)?;
-    compare_members(&rt, rt.alloc(), &classes)
-}
-
-fn compare_subclasses(rt: &impl Abort, classes: &Classes<'_>) {
-    for (class, above, expected) in [
-        ("D", "J", true),
-        ("D", "java/lang/Object", true),
-        ("C", "J", false),
-        ("A", "D", false),
-        ("java/lang/StackOverflowError", "java/lang/Throwable", true),
-        ("E", "E", true),
-        ("E", "java/lang/Object", false),
-    ] {
-        let is_below = classes.is_subclass(class.as_bytes(), above.as_bytes());
-        assert_eq!(rt; is_below, expected, "{class} below {above}");
-    }
-}
-
-fn compare_types(rt: &impl Abort, classes: &Classes<'_>) {
-    for (name, above, expected) in [
-        ("D", "J", true),
-        ("[D", "java/lang/Object", true),
-        ("[LD;", "[LJ;", true),
-        ("[LJ;", "[LD;", false),
-        ("[[I", "[Ljava/lang/Object;", true),
-        ("[I", "[J", false),
-        ("[I", "[Ljava/lang/Object;", false),
-        ("J", "[LJ;", false),
-    ] {
-        let is_below = classes.is_subtype(name.as_bytes(), above.as_bytes());
-        assert_eq!(rt; is_below, expected, "{name} below {above}");
-    }
-    for (name, expected) in [
-        ("D", true),
-        ("E", false),
-        ("[[I", true),
-        ("[LD;", true),
-        ("[[LE;", false),
-    ] {
-        assert_eq!(rt; classes.is_type(name.as_bytes()), expected, "{name}");
-    }
-}
-
-/// JVMS 6.5, instanceof, and 4.4.1.
-#[test]
-fn subclasses_and_types(rt: HostRuntime) -> Result<(), Fail> {
-    let program = listings(rt.alloc(), &ROWS)?;
-    let classes = classes_of(rt.alloc(), &program)?;
-    compare_subclasses(&rt, &classes);
-    compare_types(&rt, &classes);
-    Ok(())
-}
-
-/// The names of the classes that declare the fields of a class's objects.
-fn declarers(alloc: Global, classes: &Classes<'_>, class: &str) -> Result<String, Fail> {
+fn has_fields_of(
+    alloc: Global,
+    classes: &Classes<'_>,
+    class: &str,
+    declarers: &str,
+) -> Result<bool, AllocError> {
     let fields = classes.layout(alloc, class.as_bytes())?;
-    let mut declarers = String::new(alloc);
-    for field in fields {
+    let mut names = declarers.split(" ");
+    for field in &fields {
         let class = field.class;
-        write!(declarers, "{} ", class.name)?;
+        match names.next() {
+            Some(name) if class.name.is(name) => {}
+            _ => return Ok(false),
+        }
     }
-    Ok(declarers)
+    Ok(names.next().is_none())
 }
 
-/// JVMS 2.4: the superclass's fields come first, and static ones have no word.
+fn answer(
+    alloc: Global,
+    classes: &Classes<'_>,
+    asked: Asked,
+    name: &str,
+    other: &str,
+) -> Result<bool, AllocError> {
+    match asked {
+        Asked::Field => has_field(alloc, classes, name, other),
+        Asked::Method => has_method(alloc, classes, name, other),
+        Asked::Selected => Ok(selects(classes, name, other)),
+        Asked::IsSubclass => Ok(classes.is_subclass(name.as_bytes(), other.as_bytes())),
+        Asked::IsSubtype => Ok(classes.is_subtype(name.as_bytes(), other.as_bytes())),
+        Asked::IsType => Ok(classes.is_type(name.as_bytes())),
+        Asked::Number => Ok(has_number(classes, name, other)),
+        Asked::Fields => has_fields_of(alloc, classes, name, other),
+    }
+}
+
+fn compare(
+    rt: &impl Abort,
+    alloc: Global,
+    classes: &Classes<'_>,
+    rows: &[(Asked, &str, &str, bool)],
+) -> Result<(), AllocError> {
+    for (asked, name, other, wanted) in rows {
+        let found = answer(alloc, classes, *asked, name, other)?;
+        assert!(rt; found == *wanted, "{name} and {other}");
+    }
+    Ok(())
+}
+
 #[test]
-fn fields_of_objects(rt: HostRuntime) -> Result<(), Fail> {
-    let rows = [
-        row!("B", "A", &[], Some(2), None),
-        row!("A", OBJECT, &[], Some(1), None),
-        row!("C", "B", &["J"], Some(9), None),
-        row!("J", OBJECT, &[], Some(0x19), None),
-    ];
-    let program = listings(rt.alloc(), &rows)?;
-    let classes = classes_of(rt.alloc(), &program)?;
-    assert_eq!(rt; declarers(rt.alloc(), &classes, "C")?.as_str(), "A B ");
+fn classes_answer(rt: HostRuntime) -> Result<(), Fail> {
+    let layers = layers(rt.alloc(), 20)?;
+    for (row, rows) in [
+        (CLASSES, ROWS),
+        (FIELDS, FIELD_ROWS),
+        (layers.as_str(), LAYER_ROWS),
+    ] {
+        let program = classes(rt.alloc(), row)?;
+        match Classes::new(rt.alloc(), &program)? {
+            Some(classes) => compare(&rt, rt.alloc(), &classes, rows)?,
+            None => return Err(Fail::new("no classes")),
+        }
+    }
     Ok(())
 }
 
 /// Where a parent is missing, or classes lie above themselves, there are no classes.
 #[test]
 fn no_hierarchies(rt: HostRuntime) -> Result<(), Fail> {
-    let alloc = rt.alloc();
-    for rows in [
-        [
-            row!("A", "B", &[], None, None),
-            row!("C", OBJECT, &[], None, None),
-        ],
-        [
-            row!("A", OBJECT, &["B"], None, None),
-            row!("B", OBJECT, &["A"], None, None),
-        ],
+    for row in [
+        "class A < B; class C",
+        "class A|.implements B; class B|.implements A",
     ] {
-        let program = listings(alloc, &rows)?;
-        assert!(rt; Classes::new(alloc, &program)?.is_none());
-    }
-    Ok(())
-}
-
-const LAYERS: usize = 20;
-
-/// An interface of a layer, which extends both of the layer below, the first one none.
-fn interface(alloc: Global, side: &str, layer: usize) -> Result<Listing, Fail> {
-    let mut class = listing(alloc, row!("", OBJECT, &[], None, None))?;
-    class.name = Name::new(format!(in alloc; "{side}{layer}")?.into_bytes())?;
-    if layer > 0 {
-        for below in ["l", "r"] {
-            let text = format!(in alloc; "{below}{}", layer - 1)?;
-            class.interfaces.push(Name::new(text.into_bytes())?)?;
-        }
-    }
-    Ok(class)
-}
-
-/// Whether the last layer's left interface is below the first one's right one, and has a field x.
-fn ends(alloc: Global, classes: &Classes<'_>) -> Result<(bool, bool), AllocError> {
-    let is_below = classes.is_subclass(b"l19".as_slice(), b"r0".as_slice());
-    let x = member(alloc, "l19", "x", "I")?;
-    Ok((is_below, classes.field(&x).is_some()))
-}
-
-/// Layers of two interfaces each: a search looks at each once.
-#[test]
-fn layers_of_interfaces(rt: HostRuntime) -> Result<(), Fail> {
-    let mut program = Vec::new(rt.alloc());
-    for layer in 0..LAYERS {
-        for side in ["l", "r"] {
-            program.push(interface(rt.alloc(), side, layer)?)?;
-        }
-    }
-    let classes = classes_of(rt.alloc(), &program)?;
-    assert_eq!(rt; ends(rt.alloc(), &classes)?, (true, false));
-    Ok(())
-}
-
-/// The number of a class, if it has one, and whether the class of that number has its name.
-fn number(classes: &Classes<'_>, name: &str) -> Option<(usize, bool)> {
-    let number = classes.number(name.as_bytes())?;
-    if number >= classes.len() {
-        return None;
-    }
-    Some((number, classes.class(number).name.is(name)))
-}
-
-/// The program's six classes are counted from 0, the machine's own behind them.
-#[test]
-fn classes_have_numbers(rt: HostRuntime) -> Result<(), Fail> {
-    let program = listings(rt.alloc(), &ROWS)?;
-    let classes = classes_of(rt.alloc(), &program)?;
-    for (name, expected) in [
-        ("A", Some((0usize, true))),
-        ("D", Some((5, true))),
-        ("java/lang/Object", Some((6, true))),
-        ("vm/Sys", Some((28, true))),
-        ("E", None),
-    ] {
-        assert_eq!(rt; number(&classes, name), expected);
+        let program = classes(rt.alloc(), row)?;
+        assert!(rt; Classes::new(rt.alloc(), &program)?.is_none(), "{row}");
     }
     Ok(())
 }

@@ -1,123 +1,76 @@
 //! The tables of a small program: what is read of classes, fields and methods by their numbers.
 
-use super::words::{name, program};
+use crate::texts::classes;
 use bitflags::Flags;
 use loader::class_tables::ClassTables;
 use loader::initializers::Initializers;
 use loader::method_tables::{Body, Catch, MethodInfo, MethodTables};
-use loader::static_slots::{Slot, StaticSlots};
+use loader::static_slots::Slot;
 use loader::storages::Storage;
+use loader::tables::Tables;
 use model::builtins::Builtin;
-use model::listings::{Constant, ExceptionRow, Listing};
 use model::places::MethodPlace;
 use model::values::{Kind, Value};
 use resolve::classes::Classes;
-use std::alloc::{AllocError, Global};
+use std::alloc::Global;
+use std::process::Abort;
 use std::test::Fail;
 
-/// A is 0, B 1 and J 2; `java/lang/Object` is 3, `java/lang/Throwable` 4 and `vm/Sys`, the last one, 25.
+/// A is 0, B 1 and J 2; `java/lang/Object` is 3, `java/lang/Throwable` 4 and `vm/Sys`, the last one, 25. The field s begins as
+/// -1, g is abstract, and f has three exception rows.
 const CLASSES: &str =
-    "A main()V@9,0,0 f(IJ[[I)J@9,5,2 <clinit>()V@8,0,0 x:B s:C@8 y:J; B ^A +J z:S t:LA;@8 g()V@1025,0,0; J interface c:I@25";
+    "class A|.field public x B|.field static s C = -1|.field public y J|main|.method public static f(IJ[[I)J|.limit stack 2|.limit locals 5|.catch B from X to Z using Y|.catch Q from X to Z using Y|.catch all from X to Z using Y|X:|nop|Y:|return|Z:|end|code 0 0 static <clinit>()V; class B < A|.implements J|.field public z S|.field static t LA;|.method public abstract g()V|end; interface J|.field public static final c I";
 
-/// The program, in which s begins as -1, g is abstract, and f has three exception rows.
-fn listings(alloc: Global) -> Result<Vec<Listing>, Fail> {
-    let mut classes = program(alloc, CLASSES)?;
-    for class in &mut classes {
-        for field in &mut class.fields {
-            if field.name.is("s") {
-                field.constant = Some(Constant::Int(-1));
-            }
-        }
-        for method in &mut class.methods {
-            if method.name.is("g") {
-                method.code = None;
-            }
-            if method.name.is("f") {
-                if let Some(code) = &mut method.code {
-                    add_rows(alloc, &mut code.rows)?;
-                }
-            }
-        }
-    }
-    Ok(classes)
-}
-
-fn add_rows(alloc: Global, rows: &mut Vec<ExceptionRow>) -> Result<(), AllocError> {
-    for class in ["B", "Q", ""] {
-        rows.push(ExceptionRow {
-            start: 0,
-            end: 2,
-            handler: 1,
-            class: if class.is_empty() {
-                None
-            } else {
-                Some(name(alloc, class)?)
-            },
-        })?;
-    }
-    Ok(())
-}
-
-/// The classes of a program that has no fault.
-fn classes_of(alloc: Global, program: &[Listing]) -> Result<Classes<'_>, Fail> {
-    match Classes::new(alloc, program)? {
-        Some(classes) => Ok(classes),
+/// The tables of classes that have their parents.
+pub fn tables_of(alloc: Global, row: &str) -> Result<Tables, Fail> {
+    let program = classes(alloc, row)?;
+    match Classes::new(alloc, &program)? {
+        Some(classes) => Ok(Tables::new(alloc, &classes)?),
         None => Err(Fail::new("no classes")),
     }
 }
 
-fn class_tables(alloc: Global) -> Result<ClassTables, Fail> {
-    let program = listings(alloc)?;
-    Ok(ClassTables::new(alloc, &classes_of(alloc, &program)?)?)
-}
+/// Classes with their superclasses.
+const SUPERCLASSES: &[(usize, Option<usize>)] = &[
+    (0, Some(3)),
+    (1, Some(0)),
+    (2, Some(3)),
+    (3, None),
+    (4, Some(3)),
+    (26, None),
+];
 
-#[test]
-fn classes_by_number(rt: HostRuntime) -> Result<(), Fail> {
-    let tables = class_tables(rt.alloc())?;
-    for (class, superclass) in [
-        (0usize, Some(3usize)),
-        (1, Some(0)),
-        (2, Some(3)),
-        (3, None),
-        (4, Some(3)),
-        (26, None),
-    ] {
-        assert_eq!(rt; tables.superclass(class), superclass, "of {class}");
+/// Whether a class is another one or below it.
+const SUBTYPES: &[(usize, usize, bool)] = &[
+    (1, 0, true),
+    (1, 1, true),
+    (1, 2, true),
+    (1, 3, true),
+    (0, 1, false),
+    (0, 2, false),
+    (1, 26, false),
+    (26, 26, false),
+];
+
+fn compare_classes(rt: &impl Abort, tables: &ClassTables) {
+    for (class, superclass) in SUPERCLASSES {
+        assert!(rt; tables.superclass(*class) == *superclass, "{class}");
     }
-    for (class, above, is_below) in [
-        (1usize, 0usize, true),
-        (1, 1, true),
-        (1, 2, true),
-        (1, 3, true),
-        (0, 1, false),
-        (0, 2, false),
-        (1, 26, false),
-        (26, 26, false),
-    ] {
-        assert_eq!(rt; tables.is_subtype(class, above), is_below, "{class}");
+    for (class, above, is_below) in SUBTYPES {
+        assert!(rt;
+            tables.is_subtype(*class, *above) == *is_below,
+            "{class} {above}"
+        );
     }
-    Ok(())
 }
 
 /// How many words an object of a class has, and of the last the class that declares it and how it is kept.
 fn last_word(tables: &ClassTables, class: usize) -> (usize, Option<(usize, Storage)>) {
     let words = tables.words(class);
-    let last = words.last().map(|word| (word.class, word.storage));
-    (words.len(), last)
-}
-
-/// An object has its superclass's words first (JVMS 2.4).
-#[test]
-fn words_by_class(rt: HostRuntime) -> Result<(), Fail> {
-    let tables = class_tables(rt.alloc())?;
-    assert!(rt; last_word(&tables, 1) == (3, Some((1, Storage::Short))));
-    assert!(rt; last_word(&tables, 3) == (0, None));
-    Ok(())
-}
-
-fn static_slots(alloc: Global) -> Result<StaticSlots, Fail> {
-    let program = listings(alloc)?;
-    Ok(StaticSlots::new(alloc, &classes_of(alloc, &program)?)?)
+    match words.last() {
+        Some(word) => (words.len(), Some((word.class, word.storage))),
+        None => (words.len(), None),
+    }
 }
 
 /// What is told of some slots: the first one's storage and opening, and the last one's class and opening.
@@ -127,20 +80,13 @@ fn ends(slots: &[Slot]) -> Option<(Storage, Value, usize, Value)> {
     Some((first.storage, first.opening, last.class, last.opening))
 }
 
-/// A char keeps the low 16 bits of -1 (JVMS 2.3.1).
-#[test]
-fn slots_in_order(rt: HostRuntime) -> Result<(), Fail> {
-    let tables = static_slots(rt.alloc())?;
-    let slots = tables.slots();
-    assert_eq!(rt; slots.len(), 3);
-    let wanted = (Storage::Char, Value::Int(65535), 2usize, Value::Int(0));
-    assert!(rt; ends(slots) == Some(wanted));
-    Ok(())
-}
-
-fn method_tables(alloc: Global) -> Result<MethodTables, Fail> {
-    let program = listings(alloc)?;
-    Ok(MethodTables::new(alloc, &classes_of(alloc, &program)?)?)
+/// An object has its superclass's words first (JVMS 2.4). A char keeps the low 16 bits of -1 (JVMS 2.3.1).
+fn has_words_and_slots(tables: &Tables) -> bool {
+    let slots = tables.slots.slots();
+    last_word(&tables.classes, 1) == (3, Some((1, Storage::Short)))
+        && last_word(&tables.classes, 3) == (0, None)
+        && slots.len() == 3
+        && ends(slots) == Some((Storage::Char, Value::Int(65535), 2, Value::Int(0)))
 }
 
 /// The units that the arguments of a method take, and its body.
@@ -149,17 +95,23 @@ fn told(tables: &MethodTables, class: usize, method: usize) -> Option<(usize, Bo
     Some((info.argument_units(), info.body()))
 }
 
-/// Units and bodies: `IJ[[I` takes four units; the empty initializer behind a class's methods has none.
-#[test]
-fn methods_by_place(rt: HostRuntime) -> Result<(), Fail> {
-    let tables = method_tables(rt.alloc())?;
-    for (class, method, units) in [(0usize, 1usize, 4usize), (0, 3, 0), (3, 0, 0)] {
-        assert!(rt; told(&tables, class, method).is_some_and(|(found, _)| found == units));
+/// Units: `IJ[[I` takes four; the empty initializer behind a class's methods has none.
+const UNITS: &[(usize, usize, usize)] = &[(0, 1, 4), (0, 3, 0), (3, 0, 0)];
+
+fn has_units(tables: &MethodTables) -> bool {
+    for (class, method, units) in UNITS {
+        match told(tables, *class, *method) {
+            Some((found, _)) if found == *units => {}
+            _ => return false,
+        }
     }
-    assert!(rt; told(&tables, 1, 0) == Some((0, Body::NoCode)));
-    assert!(rt; told(&tables, 25, 1) == Some((2, Body::Own(Builtin::PrintLong))));
-    assert!(rt; told(&tables, 26, 0) == None);
-    Ok(())
+    true
+}
+
+fn has_bodies(tables: &MethodTables) -> bool {
+    told(tables, 1, 0) == Some((0, Body::NoCode))
+        && told(tables, 25, 1) == Some((2, Body::Own(Builtin::PrintLong)))
+        && told(tables, 26, 0) == None
 }
 
 /// Whether this is `static public f(IJ[[I)J` with three exception rows, of which the last catches all.
@@ -172,37 +124,50 @@ fn is_f(f: &MethodInfo) -> bool {
         && f.rows().last().is_some_and(|row| row.class == Catch::Any)
 }
 
-#[test]
-fn a_method_with_rows(rt: HostRuntime) -> Result<(), Fail> {
-    let tables = method_tables(rt.alloc())?;
-    let f = MethodPlace {
+fn has_f(tables: &MethodTables) -> bool {
+    let place = MethodPlace {
         class: 0,
         method: 1,
     };
-    assert!(rt; tables.method(f).is_some_and(|f| is_f(f)));
-    Ok(())
-}
-
-fn initializers(alloc: Global) -> Result<Initializers, Fail> {
-    let program = listings(alloc)?;
-    Ok(Initializers::new(alloc, &classes_of(alloc, &program)?)?)
-}
-
-/// B wants initialising for its superclass A, an interface never (JVMS 5.5).
-#[test]
-fn initializers_by_class(rt: HostRuntime) -> Result<(), Fail> {
-    let initializers = initializers(rt.alloc())?;
-    for (class, method, is_wanted) in [
-        (0usize, 2usize, true),
-        (1, 1, true),
-        (2, 0, false),
-        (3, 0, false),
-    ] {
-        let found = (
-            initializers.initializer(class),
-            initializers.wants_initialising(class),
-        );
-        assert_eq!(rt; found, (MethodPlace { class, method }, is_wanted));
+    match tables.method(place) {
+        Some(f) => is_f(f),
+        None => false,
     }
+}
+
+/// A class with the place of its initializer, and whether it wants initialising: B does for its superclass A, an interface never
+/// (JVMS 5.5).
+const INITIALIZERS: &[(usize, usize, bool)] = &[
+    (0, 2, true),
+    (1, 1, true),
+    (2, 0, false),
+    (3, 0, false),
+];
+
+fn compare_initializers(rt: &impl Abort, tables: &Initializers) {
+    for (class, method, is_wanted) in INITIALIZERS {
+        let place = MethodPlace {
+            class: *class,
+            method: *method,
+        };
+        let found = (
+            tables.initializer(*class),
+            tables.wants_initialising(*class),
+        );
+        assert!(rt; found == (place, *is_wanted), "{class}");
+    }
+}
+
+#[test]
+fn tables_by_number(rt: HostRuntime) -> Result<(), Fail> {
+    let tables = tables_of(rt.alloc(), CLASSES)?;
+    compare_classes(&rt, &tables.classes);
+    compare_initializers(&rt, &tables.initializers);
+    assert!(rt; has_words_and_slots(&tables), "words or slots");
+    assert!(rt; has_units(&tables.methods), "units");
+    assert!(rt;
+        has_bodies(&tables.methods) && has_f(&tables.methods),
+        "methods"
+    );
     Ok(())
 }
