@@ -1,6 +1,5 @@
 -- A pool of items that grows by an entry.
 use Rattle.std.proofs.Common.{◌≡◌, ℕ, ℤ, ◌^◌, ◌≤◌, ◌<◌, true, false, ◌&&◌, ◌↔◌, List, [], ◌∷◌, ◌++◌, map, Some, Result, Ok, Err, refl, sym, ◌∙◌, ap, subst, inl, inr, eqb, arith}
-use Rattle.std.specs.Prelude.{IfOk}
 use Rattle.std.proofs.lemmas.Bool.{cases_Bool, and_parts, and_from, or_cases, or_left, or_right, false_from_ne_true, true≢false, eq-eqb}
 use Rattle.std.proofs.lemmas.Bool.Decides.{Decides-int_eq}
 use Rattle.std.proofs.lemmas.List.{map-append}
@@ -8,18 +7,17 @@ use Rattle.std.proofs.lemmas.Slice.Eq.{bytes_eq-Decides}
 use Rattle.pool.proofs.EqualEntries.{same_is as equal_is}
 use Rattle.model.specs.ClassFiles.Pools.{entry_at, pool_count}
 use Rattle.model.specs.ClassFiles.Adding.{is_same, is_among, added}
-use Rattle.model.specs.ClassFiles.Items.{Item, is_same_item, is_item_of, with_item, with_items, items_count, class_items, name_items}
+use Rattle.model.specs.ClassFiles.Items.{Item, is_same_item, is_item_of, with_item, with_items, items_count}
 use Rattle.model.specs.ClassFiles.Items.Item.{text_item, int_item, long_item, class_item, name_item, field_item, method_item, interface_item}
 use Rattle.model.specs.declared.class_files.Entry.{Entry}
 use Rattle.model.specs.declared.class_files.Entry.TheVariants.{Utf8, Integer, Long, Class, Fieldref, Methodref, InterfaceMethodref, NameAndType}
 use Rattle.model.specs.declared.names.Member.{Member}
-use Rattle.classfile.specs.declared.error.ClassError.{ClassError}
-use Rattle.classfile.specs.declared.error.ClassError.TheVariants as class_error
-use Rattle.assembler.specs.declared.pool_numbers.NumberError.{NumberError}
-use Rattle.assembler.specs.declared.pool_numbers.NumberError.TheVariants as error
-use Rattle.assembler.specs.Numbering.{number_of, entry_of, entries_of, item_of, items_of, named_by, are_items_of, AreClosed, IsPool, said, IsEntry, reference_items}
-use Rattle.assembler.proofs.NumberingItems.{same_is as same_item_is, same_self, with_item_keeps, with_items_have, one_of, among_first, named_are, closed_are_different, item_new, item_known, with_item_has, closed_grows}
-use Rattle.assembler.proofs.NumberingEntries.{item_under, number_left, still_number, still_numbers, count_is}
+use Rattle.pool.specs.declared.builder.AddError.{AddError}
+use Rattle.pool.specs.declared.builder.AddError.TheVariants as error
+use Rattle.assembler.specs.Assembled.{Stays}
+use Rattle.assembler.specs.Numbering.{number_of, entry_of, entries_of, item_of, items_of, named_by, are_items_of, AreClosed, IsPool, said, IsEntry, reference_items, reference_numbers}
+use Rattle.assembler.proofs.NumberingItems.{same_is as same_item_is, same_self, with_items_have, one_of, among_first, named_are, closed_are_different, item_new, item_known, with_item_has, closed_grows, all_added}
+use Rattle.assembler.proofs.NumberingEntries.{item_under, number_left, count_is}
 use Rattle.assembler.proofs.NumberingNames.{one_entry, says, items_back, reference_parts}
 
 -- ---- an entry stays what it was
@@ -188,20 +186,21 @@ count_added entries items e held of =
 -- ---- the builder's answers
 
 -- what adding an entry to the pool of items told, where it was added
-pub told_added : (entries more : List Entry) (items : List Item) (e : Entry) (n : ℕ) (r : Result ℕ ClassError) → items_of entries ≡ items → Holds entries (items_of entries) → IsEntry items e → r ≡ Ok n
-    → (more ≡ added entries e) × (entry_at more n ≡ Some e) → ((r ≡ Err class_error.PoolFull) ↔ (2 ^ 16 ≤ pool_count (added entries e)))
+pub told_added : (entries more : List Entry) (items : List Item) (e : Entry) (n : ℕ) (r : Result ℕ AddError) → items_of entries ≡ items → Holds entries (items_of entries) → IsEntry items e → r ≡ Ok n
+    → (more ≡ added entries e) × (entry_at more n ≡ Some e) → ((r ≡ Err error.Full) ↔ (2 ^ 16 ≤ pool_count (added entries e)))
     → (items_of more ≡ with_item items (said items e)) × (n ≡ number_of (items_of more) (said items e)) × Holds more (items_of more)
 told_added entries more items e n r view held of ok are full =
     entry_added entries more items e n (subst (Holds entries) view held) of are.0 (room r ok full) are.1
   where
-    room : (q : Result ℕ ClassError) → q ≡ Ok n → ((q ≡ Err class_error.PoolFull) ↔ (2 ^ 16 ≤ pool_count (added entries e))) → 2 ^ 16 ≤ pool_count (added entries e) → ⊥
-    room q is iff h = let wrong : Ok n ≡ Err class_error.PoolFull = sym is ∙ iff.1 h in cc
+    room : (q : Result ℕ AddError) → q ≡ Ok n → ((q ≡ Err error.Full) ↔ (2 ^ 16 ≤ pool_count (added entries e))) → 2 ^ 16 ≤ pool_count (added entries e) → ⊥
+    room q is iff h = let wrong : Ok n ≡ Err error.Full = sym is ∙ iff.1 h in cc
 
--- and where it has no room
-pub told_full : (entries : List Entry) (items : List Item) (e : Entry) (r : Result ℕ ClassError) → items_of entries ≡ items → Holds entries (items_of entries) → IsEntry items e → r ≡ Err class_error.PoolFull
-    → ((r ≡ Err class_error.PoolFull) ↔ (2 ^ 16 ≤ pool_count (added entries e))) → 2 ^ 16 ≤ items_count (with_item items (said items e))
-told_full entries items e r view held of is full =
-    subst (λ k. 2 ^ 16 ≤ k) (count_added entries items e (subst (Holds entries) view held) of) (full.0 is)
+-- and where it wasn't, though it has room
+pub told_memory : (entries : List Entry) (items : List Item) (e : Entry) (r : Result ℕ AddError) (fault : AddError) → items_of entries ≡ items → Holds entries (items_of entries) → IsEntry items e → r ≡ Err fault
+    → ((r ≡ Err error.Full) ↔ (2 ^ 16 ≤ pool_count (added entries e))) → (2 ^ 16 ≤ items_count (with_item items (said items e)) → ⊥) → fault ≡ error.Memory
+told_memory entries items e r error.Memory view held of is full room = refl
+told_memory entries items e r error.Full view held of is full room =
+    absurd (room (subst (λ k. 2 ^ 16 ≤ k) (count_added entries items e (subst (Holds entries) view held) of) (full.0 is)))
 
 -- ---- what an entry says by the numbers that it has
 
@@ -217,30 +216,22 @@ pub long_entry : (items : List Item) (z value : ℤ) → z ≡ value → IsEntry
 unfolding said
 long_entry items z value is = (record { entry_is = refl; named = refl }, ap long_item is)
 
--- items with one more, whose number is known
-abbrev pub Told : List Item → List Item → Item → ℕ → Type 0
-Told before items x n = (items ≡ with_item before x) × (n ≡ number_of items x)
+-- an entry that has the numbers of what its item names, which was added last
+made_entry : (before added items : List Item) (e : Entry) (x : Item) → IsPool items → with_items before added ≡ items → are_items_of (with_items before added) (named_by x) ≡ true → e ≡ entry_of items x
+    → IsEntry items e × (said items e ≡ x)
+made_entry before added items e x pool grown named is = entry_says items e x pool.closed (ap (λ xs. are_items_of xs (named_by x)) (sym grown) ∙ named) is
 
-told_there : (before items : List Item) (x : Item) (n : ℕ) → Told before items x n → is_item_of items x ≡ true
-told_there before items x n h = ap (λ xs. is_item_of xs x) h.0 ∙ with_item_has before x
-
-told_still : (before items : List Item) (x y : Item) (n : ℕ) → Told before items x n → is_item_of before y ≡ true → (is_item_of items y ≡ true) × (number_of items y ≡ number_of before y)
-told_still before items x y n h there = (
-  ap (λ xs. is_item_of xs y) h.0 ∙ with_item_keeps before x y there,
-  ap (λ xs. number_of xs y) h.0 ∙ still_number before x y there,
-)
-
-pub class_entry : (before items : List Item) (name : List ℕ) (n : ℕ) → IsPool items → Told before items (text_item name) n → IsEntry items (Class n) × (said items (Class n) ≡ class_item name)
+pub class_entry : (before items : List Item) (name : List ℕ) (n : ℕ) → IsPool items → Stays before (text_item name ∷ []) items (λ items. number_of items (text_item name)) n
+    → IsEntry items (Class n) × (said items (Class n) ≡ class_item name)
 class_entry before items name n pool h =
-    entry_says items (Class n) (class_item name) pool.closed (and_from (is_item_of items (text_item name)) true (told_there before items (text_item name) n h) refl) (ap Class h.1)
+    made_entry before (text_item name ∷ []) items (Class n) (class_item name) pool (h []).0 (all_added before (text_item name ∷ [])) (ap Class (h []).1)
 
-pub name_entry : (before mid items : List Item) (name descriptor : List ℕ) (m n : ℕ) → IsPool items → Told before mid (text_item name) m → Told mid items (text_item descriptor) n
+pub name_entry : (before items : List Item) (name descriptor : List ℕ) (m n : ℕ) → IsPool items
+    → Stays {A = ℕ × ℕ} before (text_item name ∷ text_item descriptor ∷ []) items (λ items. (number_of items (text_item name), number_of items (text_item descriptor))) (m, n)
     → IsEntry items (NameAndType m n) × (said items (NameAndType m n) ≡ name_item name descriptor)
-name_entry before mid items name descriptor m n pool g h =
-    let still = told_still mid items (text_item descriptor) (text_item name) n h (told_there before mid (text_item name) m g) in
-    let there = and_from (is_item_of items (text_item descriptor)) true (told_there mid items (text_item descriptor) n h) refl in
-    entry_says items (NameAndType m n) (name_item name descriptor) pool.closed (and_from (is_item_of items (text_item name)) (are_items_of items (text_item descriptor ∷ [])) still.0 there)
-    (ap (λ k. NameAndType k n) (g.1 ∙ sym still.1) ∙ ap (NameAndType (number_of items (text_item name))) h.1)
+name_entry before items name descriptor m n pool h =
+    made_entry before (text_item name ∷ text_item descriptor ∷ []) items (NameAndType m n) (name_item name descriptor) pool (h []).0 (all_added before (text_item name ∷ text_item descriptor ∷ []))
+    (ap (λ (p : ℕ × ℕ). NameAndType p.0 p.1) (h []).1)
 
 -- what a reference to a member names was added
 pub references_there : (before : List Item) (m : Member) → are_items_of (with_items before (reference_items m)) (class_item m.class ∷ name_item m.name m.descriptor ∷ []) ≡ true
@@ -251,18 +242,16 @@ references_there before m =
     with_items_have before (reference_items m) (name_item m.name m.descriptor) (or_left (is_same_item (name_item m.name m.descriptor) (name_item m.name m.descriptor)) false (same_self (name_item m.name m.descriptor))) in
     and_from (is_item_of items (class_item m.class)) (are_items_of items (name_item m.name m.descriptor ∷ [])) class (and_from (is_item_of items (name_item m.name m.descriptor)) true names refl)
 
--- items with what a reference names, whose numbers are known
+-- a reference's numbers
 abbrev pub ToldReference : List Item → List Item → Member → ℕ → ℕ → Type 0
-ToldReference before items m class names =
-    (items ≡ with_items before (reference_items m)) × (◌≡◌ {A = ℕ × ℕ} (class, names) (number_of items (class_item m.class), number_of items (name_item m.name m.descriptor)))
+ToldReference before items m class names = Stays {A = ℕ × ℕ} before (reference_items m) items (reference_numbers m) (class, names)
 
 reference_entry : (make : ℕ → ℕ → Entry) (before items : List Item) (m : Member) (x : Item) (class names : ℕ) → IsPool items → ToldReference before items m class names
     → named_by x ≡ class_item m.class ∷ name_item m.name m.descriptor ∷ [] → entry_of items x ≡ make (number_of items (class_item m.class)) (number_of items (name_item m.name m.descriptor))
     → IsEntry items (make class names) × (said items (make class names) ≡ x)
 reference_entry make before items m x class names pool h named is =
-    let there : are_items_of items (named_by x) ≡ true = ap (λ xs. are_items_of xs (named_by x)) h.0 ∙ ap (are_items_of (with_items before (reference_items m))) named ∙ references_there before m in
-    entry_says items (make class names) x pool.closed there
-    (ap (λ k. make k names) (ap (λ (p : ℕ × ℕ). p.0) h.1) ∙ ap (make (number_of items (class_item m.class))) (ap (λ (p : ℕ × ℕ). p.1) h.1) ∙ sym is)
+    made_entry before (reference_items m) items (make class names) x pool (h []).0 (ap (are_items_of (with_items before (reference_items m))) named ∙ references_there before m)
+    (ap (λ (p : ℕ × ℕ). make p.0 p.1) (h []).1 ∙ sym is)
 
 pub field_entry : (before items : List Item) (m : Member) (class names : ℕ) → IsPool items → ToldReference before items m class names
     → IsEntry items (Fieldref class names) × (said items (Fieldref class names) ≡ field_item m)
@@ -275,32 +264,6 @@ method_entry before items m class names pool h = reference_entry Methodref befor
 pub interface_entry : (before items : List Item) (m : Member) (class names : ℕ) → IsPool items → ToldReference before items m class names
     → IsEntry items (InterfaceMethodref class names) × (said items (InterfaceMethodref class names) ≡ interface_item m)
 interface_entry before items m class names pool h = reference_entry InterfaceMethodref before items m (interface_item m) class names pool h refl refl
-
--- ---- the answers by items
-
-pub numbered_as : (mid before new : List Item) (x y : Item) (r : Result ℕ NumberError) → mid ≡ before → x ≡ y → IfOk r (Told mid new x) → IfOk r (Told before new y)
-numbered_as mid before new x y r items item h = subst (λ xs. IfOk r (Told xs new y)) items (subst (λ z. IfOk r (Told mid new z)) item h)
-
--- told of fullness where the items with one more don't fit
-abbrev pub FullAt : List Item → Item → Result ℕ NumberError → Type 0
-FullAt before x r = r ≡ Err error.Full → 2 ^ 16 ≤ items_count (with_item before x)
-
-pub full_as : (mid before : List Item) (x y : Item) (r : Result ℕ NumberError) → mid ≡ before → x ≡ y → FullAt mid x r → FullAt before y r
-full_as mid before x y r items item h = subst (λ xs. FullAt xs y r) items (subst (λ z. FullAt mid z r) item h)
-
--- a class, and behind it a name with a descriptor
-pub reference_told : (before mid items : List Item) (m : Member) (class names : ℕ)
-    → (mid ≡ with_items before (class_items m.class)) × (class ≡ number_of mid (class_item m.class))
-    → (items ≡ with_items mid (name_items m.name m.descriptor)) × (names ≡ number_of items (name_item m.name m.descriptor))
-    → ToldReference before items m class names
-reference_told before mid items m class names g h =
-    let there : is_item_of mid (class_item m.class) ≡ true =
-    ap (λ xs. is_item_of xs (class_item m.class)) g.0 ∙ with_items_have before (class_items m.class) (class_item m.class) (or_left (is_same_item (class_item m.class) (class_item m.class)) false (same_self (class_item m.class))) in
-    let still : number_of items (class_item m.class) ≡ number_of mid (class_item m.class) =
-    ap (λ xs. number_of xs (class_item m.class)) h.0 ∙ still_numbers mid (name_items m.name m.descriptor) (class_item m.class) there in (
-      h.0 ∙ ap (λ xs. with_items xs (name_items m.name m.descriptor)) g.0,
-      ap (λ k. (k, names)) (g.1 ∙ sym still) ∙ ap (λ k. (number_of items (class_item m.class), k)) h.1,
-    )
 
 -- ---- the class file
 

@@ -1,16 +1,14 @@
 -- What has a number in a pool keeps it when the pool grows.
-use Rattle.std.specs.Prelude.{IfOk, IfErr, IsErrAnd, Result, Ok, Err}
+use Rattle.std.specs.Prelude.{IfErr, IsErrAnd, Result, Ok, Err}
 use Rattle.std.proofs.lemmas.Result.{err_from_is_err_and}
 use Rattle.std.specs.List.{flat_map}
 use Rattle.std.proofs.Common.{◌≡◌, ℕ, ◌+◌, ◌≤◌, ◌^◌, true, List, [], ◌∷◌, ◌++◌, map, drop, refl, sym, ◌∙◌, ap, subst, arith, append_assoc, append-nil}
 use Rattle.model.specs.ClassFiles.Items.{Item, is_item_of, with_items, items_count}
-use Rattle.assembler.specs.Assembled.{Stays, HasRoom}
+use Rattle.assembler.specs.Answers.{HasNumber, OnlyFull}
+use Rattle.assembler.specs.Assembled.{Grows, Stays, HasRoom}
 use Rattle.assembler.specs.Numbering.{number_of}
-use Rattle.assembler.specs.Told.{told}
 use Rattle.assembler.specs.declared.error.AsmError.{AsmError}
 use Rattle.assembler.specs.declared.error.AsmError.TheVariants as error
-use Rattle.assembler.specs.declared.pool_numbers.NumberError.{NumberError}
-use Rattle.assembler.specs.declared.pool_numbers.NumberError.TheVariants.{Full, Memory}
 use Rattle.assembler.proofs.NumberingItems.{among_right, among_first, with_items-append, with_items_have, counts_grow}
 use Rattle.assembler.proofs.NumberingEntries.{still_numbers}
 
@@ -25,25 +23,31 @@ number_stays old new added x n among grown number later = (
   number ∙ sym (still_numbers new later x (subst (λ items. is_item_of items x ≡ true) (sym grown) (with_items_have old added x among))),
 )
 
-pub found : (old new added : List Item) (x : Item) (answer : Result ℕ NumberError) (result : Result ℕ AsmError) → is_item_of added x ≡ true → result ≡ told answer
-    → IfOk answer (λ n. (new ≡ with_items old added) × (n ≡ number_of new x)) → IfOk result (Stays old added new (λ items. number_of items x))
-found old new added x (Ok n) result among is h = subst (λ r. IfOk r (Stays old added new (λ items. number_of items x))) (sym is) (number_stays old new added x n among h.0 h.1)
-found old new added x (Err Full) result among is h = rw is tt
-found old new added x (Err Memory) result among is h = rw is tt
+-- no room for these items, and so for none that are added later
+pub no_room : (old added : List Item) → 2 ^ 16 ≤ items_count (with_items old added) → (later : List Item) → HasRoom (with_items old (added ++ later)) → ⊥
+no_room old added past later room =
+    let grows = counts_grow (with_items old added) later in
+    let same = ap items_count (with_items-append old added later) in
+    omega (arith, grows, past, same, room)
 
-pub only : (old added : List Item) (answer : Result ℕ NumberError) (result : Result ℕ AsmError) → result ≡ told answer → (answer ≡ Err Full → 2 ^ 16 ≤ items_count (with_items old added))
-    → IfErr result (λ e. (later : List Item) → HasRoom (with_items old (added ++ later)) → e ≡ error.Memory)
-only old added (Ok n) result is full = rw is tt
-only old added (Err Memory) result is full = rw is (λ later room. refl)
-only old added (Err Full) result is full = rw is (λ later room. too_many later room)
+-- ---- an item behind those that it names
+
+behind : (old mid xs : List Item) (y : Item) → Grows old xs mid → (later : List Item) → with_items old ((xs ++ y ∷ []) ++ later) ≡ with_items mid (y ∷ later)
+behind old mid xs y grows later = ap (with_items old) (append_assoc xs (y ∷ []) later) ∙ grows (y ∷ later)
+
+pub item_found : (old mid new xs : List Item) (x y : Item) (answer : Result ℕ AsmError) → Grows old xs mid → x ≡ y → HasNumber mid (x ∷ []) new x answer → HasNumber old (xs ++ y ∷ []) new y answer
+item_found old mid new xs x y answer grows is told = by answer (subst (λ z. HasNumber mid (z ∷ []) new z answer) is told)
   where
-    too_many : (later : List Item) → HasRoom (with_items old (added ++ later)) → error.Full ≡ error.Memory
-    too_many later room =
-        let grows = counts_grow (with_items old added) later in
-        let past = full refl in
-        let same = ap items_count (with_items-append old added later) in
-        let wrong : ⊥ = omega (arith, grows, past, same, room) in
-        absurd wrong
+    by : (a : Result ℕ AsmError) → HasNumber mid (y ∷ []) new y a → HasNumber old (xs ++ y ∷ []) new y a
+    by (Ok n) h = λ later. (behind old mid xs y grows later ∙ (h later).0, (h later).1)
+    by (Err e) h = tt
+
+pub item_only : (old mid xs : List Item) (x y : Item) (answer : Result ℕ AsmError) → Grows old xs mid → x ≡ y → OnlyFull mid (x ∷ []) answer → OnlyFull old (xs ++ y ∷ []) answer
+item_only old mid xs x y answer grows is told = by answer (subst (λ z. OnlyFull mid (z ∷ []) answer) is told)
+  where
+    by : (a : Result ℕ AsmError) → OnlyFull mid (y ∷ []) a → OnlyFull old (xs ++ y ∷ []) a
+    by (Ok n) h = tt
+    by (Err e) h = λ later room. h later (subst HasRoom (behind old mid xs y grows later) room)
 
 -- ---- a loop over parts, each of which adds its items
 
@@ -119,3 +123,15 @@ second_fails P old mid xs ys f a s g later p = g later (subst P (ap (with_items 
 -- an error that `?` gives on
 pub given_on : {T : Type 0} (r : Result T AsmError) (e : AsmError) (P : AsmError → Type 0) → IsErrAnd r (λ y. y ≡ e) → P e → IfErr r P
 given_on r e P h p = let q = err_from_is_err_and r h in subst (λ s. IfErr s P) (sym q.1) (subst P (sym q.2) p)
+
+-- refused where the first part was, or the second
+pub first_refused : {A : Type 0} (answer : Result A AsmError) (e : AsmError) (old xs ys : List Item) → IsErrAnd answer (λ f. f ≡ e)
+    → ((later : List Item) → HasRoom (with_items old (xs ++ later)) → e ≡ error.Memory) → OnlyFull old (xs ++ ys) answer
+first_refused answer e old xs ys given only =
+    given_on answer e (λ f. (later : List Item) → HasRoom (with_items old ((xs ++ ys) ++ later)) → f ≡ error.Memory) given (first_fails HasRoom old xs ys only)
+
+pub second_refused : {A : Type 0} (answer : Result A AsmError) (e : AsmError) (old mid xs ys : List Item) → IsErrAnd answer (λ f. f ≡ e) → Grows old xs mid
+    → ((later : List Item) → HasRoom (with_items mid (ys ++ later)) → e ≡ error.Memory) → OnlyFull old (xs ++ ys) answer
+second_refused answer e old mid xs ys given grows only =
+    given_on answer e (λ f. (later : List Item) → HasRoom (with_items old ((xs ++ ys) ++ later)) → f ≡ error.Memory) given
+    (λ later room. only later (subst HasRoom (ap (with_items old) (append_assoc xs ys later) ∙ grows (ys ++ later)) room))

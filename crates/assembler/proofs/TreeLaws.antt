@@ -1,5 +1,5 @@
 -- What a text's tree tells of its listing and of the pool of its class file.
-use Rattle.std.proofs.Common.{◌≡◌, ℕ, ℤ, ◌+◌, Bool, true, false, not, ◌&&◌, nat_le, List, [], ◌∷◌, ◌++◌, length, map, refl, sym, ◌∙◌, ap, subst, append-nil, Option, Some, None, codes, ◌||◌}
+use Rattle.std.proofs.Common.{◌≡◌, ℕ, ℤ, ◌+◌, Bool, true, false, not, ◌&&◌, nat_le, List, [], ◌∷◌, ◌++◌, length, map, refl, sym, ◌∙◌, ap, subst, Option, Some, None, codes, ◌||◌}
 use Rattle.std.specs.List.{list_all}
 use Rattle.std.specs.Option.{option_map}
 use Rattle.std.specs.Str.{bytes_eq}
@@ -27,7 +27,7 @@ use Rattle.model.specs.declared.listings.Method.{Method}
 use Rattle.model.specs.declared.trees.MethodTree.{MethodTree}
 use Rattle.model.specs.declared.trees.TextLine.{TextLine}
 use Rattle.model.specs.declared.trees.TextLine.TheVariants.{Label, Instruction}
-use Rattle.assembler.specs.Assembled.{HasRoom, code_stands, with_ints, tree_items, assembled, assembled_tree}
+use Rattle.assembler.specs.Assembled.{Grows, HasRoom, code_stands, tree_items, assembled, assembled_tree}
 use Rattle.assembler.specs.Checks.{few_rows, has_few_rows, has_short_lists, code_is_right}
 use Rattle.assembler.proofs.FileLaws.{has_room}
 use Rattle.assembler.proofs.Bools.{and_tells}
@@ -117,22 +117,19 @@ no_super l h =
 
 -- ---- the pool
 
-module _ (t : Tree) (old new : List Item) (ms : List MethodTree) (none : old ≡ []) (same : ms ≡ t.methods) where
-  used : with_ints old (used_in_methods ms ++ []) (listing_items (listing_of t)) ≡ with_items [] (tree_items t)
-  unfolding with_ints
-  used = ap (λ items. with_items items (map int_item (used_in_methods ms ++ []) ++ listing_items (listing_of t))) none
-      ∙ ap (λ zs. with_items [] (map int_item zs ++ listing_items (listing_of t))) (append-nil (used_in_methods ms) ∙ ap used_in_methods same)
+module _ (t : Tree) (old new : List Item) (used : List ℤ) (none : old ≡ []) (same : used ≡ used_in_methods t.methods) where
+  whole : with_items old (map int_item used ++ listing_items (listing_of t)) ≡ with_items [] (tree_items t)
+  whole = ap (λ items. with_items items (map int_item used ++ listing_items (listing_of t))) none ∙ ap (λ zs. with_items [] (map int_item zs ++ listing_items (listing_of t))) same
 
-  pub tree_pool : ((zs : List ℤ) (later : List Item) → with_ints old (used_in_methods ms ++ zs) later ≡ with_ints new zs later) → (l : ClassListing) → l ≡ listing_of t → assembled (with_items new (listing_items l)) l ≡ assembled_tree t
-  unfolding with_ints assembled_tree
-  tree_pool noted l e =
-      ap (λ k. assembled (with_items new (listing_items k)) k) e
-      ∙ ap (λ items. assembled items (listing_of t)) (sym (noted [] (listing_items (listing_of t))) ∙ used)
-
-  pub tree_room : IsClass (assembled_tree t) → HasRoom (with_ints old (used_in_methods ms ++ []) (listing_items (listing_of t)))
+  pub tree_pool : Grows old (map int_item used) new → (l : ClassListing) → l ≡ listing_of t → assembled (with_items new (listing_items l)) l ≡ assembled_tree t
   unfolding assembled_tree
-  tree_room is = subst HasRoom (sym used) (has_room (with_items [] (tree_items t)) (listing_of t) is)
+  tree_pool grown l e =
+      ap (λ k. assembled (with_items new (listing_items k)) k) e
+      ∙ ap (λ items. assembled items (listing_of t)) (sym (grown (listing_items (listing_of t))) ∙ whole)
 
-  pub tree_items_are : ((zs : List ℤ) (later : List Item) → with_ints old (used_in_methods ms ++ zs) later ≡ with_ints new zs later) → (l : ClassListing) → l ≡ listing_of t → with_items new (listing_items l) ≡ with_items [] (tree_items t)
-  unfolding with_ints
-  tree_items_are noted l e = ap (λ k. with_items new (listing_items k)) e ∙ sym (noted [] (listing_items (listing_of t))) ∙ used
+  pub tree_room : IsClass (assembled_tree t) → HasRoom (with_items old (map int_item used ++ listing_items (listing_of t)))
+  unfolding assembled_tree
+  tree_room is = subst HasRoom (sym whole) (has_room (with_items [] (tree_items t)) (listing_of t) is)
+
+  pub tree_items_are : Grows old (map int_item used) new → (l : ClassListing) → l ≡ listing_of t → with_items new (listing_items l) ≡ with_items [] (tree_items t)
+  tree_items_are grown l e = ap (λ k. with_items new (listing_items k)) e ∙ sym (grown (listing_items (listing_of t))) ∙ whole

@@ -1,5 +1,5 @@
 -- The class file of a listing, with the numbers that a pool of items gives (JVMS 4.1).
-use Rattle.std.specs.Prelude.{◌≡◌, ℕ, ℤ, ◌^◌, ◌<◌, Bool, true, bit_or, List, [], ◌++◌, map, codes, Option, Some, None, if◌then◌else◌}
+use Rattle.std.specs.Prelude.{◌≡◌, ℕ, ◌^◌, ◌<◌, Bool, true, bit_or, List, [], ◌++◌, map, codes, Option, Some, None, if◌then◌else◌}
 use Rattle.std.specs.Option.{option_map}
 use Rattle.model.specs.Bytecode.{IsCode}
 use Rattle.model.specs.ClassFiles.Classes.{ClassPart}
@@ -66,7 +66,11 @@ assembled items l = class_with items (file_flags l.flags) l
 
 -- ---- a pool that grows
 
--- between two pools these items were added, and the value is what it will be in the whole pool, whatever is added later
+-- between two pools these items were added
+abbrev pub Grows : List Item → List Item → List Item → Type 0
+Grows old added new = (later : List Item) → with_items old (added ++ later) ≡ with_items new later
+
+-- the same, and the value is what it will be in the whole pool, whatever is added later
 abbrev pub Stays : {A : Type 0} → List Item → List Item → List Item → (List Item → A) → A → Type 0
 Stays old added new value x = (later : List Item) → (with_items old (added ++ later) ≡ with_items new later) × (x ≡ value (with_items new later))
 
@@ -95,7 +99,3 @@ tree_items t = map int_item (used_in_methods t.methods) ++ listing_items (listin
 -- the class file of a text's tree
 unfoldable pub assembled_tree : Tree → ClassPart
 assembled_tree t = assembled (with_items [] (tree_items t)) (listing_of t)
-
--- items with numbers and then others
-unfoldable pub with_ints : List Item → List ℤ → List Item → List Item
-with_ints items zs later = with_items items (map int_item zs ++ later)

@@ -1,5 +1,5 @@
+pub mod Answers
 pub mod Assembled
 pub mod Checks
 pub mod Numbering
 pub mod Numbers
-pub mod Told

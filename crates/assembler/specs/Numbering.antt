@@ -131,6 +131,10 @@ pub record IsEntry (items : List Item) (entry : Entry) : Type 0 where
 abbrev pub reference_items : Member → List Item
 reference_items m = class_items m.class ++ name_items m.name m.descriptor
 
+-- and the numbers that it has
+abbrev pub reference_numbers : Member → List Item → ℕ × ℕ
+reference_numbers m items = (number_of items (class_item m.class), number_of items (name_item m.name m.descriptor))
+
 -- ---- the parts of a class, with numbers for names
 
 abbrev pub numbered_constant : List Item → Pushed ℤ ℤ → Pushed ℕ ℕ

@@ -1,28 +1,25 @@
 //! The class file of a text's tree.
-ghost use Rattle.std.specs.Prelude.{◌≡◌, ◌∷◌, ◌++◌, ◌<◌, ◌^◌, ℤ, List, true, IfOk, IfErr, OnOk, MatchResult, ⊤};
+ghost use Rattle.std.specs.Prelude.{◌≡◌, ◌<◌, ◌^◌, true, IfOk, MatchResult, ⊤};
 ghost use Rattle.std.specs.List.{list_all};
-ghost use Rattle.model.specs.ClassFiles.Items.{Item};
 ghost use Rattle.model.specs.ClassFiles.Listing.{listing_of as file_listing};
 ghost use Rattle.model.specs.Texts.Assembling.{is_countable, assembles};
 ghost use Rattle.model.specs.Texts.Flags.{has};
 ghost use Rattle.model.specs.Texts.ListingOfTree.{listing_of};
 ghost use Rattle.model.specs.Texts.Spelled.{is_spelled};
-ghost use Rattle.model.specs.Texts.Widths.{used_before, used_in, used_in_body, used_in_methods};
-ghost use Rattle.assembler.specs.Assembled.{HasRoom, with_ints, assembled_tree};
+ghost use Rattle.assembler.specs.Assembled.{assembled_tree};
 ghost use Rattle.assembler.specs.Checks.{has_few_rows, has_short_lists};
 ghost use Rattle.assembler.specs.declared.error.AsmError.TheVariants as error;
 
 use crate::error::AsmError;
-use crate::kept_numbers::int;
+use crate::ldc_numbers::used_in_methods;
 use crate::listings::listing;
 use crate::numbered_class::class_file;
 use crate::pool_numbers::Numbers;
 use bitflags::Flags;
 use classfile::ClassFile;
 use classfile::flags::SUPER;
-use model::instructions::{Constant, Instruction, Width};
 use model::listings::{Listing, Method};
-use model::trees::{BodyTree, ClassTree, MethodTree, TextLine, Written};
+use model::trees::ClassTree;
 use std::alloc::Global;
 
 /// What a tree assembles to.
@@ -54,8 +51,9 @@ pub fn assemble(alloc: Global, tree: &ClassTree) -> Result<Assembled, AsmError>
     if has_super(&listing) || !has_short_lists(&listing) {
         return Err(AsmError::Full);
     }
+    let used = used_in_methods(alloc, tree.methods.as_slice())?;
     let mut numbers = Numbers::new(alloc);
-    note_methods(&mut numbers, tree.methods.as_slice())?;
+    numbers.ints(used.as_slice())?;
     let file = class_file(alloc, numbers, &listing)?;
     Ok(Assembled { file, listing })
 }
@@ -97,59 +95,4 @@ fn has_few_rows(method: &Method) -> bool
         None => true,
         Some(code) => code.rows.len() <= 65535,
     }
-}
-
-/// Gives the numbers that `ldc` uses in methods their places in the pool.
-fn note_methods(numbers: &mut Numbers, methods: &[MethodTree]) -> Result<(), AsmError>
-    ensures noted { OnOk result ((zs : List ℤ) (later : List Item) → with_ints numbers.old (used_in_methods methods.now ++ zs) later ≡ with_ints numbers.new zs later) }
-    ensures only { IfErr result (λ e. (zs : List ℤ) (later : List Item) → HasRoom (with_ints numbers.old (used_in_methods methods.now ++ zs) later) → e ≡ error.Memory) }
-{
-    for method in methods {
-        note_body(numbers, &method.body)?;
-    }
-    Ok(())
-}
-
-fn note_body(numbers: &mut Numbers, body: &Option<BodyTree>) -> Result<(), AsmError>
-    ensures noted { OnOk result ((zs : List ℤ) (later : List Item) → with_ints numbers.old (used_in_body body.now ++ zs) later ≡ with_ints numbers.new zs later) }
-    ensures only { IfErr result (λ e. (zs : List ℤ) (later : List Item) → HasRoom (with_ints numbers.old (used_in_body body.now ++ zs) later) → e ≡ error.Memory) }
-{
-    match body {
-        None => Ok(()),
-        Some(body) => {
-            let lines = &body.lines;
-            note_lines(numbers, lines)
-        }
-    }
-}
-
-fn note_lines(numbers: &mut Numbers, lines: &[TextLine]) -> Result<(), AsmError>
-    ensures noted { OnOk result ((zs : List ℤ) (later : List Item) → with_ints numbers.old (used_in lines.now ++ zs) later ≡ with_ints numbers.new zs later) }
-    ensures only { IfErr result (λ e. (zs : List ℤ) (later : List Item) → HasRoom (with_ints numbers.old (used_in lines.now ++ zs) later) → e ≡ error.Memory) }
-{
-    for line in lines {
-        match line {
-            TextLine::Label(_) => {}
-            TextLine::Instruction(instruction) => note_instruction(numbers, instruction)?,
-        }
-    }
-    Ok(())
-}
-
-fn note_instruction(numbers: &mut Numbers, instruction: &Written) -> Result<(), AsmError>
-    ensures noted { OnOk result ((xs zs : List ℤ) (later : List Item) → with_ints numbers.old (used_before instruction.now xs ++ zs) later ≡ with_ints numbers.new (xs ++ zs) later) }
-    ensures only { IfErr result (λ e. (xs zs : List ℤ) (later : List Item) → HasRoom (with_ints numbers.old (used_before instruction.now xs ++ zs) later) → e ≡ error.Memory) }
-{
-    match instruction {
-        Instruction::Constant(Constant::Int(Width::Narrow, z)) => note_int(numbers, *z),
-        _ => Ok(()),
-    }
-}
-
-fn note_int(numbers: &mut Numbers, z: i32) -> Result<(), AsmError>
-    ensures noted { OnOk result ((zs : List ℤ) (later : List Item) → with_ints numbers.old (z ∷ zs) later ≡ with_ints numbers.new zs later) }
-    ensures only { IfErr result (λ e. (zs : List ℤ) (later : List Item) → HasRoom (with_ints numbers.old (z ∷ zs) later) → e ≡ error.Memory) }
-{
-    int(numbers, z)?;
-    Ok(())
 }

@@ -3,11 +3,13 @@
 ghost use Rattle.std.specs.Prelude.{◌≡◌};
 ghost use Rattle.classfile.specs.declared.error.ClassError.TheVariants as class;
 ghost use Rattle.opcodes.specs.declared.error.OpError.TheVariants as op;
+ghost use Rattle.pool.specs.declared.builder.AddError.TheVariants as add;
 ghost use Rattle.assembler.specs.declared.error.AsmError.TheVariants as error;
 
 use classfile::ClassError;
 use model::names::Name;
 use opcodes::OpError;
+use pool::AddError;
 use std::alloc::{AllocError, AllocFailed};
 use thiserror::Error;
 
@@ -44,6 +46,17 @@ impl<T: Drop> From<AllocFailed<T>> for AsmError {
 
     fn from(_e: AllocFailed<T>) -> AsmError {
         AsmError::Memory
+    }
+}
+
+impl From<AddError> for AsmError {
+    ghost from_gives = { λ e told. e ≡ add.Memory → told ≡ error.Memory };
+
+    fn from(e: AddError) -> AsmError {
+        match e {
+            AddError::Memory => AsmError::Memory,
+            AddError::Full => AsmError::Full,
+        }
     }
 }
 

@@ -1,62 +1,77 @@
-//! The numbers that go with `ldc`: the first 255 different ones that it uses in a text.
-ghost use Rattle.std.specs.Prelude.{◌≡◌, ◌∷◌, ◌++◌, ◌≤◌, ℤ, List, IfOk, OnOk, vec_len};
-ghost use Rattle.model.specs.Texts.Widths.{is_among, used_before, used_in, used_in_body, narrow_numbers};
+//! The numbers that `ldc` uses in a text, and those that go with it: the first 255 different ones.
+ghost use Rattle.std.specs.Prelude.{◌≡◌, ◌∷◌, ◌++◌, ◌≤◌, ℤ, List, take, IfOk, OnOk, vec_len};
+ghost use Rattle.model.specs.Texts.Widths.{is_among, different, used_before, used_in, used_in_body, used_in_methods, narrow_numbers};
 ghost use Rattle.assembler.specs.Numbers.{numbers_with};
 
 use model::instructions::{Constant, Instruction, Width};
 use model::trees::{BodyTree, MethodTree, TextLine, Written};
 use std::alloc::{AllocError, Global};
 
-/// The numbers that go with `ldc` in the methods of a text, in order of first use.
-
-pub fn narrow_numbers(alloc: Global, methods: &[MethodTree]) -> Result<Vec<i32>, AllocError>
-    ensures { IfOk result (λ numbers. numbers.items ≡ narrow_numbers methods.now) }
+/// The numbers that `ldc` uses in the methods of a text, in their order.
+pub fn used_in_methods(alloc: Global, methods: &[MethodTree]) -> Result<Vec<i32>, AllocError>
+    ensures { IfOk result (λ used. used.items ≡ used_in_methods methods.now) }
 {
-    let mut numbers = Vec::new(alloc);
+    let mut used = Vec::new(alloc);
     for method in methods {
-        note_body(&mut numbers, &method.body)?;
+        add_body(&mut used, &method.body)?;
     }
-    Ok(numbers)
+    Ok(used)
 }
 
-/// Notes the numbers that `ldc` uses in a body.
-fn note_body(numbers: &mut Vec<i32>, body: &Option<BodyTree>) -> Result<(), AllocError>
-    ensures noted { OnOk result ((zs : List ℤ) → numbers_with numbers.old.items (used_in_body body.now ++ zs) ≡ numbers_with numbers.new.items zs) }
-    ensures few { OnOk result (vec_len numbers.old ≤ 255 → vec_len numbers.new ≤ 255) }
+/// Adds the numbers that `ldc` uses in a body.
+fn add_body(used: &mut Vec<i32>, body: &Option<BodyTree>) -> Result<(), AllocError>
+    ensures { OnOk result ((zs : List ℤ) → used.old.items ++ (used_in_body body.now ++ zs) ≡ used.new.items ++ zs) }
 {
     match body {
         Some(body) => {
             let lines = &body.lines;
-            note_lines(numbers, lines)
+            add_lines(used, lines)
         }
         None => Ok(()),
     }
 }
 
-/// Notes the numbers that `ldc` uses in lines.
-
-fn note_lines(numbers: &mut Vec<i32>, lines: &[TextLine]) -> Result<(), AllocError>
-    ensures noted { OnOk result ((zs : List ℤ) → numbers_with numbers.old.items (used_in lines.now ++ zs) ≡ numbers_with numbers.new.items zs) }
-    ensures few { OnOk result (vec_len numbers.old ≤ 255 → vec_len numbers.new ≤ 255) }
+/// Adds the numbers that `ldc` uses in lines.
+fn add_lines(used: &mut Vec<i32>, lines: &[TextLine]) -> Result<(), AllocError>
+    ensures { OnOk result ((zs : List ℤ) → used.old.items ++ (used_in lines.now ++ zs) ≡ used.new.items ++ zs) }
 {
     for line in lines {
         match line {
             TextLine::Label(_) => {}
-            TextLine::Instruction(instruction) => note_instruction(numbers, instruction)?,
+            TextLine::Instruction(instruction) => add_instruction(used, instruction)?,
         }
     }
     Ok(())
 }
 
-/// Notes the number of an `ldc`.
-fn note_instruction(numbers: &mut Vec<i32>, instruction: &Written) -> Result<(), AllocError>
-    ensures noted { OnOk result ((xs zs : List ℤ) → numbers_with numbers.old.items (used_before instruction.now xs ++ zs) ≡ numbers_with numbers.new.items (xs ++ zs)) }
-    ensures few { OnOk result (vec_len numbers.old ≤ 255 → vec_len numbers.new ≤ 255) }
+/// Adds the number of an `ldc`.
+fn add_instruction(used: &mut Vec<i32>, instruction: &Written) -> Result<(), AllocError>
+    ensures { OnOk result ((xs zs : List ℤ) → used.old.items ++ (used_before instruction.now xs ++ zs) ≡ used.new.items ++ (xs ++ zs)) }
 {
     match instruction {
-        Instruction::Constant(Constant::Int(Width::Narrow, n)) => note(numbers, *n),
-        _ => Ok(()),
+        Instruction::Constant(Constant::Int(Width::Narrow, n)) => used.push(*n)?,
+        _ => {}
     }
+    Ok(())
+}
+
+/// The numbers that go with `ldc` in the methods of a text, in order of first use.
+pub fn narrow_numbers(alloc: Global, methods: &[MethodTree]) -> Result<Vec<i32>, AllocError>
+    ensures { IfOk result (λ numbers. numbers.items ≡ narrow_numbers methods.now) }
+{
+    let used = used_in_methods(alloc, methods)?;
+    first_different(alloc, used.as_slice())
+}
+
+/// The first 255 different numbers.
+fn first_different(alloc: Global, used: &[i32]) -> Result<Vec<i32>, AllocError>
+    ensures { IfOk result (λ numbers. numbers.items ≡ take 255 (different used.now)) }
+{
+    let mut numbers = Vec::new(alloc);
+    for n in used {
+        note(&mut numbers, *n)?;
+    }
+    Ok(numbers)
 }
 
 /// Notes a number, unless it is noted already or 255 others are.

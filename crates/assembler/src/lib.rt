@@ -5,7 +5,6 @@ mod assembling;
 mod checks;
 mod error;
 mod instructions;
-mod kept_numbers;
 mod labels;
 mod ldc_numbers;
 mod listings;

@@ -1,15 +1,15 @@
 //! Fields, methods and the class with pool numbers for names.
-ghost use Rattle.std.specs.Prelude.{◌≡◌, [], ◌∷◌, ◌++◌, List, true, map, IfOk, IfErr};
+ghost use Rattle.std.specs.Prelude.{◌≡◌, [], ◌∷◌, true, map, IfOk, IfErr};
 ghost use Rattle.std.specs.List.{flat_map, list_all, AllByRecursion};
 ghost use Rattle.std.specs.Option.{option_map};
 ghost use Rattle.classfile.specs.Classes.{IsClass};
-ghost use Rattle.model.specs.ClassFiles.Items.{Item, with_items, value_item, class_items, value_items, field_items, code_items, method_items, listing_items};
-ghost use Rattle.assembler.specs.Assembled.{Stays, HasRoom, HasCode, code_stands, class_number, file_flags, assembled_code, assembled_method, assembled_body, assembled};
-ghost use Rattle.assembler.specs.Numbering.{number_of, numbered_value, numbered_field, IsPool};
+ghost use Rattle.model.specs.ClassFiles.Items.{with_items, value_item, class_items, value_items, field_items, code_items, method_items, listing_items};
+ghost use Rattle.assembler.specs.Answers.{Gives, HasNumber, OnlyFull, OnlyFullWhere};
+ghost use Rattle.assembler.specs.Assembled.{Stays, HasCode, code_stands, class_number, file_flags, assembled_code, assembled_method, assembled_body, assembled};
+ghost use Rattle.assembler.specs.Numbering.{numbered_value, numbered_field, IsPool};
 ghost use Rattle.assembler.specs.declared.error.AsmError.TheVariants as error;
 
 use crate::error::AsmError;
-use crate::kept_numbers::{attribute, class, int, long, text};
 use crate::numbered_code::numbered_code;
 use crate::pool_numbers::Numbers;
 use bitflags::Flags;
@@ -38,13 +38,13 @@ pub fn class_file(
 
 fn body(alloc: Global, numbers: &mut Numbers, listing: &Listing) -> Result<Body, AsmError>
     requires { list_all (λ m. code_stands m.code) listing.now.methods ≡ true }
-    ensures found { IfOk result (Stays numbers.old (listing_items listing.now) numbers.new (λ items. assembled_body items listing.now)) }
-    ensures only { IfErr result (λ e. (later : List Item) → HasRoom (with_items numbers.old (listing_items listing.now ++ later)) → AllByRecursion (λ m. HasCode (with_items numbers.old (listing_items listing.now ++ later)) m.code) listing.now.methods → e ≡ error.Memory) }
+    ensures found { Gives numbers.old (listing_items listing.now) numbers.new (λ items. assembled_body items listing.now) result }
+    ensures only { OnlyFullWhere numbers.old (listing_items listing.now) (λ items. AllByRecursion (λ m. HasCode items m.code) listing.now.methods) result }
 {
     Ok(Body {
         flags: file_flags(listing.flags),
-        class: class(numbers, &listing.name)?,
-        superclass: class(numbers, &listing.superclass)?,
+        class: numbers.class(&listing.name)?,
+        superclass: numbers.class(&listing.superclass)?,
         interfaces: classes(alloc, numbers, listing.interfaces.as_slice())?,
         fields: fields(alloc, numbers, listing.fields.as_slice())?,
         methods: methods(alloc, numbers, listing.methods.as_slice())?,
@@ -64,11 +64,11 @@ fn file_flags(flags: ClassFlags) -> ClassFlags
 
 fn classes(alloc: Global, numbers: &mut Numbers, names: &[Name]) -> Result<Vec<u16>, AsmError>
     ensures found { IfOk result (λ all. Stays numbers.old (flat_map class_items names.now) numbers.new (λ items. map (class_number items) names.now) all.items) }
-    ensures only { IfErr result (λ e. (later : List Item) → HasRoom (with_items numbers.old (flat_map class_items names.now ++ later)) → e ≡ error.Memory) }
+    ensures only { OnlyFull numbers.old (flat_map class_items names.now) result }
 {
     let mut all = Vec::new(alloc);
     for name in names {
-        all.push(class(numbers, name)?)?;
+        all.push(numbers.class(name)?)?;
     }
     Ok(all)
 }
@@ -79,7 +79,7 @@ fn fields(
     fields: &[Field],
 ) -> Result<Vec<FieldEntry>, AsmError>
     ensures found { IfOk result (λ all. Stays numbers.old (flat_map field_items fields.now) numbers.new (λ items. map (numbered_field items) fields.now) all.items) }
-    ensures only { IfErr result (λ e. (later : List Item) → HasRoom (with_items numbers.old (flat_map field_items fields.now ++ later)) → e ≡ error.Memory) }
+    ensures only { OnlyFull numbers.old (flat_map field_items fields.now) result }
 {
     let mut all = Vec::new(alloc);
     for field in fields {
@@ -89,13 +89,13 @@ fn fields(
 }
 
 fn numbered_field(numbers: &mut Numbers, field: &Field) -> Result<FieldEntry, AsmError>
-    ensures found { IfOk result (Stays numbers.old (field_items field.now) numbers.new (λ items. numbered_field items field.now)) }
-    ensures only { IfErr result (λ e. (later : List Item) → HasRoom (with_items numbers.old (field_items field.now ++ later)) → e ≡ error.Memory) }
+    ensures found { Gives numbers.old (field_items field.now) numbers.new (λ items. numbered_field items field.now) result }
+    ensures only { OnlyFull numbers.old (field_items field.now) result }
 {
     Ok(FieldEntry {
         flags: field.flags,
-        name: text(numbers, &field.name)?,
-        descriptor: text(numbers, &field.descriptor)?,
+        name: numbers.text(&field.name)?,
+        descriptor: numbers.text(&field.descriptor)?,
         constant: numbered_value(numbers, field.constant)?,
     })
 }
@@ -105,24 +105,24 @@ fn numbered_value(
     numbers: &mut Numbers,
     value: Option<Constant>,
 ) -> Result<Option<ConstantValue>, AsmError>
-    ensures found { IfOk result (Stays numbers.old (value_items value) numbers.new (λ items. option_map (numbered_value items) value)) }
-    ensures only { IfErr result (λ e. (later : List Item) → HasRoom (with_items numbers.old (value_items value ++ later)) → e ≡ error.Memory) }
+    ensures found { Gives numbers.old (value_items value) numbers.new (λ items. option_map (numbered_value items) value) result }
+    ensures only { OnlyFull numbers.old (value_items value) result }
 {
     let Some(value) = value else {
         return Ok(None);
     };
-    let name = attribute(numbers, "ConstantValue")?;
+    let name = numbers.attribute("ConstantValue")?;
     let value = constant(numbers, value)?;
     Ok(Some(ConstantValue { name, value }))
 }
 
 fn constant(numbers: &mut Numbers, value: Constant) -> Result<u16, AsmError>
-    ensures found { IfOk result (Stays numbers.old (value_item value ∷ []) numbers.new (λ items. number_of items (value_item value))) }
-    ensures only { IfErr result (λ e. (later : List Item) → HasRoom (with_items numbers.old (value_item value ∷ later)) → e ≡ error.Memory) }
+    ensures found { HasNumber numbers.old (value_item value ∷ []) numbers.new (value_item value) result }
+    ensures only { OnlyFull numbers.old (value_item value ∷ []) result }
 {
     match value {
-        Constant::Int(z) => int(numbers, z),
-        Constant::Long(z) => long(numbers, z),
+        Constant::Int(z) => numbers.int(z),
+        Constant::Long(z) => numbers.long(z),
     }
 }
 
@@ -133,7 +133,7 @@ fn methods(
 ) -> Result<Vec<MethodEntry>, AsmError>
     requires { list_all (λ m. code_stands m.code) methods.now ≡ true }
     ensures found { IfOk result (λ all. Stays numbers.old (flat_map method_items methods.now) numbers.new (λ items. map (assembled_method items) methods.now) all.items) }
-    ensures only { IfErr result (λ e. (later : List Item) → HasRoom (with_items numbers.old (flat_map method_items methods.now ++ later)) → AllByRecursion (λ m. HasCode (with_items numbers.old (flat_map method_items methods.now ++ later)) m.code) methods.now → e ≡ error.Memory) }
+    ensures only { OnlyFullWhere numbers.old (flat_map method_items methods.now) (λ items. AllByRecursion (λ m. HasCode items m.code) methods.now) result }
 {
     let mut all = Vec::new(alloc);
     for method in methods {
@@ -148,13 +148,13 @@ fn numbered_method(
     method: &Method,
 ) -> Result<MethodEntry, AsmError>
     requires { code_stands method.now.code ≡ true }
-    ensures found { IfOk result (Stays numbers.old (method_items method.now) numbers.new (λ items. assembled_method items method.now)) }
-    ensures only { IfErr result (λ e. (later : List Item) → HasRoom (with_items numbers.old (method_items method.now ++ later)) → HasCode (with_items numbers.old (method_items method.now ++ later)) method.now.code → e ≡ error.Memory) }
+    ensures found { Gives numbers.old (method_items method.now) numbers.new (λ items. assembled_method items method.now) result }
+    ensures only { OnlyFullWhere numbers.old (method_items method.now) (λ items. HasCode items method.now.code) result }
 {
     Ok(MethodEntry {
         flags: method.flags,
-        name: text(numbers, &method.name)?,
-        descriptor: text(numbers, &method.descriptor)?,
+        name: numbers.text(&method.name)?,
+        descriptor: numbers.text(&method.descriptor)?,
         code: code(alloc, numbers, &method.code)?,
     })
 }
@@ -166,8 +166,8 @@ fn code(
     code: &Option<Code>,
 ) -> Result<Option<CodeEntry>, AsmError>
     requires { code_stands code.now ≡ true }
-    ensures found { IfOk result (Stays numbers.old (code_items code.now) numbers.new (λ items. option_map (assembled_code items) code.now)) }
-    ensures only { IfErr result (λ e. (later : List Item) → HasRoom (with_items numbers.old (code_items code.now ++ later)) → HasCode (with_items numbers.old (code_items code.now ++ later)) code.now → e ≡ error.Memory) }
+    ensures found { Gives numbers.old (code_items code.now) numbers.new (λ items. option_map (assembled_code items) code.now) result }
+    ensures only { OnlyFullWhere numbers.old (code_items code.now) (λ items. HasCode items code.now) result }
 {
     match code {
         None => Ok(None),

@@ -1,24 +1,21 @@
 //! Code with pool numbers for names.
-ghost use Rattle.std.specs.Prelude.{◌≡◌, ◌∷◌, ◌++◌, List, true, map, codes, IfOk, IfErr, Some};
+ghost use Rattle.std.specs.Prelude.{◌≡◌, true, map, IfOk, Some};
 ghost use Rattle.std.specs.List.{flat_map};
-ghost use Rattle.model.specs.ClassFiles.Items.{Item, with_items, instruction_items, constant_items, array_items, call_items, placed_items, row_items, catch_items, code_items};
+ghost use Rattle.model.specs.ClassFiles.Items.{instruction_items, constant_items, array_items, call_items, placed_items, row_items, catch_items, code_items};
 ghost use Rattle.model.specs.Texts.Spelled.{stand_from};
-ghost use Rattle.assembler.specs.Assembled.{Stays, HasRoom, HasCode, assembled_code};
+ghost use Rattle.assembler.specs.Answers.{Gives, HasNumber, OnlyFull, OnlyFullWhere};
+ghost use Rattle.assembler.specs.Assembled.{Stays, HasCode, assembled_code};
 ghost use Rattle.assembler.specs.Numbering as numbering;
-ghost use Rattle.assembler.specs.Numbering.{number_of, called_item, numbered_row, numbered_catch};
-ghost use Rattle.assembler.specs.declared.error.AsmError.TheVariants as error;
+ghost use Rattle.assembler.specs.Numbering.{called_item, numbered_row, numbered_catch};
 
 use crate::error::AsmError;
-use crate::kept_numbers::{attribute, class, field, int, interface_method, long, method};
 use crate::pool_numbers::Numbers;
-use classfile::{CodeEntry, CodeRow, Instructions};
+use classfile::{CodeEntry, CodeRow, Instructions, copied_lookup, copied_table};
 use model::bytecode::Instr;
-use model::instructions::{
-    ArrayOperation, Constant, Instruction, Invocation, LookupSwitch, TableSwitch,
-};
+use model::instructions::{ArrayOperation, Constant, Instruction, Invocation};
 use model::listings::{Code, ExceptionRow, Listed, Placed};
 use model::names::{Member, Name};
-use std::alloc::{AllocError, Global};
+use std::alloc::Global;
 
 /// A Code attribute. A3 where the pool has no room, and where instructions have no bytes.
 pub fn numbered_code(
@@ -27,10 +24,10 @@ pub fn numbered_code(
     code: &Code,
 ) -> Result<CodeEntry, AsmError>
     requires { stand_from 0 code.now.instructions ≡ true }
-    ensures found { IfOk result (Stays numbers.old (code_items (Some code.now)) numbers.new (λ items. assembled_code items code.now)) }
-    ensures only { IfErr result (λ e. (later : List Item) → HasRoom (with_items numbers.old (code_items (Some code.now) ++ later)) → HasCode (with_items numbers.old (code_items (Some code.now) ++ later)) (Some code.now) → e ≡ error.Memory) }
+    ensures found { Gives numbers.old (code_items (Some code.now)) numbers.new (λ items. assembled_code items code.now) result }
+    ensures only { OnlyFullWhere numbers.old (code_items (Some code.now)) (λ items. HasCode items (Some code.now)) result }
 {
-    let name = attribute(numbers, "Code")?;
+    let name = numbers.attribute("Code")?;
     let instructions = instructions(alloc, numbers, code.instructions.as_slice())?;
     let rows = rows(alloc, numbers, code.rows.as_slice())?;
     Ok(CodeEntry {
@@ -48,7 +45,7 @@ fn instructions(
     instructions: &[Placed],
 ) -> Result<Vec<Instr>, AsmError>
     ensures found { IfOk result (λ all. Stays numbers.old (flat_map placed_items instructions.now) numbers.new (λ items. map (λ p. numbering.numbered items p.instruction) instructions.now) all.items) }
-    ensures only { IfErr result (λ e. (later : List Item) → HasRoom (with_items numbers.old (flat_map placed_items instructions.now ++ later)) → e ≡ error.Memory) }
+    ensures only { OnlyFull numbers.old (flat_map placed_items instructions.now) result }
 {
     let mut all = Vec::new(alloc);
     for placed in instructions {
@@ -63,7 +60,7 @@ fn rows(
     rows: &[ExceptionRow],
 ) -> Result<Vec<CodeRow>, AsmError>
     ensures found { IfOk result (λ all. Stays numbers.old (flat_map row_items rows.now) numbers.new (λ items. map (numbered_row items) rows.now) all.items) }
-    ensures only { IfErr result (λ e. (later : List Item) → HasRoom (with_items numbers.old (flat_map row_items rows.now ++ later)) → e ≡ error.Memory) }
+    ensures only { OnlyFull numbers.old (flat_map row_items rows.now) result }
 {
     let mut all = Vec::new(alloc);
     for row in rows {
@@ -73,8 +70,8 @@ fn rows(
 }
 
 fn numbered_row(numbers: &mut Numbers, row: &ExceptionRow) -> Result<CodeRow, AsmError>
-    ensures found { IfOk result (Stays numbers.old (row_items row.now) numbers.new (λ items. numbered_row items row.now)) }
-    ensures only { IfErr result (λ e. (later : List Item) → HasRoom (with_items numbers.old (row_items row.now ++ later)) → e ≡ error.Memory) }
+    ensures found { Gives numbers.old (row_items row.now) numbers.new (λ items. numbered_row items row.now) result }
+    ensures only { OnlyFull numbers.old (row_items row.now) result }
 {
     Ok(CodeRow {
         start: row.start,
@@ -86,18 +83,18 @@ fn numbered_row(numbers: &mut Numbers, row: &ExceptionRow) -> Result<CodeRow, As
 
 /// The number of the class that a row takes, 0 where it takes anything.
 fn caught(numbers: &mut Numbers, name: &Option<Name>) -> Result<u16, AsmError>
-    ensures found { IfOk result (Stays numbers.old (catch_items name.now) numbers.new (λ items. numbered_catch items name.now)) }
-    ensures only { IfErr result (λ e. (later : List Item) → HasRoom (with_items numbers.old (catch_items name.now ++ later)) → e ≡ error.Memory) }
+    ensures found { Gives numbers.old (catch_items name.now) numbers.new (λ items. numbered_catch items name.now) result }
+    ensures only { OnlyFull numbers.old (catch_items name.now) result }
 {
     match name {
         None => Ok(0),
-        Some(name) => class(numbers, name),
+        Some(name) => numbers.class(name),
     }
 }
 
 fn numbered(alloc: Global, numbers: &mut Numbers, instruction: &Listed) -> Result<Instr, AsmError>
-    ensures found { IfOk result (Stays numbers.old (instruction_items instruction.now) numbers.new (λ items. numbering.numbered items instruction.now)) }
-    ensures only { IfErr result (λ e. (later : List Item) → HasRoom (with_items numbers.old (instruction_items instruction.now ++ later)) → e ≡ error.Memory) }
+    ensures found { Gives numbers.old (instruction_items instruction.now) numbers.new (λ items. numbering.numbered items instruction.now) result }
+    ensures only { OnlyFull numbers.old (instruction_items instruction.now) result }
 {
     Ok(match instruction {
         Instruction::Nop => Instruction::Nop,
@@ -113,16 +110,10 @@ fn numbered(alloc: Global, numbers: &mut Numbers, instruction: &Listed) -> Resul
             Instruction::LookupSwitch(copied_lookup(alloc, lookup)?)
         }
         Instruction::Return(kind) => Instruction::Return(*kind),
-        Instruction::Static(access, member) => Instruction::Static(
-            *access,
-            field(numbers, member)?,
-        ),
-        Instruction::Field(access, member) => Instruction::Field(*access, field(numbers, member)?),
+        Instruction::Static(access, member) => Instruction::Static(*access, numbers.field(member)?),
+        Instruction::Field(access, member) => Instruction::Field(*access, numbers.field(member)?),
         Instruction::Array(operation) => Instruction::Array(numbered_array(numbers, operation)?),
-        Instruction::Class(operation, name) => Instruction::Class(
-            *operation,
-            class(numbers, name)?,
-        ),
+        Instruction::Class(operation, name) => Instruction::Class(*operation, numbers.class(name)?),
         Instruction::Invoke(invocation, member) => {
             Instruction::Invoke(*invocation, called(numbers, *invocation, member)?)
         }
@@ -135,8 +126,8 @@ fn numbered_constant(
     numbers: &mut Numbers,
     constant: Constant<i32, i64>,
 ) -> Result<Constant<u16, u16>, AsmError>
-    ensures found { IfOk result (Stays numbers.old (constant_items constant) numbers.new (λ items. numbering.numbered_constant items constant)) }
-    ensures only { IfErr result (λ e. (later : List Item) → HasRoom (with_items numbers.old (constant_items constant ++ later)) → e ≡ error.Memory) }
+    ensures found { Gives numbers.old (constant_items constant) numbers.new (λ items. numbering.numbered_constant items constant) result }
+    ensures only { OnlyFull numbers.old (constant_items constant) result }
 {
     Ok(match constant {
         Constant::Null => Constant::Null,
@@ -144,8 +135,8 @@ fn numbered_constant(
         Constant::SmallLong(n) => Constant::SmallLong(n),
         Constant::Byte(z) => Constant::Byte(z),
         Constant::Short(z) => Constant::Short(z),
-        Constant::Int(width, z) => Constant::Int(width, int(numbers, z)?),
-        Constant::Long(z) => Constant::Long(long(numbers, z)?),
+        Constant::Int(width, z) => Constant::Int(width, numbers.int(z)?),
+        Constant::Long(z) => Constant::Long(numbers.long(z)?),
     })
 }
 
@@ -153,12 +144,12 @@ fn numbered_array(
     numbers: &mut Numbers,
     operation: &ArrayOperation<Name>,
 ) -> Result<ArrayOperation<u16>, AsmError>
-    ensures found { IfOk result (Stays numbers.old (array_items operation.now) numbers.new (λ items. numbering.numbered_array items operation.now)) }
-    ensures only { IfErr result (λ e. (later : List Item) → HasRoom (with_items numbers.old (array_items operation.now ++ later)) → e ≡ error.Memory) }
+    ensures found { Gives numbers.old (array_items operation.now) numbers.new (λ items. numbering.numbered_array items operation.now) result }
+    ensures only { OnlyFull numbers.old (array_items operation.now) result }
 {
     Ok(match operation {
         ArrayOperation::New(primitive) => ArrayOperation::New(*primitive),
-        ArrayOperation::NewOf(name) => ArrayOperation::NewOf(class(numbers, name)?),
+        ArrayOperation::NewOf(name) => ArrayOperation::NewOf(numbers.class(name)?),
         ArrayOperation::Length => ArrayOperation::Length,
         ArrayOperation::Load(kind) => ArrayOperation::Load(*kind),
         ArrayOperation::Store(kind) => ArrayOperation::Store(*kind),
@@ -167,30 +158,11 @@ fn numbered_array(
 
 /// The number of the method that a call names.
 fn called(numbers: &mut Numbers, invocation: Invocation, member: &Member) -> Result<u16, AsmError>
-    ensures found { IfOk result (Stays numbers.old (call_items invocation member.now) numbers.new (λ items. number_of items (called_item invocation member.now))) }
-    ensures only { IfErr result (λ e. (later : List Item) → HasRoom (with_items numbers.old (call_items invocation member.now ++ later)) → e ≡ error.Memory) }
+    ensures found { HasNumber numbers.old (call_items invocation member.now) numbers.new (called_item invocation member.now) result }
+    ensures only { OnlyFull numbers.old (call_items invocation member.now) result }
 {
     match invocation {
-        Invocation::Virtual | Invocation::Special | Invocation::Static => method(numbers, member),
-        Invocation::Interface(_) => interface_method(numbers, member),
+        Invocation::Virtual | Invocation::Special | Invocation::Static => numbers.method(member),
+        Invocation::Interface(_) => numbers.interface_method(member),
     }
-}
-
-fn copied_table(alloc: Global, table: &TableSwitch<u16>) -> Result<TableSwitch<u16>, AllocError>
-    ensures { IfOk result (λ copy. copy ≡ table.now) }
-{
-    Ok(TableSwitch {
-        low: table.low,
-        targets: Vec::from_slice(alloc, &table.targets)?,
-        default: table.default,
-    })
-}
-
-fn copied_lookup(alloc: Global, lookup: &LookupSwitch<u16>) -> Result<LookupSwitch<u16>, AllocError>
-    ensures { IfOk result (λ copy. copy ≡ lookup.now) }
-{
-    Ok(LookupSwitch {
-        pairs: Vec::from_slice(alloc, &lookup.pairs)?,
-        default: lookup.default,
-    })
 }

@@ -1,40 +1,26 @@
 //! The numbers that a class file's pool has for what the class names.
 
-ghost use Rattle.std.specs.Prelude.{◌≡◌, ◌≤◌, ◌^◌, [], ◌∷◌, Err, IfOk, OnErr, MatchResult};
-ghost use Rattle.model.specs.ClassFiles.Items.{with_item, with_items, items_count, class_items, name_items, member_items};
+ghost use Rattle.std.specs.Prelude.{◌≡◌, [], ◌∷◌, map, IfOk, OnOk, MatchResult};
+ghost use Rattle.model.specs.ClassFiles.Items.{class_items, name_items, member_items};
 ghost use Rattle.model.specs.ClassFiles.Items.Item.{text_item, int_item, long_item, class_item, name_item, field_item, method_item, interface_item};
 ghost use Rattle.classfile.specs.Classes.{IsClass};
 ghost use Rattle.classfile.specs.Made.{made};
 ghost use Rattle.classfile.specs.declared.error.ClassError.TheVariants as class_error;
-ghost use Rattle.assembler.specs.Numbering.{number_of, entries_of, reference_items, IsPool, said, IsEntry};
-ghost use Rattle.assembler.specs.declared.pool_numbers.NumberError.TheVariants as error;
+ghost use Rattle.assembler.specs.Answers.{Gives, HasNumber, OnlyFull};
+ghost use Rattle.assembler.specs.Assembled.{Grows};
+ghost use Rattle.assembler.specs.Numbering.{entries_of, reference_items, reference_numbers, IsPool, said, IsEntry};
 
-use classfile::{Body, ClassError, ClassFile, PoolBuilder};
+use crate::error::AsmError;
+use classfile::{Body, ClassError, ClassFile};
 use model::class_files::Entry;
 use model::names::{Member, Name};
-use std::alloc::{AllocError, Global};
+use pool::PoolBuilder;
+use std::alloc::Global;
 use std::marker::Model;
 
-/// Why something has no number.
-#[derive(Clone, Copy, Debug, PartialEq, Eq)]
-pub(crate) enum NumberError {
-    /// The pool has no room: its count, one more than the numbers taken, would pass 65,535.
-    Full,
-    /// Memory ran out.
-    Memory,
-}
-
-impl From<AllocError> for NumberError {
-    ghost from_gives = { λ _ e. e ≡ error.Memory };
-
-    fn from(_e: AllocError) -> NumberError {
-        NumberError::Memory
-    }
-}
-
 /// The pool of a class file in the making. What is asked for stands in it from then on, behind what it names itself, and
-/// once. A contract sees the items of the pool, in the order of their numbers. On an error what an entry names may have
-/// been added.
+/// once; its number stays, whatever is added later. A contract sees the items of the pool, in the order of their numbers.
+/// A3 where the pool has no room, A5 where memory runs out; then what an entry names may have been added.
 #[derive(Drop)]
 pub(crate) struct Numbers {
     pool: PoolBuilder,
@@ -65,9 +51,9 @@ impl Numbers {
     }
 
     /// The number of a text.
-    pub(crate) fn text(&mut self, text: &Name) -> Result<u16, NumberError>
-        ensures numbered { IfOk result (λ number. (self.new ≡ with_items self.old (text_item text.now ∷ [])) × (number ≡ number_of self.new (text_item text.now))) }
-        ensures full { result ≡ Err error.Full → 2 ^ 16 ≤ items_count (with_items self.old (text_item text.now ∷ [])) }
+    pub(crate) fn text(&mut self, text: &Name) -> Result<u16, AsmError>
+        ensures found { HasNumber self.old (text_item text.now ∷ []) self.new (text_item text.now) result }
+        ensures only { OnlyFull self.old (text_item text.now ∷ []) result }
         ensures pool { IsPool self.new }
     {
         // what the type says of a pool holds also where the text can't be shared
@@ -77,9 +63,9 @@ impl Numbers {
     }
 
     /// The number of the name of an attribute.
-    pub(crate) fn attribute(&mut self, name: &str) -> Result<u16, NumberError>
-        ensures numbered { IfOk result (λ number. (self.new ≡ with_items self.old (text_item name.now ∷ [])) × (number ≡ number_of self.new (text_item name.now))) }
-        ensures full { result ≡ Err error.Full → 2 ^ 16 ≤ items_count (with_items self.old (text_item name.now ∷ [])) }
+    pub(crate) fn attribute(&mut self, name: &str) -> Result<u16, AsmError>
+        ensures found { HasNumber self.old (text_item name.now ∷ []) self.new (text_item name.now) result }
+        ensures only { OnlyFull self.old (text_item name.now ∷ []) result }
         ensures pool { IsPool self.new }
     {
         let copy = Name::copy_of(self.alloc, name.as_bytes())?;
@@ -87,27 +73,38 @@ impl Numbers {
     }
 
     /// The number of an int.
-    pub(crate) fn int(&mut self, value: i32) -> Result<u16, NumberError>
-        ensures numbered { IfOk result (λ number. (self.new ≡ with_items self.old (int_item value ∷ [])) × (number ≡ number_of self.new (int_item value))) }
-        ensures full { result ≡ Err error.Full → 2 ^ 16 ≤ items_count (with_items self.old (int_item value ∷ [])) }
+    pub(crate) fn int(&mut self, value: i32) -> Result<u16, AsmError>
+        ensures found { HasNumber self.old (int_item value ∷ []) self.new (int_item value) result }
+        ensures only { OnlyFull self.old (int_item value ∷ []) result }
         ensures pool { IsPool self.new }
     {
         self.entry(Entry::Integer(value))
     }
 
+    /// Gives ints their numbers, in their order.
+    pub(crate) fn ints(&mut self, values: &[i32]) -> Result<(), AsmError>
+        ensures added { OnOk result (Grows self.old (map int_item values.now) self.new) }
+        ensures only { OnlyFull self.old (map int_item values.now) result }
+    {
+        for value in values {
+            self.int(*value)?;
+        }
+        Ok(())
+    }
+
     /// The number of a long.
-    pub(crate) fn long(&mut self, value: i64) -> Result<u16, NumberError>
-        ensures numbered { IfOk result (λ number. (self.new ≡ with_items self.old (long_item value ∷ [])) × (number ≡ number_of self.new (long_item value))) }
-        ensures full { result ≡ Err error.Full → 2 ^ 16 ≤ items_count (with_items self.old (long_item value ∷ [])) }
+    pub(crate) fn long(&mut self, value: i64) -> Result<u16, AsmError>
+        ensures found { HasNumber self.old (long_item value ∷ []) self.new (long_item value) result }
+        ensures only { OnlyFull self.old (long_item value ∷ []) result }
         ensures pool { IsPool self.new }
     {
         self.entry(Entry::Long(value))
     }
 
     /// The number of a class or an array, by its name.
-    pub(crate) fn class(&mut self, name: &Name) -> Result<u16, NumberError>
-        ensures numbered { IfOk result (λ number. (self.new ≡ with_items self.old (class_items name.now)) × (number ≡ number_of self.new (class_item name.now))) }
-        ensures full { result ≡ Err error.Full → 2 ^ 16 ≤ items_count (with_items self.old (class_items name.now)) }
+    pub(crate) fn class(&mut self, name: &Name) -> Result<u16, AsmError>
+        ensures found { HasNumber self.old (class_items name.now) self.new (class_item name.now) result }
+        ensures only { OnlyFull self.old (class_items name.now) result }
         ensures pool { IsPool self.new }
     {
         let text = self.text(name)?;
@@ -115,9 +112,9 @@ impl Numbers {
     }
 
     /// The number of a field.
-    pub(crate) fn field(&mut self, member: &Member) -> Result<u16, NumberError>
-        ensures numbered { IfOk result (λ number. (self.new ≡ with_items self.old (member_items (field_item member.now) member.now)) × (number ≡ number_of self.new (field_item member.now))) }
-        ensures full { result ≡ Err error.Full → 2 ^ 16 ≤ items_count (with_items self.old (member_items (field_item member.now) member.now)) }
+    pub(crate) fn field(&mut self, member: &Member) -> Result<u16, AsmError>
+        ensures found { HasNumber self.old (member_items (field_item member.now) member.now) self.new (field_item member.now) result }
+        ensures only { OnlyFull self.old (member_items (field_item member.now) member.now) result }
         ensures pool { IsPool self.new }
     {
         let (class, names) = self.reference(member)?;
@@ -125,9 +122,9 @@ impl Numbers {
     }
 
     /// The number of a class's method.
-    pub(crate) fn method(&mut self, member: &Member) -> Result<u16, NumberError>
-        ensures numbered { IfOk result (λ number. (self.new ≡ with_items self.old (member_items (method_item member.now) member.now)) × (number ≡ number_of self.new (method_item member.now))) }
-        ensures full { result ≡ Err error.Full → 2 ^ 16 ≤ items_count (with_items self.old (member_items (method_item member.now) member.now)) }
+    pub(crate) fn method(&mut self, member: &Member) -> Result<u16, AsmError>
+        ensures found { HasNumber self.old (member_items (method_item member.now) member.now) self.new (method_item member.now) result }
+        ensures only { OnlyFull self.old (member_items (method_item member.now) member.now) result }
         ensures pool { IsPool self.new }
     {
         let (class, names) = self.reference(member)?;
@@ -135,29 +132,29 @@ impl Numbers {
     }
 
     /// The number of an interface's method.
-    pub(crate) fn interface_method(&mut self, member: &Member) -> Result<u16, NumberError>
-        ensures numbered { IfOk result (λ number. (self.new ≡ with_items self.old (member_items (interface_item member.now) member.now)) × (number ≡ number_of self.new (interface_item member.now))) }
-        ensures full { result ≡ Err error.Full → 2 ^ 16 ≤ items_count (with_items self.old (member_items (interface_item member.now) member.now)) }
+    pub(crate) fn interface_method(&mut self, member: &Member) -> Result<u16, AsmError>
+        ensures found { HasNumber self.old (member_items (interface_item member.now) member.now) self.new (interface_item member.now) result }
+        ensures only { OnlyFull self.old (member_items (interface_item member.now) member.now) result }
         ensures pool { IsPool self.new }
     {
         let (class, names) = self.reference(member)?;
         self.entry(Entry::InterfaceMethodref(class, names))
     }
 
-    /// The class file of the pool and a body, as `PoolBuilder::finish` makes and refuses it.
+    /// The class file of the pool and a body, as `ClassFile::new` makes and refuses it.
     pub(crate) fn finish(self, body: Body) -> Result<ClassFile, ClassError>
         ensures made { IfOk result (λ file. file ≡ made (entries_of self) body) }
         ensures only { IsClass (made (entries_of self) body) → MatchResult result (λ file. file ≡ made (entries_of self) body) (λ e. e ≡ class_error.Memory) }
         ensures pool { IsPool self }
     {
         let Numbers { pool, alloc: _ } = self;
-        pool.finish(body)
+        ClassFile::new(pool, body)
     }
 
     /// The numbers of a member's class and of its name with its descriptor.
-    fn reference(&mut self, member: &Member) -> Result<(u16, u16), NumberError>
-        ensures numbered { IfOk result (λ numbers. (self.new ≡ with_items self.old (reference_items member.now)) × (numbers ≡ (number_of self.new (class_item member.now.class), number_of self.new (name_item member.now.name member.now.descriptor)))) }
-        ensures full { result ≡ Err error.Full → 2 ^ 16 ≤ items_count (with_items self.old (reference_items member.now)) }
+    fn reference(&mut self, member: &Member) -> Result<(u16, u16), AsmError>
+        ensures found { Gives self.old (reference_items member.now) self.new (reference_numbers member.now) result }
+        ensures only { OnlyFull self.old (reference_items member.now) result }
         ensures pool { IsPool self.new }
     {
         let class = self.class(&member.class)?;
@@ -166,9 +163,9 @@ impl Numbers {
     }
 
     /// The number of a member's name with its descriptor.
-    fn name_and_type(&mut self, name: &Name, descriptor: &Name) -> Result<u16, NumberError>
-        ensures numbered { IfOk result (λ number. (self.new ≡ with_items self.old (name_items name.now descriptor.now)) × (number ≡ number_of self.new (name_item name.now descriptor.now))) }
-        ensures full { result ≡ Err error.Full → 2 ^ 16 ≤ items_count (with_items self.old (name_items name.now descriptor.now)) }
+    fn name_and_type(&mut self, name: &Name, descriptor: &Name) -> Result<u16, AsmError>
+        ensures found { HasNumber self.old (name_items name.now descriptor.now) self.new (name_item name.now descriptor.now) result }
+        ensures only { OnlyFull self.old (name_items name.now descriptor.now) result }
         ensures pool { IsPool self.new }
     {
         let name = self.text(name)?;
@@ -177,17 +174,12 @@ impl Numbers {
     }
 
     /// The number of an entry, of which what it names is there.
-    fn entry(&mut self, entry: Entry) -> Result<u16, NumberError>
+    fn entry(&mut self, entry: Entry) -> Result<u16, AsmError>
         requires { IsEntry self.old entry }
-        ensures numbered { IfOk result (λ number. (self.new ≡ with_item self.old (said self.old entry)) × (number ≡ number_of self.new (said self.old entry))) }
-        ensures full { result ≡ Err error.Full → 2 ^ 16 ≤ items_count (with_item self.old (said self.old entry)) }
-        ensures kept { OnErr result (self.new ≡ self.old) }
+        ensures found { HasNumber self.old (said self.old entry ∷ []) self.new (said self.old entry) result }
+        ensures only { OnlyFull self.old (said self.old entry ∷ []) result }
         ensures pool { IsPool self.new }
     {
-        match self.pool.add(entry) {
-            Ok(number) => Ok(number),
-            Err(ClassError::PoolFull) => Err(NumberError::Full),
-            Err(_) => Err(NumberError::Memory),
-        }
+        Ok(self.pool.add(entry)?)
     }
 }

@@ -3,11 +3,12 @@
 ghost use Rattle.std.specs.Prelude.{◌≡◌};
 ghost use Rattle.classfile.specs.declared.error.ClassError.TheVariants as error;
 ghost use Rattle.classfile.specs.Reading.Answers.{shown};
+ghost use Rattle.pool.specs.declared.builder.AddError.TheVariants as add;
 
 use model::class_files::FormatFault;
 use model::names::Name;
 use opcodes::OpError;
-use pool::ReadError;
+use pool::{AddError, ReadError};
 use std::alloc::{AllocError, AllocFailed};
 use thiserror::Error;
 
@@ -24,7 +25,7 @@ pub enum ClassError {
         descriptor: Name,
         fault: OpError,
     },
-    /// A pool has no room for one more entry. Reading never tells it.
+    /// A pool that is made has no room for one more entry. Reading never tells it.
     #[error("C9")]
     PoolFull,
     /// Memory ran out.
@@ -55,6 +56,17 @@ impl From<ReadError> for ClassError {
         match e {
             ReadError::Format(fault) => ClassError::Format(fault),
             ReadError::Memory => ClassError::Memory,
+        }
+    }
+}
+
+impl From<AddError> for ClassError {
+    ghost from_gives = { λ e told. (e ≡ add.Full → told ≡ error.PoolFull) × (e ≡ add.Memory → told ≡ error.Memory) };
+
+    fn from(e: AddError) -> ClassError {
+        match e {
+            AddError::Full => ClassError::PoolFull,
+            AddError::Memory => ClassError::Memory,
         }
     }
 }

@@ -2,7 +2,6 @@
 #![tactic(auto)]
 
 mod attributes;
-mod builder;
 mod codes;
 mod error;
 mod exception_rows;
@@ -14,17 +13,19 @@ mod instructions;
 mod listed_code;
 mod listed_members;
 mod listings;
+mod made;
 mod methods;
 mod operands;
 mod sound_fields;
 mod sound_methods;
 
-pub use builder::{Body, PoolBuilder};
 pub use codes::CodeEntry;
 pub use error::ClassError;
 pub use exception_rows::CodeRow;
 pub use files::{ClassFile, again, one_class_file, read, write};
 pub use heads::{ClassHead, one_head};
 pub use instructions::Instructions;
+pub use listed_code::{copied_lookup, copied_table};
 pub use listings::listing;
+pub use made::Body;
 pub use methods::MethodEntry;

@@ -88,7 +88,8 @@ fn listed_array(
     })
 }
 
-fn copied_table(alloc: Global, table: &TableSwitch<u16>) -> Result<TableSwitch<u16>, AllocError>
+/// A table of the same rows.
+pub fn copied_table(alloc: Global, table: &TableSwitch<u16>) -> Result<TableSwitch<u16>, AllocError>
     ensures { IfOk result (λ copy. copy ≡ table.now) }
 {
     Ok(TableSwitch {
@@ -98,7 +99,11 @@ fn copied_table(alloc: Global, table: &TableSwitch<u16>) -> Result<TableSwitch<u
     })
 }
 
-fn copied_lookup(alloc: Global, lookup: &LookupSwitch<u16>) -> Result<LookupSwitch<u16>, AllocError>
+/// A lookup of the same rows.
+pub fn copied_lookup(
+    alloc: Global,
+    lookup: &LookupSwitch<u16>,
+) -> Result<LookupSwitch<u16>, AllocError>
     ensures { IfOk result (λ copy. copy ≡ lookup.now) }
 {
     Ok(LookupSwitch {

@@ -3,13 +3,14 @@
 use super::e;
 use bitflags::Flags;
 use classfile::{
-    Body, ClassError, CodeEntry, CodeRow, Instructions, MethodEntry, PoolBuilder, write,
+    Body, ClassError, ClassFile, CodeEntry, CodeRow, Instructions, MethodEntry, write,
 };
 use model::class_files::{ConstantValue, Entry, FieldEntry, FormatFault};
 use model::flags::{ClassFlags, FieldFlags, MethodFlags};
 use model::instructions::{ClassOperation, Instruction, Test, Width};
 use model::names::Name;
 use opcodes::OpError;
+use pool::PoolBuilder;
 use std::alloc::{AllocError, Global};
 use std::test::*;
 
@@ -79,7 +80,7 @@ fn e_main(alloc: Global) -> Result<MethodEntry, Fail> {
 
 /// Why E's entries and this body are no class file.
 fn refusal(alloc: Global, body: Body) -> Result<Option<FormatFault>, Fail> {
-    match entries(alloc)?.finish(body) {
+    match ClassFile::new(entries(alloc)?, body) {
         Ok(_) => Ok(None),
         Err(ClassError::Format(fault)) => Ok(Some(fault)),
         Err(_) => Err("another refusal".into()),
@@ -98,7 +99,7 @@ fn e_is_made(rt: HostRuntime) -> Result<(), Fail> {
     let alloc = rt.alloc();
     let mut methods = Vec::new(alloc);
     methods.push(e_main(alloc)?)?;
-    let file = entries(alloc)?.finish(body(alloc, Vec::new(alloc), methods))?;
+    let file = ClassFile::new(entries(alloc)?, body(alloc, Vec::new(alloc), methods))?;
     assert_eq!(rt; write(alloc, &file)?.as_slice(), e(alloc)?.as_slice());
     Ok(())
 }
@@ -118,7 +119,10 @@ fn a_pool_that_is_full(rt: HostRuntime) -> Result<(), Fail> {
         pool.add(Entry::Integer(value))?;
     }
     let full = pool.add(Entry::Integer(0)).err().ok_or("there was room")?;
-    assert_eq!(rt; full.to_string(rt.alloc())?.as_str(), "C9");
+    assert_eq!(rt;
+        ClassError::from(full).to_string(rt.alloc())?.as_str(),
+        "C9"
+    );
     assert_eq!(rt; pool.add(Entry::Integer(65534)).ok(), Some(65534));
     Ok(())
 }
@@ -221,7 +225,7 @@ fn with_value(alloc: Global, flags: u16, value: u16) -> Result<bool, Fail> {
         descriptor,
         constant: Some(ConstantValue { name, value }),
     })?;
-    Ok(pool.finish(body(alloc, fields, Vec::new(alloc))).is_ok())
+    Ok(ClassFile::new(pool, body(alloc, fields, Vec::new(alloc))).is_ok())
 }
 
 #[test]
