@@ -1,17 +1,20 @@
 //! Instructions as a text has them, each without its newline.
-ghost use Rattle.std.specs.Prelude.{◌≡◌, ◌++◌, OnOk};
+ghost use Rattle.std.specs.Prelude.{◌≡◌, ◌++◌, codes, decimal, OnOk};
+ghost use Rattle.std.specs.Fmt.{signed_decimal};
 ghost use Rattle.std.specs.List.{flat_map};
 ghost use Rattle.model.specs.Texts.Disassembling as definition;
+ghost use Rattle.model.specs.declared.mnemonics.Mnemonic.TheVariants as family;
+ghost use Rattle.jasmin.specs.Words.{word_of};
 
 use crate::words;
-use crate::words::{put, put_label, put_natural, put_number, put_number_line};
+use crate::words::{put, put_label, put_mnemonic, put_natural, put_number, put_number_line};
 use model::instructions::{
-    ArrayOperation, Constant, Increment, Invocation, Local, LocalAccess, LookupSwitch,
-    NumberOperation, TableSwitch, Test, Width,
+    ArrayOperation, Constant, Increment, Invocation, Local, LocalAccess, LookupSwitch, TableSwitch,
+    Width,
 };
 use model::listings::Listed;
+use model::mnemonics::{LocalMnemonic, Mnemonic};
 use model::names::{Member, Name};
-use model::values::Kind;
 use std::alloc::AllocError;
 
 /// Writes a name at the end.
@@ -21,138 +24,94 @@ pub fn put_name(out: &mut Vec<u8>, name: &Name) -> Result<(), AllocError>
     out.extend_from_slice(name.as_bytes())
 }
 
+/// Writes a mnemonic and a number at the end.
+fn put_with_number(out: &mut Vec<u8>, mnemonic: Mnemonic, number: i64) -> Result<(), AllocError>
+    ensures { OnOk result (out.new.items ≡ out.old.items ++ (word_of mnemonic ++ (codes " " ++ signed_decimal number))) }
+{
+    put_mnemonic(out, mnemonic)?;
+    put(out, " ")?;
+    put_number(out, number)
+}
+
 /// Writes a constant's instruction at the end.
+#[tactic(auto, using(crate::proofs::Back::Mnemonics::said))]
 fn put_constant(out: &mut Vec<u8>, constant: Constant<i32, i64>) -> Result<(), AllocError>
     ensures { OnOk result (out.new.items ≡ out.old.items ++ definition.constant_text constant) }
 {
     match constant {
-        Constant::Null => put(out, "aconst_null"),
-        Constant::SmallInt(number) => put(out, words::small_int(number)),
-        Constant::SmallLong(number) => put(out, words::small_long(number)),
-        Constant::Byte(number) => {
-            put(out, "bipush ")?;
-            put_number(out, i64::from(number))
-        }
-        Constant::Short(number) => {
-            put(out, "sipush ")?;
-            put_number(out, i64::from(number))
-        }
+        Constant::Null => put_mnemonic(out, Mnemonic::Null),
+        Constant::SmallInt(number) => put_mnemonic(out, Mnemonic::SmallInt(number)),
+        Constant::SmallLong(number) => put_mnemonic(out, Mnemonic::SmallLong(number)),
+        Constant::Byte(number) => put_with_number(out, Mnemonic::Byte, i64::from(number)),
+        Constant::Short(number) => put_with_number(out, Mnemonic::Short, i64::from(number)),
         Constant::Int(Width::Narrow, number) => {
-            put(out, "ldc ")?;
-            put_number(out, i64::from(number))
+            put_with_number(out, Mnemonic::Int(Width::Narrow), i64::from(number))
         }
         Constant::Int(Width::Wide, number) => {
-            put(out, "ldc_w ")?;
-            put_number(out, i64::from(number))
+            put_with_number(out, Mnemonic::Int(Width::Wide), i64::from(number))
         }
-        Constant::Long(number) => {
-            put(out, "ldc2_w ")?;
-            put_number(out, number)
-        }
+        Constant::Long(number) => put_with_number(out, Mnemonic::Long, number),
     }
 }
 
-/// Writes a mnemonic of two parts and its local at the end: in one word, behind a space, or in the wide form.
-fn put_with_local(
-    out: &mut Vec<u8>,
-    letter: &str,
-    name: &str,
-    local: Local,
-) -> Result<(), AllocError>
-    ensures { OnOk result (out.new.items ≡ out.old.items ++ definition.with_local (letter.now ++ name.now) «local») }
+/// Writes a mnemonic and the number of its local at the end.
+fn put_with_local(out: &mut Vec<u8>, mnemonic: LocalMnemonic, index: u16) -> Result<(), AllocError>
+    ensures { OnOk result (out.new.items ≡ out.old.items ++ (word_of (family.Local mnemonic) ++ (codes " " ++ decimal index))) }
 {
-    match local {
-        Local::First(first) => {
-            put(out, letter)?;
-            put(out, name)?;
-            put(out, words::first_local(first))
-        }
-        Local::Byte(index) => {
-            put(out, letter)?;
-            put(out, name)?;
-            put(out, " ")?;
-            put_natural(out, u16::from(index))
-        }
-        Local::Wide(index) => {
-            put(out, "wide ")?;
-            put(out, letter)?;
-            put(out, name)?;
-            put(out, " ")?;
-            put_natural(out, index)
-        }
-    }
+    put_mnemonic(out, Mnemonic::Local(mnemonic))?;
+    put(out, " ")?;
+    put_natural(out, index)
 }
 
 /// Writes an `iinc` at the end.
+#[tactic(auto, unfolding(jasmin::specs::Words::word_of))]
 fn put_increment(out: &mut Vec<u8>, increment: Increment) -> Result<(), AllocError>
     ensures { OnOk result (out.new.items ≡ out.old.items ++ definition.increment_text increment) }
 {
     match increment {
         Increment::Byte(index, number) => {
-            put(out, "iinc ")?;
-            put_natural(out, u16::from(index))?;
+            put_with_local(out, LocalMnemonic::Increment, u16::from(index))?;
             put(out, " ")?;
             put_number(out, i64::from(number))
         }
         Increment::Wide(index, number) => {
-            put(out, "wide iinc ")?;
-            put_natural(out, index)?;
+            put(out, "wide ")?;
+            put_with_local(out, LocalMnemonic::Increment, index)?;
             put(out, " ")?;
             put_number(out, i64::from(number))
         }
     }
 }
 
-/// Writes an instruction on a local at the end.
+/// Writes an instruction on a local in its wide form at the end.
+fn put_wide(out: &mut Vec<u8>, mnemonic: LocalMnemonic, index: u16) -> Result<(), AllocError>
+    ensures { OnOk result (out.new.items ≡ out.old.items ++ (codes "wide " ++ (word_of (family.Local mnemonic) ++ (codes " " ++ decimal index)))) }
+{
+    put(out, "wide ")?;
+    put_with_local(out, mnemonic, index)
+}
+
+/// Writes an instruction on a local at the end: in one word, with the local behind a space, or in the wide form.
+#[tactic(auto, using(crate::proofs::Back::Mnemonics::said))]
 fn put_local(out: &mut Vec<u8>, access: LocalAccess) -> Result<(), AllocError>
     ensures { OnOk result (out.new.items ≡ out.old.items ++ definition.local_text access) }
 {
     match access {
-        LocalAccess::Load(kind, local) => {
-            put_with_local(out, words::kind_letter(kind), "load", local)
+        LocalAccess::Load(_, Local::First(_)) => put_mnemonic(out, Mnemonic::FirstLocal(access)),
+        LocalAccess::Load(kind, Local::Byte(index)) => {
+            put_with_local(out, LocalMnemonic::Load(kind), u16::from(index))
         }
-        LocalAccess::Store(kind, local) => {
-            put_with_local(out, words::kind_letter(kind), "store", local)
+        LocalAccess::Load(kind, Local::Wide(index)) => {
+            put_wide(out, LocalMnemonic::Load(kind), index)
+        }
+        LocalAccess::Store(_, Local::First(_)) => put_mnemonic(out, Mnemonic::FirstLocal(access)),
+        LocalAccess::Store(kind, Local::Byte(index)) => {
+            put_with_local(out, LocalMnemonic::Store(kind), u16::from(index))
+        }
+        LocalAccess::Store(kind, Local::Wide(index)) => {
+            put_wide(out, LocalMnemonic::Store(kind), index)
         }
         LocalAccess::Increment(increment) => put_increment(out, increment),
-    }
-}
-
-/// Writes an operation on numbers at the end.
-fn put_operation(out: &mut Vec<u8>, operation: NumberOperation) -> Result<(), AllocError>
-    ensures { OnOk result (out.new.items ≡ out.old.items ++ definition.number_name operation) }
-{
-    match operation {
-        NumberOperation::Binary(kind, operator) => {
-            put(out, words::number_letter(kind))?;
-            put(out, words::operator(operator))
-        }
-        NumberOperation::Negate(kind) => {
-            put(out, words::number_letter(kind))?;
-            put(out, "neg")
-        }
-        NumberOperation::Convert(conversion) => put(out, words::conversion(conversion)),
-        NumberOperation::CompareLongs => put(out, "lcmp"),
-    }
-}
-
-/// Writes a branch's mnemonic at the end.
-fn put_test(out: &mut Vec<u8>, test: Test) -> Result<(), AllocError>
-    ensures { OnOk result (out.new.items ≡ out.old.items ++ definition.test_name test) }
-{
-    match test {
-        Test::Always(Width::Narrow) => put(out, "goto"),
-        Test::Always(Width::Wide) => put(out, "goto_w"),
-        Test::Zero(comparison) => {
-            put(out, "if")?;
-            put(out, words::comparison(comparison))
-        }
-        Test::Ints(comparison) => {
-            put(out, "if_icmp")?;
-            put(out, words::comparison(comparison))
-        }
-        Test::Refs(identity) => put(out, words::references(identity)),
-        Test::Null(identity) => put(out, words::null(identity)),
     }
 }
 
@@ -236,24 +195,29 @@ fn put_lookup(out: &mut Vec<u8>, switch: &LookupSwitch<u16>) -> Result<(), Alloc
     put_default(out, switch.default)
 }
 
-/// Writes a return at the end.
-fn put_return(out: &mut Vec<u8>, kind: Option<Kind>) -> Result<(), AllocError>
-    ensures { OnOk result (out.new.items ≡ out.old.items ++ definition.return_text kind) }
+/// Writes a mnemonic and a word at the end.
+fn put_with_word(out: &mut Vec<u8>, mnemonic: Mnemonic, word: &[u8]) -> Result<(), AllocError>
+    ensures { OnOk result (out.new.items ≡ out.old.items ++ (word_of mnemonic ++ (codes " " ++ word.now))) }
 {
-    match kind {
-        None => put(out, "return"),
-        Some(kind) => {
-            put(out, words::kind_letter(kind))?;
-            put(out, "return")
-        }
-    }
+    put_mnemonic(out, mnemonic)?;
+    put(out, " ")?;
+    out.extend_from_slice(word)
 }
 
-/// Writes a field's two words at the end.
-fn put_field_words(out: &mut Vec<u8>, field: &Member) -> Result<(), AllocError>
-    ensures { OnOk result (out.new.items ≡ out.old.items ++ definition.field_words field.now) }
+/// Writes a mnemonic and a label at the end.
+fn put_with_label(out: &mut Vec<u8>, mnemonic: Mnemonic, pc: u16) -> Result<(), AllocError>
+    ensures { OnOk result (out.new.items ≡ out.old.items ++ (word_of mnemonic ++ (codes " " ++ definition.label pc))) }
 {
-    put_name(out, &field.class)?;
+    put_mnemonic(out, mnemonic)?;
+    put(out, " ")?;
+    put_label(out, pc)
+}
+
+/// Writes a mnemonic and a field's two words at the end.
+fn put_with_field(out: &mut Vec<u8>, mnemonic: Mnemonic, field: &Member) -> Result<(), AllocError>
+    ensures { OnOk result (out.new.items ≡ out.old.items ++ (word_of mnemonic ++ (codes " " ++ definition.field_words field.now))) }
+{
+    put_with_word(out, mnemonic, field.class.as_bytes())?;
     put(out, "/")?;
     put_name(out, &field.name)?;
     put(out, " ")?;
@@ -271,27 +235,22 @@ fn put_method_word(out: &mut Vec<u8>, method: &Member) -> Result<(), AllocError>
 }
 
 /// Writes an instruction on arrays at the end.
+#[tactic(auto, using(crate::proofs::Back::Mnemonics::said))]
 fn put_array(out: &mut Vec<u8>, operation: &ArrayOperation<Name>) -> Result<(), AllocError>
     ensures { OnOk result (out.new.items ≡ out.old.items ++ definition.array_text operation.now) }
 {
     match operation {
         ArrayOperation::New(primitive) => {
-            put(out, "newarray ")?;
-            put(out, words::primitive(*primitive))
+            put_with_word(
+                out,
+                Mnemonic::NewArray,
+                words::primitive(*primitive).as_bytes(),
+            )
         }
-        ArrayOperation::NewOf(class) => {
-            put(out, "anewarray ")?;
-            put_name(out, class)
-        }
-        ArrayOperation::Length => put(out, "arraylength"),
-        ArrayOperation::Load(kind) => {
-            put(out, words::element_letter(*kind))?;
-            put(out, "aload")
-        }
-        ArrayOperation::Store(kind) => {
-            put(out, words::element_letter(*kind))?;
-            put(out, "astore")
-        }
+        ArrayOperation::NewOf(class) => put_with_word(out, Mnemonic::NewArrayOf, class.as_bytes()),
+        ArrayOperation::Length => put_mnemonic(out, Mnemonic::ArrayLength),
+        ArrayOperation::Load(kind) => put_mnemonic(out, Mnemonic::ArrayLoad(*kind)),
+        ArrayOperation::Store(kind) => put_mnemonic(out, Mnemonic::ArrayStore(*kind)),
     }
 }
 
@@ -308,52 +267,52 @@ fn put_count(out: &mut Vec<u8>, invocation: Invocation) -> Result<(), AllocError
     }
 }
 
+/// The mnemonic of a call.
+#[tactic(auto, using(crate::proofs::Back::Mnemonics::said))]
+fn call_mnemonic(invocation: Invocation) -> Mnemonic
+    ensures { word_of result ≡ definition.invocation_name invocation }
+{
+    match invocation {
+        Invocation::Virtual => Mnemonic::Invoke(Invocation::Virtual),
+        Invocation::Special => Mnemonic::Invoke(Invocation::Special),
+        Invocation::Static => Mnemonic::Invoke(Invocation::Static),
+        Invocation::Interface(_) => Mnemonic::InvokeInterface,
+    }
+}
+
 /// Writes a call at the end.
 fn put_call(out: &mut Vec<u8>, invocation: Invocation, method: &Member) -> Result<(), AllocError>
     ensures { OnOk result (out.new.items ≡ out.old.items ++ definition.call_text invocation method.now) }
 {
-    put(out, words::invocation(invocation))?;
+    put_mnemonic(out, call_mnemonic(invocation))?;
     put(out, " ")?;
     put_method_word(out, method)?;
     put_count(out, invocation)
 }
 
 /// Writes an instruction at the end.
+#[tactic(auto, using(crate::proofs::Back::Mnemonics::said))]
 pub fn put_instruction(out: &mut Vec<u8>, instruction: &Listed) -> Result<(), AllocError>
     ensures { OnOk result (out.new.items ≡ out.old.items ++ definition.instruction_text instruction.now) }
 {
     match instruction {
-        Listed::Nop => put(out, "nop"),
+        Listed::Nop => put_mnemonic(out, Mnemonic::Nop),
         Listed::Constant(constant) => put_constant(out, *constant),
         Listed::Local(access) => put_local(out, *access),
-        Listed::Stack(operation) => put(out, words::stack(*operation)),
-        Listed::Number(operation) => put_operation(out, *operation),
-        Listed::Branch(test, target) => {
-            put_test(out, *test)?;
-            put(out, " ")?;
-            put_label(out, *target)
-        }
+        Listed::Stack(operation) => put_mnemonic(out, Mnemonic::Stack(*operation)),
+        Listed::Number(operation) => put_mnemonic(out, Mnemonic::Number(*operation)),
+        Listed::Branch(test, target) => put_with_label(out, Mnemonic::Branch(*test), *target),
         Listed::TableSwitch(switch) => put_table(out, switch),
         Listed::LookupSwitch(switch) => put_lookup(out, switch),
-        Listed::Return(kind) => put_return(out, *kind),
-        Listed::Static(access, field) => {
-            put(out, words::access(*access))?;
-            put(out, "static ")?;
-            put_field_words(out, field)
-        }
-        Listed::Field(access, field) => {
-            put(out, words::access(*access))?;
-            put(out, "field ")?;
-            put_field_words(out, field)
-        }
+        Listed::Return(kind) => put_mnemonic(out, Mnemonic::Return(*kind)),
+        Listed::Static(access, field) => put_with_field(out, Mnemonic::Static(*access), field),
+        Listed::Field(access, field) => put_with_field(out, Mnemonic::Field(*access), field),
         Listed::Array(operation) => put_array(out, operation),
         Listed::Class(operation, class) => {
-            put(out, words::class(*operation))?;
-            put(out, " ")?;
-            put_name(out, class)
+            put_with_word(out, Mnemonic::Class(*operation), class.as_bytes())
         }
         Listed::Invoke(invocation, method) => put_call(out, *invocation, method),
-        Listed::Throw => put(out, "athrow"),
-        Listed::Monitor(operation) => put(out, words::monitor(*operation)),
+        Listed::Throw => put_mnemonic(out, Mnemonic::Throw),
+        Listed::Monitor(operation) => put_mnemonic(out, Mnemonic::Monitor(*operation)),
     }
 }

@@ -3,3 +3,4 @@ pub mod Classes
 pub mod Locals
 pub mod Statements
 pub mod Switches
+pub mod Words

@@ -26,4 +26,5 @@ mod written_numbers;
 pub use errors::{Fault, TextError};
 pub use labels::Labels;
 pub use laws::texts_are_spelled;
+pub use mnemonics::word_of;
 pub use reader::read;

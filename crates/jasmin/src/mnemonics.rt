@@ -1,15 +1,28 @@
 //! The mnemonics of instructions.
-ghost use Rattle.std.specs.Prelude.{◌≡◌};
+ghost use Rattle.std.specs.Prelude.{◌≡◌, map};
 ghost use Rattle.model.specs.Texts.Mnemonics.{mnemonic_of};
+ghost use Rattle.jasmin.specs.Words.{word_of, word_in};
 
 use crate::tables::named;
+use model::instructions::LocalAccess::{Load, Store};
+use model::instructions::NumberOperation::{Binary, Convert, Negate};
 use model::instructions::{
     Access, ClassOperation, Comparison, Conversion, ElementKind, FirstLocal, Identity, Invocation,
-    Local, LocalAccess, MonitorOperation, NumberKind, NumberOperation, Operator, SmallInt,
-    SmallLong, StackOperation, Test, Width,
+    Local, MonitorOperation, NumberKind, NumberOperation, Operator, SmallInt, SmallLong,
+    StackOperation, Test, Width,
 };
+use model::mnemonics::Mnemonic::{Branch, Number};
 use model::mnemonics::{LocalMnemonic, Mnemonic};
 use model::values::Kind;
+
+// the locals that a mnemonic can name
+const ZERO: Local = Local::First(FirstLocal::Zero);
+
+const ONE: Local = Local::First(FirstLocal::One);
+
+const TWO: Local = Local::First(FirstLocal::Two);
+
+const THREE: Local = Local::First(FirstLocal::Three);
 
 /// The mnemonics by their families.
 const MNEMONICS: [(&str, Mnemonic); 137] = [
@@ -38,102 +51,30 @@ const MNEMONICS: [(&str, Mnemonic); 137] = [
     ("lstore", Mnemonic::Local(LocalMnemonic::Store(Kind::Long))),
     ("astore", Mnemonic::Local(LocalMnemonic::Store(Kind::Ref))),
     ("iinc", Mnemonic::Local(LocalMnemonic::Increment)),
-    (
-        "iload_0",
-        Mnemonic::FirstLocal(LocalAccess::Load(Kind::Int, Local::First(FirstLocal::Zero))),
-    ),
-    (
-        "iload_1",
-        Mnemonic::FirstLocal(LocalAccess::Load(Kind::Int, Local::First(FirstLocal::One))),
-    ),
-    (
-        "iload_2",
-        Mnemonic::FirstLocal(LocalAccess::Load(Kind::Int, Local::First(FirstLocal::Two))),
-    ),
-    (
-        "iload_3",
-        Mnemonic::FirstLocal(LocalAccess::Load(Kind::Int, Local::First(FirstLocal::Three))),
-    ),
-    (
-        "lload_0",
-        Mnemonic::FirstLocal(LocalAccess::Load(Kind::Long, Local::First(FirstLocal::Zero))),
-    ),
-    (
-        "lload_1",
-        Mnemonic::FirstLocal(LocalAccess::Load(Kind::Long, Local::First(FirstLocal::One))),
-    ),
-    (
-        "lload_2",
-        Mnemonic::FirstLocal(LocalAccess::Load(Kind::Long, Local::First(FirstLocal::Two))),
-    ),
-    (
-        "lload_3",
-        Mnemonic::FirstLocal(LocalAccess::Load(Kind::Long, Local::First(FirstLocal::Three))),
-    ),
-    (
-        "aload_0",
-        Mnemonic::FirstLocal(LocalAccess::Load(Kind::Ref, Local::First(FirstLocal::Zero))),
-    ),
-    (
-        "aload_1",
-        Mnemonic::FirstLocal(LocalAccess::Load(Kind::Ref, Local::First(FirstLocal::One))),
-    ),
-    (
-        "aload_2",
-        Mnemonic::FirstLocal(LocalAccess::Load(Kind::Ref, Local::First(FirstLocal::Two))),
-    ),
-    (
-        "aload_3",
-        Mnemonic::FirstLocal(LocalAccess::Load(Kind::Ref, Local::First(FirstLocal::Three))),
-    ),
-    (
-        "istore_0",
-        Mnemonic::FirstLocal(LocalAccess::Store(Kind::Int, Local::First(FirstLocal::Zero))),
-    ),
-    (
-        "istore_1",
-        Mnemonic::FirstLocal(LocalAccess::Store(Kind::Int, Local::First(FirstLocal::One))),
-    ),
-    (
-        "istore_2",
-        Mnemonic::FirstLocal(LocalAccess::Store(Kind::Int, Local::First(FirstLocal::Two))),
-    ),
-    (
-        "istore_3",
-        Mnemonic::FirstLocal(LocalAccess::Store(Kind::Int, Local::First(FirstLocal::Three))),
-    ),
-    (
-        "lstore_0",
-        Mnemonic::FirstLocal(LocalAccess::Store(Kind::Long, Local::First(FirstLocal::Zero))),
-    ),
-    (
-        "lstore_1",
-        Mnemonic::FirstLocal(LocalAccess::Store(Kind::Long, Local::First(FirstLocal::One))),
-    ),
-    (
-        "lstore_2",
-        Mnemonic::FirstLocal(LocalAccess::Store(Kind::Long, Local::First(FirstLocal::Two))),
-    ),
-    (
-        "lstore_3",
-        Mnemonic::FirstLocal(LocalAccess::Store(Kind::Long, Local::First(FirstLocal::Three))),
-    ),
-    (
-        "astore_0",
-        Mnemonic::FirstLocal(LocalAccess::Store(Kind::Ref, Local::First(FirstLocal::Zero))),
-    ),
-    (
-        "astore_1",
-        Mnemonic::FirstLocal(LocalAccess::Store(Kind::Ref, Local::First(FirstLocal::One))),
-    ),
-    (
-        "astore_2",
-        Mnemonic::FirstLocal(LocalAccess::Store(Kind::Ref, Local::First(FirstLocal::Two))),
-    ),
-    (
-        "astore_3",
-        Mnemonic::FirstLocal(LocalAccess::Store(Kind::Ref, Local::First(FirstLocal::Three))),
-    ),
+    ("iload_0", Mnemonic::FirstLocal(Load(Kind::Int, ZERO))),
+    ("iload_1", Mnemonic::FirstLocal(Load(Kind::Int, ONE))),
+    ("iload_2", Mnemonic::FirstLocal(Load(Kind::Int, TWO))),
+    ("iload_3", Mnemonic::FirstLocal(Load(Kind::Int, THREE))),
+    ("lload_0", Mnemonic::FirstLocal(Load(Kind::Long, ZERO))),
+    ("lload_1", Mnemonic::FirstLocal(Load(Kind::Long, ONE))),
+    ("lload_2", Mnemonic::FirstLocal(Load(Kind::Long, TWO))),
+    ("lload_3", Mnemonic::FirstLocal(Load(Kind::Long, THREE))),
+    ("aload_0", Mnemonic::FirstLocal(Load(Kind::Ref, ZERO))),
+    ("aload_1", Mnemonic::FirstLocal(Load(Kind::Ref, ONE))),
+    ("aload_2", Mnemonic::FirstLocal(Load(Kind::Ref, TWO))),
+    ("aload_3", Mnemonic::FirstLocal(Load(Kind::Ref, THREE))),
+    ("istore_0", Mnemonic::FirstLocal(Store(Kind::Int, ZERO))),
+    ("istore_1", Mnemonic::FirstLocal(Store(Kind::Int, ONE))),
+    ("istore_2", Mnemonic::FirstLocal(Store(Kind::Int, TWO))),
+    ("istore_3", Mnemonic::FirstLocal(Store(Kind::Int, THREE))),
+    ("lstore_0", Mnemonic::FirstLocal(Store(Kind::Long, ZERO))),
+    ("lstore_1", Mnemonic::FirstLocal(Store(Kind::Long, ONE))),
+    ("lstore_2", Mnemonic::FirstLocal(Store(Kind::Long, TWO))),
+    ("lstore_3", Mnemonic::FirstLocal(Store(Kind::Long, THREE))),
+    ("astore_0", Mnemonic::FirstLocal(Store(Kind::Ref, ZERO))),
+    ("astore_1", Mnemonic::FirstLocal(Store(Kind::Ref, ONE))),
+    ("astore_2", Mnemonic::FirstLocal(Store(Kind::Ref, TWO))),
+    ("astore_3", Mnemonic::FirstLocal(Store(Kind::Ref, THREE))),
     // the operand stack
     ("pop", Mnemonic::Stack(StackOperation::Pop)),
     ("pop2", Mnemonic::Stack(StackOperation::Pop2)),
@@ -145,166 +86,55 @@ const MNEMONICS: [(&str, Mnemonic); 137] = [
     ("dup2_x2", Mnemonic::Stack(StackOperation::Dup2X2)),
     ("swap", Mnemonic::Stack(StackOperation::Swap)),
     // operations on numbers
-    (
-        "iadd",
-        Mnemonic::Number(NumberOperation::Binary(NumberKind::Int, Operator::Add)),
-    ),
-    (
-        "isub",
-        Mnemonic::Number(NumberOperation::Binary(NumberKind::Int, Operator::Sub)),
-    ),
-    (
-        "imul",
-        Mnemonic::Number(NumberOperation::Binary(NumberKind::Int, Operator::Mul)),
-    ),
-    (
-        "idiv",
-        Mnemonic::Number(NumberOperation::Binary(NumberKind::Int, Operator::Div)),
-    ),
-    (
-        "irem",
-        Mnemonic::Number(NumberOperation::Binary(NumberKind::Int, Operator::Rem)),
-    ),
-    (
-        "ishl",
-        Mnemonic::Number(NumberOperation::Binary(NumberKind::Int, Operator::Shl)),
-    ),
-    (
-        "ishr",
-        Mnemonic::Number(NumberOperation::Binary(NumberKind::Int, Operator::Shr)),
-    ),
-    (
-        "iushr",
-        Mnemonic::Number(NumberOperation::Binary(NumberKind::Int, Operator::Ushr)),
-    ),
-    (
-        "iand",
-        Mnemonic::Number(NumberOperation::Binary(NumberKind::Int, Operator::And)),
-    ),
-    (
-        "ior",
-        Mnemonic::Number(NumberOperation::Binary(NumberKind::Int, Operator::Or)),
-    ),
-    (
-        "ixor",
-        Mnemonic::Number(NumberOperation::Binary(NumberKind::Int, Operator::Xor)),
-    ),
-    (
-        "ladd",
-        Mnemonic::Number(NumberOperation::Binary(NumberKind::Long, Operator::Add)),
-    ),
-    (
-        "lsub",
-        Mnemonic::Number(NumberOperation::Binary(NumberKind::Long, Operator::Sub)),
-    ),
-    (
-        "lmul",
-        Mnemonic::Number(NumberOperation::Binary(NumberKind::Long, Operator::Mul)),
-    ),
-    (
-        "ldiv",
-        Mnemonic::Number(NumberOperation::Binary(NumberKind::Long, Operator::Div)),
-    ),
-    (
-        "lrem",
-        Mnemonic::Number(NumberOperation::Binary(NumberKind::Long, Operator::Rem)),
-    ),
-    (
-        "lshl",
-        Mnemonic::Number(NumberOperation::Binary(NumberKind::Long, Operator::Shl)),
-    ),
-    (
-        "lshr",
-        Mnemonic::Number(NumberOperation::Binary(NumberKind::Long, Operator::Shr)),
-    ),
-    (
-        "lushr",
-        Mnemonic::Number(NumberOperation::Binary(NumberKind::Long, Operator::Ushr)),
-    ),
-    (
-        "land",
-        Mnemonic::Number(NumberOperation::Binary(NumberKind::Long, Operator::And)),
-    ),
-    (
-        "lor",
-        Mnemonic::Number(NumberOperation::Binary(NumberKind::Long, Operator::Or)),
-    ),
-    (
-        "lxor",
-        Mnemonic::Number(NumberOperation::Binary(NumberKind::Long, Operator::Xor)),
-    ),
-    (
-        "ineg",
-        Mnemonic::Number(NumberOperation::Negate(NumberKind::Int)),
-    ),
-    (
-        "lneg",
-        Mnemonic::Number(NumberOperation::Negate(NumberKind::Long)),
-    ),
-    (
-        "i2l",
-        Mnemonic::Number(NumberOperation::Convert(Conversion::IntToLong)),
-    ),
-    (
-        "l2i",
-        Mnemonic::Number(NumberOperation::Convert(Conversion::LongToInt)),
-    ),
-    (
-        "i2b",
-        Mnemonic::Number(NumberOperation::Convert(Conversion::IntToByte)),
-    ),
-    (
-        "i2c",
-        Mnemonic::Number(NumberOperation::Convert(Conversion::IntToChar)),
-    ),
-    (
-        "i2s",
-        Mnemonic::Number(NumberOperation::Convert(Conversion::IntToShort)),
-    ),
-    ("lcmp", Mnemonic::Number(NumberOperation::CompareLongs)),
+    ("iadd", Number(Binary(NumberKind::Int, Operator::Add))),
+    ("isub", Number(Binary(NumberKind::Int, Operator::Sub))),
+    ("imul", Number(Binary(NumberKind::Int, Operator::Mul))),
+    ("idiv", Number(Binary(NumberKind::Int, Operator::Div))),
+    ("irem", Number(Binary(NumberKind::Int, Operator::Rem))),
+    ("ishl", Number(Binary(NumberKind::Int, Operator::Shl))),
+    ("ishr", Number(Binary(NumberKind::Int, Operator::Shr))),
+    ("iushr", Number(Binary(NumberKind::Int, Operator::Ushr))),
+    ("iand", Number(Binary(NumberKind::Int, Operator::And))),
+    ("ior", Number(Binary(NumberKind::Int, Operator::Or))),
+    ("ixor", Number(Binary(NumberKind::Int, Operator::Xor))),
+    ("ladd", Number(Binary(NumberKind::Long, Operator::Add))),
+    ("lsub", Number(Binary(NumberKind::Long, Operator::Sub))),
+    ("lmul", Number(Binary(NumberKind::Long, Operator::Mul))),
+    ("ldiv", Number(Binary(NumberKind::Long, Operator::Div))),
+    ("lrem", Number(Binary(NumberKind::Long, Operator::Rem))),
+    ("lshl", Number(Binary(NumberKind::Long, Operator::Shl))),
+    ("lshr", Number(Binary(NumberKind::Long, Operator::Shr))),
+    ("lushr", Number(Binary(NumberKind::Long, Operator::Ushr))),
+    ("land", Number(Binary(NumberKind::Long, Operator::And))),
+    ("lor", Number(Binary(NumberKind::Long, Operator::Or))),
+    ("lxor", Number(Binary(NumberKind::Long, Operator::Xor))),
+    ("ineg", Number(Negate(NumberKind::Int))),
+    ("lneg", Number(Negate(NumberKind::Long))),
+    ("i2l", Number(Convert(Conversion::IntToLong))),
+    ("l2i", Number(Convert(Conversion::LongToInt))),
+    ("i2b", Number(Convert(Conversion::IntToByte))),
+    ("i2c", Number(Convert(Conversion::IntToChar))),
+    ("i2s", Number(Convert(Conversion::IntToShort))),
+    ("lcmp", Number(NumberOperation::CompareLongs)),
     // branches
-    ("ifeq", Mnemonic::Branch(Test::Zero(Comparison::Equal))),
-    ("ifne", Mnemonic::Branch(Test::Zero(Comparison::NotEqual))),
-    ("iflt", Mnemonic::Branch(Test::Zero(Comparison::Less))),
-    (
-        "ifge",
-        Mnemonic::Branch(Test::Zero(Comparison::GreaterOrEqual)),
-    ),
-    ("ifgt", Mnemonic::Branch(Test::Zero(Comparison::Greater))),
-    (
-        "ifle",
-        Mnemonic::Branch(Test::Zero(Comparison::LessOrEqual)),
-    ),
-    ("if_icmpeq", Mnemonic::Branch(Test::Ints(Comparison::Equal))),
-    (
-        "if_icmpne",
-        Mnemonic::Branch(Test::Ints(Comparison::NotEqual)),
-    ),
-    ("if_icmplt", Mnemonic::Branch(Test::Ints(Comparison::Less))),
-    (
-        "if_icmpge",
-        Mnemonic::Branch(Test::Ints(Comparison::GreaterOrEqual)),
-    ),
-    (
-        "if_icmpgt",
-        Mnemonic::Branch(Test::Ints(Comparison::Greater)),
-    ),
-    (
-        "if_icmple",
-        Mnemonic::Branch(Test::Ints(Comparison::LessOrEqual)),
-    ),
-    ("if_acmpeq", Mnemonic::Branch(Test::Refs(Identity::Same))),
-    (
-        "if_acmpne",
-        Mnemonic::Branch(Test::Refs(Identity::Different)),
-    ),
-    ("ifnull", Mnemonic::Branch(Test::Null(Identity::Same))),
-    (
-        "ifnonnull",
-        Mnemonic::Branch(Test::Null(Identity::Different)),
-    ),
-    ("goto", Mnemonic::Branch(Test::Always(Width::Narrow))),
-    ("goto_w", Mnemonic::Branch(Test::Always(Width::Wide))),
+    ("ifeq", Branch(Test::Zero(Comparison::Equal))),
+    ("ifne", Branch(Test::Zero(Comparison::NotEqual))),
+    ("iflt", Branch(Test::Zero(Comparison::Less))),
+    ("ifge", Branch(Test::Zero(Comparison::GreaterOrEqual))),
+    ("ifgt", Branch(Test::Zero(Comparison::Greater))),
+    ("ifle", Branch(Test::Zero(Comparison::LessOrEqual))),
+    ("if_icmpeq", Branch(Test::Ints(Comparison::Equal))),
+    ("if_icmpne", Branch(Test::Ints(Comparison::NotEqual))),
+    ("if_icmplt", Branch(Test::Ints(Comparison::Less))),
+    ("if_icmpge", Branch(Test::Ints(Comparison::GreaterOrEqual))),
+    ("if_icmpgt", Branch(Test::Ints(Comparison::Greater))),
+    ("if_icmple", Branch(Test::Ints(Comparison::LessOrEqual))),
+    ("if_acmpeq", Branch(Test::Refs(Identity::Same))),
+    ("if_acmpne", Branch(Test::Refs(Identity::Different))),
+    ("ifnull", Branch(Test::Null(Identity::Same))),
+    ("ifnonnull", Branch(Test::Null(Identity::Different))),
+    ("goto", Branch(Test::Always(Width::Narrow))),
+    ("goto_w", Branch(Test::Always(Width::Wide))),
     // calls and returns
     ("invokevirtual", Mnemonic::Invoke(Invocation::Virtual)),
     ("invokespecial", Mnemonic::Invoke(Invocation::Special)),
@@ -349,4 +179,23 @@ pub fn mnemonic(word: &[u8]) -> Option<Mnemonic>
     ensures { result ≡ mnemonic_of word.now }
 {
     named(&MNEMONICS, word)
+}
+
+/// The word of a mnemonic, empty where no word says it.
+#[tactic(auto, unfolding(crate::specs::Words::word_of))]
+pub fn word_of(mnemonic: Mnemonic) -> &'static str
+    ensures { result.now ≡ word_of mnemonic }
+{
+    word_in(&MNEMONICS, mnemonic)
+}
+
+fn word_in(table: &[(&'static str, Mnemonic)], mnemonic: Mnemonic) -> &'static str
+    ensures { result.now ≡ word_in (map (λ row. (row.0.now, row.1)) table.now) mnemonic }
+{
+    for (word, meant) in table {
+        if *meant == mnemonic {
+            return word;
+        }
+    }
+    ""
 }
