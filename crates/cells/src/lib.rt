@@ -27,6 +27,3 @@ mod monitors;
 
 pub use cells::Cells;
 pub use monitors::Monitor;
-
-#[cfg(test)]
-mod tests;

@@ -7,5 +7,3 @@
 pub mod accounts;
 mod free_lists;
 mod queues;
-#[cfg(test)]
-mod tests;

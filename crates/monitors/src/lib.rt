@@ -8,9 +8,6 @@ ghost use Rattle.std.specs.Prelude.{◌≡◌, Err, Ok, if◌then◌else◌};
 ghost use Rattle.model.specs.declared.turns.Fault.TheVariants.{MonitorLimit};
 ghost use Rattle.model.specs.Monitors.{entered, exited, is_full, is_owner, may_enter};
 
-#[cfg(test)]
-mod tests;
-
 use cells::Monitor;
 use model::turns::Fault;
 

@@ -10,8 +10,6 @@ mod conversions;
 mod ints;
 mod longs;
 pub mod slots;
-#[cfg(test)]
-mod tests;
 pub mod words;
 
 pub use comparisons::{compare_ints, compare_longs};
