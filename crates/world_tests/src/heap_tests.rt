@@ -6,9 +6,9 @@ use loader::programs::Program;
 use model::colours::{Colour, Phase};
 use model::journals::{HeapShape, Limits, Outcome};
 use model::turns::Actor;
-use model::views::CellView;
 use scheduler::worlds::World;
-use std::alloc::Global;
+use std::alloc::{AllocError, Global};
+use std::process::Abort;
 use std::test::Fail;
 
 const MAIN: Actor = Actor::Thread(0);
@@ -47,30 +47,79 @@ fn world_of(alloc: Global, text: &[u8], small: u32) -> Result<World, Fail> {
     Ok(World::new(alloc, program_of(alloc, text)?, shape, limits)?)
 }
 
-/// A small cell that holds this birth in this colour.
-fn held(birth: u32, colour: Colour) -> Option<CellView> {
-    Some(CellView {
-        words: 4,
-        held: Some((birth, colour)),
-    })
+/// So many turns of an actor, and what is seen then.
+type Step = (u8, Actor, &'static str);
+
+fn colour_name(colour: Colour) -> &'static str {
+    match colour {
+        Colour::White => "white",
+        Colour::Grey => "grey",
+        Colour::Black => "black",
+    }
+}
+
+/// Where the collector stands, of its places those that the steps tell.
+fn phase_name(phase: Phase) -> &'static str {
+    match phase {
+        Phase::Idle => ", idle",
+        Phase::Mark { word: 0 } => ", marking",
+        _ => "",
+    }
+}
+
+/// The birth that a cell holds, its colour, and where the collector stands.
+fn seen(alloc: Global, world: &World, cell: u32) -> Result<String, AllocError> {
+    let phase = phase_name(world.phase());
+    match world.heap(cell) {
+        Some(view) => match view.held {
+            Some((birth, colour)) => {
+                let colour = colour_name(colour);
+                format!(in alloc; "{birth} {colour}{phase}")
+            }
+            None => format!(in alloc; "free{phase}"),
+        },
+        None => format!(in alloc; "no cell"),
+    }
+}
+
+/// Makes the turns of these steps, and compares what is seen of a cell after each.
+fn follow(
+    rt: &impl Abort,
+    alloc: Global,
+    world: &mut World,
+    cell: u32,
+    steps: &[Step],
+) -> Result<(), AllocError> {
+    for (turns, actor, wanted) in steps {
+        for _turn in 0..*turns {
+            let _ = world.turn(*actor);
+        }
+        let told = seen(alloc, world, cell)?;
+        assert!(rt; told.as_str() == *wanted);
+    }
+    Ok(())
+}
+
+/// Whether a world has printed this, and its journal has so many rows.
+fn has(world: &World, output: &[u8], rows: usize) -> bool {
+    world.output() == output && world.journal().rows().len() == rows
 }
 
 /// The object takes its cell while the collector marks, grey; the collector blackens it in this cycle.
 #[test]
 fn a_new_object_is_marked(rt: HostRuntime) -> Result<(), Fail> {
     let mut world = world_of(rt.alloc(), ONE_OBJECT, 3)?;
-    world.run([GC; 8].as_slice());
-    world.run([MAIN].as_slice());
-    assert_eq!(rt; world.heap(2), held(3, Colour::Grey));
-    world.run([GC; 2].as_slice());
-    assert_eq!(rt; world.heap(2), held(3, Colour::Black));
-    world.run([GC; 5].as_slice());
-    assert!(rt; world.phase() == Phase::Idle);
-    assert_eq!(rt; world.heap(2), held(3, Colour::White));
-    world.run([MAIN; 8].as_slice());
-    assert_eq!(rt; world.output(), b"5\n".as_slice());
-    assert_eq!(rt; world.journal().rows().len(), 24);
-    assert!(rt; world.journal().rows()[8].outcome == Outcome::Object);
+    let steps = [
+        (8, GC, "free, marking"),
+        (1, MAIN, "3 grey, marking"),
+        (2, GC, "3 black, marking"),
+        (5, GC, "3 white, idle"),
+        (8, MAIN, "3 grey, idle"), // shaded as it is stored
+    ];
+    follow(&rt, rt.alloc(), &mut world, 2, steps.as_slice())?;
+    assert!(rt; has(&world, b"5\n", 24));
+    let row = world.journal().rows().get(8).copied();
+    assert!(rt; row.is_some_and(|row| row.outcome == Outcome::Object));
     Ok(())
 }
 
@@ -78,14 +127,14 @@ fn a_new_object_is_marked(rt: HostRuntime) -> Result<(), Fail> {
 #[test]
 fn a_new_object_stays_grey(rt: HostRuntime) -> Result<(), Fail> {
     let mut world = world_of(rt.alloc(), ONE_OBJECT, 3)?;
-    world.run([GC; 9].as_slice());
-    world.run([MAIN].as_slice());
-    world.run([GC; 4].as_slice());
-    assert!(rt; world.phase() == Phase::Idle);
-    assert_eq!(rt; world.heap(2), held(3, Colour::Grey));
-    world.run([MAIN; 8].as_slice());
-    assert_eq!(rt; world.output(), b"5\n".as_slice());
-    assert_eq!(rt; world.journal().rows().len(), 22);
+    let steps = [
+        (9, GC, "free"),
+        (1, MAIN, "3 grey"),
+        (4, GC, "3 grey, idle"),
+        (8, MAIN, "3 grey, idle"),
+    ];
+    follow(&rt, rt.alloc(), &mut world, 2, steps.as_slice())?;
+    assert!(rt; has(&world, b"5\n", 22));
     Ok(())
 }
 
@@ -94,18 +143,16 @@ fn a_new_object_stays_grey(rt: HostRuntime) -> Result<(), Fail> {
 #[test]
 fn what_is_loaded_is_shaded(rt: HostRuntime) -> Result<(), Fail> {
     let mut world = world_of(rt.alloc(), LINKED, 4)?;
-    world.run([MAIN; 12].as_slice());
-    world.run([GC; 28].as_slice());
-    assert!(rt; world.phase() == Phase::Mark { word: 0 });
-    assert_eq!(rt; world.heap(3), held(4, Colour::White));
-    world.run([MAIN; 2].as_slice());
-    assert_eq!(rt; world.heap(3), held(4, Colour::Grey));
-    world.run([MAIN; 3].as_slice());
-    world.run([GC; 14].as_slice());
-    assert!(rt; world.phase() == Phase::Idle);
-    world.run([MAIN; 3].as_slice());
-    assert_eq!(rt; world.output(), b"7\n".as_slice());
-    assert_eq!(rt; world.journal().rows().len(), 62);
+    let steps = [
+        (12, MAIN, "4 grey, idle"),
+        (28, GC, "4 white, marking"),
+        (2, MAIN, "4 grey, marking"),
+        (3, MAIN, "4 grey, marking"),
+        (14, GC, "4 white, idle"),
+        (3, MAIN, "4 white, idle"),
+    ];
+    follow(&rt, rt.alloc(), &mut world, 3, steps.as_slice())?;
+    assert!(rt; has(&world, b"7\n", 62));
     Ok(())
 }
 
@@ -113,20 +160,12 @@ fn what_is_loaded_is_shaded(rt: HostRuntime) -> Result<(), Fail> {
 #[test]
 fn garbage_is_freed(rt: HostRuntime) -> Result<(), Fail> {
     let mut world = world_of(rt.alloc(), DROPPED, 3)?;
-    world.run([MAIN; 2].as_slice());
-    world.run([GC; 14].as_slice());
-    assert!(rt; world.phase() == Phase::Idle);
-    assert_eq!(rt; world.heap(2), held(3, Colour::White));
-    world.run([GC; 11].as_slice());
-    assert_eq!(rt;
-        world.heap(2),
-        Some(CellView {
-            words: 4,
-            held: None
-        })
-    );
-    assert!(rt; !(world.phase() == Phase::Idle));
-    world.run([GC].as_slice());
-    assert!(rt; world.phase() == Phase::Idle);
+    let steps = [
+        (2, MAIN, "3 grey, idle"),
+        (14, GC, "3 white, idle"),
+        (11, GC, "free"),
+        (1, GC, "free, idle"),
+    ];
+    follow(&rt, rt.alloc(), &mut world, 2, steps.as_slice())?;
     Ok(())
 }
