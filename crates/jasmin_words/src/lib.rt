@@ -6,6 +6,4 @@
 
 pub mod lines;
 pub mod statements;
-#[cfg(test)]
-mod tests;
 pub mod words;

@@ -8,10 +8,26 @@ use classfile::write;
 use jasmin::read;
 use model::listings::Listing;
 use std::alloc::Global;
+use std::process::Abort;
 use std::test::Fail;
 
+/// What a text's answer is to be: bytes in hexadecimal digits, or what users are told.
+#[derive(Clone, Copy)]
+enum Wanted {
+    /// These bytes.
+    Whole(&'static str),
+    /// A class file that ends in these.
+    End(&'static str),
+    /// A class file that has these from a place on.
+    At(usize, &'static str),
+    /// A class file.
+    Assembled,
+    /// A refusal that begins so.
+    Told(&'static str),
+}
+
 /// What a class file begins with.
-const ASSEMBLED: &[u8] = b"\xca\xfe\xba\xbe";
+const MAGIC: &[u8] = b"\xca\xfe\xba\xbe";
 
 /// The bytes of the class file of a text, or what users are told of it.
 fn answer(alloc: Global, text: &str) -> Result<Vec<u8>, Fail> {
@@ -22,26 +38,39 @@ fn answer(alloc: Global, text: &str) -> Result<Vec<u8>, Fail> {
     }
 }
 
-/// Whether a text's answer begins with these bytes.
-fn begins(alloc: Global, text: &str, wanted: &[u8]) -> Result<bool, Fail> {
-    Ok(answer(alloc, text)?.starts_with(wanted))
-}
-
-/// Whether a text's answer has these bytes, in hexadecimal digits, from a place on.
-fn has_at(alloc: Global, text: &str, place: usize, digits: &str) -> Result<bool, Fail> {
-    let bytes = answer(alloc, text)?;
+/// Whether bytes have these, in hexadecimal digits, from a place on, and whether that is all of them.
+fn stands_at(
+    alloc: Global,
+    bytes: &[u8],
+    place: usize,
+    digits: &str,
+) -> Result<(bool, bool), Fail> {
     let wanted = hex(alloc, digits)?;
     Ok(match bytes.get(place..) {
-        Some(rest) => rest.starts_with(&wanted),
-        None => false,
+        Some(rest) => (rest.starts_with(&wanted), rest.len() == wanted.len()),
+        None => (false, false),
     })
 }
 
-/// Whether a text's answer ends in these bytes, in hexadecimal digits.
-fn ends_in(alloc: Global, text: &str, digits: &str) -> Result<bool, Fail> {
-    let bytes = answer(alloc, text)?;
+fn ends_in(alloc: Global, bytes: &[u8], digits: &str) -> Result<bool, Fail> {
     let wanted = hex(alloc, digits)?;
     Ok(bytes.ends_with(&wanted))
+}
+
+fn is_wanted(alloc: Global, bytes: &[u8], wanted: Wanted) -> Result<bool, Fail> {
+    match wanted {
+        Wanted::Whole(digits) => Ok(stands_at(alloc, bytes, 0, digits)? == (true, true)),
+        Wanted::End(digits) => ends_in(alloc, bytes, digits),
+        Wanted::At(place, digits) => Ok(stands_at(alloc, bytes, place, digits)?.0),
+        Wanted::Assembled => Ok(bytes.starts_with(MAGIC)),
+        Wanted::Told(text) => Ok(bytes.starts_with(text.as_bytes())),
+    }
+}
+
+/// Whether a text's answer is the wanted one.
+fn has_answer(alloc: Global, text: &str, wanted: Wanted) -> Result<bool, Fail> {
+    let bytes = answer(alloc, text)?;
+    is_wanted(alloc, &bytes, wanted)
 }
 
 /// A class A over B whose `main()V` has these lines, with a number of lines `nop` in the middle.
@@ -57,127 +86,183 @@ fn main_with(alloc: Global, first: &str, nops: u32, last: &str) -> Result<String
     Ok(text)
 }
 
-/// The code of a text, its length before it, and behind it no rows, no attributes of the code and none of the class.
-#[test]
-fn code_of_texts(rt: HostRuntime) -> Result<(), Fail> {
-    let switch = "ldc 2147483646\ntableswitch 2147483646\nX\nX\ndefault : X\nX:\nreturn\n";
-    for (first, nops, last, wanted) in [
-        (
-            "ldc 2147483647\niconst_1\niadd\ninvokestatic vm/Sys/print(I)V\nreturn\n",
-            0,
-            "",
-            "00000008 1201 04 60 b8000e b1 0000 0000 0000",
-        ),
-        // 2147483646 behind some bytes `nop`; pads of 1, 0, 3 and 2 bytes; the ways lead to `return` behind the switch
-        (
-            "",
-            0,
-            switch,
+/// 2147483646, a switch over it and the greatest int, whose ways lead to `return` behind it.
+const SWITCH: &str = "ldc 2147483646\ntableswitch 2147483646\nX\nX\ndefault : X\nX:\nreturn\n";
+
+/// The first lines of a main, how many lines `nop` follow, and the last lines.
+const MAINS: &[(&str, u32, &str, Wanted)] = &[
+    // the code, its length before it, and behind it no rows, no attributes of the code and none of the class
+    (
+        "ldc 2147483647\niconst_1\niadd\ninvokestatic vm/Sys/print(I)V\nreturn\n",
+        0,
+        "",
+        Wanted::End("00000008 1201 04 60 b8000e b1 0000 0000 0000"),
+    ),
+    // pads of 1, 0, 3 and 2 bytes
+    (
+        "",
+        0,
+        SWITCH,
+        Wanted::End(
             "00000019 1201 aa 00 00000016 7ffffffe 7fffffff 00000016 00000016 b1 0000 0000 0000",
         ),
-        (
-            "",
-            1,
-            switch,
+    ),
+    (
+        "",
+        1,
+        SWITCH,
+        Wanted::End(
             "00000019 00 1201 aa 00000015 7ffffffe 7fffffff 00000015 00000015 b1 0000 0000 0000",
         ),
-        (
-            "",
-            2,
-            switch,
+    ),
+    (
+        "",
+        2,
+        SWITCH,
+        Wanted::End(
             "0000001d 0000 1201 aa 000000 00000018 7ffffffe 7fffffff 00000018 00000018 b1 0000 0000 0000",
         ),
-        (
-            "",
-            3,
-            switch,
+    ),
+    (
+        "",
+        3,
+        SWITCH,
+        Wanted::End(
             "0000001d 000000 1201 aa 0000 00000017 7ffffffe 7fffffff 00000017 00000017 b1 0000 0000 0000",
         ),
-    ] {
-        let text = main_with(rt.alloc(), first, nops, last)?;
-        assert!(rt; ends_in(rt.alloc(), &text, wanted)?, "{wanted}");
+    ),
+    // numbers of `ldc` come first: the count of the pool, and its first entry
+    (
+        "iconst_1\nldc 2147483647\nreturn\n",
+        0,
+        "",
+        Wanted::At(8, "0009 03 7fffffff"),
+    ),
+    ("", 0, "", Wanted::Told("A1 in method main()V")),
+    ("", 65_535, "", Wanted::Assembled),
+    ("", 65_536, "", Wanted::Told("A1 in method main()V")),
+    (
+        "goto X\n",
+        40_000,
+        "X:\nreturn\n",
+        Wanted::Told("A2 in method main()V"),
+    ),
+    ("goto_w X\n", 40_000, "X:\nreturn\n", Wanted::Assembled),
+    ("goto X\n", 32_764, "X:\nreturn\n", Wanted::Assembled),
+    (
+        "goto X\n",
+        32_765,
+        "X:\nreturn\n",
+        Wanted::Told("A2 in method main()V"),
+    ),
+    (
+        "lookupswitch\n5 : X\n2 : X\ndefault : X\nX:\n",
+        0,
+        "return\n",
+        Wanted::Told("A4 in method main()V"),
+    ),
+    (
+        "lookupswitch\n2 : X\n2 : X\ndefault : X\nX:\n",
+        0,
+        "return\n",
+        Wanted::Told("A4 in method main()V"),
+    ),
+    (
+        "tableswitch 2147483647\nX\ndefault : X\nX:\n",
+        0,
+        "return\n",
+        Wanted::Assembled,
+    ),
+    (
+        "tableswitch 2147483647\nX\nX\ndefault : X\nX:\n",
+        0,
+        "return\n",
+        Wanted::Told("A4 in method main()V"),
+    ),
+    // of a method's faults A4 is told, then A1, then A2
+    (
+        "goto X\ntableswitch 2147483647\nX\nX\ndefault : X\n",
+        65_536,
+        "X:\nreturn\n",
+        Wanted::Told("A4 in method main()V"),
+    ),
+    (
+        "goto X\n",
+        65_536,
+        "X:\nreturn\n",
+        Wanted::Told("A1 in method main()V"),
+    ),
+];
+
+#[test]
+fn mains_have_code(rt: HostRuntime) -> Result<(), Fail> {
+    for (first, nops, last, wanted) in MAINS {
+        let text = main_with(rt.alloc(), first, *nops, last)?;
+        assert!(rt;
+            has_answer(rt.alloc(), &text, *wanted)?,
+            "{first}{nops}{last}"
+        );
     }
     Ok(())
 }
 
-#[test]
-fn numbers_of_ldc_come_first(rt: HostRuntime) -> Result<(), Fail> {
-    let text = main_with(rt.alloc(), "iconst_1\nldc 2147483647\nreturn\n", 0, "")?;
-    // the count of the pool, and its first entry
-    assert!(rt; has_at(rt.alloc(), &text, 8, "0009 03 7fffffff")?);
-    Ok(())
-}
-
-#[test]
-fn refused_code(rt: HostRuntime) -> Result<(), Fail> {
-    for (first, nops, last, answer) in [
-        ("", 0, "", b"A1 in method main()V".as_slice()),
-        ("", 65_535, "", ASSEMBLED),
-        ("", 65_536, "", b"A1 in method main()V"),
-        ("goto X\n", 40_000, "X:\nreturn\n", b"A2 in method main()V"),
-        ("goto_w X\n", 40_000, "X:\nreturn\n", ASSEMBLED),
-        ("goto X\n", 32_764, "X:\nreturn\n", ASSEMBLED),
-        ("goto X\n", 32_765, "X:\nreturn\n", b"A2 in method main()V"),
-        (
-            "lookupswitch\n5 : X\n2 : X\ndefault : X\nX:\n",
-            0,
-            "return\n",
-            b"A4 in method main()V",
-        ),
-        (
-            "lookupswitch\n2 : X\n2 : X\ndefault : X\nX:\n",
-            0,
-            "return\n",
-            b"A4 in method main()V",
-        ),
-        (
-            "tableswitch 2147483647\nX\ndefault : X\nX:\n",
-            0,
-            "return\n",
-            ASSEMBLED,
-        ),
-        (
-            "tableswitch 2147483647\nX\nX\ndefault : X\nX:\n",
-            0,
-            "return\n",
-            b"A4 in method main()V",
-        ),
-        // of a method's faults A4 is told, then A1, then A2
-        (
-            "goto X\ntableswitch 2147483647\nX\nX\ndefault : X\n",
-            65_536,
-            "X:\nreturn\n",
-            b"A4 in method main()V",
-        ),
-        ("goto X\n", 65_536, "X:\nreturn\n", b"A1 in method main()V"),
-    ] {
-        let text = main_with(rt.alloc(), first, nops, last)?;
-        assert!(rt; begins(rt.alloc(), &text, answer)?, "{first}{nops}");
-    }
-    Ok(())
-}
-
-/// Lines with `ldc` of the numbers below 256, and then of the last two again.
+/// Lines with `ldc` of the numbers below 256, and then of the last two again, and `return`.
 fn many_ints(alloc: Global) -> Result<String, Fail> {
     let mut lines = String::new(alloc);
     for n in 0u16..256 {
         lines.push_str(&format!(in alloc; "ldc {n}\n")?)?;
     }
-    lines.push_str("ldc 254\nldc 255\n")?;
+    lines.push_str("ldc 254\nldc 255\nreturn\n")?;
     Ok(lines)
 }
 
+/// A table of 10,000 keys, each with a label of its own, and as many instructions.
+fn many_labels(alloc: Global) -> Result<String, Fail> {
+    let mut lines = String::from_str(alloc, "iconst_0\ntableswitch 0\n")?;
+    for number in 0u32..10000 {
+        lines.push_str(&format!(in alloc; "L{number}\n")?)?;
+    }
+    lines.push_str("default : L0\n")?;
+    for number in 0u32..10000 {
+        lines.push_str(&format!(in alloc; "L{number}:\nnop\n")?)?;
+    }
+    Ok(lines)
+}
+
+/// Whether the answer of a text whose main has these lines is all that is wanted.
+fn has_all(alloc: Global, lines: &str, wanted: &[Wanted]) -> Result<bool, Fail> {
+    let text = main_with(alloc, lines, 0, "")?;
+    let bytes = answer(alloc, &text)?;
+    for wanted in wanted {
+        if !is_wanted(alloc, &bytes, *wanted)? {
+            return Ok(false);
+        }
+    }
+    Ok(true)
+}
+
+/// 255 numbers in two bytes, and then that of 255, 256.
+const PAST_255: &[Wanted] = &[Wanted::End("12ff 130100 12ff 130100 b1 0000 0000 0000")];
+
+/// The class file has 74 bytes before the code's length, 50,016: an int, `tableswitch`, pads of 2, the default, two bounds,
+/// 10,000 ways and as many instructions. The last label's instruction stands 10,000 - 1 bytes behind the switch, which takes
+/// 40,015 from pc 1 on.
+const LABELS: &[Wanted] = &[
+    Wanted::At(74, "0000c360"),
+    Wanted::At(78 + 40012, "0000c35e"),
+];
+
 #[test]
 fn a_long_ldc_past_255(rt: HostRuntime) -> Result<(), Fail> {
-    let text = main_with(rt.alloc(), &many_ints(rt.alloc())?, 0, "return\n")?;
-    // 255 numbers in two bytes, and then that of 255, 256
-    assert!(rt;
-        ends_in(
-            rt.alloc(),
-            &text,
-            "12ff 130100 12ff 130100 b1 0000 0000 0000"
-        )?
-    );
+    let lines = many_ints(rt.alloc())?;
+    assert!(rt; has_all(rt.alloc(), &lines, PAST_255)?);
+    Ok(())
+}
+
+#[test]
+fn a_switch_has_10000_labels(rt: HostRuntime) -> Result<(), Fail> {
+    let lines = many_labels(rt.alloc())?;
+    assert!(rt; has_all(rt.alloc(), &lines, LABELS)?);
     Ok(())
 }
 
@@ -206,54 +291,41 @@ fn with_longs(alloc: Global, longs: u32, more: &str) -> Result<String, Fail> {
     Ok(text)
 }
 
-// Two numbers for each long, and 8 for A and Object with their classes, m0, m1, their descriptor and Code: of 16,381 longs each
-// 65,532. The last number is 65,534.
+// So many longs in each method, and what the second one pushes besides. There are two numbers for each long, and 8 for A and
+// Object with their classes, m0, m1, their descriptor and Code: of 16,381 longs each 65,532. The last number is 65,534.
+
+/// What is there has its number still; and a long more.
+const FULL: &[(u32, &str, Wanted)] = &[
+    (
+        16_381,
+        "ldc_w 1\nldc_w 2\nldc2_w 10\nldc_w 1\n",
+        Wanted::Assembled,
+    ),
+    (16_382, "", Wanted::Told("A3")),
+];
+
+/// A long has no room where an int has.
+const PAST_FULL: &[(u32, &str, Wanted)] = &[
+    (16_381, "ldc_w 1\nldc_w 2\nldc_w 3\n", Wanted::Told("A3")),
+    (16_381, "ldc_w 1\nldc2_w 2\n", Wanted::Told("A3")),
+];
+
+fn compare_pools(rt: &impl Abort, alloc: Global, rows: &[(u32, &str, Wanted)]) -> Result<(), Fail> {
+    for (longs, more, wanted) in rows {
+        let text = with_longs(alloc, *longs, more)?;
+        assert!(rt; has_answer(alloc, &text, *wanted)?, "{longs}{more}");
+    }
+    Ok(())
+}
 
 #[test]
 fn a_pool_is_full(rt: HostRuntime) -> Result<(), Fail> {
-    for (longs, more, wanted) in [
-        // what is there has its number still
-        (16_381, "ldc_w 1\nldc_w 2\nldc2_w 10\nldc_w 1\n", ASSEMBLED),
-        (16_382, "", b"A3".as_slice()),
-    ] {
-        let text = with_longs(rt.alloc(), longs, more)?;
-        assert!(rt; begins(rt.alloc(), &text, wanted)?, "{longs}{more}");
-    }
-    Ok(())
+    compare_pools(&rt, rt.alloc(), FULL)
 }
 
 #[test]
 fn the_last_number_is_65534(rt: HostRuntime) -> Result<(), Fail> {
-    // a long has no room where an int has
-    for more in ["ldc_w 1\nldc_w 2\nldc_w 3\n", "ldc_w 1\nldc2_w 2\n"] {
-        let text = with_longs(rt.alloc(), 16_381, more)?;
-        assert!(rt; begins(rt.alloc(), &text, b"A3")?, "{more}");
-    }
-    Ok(())
-}
-
-/// A table of 10,000 keys, each with a label of its own, and as many instructions.
-fn many_labels(alloc: Global) -> Result<String, Fail> {
-    let mut lines = String::from_str(alloc, "iconst_0\ntableswitch 0\n")?;
-    for number in 0u32..10000 {
-        lines.push_str(&format!(in alloc; "L{number}\n")?)?;
-    }
-    lines.push_str("default : L0\n")?;
-    for number in 0u32..10000 {
-        lines.push_str(&format!(in alloc; "L{number}:\nnop\n")?)?;
-    }
-    Ok(lines)
-}
-
-#[test]
-fn a_switch_has_10000_labels(rt: HostRuntime) -> Result<(), Fail> {
-    let text = main_with(rt.alloc(), &many_labels(rt.alloc())?, 0, "")?;
-    // The class file has 74 bytes before the code's length, 50,016: an int, `tableswitch`, pads of 2, the default, two
-    // bounds, 10,000 ways and as many instructions. The last label's instruction stands 10,000 - 1 bytes behind the switch,
-    // which takes 40,015 from pc 1 on.
-    assert!(rt; has_at(rt.alloc(), &text, 74, "0000c360")?);
-    assert!(rt; has_at(rt.alloc(), &text, 78 + 40012, "0000c35e")?);
-    Ok(())
+    compare_pools(&rt, rt.alloc(), PAST_FULL)
 }
 
 /// Whether the instructions of a listing's first method stand at these pcs, each with that behind it.
@@ -270,13 +342,15 @@ fn has_pcs(listing: &Listing, pcs: &[(u16, u16)]) -> bool {
         && places.all(|(placed, pcs)| (placed.pc, placed.next) == *pcs)
 }
 
+const FIVE: &[u8] =
+    b".class A\n.super B\n.method static main()V\n.limit stack 2\n.limit locals 0\nldc 2147483647\niconst_1\niadd\ninvokestatic vm/Sys/print(I)V\nreturn\n.end method\n";
+
 #[test]
 fn a_listing_has_pcs_and_widths(rt: HostRuntime) -> Result<(), Fail> {
-    let text =
-        b".class A\n.super B\n.method static main()V\n.limit stack 2\n.limit locals 0\nldc 2147483647\niconst_1\niadd\ninvokestatic vm/Sys/print(I)V\nreturn\n.end method\n";
     let pcs = [(0, 2), (2, 3), (3, 4), (4, 7), (7, 8)];
-    let tree = read(rt.alloc(), text)?;
-    assert!(rt; has_pcs(&listing(rt.alloc(), &tree)?, &pcs));
-    assert!(rt; has_pcs(&assemble(rt.alloc(), &tree)?.listing, &pcs));
+    let tree = read(rt.alloc(), FIVE)?;
+    let made = assemble(rt.alloc(), &tree)?;
+    let listing = listing(rt.alloc(), &tree)?;
+    assert!(rt; has_pcs(&listing, &pcs) && has_pcs(&made.listing, &pcs));
     Ok(())
 }

@@ -9,7 +9,8 @@ use crate::class_bytes::{E, hex};
 use classfile::{ClassHead, one_head, read};
 use model::class_files::FormatFault;
 use pool::ReadError;
-use std::alloc::Global;
+use std::alloc::{AllocError, Global};
+use std::process::Abort;
 use std::test::*;
 
 /// What stands in E before the count of its pool, its entries, and what stands behind them and before its methods.
@@ -35,114 +36,85 @@ fn e_with(alloc: Global, place: usize, byte: u8) -> Result<Vec<u8>, Fail> {
 }
 
 /// What users are told of these bytes.
-fn told(alloc: Global, bytes: &[u8]) -> Result<String, Fail> {
-    Ok(match read(alloc, bytes) {
-        Ok(_) => String::from_str(alloc, "read")?,
-        Err(error) => error.to_string(alloc)?,
-    })
-}
-
-/// How many bytes there are.
-fn length(bytes: &[u8]) -> Result<u32, Fail> {
-    Ok(u32::try_from(bytes.len()).ok().ok_or("too many bytes")?)
-}
-
-/// What stands in a Code attribute with no room for values: this code, and what is behind it.
-fn info(alloc: Global, code: &[u8], tail: &str) -> Result<Vec<u8>, Fail> {
-    let mut info = Vec::from_slice(alloc, &[0, 0, 0, 0])?;
-    info.extend_from_slice(&length(code)?.to_be_bytes())?;
-    info.extend_from_slice(code)?;
-    info.extend_from_slice(&hex(alloc, tail)?)?;
-    Ok(info)
+fn told(alloc: Global, bytes: &[u8]) -> Result<String, AllocError> {
+    match read(alloc, bytes) {
+        Ok(_) => String::from_str(alloc, "read"),
+        Err(error) => error.to_string(alloc),
+    }
 }
 
 /// E with more entries behind its seven, so that the pool's count is this, and with other methods behind their count.
-fn other_e(alloc: Global, count: u8, entries: &str, methods: &[u8]) -> Result<Vec<u8>, Fail> {
-    let mut bytes = hex(alloc, OPENING)?;
-    bytes.extend_from_slice(&[0, count])?;
-    bytes.extend_from_slice(&hex(alloc, E_ENTRIES)?)?;
-    bytes.extend_from_slice(&hex(alloc, entries)?)?;
-    bytes.extend_from_slice(&hex(alloc, E_CLASS)?)?;
-    bytes.extend_from_slice(methods)?;
-    bytes.extend_from_slice(&[0, 0])?;
-    Ok(bytes)
+fn other_e(alloc: Global, count: u8, entries: &str, methods: &str) -> Result<Vec<u8>, Fail> {
+    let digits = format!(in alloc;
+        "{OPENING} 00{count:02x} {E_ENTRIES} {entries} {E_CLASS} {methods} 0000"
+    )?;
+    hex(alloc, digits.as_str())
 }
 
-/// E's method with these flags and attributes behind their count.
-fn method(alloc: Global, flags: u16, attributes: &[u8]) -> Result<Vec<u8>, Fail> {
-    let mut bytes = Vec::from_slice(alloc, &[0, 1])?;
-    bytes.extend_from_slice(&flags.to_be_bytes())?;
-    bytes.extend_from_slice(&[0, 5, 0, 6])?;
-    bytes.extend_from_slice(attributes)?;
-    Ok(bytes)
-}
-
-/// A Code attribute with this in it.
-fn attribute(alloc: Global, info: &[u8]) -> Result<Vec<u8>, Fail> {
-    let mut bytes = Vec::from_slice(alloc, &[0, 7])?;
-    bytes.extend_from_slice(&length(info)?.to_be_bytes())?;
-    bytes.extend_from_slice(info)?;
-    Ok(bytes)
-}
-
-/// E with other entries behind its own, and with this in the Code attribute of its method.
-fn with_info(alloc: Global, count: u8, entries: &str, info: &[u8]) -> Result<Vec<u8>, Fail> {
-    let mut attributes = Vec::from_slice(alloc, &[0, 1])?;
-    attributes.extend_from_slice(&attribute(alloc, info)?)?;
-    other_e(alloc, count, entries, &method(alloc, 9, &attributes)?)
-}
-
-/// E with this code.
-fn with_code(alloc: Global, code: &[u8]) -> Result<Vec<u8>, Fail> {
-    with_info(alloc, 8, "", &info(alloc, code, "0000 0000")?)
-}
-
-fn fault(rt: &impl Alloc<A = Global>, bytes: &[u8]) -> Option<FormatFault> {
-    match ClassHead::read(rt.alloc(), bytes) {
+fn fault(alloc: Global, bytes: &[u8]) -> Option<FormatFault> {
+    match ClassHead::read(alloc, bytes) {
         Err(ReadError::Format(fault)) => Some(fault),
         _ => None,
     }
 }
 
+/// How many bytes stand behind the head of these, and the head as it is written again.
+fn head_again(alloc: Global, bytes: &[u8]) -> Result<(usize, Vec<u8>), Fail> {
+    let (head, rest) = ClassHead::read(alloc, bytes)?;
+    let mut written = Vec::new(alloc);
+    head.write(&mut written)?;
+    Ok((rest.len(), written))
+}
+
 #[test]
 fn the_head_of_e(rt: HostRuntime) -> Result<(), Fail> {
     let bytes = e(rt.alloc())?;
-    let (head, rest) = ClassHead::read(rt.alloc(), &bytes)?;
-    assert_eq!(rt; bytes.get(69..), Some(rest));
-    let mut written = Vec::new(rt.alloc());
-    head.write(&mut written)?;
-    assert_eq!(rt; bytes.get(..69), Some(written.as_slice()));
+    let (behind, written) = head_again(rt.alloc(), &bytes)?;
+    assert!(rt; behind == 31 && bytes.get(..69) == Some(written.as_slice()));
     one_head();
     Ok(())
 }
 
-#[test]
-fn heads_that_are_cut(rt: HostRuntime) -> Result<(), Fail> {
-    let bytes = e(rt.alloc())?;
+/// Whether the first bytes, up to a head's end, are each time too few for a head.
+fn is_short(alloc: Global, bytes: &[u8]) -> bool {
     for len in 0..69usize {
-        let front = bytes.get(..len).ok_or("no front")?;
-        assert_eq!(rt; fault(&rt, front), Some(FormatFault::Short));
+        let Some(front) = bytes.get(..len) else {
+            return false;
+        };
+        if fault(alloc, front) != Some(FormatFault::Short) {
+            return false;
+        }
     }
-    Ok(())
+    true
 }
 
 #[test]
+fn heads_that_are_cut(rt: HostRuntime) -> Result<(), Fail> {
+    assert!(rt; is_short(rt.alloc(), &e(rt.alloc())?));
+    Ok(())
+}
+
+/// A place in E, another byte that is there, and what is wrong with the head then.
+const CHANGES: &[(usize, u8, Option<FormatFault>)] = &[
+    (0, 0, Some(FormatFault::Magic)),
+    (5, 1, Some(FormatFault::Version)),
+    (7, 0, Some(FormatFault::Version)),
+    (9, 0, Some(FormatFault::Index)),
+    (9, 0xff, Some(FormatFault::Tag)),
+    // final and abstract, an interface that isn't abstract, and a bit that no class has
+    (59, 0x04, None),
+    (59, 0x02, Some(FormatFault::Flags)),
+    (60, 0x02, Some(FormatFault::Flags)),
+    // no superclass, and one that is a text
+    (64, 0, Some(FormatFault::Index)),
+    (64, 3, Some(FormatFault::Index)),
+];
+
+#[test]
 fn changed_bytes(rt: HostRuntime) -> Result<(), Fail> {
-    for (place, byte, answer) in [
-        (0usize, 0u8, Some(FormatFault::Magic)),
-        (5, 1, Some(FormatFault::Version)),
-        (7, 0, Some(FormatFault::Version)),
-        (9, 0, Some(FormatFault::Index)),
-        (9, 0xff, Some(FormatFault::Tag)),
-        // final and abstract, an interface that isn't abstract, and a bit that no class has
-        (59, 0x04, None),
-        (59, 0x02, Some(FormatFault::Flags)),
-        (60, 0x02, Some(FormatFault::Flags)),
-        // no superclass, and one that is a text
-        (64, 0, Some(FormatFault::Index)),
-        (64, 3, Some(FormatFault::Index)),
-    ] {
-        assert_eq!(rt; fault(&rt, &e_with(rt.alloc(), place, byte)?), answer);
+    for (place, byte, answer) in CHANGES {
+        let bytes = e_with(rt.alloc(), *place, *byte)?;
+        assert!(rt; fault(rt.alloc(), &bytes) == *answer, "{place} {byte}");
     }
     Ok(())
 }
@@ -153,38 +125,39 @@ const A_FRONT: &str = "cafebabe 0000 0031 000a 01000141 070001 0100014f 070003 0
 
 /// The class A whose field is static or not, deprecated, and has a value.
 fn one_field(alloc: Global, flags: &str, length: &str, value: &str) -> Result<Vec<u8>, Fail> {
-    let mut bytes = hex(alloc, A_FRONT)?;
-    let field = format!(in alloc;
-        "{flags} 0005 0006 0002 0009 00000000 0007 {length} {value} 0000 0000 00000000 00000000 0000"
+    let digits = format!(in alloc;
+        "{A_FRONT} {flags} 0005 0006 0002 0009 00000000 0007 {length} {value} 0000 0000 00000000 00000000 0000"
     )?;
-    bytes.extend_from_slice(&hex(alloc, field.as_str())?)?;
-    Ok(bytes)
+    hex(alloc, digits.as_str())
 }
 
 #[test]
 fn a_field_is_written(rt: HostRuntime) -> Result<(), Fail> {
     let bytes = one_field(rt.alloc(), "0008", "00000002", "0008")?;
-    let (head, rest) = ClassHead::read(rt.alloc(), &bytes)?;
-    assert_eq!(rt; rest.len(), 14);
-    let mut written = Vec::new(rt.alloc());
-    head.write(&mut written)?;
+    let (behind, written) = head_again(rt.alloc(), &bytes)?;
     // the attribute Deprecated is left out, and the count of attributes is one less
-    assert_eq!(rt; (written.len(), written.get(83).copied()), (92, Some(1)));
+    assert!(rt; behind == 14 && written.len() == 92 && written.get(83) == Some(&1));
     Ok(())
 }
 
+/// The flags of the field, the length of its value's attribute, and the value; and what is wrong with the head then.
+const FIELDS: &[(&str, &str, &str, Option<FormatFault>)] = &[
+    ("0008", "00000002", "0008", None),
+    // another length, a value that is a class, a field that isn't static, and a bit that no field has
+    ("0008", "00000003", "0008", Some(FormatFault::Attribute)),
+    ("0008", "00000002", "0002", Some(FormatFault::Index)),
+    ("0000", "00000002", "0002", None),
+    ("0028", "00000002", "0008", Some(FormatFault::Flags)),
+];
+
 #[test]
 fn fields(rt: HostRuntime) -> Result<(), Fail> {
-    for (flags, length, value, answer) in [
-        ("0008", "00000002", "0008", None),
-        // another length, a value that is a class, a field that isn't static, and a bit that no field has
-        ("0008", "00000003", "0008", Some(FormatFault::Attribute)),
-        ("0008", "00000002", "0002", Some(FormatFault::Index)),
-        ("0000", "00000002", "0002", None),
-        ("0028", "00000002", "0008", Some(FormatFault::Flags)),
-    ] {
+    for (flags, length, value, answer) in FIELDS {
         let bytes = one_field(rt.alloc(), flags, length, value)?;
-        assert_eq!(rt; fault(&rt, &bytes), answer);
+        assert!(rt;
+            fault(rt.alloc(), &bytes) == *answer,
+            "{flags} {length} {value}"
+        );
     }
     Ok(())
 }

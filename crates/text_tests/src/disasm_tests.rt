@@ -1,12 +1,9 @@
 //! Class files by hand, and their texts by the grammar.
 
 use crate::class_bytes::{E, TEXT_OF_E, hex};
-use bitflags::Flags;
 use classfile::{ClassFile, read};
 use disasm::{again, disassemble, text, texts_come_back, tree};
-use model::flags::ClassFlags;
 use model::listings::Listing;
-use model::names::Name;
 use model::trees::ClassTree;
 use std::alloc::Global;
 use std::test::Fail;
@@ -95,26 +92,15 @@ fn file_of(alloc: Global, digits: &str) -> Result<ClassFile, Fail> {
     Ok(read(alloc, hex(alloc, digits)?.as_slice())?)
 }
 
-/// Whether a class file, given in hexadecimal digits, has this text.
-fn has_text(alloc: Global, digits: &str, wanted: &str) -> Result<bool, Fail> {
-    let found = disassemble(alloc, &file_of(alloc, digits)?)?;
-    Ok(found.as_slice() == wanted.as_bytes())
+/// Whether a class file has this text.
+fn has_text(alloc: Global, file: &ClassFile, wanted: &str) -> Result<bool, Fail> {
+    Ok(disassemble(alloc, file)?.as_slice() == wanted.as_bytes())
 }
 
 /// Whether the class file that is made of a class file's text has this text too.
-fn comes_back(alloc: Global, digits: &str, wanted: &str) -> Result<bool, Fail> {
-    let made = again(alloc, &file_of(alloc, digits)?)?;
-    let found = disassemble(alloc, &made)?;
-    Ok(found.as_slice() == wanted.as_bytes())
-}
-
-#[test]
-fn class_files_have_these_texts(rt: HostRuntime) -> Result<(), Fail> {
-    for (digits, wanted) in [(E, TEXT_OF_E), (R, TEXT_OF_R)] {
-        assert!(rt; has_text(rt.alloc(), digits, wanted)?, "{wanted}");
-        assert!(rt; comes_back(rt.alloc(), digits, wanted)?, "{wanted}");
-    }
-    Ok(())
+fn comes_back(alloc: Global, file: &ClassFile, wanted: &str) -> Result<bool, Fail> {
+    let made = again(alloc, file)?;
+    has_text(alloc, &made, wanted)
 }
 
 /// Whether a tree has R's name and so many parts as R.
@@ -126,29 +112,35 @@ fn is_of_r(tree: &ClassTree) -> bool {
 }
 
 #[test]
-fn a_class_file_has_the_tree_of_its_text(rt: HostRuntime) -> Result<(), Fail> {
-    let found = tree(rt.alloc(), &file_of(rt.alloc(), R)?)?;
-    assert!(rt; is_of_r(&found));
+fn class_files_have_these_texts(rt: HostRuntime) -> Result<(), Fail> {
+    for (digits, wanted) in [(E, TEXT_OF_E), (R, TEXT_OF_R)] {
+        let file = file_of(rt.alloc(), digits)?;
+        assert!(rt; has_text(rt.alloc(), &file, wanted)?, "{wanted}");
+        assert!(rt; comes_back(rt.alloc(), &file, wanted)?, "{wanted}");
+    }
     Ok(())
 }
 
-/// An interface with nothing in it.
-fn interface(alloc: Global) -> Result<Listing, Fail> {
-    Ok(Listing {
-        name: Name::copy_of(alloc, b"a/I")?,
-        flags: ClassFlags::from_bits_retain(0x0601),
-        superclass: Name::copy_of(alloc, b"java/lang/Object")?,
-        interfaces: Vec::new(alloc),
-        fields: Vec::new(alloc),
-        methods: Vec::new(alloc),
-    })
+#[test]
+fn a_class_file_has_the_tree_of_its_text(rt: HostRuntime) -> Result<(), Fail> {
+    let file = file_of(rt.alloc(), R)?;
+    assert!(rt; is_of_r(&tree(rt.alloc(), &file)?));
+    Ok(())
+}
+
+/// An interface of two lines.
+const INTERFACE: &str = ".interface public a/I\n.super java/lang/Object\n";
+
+/// The listing of a text.
+fn listed(alloc: Global, text: &str) -> Result<Listing, Fail> {
+    let tree = jasmin::read(alloc, text.as_bytes())?;
+    Ok(assembler::listing(alloc, &tree)?)
 }
 
 #[test]
 fn an_interface_of_two_lines(rt: HostRuntime) -> Result<(), Fail> {
-    let wanted = ".interface public a/I\n.super java/lang/Object\n";
-    let found = text(rt.alloc(), &interface(rt.alloc())?)?;
-    assert_eq!(rt; found.as_slice(), wanted.as_bytes());
+    let listing = listed(rt.alloc(), INTERFACE)?;
+    assert!(rt; text(rt.alloc(), &listing)?.as_slice() == INTERFACE.as_bytes());
     texts_come_back();
     Ok(())
 }

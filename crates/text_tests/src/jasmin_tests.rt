@@ -1,11 +1,12 @@
 //! Texts with the tree or the refusal that the syntax gives them.
 
+use crate::class_bytes::TEXT_OF_E;
 use bitflags::Flags;
 use jasmin::{Fault, TextError, read, texts_are_spelled};
 use model::flags::ClassFlags;
 use model::listings::{Constant, Field};
 use model::trees::{ClassTree, MethodTree};
-use std::alloc::Global;
+use std::alloc::{AllocError, Global};
 use std::process::Abort;
 use std::test::Fail;
 
@@ -229,59 +230,51 @@ M|foo|bar\x01|Z => J2 at line 6
 M|nop\t; all right|; nothing|\t|Z => read
 ";
 
-/// Adds a line of a row to a text.
-fn add(text: &mut String, line: &str) -> Result<(), Fail> {
-    if line == "H" {
-        text.push_str(HEAD)?;
-    } else if line == "I" {
-        text.push_str(INTERFACE)?;
-    } else if line == "M" {
-        text.push_str(METHOD)?;
-    } else if line == "Z" {
-        text.push_str(END)?;
-    } else {
-        text.push_str(line)?;
+/// What a line of a row stands for.
+fn line_of(line: &str) -> &str {
+    match line {
+        "H" => HEAD,
+        "I" => INTERFACE,
+        "M" => METHOD,
+        "Z" => END,
+        _ => line,
     }
-    Ok(())
 }
 
 /// The text of a row.
-fn text_of(alloc: Global, row: &str) -> Result<String, Fail> {
+fn text_of(alloc: Global, row: &str) -> Result<String, AllocError> {
     let mut text = String::new(alloc);
-    let mut rest = row;
-    for _ in 0..row.len() {
-        let Some((line, behind)) = rest.split_once("|") else {
-            break;
-        };
-        add(&mut text, line)?;
-        text.push_str("\n")?;
-        rest = behind;
+    let mut is_behind = false;
+    for line in row.split("|") {
+        if is_behind {
+            text.push_str("\n")?;
+        }
+        text.push_str(line_of(line))?;
+        is_behind = true;
     }
-    add(&mut text, rest)?;
     Ok(text)
 }
 
 /// What becomes of a text: it is read, or refused.
-fn outcome(alloc: Global, text: &str) -> Result<String, Fail> {
+fn outcome(alloc: Global, text: &str) -> Result<String, AllocError> {
     match read(alloc, text.as_bytes()) {
-        Ok(_) => Ok(format!(in alloc; "read")?),
-        Err(error) => Ok(format!(in alloc; "{error}")?),
+        Ok(_) => String::from_str(alloc, "read"),
+        Err(error) => error.to_string(alloc),
     }
+}
+
+fn outcome_of_row(alloc: Global, row: &str) -> Result<String, AllocError> {
+    let text = text_of(alloc, row)?;
+    outcome(alloc, text.as_str())
 }
 
 /// Reads the text of each row.
 fn compare(rt: &impl Abort, alloc: Global, rows: &str) -> Result<(), Fail> {
-    let mut rest = rows;
-    for _ in 0..rows.len() {
-        let Some((row, behind)) = rest.split_once("\n") else {
-            break;
-        };
+    for row in rows.lines() {
         let (text, expected) = row.split_once(" => ").ok_or("no row")?;
-        let found = outcome(alloc, text_of(alloc, text)?.as_str())?;
-        assert_eq!(rt; (text, found.as_str()), (text, expected));
-        rest = behind;
+        let found = outcome_of_row(alloc, text)?;
+        assert!(rt; found.as_str() == expected, "{text}: {found}");
     }
-    assert_eq!(rt; rest, "");
     Ok(())
 }
 
@@ -315,9 +308,7 @@ fn is_smallest_class(tree: &ClassTree) -> bool {
 
 #[test]
 fn the_smallest_program_is_read(rt: HostRuntime) -> Result<(), Fail> {
-    let text =
-        ".class public E\n.super java/lang/Object\n.method public static main()V\n.limit stack 0\n.limit locals 0\nreturn\n.end method\n";
-    let tree = read(rt.alloc(), text.as_bytes())?;
+    let tree = read(rt.alloc(), TEXT_OF_E.as_bytes())?;
     assert!(rt; is_smallest_class(&tree));
     texts_are_spelled();
     Ok(())
@@ -359,76 +350,124 @@ fn is_interface(tree: &ClassTree) -> bool {
         && is_field(none, "none", "La/I;", 0x0099, None)
 }
 
+const TWO_FIELDS: &str =
+    ".interface public a/I\n.super java/lang/Object\n.implements a/J\n.implements K\n.field public static final least J = -9223372036854775808\n.field public static final transient none La/I;\n.method public abstract m(J)I\n.end method\n";
+
 #[test]
 fn an_interface_has_superinterfaces_and_values(rt: HostRuntime) -> Result<(), Fail> {
-    let text =
-        ".interface public a/I\n.super java/lang/Object\n.implements a/J\n.implements K\n.field public static final least J = -9223372036854775808\n.field public static final transient none La/I;\n.method public abstract m(J)I\n.end method\n";
-    let tree = read(rt.alloc(), text.as_bytes())?;
+    let tree = read(rt.alloc(), TWO_FIELDS.as_bytes())?;
     assert!(rt; is_interface(&tree));
     Ok(())
 }
 
-/// A piece, so many times.
-fn repeated(alloc: Global, piece: &str, count: usize) -> Result<String, Fail> {
-    let mut text = String::new(alloc);
-    for _ in 0..count {
-        text.push_str(piece)?;
+/// A text of a head and lines that are all alike: what begins each, a piece so many times, and what ends it.
+#[derive(Clone, Copy)]
+struct Long {
+    head: &'static str,
+    lines: usize,
+    begin: &'static str,
+    piece: &'static str,
+    count: usize,
+    end: &'static str,
+}
+
+macro_rules! long {
+    ($head:expr, $lines:expr, $begin:expr, $piece:expr, $count:expr, $end:expr) => {
+        Long {
+            head: $head,
+            lines: $lines,
+            begin: $begin,
+            piece: $piece,
+            count: $count,
+            end: $end,
+        }
+    };
+}
+
+/// Fifteen letters, which 4,369 times are a name of 65,535 bytes.
+const LETTERS: &str = "aaaaaaaaaaaaaaa";
+
+/// Texts with what becomes of them.
+const LONG: &[(Long, &str)] = &[
+    // arguments have 255 units at most, with the object on which a method is called
+    (long!(HEAD, 1, ".method f(", "J", 127, ")V"), "J6 at line 4"),
+    (
+        long!(HEAD, 1, ".method f(", "J", 127, "I)V"),
+        "J3 at line 3",
+    ),
+    (
+        long!(HEAD, 1, ".method static f(", "J", 127, "I)V"),
+        "J6 at line 4",
+    ),
+    (
+        long!(HEAD, 1, ".method static f(", "J", 127, "J)V"),
+        "J3 at line 3",
+    ),
+    (
+        long!(
+            METHOD,
+            1,
+            "invokevirtual E/f(",
+            "J",
+            127,
+            "I)V\nreturn\n.end method"
+        ),
+        "read",
+    ),
+    // names have 65,535 bytes at most, and labels may have more
+    (long!(HEAD, 1, ".implements ", LETTERS, 4369, ""), "read"),
+    (
+        long!(HEAD, 1, ".implements ", LETTERS, 4369, "a"),
+        "J3 at line 3",
+    ),
+    (long!(HEAD, 1, ".field ", LETTERS, 4369, " I"), "read"),
+    (
+        long!(HEAD, 1, ".field ", LETTERS, 4369, "a I"),
+        "J3 at line 3",
+    ),
+    (
+        long!(METHOD, 1, "", LETTERS, 4369, "a:\nreturn\n.end method"),
+        "read",
+    ),
+    // there may be more than two million bytes of names
+    (long!(HEAD, 40, ".implements ", LETTERS, 4369, ""), "read"),
+];
+
+/// Adds a line to a text.
+fn add_line(text: &mut String, long: Long) -> Result<(), AllocError> {
+    text.push_str("\n")?;
+    text.push_str(long.begin)?;
+    for _ in 0..long.count {
+        text.push_str(long.piece)?;
     }
-    Ok(text)
+    text.push_str(long.end)
+}
+
+fn outcome_of_long(alloc: Global, long: Long) -> Result<String, AllocError> {
+    let mut text = String::from_str(alloc, long.head)?;
+    for _ in 0..long.lines {
+        add_line(&mut text, long)?;
+    }
+    text.push_str("\n")?;
+    outcome(alloc, text.as_str())
 }
 
 #[test]
-fn arguments_have_255_units_with_the_object(rt: HostRuntime) -> Result<(), Fail> {
-    let longs = repeated(rt.alloc(), "J", 127)?;
-    for (flags, more, expected) in [
-        ("", "", "J6 at line 4"),
-        ("", "I", "J3 at line 3"),
-        ("static ", "I", "J6 at line 4"),
-        ("static ", "J", "J3 at line 3"),
-    ] {
-        let text = format!(in rt.alloc(); "{HEAD}\n.method {flags}f({longs}{more})V\n")?;
-        assert_eq!(rt; outcome(rt.alloc(), text.as_str())?.as_str(), expected);
+fn long_texts(rt: HostRuntime) -> Result<(), AllocError> {
+    for (long, expected) in LONG {
+        let found = outcome_of_long(rt.alloc(), *long)?;
+        assert!(rt; found.as_str() == *expected, "{}: {found}", long.begin);
     }
-    let text = format!(in rt.alloc(); "{METHOD}\ninvokevirtual E/f({longs}I)V\n{END}")?;
-    assert_eq!(rt; outcome(rt.alloc(), text.as_str())?.as_str(), "read");
     Ok(())
 }
 
 #[test]
-fn names_have_65535_bytes_and_labels_more(rt: HostRuntime) -> Result<(), Fail> {
-    let name = repeated(rt.alloc(), "aaaaaaaaaaaaaaa", 4369)?;
-    for (head, before, more, behind, expected) in [
-        (HEAD, ".implements ", "", "", "read"),
-        (HEAD, ".implements ", "a", "", "J3 at line 3"),
-        (HEAD, ".field ", "", " I", "read"),
-        (HEAD, ".field ", "a", " I", "J3 at line 3"),
-        (METHOD, "", "a", ":\nreturn\n.end method", "read"),
-    ] {
-        let text = format!(in rt.alloc(); "{head}\n{before}{name}{more}{behind}\n")?;
-        assert_eq!(rt; outcome(rt.alloc(), text.as_str())?.as_str(), expected);
-    }
-    Ok(())
-}
-
-/// There may be more than two million bytes of names.
-#[test]
-fn names_are_many(rt: HostRuntime) -> Result<(), Fail> {
-    let name = repeated(rt.alloc(), "aaaaaaaaaaaaaaa", 4369)?;
-    let line = format!(in rt.alloc(); ".implements {name}\n")?;
-    let lines = repeated(rt.alloc(), line.as_str(), 40)?;
-    let text = format!(in rt.alloc(); "{HEAD}\n{lines}")?;
-    assert_eq!(rt; outcome(rt.alloc(), text.as_str())?.as_str(), "read");
-    Ok(())
-}
-
-#[test]
-fn a_refusal_prints_its_number_and_line(rt: HostRuntime) -> Result<(), Fail> {
+fn a_refusal_prints_its_number_and_line(rt: HostRuntime) -> Result<(), AllocError> {
     let error = TextError {
         line: 6,
         fault: Fault::Label,
     };
-    let printed = format!(in rt.alloc(); "{error}")?;
-    assert_eq!(rt; printed.as_str(), "J5 at line 6");
-    assert_eq!(rt; Fault::Memory.number(), 9);
+    let printed = error.to_string(rt.alloc())?;
+    assert!(rt; printed.as_str() == "J5 at line 6" && Fault::Memory.number() == 9);
     Ok(())
 }

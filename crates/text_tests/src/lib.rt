@@ -16,6 +16,8 @@ mod disasm_tests;
 #[cfg(test)]
 mod jasmin_tests;
 #[cfg(test)]
+mod jasmin_words_tests;
+#[cfg(test)]
 mod model_tests;
 #[cfg(test)]
 mod opcodes_tests;

@@ -8,62 +8,75 @@ use model::journals::{HeapShape, Journal, Limits, Outcome, Row};
 use model::names::Name;
 use model::turns::{Actor, Fault};
 use model::values::Kind;
+use std::alloc::Global;
 use std::test::Fail;
+
+/// A name, made of bytes and then shared.
+fn shared(alloc: Global, bytes: &[u8]) -> Result<Name, Fail> {
+    let made = Name::new(bytes.to_vec(alloc)?)?;
+    Ok(made.share()?)
+}
 
 #[test]
 fn names_are_kept(rt: HostRuntime) -> Result<(), Fail> {
     let copied = Name::copy_of(rt.alloc(), b"vm/Sys")?;
-    assert!(rt; copied.is("vm/Sys"));
-    assert!(rt; !copied.is("vm/Sy"));
-    let made = Name::new(copied.as_bytes().to_vec(rt.alloc())?)?;
-    assert_eq!(rt; made.as_bytes(), b"vm/Sys".as_slice());
-    let shared = made.share()?;
-    assert!(rt; shared == copied);
+    let shared = shared(rt.alloc(), copied.as_bytes())?;
+    let is_kept = copied.is("vm/Sys") && !copied.is("vm/Sy") && shared == copied;
+    assert!(rt; is_kept && shared.as_bytes() == b"vm/Sys".as_slice());
     Ok(())
+}
+
+const SHAPE: HeapShape = HeapShape {
+    small: 2,
+    medium: 0,
+    large: 0,
+};
+
+const LIMITS: Limits = Limits {
+    steps: 2,
+    output: 0,
+};
+
+const FIRST: Row = Row {
+    actor: Actor::Thread(0),
+    outcome: Outcome::Done,
+    worker: 0,
+};
+
+const SECOND: Row = Row {
+    actor: Actor::Collector,
+    outcome: Outcome::Fault,
+    worker: 0,
+};
+
+/// Whether a journal has two rows, in order, and all that it was made with.
+fn has_noted(journal: &Journal) -> bool {
+    journal.rows() == [FIRST, SECOND].as_slice()
+        && journal.shape() == SHAPE
+        && journal.limits() == LIMITS
+        && journal.workers() == 1
 }
 
 #[test]
 fn rows_are_noted_in_order(rt: HostRuntime) -> Result<(), Fail> {
-    let shape = HeapShape {
-        small: 2,
-        medium: 0,
-        large: 0,
-    };
-    let limits = Limits {
-        steps: 2,
-        output: 0,
-    };
-    let mut journal = Journal::new(rt.alloc(), shape, limits, 1)?;
-    let first = Row {
-        actor: Actor::Thread(0),
-        outcome: Outcome::Done,
-        worker: 0,
-    };
-    let second = Row {
-        actor: Actor::Collector,
-        outcome: Outcome::Fault,
-        worker: 0,
-    };
-    journal.note(first);
-    journal.note(second);
-    assert_eq!(rt; journal.rows(), [first, second].as_slice());
-    assert_eq!(rt; journal.shape(), shape);
-    assert_eq!(rt; journal.limits(), limits);
-    assert_eq!(rt; journal.workers(), 1);
+    let mut journal = Journal::new(rt.alloc(), SHAPE, LIMITS, 1)?;
+    journal.note(FIRST);
+    journal.note(SECOND);
+    assert!(rt; has_noted(&journal));
     Ok(())
 }
 
 #[test]
 fn faults_print_as_users_know_them(rt: HostRuntime) -> Result<(), Fail> {
-    let first = Fault::StackEmpty;
-    let last = Fault::MonitorLimit;
-    assert_eq!(rt; format!(in rt.alloc(); "{first}")?.as_str(), "F1");
-    assert_eq!(rt; format!(in rt.alloc(); "{last}")?.as_str(), "F10");
+    for (fault, printed) in [(Fault::StackEmpty, "F1"), (Fault::MonitorLimit, "F10")] {
+        let found = format!(in rt.alloc(); "{fault}")?;
+        assert!(rt; found.as_str() == printed);
+    }
     Ok(())
 }
 
 /// Words, and whether each is a class's, a field's and a method's name (JVMS 4.2).
-const NAMES: [(&str, bool, bool, bool); 12] = [
+const NAMES: &[(&str, bool, bool, bool)] = &[
     ("", false, false, false),
     ("a", true, true, true),
     ("$_1", true, true, true),
@@ -78,22 +91,15 @@ const NAMES: [(&str, bool, bool, bool); 12] = [
     ("<main>", false, false, false),
 ];
 
-#[test]
-fn names(rt: HostRuntime) {
-    for (text, class, field, method) in NAMES {
-        let word = text.as_bytes();
-        let is = (
-            is_class_name(word),
-            is_field_name(word),
-            is_method_name(word),
-        );
-        assert_eq!(rt; is, (class, field, method));
-        assert_eq!(rt; is_part(word), field);
-    }
+fn is_name_of(word: &[u8], class: bool, field: bool, method: bool) -> bool {
+    is_class_name(word) == class
+        && is_field_name(word) == field
+        && is_method_name(word) == method
+        && is_part(word) == field
 }
 
 /// Words, and the kind of a value of each that is a field's descriptor (JVMS 4.3.2): one type of the profile.
-const FIELD_DESCRIPTORS: [(&str, Option<Kind>); 18] = [
+const FIELD_DESCRIPTORS: &[(&str, Option<Kind>)] = &[
     ("", None),
     ("B", Some(Kind::Int)),
     ("C", Some(Kind::Int)),
@@ -114,30 +120,22 @@ const FIELD_DESCRIPTORS: [(&str, Option<Kind>); 18] = [
     ("La;;", None),
 ];
 
-#[test]
-fn field_descriptors(rt: HostRuntime) {
-    for (text, kind) in FIELD_DESCRIPTORS {
-        let word = text.as_bytes();
-        assert_eq!(rt; is_field_descriptor(word), kind.is_some());
-        let told = kind.map(|_| descriptor_kind(word));
-        assert_eq!(rt; told, kind);
-        assert_eq!(rt; is_int_type(word), kind == Some(Kind::Int));
-        assert_eq!(rt; is_long_type(word), text == "J");
-        let array = kind.is_some() && text.starts_with('[');
-        assert_eq!(rt; is_array_descriptor(word), array);
-    }
-}
-
-#[test]
-fn an_array_has_255_dimensions_at_most(rt: HostRuntime) {
-    let mut word = [b'['; 257];
-    word[256] = b'I';
-    assert!(rt; is_array_descriptor(&word[1..]));
-    assert!(rt; !is_array_descriptor(&word));
+fn describes_field(text: &str, kind: Option<Kind>) -> bool {
+    let word = text.as_bytes();
+    let is_array = kind.is_some() && text.starts_with('[');
+    let is_kind = match kind {
+        Some(kind) => descriptor_kind(word) == kind,
+        None => true,
+    };
+    is_kind
+        && is_field_descriptor(word) == kind.is_some()
+        && is_int_type(word) == (kind == Some(Kind::Int))
+        && is_long_type(word) == (text == "J")
+        && is_array_descriptor(word) == is_array
 }
 
 /// Words, the units of the arguments of each that is a method's descriptor (JVMS 4.3.3), and the kind of its result.
-const METHOD_DESCRIPTORS: [(&str, Option<usize>, Option<Kind>); 13] = [
+const METHOD_DESCRIPTORS: &[(&str, Option<usize>, Option<Kind>)] = &[
     ("", None, None),
     ("()V", Some(0), None),
     ("()I", Some(0), Some(Kind::Int)),
@@ -153,12 +151,33 @@ const METHOD_DESCRIPTORS: [(&str, Option<usize>, Option<Kind>); 13] = [
     ("()VV", None, None),
 ];
 
+fn describes_method(word: &[u8], units: Option<usize>, kind: Option<Kind>) -> bool {
+    let is_told = match units {
+        Some(units) => argument_units(word) == units && result_kind(word) == kind,
+        None => true,
+    };
+    is_told && arguments_of(word) == units
+}
+
 #[test]
-fn method_descriptors(rt: HostRuntime) {
-    for (text, units, kind) in METHOD_DESCRIPTORS {
-        let word = text.as_bytes();
-        assert_eq!(rt; arguments_of(word), units);
-        let told = units.map(|_| (argument_units(word), result_kind(word)));
-        assert_eq!(rt; told, units.map(|units| (units, kind)));
+fn words_are_names_and_descriptors(rt: HostRuntime) {
+    for (text, class, field, method) in NAMES {
+        assert!(rt;
+            is_name_of(text.as_bytes(), *class, *field, *method),
+            "{text}"
+        );
     }
+    for (text, kind) in FIELD_DESCRIPTORS {
+        assert!(rt; describes_field(text, *kind), "{text}");
+    }
+    for (text, units, kind) in METHOD_DESCRIPTORS {
+        assert!(rt; describes_method(text.as_bytes(), *units, *kind), "{text}");
+    }
+}
+
+#[test]
+fn an_array_has_255_dimensions_at_most(rt: HostRuntime) {
+    let mut word = [b'['; 257];
+    word[256] = b'I';
+    assert!(rt; is_array_descriptor(&word[1..]) && !is_array_descriptor(&word));
 }

@@ -1,5 +1,6 @@
 //! Tests by bytes that `javap` has read, and by hand.
 
+use crate::class_bytes::hex;
 use model::instructions::{
     Constant, FirstLocal, Instruction, Local, LocalAccess, LookupSwitch, TableSwitch, Test, Width,
 };
@@ -10,24 +11,18 @@ use std::test::Fail;
 
 /// The code of a method with each opcode once, and each form behind `wide`: constants first, then locals and so on, as
 /// `javap -c` lists it.
-const CODE: [u8; 312] = [
-    0, 1, 2, 3, 4, 5, 6, 7, 8, 9, 10, 26, 27, 28, 29, 30, 31, 32, 33, 42, 43, 44, 45, 46, 47, 50,
-    51, 52, 53, 59, 60, 61, 62, 63, 64, 65, 66, 75, 76, 77, 78, 79, 80, 83, 84, 85, 86, 87, 88, 89,
-    90, 91, 92, 93, 94, 95, 96, 97, 100, 101, 104, 105, 108, 109, 112, 113, 116, 117, 120, 121,
-    122, 123, 124, 125, 126, 127, 128, 129, 130, 131, 133, 136, 145, 146, 147, 148, 172, 173, 176,
-    177, 190, 191, 194, 195, 16, 133, 17, 254, 12, 18, 14, 19, 0, 14, 20, 0, 15, 21, 200, 22, 200,
-    25, 200, 54, 200, 55, 200, 58, 200, 132, 7, 255, 153, 0, 0, 154, 0, 0, 155, 0, 0, 156, 0, 0,
-    157, 0, 0, 158, 0, 0, 159, 0, 0, 160, 0, 0, 161, 0, 0, 162, 0, 0, 163, 0, 0, 164, 0, 0, 165, 0,
-    0, 166, 0, 0, 167, 0, 0, 198, 0, 0, 199, 0, 0, 200, 0, 0, 0, 0, 178, 0, 8, 179, 0, 8, 180, 0,
-    8, 181, 0, 8, 182, 0, 12, 183, 0, 12, 184, 0, 12, 185, 0, 13, 1, 0, 187, 0, 2, 188, 5, 188, 8,
-    188, 9, 188, 10, 188, 11, 189, 0, 2, 192, 0, 2, 193, 0, 2, 196, 21, 1, 44, 196, 22, 1, 44, 196,
-    25, 1, 44, 196, 54, 1, 44, 196, 55, 1, 44, 196, 58, 1, 44, 196, 132, 1, 44, 254, 12, 170, 0, 0,
-    0, 0, 0, 0, 0, 255, 255, 255, 255, 0, 0, 0, 1, 0, 0, 0, 0, 0, 0, 0, 0, 0, 0, 0, 0, 171, 0, 0,
-    0, 0, 0, 0, 0, 0, 0, 0, 2, 255, 255, 255, 251, 0, 0, 0, 0, 0, 0, 0, 9, 0, 0, 0, 0,
-];
+const CODE: &str = "
+    00 01 02 03 04 05 06 07 08 09 0a 1a 1b 1c 1d 1e 1f 20 21 2a 2b 2c 2d 2e 2f 32 33 34 35 3b 3c 3d 3e 3f 40
+    41 42 4b 4c 4d 4e 4f 50 53 54 55 56 57 58 59 5a 5b 5c 5d 5e 5f 60 61 64 65 68 69 6c 6d 70 71 74 75 78 79
+    7a 7b 7c 7d 7e 7f 80 81 82 83 85 88 91 92 93 94 ac ad b0 b1 be bf c2 c3 1085 11fe0c 120e 13000e 14000f
+    15c8 16c8 19c8 36c8 37c8 3ac8 8407ff 990000 9a0000 9b0000 9c0000 9d0000 9e0000 9f0000 a00000 a10000
+    a20000 a30000 a40000 a50000 a60000 a70000 c60000 c70000 c800000000 b20008 b30008 b40008 b50008 b6000c
+    b7000c b8000c b9000d0100 bb0002 bc05 bc08 bc09 bc0a bc0b bd0002 c00002 c10002 c415012c c416012c c419012c
+    c436012c c437012c c43a012c c484012cfe0c aa00000000000000ffffffff00000001000000000000000000000000
+    ab0000000000000000000002fffffffb000000000000000900000000";
 
 /// Where `javap -c` says that its instructions stand.
-const PCS: [u16; 150] = [
+const PCS: &[u16] = &[
     0, 1, 2, 3, 4, 5, 6, 7, 8, 9, 10, 11, 12, 13, 14, 15, 16, 17, 18, 19, 20, 21, 22, 23, 24, 25,
     26, 27, 28, 29, 30, 31, 32, 33, 34, 35, 36, 37, 38, 39, 40, 41, 42, 43, 44, 45, 46, 47, 48, 49,
     50, 51, 52, 53, 54, 55, 56, 57, 58, 59, 60, 61, 62, 63, 64, 65, 66, 67, 68, 69, 70, 71, 72, 73,
@@ -46,16 +41,23 @@ fn again(alloc: Global, code: Code) -> Result<Vec<u8>, OpError> {
     encode(alloc, &instructions)
 }
 
+fn has_pcs(code: &Code, pcs: &[u16]) -> bool {
+    let mut pcs = pcs.iter();
+    for item in code.as_slice() {
+        if pcs.next() != Some(&item.pc) {
+            return false;
+        }
+    }
+    pcs.next().is_none()
+}
+
 /// Each opcode is read where `javap` sees it, and written again.
 #[test]
 fn opcodes_are_read(rt: HostRuntime) -> Result<(), Fail> {
-    let code = decode(rt.alloc(), &CODE)?;
-    let mut pcs = Vec::new(rt.alloc());
-    for item in code.as_slice() {
-        pcs.push(item.pc)?;
-    }
-    assert_eq!(rt; pcs.as_slice(), PCS.as_slice());
-    assert_eq!(rt; again(rt.alloc(), code)?.as_slice(), CODE.as_slice());
+    let bytes = hex(rt.alloc(), CODE)?;
+    let code = decode(rt.alloc(), &bytes)?;
+    assert!(rt; has_pcs(&code, PCS), "pcs");
+    assert!(rt; again(rt.alloc(), code)?.as_slice() == bytes.as_slice());
     Ok(())
 }
 
@@ -65,109 +67,155 @@ fn refusal(alloc: Global, bytes: &[u8]) -> Option<OpError> {
 }
 
 /// The smallest code of each refusal, and which comes first.
+const REFUSALS: &[(&str, OpError)] = &[
+    ("ba", OpError::Opcode),
+    ("bc04", OpError::Opcode),
+    ("c400", OpError::Opcode),
+    ("b900010107", OpError::Opcode),
+    ("10", OpError::Operand),
+    ("c4", OpError::Operand),
+    ("a70001", OpError::Branch),
+    ("a70003", OpError::Branch),
+    ("a7ffff", OpError::Branch),
+    ("c87fffffff", OpError::Branch),
+    ("aa000001", OpError::Switch),
+    ("", OpError::Length),
+    ("a70001 ba", OpError::Opcode),
+    ("ba 10", OpError::Opcode),
+    // a lookupswitch of 1,000 pairs with keys 5, 2 and then the end; a tableswitch from 5 to 4 and then the end
+    (
+        "ab000000 00000000 000003e8 00000005 00000000 00000002",
+        OpError::Switch,
+    ),
+    ("aa000000 00000000 00000005 00000004", OpError::Switch),
+    ("ab000000 00000000 ffffffff", OpError::Switch),
+];
+
 #[test]
-fn refusals(rt: HostRuntime) {
-    for (bytes, error) in [
-        ([186].as_slice(), OpError::Opcode),
-        ([188, 4].as_slice(), OpError::Opcode),
-        ([196, 0].as_slice(), OpError::Opcode),
-        ([185, 0, 1, 1, 7].as_slice(), OpError::Opcode),
-        ([16].as_slice(), OpError::Operand),
-        ([196].as_slice(), OpError::Operand),
-        ([167, 0, 1].as_slice(), OpError::Branch),
-        ([167, 0, 3].as_slice(), OpError::Branch),
-        ([167, 255, 255].as_slice(), OpError::Branch),
-        ([200, 127, 255, 255, 255].as_slice(), OpError::Branch),
-        ([170, 0, 0, 1].as_slice(), OpError::Switch),
-        ([].as_slice(), OpError::Length),
-        ([167, 0, 1, 186].as_slice(), OpError::Opcode),
-        ([186, 16].as_slice(), OpError::Opcode),
-        // a lookupswitch of 1,000 pairs with keys 5, 2 and then the end; a tableswitch from 5 to 4 and then the end
-        (
-            [
-                171, 0, 0, 0, 0, 0, 0, 0, 0, 0, 3, 232, 0, 0, 0, 5, 0, 0, 0, 0, 0, 0, 0, 2,
-            ]
-            .as_slice(),
-            OpError::Switch,
-        ),
-        (
-            [170, 0, 0, 0, 0, 0, 0, 0, 0, 0, 0, 5, 0, 0, 0, 4].as_slice(),
-            OpError::Switch,
-        ),
-        (
-            [171, 0, 0, 0, 0, 0, 0, 0, 255, 255, 255, 255].as_slice(),
-            OpError::Switch,
-        ),
-    ] {
-        assert!(rt; refusal(rt.alloc(), bytes) == Some(error));
-    }
-}
-
-/// So many nops and a tableswitch with its pad.
-fn padded(alloc: Global, nops: usize) -> Result<Vec<u8>, AllocError> {
-    let mut bytes = vec![in alloc; 0; nops]?;
-    bytes.push(170)?;
-    for _ in 0..3 - nops % 4 {
-        bytes.push(0)?;
-    }
-    bytes.extend_from_slice(&[0, 0, 0, 0, 0, 0, 0, 9, 0, 0, 0, 9, 0, 0, 0, 0])?;
-    Ok(bytes)
-}
-
-/// How many instructions bytes are, and the bytes of these.
-fn read_again(alloc: Global, bytes: &[u8]) -> Result<(usize, Vec<u8>), OpError> {
-    let code = decode(alloc, bytes)?;
-    let count = code.as_slice().len();
-    Ok((count, again(alloc, code)?))
-}
-
-/// The pad behind 0 to 3 nops.
-#[test]
-fn pads(rt: HostRuntime) -> Result<(), Fail> {
-    for nops in 0..8usize {
-        let bytes = padded(rt.alloc(), nops)?;
-        let (count, written) = read_again(rt.alloc(), &bytes)?;
-        assert!(rt; count == nops + 1 && written.as_slice() == bytes.as_slice());
+fn refusals(rt: HostRuntime) -> Result<(), Fail> {
+    for (digits, error) in REFUSALS {
+        let bytes = hex(rt.alloc(), digits)?;
+        assert!(rt; refusal(rt.alloc(), &bytes) == Some(*error), "{digits}");
     }
     Ok(())
 }
 
-/// The locals from which instructions load ints.
-fn loaded(alloc: Global, bytes: &[u8]) -> Result<Vec<Local>, OpError> {
+/// How many instructions bytes are, if these are written as the same bytes again.
+fn count_again(alloc: Global, bytes: &[u8]) -> Result<Option<usize>, OpError> {
     let code = decode(alloc, bytes)?;
-    let mut locals = Vec::new(alloc);
+    let count = code.as_slice().len();
+    let written = again(alloc, code)?;
+    Ok(if written.as_slice() == bytes {
+        Some(count)
+    } else {
+        None
+    })
+}
+
+/// So many nops, and a tableswitch of 9 with its pad.
+const PADDED: &[(&str, usize)] = &[
+    ("aa 000000 00000000 00000009 00000009 00000000", 1),
+    ("00 aa 0000 00000000 00000009 00000009 00000000", 2),
+    ("0000 aa 00 00000000 00000009 00000009 00000000", 3),
+    ("000000 aa 00000000 00000009 00000009 00000000", 4),
+    ("00000000 aa 000000 00000000 00000009 00000009 00000000", 5),
+    ("0000000000 aa 0000 00000000 00000009 00000009 00000000", 6),
+    ("000000000000 aa 00 00000000 00000009 00000009 00000000", 7),
+    ("00000000000000 aa 00000000 00000009 00000009 00000000", 8),
+];
+
+#[test]
+fn pads(rt: HostRuntime) -> Result<(), Fail> {
+    for (digits, count) in PADDED {
+        let bytes = hex(rt.alloc(), digits)?;
+        assert!(rt;
+            count_again(rt.alloc(), &bytes)? == Some(*count),
+            "{digits}"
+        );
+    }
+    Ok(())
+}
+
+/// Whether the first instructions load ints from these locals.
+fn loads(code: &Code, locals: &[Local]) -> bool {
+    let mut locals = locals.iter();
     for item in code.as_slice() {
         if let Instruction::Local(LocalAccess::Load(Kind::Int, local)) = &item.instruction {
-            locals.push(*local)?;
+            if locals.next() != Some(local) {
+                return false;
+            }
         }
     }
-    Ok(locals)
+    locals.next().is_none()
 }
 
 /// `wide iload 1` isn't `iload 1`, and that isn't `iload_1`.
 #[test]
 fn forms_stay_apart(rt: HostRuntime) -> Result<(), Fail> {
-    let locals = loaded(rt.alloc(), &[196, 21, 0, 1, 21, 1, 27])?;
-    let expected = [
+    let code = decode(rt.alloc(), &[196, 21, 0, 1, 21, 1, 27])?;
+    let locals = [
         Local::Wide(1),
         Local::Byte(1),
         Local::First(FirstLocal::One),
     ];
-    assert!(rt; locals.as_slice() == expected.as_slice());
+    assert!(rt; loads(&code, &locals));
     Ok(())
+}
+
+/// Whether so many bytes are as many instructions, or why they are no code.
+fn told_of_many(alloc: Global, byte: u8, count: usize) -> Result<Option<OpError>, AllocError> {
+    let bytes = vec![in alloc; byte; count]?;
+    Ok(match count_again(alloc, &bytes) {
+        Ok(found) if found == Some(count) => None,
+        Ok(_) => Some(OpError::Memory),
+        Err(error) => Some(error),
+    })
 }
 
 /// 65,535 bytes are code, 65,536 aren't.
 #[test]
-fn lengths(rt: HostRuntime) -> Result<(), Fail> {
-    let most = vec![in rt.alloc(); 0u8; 65535]?;
-    let (count, written) = read_again(rt.alloc(), &most)?;
-    assert_eq!(rt; (count, written.len()), (65535, 65535));
-    for byte in [0u8, 255] {
-        let more = vec![in rt.alloc(); byte; 65536]?;
-        assert!(rt; refusal(rt.alloc(), &more) == Some(OpError::Length));
+fn lengths(rt: HostRuntime) -> Result<(), AllocError> {
+    for (byte, count, error) in [
+        (0u8, 65535usize, None),
+        (0, 65536, Some(OpError::Length)),
+        (255, 65536, Some(OpError::Length)),
+    ] {
+        assert!(rt; told_of_many(rt.alloc(), byte, count)? == error);
     }
     Ok(())
+}
+
+/// `goto` a pc.
+fn goto(pc: u16) -> Instr {
+    Instruction::Branch(Test::Always(Width::Narrow), pc)
+}
+
+fn table(alloc: Global, low: i32, ways: usize) -> Result<Instr, AllocError> {
+    Ok(Instruction::TableSwitch(TableSwitch {
+        low,
+        targets: vec![in alloc; 0u16; ways]?,
+        default: 0,
+    }))
+}
+
+/// A switch whose keys fall.
+fn falling(alloc: Global) -> Result<Instr, AllocError> {
+    Ok(Instruction::LookupSwitch(LookupSwitch {
+        pairs: vec![in alloc; (5, 0), (2, 0)]?,
+        default: 0,
+    }))
+}
+
+/// An instruction that alone has no spelling.
+fn faulty(alloc: Global, name: &str) -> Result<Instr, AllocError> {
+    match name {
+        "ldc past a byte" => Ok(Instruction::Constant(Constant::Int(Width::Narrow, 256))),
+        "a way past two bytes" => Ok(goto(40000)),
+        "a way to no instruction" => Ok(goto(1)),
+        "a table without ways" => table(alloc, 0, 0),
+        "a table past the greatest int" => table(alloc, i32::MAX, 2),
+        _ => falling(alloc),
+    }
 }
 
 /// Why an instruction alone has no spelling.
@@ -175,50 +223,38 @@ fn unwritten(alloc: Global, instruction: Instr) -> Option<OpError> {
     encode(alloc, &[instruction]).err()
 }
 
-/// A number of `ldc` past a byte, a way past two bytes, and one to no instruction.
 #[test]
-fn operands_without_spelling(rt: HostRuntime) {
-    let ldc = Instruction::Constant(Constant::Int(Width::Narrow, 256));
-    assert!(rt; unwritten(rt.alloc(), ldc) == Some(OpError::Operand));
-    for (pc, error) in [(40000u16, OpError::Operand), (1, OpError::Branch)] {
-        let goto = Instruction::Branch(Test::Always(Width::Narrow), pc);
-        assert!(rt; unwritten(rt.alloc(), goto) == Some(error));
+fn instructions_without_spelling(rt: HostRuntime) -> Result<(), AllocError> {
+    for (name, error) in [
+        ("ldc past a byte", OpError::Operand),
+        ("a way past two bytes", OpError::Operand),
+        ("a way to no instruction", OpError::Branch),
+        ("a table without ways", OpError::Switch),
+        ("a table past the greatest int", OpError::Switch),
+        ("keys that fall", OpError::Switch),
+    ] {
+        let instruction = faulty(rt.alloc(), name)?;
+        assert!(rt; unwritten(rt.alloc(), instruction) == Some(error), "{name}");
     }
-    let none: [Instr; 0] = [];
-    assert!(rt; encode(rt.alloc(), &none).err() == Some(OpError::Length));
-}
-
-/// A table without ways, one past the greatest int, and keys that fall.
-#[test]
-fn switches_without_spelling(rt: HostRuntime) -> Result<(), Fail> {
-    let alloc = rt.alloc();
-    for (low, ways) in [(0i32, 0usize), (i32::MAX, 2)] {
-        let table = TableSwitch {
-            low,
-            targets: vec![in alloc; 0u16; ways]?,
-            default: 0,
-        };
-        assert!(rt; unwritten(alloc, Instruction::TableSwitch(table)) == Some(OpError::Switch));
-    }
-    let lookup = LookupSwitch {
-        pairs: vec![in alloc; (5, 0), (2, 0)]?,
-        default: 0,
-    };
-    assert!(rt; unwritten(alloc, Instruction::LookupSwitch(lookup)) == Some(OpError::Switch));
     Ok(())
 }
 
 #[test]
-fn codes(rt: HostRuntime) -> Result<(), Fail> {
-    let errors = [
+fn no_instructions(rt: HostRuntime) {
+    let none: [Instr; 0] = [];
+    assert!(rt; encode(rt.alloc(), &none).err() == Some(OpError::Length));
+}
+
+#[test]
+fn codes(rt: HostRuntime) -> Result<(), AllocError> {
+    for (error, code) in [
         (OpError::Opcode, "O1"),
         (OpError::Operand, "O2"),
         (OpError::Branch, "O3"),
         (OpError::Switch, "O4"),
         (OpError::Length, "O5"),
         (OpError::Memory, "O6"),
-    ];
-    for (error, code) in errors {
+    ] {
         assert!(rt; error.to_string(rt.alloc())?.as_str() == code);
     }
     one_spelling();

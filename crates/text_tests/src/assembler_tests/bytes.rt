@@ -1,9 +1,8 @@
 //! Every statement and mnemonic with the bytes that it assembles to. The bytes are those of tools/plain_asm.py, and `javap`
 //! says of each file what its text says.
 
-use super::answer;
-use crate::class_bytes::{E, TEXT_OF_E, hex};
-use std::alloc::Global;
+use super::{Wanted, has_answer};
+use crate::class_bytes::{E, TEXT_OF_E};
 use std::test::Fail;
 
 const K: &str =
@@ -281,13 +280,6 @@ const ONCE_BYTES: &str =
     0000000000070100014307000b05fffffffffffffff90100014407000f002000040006000100040000000100080007000800\
     01000500000028000200000000001c1201140009bb000c14000d12021201130001140009bb0004bb0010b1000000000000";
 
-/// Whether a text's class file has these bytes, in hexadecimal digits.
-fn has_bytes(alloc: Global, text: &str, digits: &str) -> Result<bool, Fail> {
-    let found = answer(alloc, text)?;
-    let wanted = hex(alloc, digits)?;
-    Ok(found.as_slice() == wanted.as_slice())
-}
-
 #[test]
 fn texts_have_these_class_files(rt: HostRuntime) -> Result<(), Fail> {
     for (text, digits) in [
@@ -299,7 +291,10 @@ fn texts_have_these_class_files(rt: HostRuntime) -> Result<(), Fail> {
         (ORDER, ORDER_BYTES),
         (ONCE, ONCE_BYTES),
     ] {
-        assert!(rt; has_bytes(rt.alloc(), text, digits)?, "{text}");
+        assert!(rt;
+            has_answer(rt.alloc(), text, Wanted::Whole(digits))?,
+            "{text}"
+        );
     }
     Ok(())
 }

@@ -4,7 +4,7 @@ use crate::class_bytes::{E, hex};
 use bitflags::Flags;
 use classfile::{listing, read};
 use model::instructions::{Constant, Instruction, Invocation, Width};
-use model::listings::{Constant as Value, Listed, Listing};
+use model::listings::{Code, Constant as Value, Listed, Listing};
 use std::alloc::Global;
 use std::test::*;
 
@@ -22,32 +22,26 @@ fn listing_of(alloc: Global, text: &str) -> Result<Listing, Fail> {
     Ok(listing(alloc, &read(alloc, &hex(alloc, text)?)?)?)
 }
 
-#[test]
-fn the_smallest_class(rt: HostRuntime) -> Result<(), Fail> {
-    let e = listing_of(rt.alloc(), E)?;
-    assert!(rt; e.name.is("E") && e.superclass.is("java/lang/Object"));
-    assert_eq!(rt;
-        (e.flags.bits(), e.interfaces.len(), e.fields.len()),
-        (0x0001, 0, 0)
-    );
+fn is_smallest(e: &Listing) -> bool {
     let [main] = e.methods.as_slice() else {
-        return Err("not one method".into());
+        return false;
     };
-    assert!(rt; main.name.is("main") && main.descriptor.is("()V"));
-    assert_eq!(rt; main.flags.bits(), 0x0009);
-    Ok(())
+    e.name.is("E")
+        && e.superclass.is("java/lang/Object")
+        && (e.flags.bits(), e.interfaces.len(), e.fields.len()) == (0x0001, 0, 0)
+        && main.name.is("main")
+        && main.descriptor.is("()V")
+        && main.flags.bits() == 0x0009
 }
 
-#[test]
-fn a_field(rt: HostRuntime) -> Result<(), Fail> {
-    let a = listing_of(rt.alloc(), A)?;
-    assert_eq!(rt; a.flags.bits(), 0);
+fn has_field(a: &Listing) -> bool {
     let [field] = a.fields.as_slice() else {
-        return Err("not one field".into());
+        return false;
     };
-    assert!(rt; field.name.is("L") && field.descriptor.is("J"));
-    assert_eq!(rt; field.constant, Some(Value::Long(-1)));
-    Ok(())
+    a.flags.bits() == 0
+        && field.name.is("L")
+        && field.descriptor.is("J")
+        && field.constant == Some(Value::Long(-1))
 }
 
 /// Whether an instruction is `invokestatic vm/Sys/print(I)V`.
@@ -60,36 +54,46 @@ fn is_print(instruction: &Listed) -> bool {
     }
 }
 
-#[test]
-fn a_call(rt: HostRuntime) -> Result<(), Fail> {
-    let a = listing_of(rt.alloc(), A)?;
-    let main = a.methods.get(0).ok_or("no method")?;
-    let code = main.code.as_ref().ok_or("no code")?;
+fn has_call(code: &Code) -> bool {
     let [push, call, end] = code.instructions.as_slice() else {
-        return Err("not three instructions".into());
+        return false;
     };
-    assert_eq!(rt; (push.pc, call.pc, end.pc, end.next), (0, 2, 5, 6));
-    assert!(rt;
-        matches!(
-            push.instruction,
-            Instruction::Constant(Constant::Int(Width::Narrow, 2147483647))
-        )
+    let is_ldc = matches!(
+        push.instruction,
+        Instruction::Constant(Constant::Int(Width::Narrow, 2147483647))
     );
-    assert!(rt; is_print(&call.instruction));
+    is_ldc && (push.pc, call.pc, end.pc, end.next) == (0, 2, 5, 6) && is_print(&call.instruction)
+}
+
+fn has_limits_and_row(code: &Code) -> bool {
+    let [row] = code.rows.as_slice() else {
+        return false;
+    };
+    let is_object = match &row.class {
+        Some(class) => class.is("java/lang/Object"),
+        None => false,
+    };
+    is_object
+        && (code.max_stack, code.max_locals) == (1, 0)
+        && (row.start, row.end, row.handler) == (0, 2, 5)
+}
+
+/// The code of the first method.
+fn code_of(class: &Listing) -> Option<&Code> {
+    class.methods.first()?.code.as_ref()
+}
+
+#[test]
+fn the_smallest_class(rt: HostRuntime) -> Result<(), Fail> {
+    assert!(rt; is_smallest(&listing_of(rt.alloc(), E)?));
     Ok(())
 }
 
 #[test]
-fn limits_and_a_row(rt: HostRuntime) -> Result<(), Fail> {
+fn a_class_with_a_call(rt: HostRuntime) -> Result<(), Fail> {
     let a = listing_of(rt.alloc(), A)?;
-    let main = a.methods.get(0).ok_or("no method")?;
-    let code = main.code.as_ref().ok_or("no code")?;
-    assert_eq!(rt; (code.max_stack, code.max_locals), (1, 0));
-    let [row] = code.rows.as_slice() else {
-        return Err("not one row".into());
-    };
-    assert_eq!(rt; (row.start, row.end, row.handler), (0, 2, 5));
-    let class = row.class.as_ref().ok_or("no class")?;
-    assert!(rt; class.is("java/lang/Object"));
+    assert!(rt; has_field(&a), "field");
+    let code = code_of(&a).ok_or("no code")?;
+    assert!(rt; has_call(code) && has_limits_and_row(code), "code");
     Ok(())
 }
