@@ -73,8 +73,7 @@ class E|code 97 4000 public static main()V; class X|.method public native n()V|e
 class E; class X|code 0 0 public f()V => L8 in class X
 ";
 
-// In each row main's first instruction, and what users are told of the program. Only the instructions that the machine
-// carries out come so far; the others are refused before.
+// In each row main's first instruction, and what users are told of the program.
 
 /// The member or class is there and of the right kind (JVMS 5.4.3, 6.5), or it isn't.
 const REFERENCES: &str = "getstatic A/s I => accepted
