@@ -67,7 +67,7 @@ pub(crate) fn argument_fault(frames: &Frames, kinds: &[Kind]) -> Option<Fault>
 }
 
 /// Shades what so many operands lead to, the lowest first.
-fn shade_operands(heap: &mut Heap, frames: &Frames, count: u16)
+pub(crate) fn shade_operands(heap: &mut Heap, frames: &Frames, count: u16)
     requires some { 0 < length frames.now }
     requires there { count ≤ length (running_frame frames.now).stack }
     ensures { heap.new ≡ all_shaded heap.old (births_of (arguments_on count (running_frame frames.now).stack)) }

@@ -21,14 +21,14 @@ use model::turns::{ClassState, Fault, Mark};
 use model::values::{Kind, Value};
 
 /// The caller of the running frame. `None` where that is the outermost.
-fn caller_of(frames: &Frames) -> Option<FrameHead>
+pub(crate) fn caller_of(frames: &Frames) -> Option<FrameHead>
     ensures { result ≡ option_map head_of (running (callers frames.now)) }
 {
     frames.frame_at(frames.depth().checked_sub(2)?)
 }
 
 /// The pc behind the instruction at which a frame stands. `None` where none begins there.
-fn next_of(program: &Program, frame: FrameHead) -> Option<u16>
+pub(crate) fn next_of(program: &Program, frame: FrameHead) -> Option<u16>
     ensures { result ≡ next_at program.now frame.method frame.pc }
 {
     match program.placed(frame.method, frame.pc) {
@@ -38,7 +38,7 @@ fn next_of(program: &Program, frame: FrameHead) -> Option<u16>
 }
 
 /// The units that a value takes on a stack: 2 for a long, else 1 (JVMS 2.6.2).
-fn units_of(value: Value) -> usize
+pub(crate) fn units_of(value: Value) -> usize
     ensures { result ≡ units_taken value }
 {
     match value {
@@ -48,7 +48,7 @@ fn units_of(value: Value) -> usize
 }
 
 /// A value on the stack, which has room for it, and on to this pc.
-fn put_result(frames: &mut Frames, next: u16, value: Value)
+pub(crate) fn put_result(frames: &mut Frames, next: u16, value: Value)
     requires some { 0 < length frames.old }
     requires room { units_taken value + units_of_all (running_frame frames.old).stack ≤ (running_frame frames.old).room }
     ensures { frames.new ≡ with_running frames.old (replaced next (running_frame frames.old) 0 (value ∷ [])).frame }
