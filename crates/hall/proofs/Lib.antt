@@ -1,4 +1,5 @@
 pub mod Dealt
+pub mod ManyRounds
 pub mod Pairs
 pub mod Rows
 pub mod SeatsHome

@@ -159,8 +159,23 @@ impl<L: Ledger> Shared<L> {
         }
     }
 
-    // So many rounds more, which end with the first that isn't done.
-    fn more_rounds(&mut self, share: &mut Share<L>, extra: u32) -> Turn
+    // So many rounds of the picked threads, in one call, and what the last of them answered.
+    fn carry_on(&mut self, share: &mut Share<L>, extra: u32) -> Turn
+        requires { share.old.worker < self.old.journal.workers }
+        ensures world { self.new ≡ after_thread_rounds self.old share.old.worker 0 extra }
+        ensures answer { result ≡ thread_rounds_answer self.old share.old.worker 0 extra }
+        ensures share { CountsRows self.old self.new share.old share.new }
+    {
+        let Shared { world, book, .. } = self;
+        let before = world.journal().rows().len();
+        let answer = world.rounds_by(share.worker(), extra);
+        let rows = world.journal().rows().len();
+        share.note_rows(book, rows - before, rows);
+        answer
+    }
+
+    // So many rounds more, one by one, which end with the first that isn't done.
+    fn each_round(&mut self, share: &mut Share<L>, extra: u32) -> Turn
         requires { share.old.worker < self.old.journal.workers }
         ensures world { self.new ≡ after_more self.old share.old.role share.old.worker extra }
         ensures answer { result ≡ answer_more self.old share.old.role share.old.worker extra }
@@ -173,6 +188,19 @@ impl<L: Ledger> Shared<L> {
             }
         }
         Turn::Done
+    }
+
+    // The same, in one call where no collector turns come between.
+    fn more_rounds(&mut self, share: &mut Share<L>, extra: u32) -> Turn
+        requires { share.old.worker < self.old.journal.workers }
+        ensures world { self.new ≡ after_more self.old share.old.role share.old.worker extra }
+        ensures answer { result ≡ answer_more self.old share.old.role share.old.worker extra }
+        ensures share { CountsRows self.old self.new share.old share.new }
+    {
+        match share.role() {
+            Role::Both { gc: 0 } => done_so_far(self.carry_on(share, extra)),
+            _ => self.each_round(share, extra),
+        }
     }
 
     // A round, and where it is done so many more.
@@ -188,21 +216,6 @@ impl<L: Ledger> Shared<L> {
         } else {
             answer
         }
-    }
-
-    // So many rounds of the picked threads, in one call, and what the last of them answered.
-    fn carry_on(&mut self, share: &mut Share<L>, extra: u32) -> Turn
-        requires { share.old.worker < self.old.journal.workers }
-        ensures world { self.new ≡ after_thread_rounds self.old share.old.worker 0 extra }
-        ensures answer { result ≡ thread_rounds_answer self.old share.old.worker 0 extra }
-        ensures share { CountsRows self.old self.new share.old share.new }
-    {
-        let Shared { world, book, .. } = self;
-        let before = world.journal().rows().len();
-        let answer = world.rounds_by(share.worker(), extra);
-        let rows = world.journal().rows().len();
-        share.note_rows(book, rows - before, rows);
-        answer
     }
 
     // The number of the next birth.

@@ -19,7 +19,7 @@ use Rattle.scheduler.proofs.Noting.{answer_is}
 -- ---- rounds with no turn of the collector, seen from the first one
 
 -- a round is the turn of the thread that is picked
-round-picked : (v : Recorded) (worker : ℕ) → after_round v worker 0 ≡ picked v worker
+pub round-picked : (v : Recorded) (worker : ℕ) → after_round v worker 0 ≡ picked v worker
 round-picked v worker = by (is_done (picked_answer v worker)) (is_running (status_of (picked v worker)))
   where
     by : (d b : Bool) → (if d then (if b then picked v worker else picked v worker) else picked v worker) ≡ picked v worker

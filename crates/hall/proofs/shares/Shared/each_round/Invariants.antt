@@ -1,7 +1,7 @@
 use Rattle.std.proofs.Common.{◌≡◌, ◌-◌, ◌<◌}
 use Rattle.hall.specs.Roles.{after_more, answer_more}
 use Rattle.hall.specs.Shares.{CountsRows}
-use Rattle.hall.proofs.shares.Shared.more_rounds.Given as goal
+use Rattle.hall.proofs.shares.Shared.each_round.Given as goal
 
 -- the rounds that are left lead to where all lead, and answer what all answer
 abbrev pub invariant-loop-round : goal.invariant-loop-round
