@@ -1,6 +1,6 @@
 -- how the frames read after a write in the region of the last one
 use Rattle.std.proofs.Common.{◌≡◌, ℕ, ◌+◌, ◌-◌, ◌<◌, ◌≤◌, List, [], ◌∷◌, ◌++◌, length, map, slice_set, take, drop, nat_lt, nat_le, ◌&&◌, zero-add, replicate, Ok, Some, None, slice_get, Bool, true, refl, ap, sym, ◌∙◌, subst, arith, get_or}
-use Rattle.std.proofs.lemmas.List.{take-take, take_more, take_all, map_push, length-map, length-set, get_or-map, length-append, take-map, length-take-le, length-drop, length-replicate, append_assoc, take_at, drop_at, take-set-le, get_or_default, get_or-take, get_or-drop, set-get_or, drop-set-add}
+use Rattle.std.proofs.lemmas.List.{take-take, take_more, take_all, map_push, length-map, length-set, get_or-map, length-append, take-map, length-take-le, length-drop, length-replicate, take-append-le, append_assoc, take_at, drop_at, take-set-le, get_or_default, get_or-take, get_or-drop, set-get_or, drop-set-add}
 use Rattle.std.proofs.lemmas.Option.{slice_get_read, slice_get_past}
 use Rattle.std.proofs.Math.Seq.{take-set-lt}
 use Rattle.std.proofs.lemmas.Bool.{lt-ltb, and_parts, ltb-true, leb-true}
@@ -99,10 +99,10 @@ units_of_frames-laid units base end (x ∷ xs) h fits =
 
 -- ---- a frame is entered or left
 
-pub sound_push : (units units' : List Entry) (acts : List Activation) (used end : ℕ) (a : Activation) → IsSound units acts used → length units' ≡ length units → take used units ≡ take used units' → Stands units' used a → used + a.locals + a.room ≡ end → end ≤ 4096 → length acts < 256 → IsSound units' (acts ++ a ∷ []) end
+pub sound_push : (units units' : List Entry) (acts : List Activation) (used end : ℕ) (a : Activation) → IsSound units acts used → length units' ≤ 4096 → take used units ≡ take used units' → Stands units' used a → used + a.locals + a.room ≡ end → end ≤ length units' → length acts < 256 → IsSound units' (acts ++ a ∷ []) end
 sound_push units units' acts used end a sound long same stands ends fits few =
     record {
-      units_are = long ∙ sound.units_are;
+      units_are = long;
       count_is = omega (arith, length-append acts (a ∷ []));
       used_is = fits;
       laid_out = laid_join units' 0 used end acts a (laid-agree units units' used 0 used acts same sound.laid_out (omega arith)) stands ends;
@@ -167,9 +167,9 @@ module _ {units : List Entry} {acts : List Activation} {used : ℕ} {frames : Li
       let below = laid-agree units units' a.base 0 a.base (take (length acts - 1) acts) same last.below (omega arith) in
       let laid = laid_join units' 0 a.base used (take (length acts - 1) acts) a' below stands (omega arith) in
       record {
-        units_are = long ∙ o.sound.units_are;
+        units_are = subst (λ n. n ≤ 4096) (sym long) o.sound.units_are;
         count_is = rw length-set o.sound.count_is;
-        used_is = o.sound.used_is;
+        used_is = subst (λ n. used ≤ n) (sym long) o.sound.used_is;
         laid_out = let P : List Activation → Type 0 = λ l. AreLaidOut units' 0 l used in subst P (sym (set_last acts a' o.some)) laid;
       }
 
@@ -194,7 +194,7 @@ module _ {units : List Entry} {acts : List Activation} {used : ℕ} {frames : Li
       sym (ap callers (sym o.view) ∙ (ap (λ (k : ℕ). take (k - 1) (map (frame_of units) acts)) count ∙ take-map (frame_of units) (length acts - 1) acts))
 
   -- the running frame's region lies within the units, and its stack within its room
-  pub region_fits : (a.base + a.locals + a.room ≤ 4096) × (a.values ≤ a.room) × (a.taken ≤ a.room) × (length units ≡ 4096)
+  pub region_fits : (a.base + a.locals + a.room ≤ length units) × (a.values ≤ a.room) × (a.taken ≤ a.room) × (length units ≤ 4096)
   region_fits =
       let last = stands_last in
       let ends = last.ends in
@@ -300,7 +300,7 @@ module _ {units : List Entry} {acts : List Activation} {used : ℕ} {frames : Li
       rw (running_is, ← locals, ← stack) put
 
   -- the running frame calls a method: values leave its stack, and a frame is made behind it
-  pub sound_call : (units' : List Entry) (a' b : Activation) (count taken end : ℕ) → count ≤ length (running_frame frames).stack → taken ≡ units_of_all (take count (running_frame frames).stack) → a' ≡ record a { values = a.values - count; taken = a.taken - taken } → length units' ≡ length units → take used units ≡ take used units' → Stands units' used b → used + b.locals + b.room ≡ end → end ≤ 4096 → length acts < 256 → IsSound units' (with_last acts a' ++ b ∷ []) end
+  pub sound_call : (units' : List Entry) (a' b : Activation) (count taken end : ℕ) → count ≤ length (running_frame frames).stack → taken ≡ units_of_all (take count (running_frame frames).stack) → a' ≡ record a { values = a.values - count; taken = a.taken - taken } → length units' ≡ length units → take used units ≡ take used units' → Stands units' used b → used + b.locals + b.room ≡ end → end ≤ length units → length acts < 256 → IsSound units' (with_last acts a' ++ b ∷ []) end
   sound_call units' a' b count taken end there sized is long same stands ends fits few =
       let last = stands_last in
       let below = last.ends in
@@ -309,7 +309,7 @@ module _ {units : List Entry} {acts : List Activation} {used : ℕ} {frames : Li
       let caller : Stands units' a.base (record a { values = a.values - count; taken = a.taken - taken }) = stands-agree units units' used a.base (record a { values = a.values - count; taken = a.taken - taken }) same d.3 (omega arith) in
       let put = sound_put units' (record a { values = a.values - count; taken = a.taken - taken }) long narrow caller refl in
       let count_is : length (with_last acts (record a { values = a.values - count; taken = a.taken - taken })) ≡ length acts = length-set acts (length acts - 1) (record a { values = a.values - count; taken = a.taken - taken }) in
-      rw is (sound_push units' units' (with_last acts (record a { values = a.values - count; taken = a.taken - taken })) used end b put refl refl stands ends fits (omega arith))
+      rw is (sound_push units' units' (with_last acts (record a { values = a.values - count; taken = a.taken - taken })) used end b put put.units_are refl stands ends (subst (λ n. end ≤ n) (sym long) fits) (omega arith))
 
   pub view_call : (units' : List Entry) (a' b : Activation) (count taken : ℕ) → count ≤ length (running_frame frames).stack → taken ≡ units_of_all (take count (running_frame frames).stack) → a' ≡ record a { values = a.values - count; taken = a.taken - taken } → take used units ≡ take used units' → map (frame_of units') (with_last acts a' ++ b ∷ []) ≡ with_running frames (record (running_frame frames) { stack = drop count (running_frame frames).stack }) ++ frame_of units' b ∷ []
   view_call units' a' b count taken there sized is same =
@@ -337,10 +337,36 @@ pub has_room-few : (units : List Entry) (acts : List Activation) (used n : ℕ) 
 has_room-few units acts used n frames max_locals max_stack sound view count few =
     sym (has_room-laid units acts used frames max_locals max_stack sound view ∙ ap (λ (b : Bool). b && nat_le (used + max_locals + max_stack) 4096) (lt-ltb (length acts) 256 (omega arith)))
 
-pub has_room-facts : (units : List Entry) (acts : List Activation) (used : ℕ) (frames : List Frame) (max_locals max_stack : ℕ) → IsSound units acts used → map (frame_of units) acts ≡ frames → has_room_for frames max_locals max_stack ≡ true → (length acts < 256) × (used + max_locals + max_stack ≤ 4096) × (length units ≡ 4096)
+pub has_room-facts : (units : List Entry) (acts : List Activation) (used : ℕ) (frames : List Frame) (max_locals max_stack : ℕ) → IsSound units acts used → map (frame_of units) acts ≡ frames → has_room_for frames max_locals max_stack ≡ true → (length acts < 256) × (used + max_locals + max_stack ≤ 4096) × (used ≤ length units) × (length units ≤ 4096)
 has_room-facts units acts used frames max_locals max_stack sound view has =
     let both = and_parts (nat_lt (length acts) 256) (nat_le (used + max_locals + max_stack) 4096) (sym (has_room-laid units acts used frames max_locals max_stack sound view) ∙ has) in
-    (ltb-true (length acts) 256 both.0, leb-true (used + max_locals + max_stack) 4096 both.1, sound.units_are)
+    (ltb-true (length acts) 256 both.0, leb-true (used + max_locals + max_stack) 4096 both.1, sound.used_is, sound.units_are)
+
+-- ---- units are reached, so many at least, before a frame is made in them
+
+pub record Reaches (units : List Entry) (acts : List Activation) (used end : ℕ) (frames : List Frame) : Type 0 where
+  pub sound : IsSound units acts used
+  pub view : map (frame_of units) acts ≡ frames
+  pub fits : end ≤ length units
+
+pub reaches : (units units' : List Entry) (acts : List Activation) (used end : ℕ) (frames : List Frame) → IsSound units acts used → map (frame_of units) acts ≡ frames → end ≤ 4096 → units' ≡ units ++ replicate (end - length units) Unset → Reaches units' acts used end frames
+reaches units units' acts used end frames sound view few is =
+    let more : List Entry = replicate (end - length units) Unset in
+    let used_is = sound.used_is in
+    let units_are = sound.units_are in
+    let long = length-append units more in
+    let count = length-replicate (end - length units) Unset in
+    let same : take used units ≡ take used (units ++ more) = sym (take-append-le used units more used_is) in
+    subst (λ us. Reaches us acts used end frames) (sym is) (record {
+      sound = record {
+        units_are = omega (arith, long, count, units_are, few);
+        count_is = sound.count_is;
+        used_is = omega (arith, long, used_is);
+        laid_out = laid-agree units (units ++ more) used 0 used acts same sound.laid_out (omega arith);
+      };
+      view = sym (frames-agree units (units ++ more) used 0 used acts same sound.laid_out (omega arith)) ∙ view;
+      fits = omega (arith, long, count);
+    })
 
 -- units of which so many were made unset
 pub record Unsets (units units' : List Entry) (base count : ℕ) : Type 0 where

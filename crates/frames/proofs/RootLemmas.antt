@@ -71,7 +71,7 @@ entries-none units acts frames d view is =
     ap refs_of_frame found
 
 -- where an activation's region lies
-pub region_of : (units : List Entry) (acts : List Activation) (used d : ℕ) (a : Activation) → IsSound units acts used → slice_get acts d ≡ Some a → (a.base + a.locals + a.values ≤ 4096) × (length units ≡ 4096)
+pub region_of : (units : List Entry) (acts : List Activation) (used d : ℕ) (a : Activation) → IsSound units acts used → slice_get acts d ≡ Some a → (a.base + a.locals + a.values ≤ length units) × (length units ≤ 4096)
 region_of units acts used d a sound is =
     let long = sound.units_are in
     let used_is = sound.used_is in

@@ -1,6 +1,6 @@
 -- the entries of slots
 use Rattle.std.proofs.Common.{◌≡◌, ℕ, zero, suc, ◌+◌, ◌-◌, ◌<◌, List, [], ◌∷◌, ◌++◌, length, map, get_or, take, drop, replicate, refl, ap, sym, ◌∙◌, arith}
-use Rattle.std.proofs.lemmas.List.{get_or-map, map-set, map-append, take-map, drop-map}
+use Rattle.std.proofs.lemmas.List.{length-map, get_or-map, map-set, map-append, take-map, drop-map}
 use Rattle.model.specs.declared.values.Entry.{Entry}
 use Rattle.model.specs.declared.values.Entry.TheVariants.{Unset as UnsetEntry}
 use Rattle.model.specs.declared.values.Value.{Value}
@@ -17,6 +17,12 @@ pub ruleset slots = (entry_of-get_or, map-set)
 pub unset-slots : (n : ℕ) → map entry_of (replicate n Unset) ≡ replicate n UnsetEntry
 unset-slots zero = refl
 unset-slots (suc n) = ap (λ (es : List Entry). UnsetEntry ∷ es) (unset-slots n)
+
+-- unset slots behind others, up to so many
+pub reached : (slots after : List Slot) (count : ℕ) → after ≡ slots ++ replicate (count - length slots) Unset → map entry_of after ≡ map entry_of slots ++ replicate (count - length (map entry_of slots)) UnsetEntry
+reached slots after count is =
+    ap (map entry_of) is ∙ map-append entry_of slots (replicate (count - length slots) Unset)
+    ∙ ap (λ (es : List Entry). map entry_of slots ++ es) (unset-slots (count - length slots) ∙ ap (λ (n : ℕ). replicate (count - n) UnsetEntry) (sym (length-map slots entry_of)))
 
 -- some slots in the middle are made unset
 pub unset-between : (slots after : List Slot) (base count : ℕ) → after ≡ take base slots ++ replicate count Unset ++ drop (base + count) slots → map entry_of after ≡ take base (map entry_of slots) ++ replicate count UnsetEntry ++ drop (base + count) (map entry_of slots)

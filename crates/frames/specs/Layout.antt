@@ -31,9 +31,9 @@ abbrev pub AreLaidOut : List Entry → ℕ → List Activation → ℕ → Type 
 AreLaidOut units base [] end = base ≡ end
 AreLaidOut units base (a ∷ activations) end = Stands units base a × AreLaidOut units (base + a.locals + a.room) activations end
 
--- what is true of the parts of a thread's frames: 4,096 units, of which so many are used
+-- what is true of the parts of a thread's frames: so many units are used, and as many at least were reached, of 4,096
 pub record IsSound (units : List Entry) (activations : List Activation) (used : ℕ) : Type 0 where
-  pub units_are : length units ≡ 4096
+  pub units_are : length units ≤ 4096
   pub count_is : length activations ≤ 256
-  pub used_is : used ≤ 4096
+  pub used_is : used ≤ length units
   pub laid_out : AreLaidOut units 0 activations used

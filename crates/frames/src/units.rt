@@ -1,5 +1,5 @@
 //! The array of units of a thread's frames.
-ghost use Rattle.std.specs.Prelude.{◌≡◌, ◌+◌, ◌-◌, ◌<◌, ◌≤◌, ◌++◌, length, map, slice_index_or, slice_set, take, drop, replicate, vec_len, IfOk};
+ghost use Rattle.std.specs.Prelude.{◌≡◌, ◌+◌, ◌-◌, ◌<◌, ◌≤◌, ◌++◌, [], length, map, slice_index_or, slice_set, take, drop, replicate, vec_capacity, vec_len, IfOk};
 ghost use Rattle.model.specs.declared.values.Entry.TheVariants.{Unset};
 ghost use Rattle.values.specs.Slots.{value_in as value_held};
 ghost use Rattle.values.specs.Slots.{entry_of, value_of};
@@ -10,31 +10,46 @@ use std::alloc::{AllocError, Global};
 use std::marker::Model;
 use values::slots::{Slot, entry_in, value_in};
 
-/// So many units, each with its entry.
+/// How many units a thread's frames may take.
+pub(crate) const UNITS: usize = 4096;
+
+/// Units, each with its entry: so many as were reached. The memory for all of them is there, and what isn't reached isn't touched.
 #[derive(Drop)]
 pub struct Units {
     slots: Vec<Slot>,
 }
 
 impl Model for Units {
-    ghost use Rattle.std.specs.Prelude.{List, map};
+    ghost use Rattle.std.specs.Prelude.{◌≤◌, List, map, vec_capacity};
     ghost use Rattle.model.specs.declared.values.Entry.{Entry};
     ghost use Rattle.values.specs.Slots.{entry_of};
 
     ghost Value = { List Entry };
 
     ghost view = { λ a. map entry_of a.slots.items };
+
+    ghost invariant = { λ a. 4096 ≤ vec_capacity a.slots };
 }
 
 #[tactic(auto, using(crate::proofs::SlotLemmas::slots))]
 impl Units {
-    /// So many units, all unset.
-    pub fn new(alloc: Global, count: usize) -> Result<Self, AllocError>
-        ensures { IfOk result (λ units. units ≡ replicate count Unset) }
+    /// None that was reached. `AllocError` where there is no memory for all.
+    pub fn new(alloc: Global) -> Result<Self, AllocError>
+        ensures { IfOk result (λ units. units ≡ []) }
     {
         Ok(Units {
-            slots: vec![in alloc; Slot::Unset; count]?,
+            slots: Vec::with_capacity(alloc, UNITS)?,
         })
+    }
+
+    /// Reaches so many units at least. Those that come are unset. It takes no memory.
+    pub fn reach(&mut self, count: usize)
+        requires { count ≤ 4096 }
+        ensures { self.new ≡ self.old ++ replicate (count - length self.old) Unset }
+    {
+        if self.slots.len() < count {
+            reach(&mut self.slots, count);
+        }
     }
 
     /// What stands in this unit.
@@ -80,10 +95,26 @@ impl Units {
     }
 }
 
+/// Unset slots behind these, up to so many. There is room for them.
+fn reach(slots: &mut Vec<Slot>, count: usize)
+    requires some { vec_len slots.old < count }
+    requires room { count ≤ vec_capacity slots.old }
+    ensures items { slots.new.items ≡ slots.old.items ++ replicate (count - vec_len slots.old) UnsetSlot }
+    ensures capacity { vec_capacity slots.old ≤ vec_capacity slots.new }
+{
+    for _place in slots.len()..count {
+        match slots.push(Slot::Unset) {
+            Ok(()) => {}
+            Err(_) => unreachable!(),
+        }
+    }
+}
+
 /// Makes so many slots unset, from this one on.
 fn unset(slots: &mut Vec<Slot>, base: usize, count: usize)
     requires { base + count ≤ vec_len slots.old }
-    ensures { slots.new.items ≡ take base slots.old.items ++ replicate count UnsetSlot ++ drop (base + count) slots.old.items }
+    ensures items { slots.new.items ≡ take base slots.old.items ++ replicate count UnsetSlot ++ drop (base + count) slots.old.items }
+    ensures capacity { vec_capacity slots.new ≡ vec_capacity slots.old }
 {
     slots[base..base + count].fill(Slot::Unset);
 }

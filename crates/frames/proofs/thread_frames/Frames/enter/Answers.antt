@@ -1,14 +1,21 @@
-use Rattle.std.proofs.Common.{refl, arith, None}
+use Rattle.std.proofs.Common.{◌≤◌, refl, arith, None, length, sym, subst}
 use Rattle.model.specs.declared.turns.Mark.TheVariants.{Unmarked}
 use Rattle.frames.specs.declared.activations.Activation.{Activation}
 use Rattle.frames.specs.Layout.{Stands}
-use Rattle.frames.proofs.LayoutLemmas.{sound_push, view_push, has_room-facts, unsets}
+use Rattle.frames.proofs.LayoutLemmas.{sound_push, view_push, has_room-facts, reaches, unsets}
 use Rattle.frames.proofs.thread_frames.Frames.enter.Goals as goal
+
+pub reach-requires : goal.reach-requires
+reach-requires c =
+    let room = has_room-facts _ _ _ _ _ _ c.self.invariant c.self.view_is c.requires in
+    room.1
 
 pub unset-requires : goal.unset-requires
 unset-requires c =
     let room = has_room-facts _ _ _ _ _ _ c.self.invariant c.self.view_is c.requires in
-    omega arith
+    let r = reaches _ _ _ _ _ _ c.self.invariant c.self.view_is room.1 c.reach.ensures in
+    let fits = r.fits in
+    omega (arith, fits)
 
 pub push-requires : goal.push-requires
 push-requires c =
@@ -18,13 +25,19 @@ push-requires c =
 pub invariant_of-self : goal.invariant_of-self
 invariant_of-self c =
     let room = has_room-facts _ _ _ _ _ _ c.self.invariant c.self.view_is c.requires in
-    let u = unsets c.self.inside.units c.unset.new.self c.self.inside.used c.args.max_locals (omega arith) c.unset.ensures in
+    let r = reaches _ _ _ _ _ _ c.self.invariant c.self.view_is room.1 c.reach.ensures in
+    let fits = r.fits in
+    let u = unsets c.reach.new.self c.unset.new.self c.self.inside.used c.args.max_locals (omega (arith, fits)) c.unset.ensures in
     let a : Activation = record { method = c.args.method; pc = 0; base = c.self.inside.used; locals = c.args.max_locals; values = 0; taken = 0; room = c.args.max_stack; monitor = None; mark = Unmarked } in
     let stands : Stands c.unset.new.self c.self.inside.used a = record { begins = refl; taken_is = refl; fits = omega arith } in
-    rw c.push.ensures (sound_push c.self.inside.units _ _ _ _ a c.self.invariant u.long u.same stands refl (omega arith) room.0)
+    let long = u.long in
+    let few = r.sound.units_are in
+    rw c.push.ensures (sound_push c.reach.new.self _ _ _ _ a r.sound (omega (arith, long, few)) u.same stands refl (omega (arith, long, fits)) room.0)
 
 pub returns : goal.returns
 returns c =
     let room = has_room-facts _ _ _ _ _ _ c.self.invariant c.self.view_is c.requires in
-    let u = unsets c.self.inside.units c.unset.new.self c.self.inside.used c.args.max_locals (omega arith) c.unset.ensures in
-    rw (c.push.ensures, ← u.unset) (view_push c.self.inside.units _ _ _ _ _ c.self.invariant c.self.view_is u.same)
+    let r = reaches _ _ _ _ _ _ c.self.invariant c.self.view_is room.1 c.reach.ensures in
+    let fits = r.fits in
+    let u = unsets c.reach.new.self c.unset.new.self c.self.inside.used c.args.max_locals (omega (arith, fits)) c.unset.ensures in
+    rw (c.push.ensures, ← u.unset) (view_push c.reach.new.self _ _ _ _ _ r.sound r.view u.same)
