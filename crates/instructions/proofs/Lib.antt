@@ -14,6 +14,7 @@ pub mod CodeResolves
 pub mod CallAgreement
 pub mod CallLemmas
 pub mod CallsSilent
+pub mod CodeCalled
 pub mod CodeCalls
 pub mod CatchLemmas
 pub mod CyclicLemmas

@@ -2,64 +2,46 @@ use Rattle.std.proofs.Common.{◌≡◌, ◌∙◌, ◌+◌, Some, ap, arith, le
 use Rattle.std.specs.Prelude.{if◌then◌else◌}
 use Rattle.model.specs.declared.turns.Fault.TheVariants.{NoMethod}
 use Rattle.model.specs.Frames.{running_frame}
-use Rattle.loader.specs.declared.method_tables.Body.TheVariants.{Coded}
 use Rattle.instructions.specs.declared.kinds.Course.TheVariants.{Live}
 use Rattle.instructions.specs.Acting.{shown, site_at, turned}
 use Rattle.instructions.specs.OwnCalls.{own_call}
 use Rattle.instructions.specs.CallsByNumbers.{enters, runs}
-use Rattle.instructions.proofs.AcceptedClasses.{unrefused}
 use Rattle.instructions.proofs.ActingLemmas.{fault_told}
 use Rattle.instructions.proofs.AloneLemmas.{alone_begins, alone_told}
-use Rattle.instructions.proofs.CallLemmas.{kinds-few, units_of_kinds}
-use Rattle.instructions.proofs.InvokeLemmas.{operands-there}
+use Rattle.instructions.proofs.CodeCalled.{instance-called}
 use Rattle.instructions.proofs.OwnArguments.{object-top}
-use Rattle.instructions.proofs.MethodsKnown.{code_fits, units_called}
 use Rattle.instructions.proofs.machines.Machine.run_known.Goals as goal
 
 pub overflow_cast-called : goal.overflow_cast-called
 overflow_cast-called c =
-    let program = c.args.program.now in
-    let method = c.args.method.now in
-    let body : method.body ≡ Coded c.in-Coded.max_locals c.in-Coded.max_stack = sym c.body.ensures ∙ c.in-Coded.is in
-    let fits = code_fits program (unrefused program c.requires.ready.accepted) c.args.place method c.in-Coded.max_locals c.in-Coded.max_stack c.requires.known body in
-    let locals = fits.arguments in
-    let frame = fits.frame in
-    let few = kinds-few method.arguments in
+    let called = instance-called c.args.program.now c.requires.ready.accepted c.args.place c.args.method.now c.in-Coded.max_locals c.in-Coded.max_stack c.requires.known
+    (sym c.body.ensures ∙ c.in-Coded.is) (running_frame c.args.self.now.frames).stack c.requires.instance c.args.object c.requires.operands in
     let same = ap length c.arguments.ensures in
-    omega (arith, locals, frame, few, same)
+    let few = called.few in
+    omega (arith, few, same)
 
 pub overflow_add-called : goal.overflow_add-called
 overflow_add-called c =
-    let program = c.args.program.now in
-    let method = c.args.method.now in
-    let body : method.body ≡ Coded c.in-Coded.max_locals c.in-Coded.max_stack = sym c.body.ensures ∙ c.in-Coded.is in
-    let fits = code_fits program (unrefused program c.requires.ready.accepted) c.args.place method c.in-Coded.max_locals c.in-Coded.max_stack c.requires.known body in
-    let locals = fits.arguments in
-    let frame = fits.frame in
-    let few = kinds-few method.arguments in
+    let called = instance-called c.args.program.now c.requires.ready.accepted c.args.place c.args.method.now c.in-Coded.max_locals c.in-Coded.max_stack c.requires.known
+    (sym c.body.ensures ∙ c.in-Coded.is) (running_frame c.args.self.now.frames).stack c.requires.instance c.args.object c.requires.operands in
     let same = ap length c.arguments.ensures in
-    omega (arith, locals, frame, few, same)
+    let few = called.few in
+    omega (arith, few, same)
 
 pub enter-requires-clause-there : goal.enter-requires-clause-there
 enter-requires-clause-there c =
-    let there = operands-there c.args.method.now.arguments (running_frame c.args.self.now.frames).stack c.args.object c.requires.operands in
-    let deep = there.deep in
+    let called = instance-called c.args.program.now c.requires.ready.accepted c.args.place c.args.method.now c.in-Coded.max_locals c.in-Coded.max_stack c.requires.known
+    (sym c.body.ensures ∙ c.in-Coded.is) (running_frame c.args.self.now.frames).stack c.requires.instance c.args.object c.requires.operands in
     let same = ap length c.arguments.ensures in
+    let deep = called.deep in
     omega (arith, deep, same)
 
 pub enter-requires-clause-enough : goal.enter-requires-clause-enough
 enter-requires-clause-enough c =
-    let program = c.args.program.now in
-    let method = c.args.method.now in
-    let body : method.body ≡ Coded c.in-Coded.max_locals c.in-Coded.max_stack = sym c.body.ensures ∙ c.in-Coded.is in
-    let fits = code_fits program (unrefused program c.requires.ready.accepted) c.args.place method c.in-Coded.max_locals c.in-Coded.max_stack c.requires.known body in
-    let locals = fits.arguments in
-    let object : units_called method ≡ units_of_kinds method.arguments + 1 =
-    ap (λ b. units_of_kinds method.arguments + (if b then 0 else 1)) c.requires.instance in
-    let there = operands-there method.arguments (running_frame c.args.self.now.frames).stack c.args.object c.requires.operands in
-    let units = there.units in
+    let called = instance-called c.args.program.now c.requires.ready.accepted c.args.place c.args.method.now c.in-Coded.max_locals c.in-Coded.max_stack c.requires.known
+    (sym c.body.ensures ∙ c.in-Coded.is) (running_frame c.args.self.now.frames).stack c.requires.instance c.args.object c.requires.operands in
     let same = ap length c.arguments.ensures in
-    rw same (omega (arith, locals, units, object))
+    rw same called.enough
 
 pub returns-in-NoCode-clause-step : goal.returns-in-NoCode-clause-step
 returns-in-NoCode-clause-step c = λ scene here lives.

@@ -1,47 +1,36 @@
 use Rattle.std.proofs.Common.{◌≡◌, ◌∙◌, None, ap, arith, length, sym}
 use Rattle.model.specs.Frames.{running_frame}
 use Rattle.model.specs.declared.turns.Fault.TheVariants.{NoInstruction, NoMethod}
-use Rattle.loader.specs.declared.method_tables.Body.TheVariants.{Coded}
 use Rattle.instructions.specs.declared.kinds.Course.TheVariants.{Live}
 use Rattle.instructions.specs.Acting.{shown, site_at, turned}
 use Rattle.instructions.specs.CallsByNumbers.{enters, no_own, runs}
-use Rattle.instructions.proofs.AcceptedClasses.{unrefused}
 use Rattle.instructions.proofs.ActingLemmas.{fault_told}
-use Rattle.instructions.proofs.CallLemmas.{arguments-there, kinds-few}
+use Rattle.instructions.proofs.CodeCalled.{static-called}
 use Rattle.instructions.proofs.EnterLemmas.{static-enters}
-use Rattle.instructions.proofs.MethodsKnown.{code_fits}
 use Rattle.instructions.proofs.machines.Machine.run_static.Goals as goal
 
 pub overflow_cast-called : goal.overflow_cast-called
 overflow_cast-called c =
-    let program = c.args.program.now in
-    let method = c.args.method.now in
-    let body : method.body ≡ Coded c.in-Coded.max_locals c.in-Coded.max_stack = sym c.body.ensures ∙ c.in-Coded.is in
-    let fits = code_fits program (unrefused program c.requires.ready.accepted) c.args.place method c.in-Coded.max_locals c.in-Coded.max_stack c.requires.known body in
-    let locals = fits.arguments in
-    let frame = fits.frame in
-    let few = kinds-few method.arguments in
+    let called = static-called c.args.program.now c.requires.ready.accepted c.args.place c.args.method.now c.in-Coded.max_locals c.in-Coded.max_stack c.requires.known
+    (sym c.body.ensures ∙ c.in-Coded.is) (running_frame c.args.self.now.frames).stack c.requires.arguments in
     let same = ap length c.arguments.ensures in
-    omega (arith, locals, frame, few, same)
+    let few = called.few in
+    omega (arith, few, same)
 
 pub enter-requires-clause-there : goal.enter-requires-clause-there
 enter-requires-clause-there c =
-    let there = arguments-there c.args.method.now.arguments (running_frame c.args.self.now.frames).stack c.requires.arguments in
-    let deep = there.deep in
+    let called = static-called c.args.program.now c.requires.ready.accepted c.args.place c.args.method.now c.in-Coded.max_locals c.in-Coded.max_stack c.requires.known
+    (sym c.body.ensures ∙ c.in-Coded.is) (running_frame c.args.self.now.frames).stack c.requires.arguments in
     let same = ap length c.arguments.ensures in
+    let deep = called.deep in
     omega (arith, deep, same)
 
 pub enter-requires-clause-enough : goal.enter-requires-clause-enough
 enter-requires-clause-enough c =
-    let program = c.args.program.now in
-    let method = c.args.method.now in
-    let body : method.body ≡ Coded c.in-Coded.max_locals c.in-Coded.max_stack = sym c.body.ensures ∙ c.in-Coded.is in
-    let fits = code_fits program (unrefused program c.requires.ready.accepted) c.args.place method c.in-Coded.max_locals c.in-Coded.max_stack c.requires.known body in
-    let locals = fits.arguments in
-    let there = arguments-there method.arguments (running_frame c.args.self.now.frames).stack c.requires.arguments in
-    let units = there.units in
+    let called = static-called c.args.program.now c.requires.ready.accepted c.args.place c.args.method.now c.in-Coded.max_locals c.in-Coded.max_stack c.requires.known
+    (sym c.body.ensures ∙ c.in-Coded.is) (running_frame c.args.self.now.frames).stack c.requires.arguments in
     let same = ap length c.arguments.ensures in
-    rw same (omega (arith, locals, units))
+    rw same called.enough
 
 pub returns-in-NoCode-clause-step : goal.returns-in-NoCode-clause-step
 returns-in-NoCode-clause-step c = λ scene here.
