@@ -1,16 +1,20 @@
-use Rattle.std.proofs.Common.{sym, ap, ◌∙◌}
-use Rattle.hall.specs.Roles.{after_more, answer_more}
+use Rattle.std.proofs.Common.{◌≡◌, ap, sym, rules, ◌∙◌}
+use Rattle.hall.specs.declared.roles.Role.TheVariants.{Both}
+use Rattle.hall.specs.Roles.{after_more, answer_more, done_so_far}
 use Rattle.hall.proofs.ManyRounds.{more-answer, more-world}
 use Rattle.hall.proofs.shares.Shared.more_rounds.Goals as goal
 
-pub returns-in-Both-clause-world : goal.returns-in-Both-clause-world
-returns-in-Both-clause-world g c =
+pub returns-in-Both-eq0-clause-world : goal.returns-in-Both-eq0-clause-world
+returns-in-Both-eq0-clause-world g c =
     let worker = c.args.share.now.worker in
     let v = c.args.self.now in
-    c.carry_on.ensures.world ∙ sym (ap (λ role. after_more v role worker c.args.extra) (c.role.ensures) ∙ more-world worker c.args.extra v)
+    let role : c.args.share.now.role ≡ Both 0 = search rules in
+    c.carry_on.ensures.world ∙ sym (ap (λ role. after_more v role worker c.args.extra) role ∙ more-world worker c.args.extra v)
 
-pub returns-in-Both-clause-answer : goal.returns-in-Both-clause-answer
-returns-in-Both-clause-answer g c =
+pub returns-in-Both-eq0-clause-answer : goal.returns-in-Both-eq0-clause-answer
+returns-in-Both-eq0-clause-answer g c =
     let worker = c.args.share.now.worker in
     let v = c.args.self.now in
-    c.done_so_far.ensures ∙ sym (more-answer worker c.args.extra v)
+    let role : c.args.share.now.role ≡ Both 0 = search rules in
+    c.done_so_far.ensures ∙ ap done_so_far c.carry_on.ensures.answer
+    ∙ sym (ap (λ role. answer_more v role worker c.args.extra) role ∙ more-answer worker c.args.extra v)
