@@ -5,10 +5,11 @@ few functions for it, and not the crate.
     tools/leave_out.py CRATE EDIT [--try]
 
 The module of the edit's first file stays, with all that it names: modules, definitions and lemmas. Other modules stand
-under cfg(test), and what names one of them (a file of specs/ or proofs/) is a comment. The pairs come behind the line
-MARK, in place of what stood there. With --try the crate without what is left out is checked, wrong body and all but the
-first file's pairs, and has to be proved. It gains where the edit is the crate's only one: with two or more the gate
-proves the whole crate once more.
+under cfg(test); what names one of them (a file of specs/ or proofs/) is a comment, and so are other files of lemmas. A file
+that can't be one, since its first or last line stands twice in it or it names files, stays with all that it names. The
+pairs come behind the line MARK, in place of what stood there. With --try the crate without what is left out is checked,
+wrong body and all but the first file's pairs, and has to be proved. It gains where the edit is the crate's only one: with
+two or more the gate proves the whole crate once more.
 """
 
 import os
@@ -71,9 +72,9 @@ class Parts:
             named |= {path} - {""}
         return named
 
-    def needed(self, module):
-        """The module and all that it names."""
-        found, left = set(), [module]
+    def needed(self, first):
+        """A module or a file, and all that it names."""
+        found, left = set(), [first]
         while left:
             name = left.pop()
             if name not in found:
@@ -82,12 +83,20 @@ class Parts:
                 left += self.modules_in(text) | self.files_in(text)
         return found
 
-    def lost(self, needed):
-        """The files that name what is left out."""
-        lost = {name for name, text in self.files.items() if name not in needed and self.modules_in(text) - needed}
-        while more := {name for name, text in self.files.items() if name not in needed | lost and self.files_in(text) & lost}:
+    def lost(self, kept):
+        """The files that name what is left out, and lemmas that nothing kept names."""
+        lost = {name for name, text in self.files.items() if name.startswith("proofs.") or self.modules_in(text) - kept} - kept
+        while more := {name for name, text in self.files.items() if name not in kept | lost and self.files_in(text) & lost}:
             lost |= more
         return lost
+
+    def kept(self, module):
+        """What the module needs, and the files that can't be comments, with what they name."""
+        kept = self.needed(module)
+        while stuck := {name for name in self.lost(kept) if not as_comment(self.files[name])}:
+            for name in stuck:
+                kept |= self.needed(name)
+        return kept
 
 
 def as_comment(text):
@@ -101,18 +110,15 @@ def as_comment(text):
     return [part for pair in zip(ends, new) for part in (f"old: {pair[0]}", f"new: {pair[1]}")]
 
 
-def pairs(parts, needed):
+def pairs(parts, kept):
     lines = ["file: src/lib.rt"]
     for line in parts.root.split("\n"):
         found = re.match(r"(?:pub )?mod (\w+);|pub use (?:crate::)?(\w+)::", line)
         name = found and (found[1] or found[2])
-        if name in parts.modules and name not in needed and f"#[cfg(test)]\n{line}" not in parts.root:
+        if name in parts.modules and name not in kept and f"#[cfg(test)]\n{line}" not in parts.root:
             lines += [f"old: {found[0]}", f"new: #[cfg(test)] {found[0]}"]
-    for name in sorted(parts.lost(needed)):
-        found = as_comment(parts.files[name])
-        if not found:
-            sys.exit(f"{name} can't be made a comment: its first or last line stands twice in it, or it names files")
-        lines += [f"file: {os.path.relpath(parts.paths[name], parts.folder)}", *found]
+    for name in sorted(parts.lost(kept)):
+        lines += [f"file: {os.path.relpath(parts.paths[name], parts.folder)}", *as_comment(parts.files[name])]
     return lines
 
 
@@ -126,7 +132,7 @@ def main():
     wrong = read(edit).split(MARK)[0].rstrip("\n").split("\n")
     module = next(line for line in wrong if line.startswith("file: src/")).removeprefix("file: src/")
     parts = Parts(folder, crate)
-    rest = pairs(parts, parts.needed(re.split(r"[/.]", module)[0]))
+    rest = pairs(parts, parts.kept(re.split(r"[/.]", module)[0]))
     with open(edit, "w", encoding="utf-8") as file:
         file.write("\n".join([*wrong, MARK, *rest, ""]))
     if "--try" not in sys.argv:
