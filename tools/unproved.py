@@ -1,0 +1,133 @@
+#!/usr/bin/env python3
+"""Compiles `jvm` with nothing proved, so that a change can be measured before its proofs are written.
+
+Usage: unproved.py PROGRAM
+
+`rt try` hands clang the module of the whole program, with checks that a proof makes needless. This keeps that module, takes
+the checks out, marks what the sources say of inlining, and compiles and links it as `rt` does. So PROGRAM is as fast as a
+proved one (docs/SPEED.md); what it prints is no evidence of anything else. Some seven minutes of processor time. It calls
+parts of the kit that its authors may change.
+"""
+import os
+import re
+import shutil
+import signal
+import subprocess
+import sys
+import tempfile
+import time
+
+HERE = os.path.dirname(os.path.dirname(os.path.abspath(__file__)))
+KIT = os.path.dirname(os.path.dirname(os.path.realpath(shutil.which("rt"))))
+CLANG = f"{KIT}/toolchain/bin/clang"
+TARGET = "x86_64-unknown-linux-gnu"
+# what `rt` has clang do, but for the level
+FLAGS = f"""--target={TARGET} -march=x86-64 -mllvm -no-trap-after-noreturn -ffunction-sections -fdata-sections
+    -mllvm -trap-unreachable -mllvm -no-x86-call-frame-opt -mllvm -disable-machine-licm -mllvm -disable-postra-machine-licm
+    -mllvm -sink-common-insts=false --no-default-config -fno-crash-diagnostics -fPIE -Wno-everything""".split()
+WORDS = {"always": "alwaysinline", "never": "noinline", None: "inlinehint"}
+# the crates of the kit whose functions stand in the loop of turns
+LIBRARIES = ("core", "std", "std_alloc", "std_heap", "std_collections", "circular_buffer", "atomic_table")
+
+
+def kit_that_keeps(room):
+    """A kit of links in which clang keeps a copy of the module that it is given."""
+    kit = f"{room}/kit"
+    for folder in ("bin", "toolchain/bin"):
+        os.makedirs(f"{kit}/{folder}")
+        for name in os.listdir(f"{KIT}/{folder}"):
+            if name in ("rt", "rtlib.py"):  # these look for the kit where they stand
+                shutil.copy2(f"{KIT}/{folder}/{name}", f"{kit}/{folder}/{name}")
+            elif name != "clang":
+                os.symlink(f"{KIT}/{folder}/{name}", f"{kit}/{folder}/{name}")
+    os.symlink(f"{KIT}/toolchain/lib", f"{kit}/toolchain/lib")
+    for name in set(os.listdir(KIT)) - {"bin", "toolchain"}:
+        os.symlink(f"{KIT}/{name}", f"{kit}/{name}")
+    clang = f"{kit}/toolchain/bin/clang"
+    with open(clang, "w", encoding="utf-8") as file:
+        # (it is called with no environment, first for a part of the program, and then for the whole with a sanitizer)
+        keep = f'[ -f module.bc ] && case "$*" in *-fsanitize=*) /bin/cp module.bc {room}/part.bc && /bin/mv {room}/part.bc {room}/module.bc;; esac'
+        file.write(f'#!/bin/bash\n{keep}\nexec -a "$0" {CLANG} "$@"\n')
+    os.chmod(clang, 0o755)
+    return kit
+
+
+def module_of_program(room):
+    """The module of the whole program; `rt try` is stopped once it is there."""
+    words = [f"{kit_that_keeps(room)}/bin/rt", "try", "--data", "hello.j=../../examples/hello.j", "--", "run", "hello.j"]
+    how = {"cwd": f"{HERE}/crates/jvm", "stdout": subprocess.DEVNULL, "stderr": subprocess.DEVNULL, "start_new_session": True}
+    ran = subprocess.Popen(words, **how)
+    while not os.path.exists(f"{room}/module.bc") and ran.poll() is None:
+        time.sleep(1)
+    if ran.poll() is None:
+        os.killpg(ran.pid, signal.SIGTERM)
+        ran.wait()
+    if not os.path.exists(f"{room}/module.bc"):
+        sys.exit("rt try made no module: run it in crates/jvm to see why")
+    return f"{room}/module.bc"
+
+
+def marks():
+    """What the sources say of inlining, by the names of functions: with the crate and the type, or with the modules."""
+    found = {}
+    folders = {name: f"{HERE}/crates/{name}/src" for name in os.listdir(f"{HERE}/crates")}
+    folders |= {name: f"{KIT}/rattle/{name}/src" for name in LIBRARIES}
+    for crate, folder in folders.items():
+        for at, _, names in os.walk(folder):
+            for name in names:
+                modules = [it for it in os.path.relpath(f"{at}/{name}", folder)[:-3].split("/") if it not in ("mod", "lib", "main")]
+                with open(f"{at}/{name}", encoding="utf-8") as file:
+                    found |= marks_in(file, crate, modules)
+    return found
+
+
+def marks_in(lines, crate, modules):
+    found, mark, kind = {}, False, None
+    for line in lines:
+        if attribute := re.match(r"\s*#\[inline(?:\((\w+)\))?\]", line):
+            mark = attribute[1]
+        elif line.startswith("impl"):
+            words = re.findall(r"\w+", re.sub(r"<.*?>", "", line[4:]).split(" for ")[-1])
+            kind = words[0] if words else None
+        elif function := re.match(r"(\s*)(?:pub(?:\(\w+\))? )?(?:const )?(?:unsafe )?fn (\w+)", line):
+            if mark is not False:
+                found["::".join([crate, kind, function[2]] if function[1] and kind else [crate, *modules, function[2]])] = mark
+            mark = False
+    return found
+
+
+def unchecked(line, told):
+    """A line of the module without its checks, or nothing."""
+    if "rattle-llvm-checks::" in line and line.lstrip().startswith("call") or line.strip() == "call void @llvm.trap()":
+        return ""
+    if "@llvm.memset" in line and "i8 -86" in line:  # what a variable holds before it is set
+        return ""
+    if "= load volatile i8, ptr @static.0," in line:  # whether the program was to end
+        return line.split("=")[0] + "= add i8 0, 0\n"
+    if line.startswith("attributes #"):
+        return line.replace(" sanitize_address", "")
+    if line.startswith("define"):
+        name = re.search(r'@"?([^"(]*)', line)[1].split("::<")[0]
+        parts = name.split("::")
+        for it in (name, "::".join([parts[0], *parts[-2:]])):
+            if it in told:
+                return re.sub(r"\) (#\d+ \{)$", rf") {WORDS[told[it]]} \1", line)
+    return line
+
+
+def main():
+    if len(sys.argv) != 2:
+        sys.exit(__doc__)
+    with tempfile.TemporaryDirectory() as room:
+        module = module_of_program(room)
+        subprocess.run([CLANG, "-S", "-emit-llvm", "-O0", "-Xclang", "-disable-llvm-passes", "-x", "ir", module, "-o", f"{room}/a.ll", "-Wno-everything"], check=True)
+        told = marks()
+        with open(f"{room}/a.ll", errors="surrogateescape") as old, open(f"{room}/b.ll", "w", errors="surrogateescape") as new:
+            new.writelines(unchecked(line, told) for line in old)
+        subprocess.run([CLANG, *FLAGS, "-O3", "-c", "-x", "ir", f"{room}/b.ll", "-o", f"{room}/program.o"], check=True)
+        link = [f"{KIT}/bin/rattle-link", "--target", TARGET, "--toolchain", f"{KIT}/toolchain", "-o", os.path.abspath(sys.argv[1])]
+        subprocess.run([*link, f"{room}/program.o", f"{KIT}/c/libos_c.a", f"{KIT}/c/liblibc_c.a"], check=True)
+
+
+if __name__ == "__main__":
+    main()
