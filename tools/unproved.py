@@ -46,7 +46,8 @@ def kit_that_keeps(room):
     clang = f"{kit}/toolchain/bin/clang"
     with open(clang, "w", encoding="utf-8") as file:
         # (it is called with no environment, first for a part of the program, and then for the whole with a sanitizer)
-        keep = f'[ -f module.bc ] && case "$*" in *-fsanitize=*) /bin/cp module.bc {room}/part.bc && /bin/mv {room}/part.bc {room}/module.bc;; esac'
+        copy = f"/bin/cp module.bc {room}/part.bc && /bin/mv {room}/part.bc {room}/module.bc"
+        keep = f'[ -f module.bc ] && case "$*" in *-fsanitize=*) {copy};; esac'
         file.write(f'#!/bin/bash\n{keep}\nexec -a "$0" {CLANG} "$@"\n')
     os.chmod(clang, 0o755)
     return kit
@@ -120,7 +121,8 @@ def main():
         sys.exit(__doc__)
     with tempfile.TemporaryDirectory() as room:
         module = module_of_program(room)
-        subprocess.run([CLANG, "-S", "-emit-llvm", "-O0", "-Xclang", "-disable-llvm-passes", "-x", "ir", module, "-o", f"{room}/a.ll", "-Wno-everything"], check=True)
+        as_text = [CLANG, "-S", "-emit-llvm", "-O0", "-Xclang", "-disable-llvm-passes", "-Wno-everything", "-x", "ir", module]
+        subprocess.run([*as_text, "-o", f"{room}/a.ll"], check=True)
         told = marks()
         with open(f"{room}/a.ll", errors="surrogateescape") as old, open(f"{room}/b.ll", "w", errors="surrogateescape") as new:
             new.writelines(unchecked(line, told) for line in old)
