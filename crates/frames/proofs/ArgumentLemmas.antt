@@ -23,6 +23,17 @@ put_two units end d e h =
     let place : end + 1 + 1 ≡ end + 2 = omega arith in
     second ∙ rw (before, behind, place, append_assoc (take end units) (d ∷ []) (e ∷ []))
 
+-- a long is written as two, anything else as one
+pub two_entries : (v : Value) → units_of v ≡ 2 → argument_entries (v ∷ []) ≡ Holds v ∷ UpperHalf ∷ []
+two_entries (Int z) is = absurd (omega arith)
+two_entries (Long z) is = refl
+two_entries (Ref r) is = absurd (omega arith)
+
+pub one_entry : (v : Value) → (units_of v ≡ 2 → ⊥) → (argument_entries (v ∷ []) ≡ Holds v ∷ []) × (units_of v ≡ 1)
+one_entry (Int z) is = (refl, refl)
+one_entry (Long z) is = absurd (is refl)
+one_entry (Ref r) is = (refl, refl)
+
 pub length-argument_entries : (vs : List Value) → length (argument_entries vs) ≡ units_of_all vs
 length-argument_entries [] = refl
 length-argument_entries (Int z ∷ vs) = let rest = length-argument_entries vs in omega arith

@@ -1,11 +1,11 @@
-use Rattle.std.specs.Prelude.{◌≡◌, ℕ, zero, suc, ◌-◌, ◌≤◌, List, [], ◌∷◌, ◌++◌, length, slice_index_or, slice_set, None}
+use Rattle.std.specs.Prelude.{◌≡◌, ℕ, zero, suc, ◌-◌, ◌≤◌, List, [], ◌∷◌, ◌++◌, length, slice_index_or, slice_set, take, None}
 use Rattle.model.specs.declared.turns.Mark.TheVariants.{Unmarked}
 use Rattle.frames.specs.declared.activations.Activation.{Activation}
 
--- so many activations: those below the running one, and then this one, where there is any
+-- so many activations: of these below the running one so many but one, and then the running one, where there is any
 abbrev pub all_of : List Activation → Activation → ℕ → List Activation
 all_of below running zero = []
-all_of below running (suc n) = below ++ running ∷ []
+all_of below running (suc n) = take n below ++ running ∷ []
 
 -- where there is none, an activation that no program has
 abbrev pub no_activation : Activation
@@ -18,8 +18,8 @@ last_of activations = slice_index_or activations (length activations - 1) no_act
 abbrev pub with_last : List Activation → Activation → List Activation
 with_last activations a = slice_set activations (length activations - 1) a
 
--- all but the running one stand below it, and there is room for 256
+-- all but the running one stand below it, maybe with others behind them, and there is room for 256
 pub record AreFew (below : List Activation) (count capacity : ℕ) : Type 0 where
-  pub below_are : length below ≡ count - 1
+  pub below_are : count - 1 ≤ length below
   pub count_is : count ≤ 256
   pub capacity_is : 256 ≤ capacity

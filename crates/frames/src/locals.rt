@@ -1,6 +1,6 @@
 //! The running frame's locals (JVMS 2.6.1): a long takes two entries, and a store that covers one half of a long makes
 //! its other half unset.
-ghost use Rattle.std.specs.Prelude.{◌≡◌, ℕ, ◌+◌, ◌<◌, ◌≤◌, ◌^◌, length, slice_set, IsOk, OnErr};
+ghost use Rattle.std.specs.Prelude.{◌≡◌, ℕ, ◌+◌, ◌<◌, ◌≤◌, ◌^◌, drop, length, slice_set, IsOk, OnErr};
 ghost use Rattle.model.specs.Frames.{running_frame, with_running, as_int};
 ghost use Rattle.model.specs.declared.values.Kind.TheVariants.{Int as IntKind};
 ghost use Rattle.model.specs.Locals.{entries_of as width_of, has_local, value_on, local_at, freed, with_local, stored};
@@ -59,6 +59,15 @@ impl Frames {
         ensures deep { IsOk result → 1 ≤ length (running_frame self.now).stack }
     {
         operand_in(kind, self.slot(0)?)
+    }
+
+    /// The operand of this kind below so many values; F1, F3.
+    #[inline(always)]
+    pub fn operand_below(&self, kind: Kind, above: usize) -> Result<Value, Fault>
+        requires { 0 < length self.now }
+        ensures { result ≡ value_on kind (drop above (running_frame self.now).stack) }
+    {
+        operand_in(kind, self.slot(above)?)
     }
 
     /// Makes the other half of a long unset whose one half stands at this index.

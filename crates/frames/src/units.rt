@@ -8,6 +8,7 @@ ghost use Rattle.values.specs.declared.slots.Slot.TheVariants.{Unset as UnsetSlo
 use model::values::{Entry, Value};
 use std::alloc::{AllocError, Global};
 use std::marker::Model;
+use std::mem::replace;
 use values::slots::{Slot, entry_in, value_in};
 
 /// How many units a thread's frames may take.
@@ -43,12 +44,16 @@ impl Units {
     }
 
     /// Reaches so many units at least. Those that come are unset. It takes no memory.
+    // What has to grow is moved away and back, so that no call that isn't inlined sees where it stands.
+    #[inline(always)]
     pub fn reach(&mut self, count: usize)
         requires { count ≤ 4096 }
         ensures { self.new ≡ self.old ++ replicate (count - length self.old) Unset }
     {
         if self.slots.len() < count {
-            reach(&mut self.slots, count);
+            let none = Vec::new(*self.slots.allocator());
+            let more = reached(replace(&mut self.slots, none), count);
+            let _none = replace(&mut self.slots, more);
         }
     }
 
@@ -71,6 +76,7 @@ impl Units {
     }
 
     /// Makes so many units unset, from this one on.
+    #[inline(always)]
     pub fn unset(&mut self, base: usize, count: usize)
         requires { base + count ≤ length self.old }
         ensures { self.new ≡ take base self.old ++ replicate count Unset ++ drop (base + count) self.old }
@@ -95,28 +101,42 @@ impl Units {
     }
 }
 
-/// Unset slots behind these, up to so many. There is room for them.
-fn reach(slots: &mut Vec<Slot>, count: usize)
-    requires some { vec_len slots.old < count }
-    requires room { count ≤ vec_capacity slots.old }
-    ensures items { slots.new.items ≡ slots.old.items ++ replicate (count - vec_len slots.old) UnsetSlot }
-    ensures capacity { vec_capacity slots.old ≤ vec_capacity slots.new }
+/// These slots, and unset ones behind them, up to so many. There is room for them.
+#[inline(never)]
+fn reached(slots: Vec<Slot>, count: usize) -> Vec<Slot>
+    requires some { vec_len slots < count }
+    requires room { count ≤ vec_capacity slots }
+    ensures items { result.items ≡ slots.items ++ replicate (count - vec_len slots) UnsetSlot }
+    ensures capacity { vec_capacity slots ≤ vec_capacity result }
 {
-    for _place in slots.len()..count {
-        match slots.push(Slot::Unset) {
+    let mut more = slots;
+    for _place in more.len()..count {
+        match more.push(Slot::Unset) {
             Ok(()) => {}
             Err(_) => unreachable!(),
         }
     }
+    more
+}
+
+/// Makes these slots unset.
+#[inline(never)]
+fn unset_all(slots: &mut [Slot])
+    ensures { slots.new ≡ replicate (length slots.old) UnsetSlot }
+{
+    slots.fill(Slot::Unset);
 }
 
 /// Makes so many slots unset, from this one on.
+#[inline(always)]
 fn unset(slots: &mut Vec<Slot>, base: usize, count: usize)
     requires { base + count ≤ vec_len slots.old }
     ensures items { slots.new.items ≡ take base slots.old.items ++ replicate count UnsetSlot ++ drop (base + count) slots.old.items }
     ensures capacity { vec_capacity slots.new ≡ vec_capacity slots.old }
 {
-    slots[base..base + count].fill(Slot::Unset);
+    if count > 0 {
+        unset_all(&mut slots[base..base + count]);
+    }
 }
 
 /// A copy of the entries in some slots.

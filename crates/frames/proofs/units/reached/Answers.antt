@@ -3,17 +3,17 @@ use Rattle.std.specs.Prelude.{vec_len}
 use Rattle.std.proofs.lemmas.List.{replicate-append-replicate}
 use Rattle.values.specs.declared.slots.Slot.{Slot}
 use Rattle.values.specs.declared.slots.Slot.TheVariants.{Unset}
-use Rattle.frames.proofs.units.reach.Goals as goal
+use Rattle.frames.proofs.units.reached.Goals as goal
 
 pub loop-place-preserved : goal.loop-place-preserved
 loop-place-preserved c =
     let at = c.loop-place in
-    let first = c.args.slots.now in
+    let first = c.args.slots in
     let more = at.invariant.more in
     let held = at.invariant.capacity in
     let grown = c.push.ensures.capacity in
-    let pushed : c.push.new.self.items ≡ at.slots.items ++ Unset ∷ [] = rw c.in-Ok.is at c.push.ensures.items in
-    let longer : vec_len c.push.new.self ≡ vec_len at.slots + 1 = rw c.in-Ok.is at c.push.ensures.len in
+    let pushed : c.push.new.self.items ≡ at.more.items ++ Unset ∷ [] = rw c.in-Ok.is at c.push.ensures.items in
+    let longer : vec_len c.push.new.self ≡ vec_len at.more + 1 = rw c.in-Ok.is at c.push.ensures.len in
     let k = at._place - vec_len first in
     let next : k + 1 ≡ at._place + 1 - vec_len first = omega (arith, more) in
     record {
