@@ -98,7 +98,7 @@ impl Frames {
         ensures kept { OnErr result (self.new ≡ self.old) }
     {
         let units = self.units_above(count);
-        if self.taken() - units + units_in(slot) > self.room() {
+        if self.free_units() + units < units_in(slot) {
             return Err(Abrupt::Fault(Fault::StackFull));
         }
         self.drop_values(next, count, units);
