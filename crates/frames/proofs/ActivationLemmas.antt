@@ -26,6 +26,12 @@ last_is below a (suc n) some =
     let place : length (take n below ++ a ∷ []) - 1 ≡ length (take n below) = let more = length-pushed (take n below) a in omega arith in
     sym (ap (λ (k : ℕ). get_or (take n below ++ a ∷ []) k no_activation) place ∙ get_or-append_seam (take n below) a [] no_activation)
 
+-- the registers are those of the last one
+pub running_is_last : (below : List Activation) (a : Activation) (count : ℕ) (acts : List Activation) → all_of below a count ≡ acts → 0 < length acts → a ≡ last_of acts
+running_is_last below a count acts view some =
+    let there : 0 < length (all_of below a count) = omega (arith, ap length view, some) in
+    last_is below a count there ∙ ap last_of view
+
 pub last_put : (below : List Activation) (a a' : Activation) (count : ℕ) → 0 < length (all_of below a count) → all_of below a' count ≡ with_last (all_of below a count) a'
 last_put below a a' zero some = absurd (omega arith)
 last_put below a a' (suc n) some =

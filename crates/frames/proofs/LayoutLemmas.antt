@@ -1,6 +1,7 @@
 -- how the frames read after a write in the region of the last one
-use Rattle.std.proofs.Common.{◌≡◌, ℕ, ◌+◌, ◌-◌, ◌<◌, ◌≤◌, List, [], ◌∷◌, ◌++◌, length, map, slice_set, take, drop, nat_lt, nat_le, ◌&&◌, zero-add, replicate, Ok, Some, None, slice_get, Bool, true, refl, ap, sym, ◌∙◌, subst, arith, get_or}
+use Rattle.std.proofs.Common.{All, ◌≡◌, ℕ, ◌+◌, ◌-◌, ◌<◌, ◌≤◌, List, [], ◌∷◌, ◌++◌, length, map, slice_set, take, drop, nat_lt, nat_le, ◌&&◌, zero-add, replicate, Ok, Some, None, slice_get, Bool, true, refl, ap, sym, ◌∙◌, subst, arith, get_or}
 use Rattle.std.proofs.lemmas.List.{take-take, take_more, take_all, map_push, length-map, length-set, get_or-map, length-append, take-map, length-take-le, length-drop, length-replicate, take-append-le, append_assoc, take_at, drop_at, take-set-le, get_or_default, get_or-take, get_or-drop, set-get_or, drop-set-add}
+use Rattle.std.proofs.lemmas.List.Elements.{All-cons, All-nil}
 use Rattle.std.proofs.lemmas.Option.{slice_get_read, slice_get_past}
 use Rattle.std.proofs.Math.Seq.{take-set-lt}
 use Rattle.std.proofs.lemmas.Bool.{lt-ltb, and_parts, ltb-true, leb-true}
@@ -11,7 +12,7 @@ use Rattle.model.specs.Values.{units_of, units_of_all}
 use Rattle.model.specs.Frames.{Frame, running_frame, callers, top_of, with_running, no_frame, units_of_frames, has_room_for}
 use Rattle.frames.specs.declared.activations.Activation.{Activation}
 use Rattle.values.specs.Slots.{value_in}
-use Rattle.frames.specs.Activations.{last_of, with_last, no_activation}
+use Rattle.frames.specs.Activations.{Fits, last_of, with_last, no_activation}
 use Rattle.frames.specs.Layout.{stack_of, frame_of, Stands, AreLaidOut, IsSound}
 use Rattle.frames.proofs.ListLemmas.{set_last}
 use Rattle.frames.proofs.StackLemmas.{stack_of-agree, locals-agree, length-stack_of, length_le_units, units_of_all-take-drop, units_of-pos, drop-stack_of, stack_of-push, stack_of-set_below, top_of-drop-stack_of}
@@ -52,6 +53,22 @@ values_fit units base a stands =
     let taken = stands.taken_is in
     let fits = stands.fits in
     omega arith
+
+-- an activation with another stack that stands within its room fits
+pub fits_with : (units : List Entry) (a : Activation) (pc values taken : ℕ) → Stands units a.base (record a { values = values; taken = taken }) → a.base + a.locals + a.room ≤ 4096 → Fits (record a { pc = pc; values = values; taken = taken })
+fits_with units a pc values taken stands inside =
+    let few = values_fit units a.base (record a { values = values; taken = taken }) stands in
+    let fits = stands.fits in
+    record { inside = omega arith; within = fits; few = omega arith }
+
+-- all activations fit
+pub all_fit : (units : List Entry) (base end : ℕ) (acts : List Activation) → AreLaidOut units base acts end → end ≤ 4096 → All Fits acts
+all_fit units base end [] h le = All-nil Fits
+all_fit units base end (x ∷ xs) h le =
+    let up = laid_le units (base + x.locals + x.room) end xs h.1 in
+    let begins = h.0.begins in
+    let stands : Stands units x.base x = record { begins = refl; taken_is = h.0.taken_is; fits = h.0.fits } in
+    All-cons Fits x xs (fits_with units x x.pc x.values x.taken stands (omega arith)) (all_fit units (base + x.locals + x.room) end xs h.1 le)
 
 -- units that agree below one place agree below each lower one
 pub take-agree : (units units' : List Entry) (m k : ℕ) → take m units ≡ take m units' → k ≤ m → take k units ≡ take k units'
@@ -200,6 +217,9 @@ module _ {units : List Entry} {acts : List Activation} {used : ℕ} {frames : Li
       let ends = last.ends in
       let used_is = o.sound.used_is in
       (omega arith, values_fit units a.base a last.stands, last.stands.fits, o.sound.units_are)
+
+  pub fits_in_units : a.base + a.locals + a.room ≤ 4096
+  fits_in_units = let fits = region_fits in omega (arith, fits)
 
   pub stack_is : (running_frame frames).stack ≡ stack_of units (a.base + a.locals) a.values
   stack_is = ap (λ (f : Frame). f.stack) running_is

@@ -1,4 +1,4 @@
-use Rattle.std.specs.Prelude.{◌≡◌, ℕ, zero, suc, ◌-◌, ◌≤◌, List, [], ◌∷◌, ◌++◌, length, slice_index_or, slice_set, take, None}
+use Rattle.std.specs.Prelude.{◌≡◌, ℕ, zero, suc, ◌+◌, ◌-◌, ◌≤◌, List, [], ◌∷◌, ◌++◌, length, slice_index_or, slice_set, take, None}
 use Rattle.model.specs.declared.turns.Mark.TheVariants.{Unmarked}
 use Rattle.frames.specs.declared.activations.Activation.{Activation}
 
@@ -23,3 +23,9 @@ pub record AreFew (below : List Activation) (count capacity : ℕ) : Type 0 wher
   pub below_are : count - 1 ≤ length below
   pub count_is : count ≤ 256
   pub capacity_is : 256 ≤ capacity
+
+-- an activation's locals and stack stand within the units, and its stack takes no more than its room
+pub record Fits (a : Activation) : Type 0 where
+  pub inside : a.base + a.locals + a.values ≤ 4096
+  pub within : a.taken ≤ a.room
+  pub few : a.room ≤ 4096

@@ -41,6 +41,7 @@ mod arguments;
 pub mod heads;
 mod locals;
 mod operands;
+mod registers;
 mod results;
 mod thread_frames;
 mod units;

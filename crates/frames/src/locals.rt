@@ -1,7 +1,8 @@
 //! The running frame's locals (JVMS 2.6.1): a long takes two entries, and a store that covers one half of a long makes
 //! its other half unset.
-ghost use Rattle.std.specs.Prelude.{◌≡◌, ℕ, ◌+◌, ◌<◌, ◌≤◌, ◌^◌, drop, length, slice_set, IsOk, OnErr};
+ghost use Rattle.std.specs.Prelude.{◌≡◌, ℕ, ◌+◌, ◌<◌, ◌≤◌, ◌^◌, drop, length, slice_set, take, IfOk, IsOk, OnErr};
 ghost use Rattle.model.specs.Frames.{running_frame, with_running, as_int};
+ghost use Rattle.model.specs.Values.{units_of as units_taken, units_of_all};
 ghost use Rattle.model.specs.declared.values.Kind.TheVariants.{Int as IntKind};
 ghost use Rattle.model.specs.Locals.{entries_of as width_of, has_local, value_on, local_at, freed, with_local, stored};
 ghost use Rattle.model.specs.declared.values.Entry.TheVariants.{UpperHalf};
@@ -57,6 +58,7 @@ impl Frames {
         requires { 0 < length self.now }
         ensures value { result ≡ value_on kind (running_frame self.now).stack }
         ensures deep { IsOk result → 1 ≤ length (running_frame self.now).stack }
+        ensures wide { IfOk result (λ value. units_taken value ≡ units_of_all (take 1 (running_frame self.now).stack)) }
     {
         operand_in(kind, self.slot(0)?)
     }
@@ -141,6 +143,18 @@ impl Frames {
         ensures { self.new ≡ with_running self.old (stored next (running_frame self.old) count index value).frame }
     {
         self.discard(next, count);
+        self.put_local(index, value);
+    }
+
+    /// The same, where it is known how many units these values take.
+    #[inline(always)]
+    pub fn store_units(&mut self, next: u16, count: u8, units: usize, index: u16, value: Value)
+        requires some { 0 < length self.old }
+        requires there { count ≤ length (running_frame self.old).stack }
+        requires sized { units ≡ units_of_all (take count (running_frame self.old).stack) }
+        ensures { self.new ≡ with_running self.old (stored next (running_frame self.old) count index value).frame }
+    {
+        self.discard_units(next, count, units);
         self.put_local(index, value);
     }
 }

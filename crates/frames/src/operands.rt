@@ -42,7 +42,7 @@ impl Frames {
         requires { 0 < length self.now }
         ensures value { result ≡ int_on (running_frame self.now).stack }
         ensures deep { IsOk result → 1 ≤ length (running_frame self.now).stack }
-        ensures wide { IsOk result → 1 ≤ units_of_all (take 1 (running_frame self.now).stack) }
+        ensures wide { IsOk result → units_of_all (take 1 (running_frame self.now).stack) ≡ 1 }
     {
         self.int_below(0)
     }
@@ -53,7 +53,7 @@ impl Frames {
         requires { 0 < length self.now }
         ensures value { result ≡ long_on (running_frame self.now).stack }
         ensures deep { IsOk result → 1 ≤ length (running_frame self.now).stack }
-        ensures wide { IsOk result → 2 ≤ units_of_all (take 1 (running_frame self.now).stack) }
+        ensures wide { IsOk result → units_of_all (take 1 (running_frame self.now).stack) ≡ 2 }
     {
         self.long_below(0)
     }
@@ -64,7 +64,7 @@ impl Frames {
         requires { 0 < length self.now }
         ensures value { result ≡ ref_on (running_frame self.now).stack }
         ensures deep { IsOk result → 1 ≤ length (running_frame self.now).stack }
-        ensures wide { IsOk result → 1 ≤ units_of_all (take 1 (running_frame self.now).stack) }
+        ensures wide { IsOk result → units_of_all (take 1 (running_frame self.now).stack) ≡ 1 }
     {
         self.reference_below(0)
     }
@@ -75,7 +75,7 @@ impl Frames {
         requires { 0 < length self.now }
         ensures value { result ≡ two_refs_on (running_frame self.now).stack }
         ensures deep { IsOk result → 2 ≤ length (running_frame self.now).stack }
-        ensures wide { IsOk result → 2 ≤ units_of_all (take 2 (running_frame self.now).stack) }
+        ensures wide { IsOk result → units_of_all (take 2 (running_frame self.now).stack) ≡ 2 }
     {
         let upper = self.reference()?;
         let lower = self.reference_below(1)?;
@@ -88,7 +88,7 @@ impl Frames {
         requires { 0 < length self.now }
         ensures value { result ≡ two_ints_on (running_frame self.now).stack }
         ensures deep { IsOk result → 2 ≤ length (running_frame self.now).stack }
-        ensures wide { IsOk result → 2 ≤ units_of_all (take 2 (running_frame self.now).stack) }
+        ensures wide { IsOk result → units_of_all (take 2 (running_frame self.now).stack) ≡ 2 }
     {
         let upper = self.int()?;
         let lower = self.int_below(1)?;
@@ -101,7 +101,7 @@ impl Frames {
         requires { 0 < length self.now }
         ensures value { result ≡ two_longs_on (running_frame self.now).stack }
         ensures deep { IsOk result → 2 ≤ length (running_frame self.now).stack }
-        ensures wide { IsOk result → 4 ≤ units_of_all (take 2 (running_frame self.now).stack) }
+        ensures wide { IsOk result → units_of_all (take 2 (running_frame self.now).stack) ≡ 4 }
     {
         let upper = self.long()?;
         let lower = self.long_below(1)?;
@@ -114,7 +114,7 @@ impl Frames {
         requires { 0 < length self.now }
         ensures value { result ≡ count_and_long_on (running_frame self.now).stack }
         ensures deep { IsOk result → 2 ≤ length (running_frame self.now).stack }
-        ensures wide { IsOk result → 3 ≤ units_of_all (take 2 (running_frame self.now).stack) }
+        ensures wide { IsOk result → units_of_all (take 2 (running_frame self.now).stack) ≡ 3 }
     {
         let count = self.int()?;
         let long = self.long_below(1)?;

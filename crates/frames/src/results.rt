@@ -52,6 +52,31 @@ impl Frames {
         self.drop_values(next, count, units);
     }
 
+    /// The same, where it is known how many units they take, so that nothing is looked at.
+    #[inline(always)]
+    pub fn discard_units(&mut self, next: u16, count: u8, units: usize)
+        requires some { 0 < length self.old }
+        requires there { count ≤ length (running_frame self.old).stack }
+        requires sized { units ≡ units_of_all (take count (running_frame self.old).stack) }
+        ensures { self.new ≡ with_running self.old (replaced next (running_frame self.old) count []).frame }
+    {
+        self.drop_values(next, count, units);
+    }
+
+    /// Goes to this pc, with a value in place of so many at the top, which are known to take so many units, no fewer than the
+    /// value.
+    #[inline(always)]
+    pub fn replace_units(&mut self, next: u16, count: u8, units: usize, value: Value)
+        requires some { 0 < length self.old }
+        requires there { count ≤ length (running_frame self.old).stack }
+        requires sized { units ≡ units_of_all (take count (running_frame self.old).stack) }
+        requires room { units_taken value ≤ units }
+        ensures { self.new ≡ with_running self.old (replaced next (running_frame self.old) count (value ∷ [])).frame }
+    {
+        self.drop_values(next, count, units);
+        self.push(slot_of(value));
+    }
+
     /// Goes to this pc, with the value of a slot in place of so many at the top, which take no less room.
     #[inline(always)]
     pub fn replace_slot(&mut self, next: u16, count: u8, slot: Slot)
@@ -98,7 +123,7 @@ impl Frames {
         ensures kept { OnErr result (self.new ≡ self.old) }
     {
         let units = self.units_above(count);
-        if self.taken() - units + units_in(slot) > self.room() {
+        if self.free_units() + units < units_in(slot) {
             return Err(Abrupt::Fault(Fault::StackFull));
         }
         self.drop_values(next, count, units);

@@ -2,3 +2,4 @@ pub mod Groups
 pub mod Plain
 pub mod PlainMoves
 pub mod Told
+pub mod LongUnits

@@ -36,7 +36,7 @@ pub(crate) fn if_zero(
 {
     let value = frames.int()?;
     let taken = values::compare_ints(comparison, value, 0);
-    frames.discard(place(next, target, taken), 1);
+    frames.discard_units(place(next, target, taken), 1, 1);
     Ok(Written::none())
 }
 
@@ -55,7 +55,7 @@ pub(crate) fn if_ints(
 {
     let (right, left) = frames.two_ints()?;
     let taken = values::compare_ints(comparison, left, right);
-    frames.discard(place(next, target, taken), 2);
+    frames.discard_units(place(next, target, taken), 2, 2);
     Ok(Written::none())
 }
 
@@ -74,7 +74,7 @@ pub(crate) fn if_references(
 {
     let (right, left) = frames.two_references()?;
     let taken = compare_references(identity, left, right);
-    frames.discard(place(next, target, taken), 2);
+    frames.discard_units(place(next, target, taken), 2, 2);
     Ok(Written::none())
 }
 
@@ -93,7 +93,7 @@ pub(crate) fn if_null(
 {
     let reference = frames.reference()?;
     let taken = compare_references(identity, reference, None);
-    frames.discard(place(next, target, taken), 1);
+    frames.discard_units(place(next, target, taken), 1, 1);
     Ok(Written::none())
 }
 

@@ -5,6 +5,7 @@ ghost use Rattle.model.specs.Frames.{running_frame};
 ghost use Rattle.model.specs.Table.Numbers.{number as number_move, operands_of};
 ghost use Rattle.model.specs.declared.instructions.NumberOperation.TheVariants.{Binary, Negate, Convert, CompareLongs};
 ghost use Rattle.model.specs.declared.instructions.NumberKind.TheVariants.{Int, Long};
+ghost use Rattle.plain_steps.specs.LongUnits.{long_units};
 ghost use Rattle.plain_steps.specs.Told.{told_with, moved_with};
 
 use crate::written::Written;
@@ -24,7 +25,7 @@ pub(crate) fn int_operation(frames: &mut Frames, next: u16, op: Operator) -> Res
     let (right, left) = frames.two_ints()?;
     match values::iop(op, left, right) {
         Some(value) => {
-            frames.replace(next, 2, Value::Int(value));
+            frames.replace_units(next, 2, 2, Value::Int(value));
             Ok(Written::none())
         }
         None => Err(Abrupt::Throw(Exception::Arithmetic)),
@@ -46,10 +47,29 @@ pub(crate) fn long_operation(
     let (right, left) = long_operands(frames, op)?;
     match values::lop(op, left, right) {
         Some(value) => {
-            frames.replace(next, 2, Value::Long(value));
+            frames.replace_units(next, 2, long_units(op), Value::Long(value));
             Ok(Written::none())
         }
         None => Err(Abrupt::Throw(Exception::Arithmetic)),
+    }
+}
+
+/// How many units the operands of an operator on longs take; a shift's count is an int.
+#[inline(always)]
+fn long_units(op: Operator) -> usize
+    ensures units { result ≡ long_units op }
+    ensures enough { 2 ≤ result }
+{
+    match op {
+        Operator::Shl | Operator::Shr | Operator::Ushr => 3,
+        Operator::Add
+        | Operator::Sub
+        | Operator::Mul
+        | Operator::Div
+        | Operator::Rem
+        | Operator::And
+        | Operator::Or
+        | Operator::Xor => 4,
     }
 }
 
@@ -59,7 +79,7 @@ fn long_operands(frames: &Frames, op: Operator) -> Result<(i64, i64), Fault>
     requires { 0 < length frames.now }
     ensures operands { result ≡ operands_of Long op (running_frame frames.now).stack }
     ensures deep { IsOk result → 2 ≤ length (running_frame frames.now).stack }
-    ensures wide { IsOk result → 2 ≤ units_of_all (take 2 (running_frame frames.now).stack) }
+    ensures wide { IsOk result → units_of_all (take 2 (running_frame frames.now).stack) ≡ long_units op }
 {
     match op {
         Operator::Shl | Operator::Shr | Operator::Ushr => {
@@ -86,7 +106,7 @@ pub(crate) fn int_negation(frames: &mut Frames, next: u16) -> Result<Written, Ab
     ensures few { IfOk result (λ written. length written ≤ 1) }
 {
     let value = frames.int()?;
-    frames.replace(next, 1, Value::Int(values::negate_int(value)));
+    frames.replace_units(next, 1, 1, Value::Int(values::negate_int(value)));
     Ok(Written::none())
 }
 
@@ -99,7 +119,7 @@ pub(crate) fn long_negation(frames: &mut Frames, next: u16) -> Result<Written, A
     ensures few { IfOk result (λ written. length written ≤ 1) }
 {
     let value = frames.long()?;
-    frames.replace(next, 1, Value::Long(values::negate_long(value)));
+    frames.replace_units(next, 1, 2, Value::Long(values::negate_long(value)));
     Ok(Written::none())
 }
 
@@ -135,6 +155,6 @@ pub(crate) fn comparison(frames: &mut Frames, next: u16) -> Result<Written, Abru
     ensures few { IfOk result (λ written. length written ≤ 1) }
 {
     let (right, left) = frames.two_longs()?;
-    frames.replace(next, 2, Value::Int(values::compare_longs(left, right)));
+    frames.replace_units(next, 2, 4, Value::Int(values::compare_longs(left, right)));
     Ok(Written::none())
 }

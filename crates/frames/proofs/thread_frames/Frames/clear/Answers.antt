@@ -1,7 +1,13 @@
 use Rattle.std.proofs.Common.{refl, arith}
 use Rattle.frames.specs.Activations.{last_of}
-use Rattle.frames.proofs.LayoutLemmas.{opened, sound_put, view_put, running_is, stands_last}
+use Rattle.frames.proofs.LayoutLemmas.{fits_in_units, fits_with, opened, sound_put, view_put, running_is, stands_last}
 use Rattle.frames.proofs.thread_frames.Frames.clear.Goals as goal
+
+pub set_stack-requires-clause-fits : goal.set_stack-requires-clause-fits
+set_stack-requires-clause-fits c =
+    let a = last_of c.self.inside.activations in
+    let o = opened _ _ _ _ a c.self.invariant c.self.view_is c.requires refl in
+    fits_with c.self.inside.units a c.args.pc 0 0 (record { begins = refl; taken_is = refl; fits = omega arith }) (fits_in_units o)
 
 pub invariant_of-self : goal.invariant_of-self
 invariant_of-self c =

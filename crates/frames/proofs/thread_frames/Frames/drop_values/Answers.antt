@@ -1,6 +1,17 @@
-use Rattle.std.proofs.Common.{refl}
-use Rattle.frames.proofs.LayoutLemmas.{opened, sound_put, drops, view_drop}
+use Rattle.std.proofs.Common.{refl, subst, ◌-◌}
+use Rattle.frames.proofs.LayoutLemmas.{fits_in_units, fits_with, opened, sound_put, drops, view_drop}
+use Rattle.frames.specs.declared.activations.Activation.{Activation}
+use Rattle.frames.specs.Activations.{Fits}
 use Rattle.frames.proofs.thread_frames.Frames.drop_values.Goals as goal
+
+pub set_stack-requires-clause-fits : goal.set_stack-requires-clause-fits
+set_stack-requires-clause-fits c =
+    let o = opened _ _ _ _ _ c.self.invariant c.self.view_is c.requires.some c.running-running.ensures in
+    let running = c.running-running.result in
+    let values = running.values - c.args.count in
+    let taken = running.taken - c.args.units in
+    subst (λ (last : Activation). Fits (record last { pc = c.args.next; values = values; taken = taken })) c.running-running.ensures
+    (fits_with _ running c.args.next values taken (drops o _ _ c.requires.there c.requires.sized).3 (fits_in_units o))
 
 pub overflow_sub-values : goal.overflow_sub-values
 overflow_sub-values c =

@@ -20,7 +20,8 @@ unset-requires c =
 pub push-requires : goal.push-requires
 push-requires c =
     let room = has_room-facts _ _ _ _ _ _ c.self.invariant c.self.view_is c.requires in
-    room.0
+    let end = room.1 in
+    record { few = room.0; fits = record { inside = omega (arith, end); within = omega arith; few = omega (arith, end) } }
 
 pub invariant_of-self : goal.invariant_of-self
 invariant_of-self c =

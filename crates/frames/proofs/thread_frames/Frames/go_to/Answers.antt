@@ -1,6 +1,15 @@
-use Rattle.std.proofs.Common.{refl}
-use Rattle.frames.proofs.LayoutLemmas.{opened, sound_put, view_put, running_is, stands_last}
+use Rattle.std.proofs.Common.{refl, subst}
+use Rattle.frames.proofs.LayoutLemmas.{fits_in_units, fits_with, opened, sound_put, view_put, running_is, stands_last}
+use Rattle.frames.specs.declared.activations.Activation.{Activation}
+use Rattle.frames.specs.Activations.{Fits}
 use Rattle.frames.proofs.thread_frames.Frames.go_to.Goals as goal
+
+pub set_stack-requires-clause-fits : goal.set_stack-requires-clause-fits
+set_stack-requires-clause-fits c =
+    let o = opened _ _ _ _ _ c.self.invariant c.self.view_is c.requires c.running-running.ensures in
+    let running = c.running-running.result in
+    subst (λ (last : Activation). Fits (record last { pc = c.args.pc; values = running.values; taken = running.taken })) c.running-running.ensures
+    (fits_with _ running c.args.pc running.values running.taken (stands_last o).stands (fits_in_units o))
 
 pub invariant_of-self : goal.invariant_of-self
 invariant_of-self c =

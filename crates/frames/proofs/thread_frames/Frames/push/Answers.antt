@@ -1,8 +1,20 @@
-use Rattle.std.proofs.Common.{refl, sym, arith, length-set}
+use Rattle.std.proofs.Common.{refl, subst, sym, ◌+◌, arith, length-set}
 use Rattle.std.proofs.lemmas.List.{take-set-le}
 use Rattle.values.specs.Slots.{entry_of}
-use Rattle.frames.proofs.LayoutLemmas.{opened, sound_put, pushes, view_push_value, region_fits}
+use Rattle.frames.specs.declared.activations.Activation.{Activation}
+use Rattle.frames.specs.Activations.{Fits}
+use Rattle.frames.proofs.LayoutLemmas.{fits_in_units, fits_with, opened, sound_put, pushes, view_push_value, region_fits}
 use Rattle.frames.proofs.thread_frames.Frames.push.Goals as goal
+
+pub set_stack-requires-clause-fits : goal.set_stack-requires-clause-fits
+set_stack-requires-clause-fits c =
+    let o = opened _ _ _ _ _ c.self.invariant c.self.view_is c.requires.some c.running-running.ensures in
+    let running = c.running-running.result in
+    let p = pushes o (entry_of c.args.slot) c.requires.room in
+    let values = running.values + 1 in
+    let taken = running.taken + c.units_in.result in
+    subst (λ (last : Activation). Fits (record last { pc = running.pc; values = values; taken = taken })) c.running-running.ensures
+    (rw c.units_in.ensures (fits_with _ running running.pc values _ p.3 (fits_in_units o)))
 
 pub overflow_add-top : goal.overflow_add-top
 overflow_add-top c =
