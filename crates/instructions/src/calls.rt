@@ -1,9 +1,9 @@
 //! Calls of methods (JVMS 6.5): the operands are tested, and go into the locals of a new frame.
-ghost use Rattle.std.specs.Prelude.{◌≡◌, ◌≤◌, ◌<◌, OnErr, IfSome, IsTrue, None, Ok, Some, false, is_some, length, reverse, take, true};
+ghost use Rattle.std.specs.Prelude.{◌≡◌, ◌≤◌, ◌<◌, OnErr, IfSome, IsTrue, None, Ok, Some, drop, false, is_some, length, reverse, take, true};
 ghost use Rattle.std.specs.Option.{option_copied, option_map_or};
 ghost use Rattle.std.specs.Result.{result_err};
 ghost use Rattle.model.specs.Frames.{has_room_for, running_frame};
-ghost use Rattle.model.specs.Locals.{arguments_on, as_kind};
+ghost use Rattle.model.specs.Locals.{arguments_on, value_on};
 ghost use Rattle.model.specs.Monitors.{is_full};
 ghost use Rattle.model.specs.Table.Invokes.{fault_in_pops};
 ghost use Rattle.model.specs.Values.{births_of, units_of_all};
@@ -24,7 +24,7 @@ use loader::method_tables::{Body, MethodInfo};
 use loader::programs::Program;
 use model::places::MethodPlace;
 use model::turns::{Exception, Fault};
-use model::values::{Kind, Value};
+use model::values::Kind;
 use monitors::may_enter;
 
 /// A method with code that is called: its place, its limits, how many operands it takes, and the monitor that is entered
@@ -38,27 +38,27 @@ pub(crate) struct Called {
     pub(crate) monitor: Option<u32>,
 }
 
-/// The fault of an operand that was sought and is to be of a kind.
-fn fault_of(kind: Kind, operand: Result<Value, Fault>) -> Option<Fault>
-    ensures { result ≡ result_err (as_kind kind operand) }
+/// The fault of the operand below so many values where one of a kind is sought (F1, F3).
+#[inline(always)]
+fn fault_below(frames: &Frames, kind: Kind, above: usize) -> Option<Fault>
+    requires { 0 < length frames.now }
+    ensures { result ≡ result_err (value_on kind (drop above (running_frame frames.now).stack)) }
 {
-    match (operand, kind) {
-        (Err(fault), _) => Some(fault),
-        (Ok(Value::Int(_)), Kind::Int) => None,
-        (Ok(Value::Long(_)), Kind::Long) => None,
-        (Ok(Value::Ref(_)), Kind::Ref) => None,
-        (Ok(_), _) => Some(Fault::WrongKind),
+    match frames.operand_below(kind, above) {
+        Ok(_) => None,
+        Err(fault) => Some(fault),
     }
 }
 
 /// The fault of the first argument, from the top on, that isn't there or isn't of its kind (F1, F3).
+#[inline(always)]
 pub(crate) fn argument_fault(frames: &Frames, kinds: &[Kind]) -> Option<Fault>
     requires { 0 < length frames.now }
     ensures { result ≡ fault_in_pops (reverse kinds.now) (running_frame frames.now).stack }
 {
     for above in 0..kinds.len() {
         let kind = kinds[kinds.len() - 1 - above];
-        let fault = fault_of(kind, frames.value(above));
+        let fault = fault_below(frames, kind, above);
         if fault.is_some() {
             return fault;
         }
@@ -67,6 +67,7 @@ pub(crate) fn argument_fault(frames: &Frames, kinds: &[Kind]) -> Option<Fault>
 }
 
 /// Shades what so many operands lead to, the lowest first.
+#[inline(always)]
 pub(crate) fn shade_operands(heap: &mut Heap, frames: &Frames, count: u16)
     requires some { 0 < length frames.now }
     requires there { count ≤ length (running_frame frames.now).stack }

@@ -1,5 +1,5 @@
 //! What a turn asks of the method that a frame runs.
-ghost use Rattle.std.specs.Prelude.{◌≡◌};
+ghost use Rattle.std.specs.Prelude.{◌≡◌, false, true};
 ghost use Rattle.std.specs.Option.{option_copied};
 ghost use Rattle.model.specs.Initialisation.{is_initializer_if};
 ghost use Rattle.model.specs.Programs.{method_at};
@@ -12,6 +12,7 @@ use model::places::MethodPlace;
 use model::values::Kind;
 
 /// What is known of the method at a place. `None` where the program has no such method.
+#[inline(always)]
 pub(crate) fn info_of(program: &Program, place: MethodPlace) -> Option<&MethodInfo>
     ensures { option_copied result ≡ facts_in program.now place }
 {
@@ -33,6 +34,7 @@ pub(crate) fn is_initializer(program: &Program, place: MethodPlace) -> bool
 }
 
 /// Whether two results are of one kind, or both none.
+#[inline(always)]
 fn same_result(kind: Option<Kind>, other: Option<Kind>) -> bool
     ensures { result ≡ same_result kind other }
 {
@@ -51,6 +53,18 @@ pub(crate) fn gives(program: &Program, place: MethodPlace, kind: Option<Kind>) -
 {
     match info_of(program, place) {
         Some(method) => same_result(kind, method.result()),
+        None => false,
+    }
+}
+
+/// Whether the method at a place is no class initializer, and its result is of this kind.
+#[inline(always)]
+pub(crate) fn is_plain(program: &Program, place: MethodPlace, kind: Option<Kind>) -> bool
+    ensures plain { result ≡ true → is_initializer_if (method_at program.now place) ≡ false }
+    ensures gives { result ≡ true → gives kind (method_at program.now place) ≡ true }
+{
+    match info_of(program, place) {
+        Some(method) => !method.is_initializer() && same_result(kind, method.result()),
         None => false,
     }
 }

@@ -1,11 +1,12 @@
 //! Returns (JVMS 2.6.4, 6.5): the frame is left, and its caller goes on behind its call.
-ghost use Rattle.std.specs.Prelude.{◌≡◌, ◌≤◌, ◌<◌, ◌+◌, ◌∷◌, [], ℕ, IfOk, OnErr, length};
+ghost use Rattle.std.specs.Prelude.{◌≡◌, ◌≤◌, ◌<◌, ◌+◌, ◌∷◌, [], ℕ, IfOk, IfSome, OnErr, Some, length, true};
 ghost use Rattle.std.specs.Option.{option_map};
 ghost use Rattle.model.specs.Frames.{callers, replaced, replaced_if_room, running, running_frame, with_running};
 ghost use Rattle.model.specs.Table.Returns.{leaves_with, resumes, returned};
 ghost use Rattle.model.specs.Values.{units_of as units_taken, units_of_all};
 ghost use Rattle.frames.specs.Heads.{head_of};
 ghost use Rattle.instructions.specs.Acting.{Keeps, Stays, Turns, site_at};
+ghost use Rattle.instructions.specs.CallsByNumbers.{is_call};
 ghost use Rattle.instructions.specs.FirstTurns.{goes_on_plainly};
 ghost use Rattle.instructions.specs.ReturnsByNumbers.{IsCaller, next_at, past};
 
@@ -16,11 +17,13 @@ use crate::methods::{gives, is_initializer};
 use crate::pushes::reference_of;
 use frames::Frames;
 use frames::heads::FrameHead;
+use loader::operations::Operation;
 use loader::programs::Program;
 use model::turns::{ClassState, Fault, Mark};
 use model::values::{Kind, Value};
 
 /// The caller of the running frame. `None` where that is the outermost.
+#[inline(always)]
 pub(crate) fn caller_of(frames: &Frames) -> Option<FrameHead>
     ensures { result ≡ option_map head_of (running (callers frames.now)) }
 {
@@ -37,7 +40,34 @@ pub(crate) fn next_of(program: &Program, frame: FrameHead) -> Option<u16>
     }
 }
 
+/// Whether an operation calls a method that may have code.
+#[inline(always)]
+fn is_call(operation: Operation) -> bool
+    ensures { result ≡ true → is_call operation ≡ true }
+{
+    match operation {
+        Operation::Invokestatic(_, _)
+        | Operation::Invokespecial(_, _, _)
+        | Operation::Invokevirtual(_, _) => true,
+        _ => false,
+    }
+}
+
+/// The pc behind the call at which a frame stands, by its step. `None` where it stands at none.
+#[inline(always)]
+pub(crate) fn next_of_call(program: &Program, frame: FrameHead) -> Option<u16>
+    ensures { IfSome result (λ next. Some next ≡ next_at program.now frame.method frame.pc) }
+{
+    let step = program.code(frame.method).step(frame.pc);
+    if is_call(step.operation) {
+        Some(step.next)
+    } else {
+        None
+    }
+}
+
 /// The units that a value takes on a stack: 2 for a long, else 1 (JVMS 2.6.2).
+#[inline(always)]
 pub(crate) fn units_of(value: Value) -> usize
     ensures { result ≡ units_taken value }
 {
@@ -48,6 +78,7 @@ pub(crate) fn units_of(value: Value) -> usize
 }
 
 /// A value on the stack, which has room for it, and on to this pc.
+#[inline(always)]
 pub(crate) fn put_result(frames: &mut Frames, next: u16, value: Value)
     requires some { 0 < length frames.old }
     requires room { units_taken value + units_of_all (running_frame frames.old).stack ≤ (running_frame frames.old).room }
