@@ -1,5 +1,5 @@
 //! Rows kept as runs: four bytes for up to 255 equal ones in a row.
-ghost use Rattle.std.specs.Prelude.{◌≡◌, ◌+◌, ◌-◌, ◌++◌, ◌<◌, ◌≤◌, ◌↔◌, [], ◌∷◌, IfOk, IfSome, IsTrue, MatchResult, length, replicate, slice_get};
+ghost use Rattle.std.specs.Prelude.{◌≡◌, ◌+◌, ◌-◌, ◌++◌, ◌<◌, ◌≤◌, ◌↔◌, [], ◌∷◌, IfOk, IfSome, IsTrue, MatchResult, length, replicate, slice_get, vec_capacity, vec_len};
 ghost use Rattle.model.specs.RowRuns.{AreRuns, row_of, rows_in, run_of, taken};
 
 use crate::journals::{Outcome, Row};
@@ -98,6 +98,12 @@ impl RowRun {
         }
     }
 
+    fn times(self) -> u8
+        ensures { result ≡ self.times }
+    {
+        self.times
+    }
+
     /// How many of so many more rows of this kind the run has room for: none where its own row is another.
     fn room_for(self, row: Row, times: u32) -> u8
         ensures same { 0 < result → row_of self ≡ row }
@@ -117,11 +123,13 @@ impl RowRun {
 }
 
 /// Adds a row to the last run, if that is a run of such, up to so many times. How many times it was.
-fn lengthen(runs: &mut [RowRun], row: Row, times: u32) -> u32
-    requires { AreRuns runs.old }
-    ensures rows { rows_in runs.new ≡ rows_in runs.old ++ replicate result row }
-    ensures runs { AreRuns runs.new }
+fn lengthen(runs: &mut Vec<RowRun>, row: Row, times: u32) -> u32
+    requires { AreRuns runs.old.items }
+    ensures rows { rows_in runs.new.items ≡ rows_in runs.old.items ++ replicate result row }
+    ensures runs { AreRuns runs.new.items }
     ensures most { result ≤ times }
+    ensures len { vec_len runs.new ≡ vec_len runs.old }
+    ensures capacity { vec_capacity runs.new ≡ vec_capacity runs.old }
 {
     let count = runs.len();
     if count == 0 {
@@ -134,6 +142,44 @@ fn lengthen(runs: &mut [RowRun], row: Row, times: u32) -> u32
         ..last
     };
     u32::from(more)
+}
+
+/// How many rows of so many the next run has.
+fn run_length(left: u32) -> u8
+    ensures some { 0 < left → 0 < result }
+    ensures most { result ≤ left }
+{
+    if left < 255 { left as u8 } else { 255 }
+}
+
+/// Adds a row so many times, in runs of its own. It takes no memory.
+fn push_runs(runs: &mut Vec<RowRun>, row: Row, times: u32)
+    requires runs { AreRuns runs.old.items }
+    requires room { 0 < times → vec_len runs.old + times ≤ vec_capacity runs.old }
+    ensures rows { rows_in runs.new.items ≡ rows_in runs.old.items ++ replicate times row }
+    ensures runs { AreRuns runs.new.items }
+    ensures capacity { vec_capacity runs.new ≡ vec_capacity runs.old }
+{
+    let mut left = times;
+    while left > 0 {
+        let more = run_length(left);
+        runs.push_reserved(RowRun::new(row, more));
+        left -= u32::from(more);
+    }
+}
+
+/// Adds a row, for which memory may be taken.
+fn push_row(runs: &mut Vec<RowRun>, row: Row) -> Result<(), AllocError>
+    requires { AreRuns runs.old.items }
+    ensures rows { MatchResult result (λ _. rows_in runs.new.items ≡ rows_in runs.old.items ++ row ∷ []) (λ _. rows_in runs.new.items ≡ rows_in runs.old.items) }
+    ensures runs { AreRuns runs.new.items }
+    ensures capacity { vec_capacity runs.old ≤ vec_capacity runs.new }
+{
+    if lengthen(runs, row, 1) > 0 {
+        return Ok(());
+    }
+    runs.push(RowRun::new(row, 1))?;
+    Ok(())
 }
 
 /// Rows, kept as runs of equal ones. A contract sees the rows, and how many there is memory for, whatever they are.
@@ -188,15 +234,11 @@ impl RowRuns {
     }
 
     /// Adds a row. It takes no memory.
-    #[inline]
     pub fn note(&mut self, row: Row)
         requires { length self.old.rows < self.old.room }
         ensures { self.new ≡ record { rows = self.old.rows ++ row ∷ []; room = self.old.room } }
     {
-        if lengthen(self.runs.as_mut_slice(), row, 1) == 0 {
-            self.runs.push_reserved(RowRun::new(row, 1));
-        }
-        self.count += 1;
+        self.note_times(row, 1);
     }
 
     /// Adds a row so many times, in a time that grows with the runs alone. It takes no memory.
@@ -204,12 +246,8 @@ impl RowRuns {
         requires { 0 < times → length self.old.rows + times ≤ self.old.room }
         ensures { self.new ≡ record { rows = self.old.rows ++ replicate times row; room = self.old.room } }
     {
-        let mut left = times - lengthen(self.runs.as_mut_slice(), row, times);
-        while left > 0 {
-            let more = if left < 255 { left as u8 } else { 255 };
-            self.runs.push_reserved(RowRun::new(row, more));
-            left -= u32::from(more);
-        }
+        let more = lengthen(&mut self.runs, row, times);
+        push_runs(&mut self.runs, row, times - more);
         self.count += times as usize;
     }
 
@@ -221,9 +259,7 @@ impl RowRuns {
         let Some(count) = self.count.checked_add(1) else {
             return Err(AllocError);
         };
-        if lengthen(self.runs.as_mut_slice(), row, 1) == 0 {
-            self.runs.push(RowRun::new(row, 1))?;
-        }
+        push_row(&mut self.runs, row)?;
         self.count = count;
         Ok(())
     }
@@ -281,10 +317,11 @@ impl<'a> Iterator for Rows<'a> {
         let [first, behind @ ..] = self.runs else {
             return None;
         };
-        let row = first.row();
+        let (row, times) = (first.row(), first.times());
         self.count -= 1;
-        self.passed += 1;
-        if self.passed == first.times {
+        if self.passed + 1 < times {
+            self.passed += 1;
+        } else {
             self.runs = behind;
             self.passed = 0;
         }
