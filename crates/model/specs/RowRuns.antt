@@ -1,5 +1,5 @@
 -- Rows as runs of equal ones.
-use Rattle.std.specs.Prelude.{ℕ, ◌<◌, ◌≤◌, List, [], ◌∷◌, ◌++◌, replicate}
+use Rattle.std.specs.Prelude.{◌≡◌, ℕ, ◌+◌, ◌<◌, ◌≤◌, List, [], ◌∷◌, ◌++◌, length, replicate}
 use Rattle.model.specs.declared.journals.Outcome.{Outcome}
 use Rattle.model.specs.declared.journals.Outcome.TheVariants.{Done, Object, NoRoom, Fault}
 use Rattle.model.specs.declared.journals.Row.{Row}
@@ -57,7 +57,13 @@ abbrev pub AreRuns : List RowRun → Type 0
 AreRuns [] = Unit {0}
 AreRuns (run ∷ runs) = (1 ≤ run.times) × AreRuns runs
 
--- so many rows are fewer than the first run has
+-- so many rows are of the first run, and are not all of it
 abbrev pub IsWithin : ℕ → List RowRun → Type 0
 IsWithin passed [] = passed ≤ 0
 IsWithin passed (run ∷ runs) = passed < run.times
+
+-- of the rows of these runs so many were passed, and so many are left
+pub record AreLeft (passed count : ℕ) (runs : List RowRun) : Type 0 where
+  pub sound : AreRuns runs
+  pub inside : IsWithin passed runs
+  pub all : passed + count ≡ length (rows_in runs)

@@ -1,5 +1,5 @@
 //! Rows kept as runs: four bytes for up to 255 equal ones in a row.
-ghost use Rattle.std.specs.Prelude.{◌≡◌, ◌+◌, ◌-◌, ◌++◌, ◌<◌, ◌≤◌, ◌↔◌, [], ◌∷◌, IfOk, IfSome, IsTrue, MatchResult, length, replicate, slice_get, vec_capacity, vec_len};
+ghost use Rattle.std.specs.Prelude.{◌≡◌, ◌+◌, ◌-◌, ◌++◌, ◌<◌, ◌≤◌, ◌↔◌, [], ◌∷◌, IfOk, OnErr, OnOk, length, replicate, slice_get, vec_capacity, vec_len};
 ghost use Rattle.model.specs.RowRuns.{AreRuns, row_of, rows_in, run_of, taken};
 
 use crate::journals::{Outcome, Row};
@@ -171,7 +171,8 @@ fn push_runs(runs: &mut Vec<RowRun>, row: Row, times: u32)
 /// Adds a row, for which memory may be taken.
 fn push_row(runs: &mut Vec<RowRun>, row: Row) -> Result<(), AllocError>
     requires { AreRuns runs.old.items }
-    ensures rows { MatchResult result (λ _. rows_in runs.new.items ≡ rows_in runs.old.items ++ row ∷ []) (λ _. rows_in runs.new.items ≡ rows_in runs.old.items) }
+    ensures added { OnOk result (rows_in runs.new.items ≡ rows_in runs.old.items ++ row ∷ []) }
+    ensures kept { OnErr result (rows_in runs.new.items ≡ rows_in runs.old.items) }
     ensures runs { AreRuns runs.new.items }
     ensures capacity { vec_capacity runs.old ≤ vec_capacity runs.new }
 {
@@ -253,7 +254,8 @@ impl RowRuns {
 
     /// Adds a row, for which memory may be taken. `AllocError` where there is none; the rows are then as they were.
     pub fn add(&mut self, row: Row) -> Result<(), AllocError>
-        ensures rows { MatchResult result (λ _. self.new.rows ≡ self.old.rows ++ row ∷ []) (λ _. self.new.rows ≡ self.old.rows) }
+        ensures added { OnOk result (self.new.rows ≡ self.old.rows ++ row ∷ []) }
+        ensures kept { OnErr result (self.new.rows ≡ self.old.rows) }
         ensures room { self.old.room ≤ self.new.room }
     {
         let Some(count) = self.count.checked_add(1) else {
@@ -274,15 +276,15 @@ pub struct Rows<'a> {
 }
 
 impl<'a> Model for Rows<'a> {
-    ghost use Rattle.std.specs.Prelude.{◌≡◌, ◌+◌, List, drop, length};
-    ghost use Rattle.model.specs.RowRuns.{AreRuns, IsWithin, rows_in};
+    ghost use Rattle.std.specs.Prelude.{List, drop};
+    ghost use Rattle.model.specs.RowRuns.{AreLeft, rows_in};
     ghost use Rattle.model.specs.declared.journals.Row.{Row};
 
     ghost Value = { List Row };
 
     ghost view = { λ a. drop a.passed (rows_in a.runs.now) };
 
-    ghost invariant = { λ a. AreRuns a.runs.now × IsWithin a.passed a.runs.now × (a.passed + a.count ≡ length (rows_in a.runs.now)) };
+    ghost invariant = { λ a. AreLeft a.passed a.count a.runs.now };
 }
 
 impl<'a> Rows<'a> {

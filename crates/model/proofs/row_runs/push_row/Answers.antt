@@ -5,8 +5,8 @@ use Rattle.model.specs.RowRuns.{AreRuns, rows_in, run_of}
 use Rattle.model.proofs.RunsAndRows.{AreRuns-push, rows_in-push}
 use Rattle.model.proofs.row_runs.push_row.Goals as goal
 
-pub returns-clause-rows : goal.returns-clause-rows
-returns-clause-rows c =
+pub returns-clause-added : goal.returns-clause-added
+returns-clause-added c =
     let old = c.args.runs.now.items in
     let none : c.lengthen.result ≡ 0 = omega (arith, c.if-lengthen-gt0.false) in
     ap rows_in (c.in_ok-push.ensures.items ∙ ap (λ (run : RowRun). c.lengthen.new.runs.items ++ run ∷ []) c.new.ensures)
