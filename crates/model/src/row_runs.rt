@@ -295,9 +295,9 @@ impl<'a> Rows<'a> {
         self.count
     }
 
-    /// The last one.
-    pub fn last(&self) -> Option<Row>
-        ensures { result ≡ slice_get self.now (length self.now - 1) }
+    /// The last one, in constant time.
+    pub fn last(self) -> Option<Row>
+        ensures { result ≡ slice_get self.entry (length self.entry - 1) }
     {
         match self.runs {
             [.., last] => Some(last.row()),

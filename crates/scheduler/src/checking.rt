@@ -161,7 +161,7 @@ fn compare<'a>(
     requires made { IsMade (with_all world.old rows) }
     requires workers { AreOfWorkers world.old.journal.workers rows }
     requires beside { run.old ≡ reference_of world.old }
-    ensures run { OnOk result (run.new ≡ reference_of (with_all world.old rows)) }
+    ensures run { OnOk result (run.new ≡ reference_of (with_all world.old rows.entry)) }
     ensures none { IfOk result (λ row. row ≡ None) }
 {
     let count = rows.len();

@@ -1,5 +1,5 @@
 //! A world from its program and its journal.
-ghost use Rattle.std.specs.Prelude.{◌≡◌, ◌<◌, ◌↔◌, [], IfOk, IfErr, MatchResult, OnOk, IsTrue, Some, slice_get};
+ghost use Rattle.std.specs.Prelude.{◌≡◌, ◌+◌, ◌<◌, ◌≤◌, ◌↔◌, [], IfOk, IfErr, MatchResult, OnOk, IsTrue, Some, length, slice_get};
 ghost use Rattle.model.specs.Journals.{HeadFits, AreOfWorkers};
 ghost use Rattle.model.specs.Machines.{after_turn_by, row_for};
 ghost use Rattle.scheduler.specs.Replaying.{Excuses, IsMade, with_all};
@@ -53,7 +53,7 @@ impl SoundJournal for StoredJournal {
 /// The row behind so many, if there is one: the last.
 fn row_behind(rows: Rows<'_>, before: usize) -> Option<Row>
     requires { length rows ≤ before + 1 }
-    ensures { result ≡ slice_get rows before }
+    ensures { result ≡ slice_get rows.entry before }
 {
     if before < rows.len() {
         rows.last()
@@ -86,7 +86,7 @@ fn is_row(made: Option<Row>, row: Row) -> bool
 fn make_rows(world: &mut World, mut rows: Rows<'_>) -> Result<(), ReplayError>
     requires empty { world.old.journal.rows ≡ [] }
     requires workers { AreOfWorkers world.old.journal.workers rows }
-    ensures { MatchResult result (λ _. world.new ≡ with_all world.old rows) (Excuses (with_all world.old rows)) }
+    ensures { MatchResult result (λ _. world.new ≡ with_all world.old rows.entry) (Excuses (with_all world.old rows.entry)) }
 {
     let count = rows.len();
     while let Some(row) = rows.next() {
