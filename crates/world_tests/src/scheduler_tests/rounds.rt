@@ -15,7 +15,8 @@ const MADE: Row = Row {
 
 const COLLECTED: Row = Row {
     actor: Actor::Collector,
-    ..MADE
+    outcome: Outcome::Done,
+    worker: 0,
 };
 
 /// Whether the rows of a world are so many pairs of a turn of thread 0 and one of the collector.
