@@ -18,6 +18,9 @@ blank shape limits workers = record { shape = shape; limits = limits; workers = 
 abbrev pub with_row : JournalValue → Row → JournalValue
 with_row journal row = record journal { rows = journal.rows ++ row ∷ [] }
 
+abbrev pub with_rows : JournalValue → List Row → JournalValue
+with_rows journal rows = record journal { rows = journal.rows ++ rows }
+
 -- what holds of the head of every journal
 pub record HeadFits (shape : HeapShape) (limits : Limits) (workers : ℕ) : Type 0 where
   pub cells : ShapeFits shape.small shape.medium shape.large

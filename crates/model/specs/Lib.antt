@@ -16,6 +16,7 @@ pub mod Heaps
 pub mod Initialisation
 pub mod JournalTexts
 pub mod Journals
+pub mod KeptRows
 pub mod Limits
 pub mod Locals
 pub mod Machines
@@ -28,6 +29,7 @@ pub mod Programs
 pub mod Ready
 pub mod Results
 pub mod Room
+pub mod RowRuns
 pub mod Shows
 pub mod Signatures
 pub mod Sizes

@@ -2,7 +2,8 @@
 ghost use Rattle.std.specs.Prelude.{◌≡◌};
 ghost use Rattle.model.specs.Journals.{JournalValue};
 
-use crate::journals::{HeapShape, Journal, Limits, Row};
+use crate::journals::{HeapShape, Journal, Limits};
+use crate::row_runs::Rows;
 use crate::stored_journals::StoredJournal;
 
 /// The parts of a journal. Each call takes constant time and no memory.
@@ -23,8 +24,8 @@ pub trait JournalParts {
         ensures { result ≡ (journal_of self.now).workers };
 
     /// The rows in order.
-    fn rows(&self) -> &[Row]
-        ensures { result.now ≡ (journal_of self.now).rows };
+    fn rows(&self) -> Rows<'_>
+        ensures { result ≡ (journal_of self.now).rows };
 }
 
 impl JournalParts for Journal {
@@ -42,7 +43,7 @@ impl JournalParts for Journal {
         Journal::workers(self)
     }
 
-    fn rows(&self) -> &[Row] {
+    fn rows(&self) -> Rows<'_> {
         Journal::rows(self)
     }
 }
@@ -62,7 +63,7 @@ impl JournalParts for StoredJournal {
         StoredJournal::workers(self)
     }
 
-    fn rows(&self) -> &[Row] {
+    fn rows(&self) -> Rows<'_> {
         StoredJournal::rows(self)
     }
 }

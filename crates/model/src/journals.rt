@@ -2,6 +2,7 @@
 ghost use Rattle.std.specs.Prelude.{◌≡◌, ◌↔◌, ◌<◌, IsTrue, IfOk, length};
 ghost use Rattle.model.specs.Limits.{ShapeFits, LimitsFit};
 
+use crate::row_runs::{RowRuns, Rows};
 use crate::turns::Actor;
 use std::alloc::{AllocError, Global};
 use std::marker::Model;
@@ -72,23 +73,23 @@ pub struct Journal {
     shape: HeapShape,
     limits: Limits,
     workers: u8,
-    rows: Vec<Row>,
+    runs: RowRuns,
 }
 
 impl Model for Journal {
-    ghost use Rattle.std.specs.Prelude.{◌≤◌, vec_capacity};
+    ghost use Rattle.std.specs.Prelude.{◌≤◌};
     ghost use Rattle.model.specs.Journals.{JournalValue, HeadFits, AreOfWorkers};
 
     ghost Value = { JournalValue };
 
-    ghost view = { λ a. record { shape = a.shape; limits = a.limits; workers = a.workers; rows = a.rows.items } };
+    ghost view = { λ a. record { shape = a.shape; limits = a.limits; workers = a.workers; rows = a.runs.rows } };
 
-    ghost invariant = { λ a. HeadFits a.shape a.limits a.workers × (a.limits.steps ≤ vec_capacity a.rows) × AreOfWorkers a.workers a.rows.items };
+    ghost invariant = { λ a. HeadFits a.shape a.limits a.workers × (a.limits.steps ≤ a.runs.room) × AreOfWorkers a.workers a.runs.rows };
 }
 
 impl Journal {
-    ghost use Rattle.std.specs.Prelude.{◌≡◌, ◌<◌, ◌≤◌, [], IfOk, MatchResult, length};
-    ghost use Rattle.model.specs.Journals.{HeadFits, AreOfWorkers, blank, with_row};
+    ghost use Rattle.std.specs.Prelude.{◌≡◌, ◌+◌, ◌<◌, ◌≤◌, [], IfOk, MatchResult, length, replicate};
+    ghost use Rattle.model.specs.Journals.{HeadFits, AreOfWorkers, blank, with_row, with_rows};
 
     /// A journal with no row, and room for all that the limit allows. `AllocError` where there is no memory for them.
     pub fn new(
@@ -104,7 +105,7 @@ impl Journal {
             shape,
             limits,
             workers,
-            rows: Vec::with_capacity(alloc, limits.steps as usize)?,
+            runs: RowRuns::with_room(alloc, limits.steps as usize)?,
         })
     }
 
@@ -133,11 +134,11 @@ impl Journal {
     }
 
     /// The rows in order.
-    pub fn rows(&self) -> &[Row]
-        ensures value { result.now ≡ self.now.rows }
+    pub fn rows(&self) -> Rows<'_>
+        ensures value { result ≡ self.now.rows }
         ensures workers { AreOfWorkers self.now.workers self.now.rows }
     {
-        self.rows.as_slice()
+        self.runs.rows()
     }
 
     /// Sets the number of workers, from 1 to 9, of a journal that has no row yet. It takes no memory.
@@ -156,10 +157,16 @@ impl Journal {
         requires worker { row.worker < self.old.workers }
         ensures { self.new ≡ with_row self.old row }
     {
-        match self.rows.push(row) {
-            Ok(()) => {}
-            Err(_) => unreachable!(),
-        }
+        self.runs.note(row);
+    }
+
+    /// Adds a row so many times, in a time that grows with the runs of equal rows alone. It takes no memory.
+    pub fn note_times(&mut self, row: Row, times: u32)
+        requires room { 0 < times → length self.old.rows + times ≤ self.old.limits.steps }
+        requires worker { row.worker < self.old.workers }
+        ensures { self.new ≡ with_rows self.old (replicate times row) }
+    {
+        self.runs.note_times(row, times);
     }
 
     /// Adds a row past the limit too, as a stored journal may have it. `AllocError` where there is no memory for it; the
@@ -168,7 +175,6 @@ impl Journal {
         requires worker { row.worker < self.old.workers }
         ensures { MatchResult result (λ _. self.new ≡ with_row self.old row) (λ _. self.new ≡ self.old) }
     {
-        self.rows.push(row)?;
-        Ok(())
+        self.runs.add(row)
     }
 }

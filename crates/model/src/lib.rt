@@ -21,6 +21,7 @@ pub mod mnemonics;
 pub mod names;
 pub mod places;
 pub mod refusals;
+pub mod row_runs;
 pub mod stored_journals;
 pub mod trees;
 pub mod turns;

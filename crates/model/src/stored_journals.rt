@@ -2,7 +2,8 @@
 ghost use Rattle.std.specs.Prelude.{◌≡◌};
 ghost use Rattle.model.specs.Journals.{JournalValue, HeadFits, AreOfWorkers};
 
-use crate::journals::{HeapShape, Limits, Row};
+use crate::journals::{HeapShape, Limits};
+use crate::row_runs::{RowRuns, Rows};
 use std::marker::Model;
 
 /// A journal that was read. Its value is that of a `Journal`, and it has no memory but that of its rows, so that a short
@@ -12,29 +13,29 @@ pub struct StoredJournal {
     shape: HeapShape,
     limits: Limits,
     workers: u8,
-    rows: Vec<Row>,
+    runs: RowRuns,
 }
 
 impl Model for StoredJournal {
     ghost Value = { JournalValue };
 
-    ghost view = { λ a. record { shape = a.shape; limits = a.limits; workers = a.workers; rows = a.rows.items } };
+    ghost view = { λ a. record { shape = a.shape; limits = a.limits; workers = a.workers; rows = a.runs.rows } };
 
-    ghost invariant = { λ a. HeadFits a.shape a.limits a.workers × AreOfWorkers a.workers a.rows.items };
+    ghost invariant = { λ a. HeadFits a.shape a.limits a.workers × AreOfWorkers a.workers a.runs.rows };
 }
 
 impl StoredJournal {
     /// A journal of these parts. It takes no memory.
-    pub fn new(shape: HeapShape, limits: Limits, workers: u8, rows: Vec<Row>) -> StoredJournal
+    pub fn new(shape: HeapShape, limits: Limits, workers: u8, runs: RowRuns) -> StoredJournal
         requires head { HeadFits shape limits workers }
-        requires rows { AreOfWorkers workers rows.items }
-        ensures { result ≡ record { shape = shape; limits = limits; workers = workers; rows = rows.items } }
+        requires rows { AreOfWorkers workers runs.rows }
+        ensures { result ≡ record { shape = shape; limits = limits; workers = workers; rows = runs.rows } }
     {
         StoredJournal {
             shape,
             limits,
             workers,
-            rows,
+            runs,
         }
     }
 
@@ -63,10 +64,10 @@ impl StoredJournal {
     }
 
     /// The rows in order.
-    pub fn rows(&self) -> &[Row]
-        ensures value { result.now ≡ self.now.rows }
+    pub fn rows(&self) -> Rows<'_>
+        ensures value { result ≡ self.now.rows }
         ensures workers { AreOfWorkers self.now.workers self.now.rows }
     {
-        self.rows.as_slice()
+        self.runs.rows()
     }
 }

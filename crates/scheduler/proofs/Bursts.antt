@@ -1,11 +1,12 @@
 -- Many rounds in one call: the worlds that they lead to, and what they answer.
 use Rattle.std.proofs.Common.{◌≡◌, ◌≢◌, ◌<◌, ◌≤◌, ◌+◌, ◌-◌, ◌++◌, ◌∷◌, ℕ, zero, suc, List, [], length, length-append, Bool, true, false, Option, Some, None, refl, ap, sym, subst, ◌∙◌, arith}
-use Rattle.std.specs.Prelude.{if◌then◌else◌}
+use Rattle.std.proofs.lemmas.List.{append-nil, append_assoc, replicate_more}
+use Rattle.std.specs.Prelude.{if◌then◌else◌, replicate}
 use Rattle.model.specs.declared.journals.Limits.{Limits}
 use Rattle.model.specs.declared.journals.Outcome.TheVariants.{Done}
 use Rattle.model.specs.declared.journals.Row.{Row}
 use Rattle.model.specs.declared.turns.Actor.TheVariants.{Thread}
-use Rattle.model.specs.Journals.{JournalValue, with_row}
+use Rattle.model.specs.Journals.{JournalValue, with_row, with_rows}
 use Rattle.model.specs.Machines.{Recorded, after_turn_by, row_for, told_of, with_row as recorded_with}
 use Rattle.model.specs.Observers.{ideal, is_running, pick_of, status_of}
 use Rattle.instructions.specs.FirstTurns.{IsFirstTurn}
@@ -72,9 +73,14 @@ module _ (j : JournalValue) (row : Row) where
   times-limits zero = refl
   times-limits (suc n) = times-limits n
 
-  pub times-workers : (n : ℕ) → (noted_times j row n).workers ≡ j.workers
-  times-workers zero = refl
-  times-workers (suc n) = times-workers n
+  -- its rows are the old ones and so many of this
+  pub times-are : (n : ℕ) → with_rows j (replicate n row) ≡ noted_times j row n
+  times-are zero = ap (λ (rows : List Row). record j { rows = rows }) (append-nil j.rows)
+  times-are (suc n) =
+      let more : suc n ≡ n + 1 = omega arith in
+      ap (λ (rows : List Row). with_rows j rows) (ap (λ m. replicate m row) more ∙ sym (replicate_more n row))
+      ∙ ap (λ (rows : List Row). record j { rows = rows }) (sym (append_assoc j.rows (replicate n row) (row ∷ [])))
+      ∙ ap (λ (x : JournalValue). with_row x row) (times-are n)
 
   pub times-length : (n : ℕ) → length (noted_times j row n).rows ≡ length j.rows + n
   times-length zero = omega arith

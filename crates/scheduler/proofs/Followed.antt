@@ -1,5 +1,5 @@
 -- The choice that a row tells, and that a fault's row is the last one that a run makes.
-use Rattle.std.proofs.Common.{◌≡◌, ◌≢◌, ℕ, List, [], ◌∷◌, Bool, true, false, true≢false, Option, Some, None, is_some, All, refl, ap, sym, ◌∙◌, ◌<◌, ◌+◌, zero, suc, length, get_or, subst, arith}
+use Rattle.std.proofs.Common.{◌≡◌, ◌≢◌, ℕ, List, [], ◌∷◌, ◌++◌, Bool, true, false, true≢false, Option, Some, None, is_some, All, refl, ap, sym, ◌∙◌, ◌<◌, ◌+◌, zero, suc, length, get_or, subst, arith}
 use Rattle.model.specs.declared.journals.HeapShape.{HeapShape}
 use Rattle.model.specs.declared.journals.Limits.{Limits}
 use Rattle.model.specs.declared.journals.Row.{Row}
@@ -19,9 +19,9 @@ use Rattle.model.specs.Machines.{Machine, Recorded, advance, advance_all, machin
 use Rattle.model.specs.Turns.{acted, choice_by, choice_of, faulting, ideal_step, is_fault, refusal, refusal_after, unless_refused}
 use Rattle.ideal_run.specs.Runs.{Run, opening_run, run_after}
 use Rattle.scheduler.specs.Checking.{IsNoFault, reference_of, run_of, told_choice}
-use Rattle.scheduler.specs.Replaying.{AreMade, IsMade, front, with_all}
-use Rattle.std.proofs.lemmas.List.{take_more}
-use Rattle.std.proofs.lemmas.List.Elements.{All-from_get_or, All-get_or}
+use Rattle.scheduler.specs.Replaying.{AreMade, IsMade, with_all}
+use Rattle.scheduler.proofs.Making.{of_next}
+use Rattle.std.proofs.lemmas.List.Elements.{All-from_get_or}
 
 some≢none : (f : Option (FaultKind × ℕ)) → is_some f ≡ true → f ≡ None → ⊥
 some≢none f some none = true≢false (sym some ∙ ap is_some none)
@@ -187,18 +187,14 @@ clean_before_row v actor choice is none = made_clean v is (clean_before_step v.p
 -- ---- from row to row
 
 -- a row more, where none is at fault
-pub follows_one : (v : Recorded) (i : ℕ) (rows : List Row) (d : Row) → rows ≡ v.journal.rows → i < length rows → All IsNoFault v.journal.rows
-    → (run after : Run) (choice : Choice) → run ≡ reference_of (front v i) → choice ≡ told_choice (get_or rows i d).outcome
-    → after ≡ run_after run (get_or rows i d).actor choice → after ≡ reference_of (front v (i + 1))
-follows_one v i rows d rows_are inside clean run after choice run_is choice_is after_is =
+pub follows_next : (v : Recorded) (done left : List Row) (row : Row) → v.journal.rows ≡ done ++ row ∷ left → All IsNoFault v.journal.rows
+    → (run after : Run) (choice : Choice) → run ≡ reference_of (with_all v done) → choice ≡ told_choice row.outcome
+    → after ≡ run_after run row.actor choice → after ≡ reference_of (with_all v (done ++ row ∷ []))
+follows_next v done left row all clean run after choice run_is choice_is after_is =
     after_is
-    ∙ ap (λ (r : Run). run_after r (get_or rows i d).actor choice) run_is
-    ∙ ap (λ (c : Choice). run_after (reference_of (front v i)) (get_or rows i d).actor c) choice_is
-    ∙ reference_told (front v i) (get_or rows i d)
-    (subst (λ (l : List Row). (get_or l i d).outcome ≢ Fault) (sym rows_are)
-    (All-get_or IsNoFault v.journal.rows i d (subst (λ (l : List Row). i < length l) rows_are inside) clean))
-    ∙ ap (λ (l : List Row). reference_of (noted (front v i) (get_or l i d))) rows_are
-    ∙ ap (λ (l : List Row). reference_of (with_all v l)) (sym (take_more v.journal.rows i d (subst (λ (l : List Row). i < length l) rows_are inside)))
+    ∙ ap (λ (r : Run). run_after r row.actor choice) run_is
+    ∙ ap (λ (c : Choice). run_after (reference_of (with_all v done)) row.actor c) choice_is
+    ∙ reference_told (with_all v done) row (of_next IsNoFault v.journal.rows done left row all clean)
 
 -- ---- a row at fault
 

@@ -1,7 +1,6 @@
 -- Journals whose rows their turns made: one row more, and what any of its rows is.
-use Rattle.std.proofs.Common.{◌≡◌, ◌<◌, ◌+◌, ℕ, zero, suc, List, [], ◌∷◌, ◌++◌, length, take, get_or, Option, Some, None, is_some, true≢false, refl, ap, sym, subst, ◌∙◌}
-use Rattle.std.proofs.lemmas.List.{take_more}
-use Rattle.std.proofs.lemmas.Option.{slice_get-get_or}
+use Rattle.std.proofs.Common.{◌≡◌, ◌<◌, ◌≤◌, ◌+◌, ℕ, zero, suc, List, [], ◌∷◌, ◌++◌, length, take, Option, Some, None, is_some, true≢false, refl, ap, sym, subst, ◌∙◌, All, arith}
+use Rattle.std.proofs.lemmas.List.{get_or_at, length-append, take_at}
 use Rattle.std.specs.Prelude.{slice_get}
 use Rattle.model.specs.declared.journals.HeapShape.{HeapShape}
 use Rattle.model.specs.declared.journals.Limits.{Limits}
@@ -48,26 +47,40 @@ unfolding machine_of
 none_differs v number is d =
     d.differs (made_at v.program v.journal.shape v.journal.limits (opening_machine v.program v.journal.shape) v.journal.rows d.before d.row is.rows d.there)
 
+-- a row between others
+at_behind : (done left : List Row) (row : Row) → slice_get (done ++ row ∷ left) (length done) ≡ Some row
+at_behind [] left row = refl
+at_behind (r ∷ done) left row = at_behind done left row
+
+-- what holds of each row holds of one between others
+pub of_next : (P : Row → Type 0) (rows done left : List Row) (row : Row) → rows ≡ done ++ row ∷ left → All P rows → P row
+of_next P rows done left row all holds =
+    subst P (get_or_at done row left row (length done) refl)
+    (subst (λ (l : List Row). All P l) all holds (length done) row (let long = length-append done (row ∷ left) in omega (arith, long)))
+
 -- each row is the one that its turn makes behind those before it
-pub row_made_at : (v : Recorded) (n : ℕ) (d : Row) → IsMade v → n < length v.journal.rows
-    → row_for (front v n) (get_or v.journal.rows n d).actor (get_or v.journal.rows n d).worker ≡ Some (get_or v.journal.rows n d)
+pub next_made : (v : Recorded) (done left : List Row) (row : Row) → IsMade v → v.journal.rows ≡ done ++ row ∷ left
+    → row_for (with_all v done) row.actor row.worker ≡ Some row
 unfolding machine_of
-row_made_at v n d is inside =
-    made_at v.program v.journal.shape v.journal.limits (opening_machine v.program v.journal.shape) v.journal.rows n (get_or v.journal.rows n d) is.rows
-    (slice_get-get_or v.journal.rows n d inside)
+next_made v done left row is all =
+    let before : take (length done) v.journal.rows ≡ done = ap (take (length done)) all ∙ take_at done (row ∷ left) (length done) refl in
+    ap (λ (l : List Row). row_for (with_all v l) row.actor row.worker) (sym before)
+    ∙ made_at v.program v.journal.shape v.journal.limits (opening_machine v.program v.journal.shape) v.journal.rows (length done) row is.rows
+    (ap (λ (l : List Row). slice_get l (length done)) all ∙ at_behind done left row)
 
 -- ---- a turn and its row
 
-at-end : (rows : List Row) → slice_get rows (length rows) ≡ None
-at-end [] = refl
-at-end (r ∷ rows) = at-end rows
+pub none-behind : (rows : List Row) (n : ℕ) → length rows ≤ n → None ≡ slice_get rows n
+none-behind [] n past = refl
+none-behind (r ∷ rows) zero past = absurd (omega (arith, past))
+none-behind (r ∷ rows) (suc n) past = none-behind rows n (omega (arith, past))
 
 last_pushed : (rows : List Row) (row : Row) → slice_get (rows ++ row ∷ []) (length rows) ≡ Some row
 last_pushed [] row = refl
 last_pushed (r ∷ rows) row = last_pushed rows row
 
 noted_at : (v : Recorded) (made : Option Row) → slice_get (with_row v made).journal.rows (length v.journal.rows) ≡ made
-noted_at v None = at-end v.journal.rows
+noted_at v None = sym (none-behind v.journal.rows (length v.journal.rows) (omega arith))
 noted_at v (Some row) = last_pushed v.journal.rows row
 
 -- what stands behind the rows that there were is the row that the turn made
@@ -87,30 +100,41 @@ row_told v w actor worker before rows after rows_are before_is =
     ap (λ n. slice_get rows n) before_is ∙ ap (λ (l : List Row). slice_get l (length v.journal.rows)) (rows_are ∙ ap (λ (u : Recorded). u.journal.rows) after)
     ∙ row_behind v actor worker
 
+-- there is one row more at most
+with_row_fits : (v : Recorded) (made : Option Row) → length (with_row v made).journal.rows ≤ length v.journal.rows + 1
+with_row_fits v None = omega arith
+with_row_fits v (Some row) = let long = length-append v.journal.rows (row ∷ []) in omega (arith, long)
+
+pub one_row_at_most : (v w : Recorded) (actor : Actor) (worker before : ℕ) (rows : List Row) → w ≡ after_turn_by v actor worker → rows ≡ w.journal.rows → before ≡ length v.journal.rows
+    → length rows ≤ before + 1
+unfolding after_turn_by
+one_row_at_most v w actor worker before rows after rows_are before_is =
+    let fits = with_row_fits v (row_for v actor worker) in
+    let long = ap length (rows_are ∙ ap (λ (u : Recorded). u.journal.rows) after) in
+    omega (arith, fits, long, before_is)
+
 -- ---- from row to row
 
-module _ (v u : Recorded) (rows : List Row) (place : ℕ) (d : Row) (inside : place < length rows) (u_is : u ≡ with_all v (take place rows)) where
-  abbrev row : Row
-  row = get_or rows place d
-
+module _ (v u : Recorded) (done left : List Row) (row : Row) (u_is : u ≡ with_all v done) where
   -- one row more
   pub made_one : (w : Recorded) (made : Option Row) → w ≡ after_turn_by u row.actor row.worker → made ≡ row_for u row.actor row.worker
-      → made ≡ Some row → w ≡ with_all v (take (place + 1) rows)
-  made_one w made after told same =
-      after ∙ turn_notes u row (sym told ∙ same) ∙ ap (λ (x : Recorded). noted x row) u_is
-      ∙ ap (with_all v) (sym (take_more rows place d inside))
+      → made ≡ Some row → w ≡ with_all v (done ++ row ∷ [])
+  made_one w made after told same = after ∙ turn_notes u row (sym told ∙ same) ∙ ap (λ (x : Recorded). noted x row) u_is
 
   -- the row differs
-  pub differs_at : (number : ℕ) (made : Option Row) → IsMade u → number ≡ place + 1 → made ≡ row_for u row.actor row.worker
-      → (made ≡ Some row → ⊥) → DiffersFirst (with_all v rows) number
-  differs_at number made is number_is told other = record {
-    before = place;
-    number_is = number_is;
-    row = row;
-    there = slice_get-get_or rows place d inside;
-    made = (subst IsMade u_is is).rows;
-    differs = λ e. other (told ∙ ap (λ (x : Recorded). row_for x row.actor row.worker) u_is ∙ e);
-  }
+  pub differs_at : (rows : List Row) (number : ℕ) (made : Option Row) → rows ≡ done ++ row ∷ left → IsMade u → number ≡ length done + 1
+      → made ≡ row_for u row.actor row.worker → (made ≡ Some row → ⊥) → DiffersFirst (with_all v rows) number
+  differs_at rows number made all is number_is told other =
+      let before : take (length done) rows ≡ done = ap (take (length done)) all ∙ take_at done (row ∷ left) (length done) refl in
+      let u_front : u ≡ with_all v (take (length done) rows) = u_is ∙ ap (with_all v) (sym before) in
+      record {
+        before = length done;
+        number_is = number_is;
+        row = row;
+        there = ap (λ (l : List Row). slice_get l (length done)) all ∙ at_behind done left row;
+        made = (subst IsMade u_front is).rows;
+        differs = λ e. other (told ∙ ap (λ (x : Recorded). row_for x row.actor row.worker) u_front ∙ e);
+      }
 
 -- why a journal that a run made isn't replayed
 pub excuse_of_made : (v : Recorded) (e : ReplayError) → IsMade v → Excuses v e → e ≡ Memory

@@ -16,6 +16,7 @@ use crate::worlds::{World, WorldError};
 use ideal_run::{Choice, Ideal};
 use loader::programs::Program;
 use model::journals::{Limits, Outcome, Row};
+use model::row_runs::Rows;
 use std::alloc::{AllocError, Global};
 
 /// The choice that an outcome tells: room, where the turn asked for no cell or was at fault.
@@ -153,19 +154,20 @@ fn compare<'a>(
     run: &mut Ideal<'a>,
     alloc: Global,
     program: &'a Program,
-    rows: &[Row],
+    mut rows: Rows<'_>,
 ) -> Result<Option<usize>, AllocError>
     requires program { world.old.program ≡ program.now }
     requires empty { world.old.journal.rows ≡ [] }
-    requires made { IsMade (with_all world.old rows.now) }
-    requires workers { AreOfWorkers world.old.journal.workers rows.now }
+    requires made { IsMade (with_all world.old rows) }
+    requires workers { AreOfWorkers world.old.journal.workers rows }
     requires beside { run.old ≡ reference_of world.old }
-    ensures run { OnOk result (run.new ≡ reference_of (with_all world.old rows.now)) }
+    ensures run { OnOk result (run.new ≡ reference_of (with_all world.old rows.entry)) }
     ensures none { IfOk result (λ row. row ≡ None) }
 {
-    for (place, row) in rows.iter().enumerate() {
-        if !agrees_after(world, run, alloc, program, *row)? {
-            return Ok(Some(place + 1));
+    let count = rows.len();
+    while let Some(row) = rows.next() {
+        if !agrees_after(world, run, alloc, program, row)? {
+            return Ok(Some(count - rows.len()));
         }
     }
     Ok(None)

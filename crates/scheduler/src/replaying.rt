@@ -1,5 +1,5 @@
 //! A world from its program and its journal.
-ghost use Rattle.std.specs.Prelude.{◌≡◌, ◌<◌, ◌↔◌, [], IfOk, IfErr, MatchResult, OnOk, IsTrue, Some, slice_get};
+ghost use Rattle.std.specs.Prelude.{◌≡◌, ◌+◌, ◌<◌, ◌≤◌, ◌↔◌, [], IfOk, IfErr, MatchResult, OnOk, IsTrue, Some, length, slice_get};
 ghost use Rattle.model.specs.Journals.{HeadFits, AreOfWorkers};
 ghost use Rattle.model.specs.Machines.{after_turn_by, row_for};
 ghost use Rattle.scheduler.specs.Replaying.{Excuses, IsMade, with_all};
@@ -8,6 +8,7 @@ use crate::worlds::{World, WorldError};
 use loader::programs::Program;
 use model::journal_parts::JournalParts;
 use model::journals::{Journal, Row};
+use model::row_runs::Rows;
 use model::stored_journals::StoredJournal;
 use model::turns::Actor;
 use std::alloc::Global;
@@ -49,11 +50,16 @@ impl SoundJournal for StoredJournal {
     }
 }
 
-/// The row at a place, from 0.
-fn row_at(rows: &[Row], place: usize) -> Option<Row>
-    ensures { result ≡ slice_get rows.now place }
+/// The row behind so many, if there is one: the last.
+fn row_behind(rows: Rows<'_>, before: usize) -> Option<Row>
+    requires { length rows ≤ before + 1 }
+    ensures { result ≡ slice_get rows.entry before }
 {
-    rows.get(place).copied()
+    if before < rows.len() {
+        rows.last()
+    } else {
+        None
+    }
 }
 
 /// One turn of an actor, made by a worker; the row that it made, if it made one.
@@ -66,7 +72,7 @@ fn turn_row(world: &mut World, actor: Actor, worker: u8) -> Option<Row>
     world.is_made();
     let before = world.journal().rows().len();
     let _ = world.turn_by(actor, worker);
-    row_at(world.journal().rows(), before)
+    row_behind(world.journal().rows(), before)
 }
 
 /// Whether a turn made this row.
@@ -77,15 +83,16 @@ fn is_row(made: Option<Row>, row: Row) -> bool
 }
 
 /// Makes one turn for each row, in a world that has made none: N5 with the first row that isn't the one of its turn.
-fn make_rows(world: &mut World, rows: &[Row]) -> Result<(), ReplayError>
+fn make_rows(world: &mut World, mut rows: Rows<'_>) -> Result<(), ReplayError>
     requires empty { world.old.journal.rows ≡ [] }
-    requires workers { AreOfWorkers world.old.journal.workers rows.now }
-    ensures { MatchResult result (λ _. world.new ≡ with_all world.old rows.now) (Excuses (with_all world.old rows.now)) }
+    requires workers { AreOfWorkers world.old.journal.workers rows }
+    ensures { MatchResult result (λ _. world.new ≡ with_all world.old rows.entry) (Excuses (with_all world.old rows.entry)) }
 {
-    for (place, row) in rows.iter().enumerate() {
+    let count = rows.len();
+    while let Some(row) = rows.next() {
         let made = turn_row(world, row.actor, row.worker);
-        if !is_row(made, *row) {
-            return Err(ReplayError::Row(place + 1));
+        if !is_row(made, row) {
+            return Err(ReplayError::Row(count - rows.len()));
         }
     }
     Ok(())

@@ -49,9 +49,20 @@ const SECOND: Row = Row {
     worker: 0,
 };
 
+/// Whether a journal has these rows and no more.
+fn has_rows(journal: &Journal, rows: &[Row]) -> bool {
+    let mut found = journal.rows();
+    for row in rows {
+        if found.next() != Some(*row) {
+            return false;
+        }
+    }
+    found.next().is_none()
+}
+
 /// Whether a journal has two rows, in order, and all that it was made with.
 fn has_noted(journal: &Journal) -> bool {
-    journal.rows() == [FIRST, SECOND].as_slice()
+    has_rows(journal, [FIRST, SECOND].as_slice())
         && journal.shape() == SHAPE
         && journal.limits() == LIMITS
         && journal.workers() == 1

@@ -118,7 +118,7 @@ fn a_new_object_is_marked(rt: HostRuntime) -> Result<(), Fail> {
     ];
     follow(&rt, rt.alloc(), &mut world, 2, steps.as_slice())?;
     assert!(rt; has(&world, b"5\n", 24));
-    let row = world.journal().rows().get(8).copied();
+    let row = world.journal().rows().nth(8);
     assert!(rt; row.is_some_and(|row| row.outcome == Outcome::Object));
     Ok(())
 }

@@ -1,4 +1,4 @@
-//! Programs of one class, by the code of its main.
+//! Programs of one class, by the code of its main, and the rows of what they come to.
 
 use loader::accept;
 use loader::programs::Program;
@@ -7,8 +7,10 @@ use model::instructions::{
     ArrayOperation, Constant, Instruction, Invocation, NumberKind, NumberOperation, Operator,
     Primitive, SmallInt, StackOperation, Width,
 };
+use model::journals::Row;
 use model::listings::{Code, Listed, Listing, Method, Placed};
 use model::names::{Member, Name};
+use scheduler::worlds::World;
 use std::alloc::{AllocError, Global};
 use std::test::Fail;
 
@@ -32,6 +34,17 @@ pub enum Op {
     Pop,
     Nop,
     Return,
+}
+
+/// Whether a world's journal has these rows, and no more.
+pub fn has_rows(world: &World, rows: &[Row]) -> bool {
+    let mut found = world.journal().rows();
+    for row in rows {
+        if found.next() != Some(*row) {
+            return false;
+        }
+    }
+    found.next().is_none()
 }
 
 /// How many bytes an instruction has.

@@ -5,7 +5,7 @@ mod objects;
 mod replaying;
 mod rounds;
 
-use crate::mains::{Op, program};
+use crate::mains::{Op, has_rows, program};
 use model::colours::{Colour, Phase};
 use model::journals::{HeapShape, Limits, Outcome, Row};
 use model::turns::{Actor, ClassState, Fault, Status, Turn};
@@ -74,7 +74,7 @@ fn told(world: &World) -> (Status, Option<u8>, bool, Option<(Fault, u8)>) {
 
 /// Whether the journal has these rows, and the output these bytes.
 fn has(world: &World, rows: &[Row], output: &[u8]) -> bool {
-    world.journal().rows() == rows && world.output() == output
+    has_rows(world, rows) && world.output() == output
 }
 
 /// Whether main has one frame, which stands at this pc with these values on its stack, bottom first.

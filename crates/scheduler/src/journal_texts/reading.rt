@@ -21,7 +21,7 @@ pub fn read_journal(alloc: Global, text: &[u8]) -> Result<StoredJournal, Journal
 {
     let (head, rest) = read_head(text)?;
     let (rows, rest) = rows(alloc, head.version, head.workers, rest)?;
-    if !is_end_line(rest, rows.len()) {
+    if !is_end_line(rest, rows.rows().len()) {
         return Err(JournalError::End);
     }
     Ok(StoredJournal::new(head.shape, head.limits, head.workers, rows))

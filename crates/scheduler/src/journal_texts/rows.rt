@@ -8,6 +8,7 @@ use crate::journal_texts::errors::JournalError;
 use crate::journal_texts::heads::Version;
 use crate::journal_texts::words::{behind, number};
 use model::journals::{Outcome, Row};
+use model::row_runs::RowRuns;
 use model::turns::Actor;
 use std::alloc::Global;
 
@@ -18,19 +19,19 @@ pub fn rows(
     version: Version,
     workers: u8,
     text: &[u8],
-) -> Result<(Vec<Row>, &[u8]), JournalError>
+) -> Result<(RowRuns, &[u8]), JournalError>
     requires { FitsVersion version workers }
-    ensures { MatchResult result (λ r. (text.now ≡ lines_of_rows (line_by version) r.0.items ++ r.1.now) × All (FitsRow workers) r.0.items × (is_over r.1.now ≡ true)) (λ e. e ≢ JournalError.Memory → ¬ HasRows version workers text.now) }
+    ensures { MatchResult result (λ r. (text.now ≡ lines_of_rows (line_by version) r.0.rows ++ r.1.now) × All (FitsRow workers) r.0.rows × (is_over r.1.now ≡ true)) (λ e. e ≢ JournalError.Memory → ¬ HasRows version workers text.now) }
 {
-    let mut rows = Vec::new(alloc);
+    let mut rows = RowRuns::new(alloc);
     let mut rest = text;
     'rows: while !is_over(rest) {
         match row(version, workers, rest) {
             Some((row, behind)) => {
-                rows.push(row)?;
+                rows.add(row)?;
                 rest = behind;
             }
-            None => return Err(JournalError::Row(rows.len().saturating_add(1))),
+            None => return Err(JournalError::Row(rows.rows().len().saturating_add(1))),
         }
     }
     Ok((rows, rest))

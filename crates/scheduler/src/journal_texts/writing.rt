@@ -1,10 +1,11 @@
 //! The text of a journal.
-ghost use Rattle.std.specs.Prelude.{◌≡◌, ◌+◌, ◌++◌, [], ◌∷◌, IfOk, length, decimal, drop};
+ghost use Rattle.std.specs.Prelude.{◌≡◌, ◌+◌, ◌++◌, [], ◌∷◌, IfOk, length, decimal};
 ghost use Rattle.model.specs.JournalTexts.{outcome_letter, actor_word, number_text, heap_line, limits_line, workers_line, row_line, lines_of_rows, end_line, journal_text};
 
 use itoa::Buffer;
 use model::journal_parts::JournalParts;
 use model::journals::{HeapShape, Limits, Outcome, Row};
+use model::row_runs::Rows;
 use model::turns::Actor;
 use std::alloc::{AllocError, Global};
 
@@ -39,12 +40,11 @@ fn write_limits(text: &mut Vec<u8>, limits: Limits) -> Result<(), AllocError>
     write_number(text, limits.output, b'\n')
 }
 
-#[tactic(auto, using(crate::proofs::RowLines::one_more))]
-fn write_rows(text: &mut Vec<u8>, rows: &[Row]) -> Result<(), AllocError>
-    ensures { IfOk result (λ _. text.new.items ≡ text.old.items ++ lines_of_rows row_line rows.now) }
+fn write_rows(text: &mut Vec<u8>, rows: Rows<'_>) -> Result<(), AllocError>
+    ensures { IfOk result (λ _. text.new.items ≡ text.old.items ++ lines_of_rows row_line rows.entry) }
 {
     for row in rows {
-        write_row(text, *row)?;
+        write_row(text, row)?;
     }
     Ok(())
 }

@@ -1,7 +1,8 @@
 -- the world has the rows so far
-use Rattle.std.proofs.Common.{◌≡◌, take}
+use Rattle.std.proofs.Common.{◌≡◌, ◌++◌, List}
+use Rattle.model.specs.declared.journals.Row.{Row}
 use Rattle.scheduler.specs.Replaying.{with_all}
 use Rattle.scheduler.proofs.replaying.make_rows.Given as goal
 
-abbrev pub invariant-loop-place : goal.invariant-loop-place
-invariant-loop-place l = l.world ≡ with_all l.initial.world (take l.place l.rows)
+abbrev pub invariant-loop-row : goal.invariant-loop-row
+invariant-loop-row l = (done : List Row) × (l.fn.rows ≡ done ++ l.rows) × (l.world ≡ with_all l.fn.world done)

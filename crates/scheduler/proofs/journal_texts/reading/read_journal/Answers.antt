@@ -1,4 +1,4 @@
-use Rattle.std.proofs.Common.{◌∙◌, sym, ap, refl}
+use Rattle.std.proofs.Common.{◌∙◌, sym, ap, length, refl}
 use Rattle.std.proofs.lemmas.Result.{err_from_is_err_and}
 use Rattle.model.specs.JournalTexts.{end_line}
 use Rattle.scheduler.proofs.JournalReading.Whole.{no_head, no_rows, no_end, is_journal}
@@ -16,10 +16,10 @@ returns-in_err-rows-clause-refused c =
 
 pub returns-then-not-is_end_line-clause-refused : goal.returns-then-not-is_end_line-clause-refused
 returns-then-not-is_end_line-clause-refused c =
-    let count = c.len.ensures ∙ c.in_ok-rows.rows.ok.0 in
-    λ other. no_end c.args.text.now c.in_ok-head.head c.in_ok-head.rest.now c.in_ok-head.ensures.0 c.in_ok-rows.rows.items c.in_ok-rows.rest.now c.in_ok-head.ensures.1 c.in_ok-rows.ensures.1 c.in_ok-rows.ensures.0 c.in_ok-rows.ensures.2 (λ e. let ended = c.if-not-is_end_line.ensures.1 (e ∙ ap end_line (sym count)) in cc)
+    let count = c.len.ensures ∙ ap length c.rows-3.ensures in
+    λ other. no_end c.args.text.now c.in_ok-head.head c.in_ok-head.rest.now c.in_ok-head.ensures.0 c.in_ok-rows.rows.rows c.in_ok-rows.rest.now c.in_ok-head.ensures.1 c.in_ok-rows.ensures.1 c.in_ok-rows.ensures.0 c.in_ok-rows.ensures.2 (λ e. let ended = c.if-not-is_end_line.ensures.1 (e ∙ ap end_line (sym count)) in cc)
 
 pub returns-clause-journal : goal.returns-clause-journal
 returns-clause-journal c =
-    let count = c.len.ensures ∙ c.in_ok-rows.rows.ok.0 in
-    rw (c.new.ensures) (is_journal c.args.text.now c.in_ok-head.head c.in_ok-head.rest.now c.in_ok-head.ensures.0 c.in_ok-rows.rows.items c.in_ok-rows.rest.now c.in_ok-head.ensures.1 c.in_ok-rows.ensures.1 c.in_ok-rows.ensures.0 (c.if-not-is_end_line.ensures.0 refl ∙ ap end_line count))
+    let count = c.len.ensures ∙ ap length c.rows-3.ensures in
+    rw (c.new.ensures) (is_journal c.args.text.now c.in_ok-head.head c.in_ok-head.rest.now c.in_ok-head.ensures.0 c.in_ok-rows.rows.rows c.in_ok-rows.rest.now c.in_ok-head.ensures.1 c.in_ok-rows.ensures.1 c.in_ok-rows.ensures.0 (c.if-not-is_end_line.ensures.0 refl ∙ ap end_line count))

@@ -9,10 +9,10 @@ rows-smaller c = row_ends c.args.version c.args.workers c.requires c.rows.rest.n
 
 pub rows-preserved : goal.rows-preserved
 rows-preserved c =
-    let push = c.in_ok-push-in-Some.ensures.items in
+    let add = c.in_ok-add-in-Some.ensures.added in
     let fits = row_fits c.args.version c.args.workers c.requires c.rows.rest.now c.in-Some.row c.in-Some.behind.now c.in-Some.ensures in
-    let cut = row_behind c.args.version c.args.workers c.requires c.rows.rest.now c.in-Some.row c.in-Some.behind.now c.in-Some.ensures c.args.text.now c.rows.rows.items c.rows.invariant.0 in
-    rw push (cut, All-push (FitsRow c.args.workers) c.rows.rows.items c.in-Some.row c.rows.invariant.1 fits)
+    let cut = row_behind c.args.version c.args.workers c.requires c.rows.rest.now c.in-Some.row c.in-Some.behind.now c.in-Some.ensures c.args.text.now c.rows.rows.rows c.rows.invariant.0 in
+    rw add (cut, All-push (FitsRow c.args.workers) c.rows.rows.rows c.in-Some.row c.rows.invariant.1 fits)
 
 pub returns-in-None : goal.returns-in-None
-returns-in-None c = λ other. faulty c.args.version c.args.workers c.requires c.args.text.now c.rows.rows.items c.rows.rest.now c.rows.invariant.1 c.rows.invariant.0 (sym c.rows-test.ensures) c.in-None.ensures
+returns-in-None c = λ other. faulty c.args.version c.args.workers c.requires c.args.text.now c.rows.rows.rows c.rows.rest.now c.rows.invariant.1 c.rows.invariant.0 (sym c.rows-test.ensures) c.in-None.ensures

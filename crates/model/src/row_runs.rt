@@ -1,0 +1,332 @@
+//! Rows kept as runs: four bytes for up to 255 equal ones in a row.
+ghost use Rattle.std.specs.Prelude.{◌≡◌, ◌+◌, ◌-◌, ◌++◌, ◌<◌, ◌≤◌, ◌↔◌, [], ◌∷◌, IfOk, OnErr, OnOk, length, replicate, slice_get, vec_capacity, vec_len};
+ghost use Rattle.model.specs.RowRuns.{AreRuns, row_of, rows_in, run_of, taken};
+
+use crate::journals::{Outcome, Row};
+use crate::turns::Actor;
+use std::alloc::{AllocError, Global};
+use std::marker::Model;
+
+/// Who took a turn and what came of it, in two bytes: a thread's number, or the collector.
+#[derive(Clone, Copy, PartialEq, Eq)]
+pub enum TurnTaken {
+    Done(u8),
+    Object(u8),
+    NoRoom(u8),
+    Fault(u8),
+    CollectorDone,
+    CollectorObject,
+    CollectorNoRoom,
+    CollectorFault,
+}
+
+/// A row so many times, once at least.
+#[derive(Clone, Copy)]
+pub struct RowRun {
+    turn: TurnTaken,
+    worker: u8,
+    times: u8,
+}
+
+fn taken(actor: Actor, outcome: Outcome) -> TurnTaken
+    ensures { result ≡ taken actor outcome }
+{
+    match actor {
+        Actor::Thread(thread) => match outcome {
+            Outcome::Done => TurnTaken::Done(thread),
+            Outcome::Object => TurnTaken::Object(thread),
+            Outcome::NoRoom => TurnTaken::NoRoom(thread),
+            Outcome::Fault => TurnTaken::Fault(thread),
+        },
+        Actor::Collector => match outcome {
+            Outcome::Done => TurnTaken::CollectorDone,
+            Outcome::Object => TurnTaken::CollectorObject,
+            Outcome::NoRoom => TurnTaken::CollectorNoRoom,
+            Outcome::Fault => TurnTaken::CollectorFault,
+        },
+    }
+}
+
+impl TurnTaken {
+    ghost use Rattle.model.specs.RowRuns.{actor_of, outcome_of};
+
+    fn actor(self) -> Actor
+        ensures { result ≡ actor_of self }
+    {
+        match self {
+            TurnTaken::Done(thread)
+            | TurnTaken::Object(thread)
+            | TurnTaken::NoRoom(thread)
+            | TurnTaken::Fault(thread) => Actor::Thread(thread),
+            TurnTaken::CollectorDone
+            | TurnTaken::CollectorObject
+            | TurnTaken::CollectorNoRoom
+            | TurnTaken::CollectorFault => Actor::Collector,
+        }
+    }
+
+    fn outcome(self) -> Outcome
+        ensures { result ≡ outcome_of self }
+    {
+        match self {
+            TurnTaken::Done(_) | TurnTaken::CollectorDone => Outcome::Done,
+            TurnTaken::Object(_) | TurnTaken::CollectorObject => Outcome::Object,
+            TurnTaken::NoRoom(_) | TurnTaken::CollectorNoRoom => Outcome::NoRoom,
+            TurnTaken::Fault(_) | TurnTaken::CollectorFault => Outcome::Fault,
+        }
+    }
+}
+
+impl RowRun {
+    fn new(row: Row, times: u8) -> RowRun
+        ensures { result ≡ run_of row times }
+    {
+        RowRun {
+            turn: taken(row.actor, row.outcome),
+            worker: row.worker,
+            times,
+        }
+    }
+
+    fn row(self) -> Row
+        ensures { result ≡ row_of self }
+    {
+        Row {
+            actor: self.turn.actor(),
+            outcome: self.turn.outcome(),
+            worker: self.worker,
+        }
+    }
+
+    fn times(self) -> u8
+        ensures { result ≡ self.times }
+    {
+        self.times
+    }
+
+    /// How many of so many more rows of this kind the run has room for: none where its own row is another.
+    fn room_for(self, row: Row, times: u32) -> u8
+        ensures same { 0 < result → row_of self ≡ row }
+        ensures most { result ≤ times }
+        ensures fits { self.times + result ≤ 255 }
+    {
+        if self.turn != taken(row.actor, row.outcome) || self.worker != row.worker {
+            return 0;
+        }
+        let room = 255 - self.times;
+        if times < u32::from(room) {
+            times as u8
+        } else {
+            room
+        }
+    }
+}
+
+/// Adds a row to the last run, if that is a run of such, up to so many times. How many times it was.
+fn lengthen(runs: &mut Vec<RowRun>, row: Row, times: u32) -> u32
+    requires { AreRuns runs.old.items }
+    ensures rows { rows_in runs.new.items ≡ rows_in runs.old.items ++ replicate result row }
+    ensures runs { AreRuns runs.new.items }
+    ensures most { result ≤ times }
+    ensures len { vec_len runs.new ≡ vec_len runs.old }
+    ensures capacity { vec_capacity runs.new ≡ vec_capacity runs.old }
+{
+    let count = runs.len();
+    if count == 0 {
+        return 0;
+    }
+    let last = runs[count - 1];
+    let more = last.room_for(row, times);
+    runs[count - 1] = RowRun {
+        times: last.times + more,
+        ..last
+    };
+    u32::from(more)
+}
+
+/// How many rows of so many the next run has.
+fn run_length(left: u32) -> u8
+    ensures some { 0 < left → 0 < result }
+    ensures most { result ≤ left }
+{
+    if left < 255 { left as u8 } else { 255 }
+}
+
+/// Adds a row so many times, in runs of its own. It takes no memory.
+fn push_runs(runs: &mut Vec<RowRun>, row: Row, times: u32)
+    requires runs { AreRuns runs.old.items }
+    requires room { 0 < times → vec_len runs.old + times ≤ vec_capacity runs.old }
+    ensures rows { rows_in runs.new.items ≡ rows_in runs.old.items ++ replicate times row }
+    ensures runs { AreRuns runs.new.items }
+    ensures capacity { vec_capacity runs.new ≡ vec_capacity runs.old }
+{
+    let mut left = times;
+    while left > 0 {
+        let more = run_length(left);
+        runs.push_reserved(RowRun::new(row, more));
+        left -= u32::from(more);
+    }
+}
+
+/// Adds a row, for which memory may be taken.
+fn push_row(runs: &mut Vec<RowRun>, row: Row) -> Result<(), AllocError>
+    requires { AreRuns runs.old.items }
+    ensures added { OnOk result (rows_in runs.new.items ≡ rows_in runs.old.items ++ row ∷ []) }
+    ensures kept { OnErr result (rows_in runs.new.items ≡ rows_in runs.old.items) }
+    ensures runs { AreRuns runs.new.items }
+    ensures capacity { vec_capacity runs.old ≤ vec_capacity runs.new }
+{
+    if lengthen(runs, row, 1) > 0 {
+        return Ok(());
+    }
+    runs.push(RowRun::new(row, 1))?;
+    Ok(())
+}
+
+/// Rows, kept as runs of equal ones. A contract sees the rows, and how many there is memory for, whatever they are.
+#[derive(Drop)]
+pub struct RowRuns {
+    runs: Vec<RowRun>,
+    count: usize,
+}
+
+impl Model for RowRuns {
+    ghost use Rattle.std.specs.Prelude.{◌≡◌, length, vec_capacity};
+    ghost use Rattle.model.specs.KeptRows.{KeptRows};
+    ghost use Rattle.model.specs.RowRuns.{AreRuns, rows_in};
+
+    ghost Value = { KeptRows };
+
+    ghost view = { λ a. record { rows = rows_in a.runs.items; room = vec_capacity a.runs } };
+
+    ghost invariant = { λ a. AreRuns a.runs.items × (a.count ≡ length (rows_in a.runs.items)) };
+}
+
+impl RowRuns {
+    /// No rows. It takes no memory.
+    pub fn new(alloc: Global) -> RowRuns
+        ensures { result.rows ≡ [] }
+    {
+        RowRuns {
+            runs: Vec::new(alloc),
+            count: 0,
+        }
+    }
+
+    /// No rows, and memory for so many. `AllocError` where there is none.
+    pub fn with_room(alloc: Global, room: usize) -> Result<RowRuns, AllocError>
+        ensures { IfOk result (λ rows. rows ≡ record { rows = []; room = room }) }
+    {
+        Ok(RowRuns {
+            runs: Vec::with_capacity(alloc, room)?,
+            count: 0,
+        })
+    }
+
+    /// The rows in order.
+    pub fn rows(&self) -> Rows<'_>
+        ensures { result ≡ self.now.rows }
+    {
+        Rows {
+            runs: self.runs.as_slice(),
+            passed: 0,
+            count: self.count,
+        }
+    }
+
+    /// Adds a row. It takes no memory.
+    pub fn note(&mut self, row: Row)
+        requires { length self.old.rows < self.old.room }
+        ensures { self.new ≡ record { rows = self.old.rows ++ row ∷ []; room = self.old.room } }
+    {
+        self.note_times(row, 1);
+    }
+
+    /// Adds a row so many times, in a time that grows with the runs alone. It takes no memory.
+    pub fn note_times(&mut self, row: Row, times: u32)
+        requires { 0 < times → length self.old.rows + times ≤ self.old.room }
+        ensures { self.new ≡ record { rows = self.old.rows ++ replicate times row; room = self.old.room } }
+    {
+        let more = lengthen(&mut self.runs, row, times);
+        push_runs(&mut self.runs, row, times - more);
+        self.count += times as usize;
+    }
+
+    /// Adds a row, for which memory may be taken. `AllocError` where there is none; the rows are then as they were.
+    pub fn add(&mut self, row: Row) -> Result<(), AllocError>
+        ensures added { OnOk result (self.new.rows ≡ self.old.rows ++ row ∷ []) }
+        ensures kept { OnErr result (self.new.rows ≡ self.old.rows) }
+        ensures room { self.old.room ≤ self.new.room }
+    {
+        let Some(count) = self.count.checked_add(1) else {
+            return Err(AllocError);
+        };
+        push_row(&mut self.runs, row)?;
+        self.count = count;
+        Ok(())
+    }
+}
+
+/// The rows that are still to come, in order.
+#[derive(Drop)]
+pub struct Rows<'a> {
+    runs: &'a [RowRun],
+    passed: u8,
+    count: usize,
+}
+
+impl<'a> Model for Rows<'a> {
+    ghost use Rattle.std.specs.Prelude.{List, drop};
+    ghost use Rattle.model.specs.RowRuns.{AreLeft, rows_in};
+    ghost use Rattle.model.specs.declared.journals.Row.{Row};
+
+    ghost Value = { List Row };
+
+    ghost view = { λ a. drop a.passed (rows_in a.runs.now) };
+
+    ghost invariant = { λ a. AreLeft a.passed a.count a.runs.now };
+}
+
+impl<'a> Rows<'a> {
+    /// How many there are.
+    pub fn len(&self) -> usize
+        ensures { result ≡ length self.now }
+    {
+        self.count
+    }
+
+    /// The last one, in constant time.
+    pub fn last(self) -> Option<Row>
+        ensures { result ≡ slice_get self.entry (length self.entry - 1) }
+    {
+        match self.runs {
+            [.., last] => Some(last.row()),
+            [] => None,
+        }
+    }
+}
+
+impl<'a> Iterator for Rows<'a> {
+    ghost use Rattle.std.specs.Iterator.{YieldsFirst, item_count};
+
+    type Item = Row;
+
+    ghost next_gives = { YieldsFirst (λ s. s) };
+
+    ghost remaining = { item_count (λ s. s) };
+
+    fn next(&mut self) -> Option<Row> {
+        let [first, behind @ ..] = self.runs else {
+            return None;
+        };
+        let (row, times) = (first.row(), first.times());
+        self.count -= 1;
+        if self.passed + 1 < times {
+            self.passed += 1;
+        } else {
+            self.runs = behind;
+            self.passed = 0;
+        }
+        Some(row)
+    }
+}
