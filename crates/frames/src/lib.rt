@@ -24,7 +24,7 @@
 //! | `replace_all(next, n, vs)` | under `n ≤ length f.stack` and `units_of_all vs ≤ units_of_all (take n f.stack)`: `with_running frames (replaced next f n vs).frame` |
 //! | `replace_if_room(next, n, v)`, `replace_slot_if_room(next, n, s)`, `replace_all_if_room(next, n, vs)` | under `n ≤ length f.stack`: `told result after ≡ moved_on frames (replaced_if_room next f n vs)`, and nothing changes on an `Err` |
 //! | `has_local(kind, i)`, `load(kind, i)`, `local_int(i)` | `has_local kind f.locals i`, `local_at kind f.locals i`, `as_int (local_at Int f.locals i)` |
-//! | `operand(kind)` | `value_on kind f.stack` |
+//! | `operand(kind)`, `operand_below(kind, k)` | `value_on kind f.stack`, `value_on kind (drop k f.stack)` |
 //! | `entries(d)`, `reference_at(d, j)`, `monitor_at(d)` | of the frame d, counted from the outermost: `length (entries_at frames d)`, `ref_at (entries_at frames d) j`, `monitor_at frames d` |
 //! | `frame_at(d)` | of the frame d, counted from the outermost: `head_at frames d`, its method, pc, monitor and mark, and the units that its stack takes and may take |
 //! | `store(next, n, i, v)` | under `n ≤ length f.stack`: `with_running frames (stored next f n i v).frame` |
@@ -33,7 +33,8 @@
 //! Inside, an activation record says where a frame's locals begin in the array; its stack stands behind them, a value in
 //! one unit each, while the units that the values take are counted beside them. So each call takes the time of the
 //! values that it moves. The running frame's record stands apart from those below it, in fields of its own: where `Frames` is a
-//! variable of a loop that only makes calls that are inlined, these fields stay in the processor's registers.
+//! variable of a loop that only makes calls that are inlined, these fields stay in the processor's registers. The records
+//! below it stay in their places when they are left, so that a call writes over them and takes no memory.
 #![tactic(auto)]
 
 mod activations;

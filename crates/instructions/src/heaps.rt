@@ -86,6 +86,7 @@ impl Heap {
     }
 
     /// Shades what a reference leads to.
+    #[inline(always)]
     pub(crate) fn shade(&mut self, reference: Option<u32>)
         ensures { self.new ≡ shaded self.old reference }
     {
