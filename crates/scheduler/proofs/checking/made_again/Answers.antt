@@ -11,7 +11,7 @@ use Rattle.scheduler.proofs.checking.made_again.Goals as goal
 
 pub loop-row-init : goal.loop-row-init
 loop-row-init c = (
-  sym (c.into_iter-row-iterator.ensures.into_iter_gives ∙ c.rows.ensures.value ∙ ap (λ (j : JournalValue). j.rows) c.journal-journal.ensures),
+  sym (c.into_iter-row-iterator.ensures.into_iter_gives ∙ c.rows-row-items.ensures.value ∙ ap (λ (j : JournalValue). j.rows) c.journal-journal.ensures),
   c.in_ok-run.ensures
       ∙ ap (λ (p : List ClassListing). opening_run p c.limits.result) (sym c.requires.program)
       ∙ ap (opening_run c.args.world.now.program) (c.limits.ensures.value ∙ ap (λ (j : JournalValue). j.limits) c.journal-journal.ensures)
