@@ -152,6 +152,7 @@ impl Journal {
     }
 
     /// Adds a row. It takes no memory.
+    #[inline]
     pub fn note(&mut self, row: Row)
         requires room { length self.old.rows < self.old.limits.steps }
         requires worker { row.worker < self.old.workers }

@@ -28,6 +28,7 @@ pub struct RowRun {
     times: u8,
 }
 
+#[inline]
 fn taken(actor: Actor, outcome: Outcome) -> TurnTaken
     ensures { result ≡ taken actor outcome }
 {
@@ -78,6 +79,7 @@ impl TurnTaken {
 }
 
 impl RowRun {
+    #[inline]
     fn new(row: Row, times: u8) -> RowRun
         ensures { result ≡ run_of row times }
     {
@@ -153,6 +155,7 @@ fn run_length(left: u32) -> u8
 }
 
 /// Adds a row so many times, in runs of its own. It takes no memory.
+#[inline(always)]
 fn push_runs(runs: &mut Vec<RowRun>, row: Row, times: u32)
     requires runs { AreRuns runs.old.items }
     requires room { 0 < times → vec_len runs.old + times ≤ vec_capacity runs.old }
@@ -235,11 +238,14 @@ impl RowRuns {
     }
 
     /// Adds a row. It takes no memory.
+    // As a run of its own: to look at the last one, which a turn just wrote, takes longer than what a turn does.
+    #[inline]
     pub fn note(&mut self, row: Row)
         requires { length self.old.rows < self.old.room }
         ensures { self.new ≡ record { rows = self.old.rows ++ row ∷ []; room = self.old.room } }
     {
-        self.note_times(row, 1);
+        push_runs(&mut self.runs, row, 1);
+        self.count += 1;
     }
 
     /// Adds a row so many times, in a time that grows with the runs alone. It takes no memory.
