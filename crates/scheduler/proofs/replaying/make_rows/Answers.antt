@@ -27,7 +27,9 @@ pub loop-row-preserved : goal.loop-row-preserved
 loop-row-preserved c =
     let at = c.loop-row.invariant in
     let row = c.in-Some.row in
-    let all = at.1 ∙ ap (λ (rows : List Row). at.0 ++ rows) c.in-Some.ensures.steps in
-    (at.0 ++ row ∷ [], all ∙ sym (append_assoc at.0 (row ∷ []) c.next.new.self),
-    made_one c.args.world.now c.loop-row.world at.0 c.next.new.self row at.2 c.turn_row-made.new.world c.turn_row-made.result c.turn_row-made.ensures.world
-    c.turn_row-made.ensures.row (c.is_row.ensures.0 c.if-not-is_row.false))
+    let all = at.1 ∙ ap (λ (rows : List Row). at.0 ++ rows) c.in-Some.ensures.steps in (
+      at.0 ++ row ∷ [],
+      all ∙ sym (append_assoc at.0 (row ∷ []) c.next.new.self),
+      made_one c.args.world.now c.loop-row.world at.0 c.next.new.self row at.2 c.turn_row-made.new.world c.turn_row-made.result c.turn_row-made.ensures.world
+          c.turn_row-made.ensures.row (c.is_row.ensures.0 c.if-not-is_row.false),
+    )
