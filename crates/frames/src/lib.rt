@@ -28,6 +28,7 @@
 //! | `entries(d)`, `reference_at(d, j)`, `monitor_at(d)` | of the frame d, counted from the outermost: `length (entries_at frames d)`, `ref_at (entries_at frames d) j`, `monitor_at frames d` |
 //! | `frame_at(d)` | of the frame d, counted from the outermost: `head_at frames d`, its method, pc, monitor and mark, and the units that its stack takes and may take |
 //! | `store(next, n, i, v)` | under `n ≤ length f.stack`: `with_running frames (stored next f n i v).frame` |
+//! | `discard_units(next, n, u)`, `replace_units(next, n, u, v)`, `store_units(next, n, u, i, v)` | what `discard`, `replace` and `store` do, where u is known to be `units_of_all (take n f.stack)` |
 //! | `views()` | `frames`, as plain data |
 //!
 //! Inside, an activation record says where a frame's locals begin in the array; its stack stands behind them, a value in
