@@ -1,5 +1,5 @@
 -- Names with descriptors as keys of a set, and as what they are.
-use Rattle.std.proofs.Common.{◌≡◌, ℕ, ◌+◌, List, [], ◌∷◌, ◌++◌, map, length, nat_lt, position, Bool, true, false, cond, not, ◌||◌, if◌then◌else◌, Some, None, refl, ap, sym, ◌∙◌}
+use Rattle.std.proofs.Common.{◌≡◌, ◌+◌, List, [], ◌∷◌, ◌++◌, map, length, nat_lt, position, Bool, true, false, cond, not, ◌||◌, if◌then◌else◌, Some, None, refl, ap, sym, ◌∙◌}
 use Rattle.std.proofs.lemmas.List.{length-map, map-append}
 use Rattle.std.specs.List.{list_any, position_or_len, prefix_len}
 use Rattle.model.specs.Signatures.{argument_kinds}

@@ -1,4 +1,4 @@
-use Rattle.std.proofs.Common.{◌≤◌, refl, arith, None, length, sym, subst}
+use Rattle.std.proofs.Common.{refl, arith, None}
 use Rattle.model.specs.declared.turns.Mark.TheVariants.{Unmarked}
 use Rattle.frames.specs.declared.activations.Activation.{Activation}
 use Rattle.frames.specs.Layout.{Stands}

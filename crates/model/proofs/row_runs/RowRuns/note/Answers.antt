@@ -1,4 +1,4 @@
-use Rattle.std.proofs.Common.{◌≡◌, ◌<◌, ◌++◌, ◌∷◌, [], ◌∙◌, ℕ, List, ap, arith, length}
+use Rattle.std.proofs.Common.{◌<◌, ◌++◌, ◌∷◌, [], ◌∙◌, ℕ, List, ap, arith, length}
 use Rattle.std.specs.Prelude.{vec_capacity}
 use Rattle.model.specs.declared.journals.Row.{Row}
 use Rattle.model.specs.RowRuns.{rows_in}
