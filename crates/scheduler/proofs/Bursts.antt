@@ -1,5 +1,5 @@
 -- Many rounds in one call: the worlds that they lead to, and what they answer.
-use Rattle.std.proofs.Common.{◌≡◌, ◌≢◌, ◌<◌, ◌≤◌, ◌+◌, ◌-◌, ◌++◌, ◌∷◌, ℕ, zero, suc, List, [], length, length-append, Bool, true, false, Option, Some, None, refl, ap, sym, subst, ◌∙◌, arith}
+use Rattle.std.proofs.Common.{◌≡◌, ◌≢◌, ◌<◌, ◌≤◌, ◌+◌, ◌-◌, ◌∷◌, ℕ, zero, suc, List, [], length, length-append, Bool, true, false, Option, Some, None, refl, ap, sym, subst, ◌∙◌, arith}
 use Rattle.std.proofs.lemmas.List.{append-nil, append_assoc, replicate_more}
 use Rattle.std.specs.Prelude.{if◌then◌else◌, replicate}
 use Rattle.model.specs.declared.journals.Limits.{Limits}
@@ -8,7 +8,7 @@ use Rattle.model.specs.declared.journals.Row.{Row}
 use Rattle.model.specs.declared.turns.Actor.TheVariants.{Thread}
 use Rattle.model.specs.Journals.{JournalValue, with_row, with_rows}
 use Rattle.model.specs.Machines.{Recorded, after_turn_by, row_for, told_of, with_row as recorded_with}
-use Rattle.model.specs.Observers.{ideal, is_running, pick_of, status_of}
+use Rattle.model.specs.Observers.{is_running, pick_of, status_of}
 use Rattle.instructions.specs.FirstTurns.{IsFirstTurn}
 use Rattle.instructions.specs.Loaded.{Loaded}
 use Rattle.instructions.specs.PlainRuns.{FirstTurns, start_behind}

@@ -1,5 +1,5 @@
 -- The choice that a row tells, and that a fault's row is the last one that a run makes.
-use Rattle.std.proofs.Common.{◌≡◌, ◌≢◌, ℕ, List, [], ◌∷◌, ◌++◌, Bool, true, false, true≢false, Option, Some, None, is_some, All, refl, ap, sym, ◌∙◌, ◌<◌, ◌+◌, zero, suc, length, get_or, subst, arith}
+use Rattle.std.proofs.Common.{◌≡◌, ◌≢◌, ℕ, List, [], ◌∷◌, ◌++◌, Bool, true, false, true≢false, Option, Some, None, is_some, All, refl, ap, sym, ◌∙◌, ◌<◌, zero, suc, length, get_or, arith}
 use Rattle.model.specs.declared.journals.HeapShape.{HeapShape}
 use Rattle.model.specs.declared.journals.Limits.{Limits}
 use Rattle.model.specs.declared.journals.Row.{Row}
@@ -15,7 +15,7 @@ use Rattle.model.specs.Effects.Choice.{NewObject, NoRoom as NoneHasRoom}
 use Rattle.model.specs.Effects.{Choice}
 use Rattle.model.specs.Accounts.{has_room}
 use Rattle.model.specs.Table.Next.{asked, next}
-use Rattle.model.specs.Machines.{Machine, Recorded, advance, advance_all, machine_of, machine_of-noted, noted, opening_machine, outcome_asked, outcome_by, outcome_if, outcome_of, row_by, row_unless_refused}
+use Rattle.model.specs.Machines.{Machine, Recorded, advance, advance_all, machine_of, machine_of-noted, noted, opening_machine, outcome_asked, outcome_by, outcome_if, row_by, row_unless_refused}
 use Rattle.model.specs.Turns.{acted, choice_by, choice_of, faulting, ideal_step, is_fault, refusal, refusal_after, unless_refused}
 use Rattle.ideal_run.specs.Runs.{Run, opening_run, run_after}
 use Rattle.scheduler.specs.Checking.{IsNoFault, reference_of, run_of, told_choice}

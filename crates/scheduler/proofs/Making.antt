@@ -1,5 +1,5 @@
 -- Journals whose rows their turns made: one row more, and what any of its rows is.
-use Rattle.std.proofs.Common.{◌≡◌, ◌<◌, ◌≤◌, ◌+◌, ℕ, zero, suc, List, [], ◌∷◌, ◌++◌, length, take, Option, Some, None, is_some, true≢false, refl, ap, sym, subst, ◌∙◌, All, arith}
+use Rattle.std.proofs.Common.{◌≡◌, ◌≤◌, ◌+◌, ℕ, zero, suc, List, [], ◌∷◌, ◌++◌, length, take, Option, Some, None, is_some, true≢false, refl, ap, sym, subst, ◌∙◌, All, arith}
 use Rattle.std.proofs.lemmas.List.{get_or_at, length-append, take_at}
 use Rattle.std.specs.Prelude.{slice_get}
 use Rattle.model.specs.declared.journals.HeapShape.{HeapShape}
@@ -11,7 +11,7 @@ use Rattle.model.specs.Journals.{JournalValue}
 use Rattle.model.specs.Machines.{Machine, Recorded, advance, advance_all, after_turn_by, machine_of, noted, opened, opening_machine, row_by, row_for, with_row}
 use Rattle.scheduler.specs.declared.replaying.ReplayError.{ReplayError}
 use Rattle.scheduler.specs.declared.replaying.ReplayError.TheVariants.{Row as AtRow, Memory, Frames}
-use Rattle.scheduler.specs.Replaying.{AreMade, DiffersFirst, Excuses, IsMade, front, with_all}
+use Rattle.scheduler.specs.Replaying.{AreMade, DiffersFirst, Excuses, IsMade, with_all}
 use Rattle.scheduler.specs.Workers.{with_workers}
 
 abbrev row_or : Row → Option Row → Row

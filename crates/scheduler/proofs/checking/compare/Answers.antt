@@ -1,4 +1,4 @@
-use Rattle.std.proofs.Common.{◌≡◌, ◌<◌, ◌++◌, ◌∷◌, [], ◌∙◌, List, Some, ap, append-nil, subst, sym, true≢false, refl}
+use Rattle.std.proofs.Common.{◌≡◌, ◌<◌, ◌++◌, ◌∷◌, [], ◌∙◌, List, Some, ap, subst, sym, true≢false, refl}
 use Rattle.std.proofs.lemmas.List.{append_assoc}
 use Rattle.model.specs.declared.journals.Row.{Row}
 use Rattle.model.specs.Machines.{Recorded, noted, row_for}

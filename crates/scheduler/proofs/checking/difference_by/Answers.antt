@@ -1,9 +1,9 @@
-use Rattle.std.proofs.Common.{◌≡◌, List, ◌∙◌, ap, subst, sym}
+use Rattle.std.proofs.Common.{List, ◌∙◌, ap, subst, sym}
 use Rattle.model.specs.declared.journals.Row.{Row}
 use Rattle.model.specs.Journals.{AreOfWorkers, JournalValue}
 use Rattle.model.specs.Machines.{Recorded}
 use Rattle.scheduler.specs.Checking.{reference_of}
-use Rattle.scheduler.specs.Replaying.{IsMade, with_all}
+use Rattle.scheduler.specs.Replaying.{IsMade}
 use Rattle.scheduler.proofs.Followed.{reference_opened, whole_again}
 use Rattle.scheduler.proofs.checking.difference_by.Goals as goal
 

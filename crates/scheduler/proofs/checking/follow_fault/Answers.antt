@@ -1,4 +1,4 @@
-use Rattle.std.proofs.Common.{◌∙◌, ap, sym}
+use Rattle.std.proofs.Common.{◌∙◌, ap}
 use Rattle.model.specs.Effects.Choice.{NewObject, NoRoom}
 use Rattle.ideal_run.specs.Runs.{Run, run_after}
 use Rattle.scheduler.proofs.Followed.{clean_before_row, fault_seen, reference_at_fault, reference_without_room}

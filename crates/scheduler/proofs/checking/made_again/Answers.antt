@@ -1,4 +1,4 @@
-use Rattle.std.proofs.Common.{◌≡◌, ◌++◌, ◌∷◌, [], ◌∙◌, List, ap, append-nil, sym}
+use Rattle.std.proofs.Common.{◌++◌, ◌∷◌, [], ◌∙◌, List, ap, append-nil, sym}
 use Rattle.std.proofs.lemmas.List.{append_assoc}
 use Rattle.model.specs.declared.journals.Row.{Row}
 use Rattle.model.specs.ClassListings.{ClassListing}

@@ -1,4 +1,4 @@
-use Rattle.std.proofs.Common.{◌≡◌, ◌<◌, ◌+◌, ◌-◌, ◌++◌, ◌∷◌, [], ◌∙◌, List, ap, arith, length, refl, subst, sym, true≢false}
+use Rattle.std.proofs.Common.{◌≡◌, ◌<◌, ◌+◌, ◌-◌, ◌++◌, ◌∷◌, [], ◌∙◌, List, ap, arith, length, subst, sym, true≢false}
 use Rattle.std.proofs.lemmas.List.{append_assoc, length-append}
 use Rattle.model.specs.declared.journals.Row.{Row}
 use Rattle.model.specs.Machines.{Recorded}

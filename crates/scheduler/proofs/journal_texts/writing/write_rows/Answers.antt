@@ -1,4 +1,4 @@
-use Rattle.std.proofs.Common.{◌≡◌, ◌++◌, ◌∙◌, ap, List, sym}
+use Rattle.std.proofs.Common.{◌++◌, ◌∙◌, ap, List, sym}
 use Rattle.std.proofs.lemmas.List.{append-nil, append_assoc}
 use Rattle.model.specs.declared.journals.Row.{Row}
 use Rattle.model.specs.JournalTexts.{row_line, lines_of_rows}
