@@ -1,4 +1,4 @@
-//! Rows kept as runs: four bytes for up to 255 equal ones in a row.
+//! Rows kept as runs: four bytes for up to 255 equal ones that are noted at once, and for one that is noted alone.
 ghost use Rattle.std.specs.Prelude.{◌≡◌, ◌+◌, ◌-◌, ◌++◌, ◌<◌, ◌≤◌, ◌↔◌, [], ◌∷◌, IfOk, OnErr, OnOk, length, replicate, slice_get, vec_capacity, vec_len};
 ghost use Rattle.model.specs.RowRuns.{AreRuns, row_of, rows_in, run_of, taken};
 
@@ -238,7 +238,7 @@ impl RowRuns {
     }
 
     /// Adds a row. It takes no memory.
-    // As a run of its own: to look at the last one, which a turn just wrote, takes longer than what a turn does.
+    // As a run of its own: a look at the last one took longer than a push (docs/SPEED.md).
     #[inline]
     pub fn note(&mut self, row: Row)
         requires { length self.old.rows < self.old.room }
