@@ -33,10 +33,10 @@ pub struct Assembled {
 
 /// The class file of a tree (JVMS 4), and the listing of both.
 ///
-/// A1 where a method's code is empty or has more than 65,535 bytes, A2 where a branch's way is longer than two bytes have
-/// room for, A4 where the keys of a switch don't rise or a table ends past the greatest int: of the first method in order
-/// that has a fault, A4 before A1 before A2. Then A3 where the pool or a list has more than 65,535. A5 where memory runs
-/// out. A tree that no text spells, as one with SUPER, may be refused with A3.
+/// A1 where a method's code is empty or has more than 65,535 bytes, A2 where a branch's way is longer than two bytes
+/// have room for, A4 where the keys of a switch don't rise or a table ends past the greatest int: of the first method
+/// in order that has a fault, A4 before A1 before A2. Then A3 where the pool or a list has more than 65,535. A5 where
+/// memory runs out. A tree that no text spells, as one with SUPER, may be refused with A3.
 pub fn assemble(alloc: Global, tree: &ClassTree) -> Result<Assembled, AsmError>
     // The class file has the tree's listing, and the tree is one that can be assembled.
     ensures found { IfOk result (λ made. (file_listing made.file ≡ listing_of tree.now) × (assembles tree.now ≡ true)) }
@@ -45,7 +45,8 @@ pub fn assemble(alloc: Global, tree: &ClassTree) -> Result<Assembled, AsmError>
     // The listing is the tree's.
     ensures listed { IfOk result (λ made. made.listing ≡ listing_of tree.now) }
     // A tree that some text spells and that can be assembled has one, unless memory runs out.
-    ensures only { is_spelled (listing_of tree.now) ≡ true → assembles tree.now ≡ true → MatchResult result (λ _. ⊤) (λ e. e ≡ error.Memory) }
+    ensures only { is_spelled (listing_of tree.now) ≡ true → assembles tree.now ≡ true
+        → MatchResult result (λ _. ⊤) (λ e. e ≡ error.Memory) }
 {
     let listing = listing(alloc, tree)?;
     if has_super(&listing) || !has_short_lists(&listing) {

@@ -30,7 +30,8 @@ pub fn lines_agree(lines: &[TextLine]) -> bool
 }
 
 fn switch_agrees(instruction: &Written) -> bool
-    ensures { (narrow : List ℤ) (f : List ℕ → ℕ) → result ≡ switch_agrees (with_targets f (widened narrow instruction.now)) }
+    ensures { (narrow : List ℤ) (f : List ℕ → ℕ)
+        → result ≡ switch_agrees (with_targets f (widened narrow instruction.now)) }
 {
     match instruction {
         Instruction::TableSwitch(table) => table_ends(table),
@@ -41,7 +42,9 @@ fn switch_agrees(instruction: &Written) -> bool
 
 /// Whether a table ends at the greatest int at most.
 fn table_ends(table: &TableSwitch<Name>) -> bool
-    ensures { (f : List ℕ → ℕ) → result ≡ int_le (table_high (record { low = table.now.low; targets = map f table.now.targets; default = f table.now.default })) (pos 2147483647) }
+    ensures { (f : List ℕ → ℕ) → result ≡ int_le
+        (table_high (record { low = table.now.low; targets = map f table.now.targets; default = f table.now.default }))
+        (pos 2147483647) }
 {
     ends(table.low, table.targets.len())
 }

@@ -96,7 +96,12 @@ fn listed_table(
     pcs: &Labels<'_, u16>,
     table: &TableSwitch<Name>,
 ) -> Result<TableSwitch<u16>, AllocError>
-    ensures { IfOk result (λ listed. listed ≡ record { low = table.now.low; targets = map (pc_in pcs.now) table.now.targets; default = pc_in pcs.now table.now.default }) }
+    ensures { IfOk result (λ listed. listed
+        ≡ record {
+          low = table.now.low;
+          targets = map (pc_in pcs.now) table.now.targets;
+          default = pc_in pcs.now table.now.default;
+        }) }
 {
     let targets = listed_targets(alloc, pcs, table.targets.as_slice())?;
     Ok(TableSwitch {
@@ -111,7 +116,11 @@ fn listed_lookup(
     pcs: &Labels<'_, u16>,
     lookup: &LookupSwitch<Name>,
 ) -> Result<LookupSwitch<u16>, AllocError>
-    ensures { IfOk result (λ listed. listed ≡ record { pairs = map (λ p. (p.0, pc_in pcs.now p.1)) lookup.now.pairs; default = pc_in pcs.now lookup.now.default }) }
+    ensures { IfOk result (λ listed. listed
+        ≡ record {
+          pairs = map (λ p. (p.0, pc_in pcs.now p.1)) lookup.now.pairs;
+          default = pc_in pcs.now lookup.now.default;
+        }) }
 {
     let pairs = listed_pairs(alloc, pcs, lookup.pairs.as_slice())?;
     Ok(LookupSwitch {

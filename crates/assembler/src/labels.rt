@@ -20,7 +20,8 @@ pub fn label_pcs<'a>(
     lines: &'a [TextLine],
 ) -> Result<Labels<'a, u16>, AllocError>
     requires { pc_behind 0 (map (widened_line narrow.now) lines.now) ≤ 65535 }
-    ensures { IfOk result (λ pcs. (name : List ℕ) → pc_in pcs name ≡ pc_of 0 (map (widened_line narrow.now) lines.now) name) }
+    ensures { IfOk result (λ pcs. (name : List ℕ)
+        → pc_in pcs name ≡ pc_of 0 (map (widened_line narrow.now) lines.now) name) }
 {
     let mut pcs = Labels::new(alloc);
     let mut pc = 0u16;
@@ -38,7 +39,9 @@ pub fn label_pcs<'a>(
 
 /// Notes the pc of a label, unless one was noted before.
 fn note<'a>(pcs: &mut Labels<'a, u16>, name: &'a Name, pc: u16) -> Result<(), AllocError>
-    ensures { OnOk result ((other : List ℕ) (later : ℕ) → unwrap_or (named pcs.new other) later ≡ unwrap_or (named pcs.old other) (if bytes_eq name.now other then pc else later)) }
+    ensures { OnOk result ((other : List ℕ) (later : ℕ)
+        → unwrap_or (named pcs.new other) later
+        ≡ unwrap_or (named pcs.old other) (if bytes_eq name.now other then pc else later)) }
 {
     let name = name.as_bytes();
     if pcs.get(name).is_none() {

@@ -1,6 +1,7 @@
 //! The numbers that `ldc` uses in a text, and those that go with it: the first 255 different ones.
 ghost use Rattle.std.specs.Prelude.{◌≡◌, ◌∷◌, ◌++◌, ◌≤◌, ℤ, List, take, IfOk, OnOk, vec_len};
-ghost use Rattle.model.specs.Texts.Widths.{is_among, different, used_before, used_in, used_in_body, used_in_methods, narrow_numbers};
+ghost use Rattle.model.specs.Texts.Widths.{is_among, different, used_before, used_in, used_in_body, used_in_methods};
+ghost use Rattle.model.specs.Texts.Widths.{narrow_numbers};
 ghost use Rattle.assembler.specs.Numbers.{numbers_with};
 
 use model::instructions::{Constant, Instruction, Width};
@@ -46,7 +47,8 @@ fn add_lines(used: &mut Vec<i32>, lines: &[TextLine]) -> Result<(), AllocError>
 
 /// Adds the number of an `ldc`.
 fn add_instruction(used: &mut Vec<i32>, instruction: &Written) -> Result<(), AllocError>
-    ensures { OnOk result ((xs zs : List ℤ) → used.old.items ++ (used_before instruction.now xs ++ zs) ≡ used.new.items ++ (xs ++ zs)) }
+    ensures { OnOk result ((xs zs : List ℤ)
+        → used.old.items ++ (used_before instruction.now xs ++ zs) ≡ used.new.items ++ (xs ++ zs)) }
 {
     match instruction {
         Instruction::Constant(Constant::Int(Width::Narrow, n)) => used.push(*n)?,
@@ -77,7 +79,8 @@ fn first_different(alloc: Global, used: &[i32]) -> Result<Vec<i32>, AllocError>
 /// Notes a number, unless it is noted already or 255 others are.
 #[tactic(auto, using(crate::proofs::NarrowLemmas::notes))]
 fn note(numbers: &mut Vec<i32>, n: i32) -> Result<(), AllocError>
-    ensures noted { OnOk result ((zs : List ℤ) → numbers_with numbers.old.items (n ∷ zs) ≡ numbers_with numbers.new.items zs) }
+    ensures noted { OnOk result ((zs : List ℤ)
+        → numbers_with numbers.old.items (n ∷ zs) ≡ numbers_with numbers.new.items zs) }
     ensures few { OnOk result (vec_len numbers.old ≤ 255 → vec_len numbers.new ≤ 255) }
 {
     if among(numbers.as_slice(), n) {

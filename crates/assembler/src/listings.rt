@@ -45,7 +45,8 @@ impl From<AllocError> for CodeFault {
 /// first method that has one is told: A4, A1 or A2, and A5 where memory runs out.
 #[tactic(auto, unfolding(model::specs::Texts::ListingOfTree::listing_of, model::specs::Texts::Assembling::assembles, model::specs::Texts::Assembling::listing_assembles))]
 pub fn listing(alloc: Global, tree: &ClassTree) -> Result<Listing, AsmError>
-    ensures found { IfOk result (λ listing. (listing ≡ listing_of tree.now) × (list_all method_is_right listing.methods ≡ true)) }
+    ensures found { IfOk result (λ listing. (listing ≡ listing_of tree.now)
+        × (list_all method_is_right listing.methods ≡ true)) }
     ensures only { IfErr result (λ e. assembles tree.now ≡ true → e ≡ error.Memory) }
 {
     let narrow = narrow_numbers(alloc, tree.methods.as_slice())?;
@@ -97,8 +98,10 @@ fn method_listings(
     narrow: &[i32],
     methods: &[MethodTree],
 ) -> Result<Vec<Method>, AsmError>
-    ensures found { IfOk result (λ listings. (listings.items ≡ map (method_listing narrow.now) methods.now) × (list_all method_is_right (map (method_listing narrow.now) methods.now) ≡ true)) }
-    ensures only { IfErr result (λ e. list_all method_assembles (map (method_listing narrow.now) methods.now) ≡ true → e ≡ error.Memory) }
+    ensures found { IfOk result (λ listings. (listings.items ≡ map (method_listing narrow.now) methods.now)
+        × (list_all method_is_right (map (method_listing narrow.now) methods.now) ≡ true)) }
+    ensures only { IfErr result (λ e. list_all method_assembles (map (method_listing narrow.now) methods.now) ≡ true
+        → e ≡ error.Memory) }
 {
     let mut listings = Vec::new(alloc);
     for method in methods {
@@ -109,8 +112,10 @@ fn method_listings(
 }
 
 fn method_listing(alloc: Global, narrow: &[i32], method: &MethodTree) -> Result<Method, AsmError>
-    ensures found { IfOk result (λ listing. (listing ≡ method_listing narrow.now method.now) × (method_is_right (method_listing narrow.now method.now) ≡ true)) }
-    ensures only { IfErr result (λ e. method_assembles (method_listing narrow.now method.now) ≡ true → e ≡ error.Memory) }
+    ensures found { IfOk result (λ listing. (listing ≡ method_listing narrow.now method.now)
+        × (method_is_right (method_listing narrow.now method.now) ≡ true)) }
+    ensures only { IfErr result (λ e. method_assembles (method_listing narrow.now method.now) ≡ true
+        → e ≡ error.Memory) }
 {
     let name = method.name.share()?;
     let descriptor = method.descriptor.share()?;
@@ -143,7 +148,8 @@ fn told(what: CodeFault, name: Name, descriptor: Name) -> AsmError
 
 /// The code of a body.
 fn code_listing(alloc: Global, narrow: &[i32], body: &BodyTree) -> Result<Code, CodeFault>
-    ensures found { IfOk result (λ code. (code ≡ code_listing narrow.now body.now) × (code_is_right (code_listing narrow.now body.now) ≡ true)) }
+    ensures found { IfOk result (λ code. (code ≡ code_listing narrow.now body.now)
+        × (code_is_right (code_listing narrow.now body.now) ≡ true)) }
     ensures only { IfErr result (λ e. code_is_right (code_listing narrow.now body.now) ≡ true → e ≡ fault.Memory) }
 {
     let lines = body.lines.as_slice();
@@ -218,7 +224,8 @@ fn placed(
     lines: &[TextLine],
 ) -> Result<Vec<Placed>, AllocError>
     requires { pc_behind 0 (map (widened_line narrow.now) lines.now) ≤ 65535 }
-    ensures { IfOk result (λ placed. placed.items ≡ placed_from (pc_in pcs.now) 0 (map (widened_line narrow.now) lines.now)) }
+    ensures { IfOk result (λ placed. placed.items
+        ≡ placed_from (pc_in pcs.now) 0 (map (widened_line narrow.now) lines.now)) }
 {
     let mut placed = Vec::new(alloc);
     let mut pc = 0u16;

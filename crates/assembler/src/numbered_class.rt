@@ -3,9 +3,11 @@ ghost use Rattle.std.specs.Prelude.{◌≡◌, [], ◌∷◌, true, map, IfOk, I
 ghost use Rattle.std.specs.List.{flat_map, list_all, AllByRecursion};
 ghost use Rattle.std.specs.Option.{option_map};
 ghost use Rattle.classfile.specs.Classes.{IsClass};
-ghost use Rattle.model.specs.ClassFiles.Items.{with_items, value_item, class_items, value_items, field_items, code_items, method_items, listing_items};
+ghost use Rattle.model.specs.ClassFiles.Items.{with_items, value_item, class_items, value_items, field_items};
+ghost use Rattle.model.specs.ClassFiles.Items.{code_items, method_items, listing_items};
 ghost use Rattle.assembler.specs.Answers.{Gives, HasNumber, OnlyFull, OnlyFullWhere};
-ghost use Rattle.assembler.specs.Assembled.{Stays, HasCode, code_stands, class_number, file_flags, assembled_code, assembled_method, assembled_body, assembled};
+ghost use Rattle.assembler.specs.Assembled.{Stays, HasCode, code_stands, class_number, file_flags, assembled_code};
+ghost use Rattle.assembler.specs.Assembled.{assembled_method, assembled_body, assembled};
 ghost use Rattle.assembler.specs.Numbering.{numbered_value, numbered_field, IsPool};
 ghost use Rattle.assembler.specs.declared.error.AsmError.TheVariants as error;
 
@@ -21,16 +23,19 @@ use model::listings::{Code, Constant, Field, Listing, Method};
 use model::names::Name;
 use std::alloc::Global;
 
-/// The class file of a listing, in whose pool other items stand first. A3 where the pool has no room, and where the format
-/// refuses the class file.
+/// The class file of a listing, in whose pool other items stand first. A3 where the pool has no room, and where the
+/// format refuses the class file.
 pub fn class_file(
     alloc: Global,
     mut numbers: Numbers,
     listing: &Listing,
 ) -> Result<ClassFile, AsmError>
     requires { list_all (λ m. code_stands m.code) listing.now.methods ≡ true }
-    ensures found { IfOk result (λ file. (file ≡ assembled (with_items numbers (listing_items listing.now)) listing.now) × IsPool (with_items numbers (listing_items listing.now))) }
-    ensures only { IfErr result (λ e. IsClass (assembled (with_items numbers (listing_items listing.now)) listing.now) → e ≡ error.Memory) }
+    ensures found { IfOk result (λ file. (file
+        ≡ assembled (with_items numbers (listing_items listing.now)) listing.now)
+        × IsPool (with_items numbers (listing_items listing.now))) }
+    ensures only { IfErr result (λ e. IsClass (assembled (with_items numbers (listing_items listing.now)) listing.now)
+        → e ≡ error.Memory) }
 {
     let body = body(alloc, &mut numbers, listing)?;
     Ok(numbers.finish(body)?)
@@ -38,8 +43,10 @@ pub fn class_file(
 
 fn body(alloc: Global, numbers: &mut Numbers, listing: &Listing) -> Result<Body, AsmError>
     requires { list_all (λ m. code_stands m.code) listing.now.methods ≡ true }
-    ensures found { Gives numbers.old (listing_items listing.now) numbers.new (λ items. assembled_body items listing.now) result }
-    ensures only { OnlyFullWhere numbers.old (listing_items listing.now) (λ items. AllByRecursion (λ m. HasCode items m.code) listing.now.methods) result }
+    ensures found { Gives numbers.old (listing_items listing.now) numbers.new
+        (λ items. assembled_body items listing.now) result }
+    ensures only { OnlyFullWhere numbers.old (listing_items listing.now)
+        (λ items. AllByRecursion (λ m. HasCode items m.code) listing.now.methods) result }
 {
     Ok(Body {
         flags: file_flags(listing.flags),
@@ -63,7 +70,8 @@ fn file_flags(flags: ClassFlags) -> ClassFlags
 }
 
 fn classes(alloc: Global, numbers: &mut Numbers, names: &[Name]) -> Result<Vec<u16>, AsmError>
-    ensures found { IfOk result (λ all. Stays numbers.old (flat_map class_items names.now) numbers.new (λ items. map (class_number items) names.now) all.items) }
+    ensures found { IfOk result (λ all. Stays numbers.old (flat_map class_items names.now) numbers.new
+        (λ items. map (class_number items) names.now) all.items) }
     ensures only { OnlyFull numbers.old (flat_map class_items names.now) result }
 {
     let mut all = Vec::new(alloc);
@@ -78,7 +86,8 @@ fn fields(
     numbers: &mut Numbers,
     fields: &[Field],
 ) -> Result<Vec<FieldEntry>, AsmError>
-    ensures found { IfOk result (λ all. Stays numbers.old (flat_map field_items fields.now) numbers.new (λ items. map (numbered_field items) fields.now) all.items) }
+    ensures found { IfOk result (λ all. Stays numbers.old (flat_map field_items fields.now) numbers.new
+        (λ items. map (numbered_field items) fields.now) all.items) }
     ensures only { OnlyFull numbers.old (flat_map field_items fields.now) result }
 {
     let mut all = Vec::new(alloc);
@@ -89,7 +98,8 @@ fn fields(
 }
 
 fn numbered_field(numbers: &mut Numbers, field: &Field) -> Result<FieldEntry, AsmError>
-    ensures found { Gives numbers.old (field_items field.now) numbers.new (λ items. numbered_field items field.now) result }
+    ensures found { Gives numbers.old (field_items field.now) numbers.new
+        (λ items. numbered_field items field.now) result }
     ensures only { OnlyFull numbers.old (field_items field.now) result }
 {
     Ok(FieldEntry {
@@ -105,7 +115,8 @@ fn numbered_value(
     numbers: &mut Numbers,
     value: Option<Constant>,
 ) -> Result<Option<ConstantValue>, AsmError>
-    ensures found { Gives numbers.old (value_items value) numbers.new (λ items. option_map (numbered_value items) value) result }
+    ensures found { Gives numbers.old (value_items value) numbers.new
+        (λ items. option_map (numbered_value items) value) result }
     ensures only { OnlyFull numbers.old (value_items value) result }
 {
     let Some(value) = value else {
@@ -132,8 +143,10 @@ fn methods(
     methods: &[Method],
 ) -> Result<Vec<MethodEntry>, AsmError>
     requires { list_all (λ m. code_stands m.code) methods.now ≡ true }
-    ensures found { IfOk result (λ all. Stays numbers.old (flat_map method_items methods.now) numbers.new (λ items. map (assembled_method items) methods.now) all.items) }
-    ensures only { OnlyFullWhere numbers.old (flat_map method_items methods.now) (λ items. AllByRecursion (λ m. HasCode items m.code) methods.now) result }
+    ensures found { IfOk result (λ all. Stays numbers.old (flat_map method_items methods.now) numbers.new
+        (λ items. map (assembled_method items) methods.now) all.items) }
+    ensures only { OnlyFullWhere numbers.old (flat_map method_items methods.now)
+        (λ items. AllByRecursion (λ m. HasCode items m.code) methods.now) result }
 {
     let mut all = Vec::new(alloc);
     for method in methods {
@@ -148,7 +161,8 @@ fn numbered_method(
     method: &Method,
 ) -> Result<MethodEntry, AsmError>
     requires { code_stands method.now.code ≡ true }
-    ensures found { Gives numbers.old (method_items method.now) numbers.new (λ items. assembled_method items method.now) result }
+    ensures found { Gives numbers.old (method_items method.now) numbers.new
+        (λ items. assembled_method items method.now) result }
     ensures only { OnlyFullWhere numbers.old (method_items method.now) (λ items. HasCode items method.now.code) result }
 {
     Ok(MethodEntry {
@@ -166,7 +180,8 @@ fn code(
     code: &Option<Code>,
 ) -> Result<Option<CodeEntry>, AsmError>
     requires { code_stands code.now ≡ true }
-    ensures found { Gives numbers.old (code_items code.now) numbers.new (λ items. option_map (assembled_code items) code.now) result }
+    ensures found { Gives numbers.old (code_items code.now) numbers.new
+        (λ items. option_map (assembled_code items) code.now) result }
     ensures only { OnlyFullWhere numbers.old (code_items code.now) (λ items. HasCode items code.now) result }
 {
     match code {

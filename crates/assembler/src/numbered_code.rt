@@ -1,7 +1,8 @@
 //! Code with pool numbers for names.
 ghost use Rattle.std.specs.Prelude.{◌≡◌, true, map, IfOk, Some};
 ghost use Rattle.std.specs.List.{flat_map};
-ghost use Rattle.model.specs.ClassFiles.Items.{instruction_items, constant_items, array_items, call_items, placed_items, row_items, catch_items, code_items};
+ghost use Rattle.model.specs.ClassFiles.Items.{instruction_items, constant_items, array_items, call_items};
+ghost use Rattle.model.specs.ClassFiles.Items.{placed_items, row_items, catch_items, code_items};
 ghost use Rattle.model.specs.Texts.Spelled.{stand_from};
 ghost use Rattle.assembler.specs.Answers.{Gives, HasNumber, OnlyFull, OnlyFullWhere};
 ghost use Rattle.assembler.specs.Assembled.{Stays, HasCode, assembled_code};
@@ -24,8 +25,10 @@ pub fn numbered_code(
     code: &Code,
 ) -> Result<CodeEntry, AsmError>
     requires { stand_from 0 code.now.instructions ≡ true }
-    ensures found { Gives numbers.old (code_items (Some code.now)) numbers.new (λ items. assembled_code items code.now) result }
-    ensures only { OnlyFullWhere numbers.old (code_items (Some code.now)) (λ items. HasCode items (Some code.now)) result }
+    ensures found { Gives numbers.old (code_items (Some code.now)) numbers.new
+        (λ items. assembled_code items code.now) result }
+    ensures only { OnlyFullWhere numbers.old (code_items (Some code.now))
+        (λ items. HasCode items (Some code.now)) result }
 {
     let name = numbers.attribute("Code")?;
     let instructions = instructions(alloc, numbers, code.instructions.as_slice())?;
@@ -44,7 +47,8 @@ fn instructions(
     numbers: &mut Numbers,
     instructions: &[Placed],
 ) -> Result<Vec<Instr>, AsmError>
-    ensures found { IfOk result (λ all. Stays numbers.old (flat_map placed_items instructions.now) numbers.new (λ items. map (λ p. numbering.numbered items p.instruction) instructions.now) all.items) }
+    ensures found { IfOk result (λ all. Stays numbers.old (flat_map placed_items instructions.now) numbers.new
+        (λ items. map (λ p. numbering.numbered items p.instruction) instructions.now) all.items) }
     ensures only { OnlyFull numbers.old (flat_map placed_items instructions.now) result }
 {
     let mut all = Vec::new(alloc);
@@ -59,7 +63,8 @@ fn rows(
     numbers: &mut Numbers,
     rows: &[ExceptionRow],
 ) -> Result<Vec<CodeRow>, AsmError>
-    ensures found { IfOk result (λ all. Stays numbers.old (flat_map row_items rows.now) numbers.new (λ items. map (numbered_row items) rows.now) all.items) }
+    ensures found { IfOk result (λ all. Stays numbers.old (flat_map row_items rows.now) numbers.new
+        (λ items. map (numbered_row items) rows.now) all.items) }
     ensures only { OnlyFull numbers.old (flat_map row_items rows.now) result }
 {
     let mut all = Vec::new(alloc);
@@ -83,7 +88,8 @@ fn numbered_row(numbers: &mut Numbers, row: &ExceptionRow) -> Result<CodeRow, As
 
 /// The number of the class that a row takes, 0 where it takes anything.
 fn caught(numbers: &mut Numbers, name: &Option<Name>) -> Result<u16, AsmError>
-    ensures found { Gives numbers.old (catch_items name.now) numbers.new (λ items. numbered_catch items name.now) result }
+    ensures found { Gives numbers.old (catch_items name.now) numbers.new
+        (λ items. numbered_catch items name.now) result }
     ensures only { OnlyFull numbers.old (catch_items name.now) result }
 {
     match name {
@@ -93,7 +99,8 @@ fn caught(numbers: &mut Numbers, name: &Option<Name>) -> Result<u16, AsmError>
 }
 
 fn numbered(alloc: Global, numbers: &mut Numbers, instruction: &Listed) -> Result<Instr, AsmError>
-    ensures found { Gives numbers.old (instruction_items instruction.now) numbers.new (λ items. numbering.numbered items instruction.now) result }
+    ensures found { Gives numbers.old (instruction_items instruction.now) numbers.new
+        (λ items. numbering.numbered items instruction.now) result }
     ensures only { OnlyFull numbers.old (instruction_items instruction.now) result }
 {
     Ok(match instruction {
@@ -126,7 +133,8 @@ fn numbered_constant(
     numbers: &mut Numbers,
     constant: Constant<i32, i64>,
 ) -> Result<Constant<u16, u16>, AsmError>
-    ensures found { Gives numbers.old (constant_items constant) numbers.new (λ items. numbering.numbered_constant items constant) result }
+    ensures found { Gives numbers.old (constant_items constant) numbers.new
+        (λ items. numbering.numbered_constant items constant) result }
     ensures only { OnlyFull numbers.old (constant_items constant) result }
 {
     Ok(match constant {
@@ -144,7 +152,8 @@ fn numbered_array(
     numbers: &mut Numbers,
     operation: &ArrayOperation<Name>,
 ) -> Result<ArrayOperation<u16>, AsmError>
-    ensures found { Gives numbers.old (array_items operation.now) numbers.new (λ items. numbering.numbered_array items operation.now) result }
+    ensures found { Gives numbers.old (array_items operation.now) numbers.new
+        (λ items. numbering.numbered_array items operation.now) result }
     ensures only { OnlyFull numbers.old (array_items operation.now) result }
 {
     Ok(match operation {
@@ -158,7 +167,8 @@ fn numbered_array(
 
 /// The number of the method that a call names.
 fn called(numbers: &mut Numbers, invocation: Invocation, member: &Member) -> Result<u16, AsmError>
-    ensures found { HasNumber numbers.old (call_items invocation member.now) numbers.new (called_item invocation member.now) result }
+    ensures found { HasNumber numbers.old (call_items invocation member.now) numbers.new
+        (called_item invocation member.now) result }
     ensures only { OnlyFull numbers.old (call_items invocation member.now) result }
 {
     match invocation {

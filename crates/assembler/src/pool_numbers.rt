@@ -2,7 +2,8 @@
 
 ghost use Rattle.std.specs.Prelude.{◌≡◌, [], ◌∷◌, map, IfOk, OnOk, MatchResult};
 ghost use Rattle.model.specs.ClassFiles.Items.{class_items, name_items, member_items};
-ghost use Rattle.model.specs.ClassFiles.Items.Item.{text_item, int_item, long_item, class_item, name_item, field_item, method_item, interface_item};
+ghost use Rattle.model.specs.ClassFiles.Items.Item.{text_item, int_item, long_item, class_item, name_item, field_item};
+ghost use Rattle.model.specs.ClassFiles.Items.Item.{method_item, interface_item};
 ghost use Rattle.classfile.specs.Classes.{IsClass};
 ghost use Rattle.classfile.specs.Made.{made};
 ghost use Rattle.classfile.specs.declared.error.ClassError.TheVariants as class_error;
@@ -18,9 +19,9 @@ use pool::PoolBuilder;
 use std::alloc::Global;
 use std::marker::Model;
 
-/// The pool of a class file in the making. What is asked for stands in it from then on, behind what it names itself, and
-/// once; its number stays, whatever is added later. A contract sees the items of the pool, in the order of their numbers.
-/// A3 where the pool has no room, A5 where memory runs out; then what an entry names may have been added.
+/// The pool of a class file in the making. What is asked for stands in it from then on, behind what it names itself,
+/// and once; its number stays, whatever is added later. A contract sees the items of the pool, in the order of their
+/// numbers. A3 where the pool has no room, A5 where memory runs out; then what an entry names may have been added.
 #[derive(Drop)]
 pub(crate) struct Numbers {
     pool: PoolBuilder,
@@ -113,7 +114,8 @@ impl Numbers {
 
     /// The number of a field.
     pub(crate) fn field(&mut self, member: &Member) -> Result<u16, AsmError>
-        ensures found { HasNumber self.old (member_items (field_item member.now) member.now) self.new (field_item member.now) result }
+        ensures found { HasNumber self.old (member_items (field_item member.now) member.now) self.new
+            (field_item member.now) result }
         ensures only { OnlyFull self.old (member_items (field_item member.now) member.now) result }
         ensures pool { IsPool self.new }
     {
@@ -123,7 +125,8 @@ impl Numbers {
 
     /// The number of a class's method.
     pub(crate) fn method(&mut self, member: &Member) -> Result<u16, AsmError>
-        ensures found { HasNumber self.old (member_items (method_item member.now) member.now) self.new (method_item member.now) result }
+        ensures found { HasNumber self.old (member_items (method_item member.now) member.now) self.new
+            (method_item member.now) result }
         ensures only { OnlyFull self.old (member_items (method_item member.now) member.now) result }
         ensures pool { IsPool self.new }
     {
@@ -133,7 +136,8 @@ impl Numbers {
 
     /// The number of an interface's method.
     pub(crate) fn interface_method(&mut self, member: &Member) -> Result<u16, AsmError>
-        ensures found { HasNumber self.old (member_items (interface_item member.now) member.now) self.new (interface_item member.now) result }
+        ensures found { HasNumber self.old (member_items (interface_item member.now) member.now) self.new
+            (interface_item member.now) result }
         ensures only { OnlyFull self.old (member_items (interface_item member.now) member.now) result }
         ensures pool { IsPool self.new }
     {
@@ -144,7 +148,8 @@ impl Numbers {
     /// The class file of the pool and a body, as `ClassFile::new` makes and refuses it.
     pub(crate) fn finish(self, body: Body) -> Result<ClassFile, ClassError>
         ensures made { IfOk result (λ file. file ≡ made (entries_of self) body) }
-        ensures only { IsClass (made (entries_of self) body) → MatchResult result (λ file. file ≡ made (entries_of self) body) (λ e. e ≡ class_error.Memory) }
+        ensures only { IsClass (made (entries_of self) body)
+            → MatchResult result (λ file. file ≡ made (entries_of self) body) (λ e. e ≡ class_error.Memory) }
         ensures pool { IsPool self }
     {
         let Numbers { pool, alloc: _ } = self;
@@ -164,7 +169,8 @@ impl Numbers {
 
     /// The number of a member's name with its descriptor.
     fn name_and_type(&mut self, name: &Name, descriptor: &Name) -> Result<u16, AsmError>
-        ensures found { HasNumber self.old (name_items name.now descriptor.now) self.new (name_item name.now descriptor.now) result }
+        ensures found { HasNumber self.old (name_items name.now descriptor.now) self.new
+            (name_item name.now descriptor.now) result }
         ensures only { OnlyFull self.old (name_items name.now descriptor.now) result }
         ensures pool { IsPool self.new }
     {

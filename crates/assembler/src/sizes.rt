@@ -1,6 +1,7 @@
 //! The sizes of a text's instructions.
 ghost use Rattle.std.specs.Prelude.{◌≡◌, ◌≤◌, ◌<◌, ◌+◌, ◌*◌, map, MatchOption};
-ghost use Rattle.model.specs.Sizes.{constant_size, index_size, local_size, branch_size, array_size, invoke_size, pad_at, size_at};
+ghost use Rattle.model.specs.Sizes.{constant_size, index_size, local_size, branch_size, array_size, invoke_size};
+ghost use Rattle.model.specs.Sizes.{pad_at, size_at};
 ghost use Rattle.model.specs.Texts.Assembling.{size_is_right};
 ghost use Rattle.model.specs.Texts.Labels.{pc_behind};
 ghost use Rattle.model.specs.Texts.Widths.{widened, widened_constant, widened_line};
@@ -14,7 +15,8 @@ use model::trees::{TextLine, Written};
 
 /// The size of lines that hold code, if it is 65,535 at most. `narrow` are the numbers that go with `ldc`.
 fn code_size(narrow: &[i32], lines: &[TextLine]) -> Option<u16>
-    ensures { MatchOption result (65535 < pc_behind 0 (map (widened_line narrow.now) lines.now)) (λ size. size ≡ pc_behind 0 (map (widened_line narrow.now) lines.now)) }
+    ensures { MatchOption result (65535 < pc_behind 0 (map (widened_line narrow.now) lines.now)) (λ size. size
+        ≡ pc_behind 0 (map (widened_line narrow.now) lines.now)) }
 {
     let mut pc = 0u16;
     for line in lines {
@@ -41,7 +43,8 @@ pub fn has_right_size(narrow: &[i32], lines: &[TextLine]) -> bool
 
 /// The pc behind an instruction, if it is 65,535 at most.
 pub fn pc_after(narrow: &[i32], pc: u16, instruction: &Written) -> Option<u16>
-    ensures { MatchOption result (65535 < pc + size_at pc (widened narrow.now instruction.now)) (λ next. next ≡ pc + size_at pc (widened narrow.now instruction.now)) }
+    ensures { MatchOption result (65535 < pc + size_at pc (widened narrow.now instruction.now)) (λ next. next
+        ≡ pc + size_at pc (widened narrow.now instruction.now)) }
 {
     match size_of(narrow, pc, instruction) {
         Some(size) => pc.checked_add(size),
@@ -51,7 +54,8 @@ pub fn pc_after(narrow: &[i32], pc: u16, instruction: &Written) -> Option<u16>
 
 /// The size of an instruction at a pc, if it is 65,535 at most.
 fn size_of(narrow: &[i32], pc: u16, instruction: &Written) -> Option<u16>
-    ensures { MatchOption result (65535 < size_at pc (widened narrow.now instruction.now)) (λ size. size ≡ size_at pc (widened narrow.now instruction.now)) }
+    ensures { MatchOption result (65535 < size_at pc (widened narrow.now instruction.now)) (λ size. size
+        ≡ size_at pc (widened narrow.now instruction.now)) }
 {
     match instruction {
         Instruction::Nop => Some(1),
@@ -142,7 +146,8 @@ fn switch_size(pc: u16, head: u16, row: u16, rows: usize) -> Option<u16>
     requires head_small { head ≤ 13 }
     requires row_least { 4 ≤ row }
     requires row_small { row ≤ 8 }
-    ensures { MatchOption result (65535 < pad_at pc + head + row * rows) (λ size. size ≡ pad_at pc + head + row * rows) }
+    ensures { MatchOption result (65535 < pad_at pc + head + row * rows) (λ size. size
+        ≡ pad_at pc + head + row * rows) }
 {
     if rows > 16_383 {
         return None;

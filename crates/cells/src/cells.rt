@@ -4,7 +4,8 @@ ghost use Rattle.model.specs.Limits.{ShapeFits};
 ghost use Rattle.model.specs.Room.{words_of_cell};
 ghost use Rattle.values.specs.Slots.{value_of};
 ghost use Rattle.std.specs.Option.{option_map};
-ghost use Rattle.cells.specs.Objects.{empty_cells, made_object, new_object, kind_at, words_at, monitor_at, thread_at, with_object, with_word, with_monitor, with_thread};
+ghost use Rattle.cells.specs.Objects.{empty_cells, made_object, new_object, kind_at, words_at, monitor_at, thread_at};
+ghost use Rattle.cells.specs.Objects.{with_object, with_word, with_monitor, with_thread};
 
 use crate::headers::{Header, header_at, occupied, room_of, vacant};
 use crate::monitors::Monitor;
@@ -39,8 +40,8 @@ impl<K: Copy> Model for Cells<K> {
 }
 
 impl<K: Copy> Cells<K> {
-    /// Cells of this shape with nobody in any. All the memory that they ever take is taken here: `AllocError` where there is
-    /// not so much.
+    /// Cells of this shape with nobody in any. All the memory that they ever take is taken here: `AllocError` where
+    /// there is not so much.
     pub fn new(alloc: Global, shape: HeapShape) -> Result<Self, AllocError>
         requires { ShapeFits shape.small shape.medium shape.large }
         ensures { IfOk result (λ cells. cells ≡ empty_cells shape) }
@@ -100,8 +101,8 @@ impl<K: Copy> Cells<K> {
         }
     }
 
-    /// A copy of the words that the object in a cell uses, in order: none of them where nobody is. `AllocError` where there is no
-    /// memory for it.
+    /// A copy of the words that the object in a cell uses, in order: none of them where nobody is. `AllocError` where
+    /// there is no memory for it.
     pub fn values(&self, cell: u32) -> Result<Vec<Value>, AllocError>
         ensures { IfOk result (λ values. values.items ≡ words_at self.now cell) }
     {

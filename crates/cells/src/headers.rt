@@ -7,8 +7,8 @@ ghost use Rattle.model.specs.Worlds.{free_monitor};
 use crate::monitors::Monitor;
 use model::journals::HeapShape;
 
-/// One cell: the `room` words from `base` on are its own. Where it holds an object, that is of this kind and uses the first
-/// `length` of them; monitor and thread are the object's. A cell with nobody has no kind, and uses no word.
+/// One cell: the `room` words from `base` on are its own. Where it holds an object, that is of this kind and uses the
+/// first `length` of them; monitor and thread are the object's. A cell with nobody has no kind, and uses no word.
 #[derive(Clone, Copy)]
 pub struct Header<K: Copy> {
     pub base: u32,
@@ -21,7 +21,14 @@ pub struct Header<K: Copy> {
 
 /// The header of a cell with nobody.
 pub fn vacant<K: Copy>(base: u32, room: u16) -> Header<K>
-    ensures { result ≡ record { base = base; room = room; length = 0; kind = None; monitor = free_monitor; thread = None } }
+    ensures { result ≡ record {
+      base = base;
+      room = room;
+      length = 0;
+      kind = None;
+      monitor = free_monitor;
+      thread = None;
+    } }
 {
     Header {
         base,

@@ -1,8 +1,10 @@
-//! The objects of a heap, in cells of 4, 32 and 256 words. What the kind `K` of an object means is its caller's business.
+//! The objects of a heap, in cells of 4, 32 and 256 words. What the kind `K` of an object means is its caller's
+//! business.
 //!
-//! A contract sees `Cells<K>` as a `CellsValue K` of `Rattle.cells.specs.Objects`: the heap's shape, and of each cell the
-//! object that it holds, if any (its kind, the words that it uses, its monitor, and the thread that was started on it). No
-//! call but `new` and `values` takes memory, and all but these, `place` and `place_all` take constant time. With v for the value before the call:
+//! A contract sees `Cells<K>` as a `CellsValue K` of `Rattle.cells.specs.Objects`: the heap's shape, and of each cell
+//! the object that it holds, if any (its kind, the words that it uses, its monitor, and the thread that was started on
+//! it). No call but `new` and `values` takes memory, and all but these, `place` and `place_all` take constant time.
+//! With v for the value before the call:
 //!
 //! | call | what it ensures |
 //! |---|---|

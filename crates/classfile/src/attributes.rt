@@ -5,7 +5,8 @@ ghost use Rattle.model.specs.ClassFiles.References.{text_at as held_text};
 ghost use Rattle.model.specs.Texts.Names.{is_field_name as field_name_test};
 ghost use Rattle.model.specs.Texts.Descriptors.{is_field_descriptor as field_descriptor_test};
 ghost use Rattle.pool.specs.Reading.Steps.{Gives};
-ghost use Rattle.classfile.specs.Reading.Attributes.{sized_from, text_from, tested_from, none_wanted, no_step, attribute_from, attributes_from, skipped_from};
+ghost use Rattle.classfile.specs.Reading.Attributes.{sized_from, text_from, tested_from, none_wanted, no_step};
+ghost use Rattle.classfile.specs.Reading.Attributes.{attribute_from, attributes_from, skipped_from};
 
 use model::class_files::FormatFault;
 use pool::fields::{bytes_at, u16_at, u32_at};
@@ -46,7 +47,8 @@ pub fn field_name_at<'a, 'b>(
     pool: &'a Pool,
     bytes: &'b [u8],
 ) -> Result<(Text<'a>, &'b [u8]), ReadError>
-    ensures { Gives (λ x. ((x.0.number, x.0.bytes.now), x.1.now)) result (tested_from pool.now field_name_test bytes.now) }
+    ensures { Gives (λ x. ((x.0.number, x.0.bytes.now), x.1.now)) result
+        (tested_from pool.now field_name_test bytes.now) }
 {
     let (text, rest) = text_at(pool, bytes)?;
     if pool.is_field_name(text.number) {
@@ -63,7 +65,8 @@ pub fn field_type_at<'a, 'b>(
     pool: &'a Pool,
     bytes: &'b [u8],
 ) -> Result<(Text<'a>, &'b [u8]), ReadError>
-    ensures { Gives (λ x. ((x.0.number, x.0.bytes.now), x.1.now)) result (tested_from pool.now field_descriptor_test bytes.now) }
+    ensures { Gives (λ x. ((x.0.number, x.0.bytes.now), x.1.now)) result
+        (tested_from pool.now field_descriptor_test bytes.now) }
 {
     let (text, rest) = text_at(pool, bytes)?;
     if pool.is_field_descriptor(text.number) {

@@ -34,7 +34,13 @@ impl Model for CodeEntry {
 
     ghost Value = { CodePart };
 
-    ghost view = { λ a. record { name = a.name; max_stack = a.max_stack; max_locals = a.max_locals; instructions = a.instructions; rows = a.rows.items } };
+    ghost view = { λ a. record {
+      name = a.name;
+      max_stack = a.max_stack;
+      max_locals = a.max_locals;
+      instructions = a.instructions;
+      rows = a.rows.items;
+    } };
 }
 
 /// What stands before the exception rows of a Code attribute.

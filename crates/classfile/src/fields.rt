@@ -38,8 +38,8 @@ pub fn is_value_of(text: &[u8], entry: Option<&Entry>) -> bool
     }
 }
 
-/// The number in the bytes of a ConstantValue. C8 where they aren't two, C6 where it is the number of an entry of another
-/// kind than the field's type wants.
+/// The number in the bytes of a ConstantValue. C8 where they aren't two, C6 where it is the number of an entry of
+/// another kind than the field's type wants.
 #[tactic(auto, unfolding(crate::specs::Reading::Fields::value_of))]
 fn value_in(pool: &Pool, text: &[u8], info: &[u8]) -> Result<u16, ReadError>
     ensures { Gives (λ x. x) result (value_of pool.now text.now info.now) }
@@ -103,7 +103,9 @@ fn attribute_of<'a>(
     before: Option<ConstantValue>,
     bytes: &'a [u8],
 ) -> Result<(Option<ConstantValue>, &'a [u8]), ReadError>
-    ensures { Gives (λ x. (x.0, x.1.now)) result (attribute_from pool.now (definition.is_constant_value is_static) (constant_from pool.now text.now) before bytes.now) }
+    ensures { Gives (λ x. (x.0, x.1.now)) result
+        (attribute_from pool.now (definition.is_constant_value is_static)
+        (constant_from pool.now text.now) before bytes.now) }
 {
     let (name, rest) = text_at(pool, bytes)?;
     if is_constant_value(is_static, name.bytes) {
@@ -122,7 +124,9 @@ fn attributes_of<'a>(
     count: u16,
     bytes: &'a [u8],
 ) -> Result<(Option<ConstantValue>, &'a [u8]), ReadError>
-    ensures { Gives (λ x. (x.0, x.1.now)) result (attributes_from pool.now (definition.is_constant_value is_static) (constant_from pool.now text.now) count None bytes.now) }
+    ensures { Gives (λ x. (x.0, x.1.now)) result
+        (attributes_from pool.now (definition.is_constant_value is_static)
+        (constant_from pool.now text.now) count None bytes.now) }
 {
     let mut found = None;
     let mut rest = bytes;

@@ -23,8 +23,8 @@ use pool::fields::u16_at;
 use std::alloc::{AllocError, Global};
 use std::marker::Model;
 
-/// A class file (JVMS 4.1): what stands before its methods, and these. A contract sees its parts, which are those of some
-/// class file's bytes.
+/// A class file (JVMS 4.1): what stands before its methods, and these. A contract sees its parts, which are those of
+/// some class file's bytes.
 #[derive(Drop)]
 pub struct ClassFile {
     head: ClassHead,
@@ -179,7 +179,8 @@ fn class_stands(head: &ClassHead, methods: &[MethodEntry]) -> bool
 }
 
 impl ClassFile {
-    /// The class file of a head and methods. C8 where one of them is none of such a class, or they are more than 65,535.
+    /// The class file of a head and methods. C8 where one of them is none of such a class, or they are more than
+    /// 65,535.
     pub(crate) fn of(head: ClassHead, methods: Vec<MethodEntry>) -> Result<ClassFile, FormatFault>
         ensures made { IfOk result (λ file. file ≡ record { head = head; methods = methods.items }) }
         ensures only { IsClass (record { head = head; methods = methods.items }) → is_ok result ≡ true }

@@ -41,7 +41,14 @@ impl Model for Parts {
 
     ghost Value = { HeadPart };
 
-    ghost view = { λ a. record { pool = a.pool; flags = a.flags; class = a.class; superclass = a.superclass; interfaces = a.interfaces.items; fields = a.fields.items } };
+    ghost view = { λ a. record {
+      pool = a.pool;
+      flags = a.flags;
+      class = a.class;
+      superclass = a.superclass;
+      interfaces = a.interfaces.items;
+      fields = a.fields.items;
+    } };
 }
 
 /// The magic number and the version. C3 where they are cut short, C1 and C2 where they are others.
@@ -256,8 +263,8 @@ fn head_stands(parts: &Parts) -> bool
     both(itself, both(others, members))
 }
 
-/// Which fault parts have that are those of no class file: C11 where the flags don't go together, C6 where a number isn't
-/// that of a class that is no array, C8 where a list is too long or a field is none.
+/// Which fault parts have that are those of no class file: C11 where the flags don't go together, C6 where a number
+/// isn't that of a class that is no array, C8 where a list is too long or a field is none.
 fn head_fault(parts: &Parts) -> FormatFault {
     let pool = &parts.pool;
     if !are_class_flags(parts.flags.bits()) {
@@ -289,13 +296,14 @@ impl Model for ClassHead {
 }
 
 impl ClassHead {
-    /// Reads a class file up to its methods from the front of the bytes. C1, C2, C3, C5, C6, C7, C8 or C11: the first fault
-    /// from left to right.
+    /// Reads a class file up to its methods from the front of the bytes. C1, C2, C3, C5, C6, C7, C8 or C11: the first
+    /// fault from left to right.
     pub fn read(alloc: Global, bytes: &[u8]) -> Result<(ClassHead, &[u8]), ReadError>
         // What is read is spelled so.
         ensures found { IfOk result (λ x. (text : List ℕ) × SpellsHead text x.0 × (bytes.now ≡ text ++ x.1.now)) }
         // What is spelled so is read, unless memory runs out.
-        ensures only { (head : HeadPart) (text rest : List ℕ) → SpellsHead text head → bytes.now ≡ text ++ rest → let read : HeadPart × List ℕ = (head, rest) in Gives (λ x. (x.0, x.1.now)) result (Ok read) }
+        ensures only { (head : HeadPart) (text rest : List ℕ) → SpellsHead text head → bytes.now ≡ text ++ rest
+            → let read : HeadPart × List ℕ = (head, rest) in Gives (λ x. (x.0, x.1.now)) result (Ok read) }
         // Which fault it is.
         ensures exact { Gives (λ x. (x.0, x.1.now)) result (head_from bytes.now) }
     {
@@ -370,7 +378,8 @@ impl ClassHead {
 
 /// No head begins another: bytes are those of one head alone.
 pub fn one_head()
-    ensures { (a b x y : List ℕ) (h k : HeadPart) → SpellsHead a h → SpellsHead b k → a ++ x ≡ b ++ y → (h ≡ k) × (x ≡ y) }
+    ensures { (a b x y : List ℕ) (h k : HeadPart) → SpellsHead a h → SpellsHead b k → a ++ x ≡ b ++ y
+        → (h ≡ k) × (x ≡ y) }
 {}
 
 /// Writes so many numbers of classes at the end.

@@ -82,7 +82,9 @@ impl Instructions {
         // They are the code of some bytes.
         ensures code { IfOk result (λ code. (bytes : List ℕ) × IsCode bytes code) }
         // Where instructions have code, it is given, unless memory runs out.
-        ensures only { (bytes : List ℕ) (items : List Placed) → IsCode bytes items → instructions_of items ≡ instructions.now → MatchResult result (λ code. code ≡ items) (λ e. e ≡ op.Memory) }
+        ensures only { (bytes : List ℕ) (items : List Placed) → IsCode bytes items
+            → instructions_of items ≡ instructions.now
+            → MatchResult result (λ code. code ≡ items) (λ e. e ≡ op.Memory) }
     {
         let bytes = encode(alloc, instructions)?;
         let code = decode(alloc, &bytes)?;

@@ -10,7 +10,8 @@ ghost use Rattle.pool.specs.Reading.Steps.{Gives};
 ghost use Rattle.classfile.specs.Reading.Answers.{Answers};
 ghost use Rattle.classfile.specs.Reading.Attributes.{tested_from, attribute_from, attributes_from};
 ghost use Rattle.classfile.specs.Reading.Methods as reading;
-ghost use Rattle.classfile.specs.Reading.Methods.{method_flags_from, method_type_test, found_code_from, codes_from, method_from};
+ghost use Rattle.classfile.specs.Reading.Methods.{method_flags_from, method_type_test, found_code_from, codes_from};
+ghost use Rattle.classfile.specs.Reading.Methods.{method_from};
 ghost use Rattle.classfile.specs.Writing.{CodesFit, MethodFits, code_attributes, method_bytes};
 
 use crate::attributes::{Text, sized_at, text_at};
@@ -75,8 +76,8 @@ pub fn wants_code(flags: u16) -> bool
     flags & ABSTRACT == 0 && flags & NATIVE == 0
 }
 
-/// Whether the text under a number is a method's descriptor whose arguments take 255 units at most, with the object where
-/// the method isn't static.
+/// Whether the text under a number is a method's descriptor whose arguments take 255 units at most, with the object
+/// where the method isn't static.
 pub fn is_method_type(pool: &Pool, is_static: bool, number: u16) -> bool
     ensures { result ≡ passes (method_type_test is_static) (held_text pool.now number) }
 {
@@ -92,7 +93,8 @@ fn method_name_at<'a, 'b>(
     pool: &'a Pool,
     bytes: &'b [u8],
 ) -> Result<(Text<'a>, &'b [u8]), ReadError>
-    ensures { Gives (λ x. ((x.0.number, x.0.bytes.now), x.1.now)) result (tested_from pool.now method_name_test bytes.now) }
+    ensures { Gives (λ x. ((x.0.number, x.0.bytes.now), x.1.now)) result
+        (tested_from pool.now method_name_test bytes.now) }
 {
     let (text, rest) = text_at(pool, bytes)?;
     if pool.is_method_name(text.number) {
@@ -110,7 +112,8 @@ fn method_type_at<'a, 'b>(
     is_static: bool,
     bytes: &'b [u8],
 ) -> Result<(Text<'a>, &'b [u8]), ReadError>
-    ensures { Gives (λ x. ((x.0.number, x.0.bytes.now), x.1.now)) result (tested_from pool.now (method_type_test is_static) bytes.now) }
+    ensures { Gives (λ x. ((x.0.number, x.0.bytes.now), x.1.now)) result
+        (tested_from pool.now (method_type_test is_static) bytes.now) }
 {
     let (text, rest) = text_at(pool, bytes)?;
     if is_method_type(pool, is_static, text.number) {
@@ -158,7 +161,8 @@ fn attribute_of<'a>(
     before: Option<CodeEntry>,
     bytes: &'a [u8],
 ) -> Result<(Option<CodeEntry>, &'a [u8]), ClassError>
-    ensures { Answers (λ x. (x.0, x.1.now)) result (attribute_from pool.now reading.is_code_name (found_code_from pool.now wanted) before bytes.now) }
+    ensures { Answers (λ x. (x.0, x.1.now)) result
+        (attribute_from pool.now reading.is_code_name (found_code_from pool.now wanted) before bytes.now) }
 {
     let (name, rest) = text_at(pool, bytes)?;
     if is_code_name(name.bytes) {
@@ -178,7 +182,8 @@ fn attributes_of<'a>(
     count: u16,
     bytes: &'a [u8],
 ) -> Result<(Option<CodeEntry>, &'a [u8]), ClassError>
-    ensures { Answers (λ x. (x.0, x.1.now)) result (attributes_from pool.now reading.is_code_name (found_code_from pool.now wanted) count None bytes.now) }
+    ensures { Answers (λ x. (x.0, x.1.now)) result
+        (attributes_from pool.now reading.is_code_name (found_code_from pool.now wanted) count None bytes.now) }
 {
     let mut found = None;
     let mut rest = bytes;

@@ -31,7 +31,8 @@ pub fn is_count(length: usize) -> bool
 /// Whether the text under a number is the name of an attribute that counts, and the other number that of a value for a
 /// field of this type.
 fn is_value(pool: &Pool, is_static: bool, text: &[u8], name: u16, value: u16) -> bool
-    ensures is { result ≡ (passes (definition.is_constant_value is_static) (text_at pool.now name) && definition.is_value_of text.now (entry_at pool.now value)) }
+    ensures is { result ≡ (passes (definition.is_constant_value is_static) (text_at pool.now name)
+        && definition.is_value_of text.now (entry_at pool.now value)) }
     ensures fits { (name < 2 ^ 16) × (value < 2 ^ 16) }
 {
     match pool.text(name) {

@@ -103,7 +103,8 @@ fn codes_stand(pool: &Pool, wanted: bool, code: &Option<CodeEntry>) -> bool
 
 /// Whether what a method says beside its code goes together.
 fn is_method(pool: &Pool, class: u16, flags: u16, name: u16, descriptor: u16) -> bool
-    ensures is { result ≡ (definition.are_method_flags class flags && passes method_name_test (text_at pool.now name) && passes (method_type_test (has flags 8)) (text_at pool.now descriptor)) }
+    ensures is { result ≡ (definition.are_method_flags class flags && passes method_name_test (text_at pool.now name)
+        && passes (method_type_test (has flags 8)) (text_at pool.now descriptor)) }
     ensures fits { (flags < 2 ^ 16) × (name < 2 ^ 16) × (descriptor < 2 ^ 16) }
 {
     are_method_flags(class, flags)

@@ -74,7 +74,8 @@ impl Reaching {
         thread: u32,
         frame: u32,
     ) -> Result<(), AllocError>
-        ensures { OnOk result (self.new ≡ all_noted self.old (roots_at (frames_at (R.world references.now) thread) frame)) }
+        ensures { OnOk result (self.new ≡ all_noted self.old
+            (roots_at (frames_at (R.world references.now) thread) frame)) }
     {
         self.note(references.method_monitor(thread, frame))?;
         for entry in 0..references.entries(thread, frame) {
@@ -85,7 +86,8 @@ impl Reaching {
 
     /// and in each frame of a thread,
     fn note_frames<R: References>(&mut self, references: &R, thread: u32) -> Result<(), AllocError>
-        ensures { OnOk result (self.new ≡ all_noted self.old (flat_map roots_of_frame (frames_at (R.world references.now) thread))) }
+        ensures { OnOk result (self.new ≡ all_noted self.old
+            (flat_map roots_of_frame (frames_at (R.world references.now) thread))) }
     {
         for frame in 0..references.frames(thread) {
             self.note_frame(references, thread, frame)?;
@@ -95,7 +97,8 @@ impl Reaching {
 
     /// and in those of each thread.
     fn note_threads<R: References>(&mut self, references: &R) -> Result<(), AllocError>
-        ensures { OnOk result (self.new ≡ all_noted self.old (flat_map roots_of_thread (R.world references.now).threads)) }
+        ensures { OnOk result (self.new ≡ all_noted self.old
+            (flat_map roots_of_thread (R.world references.now).threads)) }
     {
         for thread in 0..references.threads() {
             self.note_frames(references, thread)?;
@@ -141,9 +144,9 @@ impl Reaching {
     }
 }
 
-/// For each reference below a number whether a path from the roots leads to it, where all objects have references below that
-/// number. `AllocError` where memory runs out: it takes a mark for each reference, and a number for each that is reached.
-/// Each word of these is looked at once.
+/// For each reference below a number whether a path from the roots leads to it, where all objects have references below
+/// that number. `AllocError` where memory runs out: it takes a mark for each reference, and a number for each that is
+/// reached. Each word of these is looked at once.
 pub fn reached<R: References>(
     alloc: Global,
     references: &R,

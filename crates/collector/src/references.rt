@@ -4,9 +4,9 @@ ghost use Rattle.model.specs.Worlds.{World, frames_at};
 ghost use Rattle.model.specs.Collector.Places.{entries_at, root_at, slots_of, word_at, words_of};
 ghost use Rattle.model.specs.Collector.Places.Place.{FrameEntry, MethodMonitor, Slot};
 
-/// The places of a machine at which references stand: static slots, frames' entries and method monitors, and the words of
-/// objects. A reference is the number of a cell and one more. Each look takes constant time and no memory; where there is
-/// no such place, there is no reference.
+/// The places of a machine at which references stand: static slots, frames' entries and method monitors, and the words
+/// of objects. A reference is the number of a cell and one more. Each look takes constant time and no memory; where
+/// there is no such place, there is no reference.
 pub trait References {
     /// the machine's world, on cells
     ghost world: { Self → World };

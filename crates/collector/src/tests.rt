@@ -18,7 +18,14 @@ use std::test::Fail;
 struct Nothing;
 
 impl References for Nothing {
-    ghost world = { λ s. record { threads = []; statics = record { fields = []; states = [] }; output = []; objects = []; fault = None; rows = 0 } };
+    ghost world = { λ s. record {
+      threads = [];
+      statics = record { fields = []; states = [] };
+      output = [];
+      objects = [];
+      fault = None;
+      rows = 0;
+    } };
 
     fn slots(&self) -> u32 {
         0
@@ -62,8 +69,8 @@ impl References for Nothing {
 }
 
 /// Birth 3 is new, so the first cycle (1 step from Idle, 1 over no slot, 1 over no thread, 3 that blacken, 1 that finds
-/// nothing grey, 3 that whiten, 1 past the last cell) keeps it. The second blackens births 1 and 2 alone: its eighth step
-/// stands at cell 2, and the ninth gives that back.
+/// nothing grey, 3 that whiten, 1 past the last cell) keeps it. The second blackens births 1 and 2 alone: its eighth
+/// step stands at cell 2, and the ninth gives that back.
 #[test]
 fn the_second_cycle_frees(rt: HostRuntime) -> Result<(), Fail> {
     let shape = HeapShape {

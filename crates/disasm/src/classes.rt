@@ -29,7 +29,8 @@ fn put_flag(out: &mut Vec<u8>, word: &str, bit: u16, flags: u16) -> Result<(), A
 
 /// Writes the words of the flags of a table at the end that are set, in its order.
 fn put_flags(out: &mut Vec<u8>, table: &[(&str, u16)], flags: u16) -> Result<(), AllocError>
-    ensures { OnOk result (out.new.items ≡ out.old.items ++ definition.flags_text (map (λ row. (row.0.now, row.1)) table.now) flags) }
+    ensures { OnOk result (out.new.items ≡ out.old.items
+        ++ definition.flags_text (map (λ row. (row.0.now, row.1)) table.now) flags) }
 {
     for row in table {
         put_flag(out, row.0, row.1, flags)?;
@@ -39,7 +40,8 @@ fn put_flags(out: &mut Vec<u8>, table: &[(&str, u16)], flags: u16) -> Result<(),
 
 /// Writes a `.class` or an `.interface` at the end.
 fn put_head(out: &mut Vec<u8>, flags: ClassFlags, name: &Name) -> Result<(), AllocError>
-    ensures { OnOk result (out.new.items ≡ out.old.items ++ definition.class_line (has flags.0 0x0200) flags.0 name.now) }
+    ensures { OnOk result (out.new.items ≡ out.old.items
+        ++ definition.class_line (has flags.0 0x0200) flags.0 name.now) }
 {
     let flags = flags.bits();
     if flags & INTERFACE != 0 {

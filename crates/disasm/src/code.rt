@@ -92,7 +92,8 @@ fn put_limits(out: &mut Vec<u8>, code: &Code) -> Result<(), AllocError>
 
 /// Writes the line of a label at the end, where its pc is named.
 fn put_label_line(out: &mut Vec<u8>, labels: &Labels, pc: u16) -> Result<(), AllocError>
-    ensures { OnOk result (out.new.items ≡ out.old.items ++ definition.label_line (definition.is_named labels.now pc) pc) }
+    ensures { OnOk result (out.new.items ≡ out.old.items
+        ++ definition.label_line (definition.is_named labels.now pc) pc) }
 {
     if labels.has(pc) {
         put_label(out, pc)?;

@@ -26,7 +26,8 @@ pub fn put_name(out: &mut Vec<u8>, name: &Name) -> Result<(), AllocError>
 
 /// Writes a mnemonic and a number at the end.
 fn put_with_number(out: &mut Vec<u8>, mnemonic: Mnemonic, number: i64) -> Result<(), AllocError>
-    ensures { OnOk result (out.new.items ≡ out.old.items ++ (word_of mnemonic ++ (codes " " ++ signed_decimal number))) }
+    ensures { OnOk result (out.new.items ≡ out.old.items
+        ++ (word_of mnemonic ++ (codes " " ++ signed_decimal number))) }
 {
     put_mnemonic(out, mnemonic)?;
     put(out, " ")?;
@@ -56,7 +57,8 @@ fn put_constant(out: &mut Vec<u8>, constant: Constant<i32, i64>) -> Result<(), A
 
 /// Writes a mnemonic and the number of its local at the end.
 fn put_with_local(out: &mut Vec<u8>, mnemonic: LocalMnemonic, index: u16) -> Result<(), AllocError>
-    ensures { OnOk result (out.new.items ≡ out.old.items ++ (word_of (family.Local mnemonic) ++ (codes " " ++ decimal index))) }
+    ensures { OnOk result (out.new.items ≡ out.old.items
+        ++ (word_of (family.Local mnemonic) ++ (codes " " ++ decimal index))) }
 {
     put_mnemonic(out, Mnemonic::Local(mnemonic))?;
     put(out, " ")?;
@@ -85,7 +87,8 @@ fn put_increment(out: &mut Vec<u8>, increment: Increment) -> Result<(), AllocErr
 
 /// Writes an instruction on a local in its wide form at the end.
 fn put_wide(out: &mut Vec<u8>, mnemonic: LocalMnemonic, index: u16) -> Result<(), AllocError>
-    ensures { OnOk result (out.new.items ≡ out.old.items ++ (codes "wide " ++ (word_of (family.Local mnemonic) ++ (codes " " ++ decimal index)))) }
+    ensures { OnOk result (out.new.items ≡ out.old.items
+        ++ (codes "wide " ++ (word_of (family.Local mnemonic) ++ (codes " " ++ decimal index)))) }
 {
     put(out, "wide ")?;
     put_with_local(out, mnemonic, index)
@@ -215,7 +218,8 @@ fn put_with_label(out: &mut Vec<u8>, mnemonic: Mnemonic, pc: u16) -> Result<(), 
 
 /// Writes a mnemonic and a field's two words at the end.
 fn put_with_field(out: &mut Vec<u8>, mnemonic: Mnemonic, field: &Member) -> Result<(), AllocError>
-    ensures { OnOk result (out.new.items ≡ out.old.items ++ (word_of mnemonic ++ (codes " " ++ definition.field_words field.now))) }
+    ensures { OnOk result (out.new.items ≡ out.old.items
+        ++ (word_of mnemonic ++ (codes " " ++ definition.field_words field.now))) }
 {
     put_with_word(out, mnemonic, field.class.as_bytes())?;
     put(out, "/")?;

@@ -81,7 +81,8 @@ fn named_pcs(alloc: Global, code: &Code) -> Result<Vec<u16>, AllocError>
 /// Marks a pc in a table, which grows to hold it.
 #[tactic(auto, using(crate::proofs::MarkLemmas::one_marked))]
 fn mark(table: &mut Vec<bool>, pc: u16) -> Result<(), AllocError>
-    ensures { OnOk result ((k : ℕ) → is_marked table.new.items k ≡ (if pc == k then true else is_marked table.old.items k)) }
+    ensures { OnOk result ((k : ℕ) → is_marked table.new.items k
+        ≡ (if pc == k then true else is_marked table.old.items k)) }
 {
     let pc = usize::from(pc);
     for _ in table.len()..pc + 1 {

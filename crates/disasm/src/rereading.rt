@@ -26,10 +26,12 @@ pub enum TreeError {
     Memory,
 }
 
-/// The tree of a class file's text. Where a text can say what the file does (`class_files_are_spelled`), the tree has the
-/// file's listing and assembles, and memory alone is an error.
+/// The tree of a class file's text. Where a text can say what the file does (`class_files_are_spelled`), the tree has
+/// the file's listing and assembles, and memory alone is an error.
 pub fn tree(alloc: Global, file: &ClassFile) -> Result<ClassTree, TreeError>
-    ensures { is_sayable (listing_of file.now) ≡ true → MatchResult result (λ tree. (texts.listing_of tree ≡ listing_of file.now) × (assembles tree ≡ true)) LacksMemory }
+    ensures { is_sayable (listing_of file.now) ≡ true
+        → MatchResult result (λ tree. (texts.listing_of tree ≡ listing_of file.now)
+        × (assembles tree ≡ true)) LacksMemory }
 {
     file.has_bytes();
     class_files_are_spelled();
@@ -57,7 +59,8 @@ pub enum AgainError {
 /// The class file that the text of a class file assembles to. Where a text can say what the file does
 /// (`class_files_are_spelled`), it has the same listing, and memory alone is an error.
 pub fn again(alloc: Global, file: &ClassFile) -> Result<ClassFile, AgainError>
-    ensures { is_sayable (listing_of file.now) ≡ true → MatchResult result (λ made. listing_of made ≡ listing_of file.now) IsForMemory }
+    ensures { is_sayable (listing_of file.now) ≡ true
+        → MatchResult result (λ made. listing_of made ≡ listing_of file.now) IsForMemory }
 {
     file.has_bytes();
     class_files_are_spelled();

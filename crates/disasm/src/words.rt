@@ -53,7 +53,8 @@ pub fn put_natural_line(out: &mut Vec<u8>, word: &str, number: u16) -> Result<()
 
 /// Writes a line of a word and a number at the end.
 pub fn put_number_line(out: &mut Vec<u8>, word: &str, number: i64) -> Result<(), AllocError>
-    ensures { OnOk result (out.new.items ≡ out.old.items ++ (word.now ++ (signed_decimal number ++ definition.newline))) }
+    ensures { OnOk result (out.new.items ≡ out.old.items
+        ++ (word.now ++ (signed_decimal number ++ definition.newline))) }
 {
     put(out, word)?;
     put_number(out, number)?;

@@ -25,7 +25,8 @@ fn settled(slot: Slot) -> Slot
 fn put_argument(units: &mut Units, end: usize, slot: Slot) -> usize
     requires fits { end + units_taken (value_of slot) ≤ length units.old }
     requires few { length units.old ≤ 4096 }
-    ensures items { units.new ≡ take end units.old ++ argument_entries (value_of slot ∷ []) ++ drop (end + units_taken (value_of slot)) units.old }
+    ensures items { units.new ≡ take end units.old ++ argument_entries (value_of slot ∷ [])
+        ++ drop (end + units_taken (value_of slot)) units.old }
     ensures len { length units.new ≡ length units.old }
     ensures end { result ≡ end + units_taken (value_of slot) }
 {
@@ -44,7 +45,8 @@ fn copy_arguments(units: &mut Units, from: usize, count: u16, base: usize) -> us
     requires below { from + count ≤ base }
     requires fits { base + units_of_all (values_between units.old from count) ≤ length units.old }
     requires few { length units.old ≤ 4096 }
-    ensures items { units.new ≡ take base units.old ++ argument_entries (values_between units.old from count) ++ drop (base + units_of_all (values_between units.old from count)) units.old }
+    ensures items { units.new ≡ take base units.old ++ argument_entries (values_between units.old from count)
+        ++ drop (base + units_of_all (values_between units.old from count)) units.old }
     ensures len { length units.new ≡ length units.old }
     ensures end { result ≡ base + units_of_all (values_between units.old from count) }
 {
@@ -70,7 +72,10 @@ pub(crate) fn lay_out_locals(
     requires fits { base + locals ≤ length units.old }
     requires few { length units.old ≤ 4096 }
     requires enough { units_of_all (values_between units.old from count) ≤ locals }
-    ensures items { units.new ≡ take base units.old ++ (argument_entries (values_between units.old from count) ++ replicate (locals - units_of_all (values_between units.old from count)) Unset) ++ drop (base + locals) units.old }
+    ensures items { units.new ≡ take base units.old
+        ++ (argument_entries (values_between units.old from count)
+        ++ replicate (locals - units_of_all (values_between units.old from count)) Unset)
+        ++ drop (base + locals) units.old }
     ensures len { length units.new ≡ length units.old }
     ensures taken { result ≡ units_of_all (values_between units.old from count) }
 {

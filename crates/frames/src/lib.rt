@@ -31,11 +31,12 @@
 //! | `discard_units(next, n, u)`, `replace_units(next, n, u, v)`, `store_units(next, n, u, i, v)` | what `discard`, `replace` and `store` do, where u is known to be `units_of_all (take n f.stack)` |
 //! | `views()` | `frames`, as plain data |
 //!
-//! Inside, an activation record says where a frame's locals begin in the array; its stack stands behind them, a value in
-//! one unit each, while the units that the values take are counted beside them. So each call takes the time of the
-//! values that it moves. The running frame's record stands apart from those below it, in fields of its own: where `Frames` is a
-//! variable of a loop that only makes calls that are inlined, these fields stay in the processor's registers. The records
-//! below it stay in their places when they are left, so that a call writes over them and takes no memory.
+//! Inside, an activation record says where a frame's locals begin in the array; its stack stands behind them, a value
+//! in one unit each, while the units that the values take are counted beside them. So each call takes the time of the
+//! values that it moves. The running frame's record stands apart from those below it, in fields of its own: where
+//! `Frames` is a variable of a loop that only makes calls that are inlined, these fields stay in the processor's
+//! registers. The records below it stay in their places when they are left, so that a call writes over them and takes
+//! no memory.
 #![tactic(auto)]
 
 mod activations;

@@ -77,7 +77,8 @@ impl Frames {
     fn free(&mut self, index: usize)
         requires some { 0 < length self.old }
         requires small { index < 2 ^ 32 }
-        ensures { self.new ≡ with_running self.old (record (running_frame self.old) { locals = freed (running_frame self.old).locals index }) }
+        ensures { self.new ≡ with_running self.old
+            (record (running_frame self.old) { locals = freed (running_frame self.old).locals index }) }
     {
         match self.local(index) {
             Some(Slot::Long(_)) => self.set_local(index + 1, Slot::Unset),
@@ -90,7 +91,8 @@ impl Frames {
     #[inline(always)]
     fn put_local(&mut self, index: u16, value: Value)
         requires { 0 < length self.old }
-        ensures { self.new ≡ with_running self.old (record (running_frame self.old) { locals = with_local (running_frame self.old).locals index value }) }
+        ensures { self.new ≡ with_running self.old
+            (record (running_frame self.old) { locals = with_local (running_frame self.old).locals index value }) }
     {
         let index = index as usize;
         match value {
@@ -112,7 +114,12 @@ impl Frames {
     fn put_long(&mut self, index: usize, slot: Slot)
         requires some { 0 < length self.old }
         requires small { index < 2 ^ 16 }
-        ensures { self.new ≡ with_running self.old (record (running_frame self.old) { locals = slice_set (slice_set (freed (freed (running_frame self.old).locals index) (index + 1)) index (entry_of slot)) (index + 1) UpperHalf }) }
+        ensures { self.new ≡ with_running self.old
+            (record (running_frame self.old) {
+              locals = slice_set
+                  (slice_set (freed (freed (running_frame self.old).locals index) (index + 1)) index (entry_of slot))
+                  (index + 1) UpperHalf;
+            }) }
     {
         match self.local(index) {
             Some(Slot::Long(_)) => self.set_two(index, slot),
@@ -129,7 +136,11 @@ impl Frames {
     fn set_two(&mut self, index: usize, slot: Slot)
         requires some { 0 < length self.old }
         requires small { index < 2 ^ 16 }
-        ensures { self.new ≡ with_running self.old (record (running_frame self.old) { locals = slice_set (slice_set (running_frame self.old).locals index (entry_of slot)) (index + 1) UpperHalf }) }
+        ensures { self.new ≡ with_running self.old
+            (record (running_frame self.old) {
+              locals = slice_set
+                  (slice_set (running_frame self.old).locals index (entry_of slot)) (index + 1) UpperHalf;
+            }) }
     {
         self.set_local(index, slot);
         self.set_local(index + 1, Slot::Upper);

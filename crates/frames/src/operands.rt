@@ -1,6 +1,7 @@
 //! What an instruction finds on the running frame's stack: each operand is tested when it is popped (JVMS 2.6.2).
 ghost use Rattle.std.specs.Prelude.{◌≡◌, ℕ, ◌<◌, ◌≤◌, length, take, drop, IsOk};
-ghost use Rattle.model.specs.Frames.{running_frame, int_on, long_on, two_ints_on, two_longs_on, count_and_long_on, ref_on, two_refs_on};
+ghost use Rattle.model.specs.Frames.{running_frame, int_on, long_on, two_ints_on, two_longs_on, count_and_long_on};
+ghost use Rattle.model.specs.Frames.{ref_on, two_refs_on};
 ghost use Rattle.model.specs.Values.{units_of_all};
 
 use crate::thread_frames::Frames;

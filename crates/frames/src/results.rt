@@ -63,8 +63,8 @@ impl Frames {
         self.drop_values(next, count, units);
     }
 
-    /// Goes to this pc, with a value in place of so many at the top, which are known to take so many units, no fewer than the
-    /// value.
+    /// Goes to this pc, with a value in place of so many at the top, which are known to take so many units, no fewer
+    /// than the value.
     #[inline(always)]
     pub fn replace_units(&mut self, next: u16, count: u8, units: usize, value: Value)
         requires some { 0 < length self.old }
@@ -83,7 +83,8 @@ impl Frames {
         requires some { 0 < length self.old }
         requires there { count ≤ length (running_frame self.old).stack }
         requires room { units_taken (value_of slot) ≤ units_of_all (take count (running_frame self.old).stack) }
-        ensures { self.new ≡ with_running self.old (replaced next (running_frame self.old) count (value_of slot ∷ [])).frame }
+        ensures { self.new ≡ with_running self.old
+            (replaced next (running_frame self.old) count (value_of slot ∷ [])).frame }
     {
         let units = self.units_above(count);
         self.drop_values(next, count, units);
@@ -113,13 +114,14 @@ impl Frames {
         self.push_all(values); // they fit
     }
 
-    /// Goes to this pc, with the value of a slot in place of so many at the top; F2 where it has no room, and then nothing
-    /// changes.
+    /// Goes to this pc, with the value of a slot in place of so many at the top; F2 where it has no room, and then
+    /// nothing changes.
     #[inline(always)]
     pub fn replace_slot_if_room(&mut self, next: u16, count: u8, slot: Slot) -> Result<(), Abrupt>
         requires some { 0 < length self.old }
         requires there { count ≤ length (running_frame self.old).stack }
-        ensures step { told result self.new ≡ moved_on self.old (replaced_if_room next (running_frame self.old) count (value_of slot ∷ [])) }
+        ensures step { told result self.new ≡ moved_on self.old
+            (replaced_if_room next (running_frame self.old) count (value_of slot ∷ [])) }
         ensures kept { OnErr result (self.new ≡ self.old) }
     {
         let units = self.units_above(count);
@@ -136,7 +138,8 @@ impl Frames {
     pub fn replace_if_room(&mut self, next: u16, count: u8, value: Value) -> Result<(), Abrupt>
         requires some { 0 < length self.old }
         requires there { count ≤ length (running_frame self.old).stack }
-        ensures step { told result self.new ≡ moved_on self.old (replaced_if_room next (running_frame self.old) count (value ∷ [])) }
+        ensures step { told result self.new ≡ moved_on self.old
+            (replaced_if_room next (running_frame self.old) count (value ∷ [])) }
         ensures kept { OnErr result (self.new ≡ self.old) }
     {
         self.replace_slot_if_room(next, count, slot_of(value))
@@ -145,8 +148,10 @@ impl Frames {
     /// Values, bottom first, on top of the running frame's stack.
     fn push_all(&mut self, values: &[Value])
         requires some { 0 < length self.old }
-        requires room { units_of_all (push_all values.now (running_frame self.old).stack) ≤ (running_frame self.old).room }
-        ensures { self.new ≡ with_running self.old (record (running_frame self.old) { stack = push_all values.now (running_frame self.old).stack }) }
+        requires room { units_of_all (push_all values.now (running_frame self.old).stack)
+            ≤ (running_frame self.old).room }
+        ensures { self.new ≡ with_running self.old
+            (record (running_frame self.old) { stack = push_all values.now (running_frame self.old).stack }) }
     {
         for value in values {
             self.push(slot_of(*value));
@@ -163,7 +168,8 @@ impl Frames {
     ) -> Result<(), Abrupt>
         requires some { 0 < length self.old }
         requires there { count ≤ length (running_frame self.old).stack }
-        ensures step { told result self.new ≡ moved_on self.old (replaced_if_room next (running_frame self.old) count values.now) }
+        ensures step { told result self.new ≡ moved_on self.old
+            (replaced_if_room next (running_frame self.old) count values.now) }
         ensures kept { OnErr result (self.new ≡ self.old) }
     {
         let units = self.units_above(count);

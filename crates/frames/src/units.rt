@@ -1,5 +1,6 @@
 //! The array of units of a thread's frames.
-ghost use Rattle.std.specs.Prelude.{◌≡◌, ◌+◌, ◌-◌, ◌<◌, ◌≤◌, ◌++◌, [], length, map, slice_index_or, slice_set, take, drop, replicate, vec_capacity, vec_len, IfOk};
+ghost use Rattle.std.specs.Prelude.{◌≡◌, ◌+◌, ◌-◌, ◌<◌, ◌≤◌, ◌++◌, [], length, map, slice_index_or, slice_set, take};
+ghost use Rattle.std.specs.Prelude.{drop, replicate, vec_capacity, vec_len, IfOk};
 ghost use Rattle.model.specs.declared.values.Entry.TheVariants.{Unset};
 ghost use Rattle.values.specs.Slots.{value_in as value_held};
 ghost use Rattle.values.specs.Slots.{entry_of, value_of};
@@ -14,7 +15,8 @@ use values::slots::{Slot, entry_in, value_in};
 /// How many units a thread's frames may take.
 pub(crate) const UNITS: usize = 4096;
 
-/// Units, each with its entry: so many as were reached. The memory for all of them is there, and what isn't reached isn't touched.
+/// Units, each with its entry: so many as were reached. The memory for all of them is there, and what isn't reached
+/// isn't touched.
 #[derive(Drop)]
 pub struct Units {
     slots: Vec<Slot>,
@@ -131,7 +133,8 @@ fn unset_all(slots: &mut [Slot])
 #[inline(always)]
 fn unset(slots: &mut Vec<Slot>, base: usize, count: usize)
     requires { base + count ≤ vec_len slots.old }
-    ensures items { slots.new.items ≡ take base slots.old.items ++ replicate count UnsetSlot ++ drop (base + count) slots.old.items }
+    ensures items { slots.new.items ≡ take base slots.old.items ++ replicate count UnsetSlot
+        ++ drop (base + count) slots.old.items }
     ensures capacity { vec_capacity slots.new ≡ vec_capacity slots.old }
 {
     if count > 0 {

@@ -12,14 +12,15 @@ use std::sync::ledger::Ledger;
 
 /// Who is told of each turn before it is taken, and may hold it up.
 pub trait Gate {
-    /// Called by a worker without the lock, before its turn of this number. Turns count from 1, and stay at the greatest
-    /// number.
+    /// Called by a worker without the lock, before its turn of this number. Turns count from 1, and stay at the
+    /// greatest number.
     fn before(&self, worker: usize, turn: u64);
 }
 
-/// Takes turns of the share's role, each behind the gate and followed by a pulse where it was done, until a stop is asked,
-/// or the world isn't running, or the turn was `OutputFull`, `StepLimit` or `Stopped`; in these last cases it asks for a
-/// stop. Where its turn isn't ready it yields, a carrier until the collector has had one. It takes no memory.
+/// Takes turns of the share's role, each behind the gate and followed by a pulse where it was done, until a stop is
+/// asked, or the world isn't running, or the turn was `OutputFull`, `StepLimit` or `Stopped`; in these last cases it
+/// asks for a stop. Where its turn isn't ready it yields, a carrier until the collector has had one. It takes no
+/// memory.
 pub fn carry<L: Ledger, G: Gate, R: Wait>(
     rt: &R,
     hall: &Hall<L>,

@@ -84,8 +84,8 @@ fn with_job<L: Ledger>(
     Ok((shares, seats))
 }
 
-// Starts a thread for each worker of these shares and seats, does this thread's own job, and joins them all. Where a start
-// is refused, the others are asked to stop.
+// Starts a thread for each worker of these shares and seats, does this thread's own job, and joins them all. Where a
+// start is refused, the others are asked to stop.
 fn work_all<'s, E, L: Ledger + Send + Sync, G: Gate + Sync, R: Threads + Wait + Sync>(
     scope: &Scope<'s, E>,
     rt: &'s R,
@@ -120,9 +120,9 @@ fn work_all<'s, E, L: Ledger + Send + Sync, G: Gate + Sync, R: Threads + Wait + 
     Ok((shares, seats, own))
 }
 
-/// Starts a thread for each share but the last, in which its worker carries, carries the last one's turns itself, and joins
-/// them all. It gives back the shares and seats in their order. H3 where a thread couldn't be started, H2 where memory runs
-/// out: the workers that were started were then asked to stop and joined, and shares and seats are gone.
+/// Starts a thread for each share but the last, in which its worker carries, carries the last one's turns itself, and
+/// joins them all. It gives back the shares and seats in their order. H3 where a thread couldn't be started, H2 where
+/// memory runs out: the workers that were started were then asked to stop and joined, and shares and seats are gone.
 pub fn drive<L: Ledger + Send + Sync, G: Gate + Sync, R: Threads + Wait + Sync>(
     rt: &R,
     hall: &Hall<L>,

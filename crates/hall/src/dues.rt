@@ -83,7 +83,8 @@ impl<L: Ledger> Shared<L> {
         }
     }
 
-    // Within a cycle the carriers may make one object more at least, else they and the collector would wait for each other.
+    // Within a cycle the carriers may make one object more at least, else they and the collector would wait for each
+    // other.
     fn next_due(&self) -> u32 {
         if self.is_idle() {
             due_in(&self.world)

@@ -19,8 +19,8 @@ use std::sync::{Mutex, Wait, ledger};
 
 const MOST_WORKERS: usize = 9;
 
-/// A world that workers share under one lock. A contract sees what no turn changes of it: the program, the heap's shape,
-/// the limits and the number of workers.
+/// A world that workers share under one lock. A contract sees what no turn changes of it: the program, the heap's
+/// shape, the limits and the number of workers.
 #[derive(Drop)]
 pub struct Hall<L: Ledger> {
     lock: Mutex<Shared<L>>,
@@ -79,8 +79,8 @@ fn gathered<L: Ledger>(mut shares: Vec<Share<L>>) -> Option<ledger::Share<L>>
 
 impl<L: Ledger> Hall<L> {
     /// A hall for a world that has made no turn, which then has a worker for each role, and the workers' shares in the
-    /// order of the roles, whose turns have one round each. The blank, a ledger that isn't open yet, has a part for each role.
-    /// H1 exactly where the number of roles isn't 1 to 9, else H2 where memory runs out.
+    /// order of the roles, whose turns have one round each. The blank, a ledger that isn't open yet, has a part for
+    /// each role. H1 exactly where the number of roles isn't 1 to 9, else H2 where memory runs out.
     pub fn new(
         alloc: Global,
         blank: Blank,
@@ -92,14 +92,15 @@ impl<L: Ledger> Hall<L> {
         requires one_each { blank.parts ≡ length roles.now }
         requires empty { world.journal.rows ≡ [] }
         ensures hall { IfOk result (λ made. made.0 ≡ head_of (with_workers world (length roles.now))) }
-        ensures shares { IfOk result (λ made. made.1.items ≡ dealt (record { extra = 0; again = 0; sweep = 0 }) 0 roles.now) }
+        ensures shares { IfOk result (λ made. made.1.items
+            ≡ dealt (record { extra = 0; again = 0; sweep = 0 }) 0 roles.now) }
         ensures number { IsErrOf result HallError.Roles ↔ (¬ ((0 < length roles.now) × (length roles.now ≤ 9))) }
     {
         Hall::in_bursts(alloc, blank, world, roles, SINGLE)
     }
 
-    /// The same with shares whose turns may have more rounds behind the first, so that a worker makes many rows each time it
-    /// gets the lock.
+    /// The same with shares whose turns may have more rounds behind the first, so that a worker makes many rows each
+    /// time it gets the lock.
     pub fn in_bursts(
         alloc: Global,
         blank: Blank,
@@ -142,9 +143,9 @@ impl<L: Ledger> Hall<L> {
         self.collector
     }
 
-    /// One turn of the share's role under the lock, for which it waits, and how the world stands then. The share counts the
-    /// rows that the turn made. A carrier's is `NotReady`, and makes none, where there is a collector whose turn comes first,
-    /// since a collection is due.
+    /// One turn of the share's role under the lock, for which it waits, and how the world stands then. The share counts
+    /// the rows that the turn made. A carrier's is `NotReady`, and makes none, where there is a collector whose turn
+    /// comes first, since a collection is due.
     pub fn turn_for<R: Wait>(&self, rt: &R, share: &mut Share<L>) -> (Turn, Status)
         ensures { Counts result.0 share.old share.new }
     {
@@ -154,8 +155,8 @@ impl<L: Ledger> Hall<L> {
     }
 
     /// Takes back all shares, in any order, and gives the world. Its journal has as many rows as the shares counted
-    /// together, and a run of its program made it: `replay` refuses it for want of memory alone. H4 where the world isn't of
-    /// the hall's program, shape, limits and number of workers, which no call brings about.
+    /// together, and a run of its program made it: `replay` refuses it for want of memory alone. H4 where the world
+    /// isn't of the hall's program, shape, limits and number of workers, which no call brings about.
     pub fn close(self, shares: Vec<Share<L>>) -> Result<World, HallError>
         requires { vec_len shares ≡ L.parts }
         ensures world { IfOk result (λ world. head_of world ≡ self) }
@@ -183,7 +184,8 @@ impl<L: Ledger> Hall<L> {
 
 // Whether a world is of this program, shape, limits and number of workers.
 fn has_head(world: &World, program: &Program, shape: HeapShape, limits: Limits, workers: u8) -> bool
-    ensures { result ≡ true → head_of world.now ≡ record { program = program.now; shape = shape; limits = limits; workers = workers } }
+    ensures { result ≡ true → head_of world.now
+        ≡ record { program = program.now; shape = shape; limits = limits; workers = workers } }
 {
     let journal = world.journal();
     if !is_program(world.program(), program) || !is_shape(journal.shape(), shape) {

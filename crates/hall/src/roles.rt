@@ -16,7 +16,8 @@ pub enum Role {
 pub struct Burst {
     /// So many rounds behind the first one, where the worker isn't a collector.
     pub extra: u32,
-    /// So often a carrier makes as many again, each time only if all of the last ones were done and no collection is due.
+    /// So often a carrier makes as many again, each time only if all of the last ones were done and no collection is
+    /// due.
     pub again: u32,
     /// So many turns of a collector behind its first one, at most: a cycle's end is theirs.
     pub sweep: u32,

@@ -10,8 +10,8 @@ use std::marker::Model;
 use std::sync::ledger;
 use std::sync::ledger::{Book, Ledger};
 
-/// A worker's share of the journal: its number, its role, which rounds it may make behind the first one of a turn, and how many
-/// rows it has made. A contract sees these four.
+/// A worker's share of the journal: its number, its role, which rounds it may make behind the first one of a turn, and
+/// how many rows it has made. A contract sees these four.
 #[derive(Drop)]
 pub struct Share<L: Ledger> {
     worker: u8,
@@ -76,8 +76,8 @@ impl<L: Ledger> Share<L> {
         self.count
     }
 
-    // Counts the row of an actor's turn with this answer, if it made one, here and in the book. With it the journal has so
-    // many rows.
+    // Counts the row of an actor's turn with this answer, if it made one, here and in the book. With it the journal has
+    // so many rows.
     pub(crate) fn note(&mut self, book: &mut Book<L>, answer: Turn, rows: usize)
         requires { book.old.total + rows_by answer ≡ rows }
         ensures total { book.new.total ≡ rows }

@@ -2,9 +2,13 @@
 ghost use Rattle.std.specs.Prelude.{◌≡◌, ◌<◌};
 ghost use Rattle.model.specs.Machines.{after_turn_by, answer_to};
 ghost use Rattle.model.specs.Observers.{next_birth_of, phase_of, status_of, pick_of};
-ghost use Rattle.scheduler.specs.Rounds.{answered_by, turned_by, after_rounds as after_thread_rounds, rounds_answer as thread_rounds_answer};
-ghost use Rattle.hall.specs.Roles.{after_bursts, after_carried, after_role, answer_bursts, answer_carried, answer_role, collected, collected_answer, cycled, cycled_after, goes_on, is_idle};
-ghost use Rattle.hall.specs.Roles.{last_is_collector, swept, swept_once, swept_after, after_allowed, answer_allowed, after_more, answer_more, after_rounds, answer_rounds, after_known, answer_known, done_so_far};
+ghost use Rattle.scheduler.specs.Rounds.{answered_by, turned_by, after_rounds as after_thread_rounds};
+ghost use Rattle.scheduler.specs.Rounds.{rounds_answer as thread_rounds_answer};
+ghost use Rattle.hall.specs.Roles.{after_bursts, after_carried, after_role, answer_bursts, answer_carried, answer_role};
+ghost use Rattle.hall.specs.Roles.{collected, collected_answer, cycled, cycled_after, goes_on, is_idle};
+ghost use Rattle.hall.specs.Roles.{last_is_collector, swept, swept_once, swept_after, after_allowed, answer_allowed};
+ghost use Rattle.hall.specs.Roles.{after_more, answer_more, after_rounds, answer_rounds, after_known, answer_known};
+ghost use Rattle.hall.specs.Roles.{done_so_far};
 ghost use Rattle.hall.specs.Shares.{Takes, CountsRows};
 
 use crate::roles::{Burst, Role};
@@ -132,7 +136,8 @@ impl<L: Ledger> Shared<L> {
     // A turn of the picked thread and, where it was done, so many collector turns.
     fn carry_and_sweep(&mut self, share: &mut Share<L>, gc: u32) -> Turn
         requires { share.old.worker < self.old.journal.workers }
-        ensures world { self.new ≡ swept_after result (turned_by self.old share.old.worker (pick_of self.old)) share.old.worker gc }
+        ensures world { self.new ≡ swept_after result
+            (turned_by self.old share.old.worker (pick_of self.old)) share.old.worker gc }
         ensures answer { result ≡ answered_by self.old share.old.worker (pick_of self.old) }
         ensures share { CountsRows self.old self.new share.old share.new }
     {
@@ -322,14 +327,14 @@ impl<L: Ledger> Shared<L> {
         }
     }
 
-    /// One turn of the share's role, by the share's worker. A round of `Both` and `Carrier` is a turn of the picked thread,
-    /// `NotReady` where there is none; after a done one `Both` takes its collector turns, each if the world is running. A
-    /// round of a `Collector` is a collector turn, `NotReady` where the last row is the collector's. Where the first round is
-    /// done, so many more follow as the share's burst has extra ones, until one isn't done. A carrier makes them so often
-    /// again as its burst says, each time only if all were done and the next birth is below `due`, from which on a collection
-    /// is due. The collector's are as many as its burst's sweep at most, until a cycle ends, each if the world is running.
-    /// `Done` where they ended with nobody ready. The share counts the rows that were added. A worker that isn't below the
-    /// journal's number of workers does nothing, `NotReady`.
+    /// One turn of the share's role, by the share's worker. A round of `Both` and `Carrier` is a turn of the picked
+    /// thread, `NotReady` where there is none; after a done one `Both` takes its collector turns, each if the world is
+    /// running. A round of a `Collector` is a collector turn, `NotReady` where the last row is the collector's. Where
+    /// the first round is done, so many more follow as the share's burst has extra ones, until one isn't done. A
+    /// carrier makes them so often again as its burst says, each time only if all were done and the next birth is below
+    /// `due`, from which on a collection is due. The collector's are as many as its burst's sweep at most, until a
+    /// cycle ends, each if the world is running. `Done` where they ended with nobody ready. The share counts the rows
+    /// that were added. A worker that isn't below the journal's number of workers does nothing, `NotReady`.
     pub fn turn_as(&mut self, share: &mut Share<L>, due: u32) -> Turn
         ensures world { self.new ≡ after_role self.old share.old.role share.old.worker share.old.burst due }
         ensures answer { result ≡ answer_role self.old share.old.role share.old.worker share.old.burst due }

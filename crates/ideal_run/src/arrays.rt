@@ -3,7 +3,9 @@ ghost use Rattle.std.specs.Prelude.{◌≡◌, IfOk, Ok, drop, pos};
 ghost use Rattle.std.specs.Option.{option_copied};
 ghost use Rattle.model.specs.declared.instructions.ArrayOperation.TheVariants.{Length, Load, Store};
 ghost use Rattle.model.specs.Classes.Types.{described};
-ghost use Rattle.model.specs.Table.Arrays.{letter_of, descriptor_of, array_made, length_of, letter_for, has_elements, is_array_of, index_in, element_place, element_in, is_element_of, may_hold, storage_in, element_put, array_operated};
+ghost use Rattle.model.specs.Table.Arrays.{letter_of, descriptor_of, array_made, length_of, letter_for, has_elements};
+ghost use Rattle.model.specs.Table.Arrays.{is_array_of, index_in, element_place, element_in, is_element_of, may_hold};
+ghost use Rattle.model.specs.Table.Arrays.{storage_in, element_put, array_operated};
 ghost use Rattle.model.specs.Frames.{both, int_on, ref_on};
 ghost use Rattle.model.specs.Views.{contents_in};
 ghost use Rattle.model.specs.Words.{contents_at, contents_if};
@@ -65,7 +67,8 @@ fn unwritten(alloc: Global, element: &[u8], n: usize) -> Result<ContentsView, Al
 
 /// An array of so many elements; a negative size is told before a cell is asked for.
 fn array_made(site: &Site<'_, '_>, element: &[u8]) -> Result<Completion, AllocError>
-    ensures { IfOk result (λ c. told site.now.world site.now.thread c ≡ plainly (array_made site.now element.now (int_on site.now.frame.stack))) }
+    ensures { IfOk result (λ c. told site.now.world site.now.thread c
+        ≡ plainly (array_made site.now element.now (int_on site.now.frame.stack))) }
 {
     match int_on(site.stack()) {
         Err(fault) => Ok(Completion::Faults(fault)),
@@ -103,7 +106,8 @@ fn int_of(number: usize) -> Result<i32, AllocError>
 }
 
 fn length_of(site: &Site<'_, '_>, birth: u32) -> Result<Completion, AllocError>
-    ensures { IfOk result (λ c. told site.now.world site.now.thread c ≡ plainly (length_of site.now (contents_at site.now.world birth))) }
+    ensures { IfOk result (λ c. told site.now.world site.now.thread c
+        ≡ plainly (length_of site.now (contents_at site.now.world birth))) }
 {
     match length_in(site.world().object_at(birth)) {
         None => Ok(Completion::Faults(Fault::WrongClass)),
@@ -263,7 +267,8 @@ fn element_put(
     birth: u32,
     place: usize,
 ) -> Result<Completion, AllocError>
-    ensures { IfOk result (λ c. told site.now.world site.now.thread c ≡ plainly (element_put site.now (storage_in kind) value (Ok (birth, place)))) }
+    ensures { IfOk result (λ c. told site.now.world site.now.thread c
+        ≡ plainly (element_put site.now (storage_in kind) value (Ok (birth, place)))) }
 {
     if may_hold(site, birth, value)? {
         let value = kept(letter_for(kind), value);
@@ -276,7 +281,8 @@ fn element_put(
 /// The value lies above the index.
 #[tactic(auto, using(crate::proofs::PlainLemmas::plain))]
 fn array_stored(site: &Site<'_, '_>, kind: ElementKind) -> Result<Completion, AllocError>
-    ensures { IfOk result (λ c. told site.now.world site.now.thread c ≡ plainly (array_operated site.now (Store kind))) }
+    ensures { IfOk result (λ c. told site.now.world site.now.thread c
+        ≡ plainly (array_operated site.now (Store kind))) }
 {
     match value_on(descriptor_kind(letter_for(kind)), site.stack()) {
         Err(fault) => Ok(Completion::Faults(fault)),
@@ -295,7 +301,8 @@ pub fn array_operated(
     site: &Site<'_, '_>,
     operation: &ArrayOperation<Name>,
 ) -> Result<Completion, AllocError>
-    ensures { IfOk result (λ c. told site.now.world site.now.thread c ≡ plainly (array_operated site.now operation.now)) }
+    ensures { IfOk result (λ c. told site.now.world site.now.thread c
+        ≡ plainly (array_operated site.now operation.now)) }
 {
     match operation {
         ArrayOperation::New(primitive) => array_made(site, letter_of(*primitive)),

@@ -1,6 +1,7 @@
 //! Branches (JVMS 6.5): ints compare signed, references by identity.
 ghost use Rattle.std.specs.Prelude.{◌≡◌, IfOk};
-ghost use Rattle.model.specs.Table.Branches.{same_reference, identity_holds, zero_test, ints_test, refs_test, null_test, branch_pc, branched_on, branched};
+ghost use Rattle.model.specs.Table.Branches.{same_reference, identity_holds, zero_test, ints_test, refs_test};
+ghost use Rattle.model.specs.Table.Branches.{null_test, branch_pc, branched_on, branched};
 ghost use Rattle.model.specs.Frames.{int_on, two_ints_on, ref_on, two_refs_on};
 ghost use Rattle.ideal_run.specs.Told.{frame_in};
 

@@ -9,8 +9,8 @@ use model::listings::{Code, Method};
 use model::places::MethodPlace;
 use resolve::found::Found;
 
-/// One of the machine's own methods, a method with code and the place where the program declares it, or neither: no method,
-/// or an abstract one.
+/// One of the machine's own methods, a method with code and the place where the program declares it, or neither: no
+/// method, or an abstract one.
 pub enum Callee<'c> {
     Own(Builtin),
     Coded(&'c Method, &'c Code, MethodPlace),

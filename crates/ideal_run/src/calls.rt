@@ -61,7 +61,8 @@ fn called_locals(
     max_locals: usize,
     arguments: &[Value],
 ) -> Result<Vec<Entry>, AllocError>
-    ensures { IfOk result (λ locals. locals.items ≡ argument_entries arguments.now ++ replicate (max_locals - units_of_all arguments.now) Unset) }
+    ensures { IfOk result (λ locals. locals.items
+        ≡ argument_entries arguments.now ++ replicate (max_locals - units_of_all arguments.now) Unset) }
 {
     let mut locals = argument_entries(alloc, arguments)?;
     if locals.len() < max_locals {

@@ -45,7 +45,8 @@ fn claims_with(site: &Site<'_, '_>, classes: &[usize]) -> Result<Completion, All
 
 /// A class that is initialised, or that this thread initialises, may be used: `None`.
 fn claims(site: &Site<'_, '_>, classes: &[usize]) -> Result<Option<Completion>, AllocError>
-    ensures { IfOk result (λ before. (own : completion.Completion) → comes_before site.now before own ≡ plainly (claims site.now classes.now own)) }
+    ensures { IfOk result (λ before. (own : completion.Completion)
+        → comes_before site.now before own ≡ plainly (claims site.now classes.now own)) }
 {
     match classes {
         [] => Ok(None),
@@ -56,7 +57,8 @@ fn claims(site: &Site<'_, '_>, classes: &[usize]) -> Result<Option<Completion>, 
 /// By the state of the first class upwards that was used before: another thread's initialisation is waited for, and
 /// below a class that failed all fail.
 fn initialises(site: &Site<'_, '_>, chain: &Chain) -> Result<Option<Completion>, AllocError>
-    ensures { IfOk result (λ before. (own : completion.Completion) → comes_before site.now before own ≡ plainly (initialises_chain site.now own chain.now)) }
+    ensures { IfOk result (λ before. (own : completion.Completion)
+        → comes_before site.now before own ≡ plainly (initialises_chain site.now own chain.now)) }
 {
     match chain.above {
         ClassState::Unused | ClassState::Done => claims(site, &chain.unused),
@@ -75,13 +77,14 @@ fn initialises(site: &Site<'_, '_>, chain: &Chain) -> Result<Option<Completion>,
     }
 }
 
-/// What an instruction that uses a class comes to before that class is initialised; `None` where nothing comes before the
-/// instruction's own case. `AllocError` where memory runs out.
+/// What an instruction that uses a class comes to before that class is initialised; `None` where nothing comes before
+/// the instruction's own case. `AllocError` where memory runs out.
 pub fn before_initialised(
     site: &Site<'_, '_>,
     class: Option<&[u8]>,
 ) -> Result<Option<Completion>, AllocError>
-    ensures { IfOk result (λ before. (own : completion.Completion) → comes_before site.now before own ≡ plainly (after_initialising site.now (option_copied class.entry) own)) }
+    ensures { IfOk result (λ before. (own : completion.Completion)
+        → comes_before site.now before own ≡ plainly (after_initialising site.now (option_copied class.entry) own)) }
 {
     match class {
         None => Ok(None),

@@ -72,7 +72,13 @@ impl<'s, 'p> Model for Site<'s, 'p> {
 
     ghost Value = { Site };
 
-    ghost view = { λ a. record { program = a.program.now; world = a.world.now; thread = a.thread; frame = a.frame.now; next = a.next } };
+    ghost view = { λ a. record {
+      program = a.program.now;
+      world = a.world.now;
+      thread = a.thread;
+      frame = a.frame.now;
+      next = a.next;
+    } };
 
     ghost invariant = { λ a. running (frames_at a.world.now a.thread) ≡ Some a.frame.now };
 }
@@ -146,7 +152,8 @@ impl<'s, 'p> Site<'s, 'p> {
 
     /// A value in place of so many operands. `AllocError` where memory runs out.
     pub fn pushes(&self, n: usize, value: Value) -> Result<Completion, AllocError>
-        ensures { IfOk result (λ c. told self.now.world self.now.thread c ≡ completes_with self.now (Ok (replaced self.now.next self.now.frame n (value ∷ [])).frame)) }
+        ensures { IfOk result (λ c. told self.now.world self.now.thread c
+            ≡ completes_with self.now (Ok (replaced self.now.next self.now.frame n (value ∷ [])).frame)) }
     {
         let frame = replaced(self.alloc(), self.next(), self.frame(), n, &[value])?;
         Ok(self.completes(Ok(frame)))
@@ -154,7 +161,8 @@ impl<'s, 'p> Site<'s, 'p> {
 
     /// The same where the value has room, else F2. `AllocError` where memory runs out.
     pub fn pushes_if_room(&self, n: usize, value: Value) -> Result<Completion, AllocError>
-        ensures { IfOk result (λ c. told self.now.world self.now.thread c ≡ completes_with self.now (frame_in (replaced_if_room self.now.next self.now.frame n (value ∷ [])))) }
+        ensures { IfOk result (λ c. told self.now.world self.now.thread c
+            ≡ completes_with self.now (frame_in (replaced_if_room self.now.next self.now.frame n (value ∷ [])))) }
     {
         let moved = replaced_if_room(self.alloc(), self.next(), self.frame(), n, &[value])?;
         Ok(self.completes(moved))
@@ -162,7 +170,8 @@ impl<'s, 'p> Site<'s, 'p> {
 
     /// So many operands go, and something changes beside the thread. `AllocError` where memory runs out.
     pub fn pops(&self, n: usize, change: Change) -> Result<Completion, AllocError>
-        ensures { IfOk result (λ c. told self.now.world self.now.thread c ≡ pops_in self.now n (changed self.now.world self.now.thread change)) }
+        ensures { IfOk result (λ c. told self.now.world self.now.thread c
+            ≡ pops_in self.now n (changed self.now.world self.now.thread change)) }
     {
         let frame = replaced(self.alloc(), self.next(), self.frame(), n, &[])?;
         Ok(Completion::Goes(change, Step::Runs(frame)))

@@ -131,8 +131,8 @@ fn prepare(
     }
 }
 
-/// A turn that ends with a throwable of a class, with class states that may differ and an object that may be new; F2 where
-/// its handler has no room. `AllocError` where memory runs out.
+/// A turn that ends with a throwable of a class, with class states that may differ and an object that may be new; F2
+/// where its handler has no room. `AllocError` where memory runs out.
 #[tactic(auto, using(crate::proofs::EffectLemmas::effects))]
 fn throw(
     world: &mut World,
@@ -145,7 +145,8 @@ fn throw(
     object: Option<ObjectView>,
 ) -> Result<(), AllocError>
     requires { class.now ≡ class_at (with_new_if (with_states_in world.old states) object) birth }
-    ensures { OnOk result (world.new ≡ (thrown program.now world.old (with_new_if (with_states_in world.old states) object) thread birth).after) }
+    ensures { OnOk result (world.new ≡ (thrown program.now world.old
+        (with_new_if (with_states_in world.old states) object) thread birth).after) }
 {
     let way = way_of(program, class, world.frames_at(thread));
     if is_full(world.frames_at(thread), way) {
@@ -165,7 +166,8 @@ fn throws(
     birth: u32,
     states: Option<Vec<ClassState>>,
 ) -> Result<(), AllocError>
-    ensures { OnOk result (world.new ≡ (thrown program.now world.old (with_states_in world.old states) thread birth).after) }
+    ensures { OnOk result (world.new ≡ (thrown program.now world.old
+        (with_states_in world.old states) thread birth).after) }
 {
     let class = world.class_at(alloc, birth)?;
     throw(world, alloc, program, thread, birth, &class, states, None)
@@ -183,7 +185,8 @@ fn raises(
     states: Option<Vec<ClassState>>,
     choice: Choice,
 ) -> Result<(), AllocError>
-    ensures { OnOk result (world.new ≡ (raised program.now world.old (with_states_in world.old states) thread exception (choice_in choice)).after) }
+    ensures { OnOk result (world.new ≡ (raised program.now world.old (with_states_in world.old states) thread exception
+        (choice_in choice)).after) }
 {
     match choice {
         Choice::NewObject => {
@@ -205,7 +208,8 @@ fn raises(
     }
 }
 
-/// The running frame with a new reference in place of so many operands; F2 where it has no room, F5 where no frame runs.
+/// The running frame with a new reference in place of so many operands; F2 where it has no room, F5 where no frame
+/// runs.
 fn with_reference(
     world: &World,
     alloc: Global,
@@ -237,7 +241,8 @@ fn created(
     taken: usize,
     contents: ContentsView,
 ) -> Result<(), AllocError>
-    ensures { OnOk result (world.new ≡ (created_on world.old thread next taken (contents_in contents) (running (frames_at world.old thread))).after) }
+    ensures { OnOk result (world.new ≡ (created_on world.old thread next taken (contents_in contents)
+        (running (frames_at world.old thread))).after) }
 {
     let birth = world.next_birth()?;
     match with_reference(world, alloc, thread, next, taken, birth)? {
@@ -262,7 +267,8 @@ fn starts(
     frame: Frame,
     started: Thread,
 ) -> Result<(), AllocError>
-    ensures { OnOk result (world.new ≡ with_more (runs_on world.old (started_on world.old birth) thread frame) started) }
+    ensures { OnOk result (world.new ≡ with_more
+        (runs_on world.old (started_on world.old birth) thread frame) started) }
 {
     world.set_started(birth)?;
     world.step(alloc, thread, Step::Runs(frame))?;
@@ -307,7 +313,8 @@ pub fn carry_out(
     choice: Choice,
     completion: Completion,
 ) -> Result<(), AllocError>
-    ensures { OnOk result (world.new ≡ (effect_of program.now world.old thread (choice_in choice) (told world.old thread completion)).after) }
+    ensures { OnOk result (world.new ≡ (effect_of program.now world.old thread (choice_in choice)
+        (told world.old thread completion)).after) }
 {
     match completion {
         Completion::Goes(changes, step) => goes(world, alloc, thread, changes, step),

@@ -42,7 +42,8 @@ fn field_place(
 
 #[tactic(auto, using(crate::proofs::PlainLemmas::plain))]
 fn word_got(site: &Site<'_, '_>, member: &Member, birth: u32) -> Result<Completion, AllocError>
-    ensures { IfOk result (λ c. told site.now.world site.now.thread c ≡ plainly (word_got site.now birth (field_place site.now member.now birth))) }
+    ensures { IfOk result (λ c. told site.now.world site.now.thread c
+        ≡ plainly (word_got site.now birth (field_place site.now member.now birth))) }
 {
     match field_place(site, member, birth)? {
         None => Ok(Completion::Faults(Fault::WrongClass)),
@@ -56,7 +57,8 @@ fn word_put(
     value: Value,
     birth: u32,
 ) -> Result<Completion, AllocError>
-    ensures { IfOk result (λ c. told site.now.world site.now.thread c ≡ plainly (word_put site.now member.now.descriptor value birth (field_place site.now member.now birth))) }
+    ensures { IfOk result (λ c. told site.now.world site.now.thread c
+        ≡ plainly (word_put site.now member.now.descriptor value birth (field_place site.now member.now birth))) }
 {
     match field_place(site, member, birth)? {
         None => Ok(Completion::Faults(Fault::WrongClass)),
@@ -69,7 +71,8 @@ fn word_put(
 
 /// A field is read: a null, then F6, then F2.
 fn field_got(site: &Site<'_, '_>, member: &Member) -> Result<Completion, AllocError>
-    ensures { IfOk result (λ c. told site.now.world site.now.thread c ≡ plainly (field_accessed site.now Get member.now)) }
+    ensures { IfOk result (λ c. told site.now.world site.now.thread c
+        ≡ plainly (field_accessed site.now Get member.now)) }
 {
     match ref_on(site.stack()) {
         Err(fault) => Ok(Completion::Faults(fault)),
@@ -80,7 +83,8 @@ fn field_got(site: &Site<'_, '_>, member: &Member) -> Result<Completion, AllocEr
 
 /// A field is written: the value lies above the object.
 fn field_put(site: &Site<'_, '_>, member: &Member) -> Result<Completion, AllocError>
-    ensures { IfOk result (λ c. told site.now.world site.now.thread c ≡ plainly (field_accessed site.now Put member.now)) }
+    ensures { IfOk result (λ c. told site.now.world site.now.thread c
+        ≡ plainly (field_accessed site.now Put member.now)) }
 {
     let kind = descriptor_kind(member.descriptor.as_bytes());
     match value_on(kind, site.stack()) {
@@ -99,7 +103,8 @@ pub fn field_accessed(
     access: Access,
     member: &Member,
 ) -> Result<Completion, AllocError>
-    ensures { IfOk result (λ c. told site.now.world site.now.thread c ≡ plainly (field_accessed site.now access member.now)) }
+    ensures { IfOk result (λ c. told site.now.world site.now.thread c
+        ≡ plainly (field_accessed site.now access member.now)) }
 {
     match access {
         Access::Get => field_got(site, member),

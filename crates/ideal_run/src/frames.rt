@@ -29,7 +29,15 @@ impl Model for Frame {
 
     ghost Value = { Frame };
 
-    ghost view = { λ a. record { method = a.method; pc = a.pc; locals = a.locals.items; stack = a.stack.items; room = a.room; monitor = a.monitor; mark = a.mark } };
+    ghost view = { λ a. record {
+      method = a.method;
+      pc = a.pc;
+      locals = a.locals.items;
+      stack = a.stack.items;
+      room = a.room;
+      monitor = a.monitor;
+      mark = a.mark;
+    } };
 }
 
 /// What an instruction that changes the running frame alone comes to.

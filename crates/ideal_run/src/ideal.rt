@@ -18,8 +18,8 @@ use model::turns::Actor;
 use std::alloc::{AllocError, Global};
 use std::marker::Model;
 
-/// The reference run of a program: its world, on which nothing is ever freed, with the limits of the run. A contract sees
-/// program, limits and world.
+/// The reference run of a program: its world, on which nothing is ever freed, with the limits of the run. A contract
+/// sees program, limits and world.
 #[derive(Drop)]
 pub struct Ideal<'a> {
     alloc: Global,
@@ -67,7 +67,8 @@ fn thread_turn(
 ) -> Result<(), AllocError>
     requires clean { world.old.fault ≡ None }
     requires more { world.old.rows < limits.steps }
-    ensures { OnOk result (world.new ≡ ideal_step program.now limits world.old (ThreadActor thread) (choice_in choice)) }
+    ensures { OnOk result (world.new ≡ ideal_step program.now limits world.old (ThreadActor thread)
+        (choice_in choice)) }
 {
     if !world.is_live(u32::from(thread)) {
         return Ok(());
@@ -105,8 +106,8 @@ fn turn(
 }
 
 impl<'a> Ideal<'a> {
-    /// The run of a program before its first turn. `None` where a superclass or superinterface isn't there, or a class is
-    /// above itself. `AllocError` where memory runs out.
+    /// The run of a program before its first turn. `None` where a superclass or superinterface isn't there, or a class
+    /// is above itself. `AllocError` where memory runs out.
     pub fn new(
         alloc: Global,
         listings: &'a [Listing],
@@ -135,9 +136,9 @@ impl<'a> Ideal<'a> {
         &self.world
     }
 
-    /// One pair of the run, an actor and its choice: a turn, unless a rule refuses it. A collector's turn changes nothing
-    /// but the count of turns. `AllocError` where memory runs out, or where a number has no room; then nothing is said of
-    /// the run.
+    /// One pair of the run, an actor and its choice: a turn, unless a rule refuses it. A collector's turn changes
+    /// nothing but the count of turns. `AllocError` where memory runs out, or where a number has no room; then nothing
+    /// is said of the run.
     pub fn turn(&mut self, actor: Actor, choice: Choice) -> Result<(), AllocError>
         ensures { OnOk result (self.new ≡ run_after self.old actor (choice_in choice)) }
     {

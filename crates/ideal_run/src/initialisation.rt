@@ -5,7 +5,10 @@ ghost use Rattle.std.specs.List.{list_any};
 ghost use Rattle.std.specs.Str.{bytes_eq};
 ghost use Rattle.model.specs.declared.turns.ClassState.TheVariants.{Done, Unused};
 ghost use Rattle.model.specs.Classes.Search.{superclasses, upwards};
-ghost use Rattle.model.specs.Initialisation.{with_states, declares_initializer, wants_initialising, state_if, opening_states, chain_end, chain_with, chain_from, chain_of, started_at, waiting, callers_waiting, initializer_frames, first_claim, opening_frames, claimed_states};
+ghost use Rattle.model.specs.Initialisation.{with_states, declares_initializer, wants_initialising, state_if};
+ghost use Rattle.model.specs.Initialisation.{opening_states, chain_end, chain_with, chain_from, chain_of, started_at};
+ghost use Rattle.model.specs.Initialisation.{waiting, callers_waiting, initializer_frames, first_claim, opening_frames};
+ghost use Rattle.model.specs.Initialisation.{claimed_states};
 ghost use Rattle.ideal_run.specs.Initialised.{is_initialised_for};
 
 use crate::calls::opening_frame;
@@ -20,8 +23,8 @@ use resolve::classes::Classes;
 use std::alloc::{AllocError, Global};
 use std::marker::Model;
 
-/// Of a class and its superclasses upwards: those that were never used, by their places, and the state of the first that
-/// was.
+/// Of a class and its superclasses upwards: those that were never used, by their places, and the state of the first
+/// that was.
 #[derive(Drop)]
 pub struct Chain {
     pub unused: Vec<usize>,

@@ -4,7 +4,8 @@ ghost use Rattle.std.specs.Option.{option_len};
 ghost use Rattle.model.specs.Frames.{ref_on, has_room_for};
 ghost use Rattle.model.specs.Locals.{called_frame};
 ghost use Rattle.model.specs.Signatures.{argument_kinds};
-ghost use Rattle.model.specs.Table.Invokes.{fault_in_pops, arguments_in, enters_method, called, called_on, on_object, world_entered, invoked};
+ghost use Rattle.model.specs.Table.Invokes.{fault_in_pops, arguments_in, enters_method, called, called_on, on_object};
+ghost use Rattle.model.specs.Table.Invokes.{world_entered, invoked};
 ghost use Rattle.model.specs.Completions.{frames_in};
 ghost use Rattle.model.specs.Monitors.{is_full, may_enter};
 ghost use Rattle.model.specs.declared.instructions.Invocation.TheVariants.{Static};
@@ -112,7 +113,8 @@ fn frame_of_call(
     arguments: &[Value],
     monitor: Option<u32>,
 ) -> Result<Frame, AllocError>
-    ensures { IfOk result (λ frame. frame ≡ record (called_frame place code.now.max_locals code.now.max_stack arguments.now) { monitor = monitor }) }
+    ensures { IfOk result (λ frame. frame ≡ record
+        (called_frame place code.now.max_locals code.now.max_stack arguments.now) { monitor = monitor }) }
 {
     let frame = called_frame(alloc, place, code, arguments)?;
     Ok(Frame {
@@ -149,7 +151,8 @@ fn enters_frame(
     place: MethodPlace,
 ) -> Result<Completion, AllocError>
     requires { caller.now ≡ site.now.frame }
-    ensures { IfOk result (λ c. told site.now.world site.now.thread c ≡ enters_with site.now n monitor (changed site.now.world site.now.thread entry) code.now place) }
+    ensures { IfOk result (λ c. told site.now.world site.now.thread c
+        ≡ enters_with site.now n monitor (changed site.now.world site.now.thread entry) code.now place) }
 {
     let alloc = site.alloc();
     let arguments = arguments_on(alloc, n, site.stack())?;
@@ -177,7 +180,9 @@ fn enters_tested(
     requires room { has_room_for (frames_in site.now) code.now.max_locals code.now.max_stack ≡ true }
     requires count { is_full (monitor_in monitor) ≡ false }
     requires operands { n ≡ arguments_in member.now + option_len object }
-    ensures { IfOk result (λ c. told site.now.world site.now.thread c ≡ plainly (enters_method (record { site = site.now; member = member.now; object = object }) (record { method = method.now; code = code.now; place = place }))) }
+    ensures { IfOk result (λ c. told site.now.world site.now.thread c
+        ≡ plainly (enters_method (record { site = site.now; member = member.now; object = object })
+        (record { method = method.now; code = code.now; place = place }))) }
 {
     let caller = site.frame();
     let change = entry(site, birth, monitor);
@@ -196,7 +201,9 @@ fn enters_method(
     code: &Code,
     place: MethodPlace,
 ) -> Result<Completion, AllocError>
-    ensures { IfOk result (λ c. told site.now.world site.now.thread c ≡ plainly (enters_method (record { site = site.now; member = member.now; object = object }) (record { method = method.now; code = code.now; place = place }))) }
+    ensures { IfOk result (λ c. told site.now.world site.now.thread c
+        ≡ plainly (enters_method (record { site = site.now; member = member.now; object = object })
+        (record { method = method.now; code = code.now; place = place }))) }
 {
     let birth = method_monitor(object, method);
     let monitor = monitor_for(site, birth);
@@ -220,7 +227,9 @@ fn called(
     object: Option<u32>,
     callee: Callee<'_>,
 ) -> Result<Completion, AllocError>
-    ensures { IfOk result (λ c. told site.now.world site.now.thread c ≡ plainly (called (record { site = site.now; member = member.now; object = object }) (callee_in callee.entry))) }
+    ensures { IfOk result (λ c. told site.now.world site.now.thread c
+        ≡ plainly (called (record { site = site.now; member = member.now; object = object })
+        (callee_in callee.entry))) }
 {
     match callee {
         Callee::NoCode => Ok(Completion::Faults(Fault::NoMethod)),
@@ -250,7 +259,9 @@ fn called_on(
     member: &Member,
     invocation: Invocation,
 ) -> Result<Completion, AllocError>
-    ensures { IfOk result (λ c. told site.now.world site.now.thread c ≡ plainly (called_on site.now member.now (found_by site.now invocation member.now) (ref_on (drop (arguments_in member.now) site.now.frame.stack)))) }
+    ensures { IfOk result (λ c. told site.now.world site.now.thread c
+        ≡ plainly (called_on site.now member.now (found_by site.now invocation member.now)
+        (ref_on (drop (arguments_in member.now) site.now.frame.stack)))) }
 {
     let n = arguments_in(site.alloc(), member)?;
     match ref_on(below(site.stack(), n)) {
@@ -268,8 +279,8 @@ fn called_on(
     }
 }
 
-/// Which method is called on an object of a class: by that class, or, specially, by the superclass of the class whose code
-/// calls.
+/// Which method is called on an object of a class: by that class, or, specially, by the superclass of the class whose
+/// code calls.
 fn found_by<'s>(
     site: &Site<'s, '_>,
     invocation: Invocation,
@@ -297,7 +308,8 @@ fn on_object(
     member: &Member,
     invocation: Invocation,
 ) -> Result<Completion, AllocError>
-    ensures { IfOk result (λ c. told site.now.world site.now.thread c ≡ plainly (on_object site.now member.now (found_by site.now invocation member.now))) }
+    ensures { IfOk result (λ c. told site.now.world site.now.thread c
+        ≡ plainly (on_object site.now member.now (found_by site.now invocation member.now))) }
 {
     match fault_in_pops(&pops_of(site.alloc(), member)?, site.stack()) {
         Some(fault) => Ok(Completion::Faults(fault)),
@@ -305,14 +317,15 @@ fn on_object(
     }
 }
 
-/// A method is called: faults of the arguments from the top, then those of the object and of what is found. `AllocError`
-/// where memory runs out.
+/// A method is called: faults of the arguments from the top, then those of the object and of what is found.
+/// `AllocError` where memory runs out.
 pub fn invoked(
     site: &Site<'_, '_>,
     invocation: Invocation,
     member: &Member,
 ) -> Result<Completion, AllocError>
-    ensures { IfOk result (λ c. told site.now.world site.now.thread c ≡ plainly (invoked site.now invocation member.now)) }
+    ensures { IfOk result (λ c. told site.now.world site.now.thread c
+        ≡ plainly (invoked site.now invocation member.now)) }
 {
     match invocation {
         Invocation::Static => static_called(site, member),

@@ -3,7 +3,8 @@ ghost use Rattle.std.specs.Prelude.{◌≡◌, ◌<◌, IfOk, slice_set};
 ghost use Rattle.model.specs.declared.values.Kind.TheVariants.{Int as IntKind};
 ghost use Rattle.model.specs.Frames.{as_int};
 ghost use Rattle.model.specs.Locals.{entries_of, has_local, local_at, freed, with_local, stored, stored_at, value_on};
-ghost use Rattle.model.specs.Table.Locals.{first_index, local_index, increment_index, increment_amount, loaded_on, incremented, local};
+ghost use Rattle.model.specs.Table.Locals.{first_index, local_index, increment_index, increment_amount, loaded_on};
+ghost use Rattle.model.specs.Table.Locals.{incremented, local};
 ghost use Rattle.ideal_run.specs.Told.{frame_in};
 
 use crate::frames::{Frame, Moved, below, faulted, replaced_if_room};
@@ -138,7 +139,8 @@ fn loaded(
     index: u16,
     frame: &Frame,
 ) -> Result<Moved, AllocError>
-    ensures { IfOk result (λ moved. moved ≡ frame_in (loaded_on next frame.now (local_at kind frame.now.locals index))) }
+    ensures { IfOk result (λ moved. moved ≡ frame_in
+        (loaded_on next frame.now (local_at kind frame.now.locals index))) }
 {
     match local_at(kind, &frame.locals, index) {
         Err(fault) => Ok(faulted(fault)),

@@ -101,7 +101,8 @@ fn operates_if(
     birth: u32,
     is_there: bool,
 ) -> Result<Completion, AllocError>
-    ensures { IfOk result (λ c. told site.now.world site.now.thread c ≡ plainly (operates_if site.now operation birth is_there)) }
+    ensures { IfOk result (λ c. told site.now.world site.now.thread c
+        ≡ plainly (operates_if site.now operation birth is_there)) }
 {
     if !is_there {
         return Ok(Completion::Faults(Fault::WrongClass));
@@ -120,7 +121,8 @@ fn operates_at(
     is_there: bool,
 ) -> Result<Completion, AllocError>
     requires { is_there ≡ is_instance site.now (codes "java/lang/Object") birth }
-    ensures { IfOk result (λ c. told site.now.world site.now.thread c ≡ plainly (operates_if site.now operation birth (is_instance site.now (codes "java/lang/Object") birth))) }
+    ensures { IfOk result (λ c. told site.now.world site.now.thread c
+        ≡ plainly (operates_if site.now operation birth (is_instance site.now (codes "java/lang/Object") birth))) }
 {
     match operates_if(site, operation, birth, is_there) {
         Ok(completion) => Ok(completion),

@@ -45,8 +45,8 @@ fn all_unwritten(alloc: Global, layout: &[Found<'_, Field>]) -> Result<Vec<Field
     Ok(fields)
 }
 
-/// An object of a class as it is made: its fields in the layout's order, none written yet. `AllocError` where memory runs
-/// out.
+/// An object of a class as it is made: its fields in the layout's order, none written yet. `AllocError` where memory
+/// runs out.
 fn new_instance(
     alloc: Global,
     classes: &Classes<'_>,
@@ -63,7 +63,8 @@ fn new_instance(
 
 /// The reference is pushed again.
 fn cast(site: &Site<'_, '_>, name: &Name) -> Result<Completion, AllocError>
-    ensures { IfOk result (λ c. told site.now.world site.now.thread c ≡ plainly (class_operated site.now CheckCast name.now)) }
+    ensures { IfOk result (λ c. told site.now.world site.now.thread c
+        ≡ plainly (class_operated site.now CheckCast name.now)) }
 {
     match ref_on(site.stack()) {
         Err(fault) => Ok(Completion::Faults(fault)),
@@ -90,7 +91,8 @@ fn told_if(site: &Site<'_, '_>, is: bool) -> Result<Completion, AllocError>
 
 /// Null is no instance.
 fn tested(site: &Site<'_, '_>, name: &Name) -> Result<Completion, AllocError>
-    ensures { IfOk result (λ c. told site.now.world site.now.thread c ≡ plainly (class_operated site.now InstanceOf name.now)) }
+    ensures { IfOk result (λ c. told site.now.world site.now.thread c
+        ≡ plainly (class_operated site.now InstanceOf name.now)) }
 {
     match ref_on(site.stack()) {
         Err(fault) => Ok(Completion::Faults(fault)),
@@ -105,7 +107,8 @@ pub fn class_operated(
     operation: ClassOperation,
     name: &Name,
 ) -> Result<Completion, AllocError>
-    ensures { IfOk result (λ c. told site.now.world site.now.thread c ≡ plainly (class_operated site.now operation name.now)) }
+    ensures { IfOk result (λ c. told site.now.world site.now.thread c
+        ≡ plainly (class_operated site.now operation name.now)) }
 {
     match operation {
         ClassOperation::New => {

@@ -3,7 +3,8 @@
 ghost use Rattle.std.specs.Prelude.{◌≡◌, ◌∷◌, [], ◌++◌, IfOk, OnOk, map, filter};
 ghost use Rattle.model.specs.Classes.Flags.{is_static_field};
 ghost use Rattle.model.specs.Stores.{storage_of};
-ghost use Rattle.model.specs.Worlds.{opening_value, opening_slot, opening_slots, opening_objects, plain_object, opening_world};
+ghost use Rattle.model.specs.Worlds.{opening_value, opening_slot, opening_slots, opening_objects, plain_object};
+ghost use Rattle.model.specs.Worlds.{opening_world};
 
 use crate::effects::plain_object;
 use crate::initialisation::opening;
@@ -48,7 +49,8 @@ fn is_static_field(field: &Field) -> bool
 
 /// Adds the static fields among those of a class. `AllocError` where memory runs out.
 fn add_slots(slots: &mut Vec<FieldView>, class: &Name, fields: &[Field]) -> Result<(), AllocError>
-    ensures { OnOk result (slots.new.items ≡ slots.old.items ++ map (opening_slot class.now) (filter is_static_field fields.now)) }
+    ensures { OnOk result (slots.new.items ≡ slots.old.items
+        ++ map (opening_slot class.now) (filter is_static_field fields.now)) }
 {
     for field in fields {
         if is_static_field(field) {

@@ -1,6 +1,7 @@
 //! What an instruction finds on a stack: the operands from the top, each tested when it is popped (JVMS 2.6.2).
 ghost use Rattle.std.specs.Prelude.{◌≡◌};
-ghost use Rattle.model.specs.Frames.{top_of, int_on, long_on, ref_on, two_ints_on, two_longs_on, two_refs_on, count_and_long_on};
+ghost use Rattle.model.specs.Frames.{top_of, int_on, long_on, ref_on, two_ints_on, two_longs_on, two_refs_on};
+ghost use Rattle.model.specs.Frames.{count_and_long_on};
 ghost use Rattle.model.specs.Locals.{of_kind, value_on};
 
 use crate::frames::below;

@@ -4,7 +4,8 @@ ghost use Rattle.std.specs.Option.{option_copied};
 ghost use Rattle.model.specs.Frames.{callers};
 ghost use Rattle.model.specs.Initialisation.{runs_initializer};
 ghost use Rattle.model.specs.Programs.{instruction_of};
-ghost use Rattle.model.specs.Table.Returns.{same_kind, same_result, gives, past_invoke, left_world, awake, resumed, leaves_with, returned};
+ghost use Rattle.model.specs.Table.Returns.{same_kind, same_result, gives, past_invoke, left_world, awake, resumed};
+ghost use Rattle.model.specs.Table.Returns.{leaves_with, returned};
 ghost use Rattle.ideal_run.specs.Completed.{told, plainly, changed, resumes_with};
 ghost use Rattle.ideal_run.specs.Told.{frame_in};
 
@@ -57,7 +58,8 @@ fn past_invoke(
     caller: &Frame,
     value: Option<Value>,
 ) -> Result<Moved, AllocError>
-    ensures { IfOk result (λ moved. moved ≡ frame_in (past_invoke caller.now value (instruction_of site.now.program caller.now))) }
+    ensures { IfOk result (λ moved. moved ≡ frame_in
+        (past_invoke caller.now value (instruction_of site.now.program caller.now))) }
 {
     let alloc = site.alloc();
     match site.program().instruction_of(caller) {
@@ -86,7 +88,8 @@ fn awake(alloc: Global, frame: &Frame) -> Result<Frame, AllocError>
 
 /// The caller as it goes on.
 fn resumed(site: &Site<'_, '_>, caller: &Frame, value: Option<Value>) -> Result<Moved, AllocError>
-    ensures { IfOk result (λ moved. moved ≡ frame_in (resumed site.now caller.now value (runs_initializer site.now.program site.now.frame))) }
+    ensures { IfOk result (λ moved. moved ≡ frame_in
+        (resumed site.now caller.now value (runs_initializer site.now.program site.now.frame))) }
 {
     if site.program().runs_initializer(site.frame()) {
         Ok(Ok(awake(site.alloc(), caller)?))

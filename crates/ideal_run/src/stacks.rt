@@ -1,7 +1,8 @@
-//! `pop`, `dup`, `swap` and their kin (JVMS 6.5). An instruction finds a group of values at the top, of one unit or two,
-//! and perhaps another group below it.
+//! `pop`, `dup`, `swap` and their kin (JVMS 6.5). An instruction finds a group of values at the top, of one unit or
+//! two, and perhaps another group below it.
 ghost use Rattle.std.specs.Prelude.{◌≡◌, ◌++◌, IfOk};
-ghost use Rattle.model.specs.Table.Stacks.{unit_on, units_on, group_on, groups_on, with_top, popped_on, doubled_on, inserted_on, rearranged};
+ghost use Rattle.model.specs.Table.Stacks.{unit_on, units_on, group_on, groups_on, with_top, popped_on, doubled_on};
+ghost use Rattle.model.specs.Table.Stacks.{inserted_on, rearranged};
 ghost use Rattle.model.specs.declared.instructions.StackOperation.TheVariants.{Swap};
 ghost use Rattle.ideal_run.specs.Told.{frame_in};
 ghost use Rattle.ideal_run.specs.Groups.{units_in};
@@ -120,7 +121,8 @@ fn groups_on(
 }
 
 fn popped_on(alloc: Global, next: u16, frame: &Frame, units: Units) -> Result<Moved, AllocError>
-    ensures { IfOk result (λ moved. moved ≡ frame_in (popped_on next frame.now (group_on (units_in units) frame.now.stack))) }
+    ensures { IfOk result (λ moved. moved ≡ frame_in
+        (popped_on next frame.now (group_on (units_in units) frame.now.stack))) }
 {
     match group_on(alloc, units, &frame.stack)? {
         Err(fault) => Ok(faulted(fault)),
@@ -130,7 +132,8 @@ fn popped_on(alloc: Global, next: u16, frame: &Frame, units: Units) -> Result<Mo
 
 /// The group twice.
 fn doubled_on(alloc: Global, next: u16, frame: &Frame, units: Units) -> Result<Moved, AllocError>
-    ensures { IfOk result (λ moved. moved ≡ frame_in (doubled_on next frame.now (group_on (units_in units) frame.now.stack))) }
+    ensures { IfOk result (λ moved. moved ≡ frame_in
+        (doubled_on next frame.now (group_on (units_in units) frame.now.stack))) }
 {
     match group_on(alloc, units, &frame.stack)? {
         Err(fault) => Ok(faulted(fault)),
@@ -149,7 +152,8 @@ fn inserted_on(
     upper: Units,
     lower: Units,
 ) -> Result<Moved, AllocError>
-    ensures { IfOk result (λ moved. moved ≡ frame_in (inserted_on next frame.now (groups_on (units_in upper) (units_in lower) frame.now.stack))) }
+    ensures { IfOk result (λ moved. moved ≡ frame_in
+        (inserted_on next frame.now (groups_on (units_in upper) (units_in lower) frame.now.stack))) }
 {
     match groups_on(alloc, upper, lower, &frame.stack)? {
         Err(fault) => Ok(faulted(fault)),

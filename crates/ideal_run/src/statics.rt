@@ -37,7 +37,8 @@ fn static_put(
     value: Value,
     slot: Option<usize>,
 ) -> Result<Completion, AllocError>
-    ensures { IfOk result (λ c. told site.now.world site.now.thread c ≡ plainly (static_put site.now descriptor.now (Ok value) slot)) }
+    ensures { IfOk result (λ c. told site.now.world site.now.thread c
+        ≡ plainly (static_put site.now descriptor.now (Ok value) slot)) }
 {
     match slot {
         None => Ok(Completion::Faults(Fault::WrongClass)),
@@ -51,7 +52,8 @@ pub fn static_accessed(
     access: Access,
     member: &Member,
 ) -> Result<Completion, AllocError>
-    ensures { IfOk result (λ c. told site.now.world site.now.thread c ≡ plainly (static_accessed site.now access member.now)) }
+    ensures { IfOk result (λ c. told site.now.world site.now.thread c
+        ≡ plainly (static_accessed site.now access member.now)) }
 {
     let slot = slot_of(site, member);
     match access {

@@ -9,7 +9,8 @@ ghost use Rattle.model.specs.Table.Numbers.{number};
 ghost use Rattle.model.specs.Programs.{instruction_of};
 ghost use Rattle.model.specs.Table.Initialisation.{declarer};
 ghost use Rattle.model.specs.Worlds.{frames_at};
-ghost use Rattle.model.specs.Table.Next.{by_family, class_of_operation, class_of_call, class_used, at_site, at_instruction, completion};
+ghost use Rattle.model.specs.Table.Next.{by_family, class_of_operation, class_of_call, class_used, at_site};
+ghost use Rattle.model.specs.Table.Next.{at_instruction, completion};
 ghost use Rattle.ideal_run.specs.Completed.{told, plainly};
 
 use crate::arrays::array_operated;
@@ -38,14 +39,16 @@ use model::turns::{Exception, Fault, Mark};
 use std::alloc::{AllocError, Global};
 
 fn number_at(site: &Site<'_, '_>, operation: NumberOperation) -> Result<Completion, AllocError>
-    ensures { IfOk result (λ c. told site.now.world site.now.thread c ≡ plainly (completes site.now (number site.now.next operation site.now.frame))) }
+    ensures { IfOk result (λ c. told site.now.world site.now.thread c
+        ≡ plainly (completes site.now (number site.now.next operation site.now.frame))) }
 {
     let moved = number(site.alloc(), site.next(), operation, site.frame())?;
     Ok(site.completes(moved))
 }
 
 fn branched_at(site: &Site<'_, '_>, test: Test, target: u16) -> Result<Completion, AllocError>
-    ensures { IfOk result (λ c. told site.now.world site.now.thread c ≡ plainly (completes site.now (branched site.now.next test target site.now.frame))) }
+    ensures { IfOk result (λ c. told site.now.world site.now.thread c
+        ≡ plainly (completes site.now (branched site.now.next test target site.now.frame))) }
 {
     let moved = branched(site.alloc(), site.next(), test, target, site.frame())?;
     Ok(site.completes(moved))
@@ -165,7 +168,8 @@ fn at_instruction(
     frame: &Frame,
 ) -> Result<Completion, AllocError>
     requires { running (frames_at world.now thread) ≡ Some frame.now }
-    ensures { IfOk result (λ c. told world.now thread c ≡ plainly (at_instruction program.now world.now thread frame.now (instruction_of program.now frame.now))) }
+    ensures { IfOk result (λ c. told world.now thread c
+        ≡ plainly (at_instruction program.now world.now thread frame.now (instruction_of program.now frame.now))) }
 {
     match program.instruction_of(frame) {
         None => Ok(Completion::Faults(Fault::NoInstruction)),

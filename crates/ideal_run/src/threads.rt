@@ -47,7 +47,8 @@ fn thread_added(site: &Site<'_, '_>, birth: u32, thread: Thread) -> Result<Compl
 
 /// What the object's `run()V` has to run begins; that of the machine's own method has ended at once.
 fn begins(site: &Site<'_, '_>, birth: u32, callee: Callee<'_>) -> Result<Completion, AllocError>
-    ensures { IfOk result (λ c. told site.now.world site.now.thread c ≡ begins_on site.now birth (callee_in callee.entry)) }
+    ensures { IfOk result (λ c. told site.now.world site.now.thread c
+        ≡ begins_on site.now birth (callee_in callee.entry)) }
 {
     match callee {
         Callee::NoCode => Ok(Completion::Faults(Fault::NoMethod)),
@@ -66,7 +67,8 @@ fn begins(site: &Site<'_, '_>, birth: u32, callee: Callee<'_>) -> Result<Complet
 /// The object is started: IllegalThreadStateException where it was before, then F8, then F9.
 fn starts(site: &Site<'_, '_>, birth: u32, object: &ObjectView) -> Result<Completion, AllocError>
     requires { object_at site.now.world birth ≡ Some object.now }
-    ensures { IfOk result (λ c. told site.now.world site.now.thread c ≡ plainly (starts site.now birth (Some object.now))) }
+    ensures { IfOk result (λ c. told site.now.world site.now.thread c
+        ≡ plainly (starts site.now birth (Some object.now))) }
 {
     if object.thread.is_some() {
         return Ok(raises(Exception::IllegalThreadState));
@@ -81,7 +83,8 @@ fn starts(site: &Site<'_, '_>, birth: u32, object: &ObjectView) -> Result<Comple
 
 /// `start`: a null, then F6. `AllocError` where memory runs out.
 pub fn started(site: &Site<'_, '_>) -> Result<Completion, AllocError>
-    ensures { IfOk result (λ c. told site.now.world site.now.thread c ≡ plainly (started site.now (ref_on site.now.frame.stack))) }
+    ensures { IfOk result (λ c. told site.now.world site.now.thread c
+        ≡ plainly (started site.now (ref_on site.now.frame.stack))) }
 {
     match ref_on(site.stack()) {
         Err(fault) => Ok(Completion::Faults(fault)),
@@ -108,7 +111,8 @@ fn is_running(site: &Site<'_, '_>, birth: u32) -> bool
 
 /// `join`: a null; the thread waits while the object's thread lives. `AllocError` where memory runs out.
 pub fn joined(site: &Site<'_, '_>) -> Result<Completion, AllocError>
-    ensures { IfOk result (λ c. told site.now.world site.now.thread c ≡ plainly (joined site.now (ref_on site.now.frame.stack))) }
+    ensures { IfOk result (λ c. told site.now.world site.now.thread c
+        ≡ plainly (joined site.now (ref_on site.now.frame.stack))) }
 {
     match ref_on(site.stack()) {
         Err(fault) => Ok(Completion::Faults(fault)),

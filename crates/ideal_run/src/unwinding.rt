@@ -1,11 +1,12 @@
 //! What becomes of a throwable (JVMS 2.10): the innermost frame with a fitting row handles it, frames inside of it are
-//! left, and where no frame handles it the thread ends by its class. A class initializer that handles no throwable fails
-//! (JVMS 5.5).
+//! left, and where no frame handles it the thread ends by its class. A class initializer that handles no throwable
+//! fails (JVMS 5.5).
 ghost use Rattle.std.specs.Prelude.{◌≡◌, IfOk, OnOk, map, reverse, drop, slice_index_or};
 ghost use Rattle.std.specs.List.{find};
 ghost use Rattle.std.specs.Option.{option_copied};
 ghost use Rattle.model.specs.Monitors.{released, released_all};
-ghost use Rattle.model.specs.Unwinding.{takes, fits, handler_in, handler_of, is_error, response_of, way_of, handling, failing, initialised_by, without};
+ghost use Rattle.model.specs.Unwinding.{takes, fits, handler_in, handler_of, is_error, response_of, way_of, handling};
+ghost use Rattle.model.specs.Unwinding.{failing, initialised_by, without};
 ghost use Rattle.model.specs.Frames.{no_frame};
 ghost use Rattle.model.specs.Worlds.{frames_at, with_thread};
 ghost use Rattle.ideal_run.specs.Effected.{is_full};
@@ -66,8 +67,8 @@ fn handler_in(program: &Program<'_>, class: &[u8], pc: u16, code: Option<&Code>)
     }
 }
 
-/// The handler of a frame for a class of throwables. The rows of a frame that waits for an initializer above it, or that
-/// fails, aren't tried.
+/// The handler of a frame for a class of throwables. The rows of a frame that waits for an initializer above it, or
+/// that fails, aren't tried.
 fn handler_of(program: &Program<'_>, class: &[u8], frame: &Frame) -> Option<u16>
     ensures { result ≡ handler_of program.now class.now frame.now frame.now.mark }
 {
@@ -81,7 +82,8 @@ fn handler_of(program: &Program<'_>, class: &[u8], frame: &Frame) -> Option<u16>
 #[derive(Clone, Copy)]
 enum Response {
     Handles(u16),
-    /// an initializer is left by no Error: the next turn of its thread throws an ExceptionInInitializerError in its place
+    /// an initializer is left by no Error: the next turn of its thread throws an ExceptionInInitializerError in its
+    /// place
     Fails,
     Leaves,
 }
@@ -238,7 +240,8 @@ fn leave(
     thread: u8,
     way: Way,
 ) -> Result<(), AllocError>
-    ensures { OnOk result (world.new ≡ without program.now world.old thread (way_in (frames_at world.old thread) way).left) }
+    ensures { OnOk result (world.new ≡ without program.now world.old thread
+        (way_in (frames_at world.old thread) way).left) }
 {
     let left = left_frames(world.frames_at(thread), way);
     let monitors = monitors_of(alloc, left)?;
@@ -315,7 +318,8 @@ fn landed(
     birth: u32,
     class: &[u8],
 ) -> Result<Step, AllocError>
-    ensures { IfOk result (λ step. stepped frames.now step ≡ thread_landed birth class.now (way_in frames.now way).landing) }
+    ensures { IfOk result (λ step. stepped frames.now step
+        ≡ thread_landed birth class.now (way_in frames.now way).landing) }
 {
     match way.landing {
         Landing::Unhandled => Ok(Step::Ends(Some(Name::copy_of(alloc, class)?))),
@@ -355,7 +359,9 @@ pub fn land(
     class: &[u8],
     way: Way,
 ) -> Result<(), AllocError>
-    ensures { OnOk result (world.new ≡ with_thread (without program.now world.old thread (way_in (frames_at world.old thread) way).left) thread (thread_landed birth class.now (way_in (frames_at world.old thread) way).landing)) }
+    ensures { OnOk result (world.new ≡ with_thread
+        (without program.now world.old thread (way_in (frames_at world.old thread) way).left) thread
+        (thread_landed birth class.now (way_in (frames_at world.old thread) way).landing)) }
 {
     let towards = landed(alloc, world.frames_at(thread), way, birth, class)?;
     leave(world, alloc, program, thread, way)?;

@@ -1,4 +1,5 @@
-//! The ideal world (JVMS 2.5, 2.6): what threads, statics, output and objects are on a heap where nothing is ever freed.
+//! The ideal world (JVMS 2.5, 2.6): what threads, statics, output and objects are on a heap where nothing is ever
+//! freed.
 ghost use Rattle.std.specs.Prelude.{◌≡◌, ◌∷◌, [], ◌++◌, IfOk, OnOk, Some, slice_get, slice_set, take};
 ghost use Rattle.std.specs.Option.{option_copied};
 ghost use Rattle.model.specs.Frames.{running, with_running, callers};
@@ -7,8 +8,10 @@ ghost use Rattle.model.specs.Objects.{class_of, class_at, object_at, with_new};
 ghost use Rattle.model.specs.Views.{contents_in};
 ghost use Rattle.model.specs.Table.Fields.{fields_in};
 ghost use Rattle.model.specs.Table.Threads.{with_more};
-ghost use Rattle.model.specs.Words.{slot_at, value_at, word_of, contents_at, with_slot, with_value_at, with_word_in, with_word};
-ghost use Rattle.model.specs.Worlds.{frames_of, frames_at, lives, is_live, next_birth, with_thread, with_fault, with_class_states, with_output, counted};
+ghost use Rattle.model.specs.Words.{slot_at, value_at, word_of, contents_at, with_slot, with_value_at, with_word_in};
+ghost use Rattle.model.specs.Words.{with_word};
+ghost use Rattle.model.specs.Worlds.{frames_of, frames_at, lives, is_live, next_birth, with_thread, with_fault};
+ghost use Rattle.model.specs.Worlds.{with_class_states, with_output, counted};
 ghost use Rattle.ideal_run.specs.Steps.{monitor_in, new_world, stepped, started_on};
 
 use crate::frames::Frame;
@@ -65,8 +68,8 @@ pub enum Step {
     Ends(Option<Name>),
 }
 
-/// Threads, static fields in class and field order, the state of each class in order, what was printed, objects by their
-/// births, the recorded fault with its thread, and how many turns were made. A contract sees the ideal world.
+/// Threads, static fields in class and field order, the state of each class in order, what was printed, objects by
+/// their births, the recorded fault with its thread, and how many turns were made. A contract sees the ideal world.
 #[derive(Drop)]
 pub struct World {
     threads: Vec<Thread>,
@@ -285,7 +288,8 @@ fn step_at(
     place: usize,
     step: Step,
 ) -> Result<(), AllocError>
-    ensures { OnOk result (threads.new ≡ slice_set threads.old place (stepped (frames_of (slice_get threads.old place)) step)) }
+    ensures { OnOk result (threads.new ≡ slice_set threads.old place
+        (stepped (frames_of (slice_get threads.old place)) step)) }
 {
     if place < threads.len() {
         let nobody = Thread {

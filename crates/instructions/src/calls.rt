@@ -1,5 +1,6 @@
 //! Calls of methods (JVMS 6.5): the operands are tested, and go into the locals of a new frame.
-ghost use Rattle.std.specs.Prelude.{◌≡◌, ◌≤◌, ◌<◌, OnErr, IfSome, IsTrue, None, Ok, Some, drop, false, is_some, length, reverse, take, true};
+ghost use Rattle.std.specs.Prelude.{◌≡◌, ◌≤◌, ◌<◌, OnErr, IfSome, IsTrue, None, Ok, Some, drop, false, is_some, length};
+ghost use Rattle.std.specs.Prelude.{reverse, take, true};
 ghost use Rattle.std.specs.Option.{option_copied, option_map_or};
 ghost use Rattle.std.specs.Result.{result_err};
 ghost use Rattle.model.specs.Frames.{has_room_for, running_frame};
@@ -27,8 +28,8 @@ use model::turns::{Exception, Fault};
 use model::values::Kind;
 use monitors::may_enter;
 
-/// A method with code that is called: its place, its limits, how many operands it takes, and the monitor that is entered
-/// with it.
+/// A method with code that is called: its place, its limits, how many operands it takes, and the monitor that is
+/// entered with it.
 #[derive(Clone, Copy)]
 pub(crate) struct Called {
     pub(crate) place: MethodPlace,
@@ -90,7 +91,8 @@ impl Machine {
         requires room { IsTrue (has_room_for self.old.frames called.max_locals called.max_stack) }
         requires object { IfSome called.monitor (λ r. is_some (held self.old.heap r) ≡ true) }
         requires limit { is_full (option_map_or (monitor_held self.old.heap) called.monitor free_monitor) ≡ false }
-        ensures step { Turns program.now self.old self.new (Ok result) (λ w. enters_frame (site_at program.now self.old w next)
+        ensures step { Turns program.now self.old self.new (Ok result)
+            (λ w. enters_frame (site_at program.now self.old w next)
             called.place called.max_locals called.max_stack called.count called.monitor) }
         ensures plain { result ≡ goes_on_plainly }
         ensures keeps { Keeps program.now self.old self.new }
@@ -108,8 +110,8 @@ impl Machine {
         Turned::to(Course::Live)
     }
 
-    /// The call of a method with code: the thread waits where its monitor is another's; StackOverflowError where there is no
-    /// room for its frame, and F10 where the monitor was entered too often.
+    /// The call of a method with code: the thread waits where its monitor is another's; StackOverflowError where there
+    /// is no room for its frame, and F10 where the monitor was entered too often.
     pub(crate) fn enter(
         &mut self,
         program: &Program,
@@ -176,8 +178,8 @@ impl Machine {
         }
     }
 
-    /// invokestatic: a method of the program, by its class's number and its place there. F1 and F3 where its arguments aren't
-    /// on the stack, F9 where there is no method.
+    /// invokestatic: a method of the program, by its class's number and its place there. F1 and F3 where its arguments
+    /// aren't on the stack, F9 where there is no method.
     pub(crate) fn invoke_static(
         &mut self,
         program: &Program,

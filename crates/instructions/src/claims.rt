@@ -1,5 +1,5 @@
-//! Claims of classes (JVMS 5.5): a class and those above it that were never used, and the states and frames with which a
-//! thread claims them.
+//! Claims of classes (JVMS 5.5): a class and those above it that were never used, and the states and frames with which
+//! a thread claims them.
 ghost use Rattle.std.specs.Prelude.{◌≡◌, ◌<◌, ◌≤◌, ◌∷◌, [], ◌++◌, None, length, slice_index_or, true};
 ghost use Rattle.model.specs.declared.turns.ClassState.TheVariants.{Done};
 ghost use Rattle.model.specs.Accepted.Refusals.{refusal_of};
@@ -33,7 +33,8 @@ pub(crate) fn unused_classes(
     class: usize,
 ) -> UnusedClasses
     requires sized { length states.now ≡ length program.now }
-    ensures chain { chain_at program.now states.now class ≡ record { unused = claimed program.now class result.count; above = result.above } }
+    ensures chain { chain_at program.now states.now class
+        ≡ record { unused = claimed program.now class result.count; above = result.above } }
     ensures claimed { AreClaimed program.now class result.count }
     ensures few { result.count ≤ 280 }
 {
@@ -122,8 +123,8 @@ pub(crate) fn has_room_for_claim(
     frames.has_room_for(units as u16, 0)
 }
 
-/// Enters the initializers of so many classes from one upwards. Only the last one runs, and the others wait for those above
-/// theirs.
+/// Enters the initializers of so many classes from one upwards. Only the last one runs, and the others wait for those
+/// above theirs.
 pub(crate) fn enter_initializers(program: &Program, frames: &mut Frames, class: usize, count: usize)
     requires accepted { refusal_of program.now ≡ None }
     requires claimed { AreClaimed program.now class count }

@@ -14,8 +14,8 @@ use model::turns::Fault;
 use values::slots::{Slot, number_in};
 
 impl Machine {
-    /// The value of a slot in place of so many at the top of the stack, which take no less room, and on to the next instruction. What
-    /// it leads to is shaded (CACM 21(11)).
+    /// The value of a slot in place of so many at the top of the stack, which take no less room, and on to the next
+    /// instruction. What it leads to is shaded (CACM 21(11)).
     pub(crate) fn exchange(
         &mut self,
         program: &Program,

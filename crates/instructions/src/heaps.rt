@@ -10,7 +10,9 @@ ghost use Rattle.join.specs.ReadBack.{birth_read};
 ghost use Rattle.instructions.specs.ByNumbers.{AreStored, IsStored};
 ghost use Rattle.instructions.specs.HeapsAgree.{HoldsErrors, own_kind};
 ghost use Rattle.instructions.specs.Threads.{all_shown};
-ghost use Rattle.instructions.specs.Heaps.{all_shaded, collected, created, exception_kind, exception_place, kind_held, memory_error_kind, own_class, opening_heap, reference_taken, shaded, words_held, written};
+ghost use Rattle.instructions.specs.Heaps.{all_shaded, collected, created, exception_kind, exception_place, kind_held};
+ghost use Rattle.instructions.specs.Heaps.{memory_error_kind, own_class, opening_heap, reference_taken, shaded};
+ghost use Rattle.instructions.specs.Heaps.{words_held, written};
 
 mod entering;
 mod filling;
@@ -39,8 +41,8 @@ use std::marker::Model;
 use values::Words;
 use values::slots::Slot;
 
-/// The heap of a running program. A contract sees its shape, the account, the object of each cell, and the number of the
-/// next birth. A reference is the number of a cell and one more. No call but `new` and `reached` takes memory.
+/// The heap of a running program. A contract sees its shape, the account, the object of each cell, and the number of
+/// the next birth. A reference is the number of a cell and one more. No call but `new` and `reached` takes memory.
 #[derive(Drop)]
 pub(crate) struct Heap {
     account: Account,
@@ -56,7 +58,13 @@ impl Model for Heap {
 
     ghost Value = { HeapValue };
 
-    ghost view = { λ a. record { shape = a.cells.shape; account = a.account; objects = a.cells.objects; births = a.births; classes = a.classes } };
+    ghost view = { λ a. record {
+      shape = a.cells.shape;
+      account = a.account;
+      objects = a.cells.objects;
+      births = a.births;
+      classes = a.classes;
+    } };
 
     ghost invariant = { λ a. IsHeap a.cells.shape a.account a.cells.objects a.births a.classes };
 }
@@ -184,9 +192,11 @@ impl Heap {
         }
     }
 
-    /// A cell: how many words it has, and the birth and the colour that it holds, if it holds one. `None` past the last cell.
+    /// A cell: how many words it has, and the birth and the colour that it holds, if it holds one. `None` past the last
+    /// cell.
     pub(crate) fn cell(&self, cell: u32) -> Option<CellView>
-        ensures { result ≡ option_map (cell_view (words_of_cell self.now.shape cell)) (slice_get self.now.account.cells cell) }
+        ensures { result ≡ option_map (cell_view (words_of_cell self.now.shape cell))
+            (slice_get self.now.account.cells cell) }
     {
         if cell as usize >= self.account.cells() {
             return None;
@@ -215,8 +225,8 @@ impl Heap {
         self.births
     }
 
-    /// The collector's turn: one look at one place of the threads' frames, the static fields or the objects, or one cell
-    /// given back or whitened (CACM 21(11)).
+    /// The collector's turn: one look at one place of the threads' frames, the static fields or the objects, or one
+    /// cell given back or whitened (CACM 21(11)).
     pub(crate) fn collect(
         &mut self,
         program: &Program,
@@ -227,7 +237,8 @@ impl Heap {
     )
         requires few { length slots.now < 2 ^ 32 }
         requires running { running < 64 }
-        ensures { self.new ≡ collected program.now (all_shown program.now threads.now running frames.now) slots.now self.old }
+        ensures { self.new ≡ collected program.now
+            (all_shown program.now threads.now running frames.now) slots.now self.old }
     {
         let looked = Looked {
             program,

@@ -11,8 +11,8 @@ pub enum HeldKind {
     OfElements(Name),
 }
 
-/// An object as a cell holds it: its birth, what it is, its fields' or elements' values in order, who owns its monitor and
-/// how often that was entered (JVMS 2.11.10), and the thread that was started on it. References are births.
+/// An object as a cell holds it: its birth, what it is, its fields' or elements' values in order, who owns its monitor
+/// and how often that was entered (JVMS 2.11.10), and the thread that was started on it. References are births.
 #[derive(Drop)]
 pub struct HeldView {
     pub birth: u32,
@@ -29,5 +29,11 @@ impl Model for HeldView {
 
     ghost Value = { Held };
 
-    ghost view = { λ a. record { birth = a.birth; kind = kind_in a.kind; words = a.words.items; monitor = record { owner = a.owner; count = a.entries }; thread = a.thread } };
+    ghost view = { λ a. record {
+      birth = a.birth;
+      kind = kind_in a.kind;
+      words = a.words.items;
+      monitor = record { owner = a.owner; count = a.entries };
+      thread = a.thread;
+    } };
 }

@@ -48,8 +48,8 @@ fn is_others(state: ClassState, thread: u8) -> bool
 }
 
 impl Machine {
-    /// The thread claims so many classes from one upwards: it runs their initializers, the last one first. Where their frames
-    /// don't fit nothing is claimed, and a StackOverflowError is thrown.
+    /// The thread claims so many classes from one upwards: it runs their initializers, the last one first. Where their
+    /// frames don't fit nothing is claimed, and a StackOverflowError is thrown.
     fn claim(
         &mut self,
         program: &Program,
@@ -61,7 +61,8 @@ impl Machine {
         requires claimed { AreClaimed program.now class count }
         requires some { 0 < count }
         requires few { count ≤ 280 }
-        ensures step { Turns program.now self.old self.new result (λ w. claims_so_many (site_at program.now self.old w next) class count) }
+        ensures step { Turns program.now self.old self.new result
+            (λ w. claims_so_many (site_at program.now self.old w next) class count) }
         ensures kept { OnErr result (Stays self.old self.new) }
         ensures keeps { Keeps program.now self.old self.new }
     {
@@ -75,8 +76,8 @@ impl Machine {
         }
     }
 
-    /// So many classes from one upwards can't be used, as the initialisation of the one above failed: a NoClassDefFoundError
-    /// is thrown, and they have failed with it.
+    /// So many classes from one upwards can't be used, as the initialisation of the one above failed: a
+    /// NoClassDefFoundError is thrown, and they have failed with it.
     fn deny(
         &mut self,
         program: &Program,
@@ -85,7 +86,8 @@ impl Machine {
         count: usize,
     ) -> Result<Turned, Fault>
         requires ready { Ready program.now self.old }
-        ensures step { Turns program.now self.old self.new result (λ w. denies_so_many (site_at program.now self.old w next) class count) }
+        ensures step { Turns program.now self.old self.new result
+            (λ w. denies_so_many (site_at program.now self.old w next) class count) }
         ensures kept { OnErr result (Stays self.old self.new) }
         ensures keeps { Keeps program.now self.old self.new }
     {
@@ -98,9 +100,9 @@ impl Machine {
         }
     }
 
-    /// What comes before an operation that uses a class: the class and those above it that were never used are claimed, or
-    /// denied where the class above these failed. `None` where the class may be used, and then nothing changes; nor where
-    /// another thread initialises it, which is waited for.
+    /// What comes before an operation that uses a class: the class and those above it that were never used are claimed,
+    /// or denied where the class above these failed. `None` where the class may be used, and then nothing changes; nor
+    /// where another thread initialises it, which is waited for.
     fn initialise(
         &mut self,
         program: &Program,
@@ -140,8 +142,10 @@ impl Machine {
     ) -> Option<Result<Turned, Fault>>
         requires ready { Ready program.now self.old }
         requires sized { length self.old.states.items ≡ length program.now }
-        ensures step { Initialises program.now self.old self.new step.next (class_used_by program.now step.operation) result }
-        ensures used { result ≡ None → MayUse program.now self.old step.next (class_used_by program.now step.operation) }
+        ensures step { Initialises program.now self.old self.new step.next
+            (class_used_by program.now step.operation) result }
+        ensures used { result ≡ None → MayUse program.now self.old step.next
+            (class_used_by program.now step.operation) }
         ensures same { result ≡ None → self.new ≡ self.old }
         ensures kept { IfSome result (λ r. OnErr r (Stays self.old self.new)) }
         ensures keeps { Keeps program.now self.old self.new }

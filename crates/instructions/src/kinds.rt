@@ -9,7 +9,8 @@ pub enum Kind {
     Array(TypeNumber),
 }
 
-/// Whether a thread runs, or how it ended: by its last return, or by a throwable of this kind. What is no object has none.
+/// Whether a thread runs, or how it ended: by its last return, or by a throwable of this kind. What is no object has
+/// none.
 #[derive(Clone, Copy, PartialEq, Eq)]
 pub enum Course {
     Live,

@@ -45,7 +45,8 @@ impl Machine {
         target: Target,
     ) -> Course
         requires kind { kind_held self.old.heap reference ≡ Some kind }
-        requires way { way_of program.now (kind_name program.now kind) (reverse self.old.frames) ≡ way_as self.old.frames target }
+        requires way { way_of program.now (kind_name program.now kind) (reverse self.old.frames)
+            ≡ way_as self.old.frames target }
         requires within { IsWithin self.old.frames target }
         requires room { is_full_at self.old.frames target ≡ false }
         ensures step { Lands program.now self.old self.new reference result }

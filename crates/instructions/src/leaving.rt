@@ -28,8 +28,8 @@ fn come_into(
 }
 
 impl Machine {
-    /// Leaves the running frame: its monitor is given back, where the thread still owns it, and where it runs an initializer
-    /// the class comes into this state.
+    /// Leaves the running frame: its monitor is given back, where the thread still owns it, and where it runs an
+    /// initializer the class comes into this state.
     pub(crate) fn leave_frame(&mut self, program: &Program, state: ClassState)
         requires { 0 < length self.old.frames }
         ensures left { HasLeft program.now state (running_frame self.old.frames ∷ []) self.old self.new }

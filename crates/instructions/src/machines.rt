@@ -8,8 +8,8 @@ use model::turns::ClassState;
 use std::alloc::{AllocError, Global};
 use values::Words;
 
-/// What a turn of a thread reads and changes: the thread's number and frames, the static fields, the states of the classes,
-/// the heap and the output.
+/// What a turn of a thread reads and changes: the thread's number and frames, the static fields, the states of the
+/// classes, the heap and the output.
 #[derive(Drop)]
 pub(crate) struct Machine {
     pub(crate) thread: u8,
@@ -32,7 +32,8 @@ impl Machine {
     pub(crate) fn collect(&mut self, program: &Program, threads: &Threads)
         requires few { length self.old.slots < 2 ^ 32 }
         requires running { self.old.thread < 64 }
-        ensures heap { self.new.heap ≡ collected program.now (all_shown program.now threads.now self.old.thread self.old.frames) self.old.slots self.old.heap }
+        ensures heap { self.new.heap ≡ collected program.now
+            (all_shown program.now threads.now self.old.thread self.old.frames) self.old.slots self.old.heap }
         ensures thread { self.new.thread ≡ self.old.thread }
         ensures frames { self.new.frames ≡ self.old.frames }
         ensures slots { self.new.slots ≡ self.old.slots }
@@ -50,8 +51,8 @@ impl Machine {
         heap.collect(program, threads, *thread, frames, slots);
     }
 
-    /// Whether a path from the threads' frames, the static fields and the two errors leads to the object in a cell, in which
-    /// there is one. `AllocError` where memory runs out.
+    /// Whether a path from the threads' frames, the static fields and the two errors leads to the object in a cell, in
+    /// which there is one. `AllocError` where memory runs out.
     pub(crate) fn is_reached(
         &self,
         alloc: Global,
@@ -62,7 +63,8 @@ impl Machine {
         requires few { length self.now.slots < 2 ^ 32 }
         requires running { self.now.thread < 64 }
         requires there { is_some (object_if (slice_get self.now.heap.objects cell)) ≡ true }
-        ensures { let w : World = looked_at program.now (all_shown program.now threads.now self.now.thread self.now.frames) self.now.slots self.now.heap in
+        ensures { let w : World = looked_at program.now
+            (all_shown program.now threads.now self.now.thread self.now.frames) self.now.slots self.now.heap in
             IfOk result (λ reached. reached ≡ is_reached w (suc cell)) }
     {
         let marks = self.heap.reached(

@@ -1,4 +1,5 @@
-//! The opening (JVMS 5.2, 5.5): thread 0 stands at the start of main, and claims main's class first where that is unused.
+//! The opening (JVMS 5.2, 5.5): thread 0 stands at the start of main, and claims main's class first where that is
+//! unused.
 ghost use Rattle.std.specs.Prelude.{◌≡◌, [], IfOk, OnOk, None, true};
 ghost use Rattle.model.specs.Accepted.Refusals.{refusal_of};
 ghost use Rattle.model.specs.Initialisation.{claimed_states, opening_frames, opening_states, state_if};

@@ -18,7 +18,8 @@ impl Machine {
         requires ready { Ready program.now self.old }
         requires room { HasRoomFor self.old (line_of decimal_line (long_on (running_frame self.old.frames).stack)) }
         ensures step { Turns program.now self.old self.new result
-            (λ w. prints_on (site_at program.now self.old w next) decimal_line (long_on (running_frame self.old.frames).stack)) }
+            (λ w. prints_on (site_at program.now self.old w next) decimal_line
+            (long_on (running_frame self.old.frames).stack)) }
         ensures kept { OnErr result (Stays self.old self.new) }
         ensures keeps { Keeps program.now self.old self.new }
     {
@@ -37,7 +38,8 @@ impl Machine {
         requires ready { Ready program.now self.old }
         requires room { HasRoomFor self.old (line_of low_byte (int_on (running_frame self.old.frames).stack)) }
         ensures step { Turns program.now self.old self.new result
-            (λ w. prints_on (site_at program.now self.old w next) low_byte (int_on (running_frame self.old.frames).stack)) }
+            (λ w. prints_on (site_at program.now self.old w next) low_byte
+            (int_on (running_frame self.old.frames).stack)) }
         ensures kept { OnErr result (Stays self.old self.new) }
         ensures keeps { Keeps program.now self.old self.new }
     {

@@ -88,8 +88,8 @@ impl Machine {
             || self.awaits_thread(program, courses, thread, frames, step.operation)
     }
 
-    /// Whether a thread with these frames waits: below an initializer, or for another thread, the threads that were started
-    /// being in these courses.
+    /// Whether a thread with these frames waits: below an initializer, or for another thread, the threads that were
+    /// started being in these courses.
     pub(crate) fn waits(
         &self,
         program: &Program,

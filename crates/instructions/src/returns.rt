@@ -81,7 +81,8 @@ pub(crate) fn units_of(value: Value) -> usize
 #[inline(always)]
 pub(crate) fn put_result(frames: &mut Frames, next: u16, value: Value)
     requires some { 0 < length frames.old }
-    requires room { units_taken value + units_of_all (running_frame frames.old).stack ≤ (running_frame frames.old).room }
+    requires room { units_taken value + units_of_all (running_frame frames.old).stack
+        ≤ (running_frame frames.old).room }
     ensures { frames.new ≡ with_running frames.old (replaced next (running_frame frames.old) 0 (value ∷ [])).frame }
 {
     match frames.replace_if_room(next, 0, value) {
@@ -91,8 +92,8 @@ pub(crate) fn put_result(frames: &mut Frames, next: u16, value: Value)
 }
 
 impl Machine {
-    /// The running frame is left, and its caller goes on at a pc with a value on its stack; F2 where it has no room for it, and
-    /// then nothing changes. What the value leads to is shaded (CACM 21(11)).
+    /// The running frame is left, and its caller goes on at a pc with a value on its stack; F2 where it has no room for
+    /// it, and then nothing changes. What the value leads to is shaded (CACM 21(11)).
     fn go_on_with(
         &mut self,
         program: &Program,
@@ -119,8 +120,8 @@ impl Machine {
         Ok(Turned::to(Course::Live))
     }
 
-    /// The running frame is left, and its caller goes on at a pc, with a value on its stack, if there is one; F2 where it has
-    /// no room for it, and then nothing changes.
+    /// The running frame is left, and its caller goes on at a pc, with a value on its stack, if there is one; F2 where
+    /// it has no room for it, and then nothing changes.
     fn go_on(
         &mut self,
         program: &Program,
@@ -131,7 +132,8 @@ impl Machine {
         requires some { 0 < length self.old.frames }
         requires caller { IsCaller self.old.frames caller }
         ensures step { (n : ℕ) → Turns program.now self.old self.new result
-            (λ w. resumes (site_at program.now self.old w n) (past (running_frame (callers self.old.frames)) value next)) }
+            (λ w. resumes (site_at program.now self.old w n)
+            (past (running_frame (callers self.old.frames)) value next)) }
         ensures kept { OnErr result (Stays self.old self.new) }
         ensures same { OnErr result (self.new ≡ self.old) }
         ensures plain { IfOk result (λ turned. turned ≡ goes_on_plainly) }
@@ -147,9 +149,9 @@ impl Machine {
         }
     }
 
-    /// The running frame is left for its caller: what waits below an initializer tries its instruction again, and any other
-    /// caller goes on behind its call. F5 where it stands at none, F2 where it has no room for the value, and then nothing
-    /// changes.
+    /// The running frame is left for its caller: what waits below an initializer tries its instruction again, and any
+    /// other caller goes on behind its call. F5 where it stands at none, F2 where it has no room for the value, and
+    /// then nothing changes.
     fn leave_to(
         &mut self,
         program: &Program,
@@ -158,7 +160,8 @@ impl Machine {
     ) -> Result<Turned, Fault>
         requires some { 0 < length self.old.frames }
         requires caller { IsCaller self.old.frames caller }
-        ensures step { (n : ℕ) → Turns program.now self.old self.new result (λ w. leaves_with (site_at program.now self.old w n) value) }
+        ensures step { (n : ℕ) → Turns program.now self.old self.new result
+            (λ w. leaves_with (site_at program.now self.old w n) value) }
         ensures kept { OnErr result (Stays self.old self.new) }
         ensures same { OnErr result (self.new ≡ self.old) }
         ensures plain { IfOk result (λ turned. turned ≡ goes_on_plainly) }
@@ -178,7 +181,8 @@ impl Machine {
     /// The running frame is left with a result, if there is one. The thread of the outermost frame ends.
     fn leave_with(&mut self, program: &Program, value: Option<Value>) -> Result<Turned, Fault>
         requires { 0 < length self.old.frames }
-        ensures step { (n : ℕ) → Turns program.now self.old self.new result (λ w. leaves_with (site_at program.now self.old w n) value) }
+        ensures step { (n : ℕ) → Turns program.now self.old self.new result
+            (λ w. leaves_with (site_at program.now self.old w n) value) }
         ensures kept { OnErr result (Stays self.old self.new) }
         ensures same { OnErr result (self.new ≡ self.old) }
         ensures plain { 1 < length self.old.frames → IfOk result (λ turned. turned ≡ goes_on_plainly) }
@@ -193,15 +197,17 @@ impl Machine {
         }
     }
 
-    /// return, ireturn, lreturn, areturn: F7 where the method's result isn't of this kind, F1 and F3 where there is no such
-    /// operand, F5 where the caller stands at no instruction, F2 where it has no room for the result, and then nothing changes.
+    /// return, ireturn, lreturn, areturn: F7 where the method's result isn't of this kind, F1 and F3 where there is no
+    /// such operand, F5 where the caller stands at no instruction, F2 where it has no room for the result, and then
+    /// nothing changes.
     pub(crate) fn return_result(
         &mut self,
         program: &Program,
         kind: Option<Kind>,
     ) -> Result<Turned, Fault>
         requires { 0 < length self.old.frames }
-        ensures step { (n : ℕ) → Turns program.now self.old self.new result (λ w. returned (site_at program.now self.old w n) kind) }
+        ensures step { (n : ℕ) → Turns program.now self.old self.new result
+            (λ w. returned (site_at program.now self.old w n) kind) }
         ensures kept { OnErr result (Stays self.old self.new) }
         ensures same { OnErr result (self.new ≡ self.old) }
         ensures plain { 1 < length self.old.frames → IfOk result (λ turned. turned ≡ goes_on_plainly) }

@@ -11,7 +11,8 @@ ghost use Rattle.resolve.specs.Numbers.{all_classes};
 ghost use Rattle.instructions.specs.declared.kinds.Kind.TheVariants.{Instance};
 ghost use Rattle.instructions.specs.Acting.{Begins, CanBegin, Keeps, Ready, Stays, TurnsAmong, site_at};
 ghost use Rattle.instructions.specs.Heaps.{all_shaded, held};
-ghost use Rattle.instructions.specs.OwnCalls.{begins, begun_known, begun_of, begun_writes, is_printing, own_call, run_signature, starts};
+ghost use Rattle.instructions.specs.OwnCalls.{begins, begun_known, begun_of, begun_writes, is_printing, own_call};
+ghost use Rattle.instructions.specs.OwnCalls.{run_signature, starts};
 ghost use Rattle.instructions.specs.CallsByNumbers.{known_at, selected_place};
 ghost use Rattle.instructions.specs.Shown.{object_shown};
 ghost use Rattle.instructions.specs.Starting.{is_own_run, is_run, is_run_row, lives_on};
@@ -171,7 +172,8 @@ impl Machine {
         requires object { is_some (held self.old.heap object) ≡ true }
         requires few { length courses.now < 64 }
         ensures step { TurnsAmong program.now courses.now self.old self.new (Ok result)
-            (λ w. begins (site_at program.now self.old w next) object (object_shown program.now (held self.old.heap object)) (Some begun)) }
+            (λ w. begins (site_at program.now self.old w next) object
+            (object_shown program.now (held self.old.heap object)) (Some begun)) }
         ensures begun { result.begun ≡ Some begun }
         ensures keeps { Keeps program.now self.old self.new }
     {
@@ -184,8 +186,8 @@ impl Machine {
         }
     }
 
-    /// start: F8 where 64 threads were started, F9 where the object has no `run()V` with code; IllegalThreadStateException
-    /// where a thread was started on it.
+    /// start: F8 where 64 threads were started, F9 where the object has no `run()V` with code;
+    /// IllegalThreadStateException where a thread was started on it.
     fn start(
         &mut self,
         program: &Program,
@@ -196,7 +198,8 @@ impl Machine {
         requires ready { Ready program.now self.old }
         requires there { 1 ≤ length (running_frame self.old.frames).stack }
         requires object { is_some (held self.old.heap object) ≡ true }
-        ensures step { TurnsAmong program.now courses.now self.old self.new result (λ w. let s = site_at program.now self.old w next in
+        ensures step { TurnsAmong program.now courses.now self.old self.new result
+            (λ w. let s = site_at program.now self.old w next in
             starts s self.old.heap object (object_at w object)) }
         ensures begins { Begins courses.now result }
         ensures kept { OnErr result (Stays self.old self.new) }

@@ -1,5 +1,5 @@
-//! Throwables: those that the machine makes, those that athrow throws, and what an instruction comes to that doesn't complete
-//! (JVMS 2.6.5, 2.10).
+//! Throwables: those that the machine makes, those that athrow throws, and what an instruction comes to that doesn't
+//! complete (JVMS 2.6.5, 2.10).
 ghost use Rattle.std.specs.Prelude.{◌≡◌, None, Some, OnErr};
 ghost use Rattle.model.specs.declared.journals.Outcome.TheVariants.{NoRoom};
 ghost use Rattle.model.specs.Accepted.Refusals.{refusal_of};
@@ -53,9 +53,8 @@ impl Machine {
         self.throw(program, 1, kind, Outcome::NoRoom)
     }
 
-    /// An exception that the machine makes: a new object where a free cell has room, else
-    /// OutOfMemoryError of birth 1. StackOverflowError is birth 2. F2 where its handler has no room for it, and then nothing
-    /// changes.
+    /// An exception that the machine makes: a new object where a free cell has room, else OutOfMemoryError of birth 1.
+    /// StackOverflowError is birth 2. F2 where its handler has no room for it, and then nothing changes.
     pub(crate) fn raise(&mut self, program: &Program, exception: Exception) -> Result<Turned, Fault>
         requires ready { Ready program.now self.old }
         ensures step { Turns program.now self.old self.new result (λ w. raises exception) }
@@ -89,7 +88,8 @@ impl Machine {
     /// The object of a reference is thrown. F6 where it is no Throwable, and where there is no object.
     fn throw_object(&mut self, program: &Program, reference: u32) -> Result<Turned, Fault>
         requires ready { Ready program.now self.old }
-        ensures step { Turns program.now self.old self.new result (λ w. throws_kind program.now reference (kind_held self.old.heap reference)) }
+        ensures step { Turns program.now self.old self.new result
+            (λ w. throws_kind program.now reference (kind_held self.old.heap reference)) }
         ensures kept { OnErr result (Stays self.old self.new) }
         ensures keeps { Keeps program.now self.old self.new }
     {
@@ -103,8 +103,8 @@ impl Machine {
         }
     }
 
-    /// athrow: the object at the top is thrown. F1 and F3 where there is no reference, F6 where its object is no Throwable;
-    /// NullPointerException where the reference is null.
+    /// athrow: the object at the top is thrown. F1 and F3 where there is no reference, F6 where its object is no
+    /// Throwable; NullPointerException where the reference is null.
     pub(crate) fn throw_operand(&mut self, program: &Program) -> Result<Turned, Fault>
         requires ready { Ready program.now self.old }
         ensures step { Turns program.now self.old self.new result

@@ -3,7 +3,10 @@ ghost use Rattle.std.specs.Prelude.{◌≡◌, ◌<◌};
 ghost use Rattle.model.specs.Table.Arrays.{storage_in};
 ghost use Rattle.loader.specs.Storages.{shown_storage};
 ghost use Rattle.instructions.specs.Heaps.{held};
-ghost use Rattle.instructions.specs.TypeNumbers.{element_default, holds, holds_letter, holds_references, is_array_below, is_array_of_kind, is_element, is_element_below, is_kind_of, is_letter, is_number_letter, is_object_of, letter_type, takes_object};
+ghost use Rattle.instructions.specs.TypeNumbers.{element_default, holds, holds_letter, holds_references};
+ghost use Rattle.instructions.specs.TypeNumbers.{is_array_below, is_array_of_kind, is_element, is_element_below};
+ghost use Rattle.instructions.specs.TypeNumbers.{is_kind_of, is_letter, is_number_letter, is_object_of, letter_type};
+ghost use Rattle.instructions.specs.TypeNumbers.{takes_object};
 ghost use Rattle.instructions.specs.TypesByNumbers.{takes};
 
 use crate::heaps::Heap;

@@ -1,9 +1,11 @@
-//! Where a throwable lands (JVMS 2.10): the innermost frame with a fitting row handles it, and frames inside of it are left.
+//! Where a throwable lands (JVMS 2.10): the innermost frame with a fitting row handles it, and frames inside of it are
+//! left.
 ghost use Rattle.std.specs.Prelude.{◌≡◌, None, reverse};
 ghost use Rattle.model.specs.Accepted.Refusals.{refusal_of};
 ghost use Rattle.model.specs.Unwinding.{way_of};
 ghost use Rattle.instructions.specs.Shown.{kind_name};
-ghost use Rattle.instructions.specs.Throwing.{IsThrown, IsWithin, answer_by, handler_by, handler_in_rows, is_full_at, is_kind_below, is_throwable, row_fits, takes_kind, way_as};
+ghost use Rattle.instructions.specs.Throwing.{IsThrown, IsWithin, answer_by, handler_by, handler_in_rows, is_full_at};
+ghost use Rattle.instructions.specs.Throwing.{is_kind_below, is_throwable, row_fits, takes_kind, way_as};
 
 use crate::kinds::Kind;
 use crate::machines::Machine;
@@ -108,7 +110,8 @@ impl Machine {
     pub(crate) fn target(&self, program: &Program, kind: Kind) -> Target
         requires accepted { refusal_of program.now ≡ None }
         requires thrown { IsThrown program.now kind }
-        ensures way { way_of program.now (kind_name program.now kind) (reverse self.now.frames) ≡ way_as self.now.frames result }
+        ensures way { way_of program.now (kind_name program.now kind) (reverse self.now.frames)
+            ≡ way_as self.now.frames result }
         ensures within { IsWithin self.now.frames result }
     {
         let depth = self.frames.depth();

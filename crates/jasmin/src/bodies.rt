@@ -1,5 +1,6 @@
 //! The statements of a method's body.
-ghost use Rattle.std.specs.Prelude.{◌≡◌, ◌≢◌, ℕ, List, [], ◌∷◌, codes, true, false, None, Some, IfOk, MatchOption, MatchResult};
+ghost use Rattle.std.specs.Prelude.{◌≡◌, ◌≢◌, ℕ, List, [], ◌∷◌, codes, true, false, None, Some, IfOk, MatchOption};
+ghost use Rattle.std.specs.Prelude.{MatchResult};
 ghost use Rattle.std.specs.Option.{option_map, option_and_then};
 ghost use Rattle.model.specs.Texts.Classes.{is_end};
 ghost use Rattle.model.specs.Texts.Instructions.{instruction_of};
@@ -27,7 +28,9 @@ use std::alloc::Global;
 
 /// The next statement, if one is left.
 pub fn next_of<'a>(statements: &mut Statements<'a>) -> Result<Option<Statement<'a>>, Fault>
-    ensures { MatchResult result (λ found. MatchOption found ((statements.old ≡ []) × (statements.new ≡ [])) (λ s. statements.old ≡ Some (s.first.now ∷ s.operands) ∷ statements.new)) (λ _. statements.old ≡ None ∷ statements.new) }
+    ensures { MatchResult result (λ found. MatchOption found ((statements.old ≡ [])
+        × (statements.new ≡ [])) (λ s. statements.old ≡ Some (s.first.now ∷ s.operands) ∷ statements.new))
+        (λ _. statements.old ≡ None ∷ statements.new) }
 {
     match statements.next_statement() {
         Ok(found) => Ok(found),
@@ -63,7 +66,9 @@ pub fn part_of(
     current: Option<OpenSwitch>,
     statement: Statement<'_>,
 ) -> Result<Part, Fault>
-    ensures { MatchResult result (λ part. Says (opened current) (Some (statement.entry.first.now ∷ statement.entry.operands)) part) (λ e. e ≢ Fault.Memory → SaysNothing (opened current) (Some (statement.entry.first.now ∷ statement.entry.operands))) }
+    ensures { MatchResult result (λ part. Says (opened current)
+        (Some (statement.entry.first.now ∷ statement.entry.operands)) part) (λ e. e ≢ Fault.Memory
+        → SaysNothing (opened current) (Some (statement.entry.first.now ∷ statement.entry.operands))) }
 {
     match current {
         None => outside_switch(alloc, class, given, statement),
@@ -79,7 +84,8 @@ fn outside_switch(
     given: Given,
     statement: Statement<'_>,
 ) -> Result<Part, Fault>
-    ensures { MatchResult result (λ part. Says None (Some (statement.entry.first.now ∷ statement.entry.operands)) part) (λ e. e ≢ Fault.Memory → SaysNothing None (Some (statement.entry.first.now ∷ statement.entry.operands))) }
+    ensures { MatchResult result (λ part. Says None (Some (statement.entry.first.now ∷ statement.entry.operands)) part)
+        (λ e. e ≢ Fault.Memory → SaysNothing None (Some (statement.entry.first.now ∷ statement.entry.operands))) }
 {
     if statement.first == b".end".as_slice() {
         return end(statement.operands);
@@ -112,7 +118,9 @@ fn in_switch(
     switch: OpenSwitch,
     statement: Statement<'_>,
 ) -> Result<Part, Fault>
-    ensures { MatchResult result (λ part. Says (Some (switch_of switch)) (Some (statement.entry.first.now ∷ statement.entry.operands)) part) (λ e. e ≢ Fault.Memory → saying_of (Some (switch_of switch)) (Some (statement.entry.first.now ∷ statement.entry.operands)) ≡ None) }
+    ensures { MatchResult result (λ part. Says (Some (switch_of switch))
+        (Some (statement.entry.first.now ∷ statement.entry.operands)) part) (λ e. e ≢ Fault.Memory
+        → saying_of (Some (switch_of switch)) (Some (statement.entry.first.now ∷ statement.entry.operands)) ≡ None) }
 {
     let misplaced = is_misplaced(given, &statement);
     match switch_line(alloc, switch, statement) {
@@ -145,7 +153,8 @@ fn is_misplaced(given: Given, statement: &Statement<'_>) -> bool {
 /// The end of a method without a body, in a class with these flags.
 #[tactic(auto, using(crate::proofs::BodyLemmas::directives))]
 pub fn end_of(class: ClassFlags, statement: Statement<'_>) -> Result<(), Fault>
-    ensures { MatchResult result (λ _. is_end (Some (statement.entry.first.now ∷ statement.entry.operands)) ≡ true) (λ _. is_end (Some (statement.entry.first.now ∷ statement.entry.operands)) ≡ false) }
+    ensures { MatchResult result (λ _. is_end (Some (statement.entry.first.now ∷ statement.entry.operands))
+        ≡ true) (λ _. is_end (Some (statement.entry.first.now ∷ statement.entry.operands)) ≡ false) }
 {
     if statement.first == b".end".as_slice() {
         return ends_method(statement.operands);
@@ -159,7 +168,8 @@ pub fn end_of(class: ClassFlags, statement: Statement<'_>) -> Result<(), Fault>
 /// The words behind `.end`.
 #[tactic(auto, using(crate::proofs::BodyLemmas::directives))]
 fn end(operands: Words<'_>) -> Result<Part, Fault>
-    ensures { MatchResult result (λ part. Says None (Some (codes ".end" ∷ operands.entry)) part) (λ _. SaysNothing None (Some (codes ".end" ∷ operands.entry))) }
+    ensures { MatchResult result (λ part. Says None (Some (codes ".end" ∷ operands.entry)) part)
+        (λ _. SaysNothing None (Some (codes ".end" ∷ operands.entry))) }
 {
     match ends_method(operands) {
         Ok(()) => Ok(Part::End),
@@ -169,7 +179,8 @@ fn end(operands: Words<'_>) -> Result<Part, Fault>
 
 /// That `method` stands behind `.end`, alone.
 fn ends_method(operands: Words<'_>) -> Result<(), Fault>
-    ensures { MatchResult result (λ _. is_end (Some (codes ".end" ∷ operands.entry)) ≡ true) (λ _. is_end (Some (codes ".end" ∷ operands.entry)) ≡ false) }
+    ensures { MatchResult result (λ _. is_end (Some (codes ".end" ∷ operands.entry))
+        ≡ true) (λ _. is_end (Some (codes ".end" ∷ operands.entry)) ≡ false) }
 {
     if only(operands)? == b"method".as_slice() {
         Ok(())
@@ -180,7 +191,8 @@ fn ends_method(operands: Words<'_>) -> Result<(), Fault>
 
 /// The words behind `.limit`. A limit that is given again is told before a fault of its number.
 fn limit(given: Given, mut operands: Words<'_>) -> Result<Part, Fault>
-    ensures { MatchResult result (λ part. Says None (Some (codes ".limit" ∷ operands.entry)) part) (λ _. SaysNothing None (Some (codes ".limit" ∷ operands.entry))) }
+    ensures { MatchResult result (λ part. Says None (Some (codes ".limit" ∷ operands.entry)) part)
+        (λ _. SaysNothing None (Some (codes ".limit" ∷ operands.entry))) }
 {
     let which = operands.next_word().ok_or(Fault::Operand)?;
     if which == b"stack".as_slice() {
@@ -204,14 +216,18 @@ fn limit(given: Given, mut operands: Words<'_>) -> Result<Part, Fault>
 
 /// The one operand, a number of units.
 fn units(operands: Words<'_>) -> Result<u16, Fault>
-    ensures { MatchResult result (λ n. option_and_then (natural_to 65535) (only operands.entry) ≡ Some n) (λ _. option_and_then (natural_to 65535) (only operands.entry) ≡ None) }
+    ensures { MatchResult result (λ n. option_and_then (natural_to 65535) (only operands.entry)
+        ≡ Some n) (λ _. option_and_then (natural_to 65535) (only operands.entry) ≡ None) }
 {
     natural(only(operands)?, 65_535)
 }
 
 /// A label alone, or an instruction, in a class with these flags.
 fn line_of(alloc: Global, class: ClassFlags, statement: Statement<'_>) -> Result<TextLine, Fault>
-    ensures { MatchResult result (λ line. line_of (label_of statement.entry.first.now) statement.entry.first.now statement.entry.operands ≡ Some line) (λ e. e ≢ Fault.Memory → line_of (label_of statement.entry.first.now) statement.entry.first.now statement.entry.operands ≡ None) }
+    ensures { MatchResult result (λ line. line_of
+        (label_of statement.entry.first.now) statement.entry.first.now statement.entry.operands ≡ Some line) (λ e. e
+        ≢ Fault.Memory
+        → line_of (label_of statement.entry.first.now) statement.entry.first.now statement.entry.operands ≡ None) }
 {
     match label_of(statement.first) {
         Some(label) => {
@@ -242,7 +258,9 @@ fn instruction_of(
     class: ClassFlags,
     statement: Statement<'_>,
 ) -> Result<Written, Fault>
-    ensures { MatchResult result (λ i. instruction_of (statement.entry.first.now ∷ statement.entry.operands) ≡ Some i) (λ e. e ≢ Fault.Memory → instruction_of (statement.entry.first.now ∷ statement.entry.operands) ≡ None) }
+    ensures { MatchResult result (λ i. instruction_of (statement.entry.first.now ∷ statement.entry.operands)
+        ≡ Some i) (λ e. e ≢ Fault.Memory → instruction_of (statement.entry.first.now ∷ statement.entry.operands)
+        ≡ None) }
 {
     if statement.first == b"wide".as_slice() {
         return wide_instruction(statement.operands);

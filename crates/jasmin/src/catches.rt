@@ -28,7 +28,8 @@ struct CatchWords<'a> {
 
 /// A row: a class or `all`, and `from`, `to` and `using` with a label each.
 pub fn catch_row(alloc: Global, operands: Words<'_>) -> Result<CatchRow, Fault>
-    ensures { MatchResult result (λ row. catch_of operands.entry ≡ Some row) (λ e. e ≢ Fault.Memory → catch_of operands.entry ≡ None) }
+    ensures { MatchResult result (λ row. catch_of operands.entry ≡ Some row) (λ e. e ≢ Fault.Memory
+        → catch_of operands.entry ≡ None) }
 {
     match catch_words(operands) {
         Some(words) if has_form(words) => row_of(alloc, words),
@@ -38,7 +39,11 @@ pub fn catch_row(alloc: Global, operands: Words<'_>) -> Result<CatchRow, Fault>
 
 /// The row that words of its form spell.
 fn row_of(alloc: Global, words: CatchWords<'_>) -> Result<CatchRow, Fault>
-    ensures { MatchResult result (λ row. option_map (row_with words.entry.start.now words.entry.end.now words.entry.handler.now) (catch_class words.entry.class.now) ≡ Some row) (λ e. e ≢ Fault.Memory → option_map (row_with words.entry.start.now words.entry.end.now words.entry.handler.now) (catch_class words.entry.class.now) ≡ None) }
+    ensures { MatchResult result (λ row. option_map
+        (row_with words.entry.start.now words.entry.end.now words.entry.handler.now)
+        (catch_class words.entry.class.now) ≡ Some row) (λ e. e ≢ Fault.Memory
+        → option_map (row_with words.entry.start.now words.entry.end.now words.entry.handler.now)
+        (catch_class words.entry.class.now) ≡ None) }
 {
     let class = catch_class(alloc, words.class)?;
     Ok(CatchRow {
@@ -51,7 +56,8 @@ fn row_of(alloc: Global, words: CatchWords<'_>) -> Result<CatchRow, Fault>
 
 /// The next two words.
 fn next_two<'a>(operands: &mut Words<'a>) -> Option<(&'a [u8], &'a [u8])>
-    ensures { MatchOption result (length operands.old < 2) (λ words. operands.old ≡ words.0.now ∷ words.1.now ∷ operands.new) }
+    ensures { MatchOption result (length operands.old < 2) (λ words. operands.old
+        ≡ words.0.now ∷ words.1.now ∷ operands.new) }
 {
     let first = operands.next_word()?;
     let second = operands.next_word()?;
@@ -61,7 +67,8 @@ fn next_two<'a>(operands: &mut Words<'a>) -> Option<(&'a [u8], &'a [u8])>
 /// The seven words of a row.
 #[tactic(auto, using(crate::proofs::CatchLemmas::not_seven))]
 fn catch_words<'a>(mut operands: Words<'a>) -> Option<CatchWords<'a>>
-    ensures { MatchOption result (catch_of operands.entry ≡ None) (λ w. operands.entry ≡ w.class.now ∷ w.from.now ∷ w.start.now ∷ w.to.now ∷ w.end.now ∷ w.using.now ∷ w.handler.now ∷ []) }
+    ensures { MatchOption result (catch_of operands.entry ≡ None) (λ w. operands.entry
+        ≡ w.class.now ∷ w.from.now ∷ w.start.now ∷ w.to.now ∷ w.end.now ∷ w.using.now ∷ w.handler.now ∷ []) }
 {
     let class = operands.next_word()?;
     let (from, start) = next_two(&mut operands)?;
@@ -83,7 +90,9 @@ fn catch_words<'a>(mut operands: Words<'a>) -> Option<CatchWords<'a>>
 
 /// Whether `from`, `to` and `using` stand where they should, each before a label.
 fn has_form(words: CatchWords<'_>) -> bool
-    ensures { result ≡ (bytes_eq words.entry.from.now (codes "from") && bytes_eq words.entry.to.now (codes "to") && bytes_eq words.entry.using.now (codes "using") && is_part words.entry.start.now && is_part words.entry.end.now && is_part words.entry.handler.now) }
+    ensures { result ≡ (bytes_eq words.entry.from.now (codes "from") && bytes_eq words.entry.to.now (codes "to")
+        && bytes_eq words.entry.using.now (codes "using") && is_part words.entry.start.now
+        && is_part words.entry.end.now && is_part words.entry.handler.now) }
 {
     words.from == b"from".as_slice()
         && words.to == b"to".as_slice()
@@ -95,7 +104,8 @@ fn has_form(words: CatchWords<'_>) -> bool
 
 /// What a row takes: a class, or anything.
 fn catch_class(alloc: Global, word: &[u8]) -> Result<Option<Name>, Fault>
-    ensures { MatchResult result (λ class. catch_class word.now ≡ Some class) (λ e. e ≢ Fault.Memory → catch_class word.now ≡ None) }
+    ensures { MatchResult result (λ class. catch_class word.now ≡ Some class) (λ e. e ≢ Fault.Memory
+        → catch_class word.now ≡ None) }
 {
     if word == b"all".as_slice() {
         return Ok(None);

@@ -30,7 +30,9 @@ struct FieldWords<'a> {
 
 /// A `.field`, in a class with these flags.
 pub fn field(alloc: Global, class: ClassFlags, statement: Statement<'_>) -> Result<Field, Fault>
-    ensures { MatchResult result (λ field. field_of class (Some (statement.entry.first.now ∷ statement.entry.operands)) ≡ Some field) (λ e. e ≢ Fault.Memory → field_of class (Some (statement.entry.first.now ∷ statement.entry.operands)) ≡ None) }
+    ensures { MatchResult result (λ field. field_of class (Some (statement.entry.first.now ∷ statement.entry.operands))
+        ≡ Some field) (λ e. e ≢ Fault.Memory → field_of class
+        (Some (statement.entry.first.now ∷ statement.entry.operands)) ≡ None) }
 {
     if statement.first != b".field".as_slice() {
         return Err(Fault::Statement);
@@ -55,7 +57,9 @@ pub fn field(alloc: Global, class: ClassFlags, statement: Statement<'_>) -> Resu
 
 /// The words behind `.field`: flags, none of which is given twice, a name and a descriptor, and behind a `=` a value.
 fn field_words<'a>(mut words: Words<'a>) -> Result<FieldWords<'a>, Fault>
-    ensures { MatchResult result (λ f. field_words words.entry ≡ Some (record { flags = f.flags; name = f.name.now; descriptor = f.descriptor.now; value = f.value })) (λ _. field_words words.entry ≡ None) }
+    ensures { MatchResult result (λ f. field_words words.entry
+        ≡ Some (record { flags = f.flags; name = f.name.now; descriptor = f.descriptor.now; value = f.value }))
+        (λ _. field_words words.entry ≡ None) }
 {
     let mut flags = 0;
     let mut name = words.next_word().ok_or(Fault::Operand)?;
@@ -83,7 +87,8 @@ fn field_words<'a>(mut words: Words<'a>) -> Result<FieldWords<'a>, Fault>
 
 /// Whether a class may have a field with these flags, this name and this descriptor.
 fn is_field(class: ClassFlags, flags: u16, name: &[u8], descriptor: &[u8]) -> bool
-    ensures { result ≡ (is_field_name name.now && is_field_descriptor descriptor.now && field_flags_agree class.0 flags) }
+    ensures { result ≡ (is_field_name name.now && is_field_descriptor descriptor.now
+        && field_flags_agree class.0 flags) }
 {
     is_field_name(name) && is_field_descriptor(descriptor) && field_flags_agree(class.bits(), flags)
 }
@@ -94,7 +99,8 @@ fn constant_of(
     descriptor: &[u8],
     value: Option<Words<'_>>,
 ) -> Result<Option<Constant>, Fault>
-    ensures { MatchResult result (λ v. constant_of (has flags 0x0008) descriptor.now value.entry ≡ Some v) (λ _. constant_of (has flags 0x0008) descriptor.now value.entry ≡ None) }
+    ensures { MatchResult result (λ v. constant_of (has flags 0x0008) descriptor.now value.entry
+        ≡ Some v) (λ _. constant_of (has flags 0x0008) descriptor.now value.entry ≡ None) }
 {
     match value {
         None => Ok(None),
@@ -105,7 +111,8 @@ fn constant_of(
 /// The value that a field with these flags and this descriptor begins with: a static one of a type of one letter may
 /// have one.
 fn value_of(flags: u16, descriptor: &[u8], number: Words<'_>) -> Result<Constant, Fault>
-    ensures { MatchResult result (λ v. value_of (has flags 0x0008) descriptor.now number.entry ≡ Some v) (λ _. value_of (has flags 0x0008) descriptor.now number.entry ≡ None) }
+    ensures { MatchResult result (λ v. value_of (has flags 0x0008) descriptor.now number.entry
+        ≡ Some v) (λ _. value_of (has flags 0x0008) descriptor.now number.entry ≡ None) }
 {
     let is_static = flags & STATIC != 0;
     if is_static && is_int_type(descriptor) {

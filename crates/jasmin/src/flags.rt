@@ -1,7 +1,8 @@
 //! Access flags in front of a name.
 ghost use Rattle.std.specs.Prelude.{◌≡◌, ◌==◌, ℕ, List, map, None, Some, MatchResult};
 ghost use Rattle.std.specs.List.{list_all};
-ghost use Rattle.model.specs.Texts.Flags.{with_flag, flags_and_word, class_flags_agree, field_flags_agree, method_flags_agree, has};
+ghost use Rattle.model.specs.Texts.Flags.{with_flag, flags_and_word, class_flags_agree, field_flags_agree};
+ghost use Rattle.model.specs.Texts.Flags.{method_flags_agree, has};
 ghost use Rattle.model.specs.Texts.Tables.{named};
 
 use crate::errors::Fault;
@@ -37,7 +38,9 @@ pub fn flags_and_word<'a>(
     table: &[(&str, u16)],
     mut words: Words<'a>,
 ) -> Result<(u16, &'a [u8]), Fault>
-    ensures { MatchResult result (λ found. flags_and_word (map (λ row. (row.0.now, row.1)) table.now) words.entry ≡ Some (found.0, found.1.now)) (λ _. flags_and_word (map (λ row. (row.0.now, row.1)) table.now) words.entry ≡ None) }
+    ensures { MatchResult result (λ found. flags_and_word (map (λ row. (row.0.now, row.1)) table.now) words.entry
+        ≡ Some (found.0, found.1.now)) (λ _. flags_and_word (map (λ row. (row.0.now, row.1)) table.now) words.entry
+        ≡ None) }
 {
     let mut flags = 0;
     let mut last = words.next_word().ok_or(Fault::Operand)?;
@@ -50,7 +53,8 @@ pub fn flags_and_word<'a>(
 
 /// Flags with one more, which a table has under its word and which is not given twice.
 pub fn with_flag(table: &[(&str, u16)], flags: u16, word: &[u8]) -> Result<u16, Fault>
-    ensures { MatchResult result (λ more. with_flag flags (named (map (λ row. (row.0.now, row.1)) table.now) word.now) ≡ Some more) (λ _. with_flag flags (named (map (λ row. (row.0.now, row.1)) table.now) word.now) ≡ None) }
+    ensures { MatchResult result (λ more. with_flag flags (named (map (λ row. (row.0.now, row.1)) table.now) word.now)
+        ≡ Some more) (λ _. with_flag flags (named (map (λ row. (row.0.now, row.1)) table.now) word.now) ≡ None) }
 {
     let flag = named(table, word).ok_or(Fault::Operand)?;
     if flags & flag != 0 {

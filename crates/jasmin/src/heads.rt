@@ -1,7 +1,8 @@
 //! The heads of a class and of its methods.
 ghost use Rattle.std.specs.Prelude.{◌≡◌, ◌∷◌, not, ◌&&◌, ◌||◌, nat_le, codes, None, Some, MatchResult};
 ghost use Rattle.std.specs.Str.{bytes_eq};
-ghost use Rattle.model.specs.Texts.Heads.{class_of, class_head, interface_head, super_of, interface_of, method_of, method_head, units_with_object};
+ghost use Rattle.model.specs.Texts.Heads.{class_of, class_head, interface_head, super_of, interface_of, method_of};
+ghost use Rattle.model.specs.Texts.Heads.{method_head, units_with_object};
 ghost use Rattle.model.specs.Texts.Flags.{has, method_flags_agree};
 ghost use Rattle.model.specs.Texts.Names.{is_class_name, is_method_name};
 
@@ -25,7 +26,9 @@ pub struct ClassHead<'a> {
 
 /// A `.class` or an `.interface` with its flags and name. INTERFACE and ABSTRACT are among those of an interface.
 pub fn class_head(statement: Statement<'_>) -> Result<ClassHead<'_>, Fault>
-    ensures { MatchResult result (λ head. class_of (Some (statement.entry.first.now ∷ statement.entry.operands)) ≡ Some (record { flags = head.flags; name = head.name.now })) (λ _. class_of (Some (statement.entry.first.now ∷ statement.entry.operands)) ≡ None) }
+    ensures { MatchResult result (λ head. class_of (Some (statement.entry.first.now ∷ statement.entry.operands))
+        ≡ Some (record { flags = head.flags; name = head.name.now }))
+        (λ _. class_of (Some (statement.entry.first.now ∷ statement.entry.operands)) ≡ None) }
 {
     if statement.first == b".class".as_slice() {
         let (flags, name) = flags_and_word(&CLASS_FLAGS, statement.operands)?;
@@ -40,7 +43,9 @@ pub fn class_head(statement: Statement<'_>) -> Result<ClassHead<'_>, Fault>
 
 /// A class with these flags and this name.
 fn class_with(flags: u16, name: &[u8]) -> Result<ClassHead<'_>, Fault>
-    ensures { MatchResult result (λ head. class_head (Some (flags, name.now)) ≡ Some (record { flags = head.flags; name = head.name.now })) (λ _. class_head (Some (flags, name.now)) ≡ None) }
+    ensures { MatchResult result (λ head. class_head (Some (flags, name.now))
+        ≡ Some (record { flags = head.flags; name = head.name.now })) (λ _. class_head (Some (flags, name.now))
+        ≡ None) }
 {
     if is_class_name(name) && class_flags_agree(flags) {
         Ok(ClassHead {
@@ -54,7 +59,9 @@ fn class_with(flags: u16, name: &[u8]) -> Result<ClassHead<'_>, Fault>
 
 /// An interface with these flags besides its own, and this name.
 fn interface_with(flags: u16, name: &[u8]) -> Result<ClassHead<'_>, Fault>
-    ensures { MatchResult result (λ head. interface_head (Some (flags, name.now)) ≡ Some (record { flags = head.flags; name = head.name.now })) (λ _. interface_head (Some (flags, name.now)) ≡ None) }
+    ensures { MatchResult result (λ head. interface_head (Some (flags, name.now))
+        ≡ Some (record { flags = head.flags; name = head.name.now })) (λ _. interface_head (Some (flags, name.now))
+        ≡ None) }
 {
     if is_class_name(name) {
         Ok(ClassHead {
@@ -68,7 +75,8 @@ fn interface_with(flags: u16, name: &[u8]) -> Result<ClassHead<'_>, Fault>
 
 /// A `.super` with its name, in a class with these flags.
 pub fn super_name(class: ClassFlags, statement: Statement<'_>) -> Result<&[u8], Fault>
-    ensures { MatchResult result (λ name. super_of class (Some (statement.entry.first.now ∷ statement.entry.operands)) ≡ Some name.now) (λ _. super_of class (Some (statement.entry.first.now ∷ statement.entry.operands)) ≡ None) }
+    ensures { MatchResult result (λ name. super_of class (Some (statement.entry.first.now ∷ statement.entry.operands))
+        ≡ Some name.now) (λ _. super_of class (Some (statement.entry.first.now ∷ statement.entry.operands)) ≡ None) }
 {
     if statement.first != b".super".as_slice() {
         return Err(Fault::Statement);
@@ -83,14 +91,16 @@ pub fn super_name(class: ClassFlags, statement: Statement<'_>) -> Result<&[u8], 
 
 /// Whether a class with these flags may have a superclass of this name: an interface's is Object.
 fn is_superclass(class: ClassFlags, name: &[u8]) -> bool
-    ensures { result ≡ (is_class_name name.now && (not (has class.0 0x0200) || bytes_eq name.now (codes "java/lang/Object"))) }
+    ensures { result ≡ (is_class_name name.now
+        && (not (has class.0 0x0200) || bytes_eq name.now (codes "java/lang/Object"))) }
 {
     is_class_name(name) && (class.bits() & INTERFACE == 0 || name == b"java/lang/Object".as_slice())
 }
 
 /// The name of an `.implements`.
 pub fn interface_name(statement: Statement<'_>) -> Result<&[u8], Fault>
-    ensures { MatchResult result (λ name. interface_of (Some (statement.entry.first.now ∷ statement.entry.operands)) ≡ Some name.now) (λ _. interface_of (Some (statement.entry.first.now ∷ statement.entry.operands)) ≡ None) }
+    ensures { MatchResult result (λ name. interface_of (Some (statement.entry.first.now ∷ statement.entry.operands))
+        ≡ Some name.now) (λ _. interface_of (Some (statement.entry.first.now ∷ statement.entry.operands)) ≡ None) }
 {
     if statement.first != b".implements".as_slice() {
         return Err(Fault::Statement);
@@ -113,7 +123,9 @@ pub struct MethodHead<'a> {
 
 /// A `.method` with its flags, name and descriptor, in a class with these flags.
 pub fn method_head(class: ClassFlags, statement: Statement<'_>) -> Result<MethodHead<'_>, Fault>
-    ensures { MatchResult result (λ head. method_of class (Some (statement.entry.first.now ∷ statement.entry.operands)) ≡ Some (record { flags = head.flags; name = head.name.now; descriptor = head.descriptor.now })) (λ _. method_of class (Some (statement.entry.first.now ∷ statement.entry.operands)) ≡ None) }
+    ensures { MatchResult result (λ head. method_of class (Some (statement.entry.first.now ∷ statement.entry.operands))
+        ≡ Some (record { flags = head.flags; name = head.name.now; descriptor = head.descriptor.now }))
+        (λ _. method_of class (Some (statement.entry.first.now ∷ statement.entry.operands)) ≡ None) }
 {
     if statement.first != b".method".as_slice() {
         return Err(Fault::Statement);
@@ -125,7 +137,9 @@ pub fn method_head(class: ClassFlags, statement: Statement<'_>) -> Result<Method
 /// A method by its flags and the word of its name and descriptor.
 #[tactic(auto, using(crate::proofs::SignatureLemmas::signatures))]
 fn method_spelled(class: ClassFlags, flags: u16, word: &[u8]) -> Result<MethodHead<'_>, Fault>
-    ensures { MatchResult result (λ head. method_head class.0 (Some (flags, word.now)) ≡ Some (record { flags = head.flags; name = head.name.now; descriptor = head.descriptor.now })) (λ _. method_head class.0 (Some (flags, word.now)) ≡ None) }
+    ensures { MatchResult result (λ head. method_head class.0 (Some (flags, word.now))
+        ≡ Some (record { flags = head.flags; name = head.name.now; descriptor = head.descriptor.now }))
+        (λ _. method_head class.0 (Some (flags, word.now)) ≡ None) }
 {
     let Some(signature) = cut_signature(word) else {
         return Err(Fault::Operand);
@@ -142,7 +156,8 @@ fn method_spelled(class: ClassFlags, flags: u16, word: &[u8]) -> Result<MethodHe
 
 /// Whether a class may have a method with these flags and this signature.
 fn is_method(class: ClassFlags, flags: u16, signature: Signature<'_>) -> bool
-    ensures { result ≡ (is_method_name signature.entry.path.now && nat_le (units_with_object flags signature.entry.units) 255 && method_flags_agree class.0 flags) }
+    ensures { result ≡ (is_method_name signature.entry.path.now
+        && nat_le (units_with_object flags signature.entry.units) 255 && method_flags_agree class.0 flags) }
 {
     is_method_name(signature.path)
         && units_fit(flags, signature.units)

@@ -3,9 +3,11 @@ ghost use Rattle.std.specs.Prelude.{◌≡◌, ◌≢◌, ◌∷◌, pos, None, 
 ghost use Rattle.std.specs.Option.{option_and_then};
 ghost use Rattle.model.specs.declared.mnemonics.Mnemonic.TheVariants as variant;
 ghost use Rattle.jasmin.specs.Locals.{local_instruction};
-ghost use Rattle.model.specs.Texts.Instructions.{instruction_by, wide_by, wide_instruction, operand_of, field_of, interface_call};
+ghost use Rattle.model.specs.Texts.Instructions.{instruction_by, wide_by, wide_instruction, operand_of, field_of};
+ghost use Rattle.model.specs.Texts.Instructions.{interface_call};
 ghost use Rattle.model.specs.Texts.Numbers.{number_in};
-ghost use Rattle.model.specs.Texts.Operands.{only, both, method_named, class_named, type_named, label_named, primitives};
+ghost use Rattle.model.specs.Texts.Operands.{only, both, method_named, class_named, type_named, label_named};
+ghost use Rattle.model.specs.Texts.Operands.{primitives};
 ghost use Rattle.model.specs.Texts.Tables.{named};
 
 use crate::errors::Fault;
@@ -42,7 +44,8 @@ pub fn instruction_by(
     mnemonic: Mnemonic,
     operands: Words<'_>,
 ) -> Result<Written, Fault>
-    ensures { MatchResult result (λ i. instruction_by mnemonic operands.entry ≡ Some i) (λ e. e ≢ Fault.Memory → instruction_by mnemonic operands.entry ≡ None) }
+    ensures { MatchResult result (λ i. instruction_by mnemonic operands.entry ≡ Some i) (λ e. e ≢ Fault.Memory
+        → instruction_by mnemonic operands.entry ≡ None) }
 {
     match mnemonic {
         Mnemonic::Nop => alone(Instruction::Nop, operands),
@@ -81,67 +84,77 @@ pub fn instruction_by(
 
 /// The instruction of `bipush`, by its operands, and so on below.
 fn byte(operands: Words<'_>) -> Result<Written, Fault>
-    ensures { MatchResult result (λ i. instruction_by variant.Byte operands.entry ≡ Some i) (λ _. instruction_by variant.Byte operands.entry ≡ None) }
+    ensures { MatchResult result (λ i. instruction_by variant.Byte operands.entry
+        ≡ Some i) (λ _. instruction_by variant.Byte operands.entry ≡ None) }
 {
     let n = only_number(operands, -0x80, 0x7f)?;
     Ok(Instruction::Constant(Constant::Byte(n as i8)))
 }
 
 fn short(operands: Words<'_>) -> Result<Written, Fault>
-    ensures { MatchResult result (λ i. instruction_by variant.Short operands.entry ≡ Some i) (λ _. instruction_by variant.Short operands.entry ≡ None) }
+    ensures { MatchResult result (λ i. instruction_by variant.Short operands.entry
+        ≡ Some i) (λ _. instruction_by variant.Short operands.entry ≡ None) }
 {
     let n = only_number(operands, -0x8000, 0x7fff)?;
     Ok(Instruction::Constant(Constant::Short(n as i16)))
 }
 
 fn int(width: Width, operands: Words<'_>) -> Result<Written, Fault>
-    ensures { MatchResult result (λ i. instruction_by (variant.Int width) operands.entry ≡ Some i) (λ _. instruction_by (variant.Int width) operands.entry ≡ None) }
+    ensures { MatchResult result (λ i. instruction_by (variant.Int width) operands.entry
+        ≡ Some i) (λ _. instruction_by (variant.Int width) operands.entry ≡ None) }
 {
     let n = only_number(operands, -0x8000_0000, 0x7fff_ffff)?;
     Ok(Instruction::Constant(Constant::Int(width, n as i32)))
 }
 
 fn long(operands: Words<'_>) -> Result<Written, Fault>
-    ensures { MatchResult result (λ i. instruction_by variant.Long operands.entry ≡ Some i) (λ _. instruction_by variant.Long operands.entry ≡ None) }
+    ensures { MatchResult result (λ i. instruction_by variant.Long operands.entry
+        ≡ Some i) (λ _. instruction_by variant.Long operands.entry ≡ None) }
 {
     let n = only_number(operands, i64::MIN, i64::MAX)?;
     Ok(Instruction::Constant(Constant::Long(n)))
 }
 
 fn local(width: Width, mnemonic: LocalMnemonic, operands: Words<'_>) -> Result<Written, Fault>
-    ensures { MatchResult result (λ i. local_instruction width mnemonic operands.entry ≡ Some i) (λ _. local_instruction width mnemonic operands.entry ≡ None) }
+    ensures { MatchResult result (λ i. local_instruction width mnemonic operands.entry
+        ≡ Some i) (λ _. local_instruction width mnemonic operands.entry ≡ None) }
 {
     Ok(Instruction::Local(local_by(width, mnemonic, operands)?))
 }
 
 fn branch(alloc: Global, test: Test, operands: Words<'_>) -> Result<Written, Fault>
-    ensures { MatchResult result (λ i. instruction_by (variant.Branch test) operands.entry ≡ Some i) (λ e. e ≢ Fault.Memory → instruction_by (variant.Branch test) operands.entry ≡ None) }
+    ensures { MatchResult result (λ i. instruction_by (variant.Branch test) operands.entry ≡ Some i) (λ e. e
+        ≢ Fault.Memory → instruction_by (variant.Branch test) operands.entry ≡ None) }
 {
     let label = label_named(alloc, only(operands)?)?;
     Ok(Instruction::Branch(test, label))
 }
 
 fn static_access(alloc: Global, access: Access, operands: Words<'_>) -> Result<Written, Fault>
-    ensures { MatchResult result (λ i. instruction_by (variant.Static access) operands.entry ≡ Some i) (λ e. e ≢ Fault.Memory → instruction_by (variant.Static access) operands.entry ≡ None) }
+    ensures { MatchResult result (λ i. instruction_by (variant.Static access) operands.entry ≡ Some i) (λ e. e
+        ≢ Fault.Memory → instruction_by (variant.Static access) operands.entry ≡ None) }
 {
     Ok(Instruction::Static(access, field_of(alloc, operands)?))
 }
 
 fn field_access(alloc: Global, access: Access, operands: Words<'_>) -> Result<Written, Fault>
-    ensures { MatchResult result (λ i. instruction_by (variant.Field access) operands.entry ≡ Some i) (λ e. e ≢ Fault.Memory → instruction_by (variant.Field access) operands.entry ≡ None) }
+    ensures { MatchResult result (λ i. instruction_by (variant.Field access) operands.entry ≡ Some i) (λ e. e
+        ≢ Fault.Memory → instruction_by (variant.Field access) operands.entry ≡ None) }
 {
     Ok(Instruction::Field(access, field_of(alloc, operands)?))
 }
 
 fn new_array(operands: Words<'_>) -> Result<Written, Fault>
-    ensures { MatchResult result (λ i. instruction_by variant.NewArray operands.entry ≡ Some i) (λ _. instruction_by variant.NewArray operands.entry ≡ None) }
+    ensures { MatchResult result (λ i. instruction_by variant.NewArray operands.entry
+        ≡ Some i) (λ _. instruction_by variant.NewArray operands.entry ≡ None) }
 {
     let primitive = named(&PRIMITIVES, only(operands)?).ok_or(Fault::Operand)?;
     Ok(Instruction::Array(ArrayOperation::New(primitive)))
 }
 
 fn new_array_of(alloc: Global, operands: Words<'_>) -> Result<Written, Fault>
-    ensures { MatchResult result (λ i. instruction_by variant.NewArrayOf operands.entry ≡ Some i) (λ e. e ≢ Fault.Memory → instruction_by variant.NewArrayOf operands.entry ≡ None) }
+    ensures { MatchResult result (λ i. instruction_by variant.NewArrayOf operands.entry ≡ Some i) (λ e. e
+        ≢ Fault.Memory → instruction_by variant.NewArrayOf operands.entry ≡ None) }
 {
     let class = type_named(alloc, only(operands)?)?;
     Ok(Instruction::Array(ArrayOperation::NewOf(class)))
@@ -152,21 +165,24 @@ fn class_operation(
     operation: ClassOperation,
     operands: Words<'_>,
 ) -> Result<Written, Fault>
-    ensures { MatchResult result (λ i. instruction_by (variant.Class operation) operands.entry ≡ Some i) (λ e. e ≢ Fault.Memory → instruction_by (variant.Class operation) operands.entry ≡ None) }
+    ensures { MatchResult result (λ i. instruction_by (variant.Class operation) operands.entry ≡ Some i) (λ e. e
+        ≢ Fault.Memory → instruction_by (variant.Class operation) operands.entry ≡ None) }
 {
     let class = operand_of(alloc, operation, only(operands)?)?;
     Ok(Instruction::Class(operation, class))
 }
 
 fn invoke(alloc: Global, invocation: Invocation, operands: Words<'_>) -> Result<Written, Fault>
-    ensures { MatchResult result (λ i. instruction_by (variant.Invoke invocation) operands.entry ≡ Some i) (λ e. e ≢ Fault.Memory → instruction_by (variant.Invoke invocation) operands.entry ≡ None) }
+    ensures { MatchResult result (λ i. instruction_by (variant.Invoke invocation) operands.entry ≡ Some i) (λ e. e
+        ≢ Fault.Memory → instruction_by (variant.Invoke invocation) operands.entry ≡ None) }
 {
     let method = method_named(alloc, only(operands)?)?;
     Ok(Instruction::Invoke(invocation, method))
 }
 
 fn invoke_interface(alloc: Global, operands: Words<'_>) -> Result<Written, Fault>
-    ensures { MatchResult result (λ i. instruction_by variant.InvokeInterface operands.entry ≡ Some i) (λ e. e ≢ Fault.Memory → instruction_by variant.InvokeInterface operands.entry ≡ None) }
+    ensures { MatchResult result (λ i. instruction_by variant.InvokeInterface operands.entry ≡ Some i) (λ e. e
+        ≢ Fault.Memory → instruction_by variant.InvokeInterface operands.entry ≡ None) }
 {
     let (word, count) = both(operands)?;
     interface_call(alloc, word, count)
@@ -174,7 +190,8 @@ fn invoke_interface(alloc: Global, operands: Words<'_>) -> Result<Written, Fault
 
 /// The instruction behind `wide`, which asks for the wide form of a local.
 pub fn wide_instruction(mut operands: Words<'_>) -> Result<Written, Fault>
-    ensures { MatchResult result (λ i. wide_instruction operands.entry ≡ Some i) (λ _. wide_instruction operands.entry ≡ None) }
+    ensures { MatchResult result (λ i. wide_instruction operands.entry ≡ Some i) (λ _. wide_instruction operands.entry
+        ≡ None) }
 {
     let word = operands.next_word().ok_or(Fault::Operand)?;
     match mnemonic(word) {
@@ -186,7 +203,8 @@ pub fn wide_instruction(mut operands: Words<'_>) -> Result<Written, Fault>
 
 /// The field that two operands name, in names of its own.
 fn field_of(alloc: Global, operands: Words<'_>) -> Result<Member, Fault>
-    ensures { MatchResult result (λ m. field_of operands.entry ≡ Some m) (λ e. e ≢ Fault.Memory → field_of operands.entry ≡ None) }
+    ensures { MatchResult result (λ m. field_of operands.entry ≡ Some m) (λ e. e ≢ Fault.Memory
+        → field_of operands.entry ≡ None) }
 {
     let (path, descriptor) = both(operands)?;
     let Some(named) = signatures::field_named(path, descriptor) else {
@@ -197,7 +215,8 @@ fn field_of(alloc: Global, operands: Words<'_>) -> Result<Member, Fault>
 
 /// The method that a word names, in names of its own.
 fn method_named(alloc: Global, word: &[u8]) -> Result<Member, Fault>
-    ensures { MatchResult result (λ m. method_named word.now ≡ Some m) (λ e. e ≢ Fault.Memory → method_named word.now ≡ None) }
+    ensures { MatchResult result (λ m. method_named word.now ≡ Some m) (λ e. e ≢ Fault.Memory
+        → method_named word.now ≡ None) }
 {
     let Some(named) = signatures::method_named(word) else {
         return Err(Fault::Operand);
@@ -207,7 +226,11 @@ fn method_named(alloc: Global, word: &[u8]) -> Result<Member, Fault>
 
 /// A member in names of its own.
 fn copied(alloc: Global, named: signatures::MemberName<'_>) -> Result<Member, Fault>
-    ensures { MatchResult result (λ m. m ≡ record { class = named.entry.class.now; name = named.entry.name.now; descriptor = named.entry.descriptor.now }) (λ e. e ≡ Fault.Memory) }
+    ensures { MatchResult result (λ m. m ≡ record {
+      class = named.entry.class.now;
+      name = named.entry.name.now;
+      descriptor = named.entry.descriptor.now;
+    }) (λ e. e ≡ Fault.Memory) }
 {
     Ok(Member {
         class: Name::copy_of(alloc, named.class)?,
@@ -218,7 +241,9 @@ fn copied(alloc: Global, named: signatures::MemberName<'_>) -> Result<Member, Fa
 
 /// The call of an interface's method, with a count of 1 to 255.
 fn interface_call(alloc: Global, word: &[u8], count: &[u8]) -> Result<Written, Fault>
-    ensures { MatchResult result (λ i. interface_call (method_named word.now) (number_in (pos 1) (pos 255) count.now) ≡ Some i) (λ e. e ≢ Fault.Memory → interface_call (method_named word.now) (number_in (pos 1) (pos 255) count.now) ≡ None) }
+    ensures { MatchResult result (λ i. interface_call (method_named word.now) (number_in (pos 1) (pos 255) count.now)
+        ≡ Some i) (λ e. e ≢ Fault.Memory → interface_call (method_named word.now)
+        (number_in (pos 1) (pos 255) count.now) ≡ None) }
 {
     let method = method_named(alloc, word)?;
     let count = integer(count, 1, 255)?;
@@ -227,7 +252,8 @@ fn interface_call(alloc: Global, word: &[u8], count: &[u8]) -> Result<Written, F
 
 /// A new object's class, or what is tested against.
 fn operand_of(alloc: Global, operation: ClassOperation, word: &[u8]) -> Result<Name, Fault>
-    ensures { MatchResult result (λ name. operand_of operation word.now ≡ Some name) (λ e. e ≢ Fault.Memory → operand_of operation word.now ≡ None) }
+    ensures { MatchResult result (λ name. operand_of operation word.now ≡ Some name) (λ e. e ≢ Fault.Memory
+        → operand_of operation word.now ≡ None) }
 {
     match operation {
         ClassOperation::New => class_named(alloc, word),
@@ -237,7 +263,8 @@ fn operand_of(alloc: Global, operation: ClassOperation, word: &[u8]) -> Result<N
 
 /// A class, in a name of its own.
 pub fn class_named(alloc: Global, word: &[u8]) -> Result<Name, Fault>
-    ensures { MatchResult result (λ name. class_named word.now ≡ Some name) (λ e. e ≢ Fault.Memory → class_named word.now ≡ None) }
+    ensures { MatchResult result (λ name. class_named word.now ≡ Some name) (λ e. e ≢ Fault.Memory
+        → class_named word.now ≡ None) }
 {
     if !is_class_name(word) {
         return Err(Fault::Operand);
@@ -247,7 +274,8 @@ pub fn class_named(alloc: Global, word: &[u8]) -> Result<Name, Fault>
 
 /// A label, in a name of its own.
 pub fn label_named(alloc: Global, word: &[u8]) -> Result<Name, Fault>
-    ensures { MatchResult result (λ name. label_named word.now ≡ Some name) (λ e. e ≢ Fault.Memory → label_named word.now ≡ None) }
+    ensures { MatchResult result (λ name. label_named word.now ≡ Some name) (λ e. e ≢ Fault.Memory
+        → label_named word.now ≡ None) }
 {
     if !is_part(word) {
         return Err(Fault::Operand);
@@ -257,7 +285,8 @@ pub fn label_named(alloc: Global, word: &[u8]) -> Result<Name, Fault>
 
 /// A class or an array's descriptor, in a name of its own.
 fn type_named(alloc: Global, word: &[u8]) -> Result<Name, Fault>
-    ensures { MatchResult result (λ name. type_named word.now ≡ Some name) (λ e. e ≢ Fault.Memory → type_named word.now ≡ None) }
+    ensures { MatchResult result (λ name. type_named word.now ≡ Some name) (λ e. e ≢ Fault.Memory
+        → type_named word.now ≡ None) }
 {
     if !(is_class_name(word) || is_array_descriptor(word)) {
         return Err(Fault::Operand);

@@ -1,5 +1,5 @@
-//! The lines on which a method gives and uses its labels: that a label is at fault is known only once the method was read,
-//! at lines behind.
+//! The lines on which a method gives and uses its labels: that a label is at fault is known only once the method was
+//! read, at lines behind.
 ghost use Rattle.std.specs.Prelude.{◌≡◌};
 
 use crate::bodies::{Part, label_of};
@@ -96,8 +96,8 @@ impl LabelLines {
         Ok(())
     }
 
-    /// The fault that is told where reading a text ended with this one: that of a label on a line before it in the method
-    /// that was open there, if there is one. Faults of memory stay.
+    /// The fault that is told where reading a text ended with this one: that of a label on a line before it in the
+    /// method that was open there, if there is one. Faults of memory stay.
     pub fn told(&mut self, alloc: Global, text: &[u8], error: TextError) -> TextError
         ensures { error.fault ≡ Fault.Memory → result.fault ≡ Fault.Memory }
     {
@@ -160,8 +160,8 @@ impl LabelLines {
         Ok(())
     }
 
-    /// The labels, each with the number of instructions before the first line that gives it, and the first line before this
-    /// one that gives a label again.
+    /// The labels, each with the number of instructions before the first line that gives it, and the first line before
+    /// this one that gives a label again.
     fn labels_before(
         &self,
         alloc: Global,

@@ -15,7 +15,8 @@ pub fn local_by(
     mnemonic: LocalMnemonic,
     operands: Words<'_>,
 ) -> Result<LocalAccess, Fault>
-    ensures { MatchResult result (λ access. local_by width mnemonic operands.entry ≡ Some access) (λ _. local_by width mnemonic operands.entry ≡ None) }
+    ensures { MatchResult result (λ access. local_by width mnemonic operands.entry
+        ≡ Some access) (λ _. local_by width mnemonic operands.entry ≡ None) }
 {
     match mnemonic {
         LocalMnemonic::Load(kind) => {
@@ -45,7 +46,8 @@ fn local_form(width: Width, index: u16) -> Local
 
 /// A local and what is added to it. Of the faults of both the lower one is told.
 fn increment(width: Width, index: &[u8], by: &[u8]) -> Result<Increment, Fault>
-    ensures { MatchResult result (λ i. increment_of width (index.now, by.now) ≡ Some i) (λ _. increment_of width (index.now, by.now) ≡ None) }
+    ensures { MatchResult result (λ i. increment_of width (index.now, by.now)
+        ≡ Some i) (λ _. increment_of width (index.now, by.now) ≡ None) }
 {
     match (natural(index, 65_535), integer(by, -0x8000, 0x7fff)) {
         (Ok(index), Ok(by)) => Ok(increment_form(width, index, by as i16)),

@@ -2,12 +2,14 @@
 ghost use Rattle.std.specs.Prelude.{◌≡◌, ◌≢◌, [], ◌∷◌, true, codes, None, Some, IfOk, MatchOption, MatchResult};
 ghost use Rattle.std.specs.Option.{option_and_then, option_to_list};
 ghost use Rattle.model.specs.Texts.{tree_of};
-ghost use Rattle.model.specs.Texts.Classes.{class_tree, interfaces_of, fields_of, methods_of, begins_otherwise, behind_led};
+ghost use Rattle.model.specs.Texts.Classes.{class_tree, interfaces_of, fields_of, methods_of, begins_otherwise};
+ghost use Rattle.model.specs.Texts.Classes.{behind_led};
 ghost use Rattle.model.specs.Texts.Flags.{has};
 ghost use Rattle.model.specs.Texts.Heads.{MethodHead as Head};
 ghost use Rattle.model.specs.Texts.Methods.{body_with, method_without};
 ghost use Rattle.jasmin.specs.Statements.{ahead};
-ghost use Rattle.jasmin.specs.Bodies.{Says, SaysNothing, opened, block_of, behind_block, first_parts, first_body, first_method};
+ghost use Rattle.jasmin.specs.Bodies.{Says, SaysNothing, opened, block_of, behind_block, first_parts, first_body};
+ghost use Rattle.jasmin.specs.Bodies.{first_method};
 ghost use Rattle.jasmin.specs.Classes.{class_under};
 
 use crate::bodies::{Given, Part, end_of, next_of, part_of};
@@ -29,7 +31,8 @@ use std::alloc::Global;
 /// Reads a text. It is refused where it spells no tree, with the first fault of the least faulty line, and where memory
 /// runs out (J9).
 pub fn read(alloc: Global, text: &[u8]) -> Result<ClassTree, TextError>
-    ensures { MatchResult result (λ tree. tree_of text.now ≡ Some tree) (λ e. e.fault ≢ Fault.Memory → tree_of text.now ≡ None) }
+    ensures { MatchResult result (λ tree. tree_of text.now ≡ Some tree) (λ e. e.fault ≢ Fault.Memory
+        → tree_of text.now ≡ None) }
 {
     let mut statements = Statements::new(text);
     let mut labels = LabelLines::new(alloc);
@@ -48,7 +51,8 @@ fn class_tree(
     statements: &mut Statements<'_>,
     labels: &mut LabelLines,
 ) -> Result<ClassTree, Fault>
-    ensures { MatchResult result (λ tree. class_tree statements.old ≡ Some tree) (λ e. e ≢ Fault.Memory → class_tree statements.old ≡ None) }
+    ensures { MatchResult result (λ tree. class_tree statements.old ≡ Some tree) (λ e. e ≢ Fault.Memory
+        → class_tree statements.old ≡ None) }
 {
     let first = next_of(statements)?.ok_or(Fault::Statement)?;
     let head = class_head(first)?;
@@ -65,7 +69,9 @@ fn members_behind(
     statements: &mut Statements<'_>,
     labels: &mut LabelLines,
 ) -> Result<ClassTree, Fault>
-    ensures { MatchResult result (λ tree. class_under head.entry.flags head.entry.name.now superclass.now statements.old ≡ Some tree) (λ e. e ≢ Fault.Memory → class_under head.entry.flags head.entry.name.now superclass.now statements.old ≡ None) }
+    ensures { MatchResult result
+        (λ tree. class_under head.entry.flags head.entry.name.now superclass.now statements.old ≡ Some tree) (λ e. e
+        ≢ Fault.Memory → class_under head.entry.flags head.entry.name.now superclass.now statements.old ≡ None) }
 {
     let third = next_of(statements)?;
     let (interfaces, behind) = interfaces_of(alloc, third, statements)?;
@@ -88,7 +94,9 @@ fn interfaces_of<'a>(
     first: Option<Statement<'a>>,
     statements: &mut Statements<'a>,
 ) -> Result<(Vec<Name>, Option<Statement<'a>>), Fault>
-    ensures { MatchResult result (λ found. (interfaces_of (ahead first.entry statements.old) ≡ Some found.0.items) × (behind_led (codes ".implements") (ahead first.entry statements.old) ≡ ahead found.1 statements.new)) (λ e. e ≢ Fault.Memory → interfaces_of (ahead first.entry statements.old) ≡ None) }
+    ensures { MatchResult result (λ found. (interfaces_of (ahead first.entry statements.old) ≡ Some found.0.items)
+        × (behind_led (codes ".implements") (ahead first.entry statements.old) ≡ ahead found.1 statements.new)) (λ e. e
+        ≢ Fault.Memory → interfaces_of (ahead first.entry statements.old) ≡ None) }
 {
     let mut interfaces = Vec::new(alloc);
     let mut next = first;
@@ -112,7 +120,9 @@ fn fields_of<'a>(
     first: Option<Statement<'a>>,
     statements: &mut Statements<'a>,
 ) -> Result<(Vec<Field>, Option<Statement<'a>>), Fault>
-    ensures { MatchResult result (λ found. (fields_of class (ahead first.entry statements.old) ≡ Some found.0.items) × (behind_led (codes ".field") (ahead first.entry statements.old) ≡ ahead found.1 statements.new)) (λ e. e ≢ Fault.Memory → fields_of class (ahead first.entry statements.old) ≡ None) }
+    ensures { MatchResult result (λ found. (fields_of class (ahead first.entry statements.old) ≡ Some found.0.items)
+        × (behind_led (codes ".field") (ahead first.entry statements.old) ≡ ahead found.1 statements.new)) (λ e. e
+        ≢ Fault.Memory → fields_of class (ahead first.entry statements.old) ≡ None) }
 {
     let mut fields = Vec::new(alloc);
     let mut next = first;
@@ -143,7 +153,8 @@ fn methods_of<'a>(
     statements: &mut Statements<'a>,
     labels: &mut LabelLines,
 ) -> Result<Vec<MethodTree>, Fault>
-    ensures { MatchResult result (λ methods. methods_of class (ahead first.entry statements.old) ≡ Some methods.items) (λ e. e ≢ Fault.Memory → methods_of class (ahead first.entry statements.old) ≡ None) }
+    ensures { MatchResult result (λ methods. methods_of class (ahead first.entry statements.old)
+        ≡ Some methods.items) (λ e. e ≢ Fault.Memory → methods_of class (ahead first.entry statements.old) ≡ None) }
 {
     let mut methods = Vec::new(alloc);
     let mut next = first;
@@ -165,7 +176,18 @@ fn method_under(
     statements: &mut Statements<'_>,
     labels: &mut LabelLines,
 ) -> Result<MethodTree, Fault>
-    ensures { MatchResult result (λ method. (first_method (record { flags = head.entry.flags; name = head.entry.name.now; descriptor = head.entry.descriptor.now }) statements.old ≡ Some method) × (statements.new ≡ behind_block statements.old)) (λ e. e ≢ Fault.Memory → first_method (record { flags = head.entry.flags; name = head.entry.name.now; descriptor = head.entry.descriptor.now }) statements.old ≡ None) }
+    ensures { MatchResult result (λ method.
+        (first_method (record {
+          flags = head.entry.flags;
+          name = head.entry.name.now;
+          descriptor = head.entry.descriptor.now;
+        }) statements.old ≡ Some method)
+        × (statements.new ≡ behind_block statements.old)) (λ e. e ≢ Fault.Memory
+        → first_method (record {
+          flags = head.entry.flags;
+          name = head.entry.name.now;
+          descriptor = head.entry.descriptor.now;
+        }) statements.old ≡ None) }
 {
     let name = Name::copy_of(alloc, head.name)?;
     let descriptor = Name::copy_of(alloc, head.descriptor)?;
@@ -191,7 +213,9 @@ fn method_under(
 /// The end of a method that has no body.
 #[tactic(auto, using(crate::proofs::MethodLemmas::ends))]
 fn no_body(class: ClassFlags, statements: &mut Statements<'_>) -> Result<(), Fault>
-    ensures { MatchResult result (λ _. (block_of statements.old ≡ Some []) × (statements.new ≡ behind_block statements.old)) (λ _. (head : Head) → option_and_then (method_without head) (block_of statements.old) ≡ None) }
+    ensures { MatchResult result (λ _. (block_of statements.old ≡ Some [])
+        × (statements.new ≡ behind_block statements.old)) (λ _. (head : Head)
+        → option_and_then (method_without head) (block_of statements.old) ≡ None) }
 {
     let statement = next_of(statements)?.ok_or(Fault::End)?;
     end_of(class, statement)
@@ -205,7 +229,8 @@ fn body(
     statements: &mut Statements<'_>,
     labels: &mut LabelLines,
 ) -> Result<BodyTree, Fault>
-    ensures { MatchResult result (λ body. (first_body statements.old ≡ Some body) × (statements.new ≡ behind_block statements.old)) (λ e. e ≢ Fault.Memory → first_body statements.old ≡ None) }
+    ensures { MatchResult result (λ body. (first_body statements.old ≡ Some body)
+        × (statements.new ≡ behind_block statements.old)) (λ e. e ≢ Fault.Memory → first_body statements.old ≡ None) }
 {
     let body = body_parts(alloc, class, statements, labels)?;
     labels_agree(alloc, body.rows.as_slice(), body.lines.as_slice())?;
@@ -221,7 +246,8 @@ fn body_parts(
     statements: &mut Statements<'_>,
     labels: &mut LabelLines,
 ) -> Result<BodyTree, Fault>
-    ensures { MatchResult result (λ body. (first_parts statements.old ≡ Some body) × (statements.new ≡ behind_block statements.old)) (λ e. e ≢ Fault.Memory → first_parts statements.old ≡ None) }
+    ensures { MatchResult result (λ body. (first_parts statements.old ≡ Some body)
+        × (statements.new ≡ behind_block statements.old)) (λ e. e ≢ Fault.Memory → first_parts statements.old ≡ None) }
 {
     let mut stack: Option<u16> = None;
     let mut locals: Option<u16> = None;
@@ -270,7 +296,9 @@ fn noted_part(
     labels: &mut LabelLines,
     line: usize,
 ) -> Result<Part, Fault>
-    ensures { MatchResult result (λ part. Says (opened current) (Some (statement.entry.first.now ∷ statement.entry.operands)) part) (λ e. e ≢ Fault.Memory → SaysNothing (opened current) (Some (statement.entry.first.now ∷ statement.entry.operands))) }
+    ensures { MatchResult result (λ part. Says (opened current)
+        (Some (statement.entry.first.now ∷ statement.entry.operands)) part) (λ e. e ≢ Fault.Memory
+        → SaysNothing (opened current) (Some (statement.entry.first.now ∷ statement.entry.operands))) }
 {
     let part = part_of(alloc, class, given, current, statement)?;
     labels.note(&part, line)?;
@@ -291,7 +319,9 @@ fn whole_body(
     rows: Vec<CatchRow>,
     lines: Vec<TextLine>,
 ) -> Result<BodyTree, Fault>
-    ensures { MatchResult result (λ body. body_with (option_to_list stack) (option_to_list locals) rows.items lines.items ≡ Some body) (λ _. body_with (option_to_list stack) (option_to_list locals) rows.items lines.items ≡ None) }
+    ensures { MatchResult result (λ body. body_with (option_to_list stack)
+        (option_to_list locals) rows.items lines.items
+        ≡ Some body) (λ _. body_with (option_to_list stack) (option_to_list locals) rows.items lines.items ≡ None) }
 {
     match (stack, locals) {
         (Some(max_stack), Some(max_locals)) => Ok(BodyTree {

@@ -1,9 +1,11 @@
 //! Words that name a member with its class and its descriptor.
-ghost use Rattle.std.specs.Prelude.{◌≡◌, ◌+◌, ◌==◌, ◌&&◌, nat_le, not, [], length, None, Some, IfNone, IfSome, MatchOption};
+ghost use Rattle.std.specs.Prelude.{◌≡◌, ◌+◌, ◌==◌, ◌&&◌, nat_le, not, [], length, None, Some, IfNone, IfSome};
+ghost use Rattle.std.specs.Prelude.{MatchOption};
 ghost use Rattle.std.specs.List.{position, suffix_len};
 ghost use Rattle.model.specs.Texts.Descriptors.{arguments_of, is_field_descriptor};
 ghost use Rattle.model.specs.Texts.Names.{is_class_name, is_field_name, is_method_name};
-ghost use Rattle.model.specs.Texts.Operands.{before_parenthesis, from_parenthesis, class_in, name_in, method_named, field_named};
+ghost use Rattle.model.specs.Texts.Operands.{before_parenthesis, from_parenthesis, class_in, name_in, method_named};
+ghost use Rattle.model.specs.Texts.Operands.{field_named};
 
 use model::descriptors::{arguments_of, is_field_descriptor};
 use model::good_names::{is_class_name, is_field_name, is_method_name};
@@ -19,7 +21,8 @@ pub struct Signature<'a> {
 /// Cuts a word at its first parenthesis, from where on a method's descriptor stands. `None` where it stands there not.
 pub fn cut_signature(word: &[u8]) -> Option<Signature<'_>>
     ensures none { IfNone result (arguments_of (from_parenthesis word.now) ≡ None) }
-    ensures some { IfSome result (λ s. (s.path.now ≡ before_parenthesis word.now) × (s.descriptor.now ≡ from_parenthesis word.now) × (arguments_of (from_parenthesis word.now) ≡ Some s.units)) }
+    ensures some { IfSome result (λ s. (s.path.now ≡ before_parenthesis word.now)
+        × (s.descriptor.now ≡ from_parenthesis word.now) × (arguments_of (from_parenthesis word.now) ≡ Some s.units)) }
 {
     let place = opening_in(word)?;
     let (path, descriptor) = (&word[..place], &word[place..]);
@@ -49,7 +52,8 @@ pub struct MemberName<'a> {
 /// A word of the form class/name(ARGS)RESULT, with 255 units of arguments at most.
 #[tactic(auto, using(crate::proofs::SignatureLemmas::signatures))]
 pub fn method_named(word: &[u8]) -> Option<MemberName<'_>>
-    ensures { MatchOption result (method_named word.now ≡ None) (λ m. method_named word.now ≡ Some (record { class = m.class.now; name = m.name.now; descriptor = m.descriptor.now })) }
+    ensures { MatchOption result (method_named word.now ≡ None) (λ m. method_named word.now
+        ≡ Some (record { class = m.class.now; name = m.name.now; descriptor = m.descriptor.now })) }
 {
     let Some(signature) = cut_signature(word) else {
         return None;
@@ -70,7 +74,8 @@ pub fn method_named(word: &[u8]) -> Option<MemberName<'_>>
 /// A field by its class and name, in a word of the form class/name, and its descriptor.
 #[tactic(auto, using(crate::proofs::SignatureLemmas::signatures))]
 pub fn field_named<'a>(path: &'a [u8], descriptor: &'a [u8]) -> Option<MemberName<'a>>
-    ensures { MatchOption result (field_named path.now descriptor.now ≡ None) (λ m. field_named path.now descriptor.now ≡ Some (record { class = m.class.now; name = m.name.now; descriptor = m.descriptor.now })) }
+    ensures { MatchOption result (field_named path.now descriptor.now ≡ None) (λ m. field_named path.now descriptor.now
+        ≡ Some (record { class = m.class.now; name = m.name.now; descriptor = m.descriptor.now })) }
 {
     let Some((class, name)) = class_and_name(path) else {
         return None;

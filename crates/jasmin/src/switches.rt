@@ -2,7 +2,8 @@
 ghost use Rattle.std.specs.Prelude.{◌≡◌, ◌≢◌, ◌∷◌, None, Some, MatchResult, IfOk};
 ghost use Rattle.std.specs.Option.{option_map, option_and_then};
 ghost use Rattle.model.specs.Texts.Operands.{label_named};
-ghost use Rattle.model.specs.Texts.Switches.{table_begins, lookup_begins, with_default, with_target, with_pair, line_before, switch_line, is_int, goes_on};
+ghost use Rattle.model.specs.Texts.Switches.{table_begins, lookup_begins, with_default, with_target, with_pair};
+ghost use Rattle.model.specs.Texts.Switches.{line_before, switch_line, is_int, goes_on};
 ghost use Rattle.jasmin.specs.Switches.{switch_of, line_said};
 
 use crate::errors::Fault;
@@ -75,7 +76,8 @@ pub enum SwitchLine {
 
 /// A `tableswitch` with its least key.
 pub fn table_begins(alloc: Global, operands: Words<'_>) -> Result<OpenSwitch, Fault>
-    ensures { MatchResult result (λ switch. table_begins operands.entry ≡ Some (switch_of switch)) (λ _. table_begins operands.entry ≡ None) }
+    ensures { MatchResult result (λ switch. table_begins operands.entry
+        ≡ Some (switch_of switch)) (λ _. table_begins operands.entry ≡ None) }
 {
     let low = only_number(operands, -0x8000_0000, 0x7fff_ffff)?;
     Ok(OpenSwitch::Table(OpenTable {
@@ -86,7 +88,8 @@ pub fn table_begins(alloc: Global, operands: Words<'_>) -> Result<OpenSwitch, Fa
 
 /// A `lookupswitch`, which has nothing behind it.
 pub fn lookup_begins(alloc: Global, mut operands: Words<'_>) -> Result<OpenSwitch, Fault>
-    ensures { MatchResult result (λ switch. lookup_begins operands.entry ≡ Some (switch_of switch)) (λ _. lookup_begins operands.entry ≡ None) }
+    ensures { MatchResult result (λ switch. lookup_begins operands.entry
+        ≡ Some (switch_of switch)) (λ _. lookup_begins operands.entry ≡ None) }
 {
     match operands.next_word() {
         None => Ok(OpenSwitch::Lookup(OpenLookup {
@@ -102,7 +105,9 @@ pub fn switch_line(
     switch: OpenSwitch,
     statement: Statement<'_>,
 ) -> Result<SwitchLine, Fault>
-    ensures { MatchResult result (λ line. switch_line (switch_of switch) (statement.entry.first.now ∷ statement.entry.operands) ≡ Some (line_said line)) (λ e. e ≢ Fault.Memory → switch_line (switch_of switch) (statement.entry.first.now ∷ statement.entry.operands) ≡ None) }
+    ensures { MatchResult result (λ line. switch_line (switch_of switch)
+        (statement.entry.first.now ∷ statement.entry.operands) ≡ Some (line_said line)) (λ e. e ≢ Fault.Memory
+        → switch_line (switch_of switch) (statement.entry.first.now ∷ statement.entry.operands) ≡ None) }
 {
     let mut operands = statement.operands;
     let Some(colon) = operands.next_word() else {
@@ -121,7 +126,9 @@ pub fn switch_line(
 
 /// A table with one more label.
 fn with_target(alloc: Global, switch: OpenSwitch, word: &[u8]) -> Result<OpenSwitch, Fault>
-    ensures { MatchResult result (λ next. option_and_then (with_target (switch_of switch)) (label_named word.now) ≡ Some (switch_of next)) (λ e. e ≢ Fault.Memory → option_and_then (with_target (switch_of switch)) (label_named word.now) ≡ None) }
+    ensures { MatchResult result (λ next. option_and_then (with_target (switch_of switch)) (label_named word.now)
+        ≡ Some (switch_of next)) (λ e. e ≢ Fault.Memory
+        → option_and_then (with_target (switch_of switch)) (label_named word.now) ≡ None) }
 {
     let label = label_named(alloc, word)?;
     match switch {
@@ -141,7 +148,9 @@ fn line_before(
     word: &[u8],
     label: &[u8],
 ) -> Result<SwitchLine, Fault>
-    ensures { MatchResult result (λ line. option_and_then (line_before (switch_of switch) word.now) (label_named label.now) ≡ Some (line_said line)) (λ e. e ≢ Fault.Memory → option_and_then (line_before (switch_of switch) word.now) (label_named label.now) ≡ None) }
+    ensures { MatchResult result (λ line. option_and_then (line_before (switch_of switch) word.now)
+        (label_named label.now) ≡ Some (line_said line)) (λ e. e ≢ Fault.Memory
+        → option_and_then (line_before (switch_of switch) word.now) (label_named label.now) ≡ None) }
 {
     let label = label_named(alloc, label)?;
     if word == b"default".as_slice() {
@@ -154,7 +163,8 @@ fn line_before(
 
 /// A switch with its default. A table has a label at least.
 fn with_default(switch: OpenSwitch, default: Name) -> Result<Written, Fault>
-    ensures { MatchResult result (λ i. with_default (switch_of switch) default ≡ Some i) (λ _. with_default (switch_of switch) default ≡ None) }
+    ensures { MatchResult result (λ i. with_default (switch_of switch) default
+        ≡ Some i) (λ _. with_default (switch_of switch) default ≡ None) }
 {
     match switch {
         OpenSwitch::Table(table) => {
@@ -177,7 +187,8 @@ fn with_default(switch: OpenSwitch, default: Name) -> Result<Written, Fault>
 
 /// A lookup with one more key and its label.
 fn with_pair(switch: OpenSwitch, word: &[u8], label: Name) -> Result<OpenSwitch, Fault>
-    ensures { MatchResult result (λ next. with_pair (switch_of switch) (is_int word.now) label ≡ Some (switch_of next)) (λ e. e ≢ Fault.Memory → with_pair (switch_of switch) (is_int word.now) label ≡ None) }
+    ensures { MatchResult result (λ next. with_pair (switch_of switch) (is_int word.now) label
+        ≡ Some (switch_of next)) (λ e. e ≢ Fault.Memory → with_pair (switch_of switch) (is_int word.now) label ≡ None) }
 {
     match switch {
         OpenSwitch::Table(_) => Err(Fault::Operand),

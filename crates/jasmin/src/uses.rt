@@ -1,7 +1,8 @@
 //! Whether the labels of a body are used as they are given.
 ghost use Rattle.std.specs.Prelude.{◌≡◌, ◌≢◌, true, false, map, MatchResult};
 ghost use Rattle.std.specs.List.{list_all};
-ghost use Rattle.model.specs.Texts.Uses.{labels_in, count_in, are_different, is_given, leads_on, targets_of, line_agrees, row_agrees, labels_agree};
+ghost use Rattle.model.specs.Texts.Uses.{labels_in, count_in, are_different, is_given, leads_on, targets_of};
+ghost use Rattle.model.specs.Texts.Uses.{line_agrees, row_agrees, labels_agree};
 
 use crate::errors::Fault;
 use crate::labels::Labels;
@@ -14,7 +15,8 @@ use std::alloc::Global;
 /// bounds a row.
 #[tactic(auto, unfolding(model::specs::Texts::Uses::labels_agree))]
 pub fn labels_agree(alloc: Global, rows: &[CatchRow], lines: &[TextLine]) -> Result<(), Fault>
-    ensures { MatchResult result (λ _. labels_agree rows.now lines.now ≡ true) (λ e. e ≢ Fault.Memory → labels_agree rows.now lines.now ≡ false) }
+    ensures { MatchResult result (λ _. labels_agree rows.now lines.now ≡ true) (λ e. e ≢ Fault.Memory
+        → labels_agree rows.now lines.now ≡ false) }
 {
     let (labels, count) = labels_in(alloc, lines)?;
     if !lines_agree(&labels, count, lines) {
@@ -29,7 +31,9 @@ pub fn labels_agree(alloc: Global, rows: &[CatchRow], lines: &[TextLine]) -> Res
 /// The labels of lines, each with the number of instructions before it, and the number of instructions. A label that is
 /// given twice is refused.
 fn labels_in<'a>(alloc: Global, lines: &'a [TextLine]) -> Result<(Labels<'a, usize>, usize), Fault>
-    ensures { MatchResult result (λ found. (found.0 ≡ labels_in lines.now) × (found.1 ≡ count_in lines.now) × (are_different (labels_in lines.now) ≡ true)) (λ e. e ≢ Fault.Memory → are_different (labels_in lines.now) ≡ false) }
+    ensures { MatchResult result (λ found. (found.0 ≡ labels_in lines.now) × (found.1 ≡ count_in lines.now)
+        × (are_different (labels_in lines.now) ≡ true)) (λ e. e ≢ Fault.Memory
+        → are_different (labels_in lines.now) ≡ false) }
 {
     let mut labels = Labels::new(alloc);
     let mut count = 0usize;

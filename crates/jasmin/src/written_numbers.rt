@@ -28,7 +28,8 @@ fn fault_of(word: &[u8]) -> Fault {
 
 /// A number from `low` to `high`: a minus sign may stand before a number without a sign that isn't 0.
 pub fn integer(word: &[u8], low: i64, high: i64) -> Result<i64, Fault>
-    ensures number { MatchResult result (λ z. number_in low high word.now ≡ Some z) (λ _. number_in low high word.now ≡ None) }
+    ensures number { MatchResult result (λ z. number_in low high word.now ≡ Some z) (λ _. number_in low high word.now
+        ≡ None) }
     ensures bounds { IfOk result (λ z. (low ≤ℤ z) × (z ≤ℤ high)) }
 {
     let value = match word {

@@ -56,7 +56,9 @@ impl<'a> Statements<'a> {
 
     /// The next statement, if one is left. `NotText` where its line is no text; that line is then behind.
     pub fn next_statement(&mut self) -> Result<Option<Statement<'a>>, NotText>
-        ensures read { MatchResult result (λ found. MatchOption found ((self.old ≡ []) × (self.new ≡ [])) (λ s. self.old ≡ Some (s.first.now ∷ s.operands) ∷ self.new)) (λ _. self.old ≡ None ∷ self.new) }
+        ensures read { MatchResult result (λ found. MatchOption found ((self.old ≡ [])
+            × (self.new ≡ [])) (λ s. self.old ≡ Some (s.first.now ∷ s.operands) ∷ self.new)) (λ _. self.old
+            ≡ None ∷ self.new) }
     {
         while let Some(line) = self.lines.next_line() {
             self.line = self.line.saturating_add(1);

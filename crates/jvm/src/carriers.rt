@@ -23,8 +23,8 @@ const EXTRA: u32 = 255;
 /// How many rounds it makes at most each time it has the lock, and how many turns the collector.
 const ROUNDS: u32 = 16_384;
 
-/// How many rounds a worker makes behind its first one on a heap of this shape: on a small one a carrier looks sooner whether a
-/// collection is due, so that it isn't full of garbage before.
+/// How many rounds a worker makes behind its first one on a heap of this shape: on a small one a carrier looks sooner
+/// whether a collection is due, so that it isn't full of garbage before.
 fn burst_of(shape: HeapShape) -> Burst {
     let cells = shape
         .small
@@ -122,10 +122,11 @@ fn carried_alone(mut world: World, gc: u32) -> World
     world
 }
 
-/// Makes the turns of a world that has made none, until it runs no more or its steps or its output are at their limit. One
-/// carrier makes rounds of the thread that is picked and so many turns of the collector; several share the turns of the threads,
-/// and one worker more makes the collector's, each in a thread of the system. The journal tells the worker of each turn: the
-/// carriers by number from 0, the collector behind them. H2 where memory runs out, H3 where a thread couldn't be started.
+/// Makes the turns of a world that has made none, until it runs no more or its steps or its output are at their limit.
+/// One carrier makes rounds of the thread that is picked and so many turns of the collector; several share the turns of
+/// the threads, and one worker more makes the collector's, each in a thread of the system. The journal tells the worker
+/// of each turn: the carriers by number from 0, the collector behind them. H2 where memory runs out, H3 where a thread
+/// couldn't be started.
 pub fn carried<R: Threads + Wait + Sync>(
     rt: &R,
     alloc: Global,

@@ -108,8 +108,8 @@ pub fn refused(alloc: Global, names: &[String], error: &LaunchError) -> Ending {
     }
 }
 
-/// A line for each thread that was ended by an exception, by number, each but the first behind `jvm: `; empty where there is
-/// none. `AllocError` where memory runs out.
+/// A line for each thread that was ended by an exception, by number, each but the first behind `jvm: `; empty where
+/// there is none. `AllocError` where memory runs out.
 fn exceptions_told(alloc: Global, world: &World) -> Result<String, AllocError> {
     let mut lines = String::new(alloc);
     for thread in 0..=u8::MAX {
@@ -201,7 +201,8 @@ fn not_carried(alloc: Global, error: HallError) -> Ending {
     }
 }
 
-/// The end of a run that was compared with the ideal run of its program: its own, unless they differ or memory runs out.
+/// The end of a run that was compared with the ideal run of its program: its own, unless they differ or memory runs
+/// out.
 fn checked(alloc: Global, world: &World) -> Ending {
     match first_difference(alloc, world) {
         Ok(None) => ended(alloc, world),
@@ -210,8 +211,8 @@ fn checked(alloc: Global, world: &World) -> Ending {
     }
 }
 
-/// Writes the output of a run and then its journal, where one is wanted, and compares it with the ideal run, where that is
-/// wanted.
+/// Writes the output of a run and then its journal, where one is wanted, and compares it with the ideal run, where that
+/// is wanted.
 fn written<F: Files, W: Write>(
     alloc: Global,
     options: &RunOptions,
@@ -331,10 +332,10 @@ fn tell<E: Write>(errors: &mut E, ending: &Ending) {
     let _ = errors.write_all(b"\n");
 }
 
-/// Does what a command says with files, standard input, output and error, and answers the exit status: 0 where all threads
-/// ended or a file was written, 1 a thread ended by an exception, 2 refused input, 3 a fault, 4 a limit, 5 stuck, 6 memory, a
-/// thread that can't be started or a file that can't be read or written, 8 a run that differs from the ideal run with which it
-/// is compared. The carriers of a run are threads of the runtime.
+/// Does what a command says with files, standard input, output and error, and answers the exit status: 0 where all
+/// threads ended or a file was written, 1 a thread ended by an exception, 2 refused input, 3 a fault, 4 a limit, 5
+/// stuck, 6 memory, a thread that can't be started or a file that can't be read or written, 8 a run that differs from
+/// the ideal run with which it is compared. The carriers of a run are threads of the runtime.
 pub fn execute<R: Threads + Wait + Sync, F: Files, I: Read, W: Write, E: Write>(
     rt: &R,
     alloc: Global,

@@ -1,5 +1,5 @@
-//! What the codes and the exit statuses mean that the program tells, for `jvm explain`. tools/codes.py writes docs/CODES.md
-//! from this file.
+//! What the codes and the exit statuses mean that the program tells, for `jvm explain`. tools/codes.py writes
+//! docs/CODES.md from this file.
 
 use std::alloc::{AllocError, Global};
 
@@ -325,8 +325,8 @@ fn number_in(digits: &[u8]) -> Option<u32> {
     }
 }
 
-/// What a code, as `J5`, or an exit status, as `4`, means and what to do about it, in up to six lines of text. `None` where
-/// there is no such code.
+/// What a code, as `J5`, or an exit status, as `4`, means and what to do about it, in up to six lines of text. `None`
+/// where there is no such code.
 pub fn meaning(code: &str) -> Option<&'static str> {
     match code.as_bytes() {
         [b'J', digits @ ..] => text_meaning(number_in(digits)?),

@@ -31,7 +31,8 @@ pub enum LaunchError {
 
 /// The listings of some sources, in order; the first that has none is told with its place.
 fn read_sources(alloc: Global, sources: &[Vec<u8>]) -> Result<Vec<Listing>, LaunchError>
-    ensures { MatchResult result (λ listings. AreListings (bytes_of sources.now) listings.items) (λ e. (shape : HeapShape) (limits : Limits) → Excuses (bytes_of sources.now) shape limits e) }
+    ensures { MatchResult result (λ listings. AreListings (bytes_of sources.now) listings.items)
+        (λ e. (shape : HeapShape) (limits : Limits) → Excuses (bytes_of sources.now) shape limits e) }
 {
     let mut listings = Vec::new(alloc);
     for (place, source) in sources.iter().enumerate() {
@@ -46,13 +47,14 @@ fn read_sources(alloc: Global, sources: &[Vec<u8>]) -> Result<Vec<Listing>, Laun
     Ok(listings)
 }
 
-/// The program of some sources: class files, which begin with cafebabe, and texts. The first refusal that is met is told: of
-/// the first source that has no listing, by its place; the first rule that the listings break. Want of memory may come in
-/// place of any.
+/// The program of some sources: class files, which begin with cafebabe, and texts. The first refusal that is met is
+/// told: of the first source that has no listing, by its place; the first rule that the listings break. Want of memory
+/// may come in place of any.
 pub fn program_of(alloc: Global, sources: &[Vec<u8>]) -> Result<Program, LaunchError>
     ensures listings { IfOk result (λ program. AreListings (bytes_of sources.now) program) }
     ensures accepted { IfOk result (λ program. refusal_of program ≡ None) }
-    ensures refused { IfErr result (λ e. (shape : HeapShape) (limits : Limits) → Excuses (bytes_of sources.now) shape limits e) }
+    ensures refused { IfErr result (λ e. (shape : HeapShape) (limits : Limits)
+        → Excuses (bytes_of sources.now) shape limits e) }
 {
     let listings = match read_sources(alloc, sources) {
         Ok(listings) => listings,
@@ -71,9 +73,9 @@ pub fn program_of(alloc: Global, sources: &[Vec<u8>]) -> Result<Program, LaunchE
 /// Reads class files and texts, makes a world of their classes, and lets the actors take their turns in it, one each. A
 /// source that begins with cafebabe is a class file, every other one a text.
 ///
-/// The first of these refusals that is met is told: the first source that is no class file, or isn't in the text relation
-/// or doesn't assemble, by its place; the first rule that the listings break; P1, P2, and P4 where the frames that the
-/// program opens with pass a thread's limits. Want of memory may come in place of any.
+/// The first of these refusals that is met is told: the first source that is no class file, or isn't in the text
+/// relation or doesn't assemble, by its place; the first rule that the listings break; P1, P2, and P4 where the frames
+/// that the program opens with pass a thread's limits. Want of memory may come in place of any.
 pub fn launch(
     alloc: Global,
     sources: Vec<Vec<u8>>,

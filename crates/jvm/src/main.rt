@@ -74,8 +74,8 @@ fn perform<R: Threads + Wait + Sync>(rt: &HostRuntime, threads: &R) -> io::Resul
     }
 }
 
-/// The end where the words of the command line couldn't be had, for want of memory, or what is to say of them couldn't be
-/// written.
+/// The end where the words of the command line couldn't be had, for want of memory, or what is to say of them couldn't
+/// be written.
 fn failed(rt: &HostRuntime, error: &io::Error) -> Exit {
     let line = match error.kind() {
         ErrorKind::OutOfMemory => "memory",

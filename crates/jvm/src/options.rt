@@ -284,8 +284,8 @@ fn told(alloc: Global, error: ClapError) -> Result<LineError, AllocError> {
     })
 }
 
-/// The command that the words stand for, the program's own name first. `Words` where clap takes none of them, `Options` where
-/// no file is named or a number is out of its range, `Memory` where there was none.
+/// The command that the words stand for, the program's own name first. `Words` where clap takes none of them, `Options`
+/// where no file is named or a number is out of its range, `Memory` where there was none.
 pub fn options(alloc: Global, words: &[&str]) -> Result<Command, LineError>
     ensures files { IfOk result HasFiles }
     ensures range { IfOk result InRange }

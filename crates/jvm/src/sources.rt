@@ -41,7 +41,8 @@ pub fn assembled(alloc: Global, text: &[u8]) -> Result<Assembled, SourceError>
     ensures found { IfOk result (λ made. IsTextListing text.now (listing_of made.file)) }
     // The listing is the text's.
     ensures listed { IfOk result (λ made. IsTextListing text.now made.listing) }
-    ensures refused { IfErr result (λ e. (LacksMemory e → ⊥) → (listing : ClassListing) → IsTextListing text.now listing → ⊥) }
+    ensures refused { IfErr result (λ e. (LacksMemory e → ⊥) → (listing : ClassListing)
+        → IsTextListing text.now listing → ⊥) }
 {
     let tree = match jasmin::read(alloc, text) {
         Ok(tree) => tree,
@@ -57,7 +58,8 @@ pub fn assembled(alloc: Global, text: &[u8]) -> Result<Assembled, SourceError>
 /// The listing of a text that assembles.
 fn text_listing(alloc: Global, text: &[u8]) -> Result<Listing, SourceError>
     ensures found { IfOk result (λ listing. IsTextListing text.now listing) }
-    ensures refused { IfErr result (λ e. (LacksMemory e → ⊥) → (listing : ClassListing) → IsTextListing text.now listing → ⊥) }
+    ensures refused { IfErr result (λ e. (LacksMemory e → ⊥) → (listing : ClassListing)
+        → IsTextListing text.now listing → ⊥) }
 {
     match assembled(alloc, text) {
         Ok(made) => Ok(made.listing),
@@ -68,7 +70,8 @@ fn text_listing(alloc: Global, text: &[u8]) -> Result<Listing, SourceError>
 /// The listing of a class file.
 fn class_listing(alloc: Global, bytes: &[u8]) -> Result<Listing, SourceError>
     ensures found { IfOk result (λ listing. IsClassListing bytes.now listing) }
-    ensures refused { IfErr result (λ e. (LacksMemory e → ⊥) → (listing : ClassListing) → IsClassListing bytes.now listing → ⊥) }
+    ensures refused { IfErr result (λ e. (LacksMemory e → ⊥) → (listing : ClassListing)
+        → IsClassListing bytes.now listing → ⊥) }
 {
     let file = match classfile::read(alloc, bytes) {
         Ok(file) => file,
@@ -83,7 +86,8 @@ fn class_listing(alloc: Global, bytes: &[u8]) -> Result<Listing, SourceError>
 /// The listing of a source: read from its class file, or made from its text.
 pub fn source_listing(alloc: Global, source: &[u8]) -> Result<Listing, SourceError>
     ensures found { IfOk result (λ listing. IsListing source.now listing) }
-    ensures refused { IfErr result (λ e. (LacksMemory e → ⊥) → (listing : ClassListing) → IsListing source.now listing → ⊥) }
+    ensures refused { IfErr result (λ e. (LacksMemory e → ⊥) → (listing : ClassListing) → IsListing source.now listing
+        → ⊥) }
 {
     if begins_as_class(source) {
         class_listing(alloc, source)

@@ -1,7 +1,8 @@
 //! What a turn asks of classes, by their numbers: superclasses, the words of objects, subtypes.
 ghost use Rattle.std.specs.Prelude.{◌≡◌, map, IfOk, OnOk};
 ghost use Rattle.model.specs.Classes.Types.{is_subtype};
-ghost use Rattle.loader.specs.ClassTables.{class_facts, class_tables, defaults_in, is_subtype_in, opening_word, superclass_in, with_classes, word_of, words_in};
+ghost use Rattle.loader.specs.ClassTables.{class_facts, class_tables, defaults_in, is_subtype_in, opening_word};
+ghost use Rattle.loader.specs.ClassTables.{superclass_in, with_classes, word_of, words_in};
 ghost use Rattle.loader.specs.ClassNumbers.{names_now};
 
 use crate::class_numbers::ClassNumbers;
@@ -136,7 +137,8 @@ fn add_tables(
     numbers: &ClassNumbers<'_>,
     listings: &[Listing],
 ) -> Result<(), AllocError>
-    ensures { numbers.now ≡ classes.now → OnOk result (tables.new.items ≡ with_classes classes.now tables.old.items listings.now) }
+    ensures { numbers.now ≡ classes.now → OnOk result (tables.new.items
+        ≡ with_classes classes.now tables.old.items listings.now) }
 {
     for class in listings {
         tables.push(class_table(alloc, classes, numbers, class)?)?;

@@ -1,7 +1,8 @@
 //! What is asked of exception rows (JVMS 4.7.3).
 ghost use Rattle.std.specs.Prelude.{◌≡◌, ◌==◌, ◌&&◌, ◌||◌, nat_lt, IfOk};
 ghost use Rattle.std.specs.List.{list_any};
-ghost use Rattle.model.specs.Accepted.ExceptionRows.{is_instruction, code_length, is_bad_row, is_no_throwable, has_bad_row_in, has_bad_row};
+ghost use Rattle.model.specs.Accepted.ExceptionRows.{is_instruction, code_length, is_bad_row, is_no_throwable};
+ghost use Rattle.model.specs.Accepted.ExceptionRows.{has_bad_row_in, has_bad_row};
 
 use crate::pcs::Pcs;
 use model::listings::{Code, ExceptionRow, Listing, Method};
@@ -32,7 +33,8 @@ fn is_no_throwable(classes: &Classes<'_>, row: &ExceptionRow) -> bool
 /// Whether the bounds and the handler of a row are right.
 fn is_placed(code: &Code, pcs: &Pcs<'_>, row: &ExceptionRow) -> bool
     requires { pcs.now ≡ code.now.instructions }
-    ensures { result ≡ (nat_lt row.now.start row.now.end && is_instruction code.now row.now.start && is_instruction code.now row.now.handler
+    ensures { result ≡ (nat_lt row.now.start row.now.end && is_instruction code.now row.now.start
+        && is_instruction code.now row.now.handler
         && (is_instruction code.now row.now.end || row.now.end == code_length code.now)) }
 {
     row.start < row.end && pcs.has(row.start) && pcs.has(row.handler) && is_end(code, pcs, row.end)

@@ -1,5 +1,5 @@
-//! From listings to a program: which lists of listings the machine takes, why it refuses the others, and a program as the
-//! machine runs it.
+//! From listings to a program: which lists of listings the machine takes, why it refuses the others, and a program as
+//! the machine runs it.
 //!
 //! Each rule is a function of its own, under the name that the definitions of the crate `model` give it.
 #![tactic(auto)]

@@ -3,7 +3,8 @@ ghost use Rattle.std.specs.Prelude.{◌≡◌, Some, length, nat_lt};
 ghost use Rattle.std.specs.Option.{option_copied};
 ghost use Rattle.std.specs.List.{find, list_any};
 ghost use Rattle.model.specs.declared.listings.Method.{Method as MethodListing};
-ghost use Rattle.model.specs.Accepted.LimitsOfClasses.{own_fields, fields_within, has_too_many_fields, passes_limits, is_too_large, first_past_limits};
+ghost use Rattle.model.specs.Accepted.LimitsOfClasses.{own_fields, fields_within, has_too_many_fields, passes_limits};
+ghost use Rattle.model.specs.Accepted.LimitsOfClasses.{is_too_large, first_past_limits};
 
 use bitflags::Flags;
 use model::descriptors::argument_units;

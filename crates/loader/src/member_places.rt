@@ -37,7 +37,11 @@ impl<'a> MemberPlaces<'a> {
 
     /// The place of a member, if it has one.
     pub fn get(&self, class: &[u8], name: &[u8], descriptor: &[u8]) -> Option<usize>
-        ensures { result ≡ place_of self.now (record { class = class.now; name = name.now; descriptor = descriptor.now }) }
+        ensures { result ≡ place_of self.now (record {
+          class = class.now;
+          name = name.now;
+          descriptor = descriptor.now;
+        }) }
     {
         self.places
             .get(&member_key(class, name, descriptor))

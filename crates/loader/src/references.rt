@@ -7,7 +7,10 @@ ghost use Rattle.model.specs.declared.listings.Method.{Method as MethodListing};
 ghost use Rattle.model.specs.declared.listings.Placed.{Placed as PlacedAt};
 ghost use Rattle.model.specs.Classes.Named.{class_named};
 ghost use Rattle.model.specs.Classes.Resolution.{is_initializer, resolved_field, resolved_method};
-ghost use Rattle.model.specs.Accepted.References.{is_static_found, is_instance_found, is_static_method_found, is_concrete_found, is_interface_found, names_class, finds_static, finds_instance, invocation_resolves, array_resolves, class_resolves, resolves, catch_resolves, is_unresolved_in, has_unresolved};
+ghost use Rattle.model.specs.Accepted.References.{is_static_found, is_instance_found, is_static_method_found};
+ghost use Rattle.model.specs.Accepted.References.{is_concrete_found, is_interface_found, names_class, finds_static};
+ghost use Rattle.model.specs.Accepted.References.{finds_instance, invocation_resolves, array_resolves, class_resolves};
+ghost use Rattle.model.specs.Accepted.References.{resolves, catch_resolves, is_unresolved_in, has_unresolved};
 
 use crate::type_numbers::dimensions;
 use bitflags::Flags;

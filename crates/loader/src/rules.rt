@@ -227,8 +227,8 @@ fn obeys_class_rules<'a>(alloc: Global, classes: &Classes<'a>) -> Result<(), Sto
     Ok(())
 }
 
-/// `Err` with the first rule, in order, that some class breaks, and the first class that does, or where memory runs out;
-/// else `Ok`.
+/// `Err` with the first rule, in order, that some class breaks, and the first class that does, or where memory runs
+/// out; else `Ok`.
 #[tactic(auto, unfolding(model::specs::Accepted::Refusals::refusal_of))]
 pub fn obeys_rules(alloc: Global, program: &[Listing]) -> Result<(), Stop<'_>>
     ensures { StopsAt (refusal_of program.now) result }

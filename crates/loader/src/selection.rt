@@ -20,8 +20,8 @@ struct ClassTable {
     by_selector: Vec<Option<SelectionRow>>,
 }
 
-/// The selection tables of a program's classes, the machine's own among them, by their numbers: the program's from 0, in order,
-/// and the machine's own behind them.
+/// The selection tables of a program's classes, the machine's own among them, by their numbers: the program's from 0,
+/// in order, and the machine's own behind them.
 #[derive(Drop)]
 pub struct Selection {
     tables: Vec<ClassTable>,
@@ -33,7 +33,8 @@ fn rows_of<'a>(
     rows: &ClassRows<'a>,
     signatures: &[(NameKey<'a>, NameKey<'a>)],
 ) -> Result<Vec<Option<SelectionRow>>, AllocError>
-    ensures { IfOk result (λ found. found.items ≡ map (λ s. gathered rows.now s.0.bytes.now s.1.bytes.now) signatures.now) }
+    ensures { IfOk result (λ found. found.items
+        ≡ map (λ s. gathered rows.now s.0.bytes.now s.1.bytes.now) signatures.now) }
 {
     let mut found = Vec::new(alloc);
     for signature in signatures {

@@ -1,7 +1,8 @@
 //! The rows of one class's selection table, gathered from the class upwards (JVMS 6.5, invokevirtual).
 ghost use Rattle.std.specs.Prelude.{◌≡◌, ℕ, List, None, IfOk, OnOk};
 ghost use Rattle.std.specs.BTreeMap.{values};
-ghost use Rattle.loader.specs.Selections.{AddsRows, AreInOrder, first_row, gathered, is_pair, is_virtual, is_virtual_of, row_if, TellSelected};
+ghost use Rattle.loader.specs.Selections.{AddsRows, AreInOrder, first_row, gathered, is_pair, is_virtual};
+ghost use Rattle.loader.specs.Selections.{is_virtual_of, row_if, TellSelected};
 
 use bitflags::Flags;
 use model::flags::MethodFlags;
@@ -10,8 +11,8 @@ use resolve::classes::Classes;
 use std::alloc::{AllocError, Global};
 use std::collections::BTreeMap;
 
-/// The method that is selected for a name and descriptor: the number of the class that declares it, and its place among that
-/// class's methods. The program's classes are counted from 0, in order, and the machine's own behind them.
+/// The method that is selected for a name and descriptor: the number of the class that declares it, and its place among
+/// that class's methods. The program's classes are counted from 0, in order, and the machine's own behind them.
 #[derive(Clone, Copy, PartialEq, Eq)]
 pub struct SelectionRow {
     pub class: usize,
@@ -41,7 +42,8 @@ impl<'a> ClassRows<'a> {
         }
     }
 
-    /// Adds the row of a name and descriptor, where they have none yet. `AllocError` where memory runs out, here and below.
+    /// Adds the row of a name and descriptor, where they have none yet. `AllocError` where memory runs out, here and
+    /// below.
     fn add(
         &mut self,
         name: &'a [u8],
@@ -82,8 +84,8 @@ impl<'a> ClassRows<'a> {
         Ok(())
     }
 
-    /// The rows of the class of a name: of the methods that it declares, and then from superclass to superclass of those that
-    /// no class below declares.
+    /// The rows of the class of a name: of the methods that it declares, and then from superclass to superclass of
+    /// those that no class below declares.
     pub fn of_class(
         alloc: Global,
         classes: &'a Classes<'_>,

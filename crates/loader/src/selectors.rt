@@ -1,7 +1,8 @@
 //! Selectors: numbers for the names and descriptors that a program calls on objects.
 ghost use Rattle.std.specs.Prelude.{◌≡◌, [], map, IfOk, OnOk};
 ghost use Rattle.std.specs.List.{position};
-ghost use Rattle.loader.specs.Selectors.{is_signature, selector_of, with_called, with_classes, with_code, with_instructions, with_member, with_methods, with_signature};
+ghost use Rattle.loader.specs.Selectors.{is_signature, selector_of, with_called, with_classes, with_code};
+ghost use Rattle.loader.specs.Selectors.{with_instructions, with_member, with_methods, with_signature};
 
 use indexmap::IndexSet;
 use model::instructions::{Instruction, Invocation};
@@ -36,7 +37,8 @@ impl<'a> Signatures<'a> {
         }
     }
 
-    /// Adds the name and descriptor of a method where they aren't there. `AllocError` where memory runs out, here and below.
+    /// Adds the name and descriptor of a method where they aren't there. `AllocError` where memory runs out, here and
+    /// below.
     fn add(&mut self, member: &'a Member) -> Result<(), AllocError>
         ensures { OnOk result (self.new ≡ with_signature self.old (member.now.name, member.now.descriptor)) }
     {
@@ -114,8 +116,8 @@ impl<'a> Signatures<'a> {
     }
 }
 
-/// The numbers of the names and descriptors that an `invokevirtual` or `invokeinterface` of a program names. A contract sees
-/// the program.
+/// The numbers of the names and descriptors that an `invokevirtual` or `invokeinterface` of a program names. A contract
+/// sees the program.
 #[derive(Drop)]
 pub struct Selectors<'a> {
     program: &'a [Listing],
@@ -146,8 +148,8 @@ impl<'a> Selectors<'a> {
         Ok(Selectors { program, called })
     }
 
-    /// The selector of a name and descriptor: their place among all these pairs in the order of the program. `None` where no
-    /// such instruction names them.
+    /// The selector of a name and descriptor: their place among all these pairs in the order of the program. `None`
+    /// where no such instruction names them.
     pub fn number(&self, name: &[u8], descriptor: &[u8]) -> Option<usize>
         ensures { result ≡ selector_of self.now name.now descriptor.now }
     {

@@ -4,7 +4,8 @@ ghost use Rattle.std.specs.List.{find, list_any};
 ghost use Rattle.std.specs.Option.{option_copied};
 ghost use Rattle.model.specs.ClassListings.{ClassListing};
 ghost use Rattle.model.specs.Classes.Named.{class_named};
-ghost use Rattle.model.specs.Accepted.Superclasses.{is_class_twice, has_wrong_parent, is_no_superclass, is_no_superinterface};
+ghost use Rattle.model.specs.Accepted.Superclasses.{is_class_twice, has_wrong_parent, is_no_superclass};
+ghost use Rattle.model.specs.Accepted.Superclasses.{is_no_superinterface};
 ghost use Rattle.loader.specs.Repeats.{name_again};
 
 use crate::repeats::Repeats;

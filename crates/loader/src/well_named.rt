@@ -2,7 +2,8 @@
 ghost use Rattle.std.specs.Prelude.{◌≡◌};
 ghost use Rattle.std.specs.List.{list_all};
 ghost use Rattle.model.specs.ClassFiles.References.{names_class};
-ghost use Rattle.model.specs.WellNamed.{array_is_named, class_is_named, is_well_named, type_is_named, types_are_named, types_are_named_in};
+ghost use Rattle.model.specs.WellNamed.{array_is_named, class_is_named, is_well_named, type_is_named, types_are_named};
+ghost use Rattle.model.specs.WellNamed.{types_are_named_in};
 ghost use Rattle.model.specs.declared.listings.Placed.{Placed as PlacedAt};
 
 use model::descriptors::is_array_descriptor;

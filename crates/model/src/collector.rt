@@ -25,8 +25,10 @@ ghost use Rattle.model.specs.Heaps.{heap_of};
 /// the cells show the threads, the static fields, the output and the reachable objects of the ideal world, where
 /// nothing is ever freed. The first two clauses say of a single step that it keeps the invariant.
 pub fn no_reachable_object_is_lost()
-    ensures collector { (shape : HeapShape) (w : World) (n : ℕ) (a : Account) → Invariant shape w n a → Invariant shape w n (collected shape w a) }
-    ensures thread { (shape : HeapShape) (w : World) (a : Account) (c : Change) → RoomFor c.object a → Allowed w c → Invariant shape w (next_birth w) a → Invariant shape c.after (next_birth c.after) (changed w a c) }
+    ensures collector { (shape : HeapShape) (w : World) (n : ℕ) (a : Account) → Invariant shape w n a
+        → Invariant shape w n (collected shape w a) }
+    ensures thread { (shape : HeapShape) (w : World) (a : Account) (c : Change) → RoomFor c.object a → Allowed w c
+        → Invariant shape w (next_birth w) a → Invariant shape c.after (next_birth c.after) (changed w a c) }
     ensures holds { Always Holds }
     ensures kept { Always (λ shape m. KeepsReachable shape m.world m.account) }
     ensures coloured { Always (λ shape m. ThreeColour m.world m.account) }

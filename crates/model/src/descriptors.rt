@@ -2,9 +2,12 @@
 ghost use Rattle.std.specs.Prelude.{◌≡◌, ◌<◌, ◌≤◌, ◌*◌, ◌+◌, ◌==◌, ◌∷◌, length, drop, IfOk};
 ghost use Rattle.std.specs.List.{list_all, position_or_len, before_first};
 ghost use Rattle.model.specs.Locals.{entries_of};
-ghost use Rattle.model.specs.Signatures.{dimensions, element_length, type_length, types_in, argument_kinds, argument_units, result_type, result_kind};
+ghost use Rattle.model.specs.Signatures.{dimensions, element_length, type_length, types_in, argument_kinds};
+ghost use Rattle.model.specs.Signatures.{argument_units, result_type, result_kind};
 ghost use Rattle.model.specs.Stores.{descriptor_kind};
-ghost use Rattle.model.specs.Texts.Descriptors.{is_int_type, is_long_type, is_class_type, is_element_type, is_type, is_field_descriptor, is_array_descriptor, is_result, is_method_descriptor, arguments_of};
+ghost use Rattle.model.specs.Texts.Descriptors.{is_int_type, is_long_type, is_class_type, is_element_type, is_type};
+ghost use Rattle.model.specs.Texts.Descriptors.{is_field_descriptor, is_array_descriptor, is_result};
+ghost use Rattle.model.specs.Texts.Descriptors.{is_method_descriptor, arguments_of};
 
 use crate::good_names::{are_parts, fits};
 use crate::values::Kind;

@@ -55,7 +55,8 @@ impl Flags for ClassFlags {
 
     ghost exact = { ⊤ };
 
-    ghost table = { (codes "PUBLIC", 1) ∷ (codes "FINAL", 16) ∷ (codes "SUPER", 32) ∷ (codes "INTERFACE", 512) ∷ (codes "ABSTRACT", 1024) ∷ [] };
+    ghost table = { (codes "PUBLIC", 1) ∷ (codes "FINAL", 16) ∷ (codes "SUPER", 32) ∷ (codes "INTERFACE", 512)
+        ∷ (codes "ABSTRACT", 1024) ∷ [] };
 
     ghost set_of = { λ flags. flags.0 };
 
@@ -93,7 +94,8 @@ impl Flags for FieldFlags {
 
     ghost exact = { ⊤ };
 
-    ghost table = { (codes "PUBLIC", 1) ∷ (codes "PRIVATE", 2) ∷ (codes "PROTECTED", 4) ∷ (codes "STATIC", 8) ∷ (codes "FINAL", 16) ∷ (codes "VOLATILE", 64) ∷ (codes "TRANSIENT", 128) ∷ [] };
+    ghost table = { (codes "PUBLIC", 1) ∷ (codes "PRIVATE", 2) ∷ (codes "PROTECTED", 4) ∷ (codes "STATIC", 8)
+        ∷ (codes "FINAL", 16) ∷ (codes "VOLATILE", 64) ∷ (codes "TRANSIENT", 128) ∷ [] };
 
     ghost set_of = { λ flags. flags.0 };
 
@@ -132,7 +134,8 @@ impl Flags for MethodFlags {
 
     ghost exact = { ⊤ };
 
-    ghost table = { (codes "PUBLIC", 1) ∷ (codes "PRIVATE", 2) ∷ (codes "PROTECTED", 4) ∷ (codes "STATIC", 8) ∷ (codes "FINAL", 16) ∷ (codes "SYNCHRONIZED", 32) ∷ (codes "NATIVE", 256) ∷ (codes "ABSTRACT", 1024) ∷ [] };
+    ghost table = { (codes "PUBLIC", 1) ∷ (codes "PRIVATE", 2) ∷ (codes "PROTECTED", 4) ∷ (codes "STATIC", 8)
+        ∷ (codes "FINAL", 16) ∷ (codes "SYNCHRONIZED", 32) ∷ (codes "NATIVE", 256) ∷ (codes "ABSTRACT", 1024) ∷ [] };
 
     ghost set_of = { λ flags. flags.0 };
 

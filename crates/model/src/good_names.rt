@@ -1,7 +1,8 @@
 //! Which words are names of classes and members (JVMS 4.2).
 ghost use Rattle.std.specs.Prelude.{◌≡◌, false};
 ghost use Rattle.std.specs.List.{list_all};
-ghost use Rattle.model.specs.Texts.Names.{fits, is_part, joins, are_parts, is_class_name, is_field_name, is_method_name, begins_part, continues_part};
+ghost use Rattle.model.specs.Texts.Names.{fits, is_part, joins, are_parts, is_class_name, is_field_name};
+ghost use Rattle.model.specs.Texts.Names.{is_method_name, begins_part, continues_part};
 
 /// Whether a word is a class's name: parts joined by slashes, of 65,535 bytes at most.
 pub fn is_class_name(word: &[u8]) -> bool

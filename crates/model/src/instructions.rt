@@ -200,9 +200,11 @@ impl<Target> Model for TableSwitch<Target> {
 }
 
 impl<Target: PartialEq> PartialEq for TableSwitch<Target> {
-    ghost eq = { λ a b. int_eq a.low b.low && (pointwise Target.eq a.targets b.targets && Target.eq a.default b.default) };
+    ghost eq = { λ a b. int_eq a.low b.low && (pointwise Target.eq a.targets b.targets
+        && Target.eq a.default b.default) };
 
-    ghost laws = { and_per (on_per (λ a. a.low) (partial_equiv_from_equiv int_eq_equiv)) (and_per (on_per (λ a. a.targets) (lists_per Target.laws)) (on_per (λ a. a.default) Target.laws)) };
+    ghost laws = { and_per (on_per (λ a. a.low) (partial_equiv_from_equiv int_eq_equiv))
+        (and_per (on_per (λ a. a.targets) (lists_per Target.laws)) (on_per (λ a. a.default) Target.laws)) };
 
     fn eq(&self, other: &Self) -> bool {
         self.low == other.low && self.targets == other.targets && self.default == other.default
@@ -210,7 +212,9 @@ impl<Target: PartialEq> PartialEq for TableSwitch<Target> {
 }
 
 impl<Target: Eq> Eq for TableSwitch<Target> {
-    ghost laws = { and_equiv (on_equiv (λ a. a.low) int_eq_equiv) (and_equiv (on_equiv (λ a. a.targets) (lists_equiv Target.Eq.laws)) (on_equiv (λ a. a.default) Target.Eq.laws)) };
+    ghost laws = { and_equiv (on_equiv (λ a. a.low) int_eq_equiv)
+        (and_equiv (on_equiv (λ a. a.targets) (lists_equiv Target.Eq.laws))
+        (on_equiv (λ a. a.default) Target.Eq.laws)) };
 }
 
 /// The operands of `lookupswitch`: a target for each key, and one for all other ints.
@@ -229,10 +233,12 @@ impl<Target> Model for LookupSwitch<Target> {
 }
 
 impl<Target: PartialEq> PartialEq for LookupSwitch<Target> {
-    ghost eq = { λ a b. pointwise (λ p q. int_eq p.0 q.0 && Target.eq p.1 q.1) a.pairs b.pairs && Target.eq a.default b.default };
+    ghost eq = { λ a b. pointwise (λ p q. int_eq p.0 q.0 && Target.eq p.1 q.1) a.pairs b.pairs
+        && Target.eq a.default b.default };
 
     ghost laws = { and_per
-        (on_per (λ a. a.pairs) (lists_per (and_per (on_per (λ p. p.0) (partial_equiv_from_equiv int_eq_equiv)) (on_per (λ p. p.1) Target.laws))))
+        (on_per (λ a. a.pairs) (lists_per (and_per (on_per (λ p. p.0) (partial_equiv_from_equiv int_eq_equiv))
+        (on_per (λ p. p.1) Target.laws))))
         (on_per (λ a. a.default) Target.laws) };
 
     fn eq(&self, other: &Self) -> bool {
@@ -242,7 +248,8 @@ impl<Target: PartialEq> PartialEq for LookupSwitch<Target> {
 
 impl<Target: Eq> Eq for LookupSwitch<Target> {
     ghost laws = { and_equiv
-        (on_equiv (λ a. a.pairs) (lists_equiv (and_equiv (on_equiv (λ p. p.0) int_eq_equiv) (on_equiv (λ p. p.1) Target.Eq.laws))))
+        (on_equiv (λ a. a.pairs) (lists_equiv (and_equiv (on_equiv (λ p. p.0) int_eq_equiv)
+        (on_equiv (λ p. p.1) Target.Eq.laws))))
         (on_equiv (λ a. a.default) Target.Eq.laws) };
 }
 

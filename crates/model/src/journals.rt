@@ -65,9 +65,9 @@ pub struct Row {
     pub worker: u8,
 }
 
-/// A journal: the heap's shape, the limits, the number of workers (1 to 9) and the rows, one for each turn that was done
-/// or at fault, in order. Its shape and limits are in range, each row's worker is below the number of workers, and there
-/// is room for as many rows as the limit allows.
+/// A journal: the heap's shape, the limits, the number of workers (1 to 9) and the rows, one for each turn that was
+/// done or at fault, in order. Its shape and limits are in range, each row's worker is below the number of workers, and
+/// there is room for as many rows as the limit allows.
 #[derive(Drop)]
 pub struct Journal {
     shape: HeapShape,
@@ -84,7 +84,8 @@ impl Model for Journal {
 
     ghost view = { λ a. record { shape = a.shape; limits = a.limits; workers = a.workers; rows = a.runs.rows } };
 
-    ghost invariant = { λ a. HeadFits a.shape a.limits a.workers × (a.limits.steps ≤ a.runs.room) × AreOfWorkers a.workers a.runs.rows };
+    ghost invariant = { λ a. HeadFits a.shape a.limits a.workers × (a.limits.steps ≤ a.runs.room)
+        × AreOfWorkers a.workers a.runs.rows };
 }
 
 impl Journal {
@@ -170,8 +171,8 @@ impl Journal {
         self.runs.note_times(row, times);
     }
 
-    /// Adds a row past the limit too, as a stored journal may have it. `AllocError` where there is no memory for it; the
-    /// journal is then as it was.
+    /// Adds a row past the limit too, as a stored journal may have it. `AllocError` where there is no memory for it;
+    /// the journal is then as it was.
     pub fn add(&mut self, row: Row) -> Result<(), AllocError>
         requires worker { row.worker < self.old.workers }
         ensures { MatchResult result (λ _. self.new ≡ with_row self.old row) (λ _. self.new ≡ self.old) }

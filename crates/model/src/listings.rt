@@ -61,7 +61,12 @@ impl Model for Code {
 
     ghost Value = { CodeListing };
 
-    ghost view = { λ a. record { max_stack = a.max_stack; max_locals = a.max_locals; rows = a.rows.items; instructions = a.instructions.items } };
+    ghost view = { λ a. record {
+      max_stack = a.max_stack;
+      max_locals = a.max_locals;
+      rows = a.rows.items;
+      instructions = a.instructions.items;
+    } };
 }
 
 impl PartialEq for Code {
@@ -71,11 +76,14 @@ impl PartialEq for Code {
     ghost use Rattle.model.specs.contracts.listings.PlacedPartialEq.TheImpl.Laws as instruction;
 
     ghost eq = { λ a b. (a.max_stack == b.max_stack && a.max_locals == b.max_locals)
-        && (pointwise (rows.ghosts).eq a.rows b.rows && pointwise (instructions.ghosts).eq a.instructions b.instructions) };
+        && (pointwise (rows.ghosts).eq a.rows b.rows
+        && pointwise (instructions.ghosts).eq a.instructions b.instructions) };
 
     ghost laws = { and_per
-        (and_per (on_per (λ a. a.max_stack) (partial_equiv_from_equiv nat_eq_equiv)) (on_per (λ a. a.max_locals) (partial_equiv_from_equiv nat_eq_equiv)))
-        (and_per (on_per (λ a. a.rows) (lists_per row.laws-law)) (on_per (λ a. a.instructions) (lists_per instruction.laws-law))) };
+        (and_per (on_per (λ a. a.max_stack) (partial_equiv_from_equiv nat_eq_equiv))
+        (on_per (λ a. a.max_locals) (partial_equiv_from_equiv nat_eq_equiv)))
+        (and_per (on_per (λ a. a.rows) (lists_per row.laws-law))
+        (on_per (λ a. a.instructions) (lists_per instruction.laws-law))) };
 
     fn eq(&self, other: &Code) -> bool {
         self.max_stack == other.max_stack
@@ -91,7 +99,8 @@ impl Eq for Code {
 
     ghost laws = { and_equiv
         (and_equiv (on_equiv (λ a. a.max_stack) nat_eq_equiv) (on_equiv (λ a. a.max_locals) nat_eq_equiv))
-        (and_equiv (on_equiv (λ a. a.rows) (lists_equiv row.laws-law)) (on_equiv (λ a. a.instructions) (lists_equiv instruction.laws-law))) };
+        (and_equiv (on_equiv (λ a. a.rows) (lists_equiv row.laws-law))
+        (on_equiv (λ a. a.instructions) (lists_equiv instruction.laws-law))) };
 }
 
 /// A method that a class declares; an abstract or native one has no code.
@@ -143,9 +152,12 @@ impl PartialEq for Listing {
 
     ghost laws = { and_per
         (and_per
-        (and_per (on_per (λ a. a.name) (partial_equiv_from_equiv nat_list_eq_equiv)) (on_per (λ a. a.flags) flag.laws-law))
-        (and_per (on_per (λ a. a.superclass) (partial_equiv_from_equiv nat_list_eq_equiv)) (on_per (λ a. a.interfaces) (lists_per (partial_equiv_from_equiv nat_list_eq_equiv)))))
-        (and_per (on_per (λ a. a.fields) (lists_per field.laws-law)) (on_per (λ a. a.methods) (lists_per method.laws-law))) };
+        (and_per (on_per (λ a. a.name) (partial_equiv_from_equiv nat_list_eq_equiv))
+        (on_per (λ a. a.flags) flag.laws-law))
+        (and_per (on_per (λ a. a.superclass) (partial_equiv_from_equiv nat_list_eq_equiv))
+        (on_per (λ a. a.interfaces) (lists_per (partial_equiv_from_equiv nat_list_eq_equiv)))))
+        (and_per (on_per (λ a. a.fields) (lists_per field.laws-law))
+        (on_per (λ a. a.methods) (lists_per method.laws-law))) };
 
     fn eq(&self, other: &Listing) -> bool {
         self.name == other.name
@@ -165,6 +177,8 @@ impl Eq for Listing {
     ghost laws = { and_equiv
         (and_equiv
         (and_equiv (on_equiv (λ a. a.name) nat_list_eq_equiv) (on_equiv (λ a. a.flags) flag.laws-law))
-        (and_equiv (on_equiv (λ a. a.superclass) nat_list_eq_equiv) (on_equiv (λ a. a.interfaces) (lists_equiv nat_list_eq_equiv))))
-        (and_equiv (on_equiv (λ a. a.fields) (lists_equiv field.laws-law)) (on_equiv (λ a. a.methods) (lists_equiv method.laws-law))) };
+        (and_equiv (on_equiv (λ a. a.superclass) nat_list_eq_equiv)
+        (on_equiv (λ a. a.interfaces) (lists_equiv nat_list_eq_equiv))))
+        (and_equiv (on_equiv (λ a. a.fields) (lists_equiv field.laws-law))
+        (on_equiv (λ a. a.methods) (lists_equiv method.laws-law))) };
 }

@@ -6,8 +6,8 @@ use crate::journals::{HeapShape, Limits};
 use crate::row_runs::{RowRuns, Rows};
 use std::marker::Model;
 
-/// A journal that was read. Its value is that of a `Journal`, and it has no memory but that of its rows, so that a short
-/// text with a large limit takes little; it takes no rows. It may have more of them than its limit allows.
+/// A journal that was read. Its value is that of a `Journal`, and it has no memory but that of its rows, so that a
+/// short text with a large limit takes little; it takes no rows. It may have more of them than its limit allows.
 #[derive(Drop)]
 pub struct StoredJournal {
     shape: HeapShape,

@@ -40,7 +40,12 @@ impl Model for BodyTree {
 
     ghost Value = { Body };
 
-    ghost view = { λ a. record { max_stack = a.max_stack; max_locals = a.max_locals; rows = a.rows.items; lines = a.lines.items } };
+    ghost view = { λ a. record {
+      max_stack = a.max_stack;
+      max_locals = a.max_locals;
+      rows = a.rows.items;
+      lines = a.lines.items;
+    } };
 }
 
 /// A method of a text; an abstract or native one has no body.

@@ -7,8 +7,8 @@ use crate::turns::Mark;
 use crate::values::{Entry, Value};
 use std::marker::Model;
 
-/// A frame (JVMS 2.6): its method, the pc at which it stands, its locals from 0 on, its stack from the bottom on, how many
-/// units the stack may take, the monitor that is given back when the frame is left, and its mark.
+/// A frame (JVMS 2.6): its method, the pc at which it stands, its locals from 0 on, its stack from the bottom on, how
+/// many units the stack may take, the monitor that is given back when the frame is left, and its mark.
 #[derive(Debug, Drop)]
 pub struct FrameView {
     pub method: MethodPlace,
@@ -26,7 +26,15 @@ impl Model for FrameView {
 
     ghost Value = { Frame };
 
-    ghost view = { λ a. record { method = a.method; pc = a.pc; locals = a.locals.items; stack = reverse a.stack.items; room = a.room; monitor = a.monitor; mark = a.mark } };
+    ghost view = { λ a. record {
+      method = a.method;
+      pc = a.pc;
+      locals = a.locals.items;
+      stack = reverse a.stack.items;
+      room = a.room;
+      monitor = a.monitor;
+      mark = a.mark;
+    } };
 }
 
 /// Whether a thread lives, with its frames, outermost first, or has ended: normally, or by an exception of a class.
@@ -75,16 +83,16 @@ impl Model for FieldView {
     ghost view = { λ a. record { class = a.class; name = a.name; descriptor = a.descriptor; value = a.value } };
 }
 
-/// What an object holds: an instance of a class its fields, the superclass's first; an array its elements, whose type is told
-/// by its descriptor.
+/// What an object holds: an instance of a class its fields, the superclass's first; an array its elements, whose type
+/// is told by its descriptor.
 #[derive(Drop)]
 pub enum ContentsView {
     Instance { class: Name, fields: Vec<FieldView> },
     Array { element: Name, values: Vec<Value> },
 }
 
-/// An object: what it holds, the thread that owns its monitor and how often that was entered (JVMS 2.11.10), and the thread
-/// that was started on it. References are births.
+/// An object: what it holds, the thread that owns its monitor and how often that was entered (JVMS 2.11.10), and the
+/// thread that was started on it. References are births.
 #[derive(Drop)]
 pub struct ObjectView {
     pub contents: ContentsView,
@@ -99,5 +107,9 @@ impl Model for ObjectView {
 
     ghost Value = { Object };
 
-    ghost view = { λ a. record { contents = contents_in a.contents; monitor = record { owner = a.owner; count = a.entries }; thread = a.thread } };
+    ghost view = { λ a. record {
+      contents = contents_in a.contents;
+      monitor = record { owner = a.owner; count = a.entries };
+      thread = a.thread;
+    } };
 }

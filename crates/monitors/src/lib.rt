@@ -1,7 +1,7 @@
 //! Entry into an object's monitor, and exit from it (JVMS 2.11.10).
 //!
-//! All is told of a monitor by itself: an owner, and how often the owner entered. Whose monitor it is, and what a thread does
-//! that has to wait, is for others to say. No call takes memory.
+//! All is told of a monitor by itself: an owner, and how often the owner entered. Whose monitor it is, and what a
+//! thread does that has to wait, is for others to say. No call takes memory.
 #![tactic(auto)]
 
 ghost use Rattle.std.specs.Prelude.{◌≡◌, Err, Ok, if◌then◌else◌};
@@ -58,8 +58,8 @@ pub fn exit(monitor: Monitor) -> Monitor
     }
 }
 
-/// The monitor once a thread has left a frame that gives it back: as after an exit where the thread still owns it, else as
-/// it was.
+/// The monitor once a thread has left a frame that gives it back: as after an exit where the thread still owns it, else
+/// as it was.
 pub fn release(thread: u32, monitor: Monitor) -> Monitor
     ensures { result ≡ (if is_owner thread monitor.owner then exited monitor else monitor) }
 {

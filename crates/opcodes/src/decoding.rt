@@ -17,10 +17,12 @@ use std::alloc::Global;
 fn located(alloc: Global, bytes: &[u8]) -> Result<(Vec<Located>, Vec<bool>), OpError>
     requires { length bytes.now ≤ 65535 }
     ensures found { IfOk result (λ x. AreReal x.0.items → StandFrom 0 x.0.items bytes.now) }
-    ensures only { IfOk result (λ x. (items : List Located) → AreReal items → StandFrom 0 items bytes.now → items ≡ x.0.items) }
+    ensures only { IfOk result (λ x. (items : List Located) → AreReal items → StandFrom 0 items bytes.now
+        → items ≡ x.0.items) }
     ensures starts { IfOk result (λ x. (k : ℕ) → (is_start x.1.items k ≡ true) ↔ IsPc x.0.items k) }
     ensures len { IfOk result (λ x. vec_len x.1 ≤ length bytes.now) }
-    ensures err { IfErr result (λ e. (items : List Located) → AreReal items → StandFrom 0 items bytes.now → e ≡ error.Memory) }
+    ensures err { IfErr result (λ e. (items : List Located) → AreReal items → StandFrom 0 items bytes.now
+        → e ≡ error.Memory) }
 {
     let mut items = Vec::new(alloc);
     let mut starts = Vec::new(alloc);
@@ -56,7 +58,8 @@ pub fn decode(alloc: Global, bytes: &[u8]) -> Result<Code, OpError>
     // What is decoded is the code.
     ensures found { IfOk result (λ code. IsCode bytes.now code) }
     // What is code is decoded, unless memory runs out.
-    ensures only { (items : List Located) → IsCode bytes.now items → MatchResult result (λ code. code ≡ items) (λ e. e ≡ error.Memory) }
+    ensures only { (items : List Located) → IsCode bytes.now items
+        → MatchResult result (λ code. code ≡ items) (λ e. e ≡ error.Memory) }
 {
     if bytes.is_empty() || bytes.len() > 65535 {
         return Err(OpError::Length);

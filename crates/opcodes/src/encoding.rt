@@ -19,7 +19,8 @@ use model::instructions::Instruction;
 use std::alloc::Global;
 
 fn put_operands(out: &mut Vec<u8>, pc: u16, instruction: &Instr) -> Result<(), OpError>
-    ensures ok { OnOk result (Fits pc instruction.now × (out.new.items ≡ out.old.items ++ operands pc instruction.now)) }
+    ensures ok { OnOk result (Fits pc instruction.now
+        × (out.new.items ≡ out.old.items ++ operands pc instruction.now)) }
     ensures err { IfErr result (λ e. Fits pc instruction.now → e ≡ error.Memory) }
 {
     match instruction {
@@ -57,7 +58,8 @@ fn spelled(alloc: Global, instructions: &[Instr]) -> Result<(Vec<u8>, Vec<bool>)
     ensures found { IfOk result (λ x. IsSpelled instructions.now x.0.items x.1.items) }
     ensures few { IfOk result (λ x. vec_len x.0 ≤ 65535) }
     ensures len { IfOk result (λ x. vec_len x.1 ≤ vec_len x.0) }
-    ensures err { IfErr result (λ e. (bytes : List ℕ) (items : List Located) → IsCode bytes items → instructions_of items ≡ instructions.now → e ≡ error.Memory) }
+    ensures err { IfErr result (λ e. (bytes : List ℕ) (items : List Located) → IsCode bytes items
+        → instructions_of items ≡ instructions.now → e ≡ error.Memory) }
 {
     let mut out = Vec::new(alloc);
     let mut starts = Vec::new(alloc);
@@ -84,14 +86,16 @@ fn each_lands_well(starts: &[bool], instructions: &[Instr]) -> bool
 }
 
 /// The bytes of the instructions, one after another from pc 0 on (JVMS 4.7.3). `Operand` where an operand has no room
-/// for its number, as a short `ldc` for a number above 255 or a short branch for a far target; `Switch` where keys don't
-/// rise or a table is empty or ends past the greatest int; `Length` where there is no byte or there are more than
+/// for its number, as a short `ldc` for a number above 255 or a short branch for a far target; `Switch` where keys
+/// don't rise or a table is empty or ends past the greatest int; `Length` where there is no byte or there are more than
 /// 65,535; `Branch` where a target is no instruction's pc; `Memory` where memory runs out.
 pub fn encode(alloc: Global, instructions: &[Instr]) -> Result<Vec<u8>, OpError>
     // The bytes are the code of the instructions.
-    ensures found { IfOk result (λ bytes. (items : List Located) × IsCode bytes.items items × (instructions_of items ≡ instructions.now)) }
+    ensures found { IfOk result (λ bytes. (items : List Located) × IsCode bytes.items items
+        × (instructions_of items ≡ instructions.now)) }
     // Where instructions have code, it is given, unless memory runs out.
-    ensures only { (bytes : List ℕ) (items : List Located) → IsCode bytes items → instructions_of items ≡ instructions.now → MatchResult result (λ v. v.items ≡ bytes) (λ e. e ≡ error.Memory) }
+    ensures only { (bytes : List ℕ) (items : List Located) → IsCode bytes items
+        → instructions_of items ≡ instructions.now → MatchResult result (λ v. v.items ≡ bytes) (λ e. e ≡ error.Memory) }
 {
     let (bytes, starts) = spelled(alloc, instructions)?;
     if bytes.is_empty() {

@@ -16,7 +16,8 @@ use model::instructions::{LookupSwitch, TableSwitch};
 use std::alloc::AllocError;
 
 fn put_targets(out: &mut Vec<u8>, pc: u16, targets: &[u16]) -> Result<(), AllocError>
-    ensures bytes { OnOk result (out.new.items ≡ out.old.items ++ flat_map (λ t. signed w32 (offset pc t)) targets.now) }
+    ensures bytes { OnOk result (out.new.items
+        ≡ out.old.items ++ flat_map (λ t. signed w32 (offset pc t)) targets.now) }
     ensures fits { OnOk result (AllByRecursion (λ t. FitsSigned w32 (offset pc t)) targets.now) }
 {
     for target in targets {
@@ -28,7 +29,8 @@ fn put_targets(out: &mut Vec<u8>, pc: u16, targets: &[u16]) -> Result<(), AllocE
 /// The int of the last target of a table.
 fn high_of(low: i32, targets: &[u16]) -> Result<i32, OpError>
     ensures ok { IfOk result (λ high. (high ≡ low +ℤ pos (length targets.now) -ℤ pos 1) × (1 ≤ length targets.now)) }
-    ensures err { IfErr result (λ e. 1 ≤ length targets.now → FitsSigned w32 (low +ℤ pos (length targets.now) -ℤ pos 1) → e ≡ error.Memory) }
+    ensures err { IfErr result (λ e. 1 ≤ length targets.now → FitsSigned w32 (low +ℤ pos (length targets.now) -ℤ pos 1)
+        → e ≡ error.Memory) }
 {
     let low = i64::from(low);
     let above = (2_147_483_647 - low).unsigned_abs();
@@ -46,9 +48,11 @@ fn put_table_of(
     targets: &[u16],
     default: u16,
 ) -> Result<(), OpError>
-    ensures bytes { OnOk result (out.new.items ≡ out.old.items ++ table_operands pc (record { low = low; targets = targets.now; default = default })) }
+    ensures bytes { OnOk result (out.new.items
+        ≡ out.old.items ++ table_operands pc (record { low = low; targets = targets.now; default = default })) }
     ensures fits { OnOk result (TableFits pc (record { low = low; targets = targets.now; default = default })) }
-    ensures err { IfErr result (λ e. TableFits pc (record { low = low; targets = targets.now; default = default }) → e ≡ error.Memory) }
+    ensures err { IfErr result (λ e. TableFits pc (record { low = low; targets = targets.now; default = default })
+        → e ≡ error.Memory) }
 {
     let high = high_of(low, targets)?;
     put_pad(out, pc)?;
@@ -61,7 +65,8 @@ fn put_table_of(
 
 /// Writes the operands of a tableswitch at a pc. `Switch` where it has no target, or ends past the greatest int.
 pub fn put_table(out: &mut Vec<u8>, pc: u16, switch: &TableSwitch<u16>) -> Result<(), OpError>
-    ensures ok { OnOk result (TableFits pc switch.now × (out.new.items ≡ out.old.items ++ table_operands pc switch.now)) }
+    ensures ok { OnOk result (TableFits pc switch.now
+        × (out.new.items ≡ out.old.items ++ table_operands pc switch.now)) }
     ensures err { IfErr result (λ e. TableFits pc switch.now → e ≡ error.Memory) }
 {
     put_table_of(out, pc, switch.low, &switch.targets, switch.default)
@@ -90,7 +95,8 @@ fn put_pair(out: &mut Vec<u8>, pc: u16, key: i32, target: u16) -> Result<(), All
 }
 
 fn put_pairs(out: &mut Vec<u8>, pc: u16, pairs: &[(i32, u16)]) -> Result<(), AllocError>
-    ensures bytes { OnOk result (out.new.items ≡ out.old.items ++ flat_map (λ p. signed w32 p.0 ++ signed w32 (offset pc p.1)) pairs.now) }
+    ensures bytes { OnOk result (out.new.items
+        ≡ out.old.items ++ flat_map (λ p. signed w32 p.0 ++ signed w32 (offset pc p.1)) pairs.now) }
     ensures fits { OnOk result (AllByRecursion (λ p. FitsSigned w32 p.0 × FitsSigned w32 (offset pc p.1)) pairs.now) }
 {
     for pair in pairs {
@@ -116,9 +122,11 @@ fn put_lookup_of(
     pairs: &[(i32, u16)],
     default: u16,
 ) -> Result<(), OpError>
-    ensures bytes { OnOk result (out.new.items ≡ out.old.items ++ lookup_operands pc (record { pairs = pairs.now; default = default })) }
+    ensures bytes { OnOk result (out.new.items
+        ≡ out.old.items ++ lookup_operands pc (record { pairs = pairs.now; default = default })) }
     ensures fits { OnOk result (LookupFits pc (record { pairs = pairs.now; default = default })) }
-    ensures err { IfErr result (λ e. LookupFits pc (record { pairs = pairs.now; default = default }) → e ≡ error.Memory) }
+    ensures err { IfErr result (λ e. LookupFits pc (record { pairs = pairs.now; default = default })
+        → e ≡ error.Memory) }
 {
     let count = count_of(pairs)?;
     if !keys_rise(pairs) {
@@ -134,7 +142,8 @@ fn put_lookup_of(
 /// Writes the operands of a lookupswitch at a pc. `Switch` where its keys don't rise, `Operand` where there are more
 /// than the greatest int.
 pub fn put_lookup(out: &mut Vec<u8>, pc: u16, switch: &LookupSwitch<u16>) -> Result<(), OpError>
-    ensures ok { OnOk result (LookupFits pc switch.now × (out.new.items ≡ out.old.items ++ lookup_operands pc switch.now)) }
+    ensures ok { OnOk result (LookupFits pc switch.now
+        × (out.new.items ≡ out.old.items ++ lookup_operands pc switch.now)) }
     ensures err { IfErr result (λ e. LookupFits pc switch.now → e ≡ error.Memory) }
 {
     put_lookup_of(out, pc, &switch.pairs, switch.default)

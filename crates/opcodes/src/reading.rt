@@ -2,7 +2,8 @@
 
 ghost use Rattle.std.specs.Prelude.{◌≡◌};
 ghost use Rattle.opcodes.specs.Reading.Steps.{Gives};
-ghost use Rattle.opcodes.specs.Reading.{by_name, increment_at, interface_at, new_array_at, wide_at, layout_at, instruction_at};
+ghost use Rattle.opcodes.specs.Reading.{by_name, increment_at, interface_at, new_array_at, wide_at, layout_at};
+ghost use Rattle.opcodes.specs.Reading.{instruction_at};
 
 use crate::error::OpError;
 use crate::fields::{i8_at, i16_at, u8_at, u16_at};

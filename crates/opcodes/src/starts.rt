@@ -1,6 +1,7 @@
 //! Where instructions begin: a table of the pcs, and whether branches lead to them.
 
-ghost use Rattle.std.specs.Prelude.{◌≡◌, ◌+◌, ◌≤◌, ◌==◌, ℕ, true, false, if◌then◌else◌, OnOk, vec_len, map, slice_index_or};
+ghost use Rattle.std.specs.Prelude.{◌≡◌, ◌+◌, ◌≤◌, ◌==◌, ℕ, true, false, if◌then◌else◌, OnOk, vec_len, map};
+ghost use Rattle.std.specs.Prelude.{slice_index_or};
 ghost use Rattle.std.specs.List.{list_all};
 ghost use Rattle.model.specs.Bytecode.{targets};
 ghost use Rattle.opcodes.specs.Starts.{is_start, lands, all_land};
@@ -12,7 +13,8 @@ use std::alloc::AllocError;
 /// Notes that an instruction begins at a pc that is not below the table's length.
 pub fn mark(starts: &mut Vec<bool>, pc: usize) -> Result<(), AllocError>
     requires { vec_len starts.old ≤ pc }
-    ensures marked { OnOk result ((k : ℕ) → is_start starts.new.items k ≡ (if k == pc then true else is_start starts.old.items k)) }
+    ensures marked { OnOk result ((k : ℕ) → is_start starts.new.items k
+        ≡ (if k == pc then true else is_start starts.old.items k)) }
     ensures len { OnOk result (vec_len starts.new ≡ pc + 1) }
 {
     for _ in starts.len()..pc {

@@ -2,7 +2,8 @@
 
 ghost use Rattle.std.specs.Prelude.{◌≡◌, ◌-◌, ◌%◌};
 ghost use Rattle.opcodes.specs.Reading.Steps.{Gives};
-ghost use Rattle.opcodes.specs.Reading.Switches.{landing, branch_at, pad_at, targets_at, table_len, table_at, rises as rises_of, pairs_at, lookup_at};
+ghost use Rattle.opcodes.specs.Reading.Switches.{landing, branch_at, pad_at, targets_at, table_len, table_at};
+ghost use Rattle.opcodes.specs.Reading.Switches.{rises as rises_of, pairs_at, lookup_at};
 
 use crate::error::OpError;
 use crate::fields::{i16_at, i32_at, u8_at};

@@ -2,7 +2,8 @@
 
 ghost use Rattle.std.specs.Prelude.{◌≡◌};
 ghost use Rattle.opcodes.specs.Reading.Steps.{entry_at};
-ghost use Rattle.opcodes.specs.Reading.Tables.{constants_and_loads, stores_and_stack, numbers_and_returns, bare_of, low_layouts, high_layouts, layout_of, primitives};
+ghost use Rattle.opcodes.specs.Reading.Tables.{constants_and_loads, stores_and_stack, numbers_and_returns, bare_of};
+ghost use Rattle.opcodes.specs.Reading.Tables.{low_layouts, high_layouts, layout_of, primitives};
 
 use crate::layout::{Layout, Named};
 use model::bytecode::Instr;

@@ -4,7 +4,8 @@ ghost use Rattle.std.specs.Prelude.{◌≡◌, ◌++◌, OnOk, IfErr, replicate}
 ghost use Rattle.std.specs.Int.{w8, w16, w32};
 ghost use Rattle.std.specs.Int.RustNames.{FitsSigned};
 ghost use Rattle.model.specs.Bytecode.Fields.{u2, signed, offset, pad};
-ghost use Rattle.model.specs.Bytecode.Operands.{constant_operands, access_operands, branch_width, array_operands, invoke_operands, primitive_number};
+ghost use Rattle.model.specs.Bytecode.Operands.{constant_operands, access_operands, branch_width, array_operands};
+ghost use Rattle.model.specs.Bytecode.Operands.{invoke_operands, primitive_number};
 ghost use Rattle.model.specs.Bytecode.Ranges.{ConstantFits, AccessFits, ArrayFits, InvokeFits};
 ghost use Rattle.opcodes.specs.declared.error.OpError.TheVariants as error;
 
@@ -107,7 +108,8 @@ pub fn put_access(out: &mut Vec<u8>, access: LocalAccess) -> Result<(), AllocErr
 
 /// Writes the offset of a branch at a pc. `Operand` where it has no room.
 pub fn put_branch(out: &mut Vec<u8>, pc: u16, test: Test, target: u16) -> Result<(), OpError>
-    ensures ok { OnOk result (FitsSigned (branch_width test) (offset pc target) × (out.new.items ≡ out.old.items ++ signed (branch_width test) (offset pc target))) }
+    ensures ok { OnOk result (FitsSigned (branch_width test) (offset pc target)
+        × (out.new.items ≡ out.old.items ++ signed (branch_width test) (offset pc target))) }
     ensures err { IfErr result (λ e. FitsSigned (branch_width test) (offset pc target) → e ≡ error.Memory) }
 {
     let offset = way(pc, target);

@@ -30,7 +30,8 @@ pub(crate) fn if_zero(
     target: u16,
 ) -> Result<Written, Abrupt>
     requires { 0 < length frames.old }
-    ensures step { told_with result frames.new ≡ moved_with frames.old (branch_move next (Zero comparison) target (running_frame frames.old)) }
+    ensures step { told_with result frames.new
+        ≡ moved_with frames.old (branch_move next (Zero comparison) target (running_frame frames.old)) }
     ensures kept { OnErr result (frames.new ≡ frames.old) }
     ensures few { IfOk result (λ written. length written ≤ 1) }
 {
@@ -49,7 +50,8 @@ pub(crate) fn if_ints(
     target: u16,
 ) -> Result<Written, Abrupt>
     requires { 0 < length frames.old }
-    ensures step { told_with result frames.new ≡ moved_with frames.old (branch_move next (Ints comparison) target (running_frame frames.old)) }
+    ensures step { told_with result frames.new
+        ≡ moved_with frames.old (branch_move next (Ints comparison) target (running_frame frames.old)) }
     ensures kept { OnErr result (frames.new ≡ frames.old) }
     ensures few { IfOk result (λ written. length written ≤ 1) }
 {
@@ -68,7 +70,8 @@ pub(crate) fn if_references(
     target: u16,
 ) -> Result<Written, Abrupt>
     requires { 0 < length frames.old }
-    ensures step { told_with result frames.new ≡ moved_with frames.old (branch_move next (Refs identity) target (running_frame frames.old)) }
+    ensures step { told_with result frames.new
+        ≡ moved_with frames.old (branch_move next (Refs identity) target (running_frame frames.old)) }
     ensures kept { OnErr result (frames.new ≡ frames.old) }
     ensures few { IfOk result (λ written. length written ≤ 1) }
 {
@@ -87,7 +90,8 @@ pub(crate) fn if_null(
     target: u16,
 ) -> Result<Written, Abrupt>
     requires { 0 < length frames.old }
-    ensures step { told_with result frames.new ≡ moved_with frames.old (branch_move next (Null identity) target (running_frame frames.old)) }
+    ensures step { told_with result frames.new
+        ≡ moved_with frames.old (branch_move next (Null identity) target (running_frame frames.old)) }
     ensures kept { OnErr result (frames.new ≡ frames.old) }
     ensures few { IfOk result (λ written. length written ≤ 1) }
 {

@@ -20,7 +20,8 @@ pub fn constant(
     constant: Constant<i32, i64>,
 ) -> Result<Written, Abrupt>
     requires { 0 < length frames.old }
-    ensures step { told_with result frames.new ≡ moved_with frames.old (constant_move next constant (running_frame frames.old)) }
+    ensures step { told_with result frames.new
+        ≡ moved_with frames.old (constant_move next constant (running_frame frames.old)) }
     ensures kept { OnErr result (frames.new ≡ frames.old) }
     ensures few { IfOk result (λ written. length written ≤ 1) }
 {

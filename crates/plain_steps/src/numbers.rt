@@ -18,7 +18,8 @@ use values::{IntType, Value};
 #[inline(always)]
 pub(crate) fn int_operation(frames: &mut Frames, next: u16, op: Operator) -> Result<Written, Abrupt>
     requires { 0 < length frames.old }
-    ensures step { told_with result frames.new ≡ moved_with frames.old (number_move next (Binary Int op) (running_frame frames.old)) }
+    ensures step { told_with result frames.new
+        ≡ moved_with frames.old (number_move next (Binary Int op) (running_frame frames.old)) }
     ensures kept { OnErr result (frames.new ≡ frames.old) }
     ensures few { IfOk result (λ written. length written ≤ 1) }
 {
@@ -40,7 +41,8 @@ pub(crate) fn long_operation(
     op: Operator,
 ) -> Result<Written, Abrupt>
     requires { 0 < length frames.old }
-    ensures step { told_with result frames.new ≡ moved_with frames.old (number_move next (Binary Long op) (running_frame frames.old)) }
+    ensures step { told_with result frames.new
+        ≡ moved_with frames.old (number_move next (Binary Long op) (running_frame frames.old)) }
     ensures kept { OnErr result (frames.new ≡ frames.old) }
     ensures few { IfOk result (λ written. length written ≤ 1) }
 {
@@ -101,7 +103,8 @@ fn long_operands(frames: &Frames, op: Operator) -> Result<(i64, i64), Fault>
 #[inline(always)]
 pub(crate) fn int_negation(frames: &mut Frames, next: u16) -> Result<Written, Abrupt>
     requires { 0 < length frames.old }
-    ensures step { told_with result frames.new ≡ moved_with frames.old (number_move next (Negate Int) (running_frame frames.old)) }
+    ensures step { told_with result frames.new
+        ≡ moved_with frames.old (number_move next (Negate Int) (running_frame frames.old)) }
     ensures kept { OnErr result (frames.new ≡ frames.old) }
     ensures few { IfOk result (λ written. length written ≤ 1) }
 {
@@ -114,7 +117,8 @@ pub(crate) fn int_negation(frames: &mut Frames, next: u16) -> Result<Written, Ab
 #[inline(always)]
 pub(crate) fn long_negation(frames: &mut Frames, next: u16) -> Result<Written, Abrupt>
     requires { 0 < length frames.old }
-    ensures step { told_with result frames.new ≡ moved_with frames.old (number_move next (Negate Long) (running_frame frames.old)) }
+    ensures step { told_with result frames.new
+        ≡ moved_with frames.old (number_move next (Negate Long) (running_frame frames.old)) }
     ensures kept { OnErr result (frames.new ≡ frames.old) }
     ensures few { IfOk result (λ written. length written ≤ 1) }
 {
@@ -131,7 +135,8 @@ pub(crate) fn convert(
     conversion: Conversion,
 ) -> Result<Written, Abrupt>
     requires { 0 < length frames.old }
-    ensures step { told_with result frames.new ≡ moved_with frames.old (number_move next (Convert conversion) (running_frame frames.old)) }
+    ensures step { told_with result frames.new
+        ≡ moved_with frames.old (number_move next (Convert conversion) (running_frame frames.old)) }
     ensures kept { OnErr result (frames.new ≡ frames.old) }
     ensures few { IfOk result (λ written. length written ≤ 1) }
 {
@@ -150,7 +155,8 @@ pub(crate) fn convert(
 #[inline(always)]
 pub(crate) fn comparison(frames: &mut Frames, next: u16) -> Result<Written, Abrupt>
     requires { 0 < length frames.old }
-    ensures step { told_with result frames.new ≡ moved_with frames.old (number_move next CompareLongs (running_frame frames.old)) }
+    ensures step { told_with result frames.new
+        ≡ moved_with frames.old (number_move next CompareLongs (running_frame frames.old)) }
     ensures kept { OnErr result (frames.new ≡ frames.old) }
     ensures few { IfOk result (λ written. length written ≤ 1) }
 {

@@ -1,6 +1,7 @@
 //! Constant pools that are made entry by entry.
 
-ghost use Rattle.std.specs.Prelude.{◌≡◌, ◌≤◌, ◌^◌, ◌++◌, ◌↔◌, [], true, false, Some, Ok, Err, IfOk, OnOk, OnErr, MatchOption};
+ghost use Rattle.std.specs.Prelude.{◌≡◌, ◌≤◌, ◌^◌, ◌++◌, ◌↔◌, [], true, false, Some, Ok, Err, IfOk, OnOk, OnErr};
+ghost use Rattle.std.specs.Prelude.{MatchOption};
 ghost use Rattle.model.specs.ClassFiles.Adding.{is_among, added};
 ghost use Rattle.model.specs.ClassFiles.Entries as entries;
 ghost use Rattle.model.specs.ClassFiles.Entries.{EntryFits};
@@ -58,7 +59,8 @@ impl Model for PoolBuilder {
 
     ghost view = { λ a. keys a.numbers };
 
-    ghost invariant = { λ a. (a.numbers.entries ≡ numbered 1 (keys a.numbers)) × (a.next ≡ pool_count (keys a.numbers)) × (pool_count (keys a.numbers) < 2 ^ 16) };
+    ghost invariant = { λ a. (a.numbers.entries ≡ numbered 1 (keys a.numbers)) × (a.next ≡ pool_count (keys a.numbers))
+        × (pool_count (keys a.numbers) < 2 ^ 16) };
 }
 
 impl PoolBuilder {
@@ -74,7 +76,8 @@ impl PoolBuilder {
 
     /// The number of an entry that was added.
     pub fn number(&self, entry: &Entry) -> Option<u16>
-        ensures { MatchOption result (is_among entry.now self.now ≡ false) (λ number. (is_among entry.now self.now ≡ true) × (entry_at self.now number ≡ Some entry.now)) }
+        ensures { MatchOption result (is_among entry.now self.now
+            ≡ false) (λ number. (is_among entry.now self.now ≡ true) × (entry_at self.now number ≡ Some entry.now)) }
     {
         self.numbers.get(entry).copied()
     }
@@ -82,7 +85,8 @@ impl PoolBuilder {
     /// Adds an entry, unless an equal one is there, and answers its number. C9 where the entry is new and has no room.
     /// On an error the pool stays as it was.
     pub fn add(&mut self, entry: Entry) -> Result<u16, AddError>
-        ensures added { IfOk result (λ number. (self.new ≡ added self.old entry) × (entry_at self.new number ≡ Some entry)) }
+        ensures added { IfOk result (λ number. (self.new ≡ added self.old entry)
+            × (entry_at self.new number ≡ Some entry)) }
         ensures full { (result ≡ Err error.Full) ↔ (2 ^ 16 ≤ pool_count (added self.old entry)) }
         ensures kept { OnErr result (self.new ≡ self.old) }
     {

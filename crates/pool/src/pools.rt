@@ -41,7 +41,8 @@ impl Model for Pool {
 
     ghost view = { λ a. entries_in a.slots.items };
 
-    ghost invariant = { λ a. AreSlots a.slots.items × PoolFits (entries_in a.slots.items) × AreKinds a.slots.items a.kinds.items };
+    ghost invariant = { λ a. AreSlots a.slots.items × PoolFits (entries_in a.slots.items)
+        × AreKinds a.slots.items a.kinds.items };
 }
 
 impl Pool {
@@ -59,13 +60,15 @@ impl Pool {
         self.slots.as_slice().len() as u16
     }
 
-    /// Reads a pool from the front of the bytes, behind its count, and tests what its entries name. C3, C5, C6 or C7: the
-    /// first fault from left to right, those of what is named after all others.
+    /// Reads a pool from the front of the bytes, behind its count, and tests what its entries name. C3, C5, C6 or C7:
+    /// the first fault from left to right, those of what is named after all others.
     pub fn read(alloc: Global, bytes: &[u8]) -> Result<(Pool, &[u8]), ReadError>
         // What is read is spelled so, and its entries name what they should.
         ensures found { IfOk result (λ x. PoolFits x.0 × AreSound x.0 × (bytes.now ≡ pool_bytes x.0 ++ x.1.now)) }
         // What is spelled so is read, unless memory runs out.
-        ensures only { (pool : List AnEntry) (rest : List ℕ) → PoolFits pool → AreSound pool → bytes.now ≡ pool_bytes pool ++ rest → let read : List AnEntry × List ℕ = (pool, rest) in Gives (λ x. (x.0, x.1.now)) result (Ok read) }
+        ensures only { (pool : List AnEntry) (rest : List ℕ) → PoolFits pool → AreSound pool
+            → bytes.now ≡ pool_bytes pool ++ rest → let read : List AnEntry × List ℕ = (pool, rest) in
+            Gives (λ x. (x.0, x.1.now)) result (Ok read) }
         // Which fault it is.
         ensures exact { Gives (λ x. (x.0, x.1.now)) result (pool_from bytes.now) }
     {
@@ -147,7 +150,8 @@ fn slots_of(
     bytes: &[u8],
 ) -> Result<(Vec<Option<Entry>>, &[u8]), ReadError>
     requires { 0 < count }
-    ensures gives { Gives (λ x. (x.0.items, x.1.now)) result (slots_after None (slots_from false (count - 1) bytes.now)) }
+    ensures gives { Gives (λ x. (x.0.items, x.1.now)) result
+        (slots_after None (slots_from false (count - 1) bytes.now)) }
     ensures slots { IfOk result (λ x. AreSlots x.0.items) }
     ensures fits { IfOk result (λ x. PoolFits (entries_in x.0.items)) }
 {

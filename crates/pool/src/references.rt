@@ -60,22 +60,25 @@ impl Pool {
 
     /// Whether a field may have the texts under these numbers as its name and descriptor.
     fn is_field(&self, name: u16, descriptor: u16) -> bool
-        ensures { result ≡ both_pass references.is_field (references.text_at self.now name) (references.text_at self.now descriptor) }
+        ensures { result ≡ both_pass references.is_field (references.text_at self.now name)
+            (references.text_at self.now descriptor) }
     {
         self.is_field_name(name) && self.is_field_descriptor(descriptor)
     }
 
-    /// Whether a method may be referred to by the texts under these numbers as its name and descriptor: its arguments take
-    /// 255 units at most.
+    /// Whether a method may be referred to by the texts under these numbers as its name and descriptor: its arguments
+    /// take 255 units at most.
     fn is_method(&self, name: u16, descriptor: u16) -> bool
-        ensures { result ≡ both_pass references.is_method (references.text_at self.now name) (references.text_at self.now descriptor) }
+        ensures { result ≡ both_pass references.is_method (references.text_at self.now name)
+            (references.text_at self.now descriptor) }
     {
         self.is_method_name(name) && fits_units(self.argument_units(descriptor))
     }
 
     /// Whether a member of this kind may have the texts under these numbers as its name and descriptor.
     fn is_member_of(&self, kind: MemberKind, name: u16, descriptor: u16) -> bool
-        ensures { result ≡ both_pass (member_test kind) (references.text_at self.now name) (references.text_at self.now descriptor) }
+        ensures { result ≡ both_pass (member_test kind) (references.text_at self.now name)
+            (references.text_at self.now descriptor) }
     {
         match kind {
             MemberKind::Field => self.is_field(name, descriptor),
@@ -99,7 +102,8 @@ impl Pool {
 
     /// That a name and a descriptor are a field's or a method's. C6 where one is no text, else C7.
     fn check_pair(&self, name: u16, descriptor: u16) -> Result<(), FormatFault>
-        ensures { fault_in result ≡ references.pair_fault (references.text_at self.now name) (references.text_at self.now descriptor) }
+        ensures { fault_in result ≡ references.pair_fault (references.text_at self.now name)
+            (references.text_at self.now descriptor) }
     {
         let Some(_) = self.text(name) else {
             return Err(FormatFault::Index);
@@ -116,7 +120,8 @@ impl Pool {
 
     /// That the texts of a member's name and descriptor suit its kind. C7 where they don't.
     fn check_texts(&self, kind: MemberKind, name: u16, descriptor: u16) -> Result<(), FormatFault>
-        ensures { fault_in result ≡ references.texts_fault (member_test kind) (references.text_at self.now name) (references.text_at self.now descriptor) }
+        ensures { fault_in result ≡ references.texts_fault (member_test kind) (references.text_at self.now name)
+            (references.text_at self.now descriptor) }
     {
         let Some(_) = self.text(name) else {
             return Ok(());
@@ -131,10 +136,11 @@ impl Pool {
         }
     }
 
-    /// That a reference names a class and a member's name and descriptor. C6 where an entry is of another kind, C7 where
-    /// the texts don't suit.
+    /// That a reference names a class and a member's name and descriptor. C6 where an entry is of another kind, C7
+    /// where the texts don't suit.
     fn check_member(&self, kind: MemberKind, class: u16, member: u16) -> Result<(), FormatFault>
-        ensures { fault_in result ≡ references.member_fault self.now (member_test kind) (references.class_of (entry_at self.now class)) (references.name_and_type_of (entry_at self.now member)) }
+        ensures { fault_in result ≡ references.member_fault self.now (member_test kind)
+            (references.class_of (entry_at self.now class)) (references.name_and_type_of (entry_at self.now member)) }
     {
         if self.class(class).is_none() {
             return Err(FormatFault::Index);

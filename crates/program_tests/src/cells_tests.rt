@@ -1,7 +1,8 @@
-//! Objects in cells, their account and their monitors: each call with ample memory, on a heap of two small cells, a medium one
-//! and a large one. Words and rooms are worked out by hand: 4, 4, 32 and 256.
+//! Objects in cells, their account and their monitors: each call with ample memory, on a heap of two small cells, a
+//! medium one and a large one. Words and rooms are worked out by hand: 4, 4, 32 and 256.
 //!
-//! What is found is joined by `&`, which is no way out: calls that want a cell in range are made where the heap is made.
+//! What is found is joined by `&`, which is no way out: calls that want a cell in range are made where the heap is
+//! made.
 
 use cells::{Cells, Monitor};
 use colours::accounts::Account;
@@ -78,7 +79,8 @@ fn places_words(rt: HostRuntime) -> Result<(), AllocError> {
     Ok(())
 }
 
-/// Births 1 and 2 take the small cells, so birth 3 finds the medium one, birth 4 of 40 words the large one, and birth 5 none.
+/// Births 1 and 2 take the small cells, so birth 3 finds the medium one, birth 4 of 40 words the large one, and birth 5
+/// none.
 fn creates(account: &mut Account) -> bool {
     let is_new = (account.cells() == 4) & (account.front() == None);
     let is_third = (account.create(4, 3) == Some(2)) & account.has_room(256);

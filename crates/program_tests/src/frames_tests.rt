@@ -127,8 +127,8 @@ fn hands_over(frames: &mut Frames) -> Result<bool, Abrupt> {
     Ok(leave(frames) == Some(CALLEE) && seen(frames) == (1, 3, 1, left))
 }
 
-/// A frame of a method over main's, with a monitor, a mark, a local that holds the reference 5, and 7 and the reference 6 on its
-/// stack.
+/// A frame of a method over main's, with a monitor, a mark, a local that holds the reference 5, and 7 and the reference
+/// 6 on its stack.
 fn open_callee(frames: &mut Frames) -> Result<(), Abrupt> {
     if !frames.has_room_for(1, 3) {
         return Err(Abrupt::Fault(Fault::StackFull));

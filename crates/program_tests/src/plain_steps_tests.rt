@@ -1,5 +1,5 @@
-//! Mains whose instructions are carried out by their steps: what the last one comes to, as a Java virtual machine has it (JVMS
-//! 6.5), and faults.
+//! Mains whose instructions are carried out by their steps: what the last one comes to, as a Java virtual machine has
+//! it (JVMS 6.5), and faults.
 
 use crate::texts::program;
 use frames::Frames;
@@ -15,9 +15,10 @@ use std::fmt::Write;
 use std::process::Abort;
 use std::test::Fail;
 
-// In each row a main's lines, and its end: the pc behind the last instruction that was carried out, or that of the one that
-// wasn't; the three values at the top of the stack, the upper ones first; and then the references that the last instruction
-// wrote, or its fault. Locals 0 and 1 of 3 hold the references 5 and 3 at first. A long is written with L, a reference with @.
+// In each row a main's lines, and its end: the pc behind the last instruction that was carried out, or that of the one
+// that wasn't; the three values at the top of the stack, the upper ones first; and then the references that the last
+// instruction wrote, or its fault. Locals 0 and 1 of 3 hold the references 5 and 3 at first. A long is written with L,
+// a reference with @.
 
 /// On a stack of two units: constants alone, and two for which there is no room.
 const TWO_UNITS: &str = "aconst_null => 1 null - -

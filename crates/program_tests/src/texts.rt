@@ -1,9 +1,9 @@
 //! Programs in rows of words.
 //!
 //! A row has classes, with `; ` between them, of lines, with `|` between them. A line stands for itself, but for these:
-//! `class A` and `interface A` have Object as superclass, or what is named behind ` < `; `code 3 0 static f(IJ)V` is a method
-//! that does nothing, with limits of locals and of stack; `main` is a method main that does nothing; `main:` is the head of
-//! one, whose code and `end` follow.
+//! `class A` and `interface A` have Object as superclass, or what is named behind ` < `; `code 3 0 static f(IJ)V` is a
+//! method that does nothing, with limits of locals and of stack; `main` is a method main that does nothing; `main:` is
+//! the head of one, whose code and `end` follow.
 
 use loader::accept;
 use loader::programs::Program;

@@ -24,7 +24,8 @@ fn above_interfaces<'a>(
     Ok(names)
 }
 
-/// For each class of the program, what is above the superinterfaces that it declares. `AllocError` where memory runs out.
+/// For each class of the program, what is above the superinterfaces that it declares. `AllocError` where memory runs
+/// out.
 pub fn above_all_interfaces<'a>(
     alloc: Global,
     index: &Index<'a>,
@@ -57,8 +58,8 @@ fn is_above_interface(
     }
 }
 
-/// Whether a class is another's subclass: the same, or below it through superclasses and superinterfaces. Each class from
-/// the first upwards is looked at, with what is above its superinterfaces.
+/// Whether a class is another's subclass: the same, or below it through superclasses and superinterfaces. Each class
+/// from the first upwards is looked at, with what is above its superinterfaces.
 pub fn is_subclass(index: &Index<'_>, interfaces: &[Reached<'_>], name: &[u8], above: &[u8]) -> bool
     requires { AreAbove index.now index.now interfaces.now }
     ensures { result ≡ is_subclass index.now name.now above.now }

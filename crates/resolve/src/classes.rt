@@ -23,8 +23,8 @@ use model::listings::Listing;
 use std::alloc::{AllocError, Global};
 use std::marker::Model;
 
-/// The classes of a program by their names, the machine's own among them. Each has its parents, and none is above itself.
-/// A contract sees the program.
+/// The classes of a program by their names, the machine's own among them. Each has its parents, and none is above
+/// itself. A contract sees the program.
 #[derive(Drop)]
 pub struct Classes<'a> {
     index: Index<'a>,
@@ -44,7 +44,8 @@ impl<'a> Model for Classes<'a> {
 
     ghost view = { λ a. a.index };
 
-    ghost invariant = { λ a. AreTables a.index a.own.items a.members.items (lists_in a.interfaces.lists.entries) a.above.items };
+    ghost invariant = { λ a. AreTables a.index a.own.items a.members.items
+        (lists_in a.interfaces.lists.entries) a.above.items };
 }
 
 fn is_named(class: &Listing, name: &[u8]) -> bool
@@ -61,14 +62,15 @@ fn first_named<'a>(classes: &'a [Listing], name: &[u8]) -> Option<&'a Listing>
     classes.iter().find(|class| is_named(class, name))
 }
 
-/// The superinterfaces of each class of a program; `None` where a superclass or superinterface isn't there, or a class is
-/// above itself. `AllocError` where memory runs out.
+/// The superinterfaces of each class of a program; `None` where a superclass or superinterface isn't there, or a class
+/// is above itself. `AllocError` where memory runs out.
 fn checked_interfaces<'a>(
     alloc: Global,
     index: &Index<'a>,
 ) -> Result<Option<Interfaces<'a>>, AllocError>
     ensures none { IfOk result (λ found. found ≡ None → IsHierarchy index.now → ⊥) }
-    ensures some { IfOk result (λ found. IfSome found (λ interfaces. IsHierarchy index.now × AreSettled index.now (lists_in interfaces.lists.entries))) }
+    ensures some { IfOk result (λ found. IfSome found (λ interfaces. IsHierarchy index.now
+        × AreSettled index.now (lists_in interfaces.lists.entries))) }
 {
     if first_with_missing_parent(index, index.program()).is_some() {
         return Ok(None);
@@ -190,8 +192,8 @@ impl<'a> Classes<'a> {
         }
     }
 
-    /// The number of the class of a name: its place in the program, or, of the machine's own, its place among these with
-    /// the program's classes before it. `None` where there is none.
+    /// The number of the class of a name: its place in the program, or, of the machine's own, its place among these
+    /// with the program's classes before it. `None` where there is none.
     #[tactic(auto, using(crate::proofs::ClassAtNumber::class_at_number, crate::proofs::ClassAtNumber::number_inside))]
     pub fn number(&self, name: &[u8]) -> Option<usize>
         ensures number { result ≡ class_number self.now name.now }
@@ -203,7 +205,8 @@ impl<'a> Classes<'a> {
 
     /// The list of superinterfaces of the program's class of a name, in the order of the search, each once.
     pub fn interfaces(&self, name: &[u8]) -> Option<&Reached<'a>>
-        ensures { option_copied result ≡ option_map (interfaces_once (enough_steps self.now) self.now) (listed self.now name.now) }
+        ensures { option_copied result ≡ option_map (interfaces_once (enough_steps self.now) self.now)
+            (listed self.now name.now) }
     {
         self.interfaces.get(name)
     }

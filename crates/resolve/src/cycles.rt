@@ -51,9 +51,9 @@ fn is_apart(index: &Index<'_>) -> bool
     are_superclasses_apart(index, &BUILTINS)
 }
 
-/// Whether a class is above itself. Where each has its list of superinterfaces, behind its parents, there is none, as long
-/// as no two have one name and none is above the machine's own classes; else all that is above each class is looked at.
-/// `AllocError` where memory runs out.
+/// Whether a class is above itself. Where each has its list of superinterfaces, behind its parents, there is none, as
+/// long as no two have one name and none is above the machine's own classes; else all that is above each class is
+/// looked at. `AllocError` where memory runs out.
 pub fn has_cycle<'a>(
     alloc: Global,
     index: &Index<'a>,

@@ -38,7 +38,8 @@ impl<'a> Model for Index<'a> {
 
     ghost view = { λ a. a.program.now };
 
-    ghost invariant = { λ a. IsIndex (λ k. k.bytes.now) (λ c. c.class.now) (λ c. c.number) a.program.now a.classes.entries };
+    ghost invariant = { λ a. IsIndex (λ k. k.bytes.now) (λ c. c.class.now)
+        (λ c. c.number) a.program.now a.classes.entries };
 }
 
 impl<'a> Index<'a> {
@@ -83,7 +84,8 @@ impl<'a> Index<'a> {
     /// The name of the superclass of the class of a name, of the program or of the machine itself; empty at
     /// `java/lang/Object`.
     pub fn superclass(&self, name: &[u8]) -> Option<&'a [u8]>
-        ensures { option_copied result ≡ option_map (λ (c : ClassListing). c.superclass) (class_named self.now name.now) }
+        ensures { option_copied result ≡ option_map (λ (c : ClassListing). c.superclass)
+            (class_named self.now name.now) }
     {
         match self.listed(name) {
             Some(class) => Some(class.superclass.as_bytes()),

@@ -4,7 +4,8 @@ ghost use Rattle.std.specs.List.{find, flat_map, list_all};
 ghost use Rattle.std.specs.Option.{option_copied};
 ghost use Rattle.std.specs.Str.{bytes_eq};
 ghost use Rattle.model.specs.ClassListings.{ClassListing};
-ghost use Rattle.resolve.specs.Interfaces.{AreFull, AreLists, all_behind, first_ready, is_ready, is_settled, lists_in, missing, with_list};
+ghost use Rattle.resolve.specs.Interfaces.{AreFull, AreLists, all_behind, first_ready, is_ready, is_settled, lists_in};
+ghost use Rattle.resolve.specs.Interfaces.{missing, with_list};
 ghost use Rattle.resolve.specs.Reached.{with_names};
 
 use crate::index::Index;
@@ -34,7 +35,8 @@ impl<'a> Interfaces<'a> {
 
     /// Adds an interface, and behind it what its list has.
     fn add_with_list(&self, name: &'a [u8], found: &mut Reached<'a>) -> Result<(), AllocError>
-        ensures { OnOk result (found.new ≡ with_names found.old (with_list name.now (lists_in self.now.lists.entries name.now))) }
+        ensures { OnOk result (found.new ≡ with_names found.old
+            (with_list name.now (lists_in self.now.lists.entries name.now))) }
     {
         found.add(name)?;
         match self.get(name) {
@@ -49,7 +51,8 @@ impl<'a> Interfaces<'a> {
         alloc: Global,
         interfaces: &'a [Name],
     ) -> Result<Reached<'a>, AllocError>
-        ensures { IfOk result (λ found. found ≡ with_names [] (all_behind (lists_in self.now.lists.entries) interfaces.now)) }
+        ensures { IfOk result (λ found. found ≡ with_names []
+            (all_behind (lists_in self.now.lists.entries) interfaces.now)) }
     {
         let mut found = Reached::new(alloc);
         for interface in interfaces {
@@ -102,7 +105,8 @@ impl<'a> Interfaces<'a> {
         requires ready { is_ready index.now (lists_in self.old.lists.entries) name.now ≡ true }
         requires lists { AreLists index.now (lists_in self.old.lists.entries) }
         ensures lists { OnOk result (AreLists index.now (lists_in self.new.lists.entries)) }
-        ensures fewer { OnOk result (missing index.now (lists_in self.new.lists.entries) < missing index.now (lists_in self.old.lists.entries)) }
+        ensures fewer { OnOk result (missing index.now (lists_in self.new.lists.entries)
+            < missing index.now (lists_in self.old.lists.entries)) }
     {
         if let Some(class) = index.listed(name) {
             let list = self.listed_behind(alloc, &class.interfaces)?;

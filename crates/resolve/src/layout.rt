@@ -36,7 +36,8 @@ impl<'a> Classes<'a> {
         fields: &mut Vec<Found<'c, Field>>,
         name: &[u8],
     ) -> Result<(), AllocError>
-        ensures { OnOk result (fields.new.items ≡ fields.old.items ++ flat_map (fields_last_first self.now) (superclasses self.now name.now)) }
+        ensures { OnOk result (fields.new.items
+            ≡ fields.old.items ++ flat_map (fields_last_first self.now) (superclasses self.now name.now)) }
     {
         let mut next = name;
         for _ in 0..self.enough_steps() {
@@ -51,8 +52,8 @@ impl<'a> Classes<'a> {
         Ok(())
     }
 
-    /// The fields of an object of the class of a name, in the order of its words: the superclass's first, each class's in
-    /// the order of its file. `AllocError` where memory runs out.
+    /// The fields of an object of the class of a name, in the order of its words: the superclass's first, each class's
+    /// in the order of its file. `AllocError` where memory runs out.
     #[tactic(auto, using(crate::proofs::LayoutLemmas::turned))]
     pub fn layout(&self, alloc: Global, name: &[u8]) -> Result<Vec<Found<'_, Field>>, AllocError>
         ensures { IfOk result (λ fields. fields.items ≡ layout self.now name.now) }

@@ -1,5 +1,5 @@
-//! What names of classes, fields and methods stand for in a program: subclasses, resolution, selection and the fields of
-//! objects (JVMS 5.4.3, 6.5).
+//! What names of classes, fields and methods stand for in a program: subclasses, resolution, selection and the fields
+//! of objects (JVMS 5.4.3, 6.5).
 //!
 //! Each question is a function of its own, under the name that the definitions of the crate `model` give it.
 #![tactic(auto)]

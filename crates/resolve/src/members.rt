@@ -69,7 +69,8 @@ impl<'a, M> FirstMembers<'a, M> {
 
     /// Adds a member, where none is there of its name and descriptor.
     fn add(&mut self, name: &'a [u8], descriptor: &'a [u8], member: &'a M) -> Result<(), AllocError>
-        ensures { OnOk result (IsAdded self.old.members.entries self.new.members.entries name.now descriptor.now member.now) }
+        ensures { OnOk result
+            (IsAdded self.old.members.entries self.new.members.entries name.now descriptor.now member.now) }
     {
         if self.get(name, descriptor).is_none() {
             self.members.insert(

@@ -64,8 +64,8 @@ impl<'a> Climb<'a> {
     }
 }
 
-/// The names of the classes of a program, each behind its parents in the program where no class is above itself; nothing
-/// but the time that is taken rests on the order. `AllocError` where memory runs out.
+/// The names of the classes of a program, each behind its parents in the program where no class is above itself;
+/// nothing but the time that is taken rests on the order. `AllocError` where memory runs out.
 pub fn parents_first<'a>(alloc: Global, index: &Index<'a>) -> Result<Reached<'a>, AllocError> {
     let mut climb = Climb {
         done: Reached::new(alloc),

@@ -26,8 +26,8 @@ fn has_missing_parent(index: &Index<'_>, class: &Listing) -> bool
     !index.is_there(class.superclass.as_bytes()) || is_one_missing(index, &class.interfaces)
 }
 
-/// Whether a superclass or superinterface of the class is the class itself or below it. Each class above it is looked at
-/// once. `AllocError` where memory runs out.
+/// Whether a superclass or superinterface of the class is the class itself or below it. Each class above it is looked
+/// at once. `AllocError` where memory runs out.
 fn is_on_cycle<'a>(alloc: Global, index: &Index<'a>, class: &'a Listing) -> Result<bool, AllocError>
     ensures { IfOk result (λ found. found ≡ is_on_cycle index.now class.now) }
 {

@@ -17,8 +17,8 @@ pub fn is_initializer(name: &[u8]) -> bool
 }
 
 impl<'a> Classes<'a> {
-    /// The field to which a reference is resolved (JVMS 5.4.3.2): of the class that is named, else of its superinterfaces,
-    /// else in the same way from its superclass on. `None` where there is none.
+    /// The field to which a reference is resolved (JVMS 5.4.3.2): of the class that is named, else of its
+    /// superinterfaces, else in the same way from its superclass on. `None` where there is none.
     pub fn field(&self, member: &Member) -> Option<Found<'_, Field>>
         ensures { result ≡ resolved_field self.now member.now }
     {
@@ -29,8 +29,9 @@ impl<'a> Classes<'a> {
         self.in_either(member.class.as_bytes(), &sought)
     }
 
-    /// The method to which a reference is resolved (JVMS 5.4.3.3): of the class that is named and its superclasses, else of
-    /// the superinterfaces of each. An initializer is found only in the class that is named. `None` where there is none.
+    /// The method to which a reference is resolved (JVMS 5.4.3.3): of the class that is named and its superclasses,
+    /// else of the superinterfaces of each. An initializer is found only in the class that is named. `None` where there
+    /// is none.
     pub fn method(&self, member: &Member) -> Option<Found<'_, Method>>
         ensures { result ≡ resolved_method self.now member.now }
     {
@@ -46,8 +47,9 @@ impl<'a> Classes<'a> {
         }
     }
 
-    /// The method that is selected for an object of a class (JVMS 6.5, invokevirtual): that of the nearest class upwards that
-    /// declares one of this name and descriptor that is neither static nor private. `None` where there is none.
+    /// The method that is selected for an object of a class (JVMS 6.5, invokevirtual): that of the nearest class
+    /// upwards that declares one of this name and descriptor that is neither static nor private. `None` where there is
+    /// none.
     pub fn select(&self, class: &[u8], name: &[u8], descriptor: &[u8]) -> Option<Found<'_, Method>>
         ensures { result ≡ selected self.now class.now name.now descriptor.now }
     {

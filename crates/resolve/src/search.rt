@@ -1,7 +1,8 @@
 //! Searching classes in an order (JVMS 5.4.3).
 ghost use Rattle.std.specs.Prelude.{◌≡◌, [], ◌∷◌, map, Some};
 ghost use Rattle.std.specs.List.{flat_map};
-ghost use Rattle.model.specs.Classes.Search.{declared_in, first_declared, field_order, method_order, superclasses, superinterfaces};
+ghost use Rattle.model.specs.Classes.Search.{declared_in, first_declared, field_order, method_order, superclasses};
+ghost use Rattle.model.specs.Classes.Search.{superinterfaces};
 
 use crate::classes::Classes;
 use crate::found::Found;
@@ -103,7 +104,8 @@ impl<'a> Classes<'a> {
         name: &[u8],
         sought: &S,
     ) -> Option<Found<'_, S::Member>>
-        ensures { result ≡ first_declared self.now (S.of sought.now) (flat_map (superinterfaces self.now) (superclasses self.now name.now)) }
+        ensures { result ≡ first_declared self.now (S.of sought.now)
+            (flat_map (superinterfaces self.now) (superclasses self.now name.now)) }
     {
         let mut next = name;
         for _ in 0..self.enough_steps() {

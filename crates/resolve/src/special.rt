@@ -31,9 +31,9 @@ impl<'a> Classes<'a> {
         false
     }
 
-    /// The method that `invokespecial` calls in code of a class that has this superclass (JVMS 6.5): a method of a proper
-    /// superclass is looked up from the direct superclass on; any other, and an initializer, is taken as it is resolved.
-    /// `None` where there is none.
+    /// The method that `invokespecial` calls in code of a class that has this superclass (JVMS 6.5): a method of a
+    /// proper superclass is looked up from the direct superclass on; any other, and an initializer, is taken as it is
+    /// resolved. `None` where there is none.
     pub fn special(&self, superclass: &[u8], member: &Member) -> Option<Found<'_, Method>>
         ensures { result ≡ special_method self.now superclass.now member.now }
     {

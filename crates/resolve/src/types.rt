@@ -47,7 +47,9 @@ enum Compared<'t> {
 
 /// Compares what two arrays hold.
 fn compare_elements<'t>(element: Element<'t>, other: Element<'t>) -> Compared<'t>
-    ensures { (class object : Bool) (elements : List ℕ → List ℕ → Bool) → told elements result ≡ types_compare class object elements (shown (Some element.entry)) (shown (Some other.entry)) }
+    ensures { (class object : Bool) (elements : List ℕ → List ℕ → Bool)
+        → told elements result ≡ types_compare class object elements (shown (Some element.entry))
+        (shown (Some other.entry)) }
 {
     match element {
         Element::Number(letter) => match other {
@@ -79,7 +81,9 @@ impl<'a> Classes<'a> {
 
     /// Compares two types, but for the elements of arrays.
     fn compare_types<'t>(&self, name: &'t [u8], above: &'t [u8]) -> Compared<'t>
-        ensures { (elements : List ℕ → List ℕ → Bool) → told elements result ≡ types_compare (is_subclass self.now name.now above.now) (bytes_eq above.now (codes "java/lang/Object")) elements (element_of name.now) (element_of above.now) }
+        ensures { (elements : List ℕ → List ℕ → Bool)
+            → told elements result ≡ types_compare (is_subclass self.now name.now above.now)
+            (bytes_eq above.now (codes "java/lang/Object")) elements (element_of name.now) (element_of above.now) }
     {
         match element_of(name) {
             None => Compared::Told(self.is_subclass(name, above)),
@@ -90,8 +94,8 @@ impl<'a> Classes<'a> {
         }
     }
 
-    /// Whether a type is another's subclass (JVMS 6.5, instanceof): a class by what is above it; an array is one of Object,
-    /// of arrays of the same numbers, and of arrays of what its elements are subclasses of.
+    /// Whether a type is another's subclass (JVMS 6.5, instanceof): a class by what is above it; an array is one of
+    /// Object, of arrays of the same numbers, and of arrays of what its elements are subclasses of.
     pub fn is_subtype(&self, name: &[u8], above: &[u8]) -> bool
         ensures { result ≡ is_subtype self.now name.now above.now }
     {

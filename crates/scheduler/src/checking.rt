@@ -1,5 +1,5 @@
-//! A run beside the reference: the turns of its journal are made once more by a second world and by the ideal run, and what
-//! the cells show is compared after each.
+//! A run beside the reference: the turns of its journal are made once more by a second world and by the ideal run, and
+//! what the cells show is compared after each.
 ghost use Rattle.std.specs.Prelude.{◌≡◌, ◌<◌, ◌↔◌, [], IfOk, IsTrue, OnOk, None, Some, true};
 ghost use Rattle.std.specs.List.{All};
 ghost use Rattle.model.specs.declared.journals.Outcome.TheVariants.{Fault};
@@ -69,8 +69,8 @@ fn made_again<'a>(
     Ok(run)
 }
 
-/// Makes the turn of a row at fault behind the rows of a world. Such a row doesn't tell whether there was room: there was, if
-/// the turn comes to a fault with room.
+/// Makes the turn of a row at fault behind the rows of a world. Such a row doesn't tell whether there was room: there
+/// was, if the turn comes to a fault with room.
 fn follow_fault<'a>(
     run: &mut Ideal<'a>,
     alloc: Global,
@@ -124,8 +124,8 @@ fn agrees(world: &World, run: &Ideal<'_>) -> Result<bool, AllocError>
     shows(world, run)
 }
 
-/// Makes the turn of a row that a run made, in a world and behind its rows in the ideal run. Whether the world's cells show
-/// the ideal run then.
+/// Makes the turn of a row that a run made, in a world and behind its rows in the ideal run. Whether the world's cells
+/// show the ideal run then.
 fn agrees_after<'a>(
     world: &mut World,
     run: &mut Ideal<'a>,
@@ -147,8 +147,8 @@ fn agrees_after<'a>(
     Ok(shown)
 }
 
-/// Makes the turns of these rows, which a run made, in a world that has made none and in the ideal run. The first row, from
-/// 1, after which they differ.
+/// Makes the turns of these rows, which a run made, in a world that has made none and in the ideal run. The first row,
+/// from 1, after which they differ.
 fn compare<'a>(
     world: &mut World,
     run: &mut Ideal<'a>,
@@ -235,11 +235,11 @@ fn difference_from(
     difference_by(alloc, world, again, &mut run)
 }
 
-/// Compares a run with the reference, the ideal run of its program, which is plain code beside the definitions and on whose
-/// heap nothing is ever freed: the turns of the journal are made once more, by a second world and by the ideal run, and what
-/// the cells show is compared with it after each (`shows`), and in the end what the world itself shows. The first row, from
-/// 1, after which they differ: none, since world and ideal run are proved. `AllocError` where memory runs out. It takes time
-/// in proportion to the heap and the frames for each row.
+/// Compares a run with the reference, the ideal run of its program, which is plain code beside the definitions and on
+/// whose heap nothing is ever freed: the turns of the journal are made once more, by a second world and by the ideal
+/// run, and what the cells show is compared with it after each (`shows`), and in the end what the world itself shows.
+/// The first row, from 1, after which they differ: none, since world and ideal run are proved. `AllocError` where
+/// memory runs out. It takes time in proportion to the heap and the frames for each row.
 pub fn first_difference(alloc: Global, world: &World) -> Result<Option<usize>, AllocError>
     ensures { IfOk result (λ row. row ≡ None) }
 {

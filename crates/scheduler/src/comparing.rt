@@ -63,13 +63,14 @@ fn is_place(view: &FrameView, frame: &Frame) -> bool
 }
 
 fn is_guard(view: &FrameView, frame: &Frame) -> bool
-    ensures { Decides result ((view.now.room ≡ frame.now.room) × (view.now.monitor ≡ frame.now.monitor) × (view.now.mark ≡ frame.now.mark)) }
+    ensures { Decides result ((view.now.room ≡ frame.now.room) × (view.now.monitor ≡ frame.now.monitor)
+        × (view.now.mark ≡ frame.now.mark)) }
 {
     view.room == frame.room && view.monitor == frame.monitor && view.mark == frame.mark
 }
 
-/// Whether the stack, which a view has bottom first, is this one, top first. `AllocError` where memory runs out, here and
-/// below.
+/// Whether the stack, which a view has bottom first, is this one, top first. `AllocError` where memory runs out, here
+/// and below.
 fn is_stack(view: &FrameView, stack: &[Value]) -> Result<bool, AllocError>
     ensures { IfOk result (λ same. Decides same (view.now.stack ≡ stack.now)) }
 {

@@ -1,5 +1,6 @@
 //! A world from its program and its journal.
-ghost use Rattle.std.specs.Prelude.{◌≡◌, ◌+◌, ◌<◌, ◌≤◌, ◌↔◌, [], IfOk, IfErr, MatchResult, OnOk, IsTrue, Some, length, slice_get};
+ghost use Rattle.std.specs.Prelude.{◌≡◌, ◌+◌, ◌<◌, ◌≤◌, ◌↔◌, [], IfOk, IfErr, MatchResult, OnOk, IsTrue, Some, length};
+ghost use Rattle.std.specs.Prelude.{slice_get};
 ghost use Rattle.model.specs.Journals.{HeadFits, AreOfWorkers};
 ghost use Rattle.model.specs.Machines.{after_turn_by, row_for};
 ghost use Rattle.scheduler.specs.Replaying.{Excuses, IsMade, with_all};
@@ -32,7 +33,8 @@ pub enum ReplayError {
 pub trait SoundJournal: JournalParts {
     /// Every such journal is so.
     fn is_sound(&self)
-        ensures head { HeadFits (Self.journal_of self.now).shape (Self.journal_of self.now).limits (Self.journal_of self.now).workers }
+        ensures head { HeadFits (Self.journal_of self.now).shape (Self.journal_of self.now).limits
+            (Self.journal_of self.now).workers }
         ensures rows { AreOfWorkers (Self.journal_of self.now).workers (Self.journal_of self.now).rows };
 }
 
@@ -86,7 +88,8 @@ fn is_row(made: Option<Row>, row: Row) -> bool
 fn make_rows(world: &mut World, mut rows: Rows<'_>) -> Result<(), ReplayError>
     requires empty { world.old.journal.rows ≡ [] }
     requires workers { AreOfWorkers world.old.journal.workers rows }
-    ensures { MatchResult result (λ _. world.new ≡ with_all world.old rows.entry) (Excuses (with_all world.old rows.entry)) }
+    ensures { MatchResult result (λ _. world.new
+        ≡ with_all world.old rows.entry) (Excuses (with_all world.old rows.entry)) }
 {
     let count = rows.len();
     while let Some(row) = rows.next() {
@@ -99,12 +102,12 @@ fn make_rows(world: &mut World, mut rows: Rows<'_>) -> Result<(), ReplayError>
 }
 
 /// The world of a program and a journal: opened with the journal's shape, limits and workers, and moved by one turn for
-/// each row, of its actor and by its worker. It takes a turn's time for each row, and all the memory that it takes is taken
-/// at the opening.
+/// each row, of its actor and by its worker. It takes a turn's time for each row, and all the memory that it takes is
+/// taken at the opening.
 ///
-/// N5 tells the first row whose outcome isn't that of its turn; a turn that is refused is such a row, also past the limit
-/// of steps. P4 where the frames that the program opens with don't fit a thread; N6 where memory runs out. A journal that
-/// a run of the same program made is refused for memory alone.
+/// N5 tells the first row whose outcome isn't that of its turn; a turn that is refused is such a row, also past the
+/// limit of steps. P4 where the frames that the program opens with don't fit a thread; N6 where memory runs out. A
+/// journal that a run of the same program made is refused for memory alone.
 pub fn replay<J: SoundJournal>(
     alloc: Global,
     program: Program,
@@ -113,7 +116,8 @@ pub fn replay<J: SoundJournal>(
     ensures world { IfOk result (λ world. world ≡ record { program = program; journal = J.journal_of journal.now }) }
     ensures made { OnOk result (IsMade (record { program = program; journal = J.journal_of journal.now })) }
     ensures refused { IfErr result (Excuses (record { program = program; journal = J.journal_of journal.now })) }
-    ensures again { IfErr result (λ e. IsMade (record { program = program; journal = J.journal_of journal.now }) → e ≡ ReplayError.Memory) }
+    ensures again { IfErr result (λ e. IsMade (record { program = program; journal = J.journal_of journal.now })
+        → e ≡ ReplayError.Memory) }
 {
     journal.is_sound();
     let mut world = match World::new(alloc, program, journal.shape(), journal.limits()) {

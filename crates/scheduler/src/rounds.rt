@@ -1,6 +1,7 @@
 //! Rounds: the turns of the threads that are picked, and the collector's between them.
 ghost use Rattle.std.specs.Prelude.{◌≡◌, ◌<◌};
-ghost use Rattle.scheduler.specs.Rounds.{after_round, after_rounds, collections, is_done, picked, picked_answer, rounds_answer, swept};
+ghost use Rattle.scheduler.specs.Rounds.{after_round, after_rounds, collections, is_done, picked, picked_answer};
+ghost use Rattle.scheduler.specs.Rounds.{rounds_answer, swept};
 
 use crate::worlds::World;
 use model::turns::{Actor, Status, Turn};
@@ -101,8 +102,9 @@ impl World {
         answer
     }
 
-    /// So many rounds by a worker, with no turn of the collector. They end with the first thread's turn that isn't done.
-    /// Answers what the last thread's turn did: `Done` where all rounds were made, `NotReady` where no thread was picked.
+    /// So many rounds by a worker, with no turn of the collector. They end with the first thread's turn that isn't
+    /// done. Answers what the last thread's turn did: `Done` where all rounds were made, `NotReady` where no thread was
+    /// picked.
     // Many in one call where that can be, and else one by one.
     pub fn rounds_by(&mut self, worker: u8, n: u32) -> Turn
         requires { worker < self.old.journal.workers }
@@ -138,9 +140,9 @@ impl World {
         Turn::Done
     }
 
-    /// So many rounds, all made by worker 0: the turn of the thread that is picked, and where it was done and the world runs
-    /// so many turns of the collector. They end with the first thread's turn that isn't done. Answers what the last thread's
-    /// turn did: `Done` where all rounds were made, `NotReady` where no thread was picked.
+    /// So many rounds, all made by worker 0: the turn of the thread that is picked, and where it was done and the world
+    /// runs so many turns of the collector. They end with the first thread's turn that isn't done. Answers what the
+    /// last thread's turn did: `Done` where all rounds were made, `NotReady` where no thread was picked.
     pub fn rounds(&mut self, n: u32, gc: u32) -> Turn
         ensures world { self.new ≡ after_rounds self.old 0 gc n }
         ensures answer { result ≡ rounds_answer self.old 0 gc n }

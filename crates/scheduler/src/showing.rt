@@ -100,7 +100,8 @@ fn has_same_slots(world: &World, other: &IdealWorld) -> Result<bool, AllocError>
 
 /// Whether what the world's cells hold are the objects of their births.
 fn has_same_objects(world: &World, other: &IdealWorld) -> Result<bool, AllocError>
-    ensures { IfOk result (λ same. Decides same (AreHeld other.now (map (shown_in (machine_of world.now)) (machine_of world.now).account.cells))) }
+    ensures { IfOk result (λ same. Decides same
+        (AreHeld other.now (map (shown_in (machine_of world.now)) (machine_of world.now).account.cells))) }
 {
     let helds = world.helds()?;
     Ok(has_all_held(other, &helds))
@@ -114,7 +115,8 @@ fn all_four(beside: bool, threads: bool, slots: bool, objects: bool) -> bool
 
 /// Whether the cells of a world show this one.
 fn shows_world(world: &World, other: &IdealWorld) -> Result<bool, AllocError>
-    ensures { IfOk result (λ shown. Decides shown (Shows (heap_of (machine_of world.now).account (machine_of world.now).world) other.now)) }
+    ensures { IfOk result (λ shown. Decides shown
+        (Shows (heap_of (machine_of world.now).account (machine_of world.now).world) other.now)) }
 {
     world.loses_nothing();
     let beside = has_same_beside(world, other);
@@ -124,12 +126,13 @@ fn shows_world(world: &World, other: &IdealWorld) -> Result<bool, AllocError>
     Ok(all_four(beside, threads, slots, objects))
 }
 
-/// Whether the cells of a world show the world of an ideal run: whether threads, static fields, class states, output, fault,
-/// and how many turns and births there were are the same, references being read as the births in their cells, and each birth
-/// that a path leads to has one cell, in which its object stands. `AllocError` where memory runs out. It takes time in
-/// proportion to the heap, the frames and the names of static fields.
+/// Whether the cells of a world show the world of an ideal run: whether threads, static fields, class states, output,
+/// fault, and how many turns and births there were are the same, references being read as the births in their cells,
+/// and each birth that a path leads to has one cell, in which its object stands. `AllocError` where memory runs out. It
+/// takes time in proportion to the heap, the frames and the names of static fields.
 pub fn shows(world: &World, run: &Ideal<'_>) -> Result<bool, AllocError>
-    ensures { IfOk result (λ shown. Decides shown (Shows (heap_of (machine_of world.now).account (machine_of world.now).world) run.now.world)) }
+    ensures { IfOk result (λ shown. Decides shown
+        (Shows (heap_of (machine_of world.now).account (machine_of world.now).world) run.now.world)) }
 {
     shows_world(world, run.world())
 }

@@ -244,9 +244,9 @@ fn has_all(alloc: Global, lines: &str, wanted: &[Wanted]) -> Result<bool, Fail> 
 /// 255 numbers in two bytes, and then that of 255, 256.
 const PAST_255: &[Wanted] = &[Wanted::End("12ff 130100 12ff 130100 b1 0000 0000 0000")];
 
-/// The class file has 74 bytes before the code's length, 50,016: an int, `tableswitch`, pads of 2, the default, two bounds,
-/// 10,000 ways and as many instructions. The last label's instruction stands 10,000 - 1 bytes behind the switch, which takes
-/// 40,015 from pc 1 on.
+/// The class file has 74 bytes before the code's length, 50,016: an int, `tableswitch`, pads of 2, the default, two
+/// bounds, 10,000 ways and as many instructions. The last label's instruction stands 10,000 - 1 bytes behind the
+/// switch, which takes 40,015 from pc 1 on.
 const LABELS: &[Wanted] = &[
     Wanted::At(74, "0000c360"),
     Wanted::At(78 + 40012, "0000c35e"),
@@ -291,8 +291,9 @@ fn with_longs(alloc: Global, longs: u32, more: &str) -> Result<String, Fail> {
     Ok(text)
 }
 
-// So many longs in each method, and what the second one pushes besides. There are two numbers for each long, and 8 for A and
-// Object with their classes, m0, m1, their descriptor and Code: of 16,381 longs each 65,532. The last number is 65,534.
+// So many longs in each method, and what the second one pushes besides. There are two numbers for each long, and 8 for
+// A and Object with their classes, m0, m1, their descriptor and Code: of 16,381 longs each 65,532. The last number is
+// 65,534.
 
 /// What is there has its number still; and a long more.
 const FULL: &[(u32, &str, Wanted)] = &[

@@ -26,8 +26,8 @@ fn are_parted(words: &mut Words<'_>) -> bool {
     true
 }
 
-/// The first words of statements, none where a line has a byte that no text has, empty at the end; and the lines where they
-/// stand.
+/// The first words of statements, none where a line has a byte that no text has, empty at the end; and the lines where
+/// they stand.
 const STATEMENTS: &[(Option<&[u8]>, usize)] = &[
     (Some(b"nop"), 3),
     (None, 4),

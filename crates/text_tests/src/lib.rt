@@ -1,8 +1,8 @@
 //! The tests of the crates that read, write and rewrite texts and class files, and of the model below them.
 //!
-//! The gate proves a crate with tests twice, once with them and once without. So the tests of all but the small crates stand
-//! in crates of their own, where nothing but the tests themselves is proved again. They see of a crate what every other crate
-//! sees of it.
+//! The gate proves a crate with tests twice, once with them and once without. So the tests of all but the small crates
+//! stand in crates of their own, where nothing but the tests themselves is proved again. They see of a crate what every
+//! other crate sees of it.
 #![tactic(auto)]
 
 #[cfg(test)]

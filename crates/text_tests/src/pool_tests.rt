@@ -86,8 +86,8 @@ fn faults(rt: HostRuntime) {
     }
 }
 
-/// E, its class, the texts a and ()V, both together, and a member of them: a method, a field, an interface's method, and one
-/// that names E as its class.
+/// E, its class, the texts a and ()V, both together, and a member of them: a method, a field, an interface's method,
+/// and one that names E as its class.
 #[test]
 fn members_of_each_kind(rt: HostRuntime) {
     for (tag, class, wanted) in [

@@ -1,8 +1,8 @@
-//! Arithmetic on the values of the machine: ints of 32 bits and longs of 64 (JVMS 2.3, 2.11.3, 2.11.4). Each such function
-//! takes no memory, and answers what the definition of arithmetic says.
+//! Arithmetic on the values of the machine: ints of 32 bits and longs of 64 (JVMS 2.3, 2.11.3, 2.11.4). Each such
+//! function takes no memory, and answers what the definition of arithmetic says.
 //!
-//! `slots` has the flat form in which frames, objects and static fields keep values, and `words` arrays of them: a contract
-//! sees `Words` as a `List Value`, and no call but `new` and `values` takes memory.
+//! `slots` has the flat form in which frames, objects and static fields keep values, and `words` arrays of them: a
+//! contract sees `Words` as a `List Value`, and no call but `new` and `values` takes memory.
 #![tactic(auto)]
 
 mod comparisons;

@@ -10,10 +10,10 @@ ghost use Rattle.values.specs.Slots.{entry_of, value_of, wrong_entry};
 use model::turns::Fault;
 use model::values::{Entry, Kind, Value};
 
-/// An entry of a frame's locals, a value of its stack, a word of an object or the value of a static field, of 16 bytes and with
-/// no enum in it, so that one look at the tag tells what stands there.
-// The order lets each question on a slot be two comparisons at most: what is a number, what is no number and no reference
-// to an object, and what is one.
+/// An entry of a frame's locals, a value of its stack, a word of an object or the value of a static field, of 16 bytes
+/// and with no enum in it, so that one look at the tag tells what stands there.
+// The order lets each question on a slot be two comparisons at most: what is a number, what is no number and no
+// reference to an object, and what is one.
 #[derive(Clone, Copy)]
 pub enum Slot {
     Int(i32),
@@ -139,8 +139,8 @@ pub fn operand_in(kind: Kind, slot: Slot) -> Result<Value, Fault>
     }
 }
 
-/// The value in a local's slot, where it is of the kind that is wanted; F3 where it is unset or of another kind, F4 where
-/// it is the upper half of a long.
+/// The value in a local's slot, where it is of the kind that is wanted; F3 where it is unset or of another kind, F4
+/// where it is the upper half of a long.
 #[inline(always)]
 pub fn local_in(kind: Kind, slot: Slot) -> Result<Value, Fault>
     ensures { result ≡ value_in_entry kind (Some (entry_of slot)) }

@@ -1,5 +1,6 @@
 //! Words: the values that objects and static fields keep, each in a flat slot.
-ghost use Rattle.std.specs.Prelude.{◌≡◌, ◌+◌, ◌<◌, ◌≤◌, ◌++◌, length, map, slice_get, slice_set, take, drop, replicate, vec_len, IfOk};
+ghost use Rattle.std.specs.Prelude.{◌≡◌, ◌+◌, ◌<◌, ◌≤◌, ◌++◌, length, map, slice_get, slice_set, take, drop, replicate};
+ghost use Rattle.std.specs.Prelude.{vec_len, IfOk};
 ghost use Rattle.std.specs.Option.{option_map};
 ghost use Rattle.values.specs.Slots.{value_of};
 
@@ -25,7 +26,8 @@ impl Model for Words {
 }
 
 impl Words {
-    /// So many words, all the same. All the memory that they ever take is taken here: `AllocError` where there is not so much.
+    /// So many words, all the same. All the memory that they ever take is taken here: `AllocError` where there is not
+    /// so much.
     pub fn new(alloc: Global, count: usize, value: Value) -> Result<Words, AllocError>
         ensures { IfOk result (λ words. words ≡ replicate count value) }
     {
@@ -106,7 +108,8 @@ impl Words {
 /// Makes so many slots from this one on the same.
 fn fill(slots: &mut Vec<Slot>, base: usize, count: usize, slot: Slot)
     requires { base + count ≤ vec_len slots.old }
-    ensures { slots.new.items ≡ take base slots.old.items ++ replicate count slot ++ drop (base + count) slots.old.items }
+    ensures { slots.new.items ≡ take base slots.old.items ++ replicate count slot
+        ++ drop (base + count) slots.old.items }
 {
     slots[base..base + count].fill(slot);
 }

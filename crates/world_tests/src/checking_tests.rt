@@ -33,8 +33,8 @@ const DIVISION: [Op; 4] = [Op::One, Op::Zero, Op::Divide, Op::Return];
 /// Is at fault where it prints.
 const PRINT: [Op; 2] = [Op::Nop, Op::Print];
 
-/// Mains, the small cells of a heap, and the collector's turns after each of the thread's: with room for both arrays, for one
-/// of them unless its cell is used again, and with none.
+/// Mains, the small cells of a heap, and the collector's turns after each of the thread's: with room for both arrays,
+/// for one of them unless its cell is used again, and with none.
 const RUNS: [(&[Op], u32, u32); 6] = [
     (&ARRAYS, 4, 1),
     (&ARRAYS, 3, 0),
@@ -54,7 +54,8 @@ fn world_of(alloc: Global, program: &Program, small: u32) -> Result<World, Fail>
     Ok(World::new(alloc, program.copy()?, shape, LIMITS)?)
 }
 
-/// Whether a world shows the ideal run once both have made a turn of each actor, and not while the world is a turn ahead.
+/// Whether a world shows the ideal run once both have made a turn of each actor, and not while the world is a turn
+/// ahead.
 fn shows_each(
     world: &mut World,
     run: &mut Ideal<'_>,

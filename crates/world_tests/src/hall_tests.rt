@@ -122,7 +122,8 @@ fn world_of_arrays(alloc: Global) -> Result<World, Fail>
     Ok(World::new(alloc, program, shape, limits)?)
 }
 
-/// What a carrier is answered until a collection is due and once more, what the collector then, and the carrier behind it.
+/// What a carrier is answered until a collection is due and once more, what the collector then, and the carrier behind
+/// it.
 fn due_collection<L: Ledger, R: Wait>(
     rt: &R,
     alloc: Global,

@@ -1,5 +1,5 @@
-//! Programs that make objects: births, cells, colours and rows after turns of threads and the collector. What they come to is
-//! worked out by hand from the collector's step (CACM 21(11)) and the JVMS (6.5).
+//! Programs that make objects: births, cells, colours and rows after turns of threads and the collector. What they come
+//! to is worked out by hand from the collector's step (CACM 21(11)) and the JVMS (6.5).
 
 use loader::accept;
 use loader::programs::Program;
@@ -138,8 +138,8 @@ fn a_new_object_stays_grey(rt: HostRuntime) -> Result<(), Fail> {
     Ok(())
 }
 
-/// The only reference to an object moves from a field that the collector hasn't looked at to a stack that it has: what getfield
-/// reads is shaded, so that the object stays.
+/// The only reference to an object moves from a field that the collector hasn't looked at to a stack that it has: what
+/// getfield reads is shaded, so that the object stays.
 #[test]
 fn what_is_loaded_is_shaded(rt: HostRuntime) -> Result<(), Fail> {
     let mut world = world_of(rt.alloc(), LINKED, 4)?;

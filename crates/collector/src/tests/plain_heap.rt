@@ -1,5 +1,5 @@
-//! A second heap, written from the rules alone and in the plainest way: objects in a map by birth, free cells in a map by
-//! number, and no list. What is first in a list is found by a look at everything.
+//! A second heap, written from the rules alone and in the plainest way: objects in a map by birth, free cells in a map
+//! by number, and no list. What is first in a list is found by a look at everything.
 
 use super::roots::Roots;
 use model::colours::{Cell, Colour, Phase};
@@ -87,8 +87,8 @@ impl PlainHeap {
         self.time
     }
 
-    /// Of the free cells with room for so many words, one of the smallest size; of these the one that is free the longest;
-    /// of those that were never taken the one with the least number.
+    /// Of the free cells with room for so many words, one of the smallest size; of these the one that is free the
+    /// longest; of those that were never taken the one with the least number.
     fn first_free(&self, words: u32) -> Option<u32> {
         let mut first: Option<(u32, u64, u32)> = None;
         for (cell, time) in self.free.iter() {
@@ -256,7 +256,8 @@ impl PlainHeap {
         }
     }
 
-    /// A word of what has been grey the longest; behind its last word it turns black. Where nothing is grey, the appending.
+    /// A word of what has been grey the longest; behind its last word it turns black. Where nothing is grey, the
+    /// appending.
     fn mark(&mut self, word: u32) {
         let Some(birth) = self.front() else {
             self.phase = Phase::Append { cell: 0 };

@@ -31,7 +31,8 @@ pub(crate) struct Places {
 }
 
 impl References for Places {
-    ghost world = { λ s. listed_world s.roots.slots (map (λ f. frame_with f.entries f.monitor) s.roots.frames) s.cells.objects };
+    ghost world = { λ s. listed_world s.roots.slots
+        (map (λ f. frame_with f.entries f.monitor) s.roots.frames) s.cells.objects };
 
     fn slots(&self) -> u32 {
         4
@@ -92,7 +93,9 @@ impl References for Places {
 impl Places {
     /// A frame of the one thread, if there is such a frame.
     fn frame(&self, thread: u32, frame: u32) -> Option<FrameRoots>
-        ensures { slice_get (frames_of (slice_get (Live (map (λ f. frame_with f.entries f.monitor) self.now.roots.frames) ∷ []) thread)) frame ≡ option_map (λ f. frame_with f.entries f.monitor) result }
+        ensures { slice_get (frames_of (slice_get
+            (Live (map (λ f. frame_with f.entries f.monitor) self.now.roots.frames) ∷ []) thread)) frame
+            ≡ option_map (λ f. frame_with f.entries f.monitor) result }
     {
         if thread == 0 {
             self.roots.frames.get(frame as usize).copied()
@@ -147,7 +150,8 @@ impl RealHeap {
         })
     }
 
-    /// A new object of so many words, grey: its reference. `None` where no free cell has room, or where somebody is in it.
+    /// A new object of so many words, grey: its reference. `None` where no free cell has room, or where somebody is in
+    /// it.
     pub(crate) fn create(&mut self, words: u32) -> Option<u32> {
         let cell = self.account.create(words, self.births)?;
         self.births = self.births.saturating_add(1);

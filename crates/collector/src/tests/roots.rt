@@ -1,5 +1,5 @@
-//! The roots of a machine for tests: four static slots, and two frames of one thread, each with two entries and a method
-//! monitor. What leads somewhere is a number: a birth in the one heap, a reference in the other.
+//! The roots of a machine for tests: four static slots, and two frames of one thread, each with two entries and a
+//! method monitor. What leads somewhere is a number: a birth in the one heap, a reference in the other.
 
 /// A frame's entries and its method monitor.
 #[derive(Clone, Copy)]

@@ -1,4 +1,5 @@
-//! Where births are, what their cells hold, and which of these paths lead to: for those who look at a world from outside.
+//! Where births are, what their cells hold, and which of these paths lead to: for those who look at a world from
+//! outside.
 ghost use Rattle.std.specs.Prelude.{◌≡◌, ◌+◌, ◌<◌, ◌≤◌, ◌^◌, ℕ, length, slice_get, is_some, IfOk, IfSome, Some, true};
 ghost use Rattle.model.specs.Collector.Reached.{is_reached};
 ghost use Rattle.model.specs.Collector.Table.{cell_at};
@@ -95,8 +96,10 @@ impl Heap {
     ) -> Result<Vec<bool>, AllocError>
         requires few { length slots.now < 2 ^ 32 }
         requires running { running < 64 }
-        ensures { let w : World = looked_at program.now (all_shown program.now threads.now running frames.now) slots.now self.now in
-            IfOk result (λ marks. (r : ℕ) → r ≤ length self.now.objects → slice_get marks.items r ≡ Some (is_reached w r)) }
+        ensures { let w : World = looked_at program.now
+            (all_shown program.now threads.now running frames.now) slots.now self.now in
+            IfOk result (λ marks. (r : ℕ) → r ≤ length self.now.objects
+            → slice_get marks.items r ≡ Some (is_reached w r)) }
     {
         let looked = Looked {
             program,

@@ -15,8 +15,8 @@ impl Heap {
         }
     }
 
-    /// The object of a reference knows the thread that is started on it by this number. Where there is no object, nothing
-    /// changes.
+    /// The object of a reference knows the thread that is started on it by this number. Where there is no object,
+    /// nothing changes.
     pub(crate) fn set_thread(&mut self, reference: u32, thread: u32)
         ensures { self.new ≡ with_thread_on self.old reference thread }
     {

@@ -28,7 +28,8 @@ fn state_of(states: &[ClassState], class: usize) -> Option<ClassState>
 impl State {
     /// The state of the class of a name: one of the machine's own is initialised. `None` where there is no such class.
     pub fn class_state(&self, name: &[u8]) -> Option<ClassState>
-        ensures { result ≡ option_map (λ (class : ClassListing). state_named self.now.program self.now.machine.world name.now)
+        ensures { result ≡ option_map
+            (λ (class : ClassListing). state_named self.now.program self.now.machine.world name.now)
             (class_named self.now.program name.now) }
     {
         match place_named(self.program.listings(), name) {

@@ -49,7 +49,8 @@ fn field_views(
     words: &[Value],
 ) -> Result<Vec<FieldView>, AllocError>
     requires { length words.now ≤ length fields.now }
-    ensures { IfOk result (λ views. views.items ≡ map (named_field (birth_read heap.now.account.cells)) (keyed (map unwritten fields.now) words.now)) }
+    ensures { IfOk result (λ views. views.items
+        ≡ map (named_field (birth_read heap.now.account.cells)) (keyed (map unwritten fields.now) words.now)) }
 {
     let mut views = Vec::with_capacity(alloc, words.len())?;
     for place in 0..words.len() {
@@ -67,7 +68,9 @@ fn fields_of(
     words: &[Value],
 ) -> Result<Vec<FieldView>, AllocError>
     requires { length words.now ≤ length (layout program.now class.now) }
-    ensures { IfOk result (λ views. views.items ≡ map (named_field (birth_read heap.now.account.cells)) (keyed (map unwritten (layout program.now class.now)) words.now)) }
+    ensures { IfOk result (λ views. views.items
+        ≡ map (named_field (birth_read heap.now.account.cells))
+        (keyed (map unwritten (layout program.now class.now)) words.now)) }
 {
     let classes = Classes::new(alloc, program.listings())?.unwrap();
     let fields = classes.layout(alloc, class)?;
@@ -83,7 +86,8 @@ fn contents_view(
     words: &[Value],
 ) -> Result<ContentsView, AllocError>
     requires { IsStored program.now kind words.now }
-    ensures { IfOk result (λ view. contents_in view ≡ named_contents (birth_read heap.now.account.cells) (contents_shown program.now kind words.now)) }
+    ensures { IfOk result (λ view. contents_in view
+        ≡ named_contents (birth_read heap.now.account.cells) (contents_shown program.now kind words.now)) }
 {
     match kind {
         Kind::Instance(class) => {

@@ -1,6 +1,7 @@
-//! All that the state of a running program shows: its threads, static fields, class states and objects as plain data, with
-//! births in place of references, for those who compare it with another world.
-ghost use Rattle.std.specs.Prelude.{◌≡◌, ◌<◌, ◌≤◌, ◌++◌, suc, length, map, slice_get, slice_index_or, is_some, IfOk, OnOk, Some, false, true};
+//! All that the state of a running program shows: its threads, static fields, class states and objects as plain data,
+//! with births in place of references, for those who compare it with another world.
+ghost use Rattle.std.specs.Prelude.{◌≡◌, ◌<◌, ◌≤◌, ◌++◌, suc, length, map, slice_get, slice_index_or, is_some, IfOk};
+ghost use Rattle.std.specs.Prelude.{OnOk, Some, false, true};
 ghost use Rattle.std.specs.Option.{option_map};
 ghost use Rattle.model.specs.Classes.Flags.{is_static_field};
 ghost use Rattle.model.specs.Collector.Table.{cell_at};
@@ -85,7 +86,8 @@ fn slot_value(slots: &Words, slot: usize) -> Value
 
 /// A field of this name, holding this word.
 fn field_holding(heap: &Heap, key: &FieldView, word: Value) -> Result<FieldView, AllocError>
-    ensures { IfOk result (λ view. view ≡ named_field (birth_read heap.now.account.cells) (record key.now { value = word })) }
+    ensures { IfOk result (λ view. view ≡ named_field (birth_read heap.now.account.cells)
+        (record key.now { value = word })) }
 {
     Ok(FieldView {
         class: key.class.share()?,
@@ -103,7 +105,8 @@ fn fields_holding(
     slots: &Words,
 ) -> Result<Vec<FieldView>, AllocError>
     requires { length slots.now ≤ length keys.now }
-    ensures { IfOk result (λ views. views.items ≡ map (named_field (birth_read heap.now.account.cells)) (keyed keys.now slots.now)) }
+    ensures { IfOk result (λ views. views.items
+        ≡ map (named_field (birth_read heap.now.account.cells)) (keyed keys.now slots.now)) }
 {
     let mut views = Vec::with_capacity(alloc, slots.len())?;
     for slot in 0..slots.len() {
@@ -132,7 +135,8 @@ fn held_view(
 ) -> Result<Option<HeldView>, AllocError>
     requires { is_some (object_if (slice_get heap.now.objects cell)) ≡ true }
     ensures { IfOk result (λ view. view ≡ option_map (held_of birth)
-        (option_map (named_object (birth_read heap.now.account.cells)) (slice_get (objects_shown program.now heap.now.objects) (suc cell)))) }
+        (option_map (named_object (birth_read heap.now.account.cells))
+        (slice_get (objects_shown program.now heap.now.objects) (suc cell)))) }
 {
     let cells = heap.cells();
     let Some(kind) = cells.kind(cell) else {
@@ -179,7 +183,8 @@ impl State {
 
     /// A copy of the static fields, in class and field order. `AllocError` where memory runs out.
     pub fn static_fields(&self) -> Result<Vec<FieldView>, AllocError>
-        ensures { IfOk result (λ views. views.items ≡ map (named_field (birth_read self.now.machine.account.cells)) self.now.machine.world.statics.fields) }
+        ensures { IfOk result (λ views. views.items
+            ≡ map (named_field (birth_read self.now.machine.account.cells)) self.now.machine.world.statics.fields) }
     {
         let alloc = *self.machine.states.allocator();
         let keys = static_keys(alloc, self.program.listings())?;
@@ -204,7 +209,8 @@ impl State {
     /// A copy of what a cell holds; none where no path leads to it, by these marks. `AllocError` where memory runs out.
     fn held(&self, marks: &[bool], cell: u32) -> Result<Option<HeldView>, AllocError>
         requires { AreMarks self.now.machine.world marks.now }
-        ensures { IfOk result (λ view. view ≡ held_on self.now.machine cell (cell_at self.now.machine.account.cells cell)) }
+        ensures { IfOk result (λ view. view ≡ held_on self.now.machine cell
+            (cell_at self.now.machine.account.cells cell)) }
     {
         let alloc = *self.machine.states.allocator();
         match self.machine.heap.birth_in(cell) {
@@ -219,8 +225,8 @@ impl State {
         }
     }
 
-    /// A copy of what each cell holds, in order; none where no path leads to it. `AllocError` where memory runs out. It takes
-    /// time in proportion to the heap, the frames and the names of classes.
+    /// A copy of what each cell holds, in order; none where no path leads to it. `AllocError` where memory runs out. It
+    /// takes time in proportion to the heap, the frames and the names of classes.
     pub fn helds(&self) -> Result<Vec<Option<HeldView>>, AllocError>
         ensures { IfOk result (λ views. views.items ≡ helds_from self.now.machine 0 self.now.machine.account.cells) }
     {

@@ -90,10 +90,11 @@ fn named_frames(
 }
 
 impl State {
-    /// A copy of a thread: its frames, or that it has ended; none where it was never started. `AllocError` where memory runs
-    /// out.
+    /// A copy of a thread: its frames, or that it has ended; none where it was never started. `AllocError` where memory
+    /// runs out.
     pub fn thread(&self, thread: u8) -> Result<Option<ThreadView>, AllocError>
-        ensures { IfOk result (λ view. view ≡ option_map (named_thread (birth_read self.now.machine.account.cells)) (slice_get self.now.machine.world.threads thread)) }
+        ensures { IfOk result (λ view. view ≡ option_map (named_thread (birth_read self.now.machine.account.cells))
+            (slice_get self.now.machine.world.threads thread)) }
     {
         let alloc = *self.machine.states.allocator();
         match self.threads.course(thread) {

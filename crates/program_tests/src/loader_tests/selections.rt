@@ -1,4 +1,5 @@
-//! Selection tables and selectors of a small program, by hand from JVMS 6.5, invokevirtual. Private methods are passed over.
+//! Selection tables and selectors of a small program, by hand from JVMS 6.5, invokevirtual. Private methods are passed
+//! over.
 
 use super::tables::tables_of;
 use crate::texts::classes;
@@ -9,13 +10,13 @@ use std::fmt::Write;
 use std::process::Abort;
 use std::test::Fail;
 
-/// Of A's methods g is private and s static. J is an interface; its k is declared by no class that implements it. Main makes
-/// calls.
+/// Of A's methods g is private and s static. J is an interface; its k is declared by no class that implements it. Main
+/// makes calls.
 const CLASSES: &str =
     "class A|code 1 1 public f()I|code 1 0 private g()V|code 0 0 public static s()V|code 2 0 public h(I)V|code 1 0 public h()V|main:|invokevirtual A/f()I|invokestatic A/s()V|invokeinterface J/k()V 1|invokevirtual B/f()I|invokespecial A/g()V|invokevirtual B/h(I)V|return|end; class B < A|.implements J|code 1 1 public f()I|code 1 0 public g()V; class T < java/lang/Thread|code 1 0 public run()V; interface J|.method public abstract k()V|end";
 
-/// The rows of the classes of some numbers: the class and the place of each method. Object has the number 4, Thread 25 and
-/// vm/Sys 26, behind the program's four. The order is of names, then of descriptors.
+/// The rows of the classes of some numbers: the class and the place of each method. Object has the number 4, Thread 25
+/// and vm/Sys 26, behind the program's four. The order is of names, then of descriptors.
 const TABLES: &[(usize, &str)] = &[
     (0, "4.0 0.0 0.4 0.3 "),
     (1, "4.0 1.0 1.1 0.4 0.3 "),

@@ -16,8 +16,8 @@ use std::alloc::Global;
 use std::process::Abort;
 use std::test::Fail;
 
-/// A is 0, B 1 and J 2; `java/lang/Object` is 3, `java/lang/Throwable` 4 and `vm/Sys`, the last one, 25. The field s begins as
-/// -1, g is abstract, and f has three exception rows.
+/// A is 0, B 1 and J 2; `java/lang/Object` is 3, `java/lang/Throwable` 4 and `vm/Sys`, the last one, 25. The field s
+/// begins as -1, g is abstract, and f has three exception rows.
 const CLASSES: &str =
     "class A|.field public x B|.field static s C = -1|.field public y J|main|.method public static f(IJ[[I)J|.limit stack 2|.limit locals 5|.catch B from X to Z using Y|.catch Q from X to Z using Y|.catch all from X to Z using Y|X:|nop|Y:|return|Z:|end|code 0 0 static <clinit>()V; class B < A|.implements J|.field public z S|.field static t LA;|.method public abstract g()V|end; interface J|.field public static final c I";
 
@@ -135,8 +135,8 @@ fn has_f(tables: &MethodTables) -> bool {
     }
 }
 
-/// A class with the place of its initializer, and whether it wants initialising: B does for its superclass A, an interface never
-/// (JVMS 5.5).
+/// A class with the place of its initializer, and whether it wants initialising: B does for its superclass A, an
+/// interface never (JVMS 5.5).
 const INITIALIZERS: &[(usize, usize, bool)] = &[
     (0, 2, true),
     (1, 1, true),

@@ -24,7 +24,8 @@ pub struct Head {
 
 /// What stands before the rows, and the text behind it. N1, N2 and N7 for the first line that is faulty.
 pub fn read_head(text: &[u8]) -> Result<(Head, &[u8]), JournalError>
-    ensures { MatchResult result (λ r. (head_at text.now ≡ Some (r.0, r.1.now)) × Fits r.0) (λ _. IfSome (head_at text.now) (λ r. ¬ Fits r.0)) }
+    ensures { MatchResult result (λ r. (head_at text.now ≡ Some (r.0, r.1.now))
+        × Fits r.0) (λ _. IfSome (head_at text.now) (λ r. ¬ Fits r.0)) }
 {
     let (version, rest) = first_line(text).ok_or(JournalError::Version)?;
     let (shape, rest) = heap(rest).ok_or(JournalError::Head)?;

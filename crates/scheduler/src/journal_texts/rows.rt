@@ -1,7 +1,8 @@
 //! The rows of a journal's text.
 ghost use Rattle.std.specs.Prelude.{◌≡◌, ◌++◌, ◌≢◌, true, All, MatchResult};
 ghost use Rattle.model.specs.JournalTexts.{lines_of_rows};
-ghost use Rattle.scheduler.specs.JournalReading.{Tells, actor_at, outcome_of, outcome_at, worker_at, row_at, is_over, line_by, FitsRow, FitsVersion, HasRows};
+ghost use Rattle.scheduler.specs.JournalReading.{Tells, actor_at, outcome_of, outcome_at, worker_at, row_at, is_over};
+ghost use Rattle.scheduler.specs.JournalReading.{line_by, FitsRow, FitsVersion, HasRows};
 ghost use Rattle.scheduler.specs.declared.journal_texts.errors.JournalError.{JournalError};
 
 use crate::journal_texts::errors::JournalError;
@@ -21,7 +22,9 @@ pub fn rows(
     text: &[u8],
 ) -> Result<(RowRuns, &[u8]), JournalError>
     requires { FitsVersion version workers }
-    ensures { MatchResult result (λ r. (text.now ≡ lines_of_rows (line_by version) r.0.rows ++ r.1.now) × All (FitsRow workers) r.0.rows × (is_over r.1.now ≡ true)) (λ e. e ≢ JournalError.Memory → ¬ HasRows version workers text.now) }
+    ensures { MatchResult result (λ r. (text.now ≡ lines_of_rows (line_by version) r.0.rows ++ r.1.now)
+        × All (FitsRow workers) r.0.rows × (is_over r.1.now ≡ true)) (λ e. e ≢ JournalError.Memory
+        → ¬ HasRows version workers text.now) }
 {
     let mut rows = RowRuns::new(alloc);
     let mut rest = text;

@@ -13,8 +13,8 @@ pub fn behind<'a>(word: &[u8], text: &'a [u8]) -> Option<&'a [u8]>
     text.strip_prefix(word)
 }
 
-/// The number with which the text begins, and what stands behind it and the byte `end`. It is written as it prints: without
-/// a sign, a leading zero or anything else.
+/// The number with which the text begins, and what stands behind it and the byte `end`. It is written as it prints:
+/// without a sign, a leading zero or anything else.
 pub fn number(text: &[u8], end: u8) -> Option<(u32, &[u8])>
     ensures { Tells result (number_at end text.now) }
 {

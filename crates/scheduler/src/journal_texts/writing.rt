@@ -1,6 +1,7 @@
 //! The text of a journal.
 ghost use Rattle.std.specs.Prelude.{◌≡◌, ◌+◌, ◌++◌, [], ◌∷◌, IfOk, length, decimal};
-ghost use Rattle.model.specs.JournalTexts.{outcome_letter, actor_word, number_text, heap_line, limits_line, workers_line, row_line, lines_of_rows, end_line, journal_text};
+ghost use Rattle.model.specs.JournalTexts.{outcome_letter, actor_word, number_text, heap_line, limits_line};
+ghost use Rattle.model.specs.JournalTexts.{workers_line, row_line, lines_of_rows, end_line, journal_text};
 
 use itoa::Buffer;
 use model::journal_parts::JournalParts;

@@ -39,9 +39,11 @@ impl World {
         self.state.static_fields()
     }
 
-    /// A copy of what each cell holds, in order; none where no path leads to its birth. `AllocError` where memory runs out.
+    /// A copy of what each cell holds, in order; none where no path leads to its birth. `AllocError` where memory runs
+    /// out.
     pub(crate) fn helds(&self) -> Result<Vec<Option<HeldView>>, AllocError>
-        ensures { IfOk result (λ views. views.items ≡ map (shown_in (machine_of self.now)) (machine_of self.now).account.cells) }
+        ensures { IfOk result (λ views. views.items
+            ≡ map (shown_in (machine_of self.now)) (machine_of self.now).account.cells) }
     {
         self.state.helds()
     }

@@ -1,5 +1,5 @@
-//! Every statement and mnemonic with the bytes that it assembles to. The bytes are those of tools/plain_asm.py, and `javap`
-//! says of each file what its text says.
+//! Every statement and mnemonic with the bytes that it assembles to. The bytes are those of tools/plain_asm.py, and
+//! `javap` says of each file what its text says.
 
 use super::{Wanted, has_answer};
 use crate::class_bytes::{E, TEXT_OF_E};
@@ -252,8 +252,8 @@ const ORDER_BYTES: &str =
     09000200090c000500060a0002000b0b0002000b0100014307000e0020000200040000000000010008000500060001000700\
     00001b000200000000000fb2000ab8000cb9000d0100bb000fb1000000000000";
 
-/// What is named again has the number that it has, `Code` as a class's name and as the attribute's among them; a long takes
-/// two numbers.
+/// What is named again has the number that it has, `Code` as a class's name and as the attribute's among them; a long
+/// takes two numbers.
 const ONCE: &str = "\
 .class A
 .super Code

@@ -212,7 +212,8 @@ fn a_field_with_a_methods_descriptor(rt: HostRuntime) -> Result<(), Fail> {
     Ok(())
 }
 
-/// A static or other field of type I whose ConstantValue has this number, in E's pool with an Integer behind its entries.
+/// A static or other field of type I whose ConstantValue has this number, in E's pool with an Integer behind its
+/// entries.
 fn with_value(alloc: Global, flags: u16, value: u16) -> Result<bool, Fail> {
     let mut pool = entries(alloc)?;
     let name = pool.add(text(alloc, "ConstantValue")?)?;

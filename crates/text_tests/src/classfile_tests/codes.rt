@@ -150,7 +150,8 @@ fn code_has_65535_bytes_at_most(rt: HostRuntime) -> Result<(), Fail> {
     Ok(())
 }
 
-/// What users are told of some nops, `ldc` of that Integer, and a tableswitch from 2147483646 with two labels behind these pads.
+/// What users are told of some nops, `ldc` of that Integer, and a tableswitch from 2147483646 with two labels behind
+/// these pads.
 fn told_of_pads(alloc: Global, nops: &str, pads: &str, to_end: &str) -> Result<String, Fail> {
     let code = format!(in alloc;
         "{nops} 12 08 aa {pads} {to_end} 7ffffffe 7fffffff {to_end} {to_end} b1"
@@ -309,7 +310,8 @@ fn a_method_has_code_or_none(rt: HostRuntime) -> Result<(), Fail> {
     Ok(())
 }
 
-/// A descriptor's length, the ints behind its 127 longs, which take 254 units, and a method that has it; and what users are told.
+/// A descriptor's length, the ints behind its 127 longs, which take 254 units, and a method that has it; and what users
+/// are told.
 const ARGUMENTS: &[(&str, &str, &str, &str)] = &[
     ("0083", "49", "0001 0109 0005 0008 0000", "read"),
     ("0084", "4949", "0001 0109 0005 0008 0000", "C7"),

@@ -1,5 +1,5 @@
-//! Rounds of a small main. The rows are counted by hand: each turn of the thread with one of the collector behind it, but for
-//! the last, after which the world runs no more.
+//! Rounds of a small main. The rows are counted by hand: each turn of the thread with one of the collector behind it,
+//! but for the last, after which the world runs no more.
 
 use super::sum_after;
 use model::journals::{Outcome, Row};
