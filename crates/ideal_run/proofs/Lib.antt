@@ -2,7 +2,6 @@ pub mod ArgumentLemmas
 pub mod CallLemmas
 pub mod ChainLemmas
 pub mod EffectLemmas
-pub mod KeyLemmas
 pub mod OpeningLemmas
 pub mod PlaceLemmas
 pub mod PlainLemmas

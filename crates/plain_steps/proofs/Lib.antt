@@ -1,5 +1,4 @@
 pub mod BirthLemmas
 pub mod GroupLemmas
 pub mod HotLemmas
-pub mod KeyLemmas
 pub mod TableLemmas

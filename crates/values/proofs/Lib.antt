@@ -1,2 +1,3 @@
 pub mod WrapLemmas
 pub mod WordLemmas
+pub mod KeyLemmas

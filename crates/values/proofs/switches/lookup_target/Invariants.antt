@@ -1,6 +1,6 @@
 use Rattle.std.proofs.Common.{◌≡◌, drop}
 use Rattle.model.specs.Table.Switches.{target_of_key}
-use Rattle.plain_steps.proofs.switches.lookup_target.Given as goal
+use Rattle.values.proofs.switches.lookup_target.Given as goal
 
 -- the keys that were passed are others
 abbrev pub invariant-loop-wanted : goal.invariant-loop-wanted
