@@ -1,10 +1,12 @@
 //! Edge values from outside: what Java 17 answers for the same operands.
 
-use model::instructions::{Comparison, Operator};
+use model::instructions::{Comparison, LookupSwitch, Operator, TableSwitch};
+use std::alloc::{AllocError, Global};
 use std::process::Abort;
+use std::test::Fail;
 use values::{
-    IntType, compare_ints, compare_longs, int_to_long, iop, long_to_int, lop, negate_int,
-    negate_long, truncate,
+    IntType, compare_ints, compare_longs, int_to_long, iop, long_to_int, lookup_target, lop,
+    negate_int, negate_long, table_target, truncate,
 };
 
 const INTS: &[(Operator, i32, i32, Option<i32>)] = &[
@@ -90,6 +92,40 @@ fn compares_longs() -> bool {
     compare_longs(i64::MIN, i64::MAX) == -1
         && compare_longs(5, 5) == 0
         && compare_longs(4294967296, 1) == 1
+}
+
+/// Whether a table from 2147483646 on leads to 3 and 4, else to 9: past its ends, where a distance has more than 32 bits.
+fn table_leads(alloc: Global) -> Result<bool, AllocError> {
+    let table = TableSwitch {
+        low: 2147483646,
+        targets: [3u16, 4].to_vec(alloc)?,
+        default: 9,
+    };
+    Ok(
+        table_target(&table, 2147483646) == 3
+            && table_target(&table, i32::MAX) == 4
+            && table_target(&table, 2147483645) == 9
+            && table_target(&table, i32::MIN) == 9,
+    )
+}
+
+/// Whether -5 and 0 lead to 3 and 4, and another key to 9.
+fn lookup_leads(alloc: Global) -> Result<bool, AllocError> {
+    let lookup = LookupSwitch {
+        pairs: [(-5, 3u16), (0, 4)].to_vec(alloc)?,
+        default: 9,
+    };
+    Ok(
+        lookup_target(&lookup, -5) == 3
+            && lookup_target(&lookup, 0) == 4
+            && lookup_target(&lookup, 5) == 9,
+    )
+}
+
+#[test]
+fn switches_lead(rt: HostRuntime) -> Result<(), Fail> {
+    assert!(rt; table_leads(rt.alloc())? && lookup_leads(rt.alloc())?);
+    Ok(())
 }
 
 #[test]
