@@ -1,6 +1,6 @@
 -- classes and those above them, step by step
-use Rattle.std.proofs.Common.{◌≡◌, ℕ, zero, suc, ◌+◌, ◌-◌, ◌<◌, ◌≤◌, List, [], ◌∷◌, Bool, true, false, ◌||◌, length, position, get_or, slice_get, slice_index_or, Option, Some, None, refl, ap, sym, ◌∙◌, arith}
-use Rattle.std.specs.List.{find, list_any}
+use Rattle.std.proofs.Common.{◌≡◌, ℕ, suc, ◌+◌, ◌-◌, ◌<◌, List, [], ◌∷◌, Bool, false, ◌||◌, length, position, get_or, slice_get, slice_index_or, Option, Some, None, refl, ap, sym, ◌∙◌, arith}
+use Rattle.std.specs.List.{list_any}
 use Rattle.std.specs.Option.{option_and_then, option_map_or}
 use Rattle.std.proofs.lemmas.Option.{slice_get-get_or}
 use Rattle.model.specs.declared.turns.ClassState.{ClassState}

@@ -1,10 +1,10 @@
 -- what completions do, by what the code has of them
-use Rattle.std.proofs.Common.{◌≡◌, ℕ, suc, ◌+◌, ◌<◌, ◌≤◌, List, [], ◌∷◌, ◌++◌, Bool, true, false, not, cond, length, nat_le, reverse, slice_get, Vec, Option, Some, None, refl, ap, sym, ◌∙◌, arith}
+use Rattle.std.proofs.Common.{◌≡◌, ℕ, List, [], ◌∷◌, ◌++◌, Bool, true, false, not, cond, length, nat_le, reverse, slice_get, Vec, Option, Some, None, refl, ap, sym, ◌∙◌}
 use Rattle.std.specs.Global.{Global}
 use Rattle.model.specs.declared.turns.Fault.TheVariants.{StackFull}
 use Rattle.model.specs.ClassListings.{ClassListing}
 use Rattle.model.specs.Frames.{Frame}
-use Rattle.model.specs.Objects.{class_if, class_at, class_of, with_new, object_at}
+use Rattle.model.specs.Objects.{class_if, class_at, class_of, object_at}
 use Rattle.model.specs.Table.Threads.{with_more}
 use Rattle.model.specs.Unwinding.{Landing, Way, landed, way_of, without, unwound, thrown}
 use Rattle.model.specs.Unwinding.Landing.{Handled, Stopped, Unhandled}
@@ -17,7 +17,7 @@ use Rattle.ideal_run.specs.declared.completions.Change.{Change}
 use Rattle.ideal_run.specs.declared.completions.Change.TheVariants as change
 use Rattle.ideal_run.specs.declared.worlds.Step.{Step}
 use Rattle.ideal_run.specs.declared.worlds.Step.TheVariants.{Runs}
-use Rattle.ideal_run.specs.Completed.{changed, initialised_in, moved_to, runs_on}
+use Rattle.ideal_run.specs.Completed.{changed, moved_to, runs_on}
 use Rattle.ideal_run.specs.Effected.{is_full, with_states_in, with_new_if}
 use Rattle.ideal_run.specs.Steps.{stepped, monitor_in, started_if, started_on}
 use Rattle.ideal_run.specs.Ways.{way_in, thread_landed}

@@ -5,7 +5,7 @@ use Rattle.model.specs.declared.turns.Abrupt.TheVariants.{Fault as Faulted, Thro
 use Rattle.model.specs.declared.turns.Exception.{Exception}
 use Rattle.model.specs.declared.turns.Exception.TheVariants.{Arithmetic, NullPointer, ClassCast, NegativeArraySize, ArrayStore, IllegalMonitorState, ArrayIndexOutOfBounds, IllegalThreadState, StackOverflow, ExceptionInInitializer, NoClassDefFound}
 use Rattle.model.specs.Completions.{Completion, Site, completes, completes_abruptly, raises}
-use Rattle.model.specs.Frames.{Frame, Moved}
+use Rattle.model.specs.Frames.{Moved}
 use Rattle.model.specs.Table.Returns.{resumes}
 use Rattle.model.specs.Table.Initialisation.{after_initialising}
 use Rattle.model.specs.Table.Next.{Listed, by_family, class_used, at_site}

@@ -1,5 +1,5 @@
 -- a turn, rule by rule
-use Rattle.std.proofs.Common.{◌≡◌, ℕ, ◌<◌, ◌≤◌, Bool, true, false, ◌&&◌, ◌||◌, not, is_none, if◌then◌else◌, List, length, nat_le, Option, Some, None, refl, ap, sym, ◌∙◌, arith}
+use Rattle.std.proofs.Common.{◌≡◌, ℕ, ◌<◌, ◌≤◌, Bool, true, false, ◌&&◌, ◌||◌, not, is_none, if◌then◌else◌, List, Option, Some, None, refl, ap, sym, ◌∙◌}
 use Rattle.std.proofs.lemmas.Bool.{le-leb, lt-leb}
 use Rattle.model.specs.declared.journals.Limits.{Limits}
 use Rattle.model.specs.declared.turns.Actor.{Actor}
@@ -11,7 +11,6 @@ use Rattle.model.specs.ClassListings.{ClassListing}
 use Rattle.model.specs.Completions.{Completion, waits, prints}
 use Rattle.model.specs.Completions.Completion.{Goes, Prints, Creates, Throws, Raises, Denies, Faults, Waits}
 use Rattle.model.specs.Effects.{Choice, effect_of}
-use Rattle.model.specs.Effects.Choice.{NewObject, NoRoom}
 use Rattle.model.specs.Ready.{is_ready}
 use Rattle.model.specs.Table.Next.{completion, next}
 use Rattle.model.specs.Turns.{passes, overflows, actor_refusal, refusal, refusal_after, acted, unless_refused, ideal_step}

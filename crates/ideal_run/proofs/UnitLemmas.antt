@@ -3,7 +3,7 @@ use Rattle.std.proofs.Common.{◌≡◌, ℕ, ◌+◌, ◌-◌, ◌<◌, ◌≤�
 use Rattle.std.proofs.lemmas.List.{drop_more, drop_all, length-append}
 use Rattle.std.proofs.lemmas.Bool.{le-leb, lt-leb}
 use Rattle.std.proofs.lemmas.Bool.Decides.{nat_tests}
-use Rattle.model.specs.Frames.{Frame, units_of_frames, has_room_for, within_limits}
+use Rattle.model.specs.Frames.{Frame, units_of_frames}
 use Rattle.ideal_run.specs.Rooms.{left_if, room_left}
 
 -- ---- what is left of some room

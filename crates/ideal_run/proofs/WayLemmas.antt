@@ -7,14 +7,14 @@ use Rattle.model.specs.Frames.{Frame, no_frame}
 use Rattle.model.specs.Initialisation.{runs_initializer}
 use Rattle.model.specs.Monitors.{released, released_all, monitor_of, with_monitor_if, with_monitor_of, exited, is_owner}
 use Rattle.model.specs.Objects.{object_at}
-use Rattle.model.specs.Unwinding.{Landing, Response, Way, response_of, way_from, way_of, initialised_by, without}
+use Rattle.model.specs.Unwinding.{Response, Way, response_of, way_from, way_of, initialised_by, without}
 use Rattle.model.specs.Unwinding.Landing.{Handled, Stopped, Unhandled}
 use Rattle.model.specs.Unwinding.Response.{Handles, Fails, Leaves}
 use Rattle.model.specs.Worlds.{World, Monitor, Thread, Object, frames_of, frames_at, with_thread}
 use Rattle.ideal_run.specs.declared.worlds.Step.{Step}
 use Rattle.ideal_run.specs.declared.unwinding.Landing.TheVariants as code
 use Rattle.ideal_run.specs.Steps.{stepped}
-use Rattle.ideal_run.specs.Ways.{way_in, way_at, thread_landed}
+use Rattle.ideal_run.specs.Ways.{way_at}
 
 -- ---- frames from the last one on
 

@@ -1,11 +1,10 @@
 -- how a world changes: what is written at a place that is there, and that nothing is where it isn't
-use Rattle.std.proofs.Common.{◌≡◌, ℕ, zero, suc, ◌<◌, ◌≤◌, List, [], ◌∷◌, length, get_or, slice_get, slice_set, set, Option, Some, None, refl, ap, sym, ◌∙◌, arith}
+use Rattle.std.proofs.Common.{◌≡◌, ℕ, zero, suc, ◌<◌, ◌≤◌, List, [], ◌∷◌, length, get_or, slice_get, slice_set, set, Option, Some, refl, ap, sym, ◌∙◌, arith}
 use Rattle.std.proofs.lemmas.Option.{slice_get_read, slice_get_past}
 use Rattle.model.specs.declared.values.Value.{Value}
-use Rattle.model.specs.Frames.{Frame}
 use Rattle.model.specs.Monitors.{with_monitor_if, with_monitor_of}
-use Rattle.model.specs.Words.{with_value_at, with_slot, with_word_in, with_word_of, with_word}
-use Rattle.model.specs.Worlds.{World, Thread, FieldValue, Object, Monitor, frames_of, frames_at, with_thread}
+use Rattle.model.specs.Words.{with_value_at, with_word_in, with_word_of, with_word}
+use Rattle.model.specs.Worlds.{World, Thread, FieldValue, Object, Monitor, frames_of}
 use Rattle.ideal_run.specs.declared.worlds.Step.{Step}
 use Rattle.ideal_run.specs.Steps.{stepped, started_if, started_on}
 

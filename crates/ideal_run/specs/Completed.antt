@@ -1,6 +1,5 @@
 use Rattle.std.specs.Prelude.{ℕ, List, [], ◌∷◌, Option, Some, None, Result, Ok, Err}
 use Rattle.model.specs.declared.turns.Abrupt.{Abrupt}
-use Rattle.model.specs.declared.turns.ClassState.{ClassState}
 use Rattle.model.specs.declared.turns.ClassState.TheVariants.{Done}
 use Rattle.model.specs.Completions as completion
 use Rattle.model.specs.Completions.{Site, completes_abruptly, frames_in, with_frame}

@@ -1,7 +1,7 @@
-use Rattle.std.specs.Prelude.{ℕ, List, [], ◌∷◌, ◌++◌, length, take, Option, Some, None}
+use Rattle.std.specs.Prelude.{ℕ, List, [], ◌∷◌, ◌++◌, take, Option, Some, None}
 use Rattle.model.specs.declared.turns.ClassState.{ClassState}
 use Rattle.model.specs.Frames.{Frame, with_running, callers}
-use Rattle.model.specs.Objects.{object_at, with_object}
+use Rattle.model.specs.Objects.{object_at}
 use Rattle.model.specs.Table.Threads.{numbered}
 use Rattle.model.specs.Worlds.{World, Thread, FieldValue, Object, Monitor}
 use Rattle.model.specs.Worlds.Thread.{Live, Ended}

@@ -1,5 +1,5 @@
 -- The class at a number is the class of the name.
-use Rattle.std.proofs.Common.{◌≡◌, ℕ, zero, suc, ◌<◌, List, [], ◌∷◌, ◌++◌, map, length, slice_get, nat_lt, Bool, true, false, cond, Option, Some, None, IfSome, unwrap_or, refl, sym, subst, ap, ◌∙◌}
+use Rattle.std.proofs.Common.{◌≡◌, ℕ, suc, ◌<◌, List, [], ◌∷◌, ◌++◌, map, length, slice_get, nat_lt, Bool, true, false, cond, Option, Some, None, IfSome, unwrap_or, refl, sym, subst, ap, ◌∙◌}
 use Rattle.std.specs.List.{find, position, position_or_len}
 use Rattle.std.specs.Option.{option_and_then}
 use Rattle.std.specs.Str.{bytes_eq}

@@ -1,4 +1,4 @@
-use Rattle.std.proofs.Common.{◌≡◌, ◌+◌, ◌≤◌, length, List, [], ◌∷◌, ◌++◌, Bor, ℕ, slice_get, map, Some, arith, subst, sym, ap, ◌∙◌, refl, take}
+use Rattle.std.proofs.Common.{◌≡◌, ◌+◌, ◌≤◌, length, List, [], ◌∷◌, ◌++◌, ℕ, slice_get, map, Some, arith, subst, sym, ap, ◌∙◌, refl, take}
 use Rattle.std.specs.List.{All, find, position}
 use Rattle.std.specs.Option.{option_map}
 use Rattle.std.specs.Str.{bytes_eq}
