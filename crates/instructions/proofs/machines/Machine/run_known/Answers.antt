@@ -1,5 +1,4 @@
-use Rattle.std.proofs.Common.{◌≡◌, ◌∙◌, ◌+◌, Some, ap, arith, length, sym}
-use Rattle.std.specs.Prelude.{if◌then◌else◌}
+use Rattle.std.proofs.Common.{◌∙◌, ◌+◌, Some, ap, arith, length, sym}
 use Rattle.model.specs.declared.turns.Fault.TheVariants.{NoMethod}
 use Rattle.model.specs.Frames.{running_frame}
 use Rattle.instructions.specs.declared.kinds.Course.TheVariants.{Live}

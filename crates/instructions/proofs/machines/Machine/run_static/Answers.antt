@@ -1,4 +1,4 @@
-use Rattle.std.proofs.Common.{◌≡◌, ◌∙◌, None, ap, arith, length, sym}
+use Rattle.std.proofs.Common.{◌∙◌, None, ap, arith, length, sym}
 use Rattle.model.specs.Frames.{running_frame}
 use Rattle.model.specs.declared.turns.Fault.TheVariants.{NoInstruction, NoMethod}
 use Rattle.instructions.specs.declared.kinds.Course.TheVariants.{Live}
