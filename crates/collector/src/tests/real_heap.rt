@@ -93,8 +93,9 @@ impl References for Places {
 impl Places {
     /// A frame of the one thread, if there is such a frame.
     fn frame(&self, thread: u32, frame: u32) -> Option<FrameRoots>
-        ensures { slice_get (frames_of (slice_get
-            (Live (map (λ f. frame_with f.entries f.monitor) self.now.roots.frames) ∷ []) thread)) frame
+        ensures { slice_get
+            (frames_of (slice_get (Live (map (λ f. frame_with f.entries f.monitor) self.now.roots.frames) ∷ [])
+            thread)) frame
             ≡ option_map (λ f. frame_with f.entries f.monitor) result }
     {
         if thread == 0 {
