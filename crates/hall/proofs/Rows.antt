@@ -15,11 +15,12 @@ use Rattle.model.specs.Ready.{is_ready}
 use Rattle.model.specs.Turns.{overflows, actor_refusal, refusal_after, refusal}
 use Rattle.model.specs.Machines.{Recorded, machine_of, told_of, row_unless_refused, with_row, answer_unless_refused, after_turn_by, answer_to}
 use Rattle.model.specs.Observers.{next_birth_of, phase_of, pick_of, status_of, is_running}
-use Rattle.scheduler.specs.Rounds.{after_round, after_rounds as after_thread_rounds, answered_by, is_done, picked, picked_answer, rounds_answer as thread_rounds_answer, turned_by}
+use Rattle.scheduler.specs.Rounds.{after_round, after_rounds as after_thread_rounds, answered_by, collections, is_done, picked, picked_answer, rounds_answer as thread_rounds_answer, swept, turned_by}
 use Rattle.hall.specs.declared.roles.Burst.{Burst}
 use Rattle.hall.specs.declared.roles.Role.{Role}
 use Rattle.hall.specs.declared.roles.Role.TheVariants.{Both, Carrier, Collector as Collecting}
-use Rattle.hall.specs.Roles.{last_is_collector, swept_once, swept, swept_after, after_allowed, answer_allowed, done_so_far, after_more, answer_more, after_rounds, answer_rounds, after_known, answer_known, after_role, answer_role, collected, collected_answer, cycled, cycled_after, is_idle, goes_on, after_bursts, answer_bursts, after_carried, answer_carried}
+use Rattle.hall.specs.Roles.{last_is_collector, swept_once, swept_after, after_allowed, answer_allowed, done_so_far, after_more, answer_more, after_rounds, answer_rounds, after_known, answer_known, after_role, answer_role, collected, collected_answer, cycled, cycled_after, is_idle, goes_on, after_bursts, answer_bursts, after_carried, answer_carried}
+use Rattle.hall.proofs.ManyRounds.{more-answer, more-world}
 use Rattle.hall.specs.Shares.{ShareValue, behind, counted_on, with_rows, rows_by, gc_of, times, Counts, Rises, Takes, CountsRows}
 
 -- ---- a refused turn makes no row, and any other makes one
@@ -153,16 +154,23 @@ once_if : (v : Recorded) (worker : ℕ) (running : Bool) → AddsFew v (if runni
 once_if v worker true = record { n = rows_by (answer_to v Collector worker); few = small (answer_to v Collector worker); adds = turn_adds v Collector worker }
 once_if v worker false = record { n = 0; few = omega arith; adds = adds_none v worker 0 refl }
 
-swept_adds : (worker n : ℕ) (v : Recorded) → AddsFew v (swept v worker n) worker n
-swept_adds worker zero v = record { n = 0; few = omega arith; adds = adds_none v worker 0 refl }
-swept_adds worker (suc n) v =
-    let once = once_if v worker (is_running (status_of v)) in
-    let rest = swept_adds worker n (swept_once v worker) in
+collections_add : (worker n : ℕ) (v : Recorded) → AddsFew v (collections v worker n) worker n
+collections_add worker zero v = record { n = 0; few = omega arith; adds = adds_none v worker 0 refl }
+collections_add worker (suc n) v =
+    let once = once_if v worker true in
+    let rest = collections_add worker n (after_turn_by v Collector worker) in
     record {
       n = once.n + rest.n;
       few = (let f = once.few in let g = rest.few in omega arith);
-      adds = adds_on v (swept_once v worker) (swept v worker (suc n)) worker once.n rest.n once.adds rest.adds;
+      adds = adds_on v (after_turn_by v Collector worker) (collections v worker (suc n)) worker once.n rest.n once.adds rest.adds;
     }
+
+swept_adds : (worker n : ℕ) (v : Recorded) → AddsFew v (swept v worker n) worker n
+swept_adds worker n v = by (is_running (status_of v))
+  where
+    by : (b : Bool) → AddsFew v (if b then collections v worker n else v) worker n
+    by true = collections_add worker n v
+    by false = record { n = 0; few = omega arith; adds = adds_none v worker 0 refl }
 
 -- ---- one round
 
@@ -482,9 +490,6 @@ counts_on u v w a b c x y = record {
   count_is = (let p = x.count_is in let q = y.count_is in omega arith);
 }
 
-pub swept_more : (v : Recorded) (worker n i : ℕ) → i < n → swept v worker (n - i) ≡ swept (swept_once v worker) worker (n - (i + 1))
-swept_more v worker n i lt = let e : n - i ≡ suc (n - (i + 1)) = omega arith in ap (swept v worker) e
-
 module _ (v : Recorded) (worker n i : ℕ) (lt : i < n) where
   next_cycled : n - i ≡ suc (n - (i + 1))
   next_cycled = omega (arith, lt)
@@ -498,49 +503,23 @@ module _ (v : Recorded) (worker n i : ℕ) (lt : i < n) where
 pub still_known : (v w : Recorded) (a b : ShareValue) → CountsRows v w a b → a.worker < v.journal.workers → b.worker < w.journal.workers
 still_known v w a b x known = let p = x.worker_is in let q = x.workers_is in omega arith
 
--- ---- rounds one by one
-
-module _ (v : Recorded) (role : Role) (worker n i : ℕ) (lt : i < n) where
-  next_of : n - i ≡ suc (n - (i + 1))
-  next_of = omega arith
-
-  -- a round that is done
-  pub world_on : (t : Turn) → t ≡ answer_allowed v role worker → is_done t ≡ true → after_more v role worker (n - i) ≡ after_more (after_allowed v role worker) role worker (n - (i + 1))
-  world_on t is done =
-      ap (after_more v role worker) next_of
-      ∙ ap (λ (b : Bool). if b then after_more (after_allowed v role worker) role worker (n - (i + 1)) else after_allowed v role worker) (ap is_done (sym is) ∙ done)
-
-  pub answer_on : (t : Turn) → t ≡ answer_allowed v role worker → is_done t ≡ true → answer_more v role worker (n - i) ≡ answer_more (after_allowed v role worker) role worker (n - (i + 1))
-  answer_on t is done =
-      ap (answer_more v role worker) next_of
-      ∙ ap (λ (b : Bool). if b then answer_more (after_allowed v role worker) role worker (n - (i + 1)) else done_so_far (answer_allowed v role worker)) (ap is_done (sym is) ∙ done)
-
-  -- a round that isn't
-  pub world_ends : (t : Turn) → t ≡ answer_allowed v role worker → is_done t ≡ false → after_more v role worker (n - i) ≡ after_allowed v role worker
-  world_ends t is done =
-      ap (after_more v role worker) next_of
-      ∙ ap (λ (b : Bool). if b then after_more (after_allowed v role worker) role worker (n - (i + 1)) else after_allowed v role worker) (ap is_done (sym is) ∙ done)
-
-  pub answer_ends : (t : Turn) → t ≡ answer_allowed v role worker → is_done t ≡ false → answer_more v role worker (n - i) ≡ done_so_far t
-  answer_ends t is done =
-      ap (answer_more v role worker) next_of
-      ∙ ap (λ (b : Bool). if b then answer_more (after_allowed v role worker) role worker (n - (i + 1)) else done_so_far (answer_allowed v role worker)) (ap is_done (sym is) ∙ done)
-      ∙ ap done_so_far (sym is)
-
 -- ---- so many rounds counted at once
 
--- rounds without a collector's turn add rows of their worker
-pub rounds_longer : (v w : Recorded) (worker extra : ℕ) → w ≡ after_thread_rounds v worker 0 extra → length v.journal.rows ≤ length w.journal.rows
-rounds_longer v w worker extra is =
-    let more = carried_on worker extra v in
-    let long = adds_length v (after_thread_rounds v worker 0 extra) worker more.n more.adds in
-    let same : length w.journal.rows ≡ length (after_thread_rounds v worker 0 extra).journal.rows = ap (λ (x : Recorded). length x.journal.rows) is in
+-- rounds add rows of their worker
+all_on : (worker gc extra : ℕ) (v : Recorded) → MoreAdds v (after_thread_rounds v worker gc extra) (Both gc) extra (done_so_far (thread_rounds_answer v worker gc extra)) worker
+all_on worker gc extra v = rw (← more-world worker gc extra v, ← more-answer worker gc extra v) (more_adds (Both gc) worker extra v)
+
+pub rounds_longer : (v w : Recorded) (worker gc extra : ℕ) → w ≡ after_thread_rounds v worker gc extra → length v.journal.rows ≤ length w.journal.rows
+rounds_longer v w worker gc extra is =
+    let more = all_on worker gc extra v in
+    let long = adds_length v (after_thread_rounds v worker gc extra) worker more.n more.adds in
+    let same : length w.journal.rows ≡ length (after_thread_rounds v worker gc extra).journal.rows = ap (λ (x : Recorded). length x.journal.rows) is in
     omega (arith, long, same)
 
-pub rounds_counted : (v w : Recorded) (worker extra made : ℕ) (before after : ShareValue) → w ≡ after_thread_rounds v worker 0 extra → length v.journal.rows + made ≡ length w.journal.rows
+pub rounds_counted : (v w : Recorded) (worker gc extra made : ℕ) (before after : ShareValue) → w ≡ after_thread_rounds v worker gc extra → length v.journal.rows + made ≡ length w.journal.rows
     → after ≡ counted_on before made → CountsRows v w before after
-rounds_counted v w worker extra made before after is sum e =
-    let more = carried_on worker extra v in
+rounds_counted v w worker gc extra made before after is sum e =
+    let more = all_on worker gc extra v in
     record {
       workers_is = ap (λ (x : Recorded). x.journal.workers) is ∙ ap (λ (x : Recorded). x.journal.workers) more.adds.world_is;
       worker_is = ap (λ (s : ShareValue). s.worker) e;

@@ -9,7 +9,7 @@ use Rattle.model.specs.declared.turns.Turn.{Turn}
 use Rattle.model.specs.declared.turns.Turn.TheVariants.{Done, NotReady, Stopped, Fault, OutputFull, StepLimit}
 use Rattle.model.specs.Machines.{Recorded, after_turn_by, answer_to}
 use Rattle.model.specs.Observers.{next_birth_of, phase_of, pick_of, status_of, is_running}
-use Rattle.scheduler.specs.Rounds.{answered_by, is_done, turned_by, after_rounds as after_thread_rounds, rounds_answer as thread_rounds_answer}
+use Rattle.scheduler.specs.Rounds.{answered_by, is_done, swept, turned_by, after_rounds as after_thread_rounds, rounds_answer as thread_rounds_answer}
 use Rattle.hall.specs.declared.roles.Burst.{Burst}
 use Rattle.hall.specs.declared.roles.Role.{Role}
 use Rattle.hall.specs.declared.roles.Role.TheVariants.{Both, Carrier, Collector as Collecting}
@@ -34,16 +34,12 @@ collected v worker = if last_is_collector v then v else after_turn_by v Collecto
 abbrev pub collected_answer : Recorded → ℕ → Turn
 collected_answer v worker = if last_is_collector v then NotReady else answer_to v Collector worker
 
--- ---- so many collector turns, each if the status is Running
+-- ---- a collector's turn, if the status is Running
 
 abbrev pub swept_once : Recorded → ℕ → Recorded
 swept_once v worker = if is_running (status_of v) then after_turn_by v Collector worker else v
 
-abbrev pub swept : Recorded → ℕ → ℕ → Recorded
-swept v worker zero = v
-swept v worker (suc n) = swept (swept_once v worker) worker n
-
--- they follow a thread's turn that was done
+-- so many follow a thread's turn that was done, if the status is Running then
 abbrev pub swept_after : Turn → Recorded → ℕ → ℕ → Recorded
 swept_after Done v worker gc = swept v worker gc
 swept_after NotReady v worker gc = v

@@ -3,7 +3,7 @@
 /// What a worker does each time it has the lock.
 #[derive(Clone, Copy, Debug, PartialEq, Eq)]
 pub enum Role {
-    /// A turn of the picked thread and, where that was done, so many collector turns while the world is running.
+    /// A turn of the picked thread and, where that was done and the world is running, so many collector turns.
     Both { gc: u32 },
     /// A turn of the picked thread.
     Carrier,

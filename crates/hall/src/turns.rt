@@ -2,13 +2,13 @@
 ghost use Rattle.std.specs.Prelude.{◌≡◌, ◌<◌};
 ghost use Rattle.model.specs.Machines.{after_turn_by, answer_to};
 ghost use Rattle.model.specs.Observers.{next_birth_of, phase_of, status_of, pick_of};
-ghost use Rattle.scheduler.specs.Rounds.{answered_by, turned_by, after_rounds as after_thread_rounds};
+ghost use Rattle.scheduler.specs.Rounds.{answered_by, collections, swept, turned_by, after_rounds as after_thread_rounds};
 ghost use Rattle.scheduler.specs.Rounds.{rounds_answer as thread_rounds_answer};
+ghost use Rattle.hall.specs.declared.roles.Role.TheVariants.{Both};
 ghost use Rattle.hall.specs.Roles.{after_bursts, after_carried, after_role, answer_bursts, answer_carried, answer_role};
 ghost use Rattle.hall.specs.Roles.{collected, collected_answer, cycled, cycled_after, goes_on, is_idle};
-ghost use Rattle.hall.specs.Roles.{last_is_collector, swept, swept_once, swept_after, after_allowed, answer_allowed};
-ghost use Rattle.hall.specs.Roles.{after_more, answer_more, after_rounds, answer_rounds, after_known, answer_known};
-ghost use Rattle.hall.specs.Roles.{done_so_far};
+ghost use Rattle.hall.specs.Roles.{last_is_collector, swept_once, swept_after, after_rounds, answer_rounds};
+ghost use Rattle.hall.specs.Roles.{after_known, answer_known, done_so_far};
 ghost use Rattle.hall.specs.Shares.{Takes, CountsRows};
 
 use crate::roles::{Burst, Role};
@@ -122,14 +122,26 @@ impl<L: Ledger> Shared<L> {
         }
     }
 
-    // So many collector turns, while the world is running.
+    // So many collector turns.
+    fn collect_times(&mut self, share: &mut Share<L>, turns: u32)
+        requires { share.old.worker < self.old.journal.workers }
+        ensures world { self.new ≡ collections self.old share.old.worker turns }
+        ensures share { CountsRows self.old self.new share.old share.new }
+    {
+        for _turn in 0..turns {
+            let _ = self.make(share, Actor::Collector);
+        }
+    }
+
+    // So many collector turns, if the world is running.
     fn sweep(&mut self, share: &mut Share<L>, gc: u32)
         requires { share.old.worker < self.old.journal.workers }
         ensures world { self.new ≡ swept self.old share.old.worker gc }
         ensures share { CountsRows self.old self.new share.old share.new }
     {
-        for _turn in 0..gc {
-            self.sweep_once(share);
+        match self.status() {
+            Status::Running => self.collect_times(share, gc),
+            Status::Finished | Status::Stuck | Status::Faulted => {}
         }
     }
 
@@ -150,74 +162,32 @@ impl<L: Ledger> Shared<L> {
         answer
     }
 
-    // One round of the share's role, a carrier's or one of both, by a worker that the journal knows.
-    fn round(&mut self, share: &mut Share<L>) -> Turn
+    // So many rounds of the picked threads, each with so many collector turns, in one call, and what the last of them
+    // answered.
+    fn carry_on(&mut self, share: &mut Share<L>, gc: u32, extra: u32) -> Turn
         requires { share.old.worker < self.old.journal.workers }
-        ensures world { self.new ≡ after_allowed self.old share.old.role share.old.worker }
-        ensures answer { result ≡ answer_allowed self.old share.old.role share.old.worker }
-        ensures share { CountsRows self.old self.new share.old share.new }
-    {
-        match share.role() {
-            Role::Carrier => self.carry(share),
-            Role::Collector => self.collect(share),
-            Role::Both { gc } => self.carry_and_sweep(share, gc),
-        }
-    }
-
-    // So many rounds of the picked threads, in one call, and what the last of them answered.
-    fn carry_on(&mut self, share: &mut Share<L>, extra: u32) -> Turn
-        requires { share.old.worker < self.old.journal.workers }
-        ensures world { self.new ≡ after_thread_rounds self.old share.old.worker 0 extra }
-        ensures answer { result ≡ thread_rounds_answer self.old share.old.worker 0 extra }
+        ensures world { self.new ≡ after_thread_rounds self.old share.old.worker gc extra }
+        ensures answer { result ≡ thread_rounds_answer self.old share.old.worker gc extra }
         ensures share { CountsRows self.old self.new share.old share.new }
     {
         let Shared { world, book, .. } = self;
         let before = world.journal().rows().len();
-        let answer = world.rounds_by(share.worker(), extra);
+        let answer = world.rounds_by(share.worker(), extra, gc);
         let rows = world.journal().rows().len();
         share.note_rows(book, rows - before, rows);
         answer
     }
 
-    // So many rounds more, one by one, which end with the first that isn't done.
-    fn each_round(&mut self, share: &mut Share<L>, extra: u32) -> Turn
+    // A round of a thread's turn and so many collector turns, and where it is done so many more.
+    fn rounds(&mut self, share: &mut Share<L>, gc: u32, extra: u32) -> Turn
         requires { share.old.worker < self.old.journal.workers }
-        ensures world { self.new ≡ after_more self.old share.old.role share.old.worker extra }
-        ensures answer { result ≡ answer_more self.old share.old.role share.old.worker extra }
+        ensures world { self.new ≡ after_rounds self.old (Both gc) share.old.worker extra }
+        ensures answer { result ≡ answer_rounds self.old (Both gc) share.old.worker extra }
         ensures share { CountsRows self.old self.new share.old share.new }
     {
-        for _round in 0..extra {
-            let answer = self.round(share);
-            if !is_done(answer) {
-                return done_so_far(answer);
-            }
-        }
-        Turn::Done
-    }
-
-    // The same, in one call where no collector turns come between.
-    fn more_rounds(&mut self, share: &mut Share<L>, extra: u32) -> Turn
-        requires { share.old.worker < self.old.journal.workers }
-        ensures world { self.new ≡ after_more self.old share.old.role share.old.worker extra }
-        ensures answer { result ≡ answer_more self.old share.old.role share.old.worker extra }
-        ensures share { CountsRows self.old self.new share.old share.new }
-    {
-        match share.role() {
-            Role::Both { gc: 0 } => done_so_far(self.carry_on(share, extra)),
-            _ => self.each_round(share, extra),
-        }
-    }
-
-    // A round, and where it is done so many more.
-    fn rounds(&mut self, share: &mut Share<L>, extra: u32) -> Turn
-        requires { share.old.worker < self.old.journal.workers }
-        ensures world { self.new ≡ after_rounds self.old share.old.role share.old.worker extra }
-        ensures answer { result ≡ answer_rounds self.old share.old.role share.old.worker extra }
-        ensures share { CountsRows self.old self.new share.old share.new }
-    {
-        let answer = self.round(share);
+        let answer = self.carry_and_sweep(share, gc);
         if is_done(answer) {
-            self.more_rounds(share, extra)
+            done_so_far(self.carry_on(share, gc, extra))
         } else {
             answer
         }
@@ -238,12 +208,12 @@ impl<L: Ledger> Shared<L> {
         ensures share { CountsRows self.old self.new share.old share.new }
     {
         for _burst in 0..burst.again {
-            let answer = self.carry_on(share, burst.extra);
+            let answer = self.carry_on(share, 0, burst.extra);
             if !goes_on(answer, self.next_birth(), due) {
                 return done_so_far(answer);
             }
         }
-        done_so_far(self.carry_on(share, burst.extra))
+        done_so_far(self.carry_on(share, 0, burst.extra))
     }
 
     // A round of a carrier and, where it was done, its burst.
@@ -309,7 +279,7 @@ impl<L: Ledger> Shared<L> {
         match share.role() {
             Role::Collector => self.collect_cycle(share, sweep),
             Role::Carrier => self.carry_in_bursts(share, due),
-            Role::Both { .. } => self.rounds(share, extra),
+            Role::Both { gc } => self.rounds(share, gc, extra),
         }
     }
 
@@ -328,8 +298,8 @@ impl<L: Ledger> Shared<L> {
     }
 
     /// One turn of the share's role, by the share's worker. A round of `Both` and `Carrier` is a turn of the picked
-    /// thread, `NotReady` where there is none; after a done one `Both` takes its collector turns, each if the world is
-    /// running. A round of a `Collector` is a collector turn, `NotReady` where the last row is the collector's. Where
+    /// thread, `NotReady` where there is none; after a done one `Both` takes its collector turns, if the world is
+    /// running then. A round of a `Collector` is a collector turn, `NotReady` where the last row is the collector's. Where
     /// the first round is done, so many more follow as the share's burst has extra ones, until one isn't done. A
     /// carrier makes them so often again as its burst says, each time only if all were done and the next birth is below
     /// `due`, from which on a collection is due. The collector's are as many as its burst's sweep at most, until a

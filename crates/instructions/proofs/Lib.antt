@@ -43,6 +43,7 @@ mod LandingLemmas
 pub mod LeapLemmas
 pub mod LeavingLemmas
 pub mod ListPlaces
+pub mod LoneRoundLemmas
 pub mod LookedLemmas
 pub mod MethodLemmas
 pub mod MonitorAgreement

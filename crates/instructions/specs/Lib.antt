@@ -15,6 +15,7 @@ pub mod Initialising
 pub mod InitialisingByNumbers
 pub mod Leaving
 pub mod Loaded
+pub mod LoneRounds
 pub mod MethodsByNumber
 pub mod MonitorsByNumbers
 pub mod NamedThings

@@ -19,6 +19,7 @@ mod invoking;
 pub mod kinds;
 mod landing;
 mod leaving;
+pub mod lone_rounds;
 mod machines;
 mod methods;
 mod monitoring;

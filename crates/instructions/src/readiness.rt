@@ -16,7 +16,7 @@ use model::turns::Mark;
 
 /// Whether an operation may wait: it uses a class, calls a method on an object, or enters a monitor.
 #[inline(always)]
-fn may_wait(operation: Operation) -> bool
+pub(crate) fn may_wait(operation: Operation) -> bool
     ensures { result ≡ may_wait operation }
 {
     match operation {

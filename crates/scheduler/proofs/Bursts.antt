@@ -5,6 +5,7 @@ use Rattle.std.specs.Prelude.{if◌then◌else◌, replicate}
 use Rattle.model.specs.declared.journals.Limits.{Limits}
 use Rattle.model.specs.declared.journals.Outcome.TheVariants.{Done}
 use Rattle.model.specs.declared.journals.Row.{Row}
+use Rattle.model.specs.declared.turns.Actor.{Actor}
 use Rattle.model.specs.declared.turns.Actor.TheVariants.{Thread}
 use Rattle.model.specs.Journals.{JournalValue, with_row, with_rows}
 use Rattle.model.specs.Machines.{Recorded, after_turn_by, row_for, told_of, with_row as recorded_with}
@@ -42,15 +43,15 @@ module _ (v : Recorded) (worker n m : ℕ) (left : n ≡ suc m) (done : Bool) (i
       ∙ ap (λ b. if b then rounds_answer (picked v worker) worker 0 m else picked_answer v worker) is
 
 -- rounds that lead on leave the others
-module _ (v w : Recorded) (worker n left : ℕ) (on : LeadsOn v worker n w) (fits : n ≤ left) where
+module _ (v w : Recorded) (worker gc n left : ℕ) (on : LeadsOn v worker gc n w) (fits : n ≤ left) where
   whole : left ≡ n + (left - n)
   whole = omega (arith, fits)
 
-  pub world-left : after_rounds v worker 0 left ≡ after_rounds w worker 0 (left - n)
-  world-left = ap (after_rounds v worker 0) whole ∙ (on (left - n)).0
+  pub world-left : after_rounds v worker gc left ≡ after_rounds w worker gc (left - n)
+  world-left = ap (after_rounds v worker gc) whole ∙ (on (left - n)).0
 
-  pub answer-left : rounds_answer v worker 0 left ≡ rounds_answer w worker 0 (left - n)
-  answer-left = ap (rounds_answer v worker 0) whole ∙ (on (left - n)).1
+  pub answer-left : rounds_answer v worker gc left ≡ rounds_answer w worker gc (left - n)
+  answer-left = ap (rounds_answer v worker gc) whole ∙ (on (left - n)).1
 
 -- ---- the number of workers stays
 
@@ -62,6 +63,10 @@ workers-turned : (v : Recorded) (worker : ℕ) (o : Option ℕ) → (turned_by v
 unfolding after_turn_by
 workers-turned v worker None = refl
 workers-turned v worker (Some t) = workers-added v (row_for v (Thread t) worker)
+
+pub workers-after : (v : Recorded) (actor : Actor) (worker : ℕ) → (after_turn_by v actor worker).journal.workers ≡ v.journal.workers
+unfolding after_turn_by
+workers-after v actor worker = workers-added v (row_for v actor worker)
 
 pub workers-picked : (v : Recorded) (worker : ℕ) → (picked v worker).journal.workers ≡ v.journal.workers
 workers-picked v worker = workers-turned v worker (pick_of v)
@@ -94,7 +99,7 @@ module _ (j : JournalValue) (row : Row) where
 -- the state after so many turns of a thread, and the journal with their rows
 pub record Leads (s : Loaded) (j : JournalValue) (k worker thread n : ℕ) (after : Loaded) : Type 0 where
   pub is : IsOf after (noted_times j (done_by thread worker) n) (start_behind k thread n)
-  pub on : LeadsOn (recorded s j) worker n (recorded after (noted_times j (done_by thread worker) n))
+  pub on : LeadsOn (recorded s j) worker 0 n (recorded after (noted_times j (done_by thread worker) n))
   pub room : 0 < n → length j.rows + n ≤ j.limits.steps
 
 module _ (s : Loaded) (j : JournalValue) (k worker thread : ℕ) (is : IsOf s j k) where
@@ -132,7 +137,7 @@ module _ (s : Loaded) (j : JournalValue) (k worker thread : ℕ) (is : IsOf s j 
   pub leads : (n : ℕ) (after : Loaded) → FirstTurns s k thread n after → Leads s j k worker thread n after
   leads zero after turns = record {
     is = subst (λ (x : Loaded). IsOf x j k) (sym turns) is;
-    on = subst (λ (x : Loaded). LeadsOn v worker 0 (recorded x j)) (sym turns)
+    on = subst (λ (x : Loaded). LeadsOn v worker 0 0 (recorded x j)) (sym turns)
         (λ more. let none : 0 + more ≡ more = omega arith in (ap (after_rounds v worker 0) none, ap (rounds_answer v worker 0) none));
     room = λ some. absurd (omega (arith, some));
   }
@@ -140,11 +145,11 @@ module _ (s : Loaded) (j : JournalValue) (k worker thread : ℕ) (is : IsOf s j 
 
   -- the same where the next thread to look at and the journal are known by equations
   pub leads-to : (n : ℕ) (after : Loaded) (next : ℕ) (noted : JournalValue) → FirstTurns s k thread n after → next ≡ start_behind k thread n → noted ≡ noted_times j row n
-      → IsOf after noted next × LeadsOn v worker n (recorded after noted)
+      → IsOf after noted next × LeadsOn v worker 0 n (recorded after noted)
   leads-to n after next noted turns is_next is_noted =
       let x = leads n after turns in (
         subst (λ (i : ℕ). IsOf after noted i) (sym is_next) (subst (λ (jn : JournalValue). IsOf after jn (start_behind k thread n)) (sym is_noted) x.is),
-        subst (λ (jn : JournalValue). LeadsOn v worker n (recorded after jn)) (sym is_noted) x.on,
+        subst (λ (jn : JournalValue). LeadsOn v worker 0 n (recorded after jn)) (sym is_noted) x.on,
       )
 
 -- the one behind a thread that made turns

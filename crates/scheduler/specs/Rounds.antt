@@ -8,6 +8,7 @@ use Rattle.model.specs.declared.turns.Turn.TheVariants.{Done, NotReady, Stopped,
 use Rattle.model.specs.Journals.{JournalValue, with_row}
 use Rattle.model.specs.Machines.{Recorded, after_turn_by, answer_to}
 use Rattle.model.specs.Observers.{is_running, pick_of, status_of}
+use Rattle.instructions.specs.declared.lone_rounds.Rounds.{Rounds}
 
 -- ---- the turn of the thread that is picked
 
@@ -73,9 +74,33 @@ abbrev pub noted_times : JournalValue → Row → ℕ → JournalValue
 noted_times journal row zero = journal
 noted_times journal row (suc n) = with_row (noted_times journal row n) row
 
--- so many rounds by a worker, with no turn of the collector, lead from one world to another, and each thread's turn is done:
--- with any rounds more, both lead to the same world and answer the same
-abbrev pub LeadsOn : Recorded → ℕ → ℕ → Recorded → Type 0
-LeadsOn v worker n w =
-    (more : ℕ) → (after_rounds v worker 0 (n + more) ≡ after_rounds w worker 0 more)
-    × (rounds_answer v worker 0 (n + more) ≡ rounds_answer w worker 0 more)
+-- so many rounds by a worker lead from one world to another, and each thread's turn is done: with any rounds more, both lead to
+-- the same world and answer the same
+abbrev pub LeadsOn : Recorded → ℕ → ℕ → ℕ → Recorded → Type 0
+LeadsOn v worker gc n w =
+    (more : ℕ) → (after_rounds v worker gc (n + more) ≡ after_rounds w worker gc more)
+    × (rounds_answer v worker gc (n + more) ≡ rounds_answer w worker gc more)
+
+-- the row of a turn of the collector
+abbrev pub collected_by : ℕ → Row
+collected_by worker = record { actor = Collector; outcome = DoneOutcome; worker = worker }
+
+-- with the rows of so many rounds of thread 0
+abbrev pub noted_rounds : JournalValue → ℕ → ℕ → ℕ → JournalValue
+noted_rounds journal worker gc zero = journal
+noted_rounds journal worker gc (suc n) =
+    noted_times (with_row (noted_rounds journal worker gc n) (done_by 0 worker)) (collected_by worker) gc
+
+-- and with that of a turn of thread 0, or not
+abbrev pub noted_if : JournalValue → ℕ → Bool → JournalValue
+noted_if journal worker true = with_row journal (done_by 0 worker)
+noted_if journal worker false = journal
+
+-- the turn of the thread that is picked is made and done, or nothing is
+abbrev pub PickedIf : Recorded → ℕ → Bool → Recorded → Type 0
+PickedIf v worker true w = (w ≡ picked v worker) × (is_done (picked_answer v worker) ≡ true)
+PickedIf v worker false w = w ≡ v
+
+-- so many whole rounds, and of one more the thread's turn, or not
+abbrev pub LeadsInto : Recorded → ℕ → ℕ → Rounds → Recorded → Type 0
+LeadsInto v worker gc rounds w = (x : Recorded) × LeadsOn v worker gc rounds.made x × PickedIf x worker rounds.begun w

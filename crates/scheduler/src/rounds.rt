@@ -70,43 +70,46 @@ impl World {
         }
     }
 
-    /// So many turns of the collector.
-    fn collect(&mut self, turns: u32)
-        ensures { self.new ≡ collections self.old 0 turns }
+    /// So many turns of the collector by a worker.
+    fn collect(&mut self, worker: u8, turns: u32)
+        requires { worker < self.old.journal.workers }
+        ensures world { self.new ≡ collections self.old worker turns }
+        ensures workers { self.new.journal.workers ≡ self.old.journal.workers }
     {
         for _turn in 0..turns {
-            let _ = self.turn(Actor::Collector);
+            let _ = self.turn_by(Actor::Collector, worker);
         }
     }
 
     /// The same where the world runs.
-    fn sweep(&mut self, gc: u32)
-        ensures { self.new ≡ swept self.old 0 gc }
+    fn sweep(&mut self, worker: u8, gc: u32)
+        requires { worker < self.old.journal.workers }
+        ensures world { self.new ≡ swept self.old worker gc }
+        ensures workers { self.new.journal.workers ≡ self.old.journal.workers }
     {
         match self.status() {
-            Status::Running => self.collect(gc),
+            Status::Running => self.collect(worker, gc),
             Status::Finished | Status::Stuck | Status::Faulted => {}
         }
     }
 
-    /// One round; what its thread's turn answers.
-    fn round(&mut self, gc: u32) -> Turn
-        ensures world { self.new ≡ after_round self.old 0 gc }
-        ensures answer { result ≡ picked_answer self.old 0 }
+    /// One round, behind so many in one call; what its thread's turn answers.
+    fn round_behind(&mut self, worker: u8, gc: u32, made: u32) -> Turn
+        requires { worker < self.old.journal.workers }
+        ensures world { self.new ≡ after_round self.old worker gc }
+        ensures answer { result ≡ picked_answer self.old worker }
+        ensures workers { self.new.journal.workers ≡ self.old.journal.workers }
     {
-        let first = self.first_worker();
-        let answer = self.turn_of_picked(first);
+        let answer = self.turn_behind(worker, made);
         if is_done(answer) {
-            self.sweep(gc);
+            self.sweep(worker, gc);
         }
         answer
     }
 
-    /// So many rounds by a worker, with no turn of the collector. They end with the first thread's turn that isn't
-    /// done. Answers what the last thread's turn did: `Done` where all rounds were made, `NotReady` where no thread was
-    /// picked.
+    /// So many rounds with no turn of the collector.
     // Many in one call where that can be, and else one by one.
-    pub fn rounds_by(&mut self, worker: u8, n: u32) -> Turn
+    fn rounds_alone(&mut self, worker: u8, n: u32) -> Turn
         requires { worker < self.old.journal.workers }
         ensures world { self.new ≡ after_rounds self.old worker 0 n }
         ensures answer { result ≡ rounds_answer self.old worker 0 n }
@@ -126,31 +129,53 @@ impl World {
         }
     }
 
-    /// So many rounds by worker 0, one by one.
-    fn rounds_and_sweeps(&mut self, n: u32, gc: u32) -> Turn
-        ensures world { self.new ≡ after_rounds self.old 0 gc n }
-        ensures answer { result ≡ rounds_answer self.old 0 gc n }
+    /// So many rounds, each with so many turns of the collector.
+    // Many in one call where that can be, and else one by one.
+    fn rounds_and_sweeps(&mut self, worker: u8, n: u32, gc: u32) -> Turn
+        requires { worker < self.old.journal.workers }
+        ensures world { self.new ≡ after_rounds self.old worker gc n }
+        ensures answer { result ≡ rounds_answer self.old worker gc n }
     {
-        for _round in 0..n {
-            let answer = self.round(gc);
-            if !is_done(answer) {
-                return answer;
+        let mut left = n;
+        'rounds: loop {
+            let rounds = self.rounds_and_sweeps_plainly(worker, gc, left);
+            left -= rounds.made;
+            if left == 0 {
+                return Turn::Done;
             }
+            if rounds.begun {
+                self.sweep(worker, gc);
+            } else {
+                let answer = self.round_behind(worker, gc, rounds.made);
+                if !is_done(answer) {
+                    return answer;
+                }
+            }
+            left -= 1;
         }
-        Turn::Done
     }
 
-    /// So many rounds, all made by worker 0: the turn of the thread that is picked, and where it was done and the world
-    /// runs so many turns of the collector. They end with the first thread's turn that isn't done. Answers what the
-    /// last thread's turn did: `Done` where all rounds were made, `NotReady` where no thread was picked.
+    /// So many rounds by a worker: the turn of the thread that is picked, and where it was done and the world runs so
+    /// many turns of the collector. They end with the first thread's turn that isn't done. Answers what the last
+    /// thread's turn did: `Done` where all rounds were made, `NotReady` where no thread was picked.
+    pub fn rounds_by(&mut self, worker: u8, n: u32, gc: u32) -> Turn
+        requires { worker < self.old.journal.workers }
+        ensures world { self.new ≡ after_rounds self.old worker gc n }
+        ensures answer { result ≡ rounds_answer self.old worker gc n }
+    {
+        if gc > 0 {
+            self.rounds_and_sweeps(worker, n, gc)
+        } else {
+            self.rounds_alone(worker, n)
+        }
+    }
+
+    /// The same by worker 0.
     pub fn rounds(&mut self, n: u32, gc: u32) -> Turn
         ensures world { self.new ≡ after_rounds self.old 0 gc n }
         ensures answer { result ≡ rounds_answer self.old 0 gc n }
     {
-        if gc > 0 {
-            return self.rounds_and_sweeps(n, gc);
-        }
         let first = self.first_worker();
-        self.rounds_by(first, n)
+        self.rounds_by(first, n, gc)
     }
 }

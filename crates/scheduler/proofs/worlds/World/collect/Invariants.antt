@@ -4,4 +4,7 @@ use Rattle.scheduler.proofs.worlds.World.collect.Given as goal
 
 -- the turns that are left lead to where all lead
 abbrev pub invariant-loop-turn : goal.invariant-loop-turn
-invariant-loop-turn l = collections l.self 0 (l.turns - l._turn) ≡ collections l.initial.self 0 l.turns
+invariant-loop-turn l = record {
+  workers : l.self.journal.workers ≡ l.initial.self.journal.workers;
+  world : collections l.self l.worker (l.turns - l._turn) ≡ collections l.initial.self l.worker l.turns;
+}

@@ -2,7 +2,7 @@ use Rattle.std.proofs.Common.{◌≡◌, ◌-◌, ◌∙◌, ap, arith, suc, sym
 use Rattle.model.specs.Machines.{Recorded}
 use Rattle.scheduler.specs.Rounds.{after_rounds, is_done, rounds_answer}
 use Rattle.scheduler.proofs.Bursts.{answer-first, answer-left, workers-picked, world-first, world-left}
-use Rattle.scheduler.proofs.worlds.World.rounds_by.Goals as goal
+use Rattle.scheduler.proofs.worlds.World.rounds_alone.Goals as goal
 
 pub rounds-preserved : goal.rounds-preserved
 rounds-preserved c =
@@ -19,12 +19,12 @@ rounds-preserved c =
       world =
           ap (λ (v : Recorded). after_rounds v w 0 (left - 1)) c.turn_behind-answer.ensures.world
           ∙ sym (world-first mid w left (left - 1) next true done)
-          ∙ sym (world-left at.self mid w made at.left c.rounds_plainly-made.ensures.rounds c.rounds_plainly-made.ensures.most)
+          ∙ sym (world-left at.self mid w 0 made at.left c.rounds_plainly-made.ensures.rounds c.rounds_plainly-made.ensures.most)
           ∙ at.invariant.world;
       answer =
           ap (λ (v : Recorded). rounds_answer v w 0 (left - 1)) c.turn_behind-answer.ensures.world
           ∙ sym (answer-first mid w left (left - 1) next true done)
-          ∙ sym (answer-left at.self mid w made at.left c.rounds_plainly-made.ensures.rounds c.rounds_plainly-made.ensures.most)
+          ∙ sym (answer-left at.self mid w 0 made at.left c.rounds_plainly-made.ensures.rounds c.rounds_plainly-made.ensures.most)
           ∙ at.invariant.answer;
     }
 
@@ -34,7 +34,7 @@ returns-then-left-eq0-clause-world c =
     let w = c.args.worker in
     let mid = c.rounds_plainly-made.new.self in
     ap (after_rounds mid w 0) (sym c.if-left-eq0.true)
-    ∙ sym (world-left at.self mid w c.rounds_plainly-made.result at.left c.rounds_plainly-made.ensures.rounds c.rounds_plainly-made.ensures.most)
+    ∙ sym (world-left at.self mid w 0 c.rounds_plainly-made.result at.left c.rounds_plainly-made.ensures.rounds c.rounds_plainly-made.ensures.most)
     ∙ at.invariant.world
 
 pub returns-then-left-eq0-clause-answer : goal.returns-then-left-eq0-clause-answer
@@ -43,7 +43,7 @@ returns-then-left-eq0-clause-answer c =
     let w = c.args.worker in
     let mid = c.rounds_plainly-made.new.self in
     ap (rounds_answer mid w 0) (sym c.if-left-eq0.true)
-    ∙ sym (answer-left at.self mid w c.rounds_plainly-made.result at.left c.rounds_plainly-made.ensures.rounds c.rounds_plainly-made.ensures.most)
+    ∙ sym (answer-left at.self mid w 0 c.rounds_plainly-made.result at.left c.rounds_plainly-made.ensures.rounds c.rounds_plainly-made.ensures.most)
     ∙ at.invariant.answer
 
 pub returns-then-not-is_done-clause-world : goal.returns-then-not-is_done-clause-world
@@ -57,7 +57,7 @@ returns-then-not-is_done-clause-world c =
     let done = ap is_done (sym c.turn_behind-answer.ensures.answer) ∙ sym c.is_done.ensures ∙ c.if-not-is_done.true in
     c.turn_behind-answer.ensures.world
     ∙ sym (world-first mid w left (left - 1) next false done)
-    ∙ sym (world-left at.self mid w made at.left c.rounds_plainly-made.ensures.rounds c.rounds_plainly-made.ensures.most)
+    ∙ sym (world-left at.self mid w 0 made at.left c.rounds_plainly-made.ensures.rounds c.rounds_plainly-made.ensures.most)
     ∙ at.invariant.world
 
 pub returns-then-not-is_done-clause-answer : goal.returns-then-not-is_done-clause-answer
@@ -71,5 +71,5 @@ returns-then-not-is_done-clause-answer c =
     let done = ap is_done (sym c.turn_behind-answer.ensures.answer) ∙ sym c.is_done.ensures ∙ c.if-not-is_done.true in
     c.turn_behind-answer.ensures.answer
     ∙ sym (answer-first mid w left (left - 1) next false done)
-    ∙ sym (answer-left at.self mid w made at.left c.rounds_plainly-made.ensures.rounds c.rounds_plainly-made.ensures.most)
+    ∙ sym (answer-left at.self mid w 0 made at.left c.rounds_plainly-made.ensures.rounds c.rounds_plainly-made.ensures.most)
     ∙ at.invariant.answer

@@ -1,6 +1,6 @@
 use Rattle.std.specs.Prelude.{◌≡◌, ◌<◌}
 use Rattle.scheduler.specs.Rounds.{after_rounds, rounds_answer}
-use Rattle.scheduler.proofs.worlds.World.rounds_by.Given as goal
+use Rattle.scheduler.proofs.worlds.World.rounds_alone.Given as goal
 
 -- the rounds that are left lead to where all lead, and answer the same
 abbrev pub invariant-rounds : goal.invariant-rounds
