@@ -4,6 +4,7 @@ pub mod Noting
 pub mod Workers
 pub mod Making
 pub mod RoundsLeft
+pub mod RoundsWithSweeps
 pub mod FirstTurns
 pub mod Bursts
 pub mod LosesNothing

@@ -105,6 +105,18 @@ module _ (j : JournalValue) (worker gc : ℕ) where
       let more = times-length (with_row (noted_rounds j worker gc n) (done_by 0 worker)) (collected_by worker) gc in
       omega (arith, before, one, more)
 
+-- while rounds are noted there is room for the rows of one more
+pub round-fits : (j at : JournalValue) (worker gc n : ℕ) (rounds : Rounds) → at ≡ noted_rounds j worker gc n → n < rounds.made
+    → (0 < rows_in gc rounds → length j.rows + rows_in gc rounds ≤ j.limits.steps) → length at.rows + 1 + gc ≤ at.limits.steps
+round-fits j at worker gc n rounds is less room =
+    let next : suc n ≡ n + 1 = omega arith in
+    let one : rows_of gc n + 1 + gc ≡ rows_of gc (n + 1) = ap (rows_of gc) next in
+    let up = rows-up gc (n + 1) rounds.made (omega (arith, less)) in
+    let fits = room (omega (arith, one, up)) in
+    let long = ap (λ (j : JournalValue). length j.rows) is ∙ rounds-length j worker gc n in
+    let limits = ap (λ (j : JournalValue). j.limits.steps) is ∙ ap (λ (l : Limits). l.steps) (rounds-limits j worker gc n) in
+    omega (arith, one, up, fits, long, limits)
+
 -- one round
 module _ (x : Loaded) (jn : JournalValue) (kn : ℕ) (is : IsOf x jn kn) (worker gc : ℕ) (after : Loaded) (round : IsFirstRound x kn 0 gc after) where
   abbrev u : Recorded
@@ -188,12 +200,12 @@ module _ (s : Loaded) (j : JournalValue) (k : ℕ) (is : IsOf s j k) (worker gc 
 
   -- whole rounds, and the thread's turn of one more, or not
   pub record Enters (rounds : Rounds) (after : Loaded) : Type 0 where
-    pub is : IsOf after (noted_if (noted_rounds j worker gc rounds.made) worker rounds.begun) (start_behind k 0 (rounds.made + (if rounds.begun then 1 else 0)))
+    pub joined : IsOf after (noted_if (noted_rounds j worker gc rounds.made) worker rounds.begun) (start_behind k 0 (rounds.made + (if rounds.begun then 1 else 0)))
     pub into : LeadsInto v worker gc rounds (recorded after (noted_if (noted_rounds j worker gc rounds.made) worker rounds.begun))
     pub room : 0 < rows_in gc rounds → length j.rows + rows_in gc rounds ≤ j.limits.steps
 
   record IsBegun (n : ℕ) (x : Loaded) (begun : Bool) (after : Loaded) : Type 0 where
-    is : IsOf after (noted_if (noted_rounds j worker gc n) worker begun) (start_behind k 0 (n + (if begun then 1 else 0)))
+    joined : IsOf after (noted_if (noted_rounds j worker gc n) worker begun) (start_behind k 0 (n + (if begun then 1 else 0)))
     into : PickedIf (recorded x (noted_rounds j worker gc n)) worker begun (recorded after (noted_if (noted_rounds j worker gc n) worker begun))
     room : 0 < rows_of gc n + (if begun then 1 else 0) → length j.rows + (rows_of gc n + (if begun then 1 else 0)) ≤ j.limits.steps
 
@@ -207,7 +219,7 @@ module _ (s : Loaded) (j : JournalValue) (k : ℕ) (is : IsOf s j k) (worker gc 
       let limits = ap (λ (l : Limits). l.steps) (rounds-limits j worker gc n) in
       let next : suc n ≡ n + 1 = omega arith in
       record {
-        is = subst (λ (m : ℕ). IsOf after (with_row jn (done_by 0 worker)) (start_behind k 0 m)) next still;
+        joined = subst (λ (m : ℕ). IsOf after (with_row jn (done_by 0 worker)) (start_behind k 0 m)) next still;
         into = (
           first_picked x jn kn leads.is worker 0 Done after turn.0,
           ap is_done (sym (first_answer x jn kn leads.is worker 0 Done after turn.0) ∙ sym (answer_is after (with_row jn (done_by 0 worker)) 1 still) ∙ ap told_of turn.1),
@@ -218,7 +230,7 @@ module _ (s : Loaded) (j : JournalValue) (k : ℕ) (is : IsOf s j k) (worker gc 
       let jn = noted_rounds j worker gc n in
       let none : n ≡ n + 0 = omega arith in
       record {
-        is = subst (λ (m : ℕ). IsOf after jn (start_behind k 0 m)) none (subst (λ (y : Loaded). IsOf y jn (start_behind k 0 n)) (sym turn) leads.is);
+        joined = subst (λ (m : ℕ). IsOf after jn (start_behind k 0 m)) none (subst (λ (y : Loaded). IsOf y jn (start_behind k 0 n)) (sym turn) leads.is);
         into = ap (λ (y : Loaded). recorded y jn) turn;
         room = λ some. let room = leads.room (omega (arith, some)) in omega (arith, room);
       }
@@ -230,7 +242,7 @@ module _ (s : Loaded) (j : JournalValue) (k : ℕ) (is : IsOf s j k) (worker gc 
       let on = leads n x led.1 in
       let last = begun_as n x on rounds.begun after led.2 in
       record {
-        is = last.is;
+        joined = last.joined;
         into = (recorded x (noted_rounds j worker gc n), on.on, last.into);
         room = last.room;
       }

@@ -145,11 +145,12 @@ impl World {
             }
             if rounds.begun {
                 self.sweep(worker, gc);
-            } else {
-                let answer = self.round_behind(worker, gc, rounds.made);
-                if !is_done(answer) {
-                    return answer;
-                }
+                left -= 1;
+                continue;
+            }
+            let answer = self.round_behind(worker, gc, rounds.made);
+            if !is_done(answer) {
+                return answer;
             }
             left -= 1;
         }

@@ -19,8 +19,8 @@ invariant_of-self c =
     let rounds = c.rounds_plainly-rounds.result in
     let after = c.rounds_plainly-rounds.new.self in
     let on = enters a.state a.journal a.next c.self.invariant c.args.worker c.args.gc rounds after c.rounds_plainly-rounds.ensures.made in
-    subst (λ (i : ℕ). IsOf after c.note_rounds.new.self i) (sym c.start_behind_rounds.ensures)
-    (subst (λ (j : JournalValue). IsOf after j (start_behind a.next 0 (rounds.made + (if rounds.begun then 1 else 0)))) (sym c.note_rounds.ensures) on.is)
+    subst (λ (i : ℕ). IsOf after c.note_rounds.new.journal i) (sym c.start_behind_rounds-self-inside.ensures)
+    (subst (λ (j : JournalValue). IsOf after j (start_behind a.next 0 (rounds.made + (if rounds.begun then 1 else 0)))) (sym c.note_rounds.ensures) on.joined)
 
 pub returns-clause-rounds : goal.returns-clause-rounds
 returns-clause-rounds c =
