@@ -4,9 +4,10 @@ use Rattle.std.specs.Prelude.{if◌then◌else◌}
 use Rattle.model.specs.declared.turns.Turn.{Turn}
 use Rattle.model.specs.declared.turns.Turn.TheVariants.{Done, NotReady, Stopped, Fault, OutputFull, StepLimit}
 use Rattle.model.specs.Machines.{Recorded}
-use Rattle.scheduler.specs.Rounds.{after_round, after_rounds as after_thread_rounds, is_done, picked, picked_answer, rounds_answer as thread_rounds_answer, swept}
+use Rattle.model.specs.Observers.{pick_of}
+use Rattle.scheduler.specs.Rounds.{after_round, after_rounds as after_thread_rounds, answered_by, is_done, picked, picked_answer, rounds_answer as thread_rounds_answer, swept, turned_by}
 use Rattle.hall.specs.declared.roles.Role.TheVariants.{Both}
-use Rattle.hall.specs.Roles.{after_more, answer_more, done_so_far, swept_after}
+use Rattle.hall.specs.Roles.{after_allowed, after_more, after_rounds, answer_more, answer_rounds, done_so_far, swept_after}
 
 swept-if : (answer : Turn) (v : Recorded) (worker gc : ℕ) → swept_after answer v worker gc ≡ (if is_done answer then swept v worker gc else v)
 swept-if Done v worker gc = refl
@@ -38,3 +39,27 @@ more-answer worker gc (suc n) v =
     ap (λ (x : Recorded). if done then answer_more x (Both gc) worker n else done_so_far answer) (swept-if answer (picked v worker) worker gc)
     ∙ ap (λ (x : Turn). if done then x else done_so_far answer) (more-answer worker gc n w)
     ∙ so-far done (thread_rounds_answer w worker gc n) answer
+
+-- a round that was done, and so many more in one call
+module _ (v mid : Recorded) (worker gc extra : ℕ) (t : Turn) (told : t ≡ answered_by v worker (pick_of v))
+    (is : mid ≡ swept_after t (turned_by v worker (pick_of v)) worker gc) (done : is_done t ≡ true) where
+  abbrev w : Recorded
+  w = after_allowed v (Both gc) worker
+
+  first : mid ≡ w
+  first = is ∙ ap (λ (a : Turn). swept_after a (turned_by v worker (pick_of v)) worker gc) told
+
+  so : is_done (answered_by v worker (pick_of v)) ≡ true
+  so = ap is_done (sym told) ∙ done
+
+  pub rounds-world : after_thread_rounds mid worker gc extra ≡ after_rounds v (Both gc) worker extra
+  rounds-world =
+      ap (λ (x : Recorded). after_thread_rounds x worker gc extra) first
+      ∙ sym (more-world worker gc extra w)
+      ∙ sym (ap (λ b. if b then after_more w (Both gc) worker extra else w) so)
+
+  pub rounds-answer : done_so_far (thread_rounds_answer mid worker gc extra) ≡ answer_rounds v (Both gc) worker extra
+  rounds-answer =
+      ap (λ (x : Recorded). done_so_far (thread_rounds_answer x worker gc extra)) first
+      ∙ sym (more-answer worker gc extra w)
+      ∙ sym (ap (λ b. if b then answer_more w (Both gc) worker extra else answered_by v worker (pick_of v)) so)
