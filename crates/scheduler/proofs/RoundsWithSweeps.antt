@@ -1,5 +1,5 @@
 -- Many rounds with turns of the collector in one call: the worlds that they lead to, and what they answer.
-use Rattle.std.proofs.Common.{◌≡◌, ◌<◌, ◌≤◌, ◌+◌, ◌-◌, ◌∷◌, ℕ, zero, suc, List, [], length, length-append, Bool, true, false, Option, Some, None, refl, ap, sym, subst, ◌∙◌, arith}
+use Rattle.std.proofs.Common.{◌≡◌, ◌<◌, ◌≤◌, ◌+◌, ◌-◌, ◌∷◌, ℕ, zero, suc, [], length, length-append, Bool, true, false, Option, Some, None, refl, ap, sym, subst, ◌∙◌, arith}
 use Rattle.std.specs.Prelude.{if◌then◌else◌, is_some, nat_le}
 use Rattle.std.proofs.lemmas.Bool.{leb-true}
 use Rattle.model.specs.declared.journals.Limits.{Limits}
@@ -11,12 +11,10 @@ use Rattle.model.specs.declared.turns.Status.TheVariants.{Running}
 use Rattle.model.specs.declared.turns.Turn.TheVariants.{StepLimit}
 use Rattle.model.specs.Journals.{JournalValue, with_row}
 use Rattle.model.specs.Machines.{Recorded, after_turn_by, told_of}
-use Rattle.model.specs.Observers.{ideal, is_running, status_by, status_in, status_of}
+use Rattle.model.specs.Observers.{ideal, is_running, status_by, status_of}
 use Rattle.model.specs.Ready.{some_is_ready, some_lives}
 use Rattle.model.specs.Turns.{refusal, refusal_after}
-use Rattle.model.specs.Worlds.{World}
-use Rattle.instructions.specs.FirstTurns.{IsFirstTurn}
-use Rattle.instructions.specs.Loaded.{Loaded, after_collection}
+use Rattle.instructions.specs.Loaded.{Loaded}
 use Rattle.instructions.specs.LoneRounds.{FirstRounds, FirstTurnIf, IsFirstRound, LedByRounds, Sweeps, rows_in, rows_of}
 use Rattle.instructions.specs.declared.lone_rounds.Rounds.{Rounds}
 use Rattle.instructions.specs.PlainRuns.{start_behind}

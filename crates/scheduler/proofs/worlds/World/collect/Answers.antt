@@ -1,4 +1,4 @@
-use Rattle.std.proofs.Common.{◌≡◌, ap, sym, ◌∙◌, ◌-◌, ◌+◌}
+use Rattle.std.proofs.Common.{ap, sym, ◌∙◌, ◌-◌, ◌+◌}
 use Rattle.model.specs.declared.turns.Actor.TheVariants.{Collector}
 use Rattle.model.specs.Machines.{Recorded}
 use Rattle.scheduler.specs.Rounds.{collections}

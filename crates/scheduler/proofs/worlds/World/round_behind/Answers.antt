@@ -1,4 +1,4 @@
-use Rattle.std.proofs.Common.{◌<◌, ap, arith, ◌∙◌}
+use Rattle.std.proofs.Common.{ap, arith, ◌∙◌}
 use Rattle.model.specs.Machines.{Recorded}
 use Rattle.scheduler.proofs.Bursts.{workers-picked}
 use Rattle.scheduler.proofs.worlds.World.round_behind.Goals as goal

@@ -1,4 +1,4 @@
-use Rattle.std.proofs.Common.{◌≡◌, ◌-◌, ◌<◌, ◌∙◌, ap, arith, suc, sym, true, false}
+use Rattle.std.proofs.Common.{◌≡◌, ◌-◌, ◌∙◌, ap, arith, suc, sym, true, false}
 use Rattle.model.specs.Machines.{Recorded}
 use Rattle.scheduler.specs.Rounds.{after_rounds, is_done, rounds_answer}
 use Rattle.scheduler.proofs.RoundsLeft.{answer-first, rounds-first}

@@ -1,4 +1,4 @@
-use Rattle.std.proofs.Common.{◌≡◌, ◌+◌, ℕ, ◌∙◌, ap, sym, subst}
+use Rattle.std.proofs.Common.{◌+◌, ℕ, ◌∙◌, ap, sym, subst}
 use Rattle.std.specs.Prelude.{if◌then◌else◌}
 use Rattle.model.specs.Journals.{JournalValue}
 use Rattle.instructions.specs.PlainRuns.{start_behind}
