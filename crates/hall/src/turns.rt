@@ -2,8 +2,8 @@
 ghost use Rattle.std.specs.Prelude.{◌≡◌, ◌<◌};
 ghost use Rattle.model.specs.Machines.{after_turn_by, answer_to};
 ghost use Rattle.model.specs.Observers.{next_birth_of, phase_of, status_of, pick_of};
-ghost use Rattle.scheduler.specs.Rounds.{answered_by, collections, swept, turned_by, after_rounds as after_thread_rounds};
-ghost use Rattle.scheduler.specs.Rounds.{rounds_answer as thread_rounds_answer};
+ghost use Rattle.scheduler.specs.Rounds.{answered_by, collections, turned_by, after_rounds as after_thread_rounds};
+ghost use Rattle.scheduler.specs.Rounds.{swept, rounds_answer as thread_rounds_answer};
 ghost use Rattle.hall.specs.declared.roles.Role.TheVariants.{Both};
 ghost use Rattle.hall.specs.Roles.{after_bursts, after_carried, after_role, answer_bursts, answer_carried, answer_role};
 ghost use Rattle.hall.specs.Roles.{collected, collected_answer, cycled, cycled_after, goes_on, is_idle};
@@ -299,8 +299,8 @@ impl<L: Ledger> Shared<L> {
 
     /// One turn of the share's role, by the share's worker. A round of `Both` and `Carrier` is a turn of the picked
     /// thread, `NotReady` where there is none; after a done one `Both` takes its collector turns, if the world is
-    /// running then. A round of a `Collector` is a collector turn, `NotReady` where the last row is the collector's. Where
-    /// the first round is done, so many more follow as the share's burst has extra ones, until one isn't done. A
+    /// running then. A round of a `Collector` is a collector turn, `NotReady` where the last row is the collector's.
+    /// Where the first round is done, so many more follow as the share's burst has extra ones, until one isn't done. A
     /// carrier makes them so often again as its burst says, each time only if all were done and the next birth is below
     /// `due`, from which on a collection is due. The collector's are as many as its burst's sweep at most, until a
     /// cycle ends, each if the world is running. `Done` where they ended with nobody ready. The share counts the rows
