@@ -3,11 +3,13 @@
 mod bytes;
 
 use crate::class_bytes::hex;
-use assembler::{assemble, listing};
+use assembler::{AsmError, assemble, listing};
 use classfile::write;
 use jasmin::read;
 use model::listings::Listing;
-use std::alloc::Global;
+use model::trees::ClassTree;
+use std::alloc::{AllocError, Global};
+use std::fmt::Write;
 use std::process::Abort;
 use std::test::Fail;
 
@@ -29,13 +31,18 @@ enum Wanted {
 /// What a class file begins with.
 const MAGIC: &[u8] = b"\xca\xfe\xba\xbe";
 
-/// The bytes of the class file of a text, or what users are told of it.
-fn answer(alloc: Global, text: &str) -> Result<Vec<u8>, Fail> {
-    let tree = read(alloc, text.as_bytes())?;
-    match assemble(alloc, &tree) {
+/// The bytes of the class file of a tree, or what users are told of it.
+fn answer_of(alloc: Global, tree: &ClassTree) -> Result<Vec<u8>, Fail> {
+    match assemble(alloc, tree) {
         Ok(made) => Ok(write(alloc, &made.file)?),
         Err(error) => Ok(error.to_string(alloc)?.into_bytes()),
     }
+}
+
+/// The same of a text.
+fn answer(alloc: Global, text: &str) -> Result<Vec<u8>, Fail> {
+    let tree = read(alloc, text.as_bytes())?;
+    answer_of(alloc, &tree)
 }
 
 /// Whether bytes have these, in hexadecimal digits, from a place on, and whether that is all of them.
@@ -74,23 +81,29 @@ fn has_answer(alloc: Global, text: &str, wanted: Wanted) -> Result<bool, Fail> {
 }
 
 /// A class A over B whose `main()V` has these lines, with a number of lines `nop` in the middle.
-fn main_with(alloc: Global, first: &str, nops: u32, last: &str) -> Result<String, Fail> {
-    let mut text = format!(in alloc;
-        ".class public A\n.super B\n.method public static main()V\n.limit stack 2\n.limit locals 0\n{first}"
-    )?;
-    for _ in 0..nops {
-        text.push_str("nop\n")?;
-    }
-    text.push_str(last)?;
-    text.push_str(".end method\n")?;
-    Ok(text)
+fn main_with(alloc: Global, first: &str, nops: usize, last: &str) -> Result<String, AllocError> {
+    let nops = "nop\n".repeat(alloc, nops)?;
+    format!(in alloc;
+        ".class public A\n.super B\n.method public static main()V\n.limit stack 2\n.limit locals 0\n{first}{nops}{last}.end method\n"
+    )
+}
+
+fn main_has_answer(
+    alloc: Global,
+    first: &str,
+    nops: usize,
+    last: &str,
+    wanted: Wanted,
+) -> Result<bool, Fail> {
+    let text = main_with(alloc, first, nops, last)?;
+    has_answer(alloc, &text, wanted)
 }
 
 /// 2147483646, a switch over it and the greatest int, whose ways lead to `return` behind it.
 const SWITCH: &str = "ldc 2147483646\ntableswitch 2147483646\nX\nX\ndefault : X\nX:\nreturn\n";
 
 /// The first lines of a main, how many lines `nop` follow, and the last lines.
-const MAINS: &[(&str, u32, &str, Wanted)] = &[
+const MAINS: &[(&str, usize, &str, Wanted)] = &[
     // the code, its length before it, and behind it no rows, no attributes of the code and none of the class
     (
         "ldc 2147483647\niconst_1\niadd\ninvokestatic vm/Sys/print(I)V\nreturn\n",
@@ -197,48 +210,50 @@ const MAINS: &[(&str, u32, &str, Wanted)] = &[
 #[test]
 fn mains_have_code(rt: HostRuntime) -> Result<(), Fail> {
     for (first, nops, last, wanted) in MAINS {
-        let text = main_with(rt.alloc(), first, *nops, last)?;
         assert!(rt;
-            has_answer(rt.alloc(), &text, *wanted)?,
+            main_has_answer(rt.alloc(), first, *nops, last, *wanted)?,
             "{first}{nops}{last}"
         );
     }
     Ok(())
 }
 
-/// Lines with `ldc` of the numbers below 256, and then of the last two again, and `return`.
-fn many_ints(alloc: Global) -> Result<String, Fail> {
-    let mut lines = String::new(alloc);
+/// Adds lines with `ldc` of the numbers below 256, and then of the last two again, and `return`.
+fn add_ints(lines: &mut String) -> Result<(), AllocError> {
     for n in 0u16..256 {
-        lines.push_str(&format!(in alloc; "ldc {n}\n")?)?;
+        write!(lines, "ldc {n}\n")?;
     }
-    lines.push_str("ldc 254\nldc 255\nreturn\n")?;
-    Ok(lines)
+    lines.push_str("ldc 254\nldc 255\nreturn\n")
 }
 
-/// A table of 10,000 keys, each with a label of its own, and as many instructions.
-fn many_labels(alloc: Global) -> Result<String, Fail> {
-    let mut lines = String::from_str(alloc, "iconst_0\ntableswitch 0\n")?;
+/// Adds a table of 10,000 keys, each with a label of its own, and as many instructions.
+fn add_labels(lines: &mut String) -> Result<(), AllocError> {
+    lines.push_str("iconst_0\ntableswitch 0\n")?;
     for number in 0u32..10000 {
-        lines.push_str(&format!(in alloc; "L{number}\n")?)?;
+        write!(lines, "L{number}\n")?;
     }
     lines.push_str("default : L0\n")?;
     for number in 0u32..10000 {
-        lines.push_str(&format!(in alloc; "L{number}:\nnop\n")?)?;
+        write!(lines, "L{number}:\nnop\n")?;
     }
-    Ok(lines)
+    Ok(())
+}
+
+/// Whether bytes are all that is wanted.
+fn are_all(alloc: Global, bytes: &[u8], wanted: &[Wanted]) -> Result<bool, Fail> {
+    for wanted in wanted {
+        if !is_wanted(alloc, bytes, *wanted)? {
+            return Ok(false);
+        }
+    }
+    Ok(true)
 }
 
 /// Whether the answer of a text whose main has these lines is all that is wanted.
 fn has_all(alloc: Global, lines: &str, wanted: &[Wanted]) -> Result<bool, Fail> {
     let text = main_with(alloc, lines, 0, "")?;
     let bytes = answer(alloc, &text)?;
-    for wanted in wanted {
-        if !is_wanted(alloc, &bytes, *wanted)? {
-            return Ok(false);
-        }
-    }
-    Ok(true)
+    are_all(alloc, &bytes, wanted)
 }
 
 /// 255 numbers in two bytes, and then that of 255, 256.
@@ -254,41 +269,49 @@ const LABELS: &[Wanted] = &[
 
 #[test]
 fn a_long_ldc_past_255(rt: HostRuntime) -> Result<(), Fail> {
-    let lines = many_ints(rt.alloc())?;
+    let mut lines = String::new(rt.alloc());
+    add_ints(&mut lines)?;
     assert!(rt; has_all(rt.alloc(), &lines, PAST_255)?);
     Ok(())
 }
 
 #[test]
 fn a_switch_has_10000_labels(rt: HostRuntime) -> Result<(), Fail> {
-    let lines = many_labels(rt.alloc())?;
+    let mut lines = String::new(rt.alloc());
+    add_labels(&mut lines)?;
     assert!(rt; has_all(rt.alloc(), &lines, LABELS)?);
     Ok(())
 }
 
-/// A class with two methods that each push so many longs, all different, the second one these constants too.
-fn with_longs(alloc: Global, longs: u32, more: &str) -> Result<String, Fail> {
-    let mut text = String::from_str(alloc, ".class A\n.super java/lang/Object\n")?;
-    for (method, sign, last) in [
-        (
-            ".method static m0()V\n.limit stack 2\n.limit locals 0\n",
-            "",
-            "",
-        ),
-        (
-            ".method static m1()V\n.limit stack 2\n.limit locals 0\n",
-            "-",
-            more,
-        ),
-    ] {
-        text.push_str(method)?;
-        for n in 0..longs {
-            text.push_str(&format!(in alloc; "ldc2_w {sign}1{n}\n")?)?;
-        }
-        text.push_str(last)?;
-        text.push_str(".end method\n")?;
+/// Adds a method that pushes so many longs, all different, and these constants.
+fn add_method(
+    text: &mut String,
+    name: &str,
+    sign: &str,
+    longs: u32,
+    last: &str,
+) -> Result<(), AllocError> {
+    write!(
+        text,
+        ".method static {name}()V\n.limit stack 2\n.limit locals 0\n"
+    )?;
+    for n in 0..longs {
+        write!(text, "ldc2_w {sign}1{n}\n")?;
     }
+    write!(text, "{last}.end method\n")
+}
+
+/// A class with two methods that each push so many longs, all different, the second one these constants too.
+fn with_longs(alloc: Global, longs: u32, more: &str) -> Result<String, AllocError> {
+    let mut text = String::from_str(alloc, ".class A\n.super java/lang/Object\n")?;
+    add_method(&mut text, "m0", "", longs, "")?;
+    add_method(&mut text, "m1", "-", longs, more)?;
     Ok(text)
+}
+
+fn pool_has_answer(alloc: Global, longs: u32, more: &str, wanted: Wanted) -> Result<bool, Fail> {
+    let text = with_longs(alloc, longs, more)?;
+    has_answer(alloc, &text, wanted)
 }
 
 // So many longs in each method, and what the second one pushes besides. There are two numbers for each long, and 8 for
@@ -313,8 +336,10 @@ const PAST_FULL: &[(u32, &str, Wanted)] = &[
 
 fn compare_pools(rt: &impl Abort, alloc: Global, rows: &[(u32, &str, Wanted)]) -> Result<(), Fail> {
     for (longs, more, wanted) in rows {
-        let text = with_longs(alloc, *longs, more)?;
-        assert!(rt; has_answer(alloc, &text, *wanted)?, "{longs}{more}");
+        assert!(rt;
+            pool_has_answer(alloc, *longs, more, *wanted)?,
+            "{longs}{more}"
+        );
     }
     Ok(())
 }
@@ -346,12 +371,22 @@ fn has_pcs(listing: &Listing, pcs: &[(u16, u16)]) -> bool {
 const FIVE: &[u8] =
     b".class A\n.super B\n.method static main()V\n.limit stack 2\n.limit locals 0\nldc 2147483647\niconst_1\niadd\ninvokestatic vm/Sys/print(I)V\nreturn\n.end method\n";
 
+/// Whether the listing of a tree has these pcs.
+fn listing_has_pcs(alloc: Global, tree: &ClassTree, pcs: &[(u16, u16)]) -> Result<bool, AsmError> {
+    Ok(has_pcs(&listing(alloc, tree)?, pcs))
+}
+
+/// Whether the one that stands beside its class file has.
+fn made_has_pcs(alloc: Global, tree: &ClassTree, pcs: &[(u16, u16)]) -> Result<bool, AsmError> {
+    Ok(has_pcs(&assemble(alloc, tree)?.listing, pcs))
+}
+
 #[test]
 fn a_listing_has_pcs_and_widths(rt: HostRuntime) -> Result<(), Fail> {
     let pcs = [(0, 2), (2, 3), (3, 4), (4, 7), (7, 8)];
     let tree = read(rt.alloc(), FIVE)?;
-    let made = assemble(rt.alloc(), &tree)?;
-    let listing = listing(rt.alloc(), &tree)?;
-    assert!(rt; has_pcs(&listing, &pcs) && has_pcs(&made.listing, &pcs));
+    assert!(rt;
+        listing_has_pcs(rt.alloc(), &tree, &pcs)? && made_has_pcs(rt.alloc(), &tree, &pcs)?
+    );
     Ok(())
 }

@@ -6,7 +6,7 @@ mod files;
 mod listings;
 
 use crate::class_bytes::{E, hex};
-use classfile::{ClassHead, one_head, read};
+use classfile::{ClassError, ClassHead, one_head, read, write};
 use model::class_files::FormatFault;
 use pool::ReadError;
 use std::alloc::{AllocError, Global};
@@ -43,6 +43,16 @@ fn told(alloc: Global, bytes: &[u8]) -> Result<String, AllocError> {
     }
 }
 
+fn is_told(alloc: Global, bytes: &[u8], wanted: &str) -> Result<bool, AllocError> {
+    Ok(told(alloc, bytes)?.as_str() == wanted)
+}
+
+/// Whether the class file that these bytes are is written as those.
+fn is_written_as(alloc: Global, bytes: &[u8], wanted: &[u8]) -> Result<bool, ClassError> {
+    let file = read(alloc, bytes)?;
+    Ok(write(alloc, &file)?.as_slice() == wanted)
+}
+
 /// E with more entries behind its seven, so that the pool's count is this, and with other methods behind their count.
 fn other_e(alloc: Global, count: u8, entries: &str, methods: &str) -> Result<Vec<u8>, Fail> {
     let digits = format!(in alloc;
@@ -66,11 +76,15 @@ fn head_again(alloc: Global, bytes: &[u8]) -> Result<(usize, Vec<u8>), Fail> {
     Ok((rest.len(), written))
 }
 
+/// Whether the head of E ends where it does, and is written as it is.
+fn is_head_of_e(alloc: Global, bytes: &[u8]) -> Result<bool, Fail> {
+    let (behind, written) = head_again(alloc, bytes)?;
+    Ok(behind == 31 && bytes.get(..69) == Some(written.as_slice()))
+}
+
 #[test]
 fn the_head_of_e(rt: HostRuntime) -> Result<(), Fail> {
-    let bytes = e(rt.alloc())?;
-    let (behind, written) = head_again(rt.alloc(), &bytes)?;
-    assert!(rt; behind == 31 && bytes.get(..69) == Some(written.as_slice()));
+    assert!(rt; is_head_of_e(rt.alloc(), &e(rt.alloc())?)?);
     one_head();
     Ok(())
 }
@@ -110,11 +124,23 @@ const CHANGES: &[(usize, u8, Option<FormatFault>)] = &[
     (64, 3, Some(FormatFault::Index)),
 ];
 
+fn has_fault(
+    alloc: Global,
+    place: usize,
+    byte: u8,
+    wanted: Option<FormatFault>,
+) -> Result<bool, Fail> {
+    let bytes = e_with(alloc, place, byte)?;
+    Ok(fault(alloc, &bytes) == wanted)
+}
+
 #[test]
 fn changed_bytes(rt: HostRuntime) -> Result<(), Fail> {
     for (place, byte, answer) in CHANGES {
-        let bytes = e_with(rt.alloc(), *place, *byte)?;
-        assert!(rt; fault(rt.alloc(), &bytes) == *answer, "{place} {byte}");
+        assert!(rt;
+            has_fault(rt.alloc(), *place, *byte, *answer)?,
+            "{place} {byte}"
+        );
     }
     Ok(())
 }
@@ -131,12 +157,16 @@ fn one_field(alloc: Global, flags: &str, length: &str, value: &str) -> Result<Ve
     hex(alloc, digits.as_str())
 }
 
+/// Whether the head is written so: the attribute Deprecated is left out, and the count of attributes is one less.
+fn is_shorter(alloc: Global) -> Result<bool, Fail> {
+    let bytes = one_field(alloc, "0008", "00000002", "0008")?;
+    let (behind, written) = head_again(alloc, &bytes)?;
+    Ok(behind == 14 && written.len() == 92 && written.get(83) == Some(&1))
+}
+
 #[test]
 fn a_field_is_written(rt: HostRuntime) -> Result<(), Fail> {
-    let bytes = one_field(rt.alloc(), "0008", "00000002", "0008")?;
-    let (behind, written) = head_again(rt.alloc(), &bytes)?;
-    // the attribute Deprecated is left out, and the count of attributes is one less
-    assert!(rt; behind == 14 && written.len() == 92 && written.get(83) == Some(&1));
+    assert!(rt; is_shorter(rt.alloc())?);
     Ok(())
 }
 
@@ -150,13 +180,23 @@ const FIELDS: &[(&str, &str, &str, Option<FormatFault>)] = &[
     ("0028", "00000002", "0008", Some(FormatFault::Flags)),
 ];
 
+fn field_has_fault(
+    alloc: Global,
+    flags: &str,
+    length: &str,
+    value: &str,
+    wanted: Option<FormatFault>,
+) -> Result<bool, Fail> {
+    let bytes = one_field(alloc, flags, length, value)?;
+    Ok(fault(alloc, &bytes) == wanted)
+}
+
 #[test]
 fn fields(rt: HostRuntime) -> Result<(), Fail> {
     for (flags, length, value, answer) in FIELDS {
-        let bytes = one_field(rt.alloc(), flags, length, value)?;
         assert!(rt;
-            fault(rt.alloc(), &bytes) == *answer,
-            "{flags} {length} {value}"
+            field_has_fault(rt.alloc(), flags, length, value, *answer)?,
+            "{flags} {length}"
         );
     }
     Ok(())

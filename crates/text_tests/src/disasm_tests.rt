@@ -103,6 +103,12 @@ fn comes_back(alloc: Global, file: &ClassFile, wanted: &str) -> Result<bool, Fai
     has_text(alloc, &made, wanted)
 }
 
+/// Whether the class file of these digits has this text, which comes back.
+fn have_text(alloc: Global, digits: &str, wanted: &str) -> Result<bool, Fail> {
+    let file = file_of(alloc, digits)?;
+    Ok(has_text(alloc, &file, wanted)? && comes_back(alloc, &file, wanted)?)
+}
+
 /// Whether a tree has R's name and so many parts as R.
 fn is_of_r(tree: &ClassTree) -> bool {
     tree.name.is("p/R")
@@ -114,17 +120,18 @@ fn is_of_r(tree: &ClassTree) -> bool {
 #[test]
 fn class_files_have_these_texts(rt: HostRuntime) -> Result<(), Fail> {
     for (digits, wanted) in [(E, TEXT_OF_E), (R, TEXT_OF_R)] {
-        let file = file_of(rt.alloc(), digits)?;
-        assert!(rt; has_text(rt.alloc(), &file, wanted)?, "{wanted}");
-        assert!(rt; comes_back(rt.alloc(), &file, wanted)?, "{wanted}");
+        assert!(rt; have_text(rt.alloc(), digits, wanted)?, "{wanted}");
     }
     Ok(())
 }
 
+fn tree_is_of_r(alloc: Global, file: &ClassFile) -> Result<bool, Fail> {
+    Ok(is_of_r(&tree(alloc, file)?))
+}
+
 #[test]
 fn a_class_file_has_the_tree_of_its_text(rt: HostRuntime) -> Result<(), Fail> {
-    let file = file_of(rt.alloc(), R)?;
-    assert!(rt; is_of_r(&tree(rt.alloc(), &file)?));
+    assert!(rt; tree_is_of_r(rt.alloc(), &file_of(rt.alloc(), R)?)?);
     Ok(())
 }
 
@@ -137,10 +144,14 @@ fn listed(alloc: Global, text: &str) -> Result<Listing, Fail> {
     Ok(assembler::listing(alloc, &tree)?)
 }
 
+fn listing_has_text(alloc: Global, listing: &Listing, wanted: &str) -> Result<bool, Fail> {
+    Ok(text(alloc, listing)?.as_slice() == wanted.as_bytes())
+}
+
 #[test]
 fn an_interface_of_two_lines(rt: HostRuntime) -> Result<(), Fail> {
     let listing = listed(rt.alloc(), INTERFACE)?;
-    assert!(rt; text(rt.alloc(), &listing)?.as_slice() == INTERFACE.as_bytes());
+    assert!(rt; listing_has_text(rt.alloc(), &listing, INTERFACE)?);
     texts_come_back();
     Ok(())
 }

@@ -241,9 +241,7 @@ fn line_of(line: &str) -> &str {
     }
 }
 
-/// The text of a row.
-fn text_of(alloc: Global, row: &str) -> Result<String, AllocError> {
-    let mut text = String::new(alloc);
+fn add_row(text: &mut String, row: &str) -> Result<(), AllocError> {
     let mut is_behind = false;
     for line in row.split("|") {
         if is_behind {
@@ -252,6 +250,13 @@ fn text_of(alloc: Global, row: &str) -> Result<String, AllocError> {
         text.push_str(line_of(line))?;
         is_behind = true;
     }
+    Ok(())
+}
+
+/// The text of a row.
+fn text_of(alloc: Global, row: &str) -> Result<String, AllocError> {
+    let mut text = String::new(alloc);
+    add_row(&mut text, row)?;
     Ok(text)
 }
 
@@ -263,17 +268,20 @@ fn outcome(alloc: Global, text: &str) -> Result<String, AllocError> {
     }
 }
 
-fn outcome_of_row(alloc: Global, row: &str) -> Result<String, AllocError> {
+fn is_outcome(alloc: Global, text: &str, wanted: &str) -> Result<bool, AllocError> {
+    Ok(outcome(alloc, text)?.as_str() == wanted)
+}
+
+fn is_outcome_of_row(alloc: Global, row: &str, wanted: &str) -> Result<bool, AllocError> {
     let text = text_of(alloc, row)?;
-    outcome(alloc, text.as_str())
+    is_outcome(alloc, text.as_str(), wanted)
 }
 
 /// Reads the text of each row.
 fn compare(rt: &impl Abort, alloc: Global, rows: &str) -> Result<(), Fail> {
     for row in rows.lines() {
         let (text, expected) = row.split_once(" => ").ok_or("no row")?;
-        let found = outcome_of_row(alloc, text)?;
-        assert!(rt; found.as_str() == expected, "{text}: {found}");
+        assert!(rt; is_outcome_of_row(alloc, text, expected)?, "{row}");
     }
     Ok(())
 }
@@ -443,20 +451,28 @@ fn add_line(text: &mut String, long: Long) -> Result<(), AllocError> {
     text.push_str(long.end)
 }
 
-fn outcome_of_long(alloc: Global, long: Long) -> Result<String, AllocError> {
-    let mut text = String::from_str(alloc, long.head)?;
+fn add_lines(text: &mut String, long: Long) -> Result<(), AllocError> {
+    text.push_str(long.head)?;
     for _ in 0..long.lines {
-        add_line(&mut text, long)?;
+        add_line(text, long)?;
     }
-    text.push_str("\n")?;
-    outcome(alloc, text.as_str())
+    text.push_str("\n")
+}
+
+fn is_outcome_of_long(alloc: Global, long: Long, wanted: &str) -> Result<bool, AllocError> {
+    let mut text = String::new(alloc);
+    add_lines(&mut text, long)?;
+    is_outcome(alloc, text.as_str(), wanted)
 }
 
 #[test]
 fn long_texts(rt: HostRuntime) -> Result<(), AllocError> {
     for (long, expected) in LONG {
-        let found = outcome_of_long(rt.alloc(), *long)?;
-        assert!(rt; found.as_str() == *expected, "{}: {found}", long.begin);
+        assert!(rt;
+            is_outcome_of_long(rt.alloc(), *long, expected)?,
+            "{}",
+            long.begin
+        );
     }
     Ok(())
 }

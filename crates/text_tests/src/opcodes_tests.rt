@@ -51,13 +51,17 @@ fn has_pcs(code: &Code, pcs: &[u16]) -> bool {
     pcs.next().is_none()
 }
 
+/// Whether bytes are read as code with these pcs, and written again.
+fn come_back(alloc: Global, bytes: &[u8], pcs: &[u16]) -> Result<bool, OpError> {
+    let code = decode(alloc, bytes)?;
+    Ok(has_pcs(&code, pcs) && again(alloc, code)?.as_slice() == bytes)
+}
+
 /// Each opcode is read where `javap` sees it, and written again.
 #[test]
 fn opcodes_are_read(rt: HostRuntime) -> Result<(), Fail> {
     let bytes = hex(rt.alloc(), CODE)?;
-    let code = decode(rt.alloc(), &bytes)?;
-    assert!(rt; has_pcs(&code, PCS), "pcs");
-    assert!(rt; again(rt.alloc(), code)?.as_slice() == bytes.as_slice());
+    assert!(rt; come_back(rt.alloc(), &bytes, PCS)?);
     Ok(())
 }
 
@@ -91,11 +95,15 @@ const REFUSALS: &[(&str, OpError)] = &[
     ("ab000000 00000000 ffffffff", OpError::Switch),
 ];
 
+fn is_refused(alloc: Global, digits: &str, error: OpError) -> Result<bool, Fail> {
+    let bytes = hex(alloc, digits)?;
+    Ok(refusal(alloc, &bytes) == Some(error))
+}
+
 #[test]
 fn refusals(rt: HostRuntime) -> Result<(), Fail> {
     for (digits, error) in REFUSALS {
-        let bytes = hex(rt.alloc(), digits)?;
-        assert!(rt; refusal(rt.alloc(), &bytes) == Some(*error), "{digits}");
+        assert!(rt; is_refused(rt.alloc(), digits, *error)?, "{digits}");
     }
     Ok(())
 }
@@ -124,14 +132,15 @@ const PADDED: &[(&str, usize)] = &[
     ("00000000000000 aa 00000000 00000009 00000009 00000000", 8),
 ];
 
+fn has_count(alloc: Global, digits: &str, count: usize) -> Result<bool, Fail> {
+    let bytes = hex(alloc, digits)?;
+    Ok(count_again(alloc, &bytes)? == Some(count))
+}
+
 #[test]
 fn pads(rt: HostRuntime) -> Result<(), Fail> {
     for (digits, count) in PADDED {
-        let bytes = hex(rt.alloc(), digits)?;
-        assert!(rt;
-            count_again(rt.alloc(), &bytes)? == Some(*count),
-            "{digits}"
-        );
+        assert!(rt; has_count(rt.alloc(), digits, *count)?, "{digits}");
     }
     Ok(())
 }
@@ -218,9 +227,10 @@ fn faulty(alloc: Global, name: &str) -> Result<Instr, AllocError> {
     }
 }
 
-/// Why an instruction alone has no spelling.
-fn unwritten(alloc: Global, instruction: Instr) -> Option<OpError> {
-    encode(alloc, &[instruction]).err()
+/// Whether an instruction alone has no spelling, for this reason.
+fn is_unwritten(alloc: Global, name: &str, error: OpError) -> Result<bool, AllocError> {
+    let instruction = faulty(alloc, name)?;
+    Ok(encode(alloc, &[instruction]).err() == Some(error))
 }
 
 #[test]
@@ -233,8 +243,7 @@ fn instructions_without_spelling(rt: HostRuntime) -> Result<(), AllocError> {
         ("a table past the greatest int", OpError::Switch),
         ("keys that fall", OpError::Switch),
     ] {
-        let instruction = faulty(rt.alloc(), name)?;
-        assert!(rt; unwritten(rt.alloc(), instruction) == Some(error), "{name}");
+        assert!(rt; is_unwritten(rt.alloc(), name, error)?, "{name}");
     }
     Ok(())
 }

@@ -1,10 +1,10 @@
 //! Whole class files.
 
-use super::{e, e_with, told};
+use super::{e, e_with, is_told};
 use classfile::{ClassError, ClassFile, again, one_class_file, read, write};
 use model::class_files::FormatFault;
 use model::instructions::Instruction;
-use std::alloc::Global;
+use std::alloc::{AllocError, Global};
 use std::test::*;
 
 /// Whether this is E: its head, its one method, and its one instruction.
@@ -26,43 +26,53 @@ fn is_e(file: &ClassFile) -> bool {
         && matches!(&end.instruction, Instruction::Return(None))
 }
 
-/// The bytes that a class file of these bytes has, and those of one that is read again.
-fn written(alloc: Global, bytes: &[u8]) -> Result<(Vec<u8>, Vec<u8>), Fail> {
+/// Whether a class file is written as these bytes, and a copy of it too.
+fn has_bytes(alloc: Global, file: &ClassFile, wanted: &[u8]) -> Result<bool, ClassError> {
+    let copy = again(alloc, file)?;
+    Ok(write(alloc, file)?.as_slice() == wanted && write(alloc, &copy)?.as_slice() == wanted)
+}
+
+/// Whether E's bytes are read as E, and written again.
+fn comes_back(alloc: Global, bytes: &[u8]) -> Result<bool, ClassError> {
     let file = read(alloc, bytes)?;
-    let copy = again(alloc, &file)?;
-    Ok((write(alloc, &file)?, write(alloc, &copy)?))
+    Ok(is_e(&file) && has_bytes(alloc, &file, bytes)?)
 }
 
 #[test]
 fn e_is_read_and_written(rt: HostRuntime) -> Result<(), Fail> {
-    let bytes = e(rt.alloc())?;
-    assert!(rt; is_e(&read(rt.alloc(), &bytes)?));
-    let (first, second) = written(rt.alloc(), &bytes)?;
-    assert!(rt; first.as_slice() == bytes.as_slice() && second.as_slice() == bytes.as_slice());
+    assert!(rt; comes_back(rt.alloc(), &e(rt.alloc())?)?);
     one_class_file();
     Ok(())
 }
 
-/// Whether users are told C3 of so many of these bytes.
-fn is_cut(alloc: Global, bytes: &[u8], len: usize) -> Result<bool, Fail> {
-    let front = bytes.get(..len).ok_or("no front")?;
-    Ok(told(alloc, front)?.as_str() == "C3")
+/// Whether users are told C3 of each front of these bytes.
+fn is_cut(alloc: Global, bytes: &[u8]) -> Result<bool, AllocError> {
+    for len in 0..100usize {
+        let Some(front) = bytes.get(..len) else {
+            return Ok(false);
+        };
+        if !is_told(alloc, front, "C3")? {
+            return Ok(false);
+        }
+    }
+    Ok(true)
 }
 
 #[test]
 fn cut_files(rt: HostRuntime) -> Result<(), Fail> {
-    let bytes = e(rt.alloc())?;
-    for len in 0..100usize {
-        assert!(rt; is_cut(rt.alloc(), &bytes, len)?, "{len}");
-    }
+    assert!(rt; is_cut(rt.alloc(), &e(rt.alloc())?)?);
     Ok(())
+}
+
+fn one_more_is_told(alloc: Global) -> Result<bool, Fail> {
+    let mut longer = e(alloc)?;
+    longer.push(0)?;
+    Ok(is_told(alloc, &longer, "C4")?)
 }
 
 #[test]
 fn one_byte_more(rt: HostRuntime) -> Result<(), Fail> {
-    let mut longer = e(rt.alloc())?;
-    longer.push(0)?;
-    assert!(rt; told(rt.alloc(), &longer)?.as_str() == "C4");
+    assert!(rt; one_more_is_told(rt.alloc())?);
     Ok(())
 }
 
@@ -102,53 +112,76 @@ const CHANGES: &[(usize, u8, &str)] = &[
     (99, 0xff, "C3"),
 ];
 
+fn change_is_told(alloc: Global, place: usize, byte: u8, wanted: &str) -> Result<bool, Fail> {
+    let bytes = e_with(alloc, place, byte)?;
+    Ok(is_told(alloc, &bytes, wanted)?)
+}
+
 #[test]
 fn one_byte_is_another(rt: HostRuntime) -> Result<(), Fail> {
     for (place, byte, answer) in CHANGES {
-        let bytes = e_with(rt.alloc(), *place, *byte)?;
         assert!(rt;
-            told(rt.alloc(), &bytes)?.as_str() == *answer,
+            change_is_told(rt.alloc(), *place, *byte, answer)?,
             "{place} {byte}"
         );
     }
     Ok(())
 }
 
-/// Whether bytes are no class file, or the class file that they are has these bytes; and whether they are one.
-fn come_back(alloc: Global, bytes: &[u8]) -> Result<(bool, bool), Fail> {
+/// Whether bytes are a class file; none where it isn't written as these again.
+fn is_read(alloc: Global, bytes: &[u8]) -> Result<Option<bool>, ClassError> {
     match read(alloc, bytes) {
-        Ok(file) => Ok((write(alloc, &file)?.as_slice() == bytes, true)),
-        Err(_) => Ok((true, false)),
+        Ok(file) => Ok(if write(alloc, &file)?.as_slice() == bytes {
+            Some(true)
+        } else {
+            None
+        }),
+        Err(_) => Ok(Some(false)),
     }
+}
+
+/// The same of E with another byte at a place; false where E has this byte.
+fn is_read_with(alloc: Global, place: usize, byte: u8) -> Result<Option<bool>, Fail> {
+    let bytes = e_with(alloc, place, byte)?;
+    let is_read = is_read(alloc, &bytes)?;
+    Ok(if bytes.as_slice() == e(alloc)?.as_slice() {
+        is_read.map(|_read| false)
+    } else {
+        is_read
+    })
 }
 
 /// Flags of the class and of the method, the bytes of the limits, and nop for return.
 const FREE: &[usize] = &[60, 72, 85, 86, 87, 88, 93];
 
+/// Whether another byte at a place, of these two, is read, where it is free, and otherwise not.
+fn is_right(alloc: Global, place: usize) -> Result<bool, Fail> {
+    let zero = is_read_with(alloc, place, 0)?;
+    let ones = is_read_with(alloc, place, 0xff)?;
+    Ok(match (zero, ones) {
+        (Some(zero), Some(ones)) => (zero | ones) == FREE.contains(&place),
+        _ => false,
+    })
+}
+
 #[test]
 fn every_byte_is_another(rt: HostRuntime) -> Result<(), Fail> {
     for place in 0..100usize {
-        let mut is_free = false;
-        for byte in [0u8, 0xff] {
-            let bytes = e_with(rt.alloc(), place, byte)?;
-            let (is_right, is_read) = come_back(rt.alloc(), &bytes)?;
-            assert!(rt; is_right, "{place}");
-            is_free |= is_read && bytes.as_slice() != e(rt.alloc())?.as_slice();
-        }
-        assert!(rt; is_free == FREE.contains(&place), "{place}");
+        assert!(rt; is_right(rt.alloc(), place)?, "{place}");
     }
     Ok(())
 }
 
+/// What users are told of these errors, one after another.
+fn codes(alloc: Global) -> Result<String, AllocError> {
+    let (full, memory) = (ClassError::PoolFull, ClassError::Memory);
+    let short = ClassError::Format(FormatFault::Short);
+    let flags = ClassError::Format(FormatFault::Flags);
+    format!(in alloc; "{full} {memory} {short} {flags}")
+}
+
 #[test]
-fn what_users_are_told(rt: HostRuntime) -> Result<(), Fail> {
-    for (error, answer) in [
-        (ClassError::PoolFull, "C9"),
-        (ClassError::Memory, "C10"),
-        (ClassError::Format(FormatFault::Short), "C3"),
-        (ClassError::Format(FormatFault::Flags), "C11"),
-    ] {
-        assert!(rt; error.to_string(rt.alloc())?.as_str() == answer);
-    }
+fn what_users_are_told(rt: HostRuntime) -> Result<(), AllocError> {
+    assert!(rt; codes(rt.alloc())?.as_str() == "C9 C10 C3 C11");
     Ok(())
 }
