@@ -1,7 +1,7 @@
 //! Journals that replay on a small main, and journals that don't.
 
-use super::WRAPPING_SUM;
-use crate::mains::program;
+use crate::mains::{WRAPPING_SUM, program};
+use model::journals::Journal;
 use model::turns::Status;
 use scheduler::journal_texts::reading::read_journal;
 use scheduler::journal_texts::writing::write_journal;
@@ -29,11 +29,18 @@ const REFUSED: [(&str, &str); 8] = [
     ("limits 9 11\n0 d\n0 d\n0 d\n0 d\nend 4\n", "N5 at row 4"),
 ];
 
-/// The world that a journal's text replays to.
-fn replayed(alloc: Global, text: &[u8]) -> Result<World, Fail> {
-    let journal = read_journal(alloc, text)?;
-    let sum = program(alloc, 2, &WRAPPING_SUM)?;
-    Ok(replay(alloc, sum, &journal)?)
+/// Whether a world's main has printed the sum and ended, and its journal replays and has this text.
+fn is_whole(alloc: Global, world: &World, text: &str) -> Result<bool, Fail> {
+    let is_over = world.status() == Status::Finished
+        && world.output() == b"-2147483648\n".as_slice();
+    Ok(is_over && comes_back(alloc, world.journal(), text)?)
+}
+
+/// Whether the world to which a journal replays has a journal of this text.
+fn comes_back(alloc: Global, journal: &Journal, text: &str) -> Result<bool, Fail> {
+    let sum = program(alloc, 2, WRAPPING_SUM)?;
+    let world = replay(alloc, sum, journal)?;
+    Ok(has_text(alloc, &world, text)?)
 }
 
 /// Whether this is the text of a world's journal.
@@ -41,32 +48,26 @@ fn has_text(alloc: Global, world: &World, text: &str) -> Result<bool, AllocError
     Ok(write_journal(alloc, world.journal())?.as_slice() == text.as_bytes())
 }
 
-#[test]
-fn a_whole_journal_replays(rt: HostRuntime) -> Result<(), Fail> {
-    let world = replayed(rt.alloc(), WHOLE.as_bytes())?;
-    assert!(rt;
-        world.status() == Status::Finished && world.output() == b"-2147483648\n".as_slice()
-    );
-    let sum = program(rt.alloc(), 2, &WRAPPING_SUM)?;
-    let again = replay(rt.alloc(), sum, world.journal())?;
-    assert!(rt; has_text(rt.alloc(), &again, WHOLE)?);
-    Ok(())
+/// What a journal's text comes to on that main: `whole`, another world, or why it is refused.
+fn told(alloc: Global, text: &str) -> Result<String, Fail> {
+    let journal = read_journal(alloc, text.as_bytes())?;
+    let sum = program(alloc, 2, WRAPPING_SUM)?;
+    match replay(alloc, sum, &journal) {
+        Ok(world) if is_whole(alloc, &world, text)? => Ok(String::from_str(alloc, "whole")?),
+        Ok(_) => Ok(String::from_str(alloc, "another")?),
+        Err(error) => Ok(error.to_string(alloc)?),
+    }
 }
 
 /// Whether the journal of version 1 that has these lines behind the heap's is refused so.
 fn is_refused(alloc: Global, rest: &str, wanted: &str) -> Result<bool, Fail> {
-    let mut text = Vec::from_slice(alloc, b"JVMJ 1\nheap 2 0 0\n")?;
-    text.extend_from_slice(rest.as_bytes())?;
-    let journal = read_journal(alloc, &text)?;
-    let sum = program(alloc, 2, &WRAPPING_SUM)?;
-    match replay(alloc, sum, &journal) {
-        Ok(_) => Ok(false),
-        Err(error) => Ok(format!(in alloc; "{error}")?.as_str() == wanted),
-    }
+    let text = format!(in alloc; "JVMJ 1\nheap 2 0 0\n{rest}")?;
+    Ok(told(alloc, text.as_str())?.as_str() == wanted)
 }
 
 #[test]
-fn the_first_row_that_differs_is_told(rt: HostRuntime) -> Result<(), Fail> {
+fn journals_replay_or_are_refused(rt: HostRuntime) -> Result<(), Fail> {
+    assert!(rt; told(rt.alloc(), WHOLE)?.as_str() == "whole");
     for (rest, wanted) in REFUSED {
         assert!(rt; is_refused(rt.alloc(), rest, wanted)?, "{rest}");
     }
