@@ -10,7 +10,6 @@ use model::listings::Listing;
 use model::trees::ClassTree;
 use std::alloc::{AllocError, Global};
 use std::fmt::Write;
-use std::process::Abort;
 use std::test::Fail;
 
 /// What a text's answer is to be: bytes in hexadecimal digits, or what users are told.
@@ -207,17 +206,6 @@ const MAINS: &[(&str, usize, &str, Wanted)] = &[
     ),
 ];
 
-#[test]
-fn mains_have_code(rt: HostRuntime) -> Result<(), Fail> {
-    for (first, nops, last, wanted) in MAINS {
-        assert!(rt;
-            main_has_answer(rt.alloc(), first, *nops, last, *wanted)?,
-            "{first}{nops}{last}"
-        );
-    }
-    Ok(())
-}
-
 /// Adds lines with `ldc` of the numbers below 256, and then of the last two again, and `return`.
 fn add_ints(lines: &mut String) -> Result<(), AllocError> {
     for n in 0u16..256 {
@@ -267,20 +255,17 @@ const LABELS: &[Wanted] = &[
     Wanted::At(78 + 40012, "0000c35e"),
 ];
 
-#[test]
-fn a_long_ldc_past_255(rt: HostRuntime) -> Result<(), Fail> {
-    let mut lines = String::new(rt.alloc());
+/// Whether such lines have these.
+fn ints_have(alloc: Global, wanted: &[Wanted]) -> Result<bool, Fail> {
+    let mut lines = String::new(alloc);
     add_ints(&mut lines)?;
-    assert!(rt; has_all(rt.alloc(), &lines, PAST_255)?);
-    Ok(())
+    has_all(alloc, &lines, wanted)
 }
 
-#[test]
-fn a_switch_has_10000_labels(rt: HostRuntime) -> Result<(), Fail> {
-    let mut lines = String::new(rt.alloc());
+fn labels_have(alloc: Global, wanted: &[Wanted]) -> Result<bool, Fail> {
+    let mut lines = String::new(alloc);
     add_labels(&mut lines)?;
-    assert!(rt; has_all(rt.alloc(), &lines, LABELS)?);
-    Ok(())
+    has_all(alloc, &lines, wanted)
 }
 
 /// Adds a method that pushes so many longs, all different, and these constants.
@@ -334,24 +319,25 @@ const PAST_FULL: &[(u32, &str, Wanted)] = &[
     (16_381, "ldc_w 1\nldc2_w 2\n", Wanted::Told("A3")),
 ];
 
-fn compare_pools(rt: &impl Abort, alloc: Global, rows: &[(u32, &str, Wanted)]) -> Result<(), Fail> {
+fn have_answers(alloc: Global, rows: &[(u32, &str, Wanted)]) -> Result<bool, Fail> {
     for (longs, more, wanted) in rows {
-        assert!(rt;
-            pool_has_answer(alloc, *longs, more, *wanted)?,
-            "{longs}{more}"
-        );
+        if !pool_has_answer(alloc, *longs, more, *wanted)? {
+            return Ok(false);
+        }
     }
-    Ok(())
+    Ok(true)
 }
 
 #[test]
 fn a_pool_is_full(rt: HostRuntime) -> Result<(), Fail> {
-    compare_pools(&rt, rt.alloc(), FULL)
+    assert!(rt; have_answers(rt.alloc(), FULL)?);
+    Ok(())
 }
 
 #[test]
 fn the_last_number_is_65534(rt: HostRuntime) -> Result<(), Fail> {
-    compare_pools(&rt, rt.alloc(), PAST_FULL)
+    assert!(rt; have_answers(rt.alloc(), PAST_FULL)?);
+    Ok(())
 }
 
 /// Whether the instructions of a listing's first method stand at these pcs, each with that behind it.
@@ -371,6 +357,12 @@ fn has_pcs(listing: &Listing, pcs: &[(u16, u16)]) -> bool {
 const FIVE: &[u8] =
     b".class A\n.super B\n.method static main()V\n.limit stack 2\n.limit locals 0\nldc 2147483647\niconst_1\niadd\ninvokestatic vm/Sys/print(I)V\nreturn\n.end method\n";
 
+/// Whether the listing of a text has these pcs, and the one that stands beside its class file.
+fn text_has_pcs(alloc: Global, text: &[u8], pcs: &[(u16, u16)]) -> Result<bool, Fail> {
+    let tree = read(alloc, text)?;
+    Ok(listing_has_pcs(alloc, &tree, pcs)? && made_has_pcs(alloc, &tree, pcs)?)
+}
+
 /// Whether the listing of a tree has these pcs.
 fn listing_has_pcs(alloc: Global, tree: &ClassTree, pcs: &[(u16, u16)]) -> Result<bool, AsmError> {
     Ok(has_pcs(&listing(alloc, tree)?, pcs))
@@ -381,12 +373,18 @@ fn made_has_pcs(alloc: Global, tree: &ClassTree, pcs: &[(u16, u16)]) -> Result<b
     Ok(has_pcs(&assemble(alloc, tree)?.listing, pcs))
 }
 
+const FIVE_PCS: &[(u16, u16)] = &[(0, 2), (2, 3), (3, 4), (4, 7), (7, 8)];
+
 #[test]
-fn a_listing_has_pcs_and_widths(rt: HostRuntime) -> Result<(), Fail> {
-    let pcs = [(0, 2), (2, 3), (3, 4), (4, 7), (7, 8)];
-    let tree = read(rt.alloc(), FIVE)?;
-    assert!(rt;
-        listing_has_pcs(rt.alloc(), &tree, &pcs)? && made_has_pcs(rt.alloc(), &tree, &pcs)?
-    );
+fn mains_have_code(rt: HostRuntime) -> Result<(), Fail> {
+    for (first, nops, last, wanted) in MAINS {
+        assert!(rt;
+            main_has_answer(rt.alloc(), first, *nops, last, *wanted)?,
+            "{first}{nops}{last}"
+        );
+    }
+    assert!(rt; ints_have(rt.alloc(), PAST_255)?, "a long ldc past 255");
+    assert!(rt; labels_have(rt.alloc(), LABELS)?, "10000 labels");
+    assert!(rt; text_has_pcs(rt.alloc(), FIVE, FIVE_PCS)?, "pcs and widths");
     Ok(())
 }

@@ -82,13 +82,6 @@ fn is_head_of_e(alloc: Global, bytes: &[u8]) -> Result<bool, Fail> {
     Ok(behind == 31 && bytes.get(..69) == Some(written.as_slice()))
 }
 
-#[test]
-fn the_head_of_e(rt: HostRuntime) -> Result<(), Fail> {
-    assert!(rt; is_head_of_e(rt.alloc(), &e(rt.alloc())?)?);
-    one_head();
-    Ok(())
-}
-
 /// Whether the first bytes, up to a head's end, are each time too few for a head.
 fn is_short(alloc: Global, bytes: &[u8]) -> bool {
     for len in 0..69usize {
@@ -100,12 +93,6 @@ fn is_short(alloc: Global, bytes: &[u8]) -> bool {
         }
     }
     true
-}
-
-#[test]
-fn heads_that_are_cut(rt: HostRuntime) -> Result<(), Fail> {
-    assert!(rt; is_short(rt.alloc(), &e(rt.alloc())?));
-    Ok(())
 }
 
 /// A place in E, another byte that is there, and what is wrong with the head then.
@@ -134,17 +121,6 @@ fn has_fault(
     Ok(fault(alloc, &bytes) == wanted)
 }
 
-#[test]
-fn changed_bytes(rt: HostRuntime) -> Result<(), Fail> {
-    for (place, byte, answer) in CHANGES {
-        assert!(rt;
-            has_fault(rt.alloc(), *place, *byte, *answer)?,
-            "{place} {byte}"
-        );
-    }
-    Ok(())
-}
-
 /// What stands in a class A over O before the flags of its one field `x I`.
 const A_FRONT: &str = "cafebabe 0000 0031 000a 01000141 070001 0100014f 070003 01000178 01000149
     01000d436f6e7374616e7456616c7565 0300000007 01000a44657072656361746564 0021 0002 0004 0000 0001";
@@ -162,12 +138,6 @@ fn is_shorter(alloc: Global) -> Result<bool, Fail> {
     let bytes = one_field(alloc, "0008", "00000002", "0008")?;
     let (behind, written) = head_again(alloc, &bytes)?;
     Ok(behind == 14 && written.len() == 92 && written.get(83) == Some(&1))
-}
-
-#[test]
-fn a_field_is_written(rt: HostRuntime) -> Result<(), Fail> {
-    assert!(rt; is_shorter(rt.alloc())?);
-    Ok(())
 }
 
 /// The flags of the field, the length of its value's attribute, and the value; and what is wrong with the head then.
@@ -192,11 +162,24 @@ fn field_has_fault(
 }
 
 #[test]
-fn fields(rt: HostRuntime) -> Result<(), Fail> {
+fn heads_are_read_and_written(rt: HostRuntime) -> Result<(), Fail> {
+    let bytes = e(rt.alloc())?;
+    assert!(rt; is_head_of_e(rt.alloc(), &bytes)?, "E");
+    assert!(rt; is_short(rt.alloc(), &bytes), "cut");
+    assert!(rt; is_shorter(rt.alloc())?, "a field");
+    one_head();
+    Ok(())
+}
+
+#[test]
+fn faults_of_heads(rt: HostRuntime) -> Result<(), Fail> {
+    for (place, byte, answer) in CHANGES {
+        assert!(rt; has_fault(rt.alloc(), *place, *byte, *answer)?, "{place}");
+    }
     for (flags, length, value, answer) in FIELDS {
         assert!(rt;
             field_has_fault(rt.alloc(), flags, length, value, *answer)?,
-            "{flags} {length}"
+            "{flags}"
         );
     }
     Ok(())

@@ -117,22 +117,10 @@ fn is_of_r(tree: &ClassTree) -> bool {
         && tree.methods.len() == 3
 }
 
-#[test]
-fn class_files_have_these_texts(rt: HostRuntime) -> Result<(), Fail> {
-    for (digits, wanted) in [(E, TEXT_OF_E), (R, TEXT_OF_R)] {
-        assert!(rt; have_text(rt.alloc(), digits, wanted)?, "{wanted}");
-    }
-    Ok(())
-}
-
-fn tree_is_of_r(alloc: Global, file: &ClassFile) -> Result<bool, Fail> {
-    Ok(is_of_r(&tree(alloc, file)?))
-}
-
-#[test]
-fn a_class_file_has_the_tree_of_its_text(rt: HostRuntime) -> Result<(), Fail> {
-    assert!(rt; tree_is_of_r(rt.alloc(), &file_of(rt.alloc(), R)?)?);
-    Ok(())
+/// Whether a class file has a tree of R's name and parts.
+fn has_tree_of_r(alloc: Global, digits: &str) -> Result<bool, Fail> {
+    let file = file_of(alloc, digits)?;
+    Ok(is_of_r(&tree(alloc, &file)?))
 }
 
 /// An interface of two lines.
@@ -144,14 +132,19 @@ fn listed(alloc: Global, text: &str) -> Result<Listing, Fail> {
     Ok(assembler::listing(alloc, &tree)?)
 }
 
-fn listing_has_text(alloc: Global, listing: &Listing, wanted: &str) -> Result<bool, Fail> {
-    Ok(text(alloc, listing)?.as_slice() == wanted.as_bytes())
+/// Whether the text of a text's listing is this text.
+fn comes_back_of_listing(alloc: Global, wanted: &str) -> Result<bool, Fail> {
+    let listing = listed(alloc, wanted)?;
+    Ok(text(alloc, &listing)?.as_slice() == wanted.as_bytes())
 }
 
 #[test]
-fn an_interface_of_two_lines(rt: HostRuntime) -> Result<(), Fail> {
-    let listing = listed(rt.alloc(), INTERFACE)?;
-    assert!(rt; listing_has_text(rt.alloc(), &listing, INTERFACE)?);
+fn class_files_have_these_texts(rt: HostRuntime) -> Result<(), Fail> {
+    for (digits, wanted) in [(E, TEXT_OF_E), (R, TEXT_OF_R)] {
+        assert!(rt; have_text(rt.alloc(), digits, wanted)?, "{wanted}");
+    }
+    assert!(rt; has_tree_of_r(rt.alloc(), R)?, "tree");
+    assert!(rt; comes_back_of_listing(rt.alloc(), INTERFACE)?, "interface");
     texts_come_back();
     Ok(())
 }

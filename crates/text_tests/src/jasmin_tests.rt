@@ -286,14 +286,6 @@ fn compare(rt: &impl Abort, alloc: Global, rows: &str) -> Result<(), Fail> {
     Ok(())
 }
 
-#[test]
-fn texts_are_read_or_refused(rt: HostRuntime) -> Result<(), Fail> {
-    for rows in [CLASSES, FIELDS, METHODS, INSTRUCTIONS, LABELS, BYTES] {
-        compare(&rt, rt.alloc(), rows)?;
-    }
-    Ok(())
-}
-
 /// Whether this is the method `public static main()V` with one line of code and no room for values.
 fn is_smallest_main(main: &MethodTree) -> bool {
     let Some(body) = &main.body else {
@@ -312,14 +304,6 @@ fn is_smallest_class(tree: &ClassTree) -> bool {
         && tree.flags == ClassFlags::PUBLIC
         && (tree.interfaces.len(), tree.fields.len()) == (0, 0)
         && matches!(tree.methods.as_slice(), [main] if is_smallest_main(main))
-}
-
-#[test]
-fn the_smallest_program_is_read(rt: HostRuntime) -> Result<(), Fail> {
-    let tree = read(rt.alloc(), TEXT_OF_E.as_bytes())?;
-    assert!(rt; is_smallest_class(&tree));
-    texts_are_spelled();
-    Ok(())
 }
 
 /// Whether a field has this name, descriptor and flags, and this constant.
@@ -360,13 +344,6 @@ fn is_interface(tree: &ClassTree) -> bool {
 
 const TWO_FIELDS: &str =
     ".interface public a/I\n.super java/lang/Object\n.implements a/J\n.implements K\n.field public static final least J = -9223372036854775808\n.field public static final transient none La/I;\n.method public abstract m(J)I\n.end method\n";
-
-#[test]
-fn an_interface_has_superinterfaces_and_values(rt: HostRuntime) -> Result<(), Fail> {
-    let tree = read(rt.alloc(), TWO_FIELDS.as_bytes())?;
-    assert!(rt; is_interface(&tree));
-    Ok(())
-}
 
 /// A text of a head and lines that are all alike: what begins each, a piece so many times, and what ends it.
 #[derive(Clone, Copy)]
@@ -466,7 +443,10 @@ fn is_outcome_of_long(alloc: Global, long: Long, wanted: &str) -> Result<bool, A
 }
 
 #[test]
-fn long_texts(rt: HostRuntime) -> Result<(), AllocError> {
+fn texts_are_read_or_refused(rt: HostRuntime) -> Result<(), Fail> {
+    for rows in [CLASSES, FIELDS, METHODS, INSTRUCTIONS, LABELS, BYTES] {
+        compare(&rt, rt.alloc(), rows)?;
+    }
     for (long, expected) in LONG {
         assert!(rt;
             is_outcome_of_long(rt.alloc(), *long, expected)?,
@@ -477,13 +457,27 @@ fn long_texts(rt: HostRuntime) -> Result<(), AllocError> {
     Ok(())
 }
 
-#[test]
-fn a_refusal_prints_its_number_and_line(rt: HostRuntime) -> Result<(), AllocError> {
+/// The text of a refusal: its number and its line.
+fn printed(alloc: Global) -> Result<String, AllocError> {
     let error = TextError {
         line: 6,
         fault: Fault::Label,
     };
-    let printed = error.to_string(rt.alloc())?;
-    assert!(rt; printed.as_str() == "J5 at line 6" && Fault::Memory.number() == 9);
+    error.to_string(alloc)
+}
+
+#[test]
+fn trees_and_refusals(rt: HostRuntime) -> Result<(), Fail> {
+    assert!(rt;
+        is_smallest_class(&read(rt.alloc(), TEXT_OF_E.as_bytes())?),
+        "E"
+    );
+    assert!(rt;
+        is_interface(&read(rt.alloc(), TWO_FIELDS.as_bytes())?),
+        "interface"
+    );
+    assert!(rt; printed(rt.alloc())?.as_str() == "J5 at line 6");
+    assert!(rt; Fault::Memory.number() == 9);
+    texts_are_spelled();
     Ok(())
 }

@@ -57,19 +57,6 @@ fn come_back(alloc: Global, bytes: &[u8], pcs: &[u16]) -> Result<bool, OpError> 
     Ok(has_pcs(&code, pcs) && again(alloc, code)?.as_slice() == bytes)
 }
 
-/// Each opcode is read where `javap` sees it, and written again.
-#[test]
-fn opcodes_are_read(rt: HostRuntime) -> Result<(), Fail> {
-    let bytes = hex(rt.alloc(), CODE)?;
-    assert!(rt; come_back(rt.alloc(), &bytes, PCS)?);
-    Ok(())
-}
-
-/// Why bytes are no code.
-fn refusal(alloc: Global, bytes: &[u8]) -> Option<OpError> {
-    decode(alloc, bytes).err()
-}
-
 /// The smallest code of each refusal, and which comes first.
 const REFUSALS: &[(&str, OpError)] = &[
     ("ba", OpError::Opcode),
@@ -95,19 +82,6 @@ const REFUSALS: &[(&str, OpError)] = &[
     ("ab000000 00000000 ffffffff", OpError::Switch),
 ];
 
-fn is_refused(alloc: Global, digits: &str, error: OpError) -> Result<bool, Fail> {
-    let bytes = hex(alloc, digits)?;
-    Ok(refusal(alloc, &bytes) == Some(error))
-}
-
-#[test]
-fn refusals(rt: HostRuntime) -> Result<(), Fail> {
-    for (digits, error) in REFUSALS {
-        assert!(rt; is_refused(rt.alloc(), digits, *error)?, "{digits}");
-    }
-    Ok(())
-}
-
 /// How many instructions bytes are, if these are written as the same bytes again.
 fn count_again(alloc: Global, bytes: &[u8]) -> Result<Option<usize>, OpError> {
     let code = decode(alloc, bytes)?;
@@ -118,6 +92,23 @@ fn count_again(alloc: Global, bytes: &[u8]) -> Result<Option<usize>, OpError> {
     } else {
         None
     })
+}
+
+/// Whether hexadecimal digits are so many instructions, or no code for this reason.
+fn counts(alloc: Global, digits: &str, wanted: Result<usize, OpError>) -> Result<bool, Fail> {
+    let bytes = hex(alloc, digits)?;
+    Ok(count_again(alloc, &bytes) == wanted.map(|count| Some(count)))
+}
+
+/// The same of so many equal bytes.
+fn counts_many(
+    alloc: Global,
+    byte: u8,
+    count: usize,
+    wanted: Result<usize, OpError>,
+) -> Result<bool, AllocError> {
+    let bytes = vec![in alloc; byte; count]?;
+    Ok(count_again(alloc, &bytes) == wanted.map(|count| Some(count)))
 }
 
 /// So many nops, and a tableswitch of 9 with its pad.
@@ -131,19 +122,6 @@ const PADDED: &[(&str, usize)] = &[
     ("000000000000 aa 00 00000000 00000009 00000009 00000000", 7),
     ("00000000000000 aa 00000000 00000009 00000009 00000000", 8),
 ];
-
-fn has_count(alloc: Global, digits: &str, count: usize) -> Result<bool, Fail> {
-    let bytes = hex(alloc, digits)?;
-    Ok(count_again(alloc, &bytes)? == Some(count))
-}
-
-#[test]
-fn pads(rt: HostRuntime) -> Result<(), Fail> {
-    for (digits, count) in PADDED {
-        assert!(rt; has_count(rt.alloc(), digits, *count)?, "{digits}");
-    }
-    Ok(())
-}
 
 /// Whether the first instructions load ints from these locals.
 fn loads(code: &Code, locals: &[Local]) -> bool {
@@ -159,39 +137,15 @@ fn loads(code: &Code, locals: &[Local]) -> bool {
 }
 
 /// `wide iload 1` isn't `iload 1`, and that isn't `iload_1`.
-#[test]
-fn forms_stay_apart(rt: HostRuntime) -> Result<(), Fail> {
-    let code = decode(rt.alloc(), &[196, 21, 0, 1, 21, 1, 27])?;
-    let locals = [
-        Local::Wide(1),
-        Local::Byte(1),
-        Local::First(FirstLocal::One),
-    ];
-    assert!(rt; loads(&code, &locals));
-    Ok(())
-}
+const FORMS: [Local; 3] = [
+    Local::Wide(1),
+    Local::Byte(1),
+    Local::First(FirstLocal::One),
+];
 
-/// Whether so many bytes are as many instructions, or why they are no code.
-fn told_of_many(alloc: Global, byte: u8, count: usize) -> Result<Option<OpError>, AllocError> {
-    let bytes = vec![in alloc; byte; count]?;
-    Ok(match count_again(alloc, &bytes) {
-        Ok(found) if found == Some(count) => None,
-        Ok(_) => Some(OpError::Memory),
-        Err(error) => Some(error),
-    })
-}
-
-/// 65,535 bytes are code, 65,536 aren't.
-#[test]
-fn lengths(rt: HostRuntime) -> Result<(), AllocError> {
-    for (byte, count, error) in [
-        (0u8, 65535usize, None),
-        (0, 65536, Some(OpError::Length)),
-        (255, 65536, Some(OpError::Length)),
-    ] {
-        assert!(rt; told_of_many(rt.alloc(), byte, count)? == error);
-    }
-    Ok(())
+fn forms_stay_apart(alloc: Global) -> Result<bool, OpError> {
+    let code = decode(alloc, &[196, 21, 0, 1, 21, 1, 27])?;
+    Ok(loads(&code, &FORMS))
 }
 
 /// `goto` a pc.
@@ -233,39 +187,55 @@ fn is_unwritten(alloc: Global, name: &str, error: OpError) -> Result<bool, Alloc
     Ok(encode(alloc, &[instruction]).err() == Some(error))
 }
 
+/// The names of such instructions.
+const FAULTY: &[(&str, OpError)] = &[
+    ("ldc past a byte", OpError::Operand),
+    ("a way past two bytes", OpError::Operand),
+    ("a way to no instruction", OpError::Branch),
+    ("a table without ways", OpError::Switch),
+    ("a table past the greatest int", OpError::Switch),
+    ("keys that fall", OpError::Switch),
+];
+
+/// What users are told of these errors, one after another.
+fn codes(alloc: Global) -> Result<String, AllocError> {
+    let (opcode, operand, branch) = (OpError::Opcode, OpError::Operand, OpError::Branch);
+    let (switch, length, memory) = (OpError::Switch, OpError::Length, OpError::Memory);
+    format!(in alloc; "{opcode} {operand} {branch} {switch} {length} {memory}")
+}
+
+/// Each opcode is read where `javap` sees it, and written again; a switch has pads; 65,535 bytes are code, 65,536 aren't.
 #[test]
-fn instructions_without_spelling(rt: HostRuntime) -> Result<(), AllocError> {
-    for (name, error) in [
-        ("ldc past a byte", OpError::Operand),
-        ("a way past two bytes", OpError::Operand),
-        ("a way to no instruction", OpError::Branch),
-        ("a table without ways", OpError::Switch),
-        ("a table past the greatest int", OpError::Switch),
-        ("keys that fall", OpError::Switch),
-    ] {
-        assert!(rt; is_unwritten(rt.alloc(), name, error)?, "{name}");
+fn code_is_read_and_written(rt: HostRuntime) -> Result<(), Fail> {
+    let bytes = hex(rt.alloc(), CODE)?;
+    assert!(rt; come_back(rt.alloc(), &bytes, PCS)?, "each opcode");
+    assert!(rt; forms_stay_apart(rt.alloc())?, "forms");
+    for (digits, count) in PADDED {
+        assert!(rt; counts(rt.alloc(), digits, Ok(*count))?, "{digits}");
     }
+    assert!(rt; counts_many(rt.alloc(), 0, 65535, Ok(65535))?, "65535");
+    one_spelling();
     Ok(())
 }
 
 #[test]
-fn no_instructions(rt: HostRuntime) {
-    let none: [Instr; 0] = [];
-    assert!(rt; encode(rt.alloc(), &none).err() == Some(OpError::Length));
-}
-
-#[test]
-fn codes(rt: HostRuntime) -> Result<(), AllocError> {
-    for (error, code) in [
-        (OpError::Opcode, "O1"),
-        (OpError::Operand, "O2"),
-        (OpError::Branch, "O3"),
-        (OpError::Switch, "O4"),
-        (OpError::Length, "O5"),
-        (OpError::Memory, "O6"),
-    ] {
-        assert!(rt; error.to_string(rt.alloc())?.as_str() == code);
+fn code_is_refused(rt: HostRuntime) -> Result<(), Fail> {
+    for (digits, error) in REFUSALS {
+        assert!(rt; counts(rt.alloc(), digits, Err(*error))?, "{digits}");
     }
-    one_spelling();
+    for byte in [0u8, 255] {
+        assert!(rt;
+            counts_many(rt.alloc(), byte, 65536, Err(OpError::Length))?,
+            "65536"
+        );
+    }
+    for (name, error) in FAULTY {
+        assert!(rt; is_unwritten(rt.alloc(), name, *error)?, "{name}");
+    }
+    assert!(rt;
+        encode(rt.alloc(), &[]).err() == Some(OpError::Length),
+        "nothing"
+    );
+    assert!(rt; codes(rt.alloc())?.as_str() == "O1 O2 O3 O4 O5 O6", "codes");
     Ok(())
 }

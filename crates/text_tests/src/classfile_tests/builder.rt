@@ -176,12 +176,6 @@ fn is_e(alloc: Global) -> Result<bool, Fail> {
     Ok(bytes.as_slice() == e(alloc)?.as_slice())
 }
 
-#[test]
-fn e_is_made(rt: HostRuntime) -> Result<(), Fail> {
-    assert!(rt; is_e(rt.alloc())?);
-    Ok(())
-}
-
 /// What a class is to come to.
 #[derive(Clone, Copy)]
 enum Answer {
@@ -235,14 +229,6 @@ fn comes_to(alloc: Global, part: Part, wanted: Answer) -> Result<bool, Fail> {
     Ok(is_answer(&made, wanted))
 }
 
-#[test]
-fn parts_are_made_or_refused(rt: HostRuntime) -> Result<(), Fail> {
-    for (part, wanted) in PARTS {
-        assert!(rt; comes_to(rt.alloc(), *part, *wanted)?);
-    }
-    Ok(())
-}
-
 /// Why a pool of 65,534 ints takes no other one, if it takes the last one again.
 fn refusal_of_full(alloc: Global) -> Option<AddError> {
     let mut pool = PoolBuilder::new(alloc);
@@ -257,17 +243,12 @@ fn refusal_of_full(alloc: Global) -> Option<AddError> {
     }
 }
 
-fn is_c9(alloc: Global, error: AddError) -> Result<bool, AllocError> {
-    Ok(ClassError::from(error).to_string(alloc)?.as_str() == "C9")
-}
-
-#[test]
-fn a_pool_that_is_full(rt: HostRuntime) -> Result<(), AllocError> {
-    match refusal_of_full(rt.alloc()) {
-        Some(full) => assert!(rt; is_c9(rt.alloc(), full)?),
-        None => assert!(rt; false, "there was room"),
+/// Whether users are told C9 of that.
+fn full_is_c9(alloc: Global) -> Result<bool, AllocError> {
+    match refusal_of_full(alloc) {
+        Some(full) => Ok(ClassError::from(full).to_string(alloc)?.as_str() == "C9"),
+        None => Ok(false),
     }
-    Ok(())
 }
 
 /// Why no instruction, or a `goto` with this offset alone, is no code.
@@ -282,12 +263,20 @@ fn refusal(alloc: Global, offset: Option<u16>) -> Option<OpError> {
 }
 
 #[test]
-fn instructions_that_are_no_code(rt: HostRuntime) {
-    for (offset, answer) in [
-        (Some(1), Some(OpError::Branch)),
-        (Some(0), None),
-        (None, Some(OpError::Length)),
-    ] {
-        assert!(rt; refusal(rt.alloc(), offset) == answer);
+fn parts_are_made_or_refused(rt: HostRuntime) -> Result<(), Fail> {
+    assert!(rt; is_e(rt.alloc())?, "E");
+    for (part, wanted) in PARTS {
+        assert!(rt; comes_to(rt.alloc(), *part, *wanted)?);
     }
+    assert!(rt; full_is_c9(rt.alloc())?, "full");
+    assert!(rt;
+        refusal(rt.alloc(), Some(1)) == Some(OpError::Branch),
+        "goto 1"
+    );
+    assert!(rt; refusal(rt.alloc(), Some(0)) == None, "goto 0");
+    assert!(rt;
+        refusal(rt.alloc(), None) == Some(OpError::Length),
+        "nothing"
+    );
+    Ok(())
 }

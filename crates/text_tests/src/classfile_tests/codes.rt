@@ -131,28 +131,9 @@ const CODES: &[(u8, &str, &str, &str, &str)] = &[
     (8, "", "b1", "0000 00", "C8"),
 ];
 
-#[test]
-fn codes_are_read_or_refused(rt: HostRuntime) -> Result<(), Fail> {
-    for (count, entries, code, tail, answer) in CODES {
-        assert!(rt;
-            is_told_of_code(rt.alloc(), *count, entries, code, tail, answer)?,
-            "{code} {tail}"
-        );
-    }
-    Ok(())
-}
-
 fn is_told_of_nops(alloc: Global, count: usize, wanted: &str) -> Result<bool, Fail> {
     let code = "00".repeat(alloc, count)?;
     is_told_of_code(alloc, 8, "", code.as_str(), NO_TAIL, wanted)
-}
-
-#[test]
-fn code_has_65535_bytes_at_most(rt: HostRuntime) -> Result<(), Fail> {
-    for (count, answer) in [(65535usize, "read"), (65536, "O5 in method main()V")] {
-        assert!(rt; is_told_of_nops(rt.alloc(), count, answer)?);
-    }
-    Ok(())
 }
 
 /// Whether some nops, `ldc` of that Integer, and a tableswitch from 2147483646 with two labels behind these pads are
@@ -180,19 +161,6 @@ fn wants_pads(alloc: Global, nops: &str, right: &str) -> Result<bool, Fail> {
         }
     }
     Ok(true)
-}
-
-#[test]
-fn a_switch_has_pads(rt: HostRuntime) -> Result<(), Fail> {
-    for (nops, right) in [
-        ("", "00"),
-        ("00", ""),
-        ("0000", "000000"),
-        ("000000", "0000"),
-    ] {
-        assert!(rt; wants_pads(rt.alloc(), nops, right)?);
-    }
-    Ok(())
 }
 
 /// An Integer 8, a Long 9, a field `main I` 13, and methods `main()V` of a class 15 and of an interface 16.
@@ -243,14 +211,6 @@ fn takes(alloc: Global, opcode: &str, tail: &str, one: u8, other: u8) -> Result<
     Ok(true)
 }
 
-#[test]
-fn each_operand_has_its_kind(rt: HostRuntime) -> Result<(), Fail> {
-    for (opcode, tail, one, other) in OPERANDS {
-        assert!(rt; takes(rt.alloc(), opcode, tail, *one, *other)?, "{opcode}");
-    }
-    Ok(())
-}
-
 /// Whether a class file has one method, and its code two rows for all of it, for class 2 and for any.
 fn has_rows(file: &ClassFile) -> bool {
     let [main] = file.methods() else {
@@ -277,12 +237,6 @@ fn rows_come_back(alloc: Global) -> Result<bool, Fail> {
 fn attribute_is_left_out(alloc: Global) -> Result<bool, Fail> {
     let bytes = with_code(alloc, 8, "", "b1", "0000 0001 0007 00000001 09")?;
     Ok(is_written_as(alloc, &bytes, &e(alloc)?)?)
-}
-
-#[test]
-fn code_is_written(rt: HostRuntime) -> Result<(), Fail> {
-    assert!(rt; rows_come_back(rt.alloc())? && attribute_is_left_out(rt.alloc())?);
-    Ok(())
 }
 
 const NONE: &str = "0000";
@@ -341,17 +295,6 @@ fn is_told_of_flags(
     is_told_of_method(alloc, 8, "", method.as_str(), wanted)
 }
 
-#[test]
-fn a_method_has_code_or_none(rt: HostRuntime) -> Result<(), Fail> {
-    for (flags, attributes, answer) in METHODS {
-        assert!(rt;
-            is_told_of_flags(rt.alloc(), *flags, attributes, answer)?,
-            "{flags} {attributes}"
-        );
-    }
-    Ok(())
-}
-
 /// A descriptor's length, the ints behind its 127 longs, which take 254 units, and a method that has it; and what users
 /// are told.
 const ARGUMENTS: &[(&str, &str, &str, &str)] = &[
@@ -373,13 +316,53 @@ fn is_told_of_arguments(
     is_told_of_method(alloc, 9, entry.as_str(), method, wanted)
 }
 
+/// Nops, and the pads of a switch behind them.
+const RIGHT_PADS: &[(&str, &str)] = &[
+    ("", "00"),
+    ("00", ""),
+    ("0000", "000000"),
+    ("000000", "0000"),
+];
+
+/// Code has 65,535 bytes at most; its switches have pads, and each operand has its kind.
 #[test]
-fn arguments_take_255_units(rt: HostRuntime) -> Result<(), Fail> {
+fn codes_are_read_or_refused(rt: HostRuntime) -> Result<(), Fail> {
+    for (count, entries, code, tail, answer) in CODES {
+        assert!(rt;
+            is_told_of_code(rt.alloc(), *count, entries, code, tail, answer)?,
+            "{code} {tail}"
+        );
+    }
+    for (nops, right) in RIGHT_PADS {
+        assert!(rt; wants_pads(rt.alloc(), nops, right)?, "pads");
+    }
+    for (opcode, tail, one, other) in OPERANDS {
+        assert!(rt; takes(rt.alloc(), opcode, tail, *one, *other)?, "{opcode}");
+    }
+    assert!(rt; is_told_of_nops(rt.alloc(), 65535, "read")?, "65535");
+    assert!(rt;
+        is_told_of_nops(rt.alloc(), 65536, "O5 in method main()V")?,
+        "65536"
+    );
+    Ok(())
+}
+
+/// A method has code or none, and its arguments take 255 units at most.
+#[test]
+fn methods_are_read_or_refused(rt: HostRuntime) -> Result<(), Fail> {
+    for (flags, attributes, answer) in METHODS {
+        assert!(rt;
+            is_told_of_flags(rt.alloc(), *flags, attributes, answer)?,
+            "{flags} {attributes}"
+        );
+    }
     for (length, ints, method, answer) in ARGUMENTS {
         assert!(rt;
             is_told_of_arguments(rt.alloc(), length, ints, method, answer)?,
-            "{length} {method}"
+            "{length}"
         );
     }
+    assert!(rt; rows_come_back(rt.alloc())?, "rows");
+    assert!(rt; attribute_is_left_out(rt.alloc())?, "attribute");
     Ok(())
 }

@@ -38,13 +38,6 @@ fn comes_back(alloc: Global, bytes: &[u8]) -> Result<bool, ClassError> {
     Ok(is_e(&file) && has_bytes(alloc, &file, bytes)?)
 }
 
-#[test]
-fn e_is_read_and_written(rt: HostRuntime) -> Result<(), Fail> {
-    assert!(rt; comes_back(rt.alloc(), &e(rt.alloc())?)?);
-    one_class_file();
-    Ok(())
-}
-
 /// Whether users are told C3 of each front of these bytes.
 fn is_cut(alloc: Global, bytes: &[u8]) -> Result<bool, AllocError> {
     for len in 0..100usize {
@@ -58,22 +51,10 @@ fn is_cut(alloc: Global, bytes: &[u8]) -> Result<bool, AllocError> {
     Ok(true)
 }
 
-#[test]
-fn cut_files(rt: HostRuntime) -> Result<(), Fail> {
-    assert!(rt; is_cut(rt.alloc(), &e(rt.alloc())?)?);
-    Ok(())
-}
-
 fn one_more_is_told(alloc: Global) -> Result<bool, Fail> {
     let mut longer = e(alloc)?;
     longer.push(0)?;
     Ok(is_told(alloc, &longer, "C4")?)
-}
-
-#[test]
-fn one_byte_more(rt: HostRuntime) -> Result<(), Fail> {
-    assert!(rt; one_more_is_told(rt.alloc())?);
-    Ok(())
 }
 
 /// A place in E, another byte that is there, and what users are told.
@@ -117,17 +98,6 @@ fn change_is_told(alloc: Global, place: usize, byte: u8, wanted: &str) -> Result
     Ok(is_told(alloc, &bytes, wanted)?)
 }
 
-#[test]
-fn one_byte_is_another(rt: HostRuntime) -> Result<(), Fail> {
-    for (place, byte, answer) in CHANGES {
-        assert!(rt;
-            change_is_told(rt.alloc(), *place, *byte, answer)?,
-            "{place} {byte}"
-        );
-    }
-    Ok(())
-}
-
 /// Whether bytes are a class file; none where it isn't written as these again.
 fn is_read(alloc: Global, bytes: &[u8]) -> Result<Option<bool>, ClassError> {
     match read(alloc, bytes) {
@@ -164,14 +134,6 @@ fn is_right(alloc: Global, place: usize) -> Result<bool, Fail> {
     })
 }
 
-#[test]
-fn every_byte_is_another(rt: HostRuntime) -> Result<(), Fail> {
-    for place in 0..100usize {
-        assert!(rt; is_right(rt.alloc(), place)?, "{place}");
-    }
-    Ok(())
-}
-
 /// What users are told of these errors, one after another.
 fn codes(alloc: Global) -> Result<String, AllocError> {
     let (full, memory) = (ClassError::PoolFull, ClassError::Memory);
@@ -180,8 +142,28 @@ fn codes(alloc: Global) -> Result<String, AllocError> {
     format!(in alloc; "{full} {memory} {short} {flags}")
 }
 
+/// E as it is, cut, with a byte more, and with one byte that is another.
 #[test]
-fn what_users_are_told(rt: HostRuntime) -> Result<(), AllocError> {
-    assert!(rt; codes(rt.alloc())?.as_str() == "C9 C10 C3 C11");
+fn class_files(rt: HostRuntime) -> Result<(), Fail> {
+    let bytes = e(rt.alloc())?;
+    assert!(rt; comes_back(rt.alloc(), &bytes)?, "read and written");
+    assert!(rt; is_cut(rt.alloc(), &bytes)?, "cut");
+    assert!(rt; one_more_is_told(rt.alloc())?, "a byte more");
+    one_class_file();
+    Ok(())
+}
+
+#[test]
+fn one_byte_is_another(rt: HostRuntime) -> Result<(), Fail> {
+    for (place, byte, answer) in CHANGES {
+        assert!(rt;
+            change_is_told(rt.alloc(), *place, *byte, answer)?,
+            "{place}"
+        );
+    }
+    for place in 0..100usize {
+        assert!(rt; is_right(rt.alloc(), place)?, "{place}");
+    }
+    assert!(rt; codes(rt.alloc())?.as_str() == "C9 C10 C3 C11", "codes");
     Ok(())
 }

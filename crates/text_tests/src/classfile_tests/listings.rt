@@ -87,12 +87,6 @@ fn code_of(class: &Listing) -> Option<&Code> {
     class.methods.first()?.code.as_ref()
 }
 
-#[test]
-fn the_smallest_class(rt: HostRuntime) -> Result<(), Fail> {
-    assert!(rt; is_smallest(&listing_of(rt.alloc(), E)?));
-    Ok(())
-}
-
 fn is_a(a: &Listing) -> bool {
     match code_of(a) {
         Some(code) => has_field(a) && has_call(code) && has_limits_and_row(code),
@@ -101,7 +95,11 @@ fn is_a(a: &Listing) -> bool {
 }
 
 #[test]
-fn a_class_with_a_call(rt: HostRuntime) -> Result<(), Fail> {
-    assert!(rt; is_a(&listing_of(rt.alloc(), A)?));
+fn listings_by_hand(rt: HostRuntime) -> Result<(), Fail> {
+    assert!(rt;
+        is_smallest(&listing_of(rt.alloc(), E)?),
+        "the smallest class"
+    );
+    assert!(rt; is_a(&listing_of(rt.alloc(), A)?), "a class with a call");
     Ok(())
 }
