@@ -4,7 +4,7 @@ mod bytes;
 
 use crate::class_bytes::hex;
 use assembler::{AsmError, assemble, listing};
-use classfile::write;
+use classfile::{ClassFile, write};
 use jasmin::read;
 use model::listings::Listing;
 use model::trees::ClassTree;
@@ -30,18 +30,28 @@ enum Wanted {
 /// What a class file begins with.
 const MAGIC: &[u8] = b"\xca\xfe\xba\xbe";
 
-/// The bytes of the class file of a tree, or what users are told of it.
-fn answer_of(alloc: Global, tree: &ClassTree) -> Result<Vec<u8>, Fail> {
-    match assemble(alloc, tree) {
-        Ok(made) => Ok(write(alloc, &made.file)?),
+/// The bytes of a class file, or what users are told of it.
+fn bytes_of(alloc: Global, file: &ClassFile) -> Result<Vec<u8>, AllocError> {
+    match write(alloc, file) {
+        Ok(bytes) => Ok(bytes),
         Err(error) => Ok(error.to_string(alloc)?.into_bytes()),
     }
 }
 
-/// The same of a text.
-fn answer(alloc: Global, text: &str) -> Result<Vec<u8>, Fail> {
-    let tree = read(alloc, text.as_bytes())?;
-    answer_of(alloc, &tree)
+/// The same of a tree's.
+fn answer_of(alloc: Global, tree: &ClassTree) -> Result<Vec<u8>, AllocError> {
+    match assemble(alloc, tree) {
+        Ok(made) => bytes_of(alloc, &made.file),
+        Err(error) => Ok(error.to_string(alloc)?.into_bytes()),
+    }
+}
+
+/// The same of a text's.
+fn answer(alloc: Global, text: &str) -> Result<Vec<u8>, AllocError> {
+    match read(alloc, text.as_bytes()) {
+        Ok(tree) => answer_of(alloc, &tree),
+        Err(error) => Ok(error.to_string(alloc)?.into_bytes()),
+    }
 }
 
 /// Whether bytes have these, in hexadecimal digits, from a place on, and whether that is all of them.
@@ -50,7 +60,7 @@ fn stands_at(
     bytes: &[u8],
     place: usize,
     digits: &str,
-) -> Result<(bool, bool), Fail> {
+) -> Result<(bool, bool), AllocError> {
     let wanted = hex(alloc, digits)?;
     Ok(match bytes.get(place..) {
         Some(rest) => (rest.starts_with(&wanted), rest.len() == wanted.len()),
@@ -58,12 +68,12 @@ fn stands_at(
     })
 }
 
-fn ends_in(alloc: Global, bytes: &[u8], digits: &str) -> Result<bool, Fail> {
+fn ends_in(alloc: Global, bytes: &[u8], digits: &str) -> Result<bool, AllocError> {
     let wanted = hex(alloc, digits)?;
     Ok(bytes.ends_with(&wanted))
 }
 
-fn is_wanted(alloc: Global, bytes: &[u8], wanted: Wanted) -> Result<bool, Fail> {
+fn is_wanted(alloc: Global, bytes: &[u8], wanted: Wanted) -> Result<bool, AllocError> {
     match wanted {
         Wanted::Whole(digits) => Ok(stands_at(alloc, bytes, 0, digits)? == (true, true)),
         Wanted::End(digits) => ends_in(alloc, bytes, digits),
@@ -74,7 +84,7 @@ fn is_wanted(alloc: Global, bytes: &[u8], wanted: Wanted) -> Result<bool, Fail> 
 }
 
 /// Whether a text's answer is the wanted one.
-fn has_answer(alloc: Global, text: &str, wanted: Wanted) -> Result<bool, Fail> {
+fn has_answer(alloc: Global, text: &str, wanted: Wanted) -> Result<bool, AllocError> {
     let bytes = answer(alloc, text)?;
     is_wanted(alloc, &bytes, wanted)
 }
@@ -93,7 +103,7 @@ fn main_has_answer(
     nops: usize,
     last: &str,
     wanted: Wanted,
-) -> Result<bool, Fail> {
+) -> Result<bool, AllocError> {
     let text = main_with(alloc, first, nops, last)?;
     has_answer(alloc, &text, wanted)
 }
@@ -228,7 +238,7 @@ fn add_labels(lines: &mut String) -> Result<(), AllocError> {
 }
 
 /// Whether bytes are all that is wanted.
-fn are_all(alloc: Global, bytes: &[u8], wanted: &[Wanted]) -> Result<bool, Fail> {
+fn are_all(alloc: Global, bytes: &[u8], wanted: &[Wanted]) -> Result<bool, AllocError> {
     for wanted in wanted {
         if !is_wanted(alloc, bytes, *wanted)? {
             return Ok(false);
@@ -238,7 +248,7 @@ fn are_all(alloc: Global, bytes: &[u8], wanted: &[Wanted]) -> Result<bool, Fail>
 }
 
 /// Whether the answer of a text whose main has these lines is all that is wanted.
-fn has_all(alloc: Global, lines: &str, wanted: &[Wanted]) -> Result<bool, Fail> {
+fn has_all(alloc: Global, lines: &str, wanted: &[Wanted]) -> Result<bool, AllocError> {
     let text = main_with(alloc, lines, 0, "")?;
     let bytes = answer(alloc, &text)?;
     are_all(alloc, &bytes, wanted)
@@ -256,13 +266,13 @@ const LABELS: &[Wanted] = &[
 ];
 
 /// Whether such lines have these.
-fn ints_have(alloc: Global, wanted: &[Wanted]) -> Result<bool, Fail> {
+fn ints_have(alloc: Global, wanted: &[Wanted]) -> Result<bool, AllocError> {
     let mut lines = String::new(alloc);
     add_ints(&mut lines)?;
     has_all(alloc, &lines, wanted)
 }
 
-fn labels_have(alloc: Global, wanted: &[Wanted]) -> Result<bool, Fail> {
+fn labels_have(alloc: Global, wanted: &[Wanted]) -> Result<bool, AllocError> {
     let mut lines = String::new(alloc);
     add_labels(&mut lines)?;
     has_all(alloc, &lines, wanted)
@@ -294,7 +304,12 @@ fn with_longs(alloc: Global, longs: u32, more: &str) -> Result<String, AllocErro
     Ok(text)
 }
 
-fn pool_has_answer(alloc: Global, longs: u32, more: &str, wanted: Wanted) -> Result<bool, Fail> {
+fn pool_has_answer(
+    alloc: Global,
+    longs: u32,
+    more: &str,
+    wanted: Wanted,
+) -> Result<bool, AllocError> {
     let text = with_longs(alloc, longs, more)?;
     has_answer(alloc, &text, wanted)
 }
@@ -319,7 +334,7 @@ const PAST_FULL: &[(u32, &str, Wanted)] = &[
     (16_381, "ldc_w 1\nldc2_w 2\n", Wanted::Told("A3")),
 ];
 
-fn have_answers(alloc: Global, rows: &[(u32, &str, Wanted)]) -> Result<bool, Fail> {
+fn have_answers(alloc: Global, rows: &[(u32, &str, Wanted)]) -> Result<bool, AllocError> {
     for (longs, more, wanted) in rows {
         if !pool_has_answer(alloc, *longs, more, *wanted)? {
             return Ok(false);
@@ -329,15 +344,13 @@ fn have_answers(alloc: Global, rows: &[(u32, &str, Wanted)]) -> Result<bool, Fai
 }
 
 #[test]
-fn a_pool_is_full(rt: HostRuntime) -> Result<(), Fail> {
-    assert!(rt; have_answers(rt.alloc(), FULL)?);
-    Ok(())
+fn a_pool_is_full(rt: HostRuntime) {
+    assert!(rt; have_answers(rt.alloc(), FULL) == Ok(true));
 }
 
 #[test]
-fn the_last_number_is_65534(rt: HostRuntime) -> Result<(), Fail> {
-    assert!(rt; have_answers(rt.alloc(), PAST_FULL)?);
-    Ok(())
+fn the_last_number_is_65534(rt: HostRuntime) {
+    assert!(rt; have_answers(rt.alloc(), PAST_FULL) == Ok(true));
 }
 
 /// Whether the instructions of a listing's first method stand at these pcs, each with that behind it.
@@ -379,12 +392,15 @@ const FIVE_PCS: &[(u16, u16)] = &[(0, 2), (2, 3), (3, 4), (4, 7), (7, 8)];
 fn mains_have_code(rt: HostRuntime) -> Result<(), Fail> {
     for (first, nops, last, wanted) in MAINS {
         assert!(rt;
-            main_has_answer(rt.alloc(), first, *nops, last, *wanted)?,
+            main_has_answer(rt.alloc(), first, *nops, last, *wanted) == Ok(true),
             "{first}{nops}{last}"
         );
     }
-    assert!(rt; ints_have(rt.alloc(), PAST_255)?, "a long ldc past 255");
-    assert!(rt; labels_have(rt.alloc(), LABELS)?, "10000 labels");
+    assert!(rt;
+        ints_have(rt.alloc(), PAST_255) == Ok(true),
+        "a long ldc past 255"
+    );
+    assert!(rt; labels_have(rt.alloc(), LABELS) == Ok(true), "10000 labels");
     assert!(rt; text_has_pcs(rt.alloc(), FIVE, FIVE_PCS)?, "pcs and widths");
     Ok(())
 }

@@ -7,7 +7,6 @@ use model::instructions::{
 use model::values::Kind;
 use opcodes::{Code, Instr, OpError, decode, encode, one_spelling};
 use std::alloc::{AllocError, Global};
-use std::test::Fail;
 
 /// The code of a method with each opcode once, and each form behind `wide`: constants first, then locals and so on, as
 /// `javap -c` lists it.
@@ -95,7 +94,7 @@ fn count_again(alloc: Global, bytes: &[u8]) -> Result<Option<usize>, OpError> {
 }
 
 /// Whether hexadecimal digits are so many instructions, or no code for this reason.
-fn counts(alloc: Global, digits: &str, wanted: Result<usize, OpError>) -> Result<bool, Fail> {
+fn counts(alloc: Global, digits: &str, wanted: Result<usize, OpError>) -> Result<bool, AllocError> {
     let bytes = hex(alloc, digits)?;
     Ok(count_again(alloc, &bytes) == wanted.map(|count| Some(count)))
 }
@@ -197,45 +196,58 @@ const FAULTY: &[(&str, OpError)] = &[
     ("keys that fall", OpError::Switch),
 ];
 
-/// What users are told of these errors, one after another.
-fn codes(alloc: Global) -> Result<String, AllocError> {
+/// Whether these errors, one after another, are told so.
+fn codes_are_told(alloc: Global) -> Result<bool, AllocError> {
     let (opcode, operand, branch) = (OpError::Opcode, OpError::Operand, OpError::Branch);
     let (switch, length, memory) = (OpError::Switch, OpError::Length, OpError::Memory);
-    format!(in alloc; "{opcode} {operand} {branch} {switch} {length} {memory}")
+    let told = format!(in alloc; "{opcode} {operand} {branch} {switch} {length} {memory}")?;
+    Ok(told.as_str() == "O1 O2 O3 O4 O5 O6")
 }
 
-/// Each opcode is read where `javap` sees it, and written again; a switch has pads; 65,535 bytes are code, 65,536 aren't.
+/// Whether each opcode is read where `javap` sees it, and written again.
+fn opcodes_come_back(alloc: Global) -> Result<bool, OpError> {
+    let bytes = hex(alloc, CODE)?;
+    come_back(alloc, &bytes, PCS)
+}
+
+/// A switch has pads; 65,535 bytes are code, 65,536 aren't.
 #[test]
-fn code_is_read_and_written(rt: HostRuntime) -> Result<(), Fail> {
-    let bytes = hex(rt.alloc(), CODE)?;
-    assert!(rt; come_back(rt.alloc(), &bytes, PCS)?, "each opcode");
-    assert!(rt; forms_stay_apart(rt.alloc())?, "forms");
+fn code_is_read_and_written(rt: HostRuntime) {
+    assert!(rt; opcodes_come_back(rt.alloc()) == Ok(true), "each opcode");
+    assert!(rt; forms_stay_apart(rt.alloc()) == Ok(true), "forms");
     for (digits, count) in PADDED {
-        assert!(rt; counts(rt.alloc(), digits, Ok(*count))?, "{digits}");
-    }
-    assert!(rt; counts_many(rt.alloc(), 0, 65535, Ok(65535))?, "65535");
-    one_spelling();
-    Ok(())
-}
-
-#[test]
-fn code_is_refused(rt: HostRuntime) -> Result<(), Fail> {
-    for (digits, error) in REFUSALS {
-        assert!(rt; counts(rt.alloc(), digits, Err(*error))?, "{digits}");
-    }
-    for byte in [0u8, 255] {
         assert!(rt;
-            counts_many(rt.alloc(), byte, 65536, Err(OpError::Length))?,
-            "65536"
+            counts(rt.alloc(), digits, Ok(*count)) == Ok(true),
+            "{digits}"
         );
     }
+    assert!(rt;
+        counts_many(rt.alloc(), 0, 65535, Ok(65535)) == Ok(true),
+        "65535"
+    );
+    one_spelling();
+}
+
+#[test]
+fn code_is_refused(rt: HostRuntime) {
+    for (digits, error) in REFUSALS {
+        assert!(rt;
+            counts(rt.alloc(), digits, Err(*error)) == Ok(true),
+            "{digits}"
+        );
+    }
+    for byte in [0u8, 255] {
+        assert!(rt; counts_many(rt.alloc(), byte, 65536, Err(OpError::Length)) == Ok(true));
+    }
     for (name, error) in FAULTY {
-        assert!(rt; is_unwritten(rt.alloc(), name, *error)?, "{name}");
+        assert!(rt;
+            is_unwritten(rt.alloc(), name, *error) == Ok(true),
+            "{name}"
+        );
     }
     assert!(rt;
         encode(rt.alloc(), &[]).err() == Some(OpError::Length),
         "nothing"
     );
-    assert!(rt; codes(rt.alloc())?.as_str() == "O1 O2 O3 O4 O5 O6", "codes");
-    Ok(())
+    assert!(rt; codes_are_told(rt.alloc()) == Ok(true), "codes");
 }

@@ -1,11 +1,10 @@
 //! Whole class files.
 
-use super::{e, e_with, is_told};
-use classfile::{ClassError, ClassFile, again, one_class_file, read, write};
+use super::{e, e_with, has_bytes, is_told};
+use classfile::{ClassError, ClassFile, again, one_class_file, read};
 use model::class_files::FormatFault;
 use model::instructions::Instruction;
 use std::alloc::{AllocError, Global};
-use std::test::*;
 
 /// Whether this is E: its head, its one method, and its one instruction.
 fn is_e(file: &ClassFile) -> bool {
@@ -26,16 +25,22 @@ fn is_e(file: &ClassFile) -> bool {
         && matches!(&end.instruction, Instruction::Return(None))
 }
 
-/// Whether a class file is written as these bytes, and a copy of it too.
-fn has_bytes(alloc: Global, file: &ClassFile, wanted: &[u8]) -> Result<bool, ClassError> {
-    let copy = again(alloc, file)?;
-    Ok(write(alloc, file)?.as_slice() == wanted && write(alloc, &copy)?.as_slice() == wanted)
+/// Whether a copy of a class file is written as these bytes.
+fn copy_has_bytes(alloc: Global, file: &ClassFile, wanted: &[u8]) -> bool {
+    match again(alloc, file) {
+        Ok(copy) => has_bytes(alloc, &copy, wanted),
+        Err(_) => false,
+    }
 }
 
 /// Whether E's bytes are read as E, and written again.
-fn comes_back(alloc: Global, bytes: &[u8]) -> Result<bool, ClassError> {
-    let file = read(alloc, bytes)?;
-    Ok(is_e(&file) && has_bytes(alloc, &file, bytes)?)
+fn comes_back(alloc: Global, bytes: &[u8]) -> bool {
+    match read(alloc, bytes) {
+        Ok(file) => {
+            is_e(&file) && has_bytes(alloc, &file, bytes) && copy_has_bytes(alloc, &file, bytes)
+        }
+        Err(_) => false,
+    }
 }
 
 /// Whether users are told C3 of each front of these bytes.
@@ -51,10 +56,16 @@ fn is_cut(alloc: Global, bytes: &[u8]) -> Result<bool, AllocError> {
     Ok(true)
 }
 
-fn one_more_is_told(alloc: Global) -> Result<bool, Fail> {
+fn one_more_is_told(alloc: Global) -> Result<bool, AllocError> {
     let mut longer = e(alloc)?;
     longer.push(0)?;
-    Ok(is_told(alloc, &longer, "C4")?)
+    is_told(alloc, &longer, "C4")
+}
+
+/// Whether E's bytes are read and written, and refused if they are cut.
+fn are_whole(alloc: Global) -> Result<bool, AllocError> {
+    let bytes = e(alloc)?;
+    Ok(comes_back(alloc, &bytes) && is_cut(alloc, &bytes)?)
 }
 
 /// A place in E, another byte that is there, and what users are told.
@@ -93,31 +104,30 @@ const CHANGES: &[(usize, u8, &str)] = &[
     (99, 0xff, "C3"),
 ];
 
-fn change_is_told(alloc: Global, place: usize, byte: u8, wanted: &str) -> Result<bool, Fail> {
+fn change_is_told(alloc: Global, place: usize, byte: u8, wanted: &str) -> Result<bool, AllocError> {
     let bytes = e_with(alloc, place, byte)?;
-    Ok(is_told(alloc, &bytes, wanted)?)
+    is_told(alloc, &bytes, wanted)
 }
 
 /// Whether bytes are a class file; none where it isn't written as these again.
-fn is_read(alloc: Global, bytes: &[u8]) -> Result<Option<bool>, ClassError> {
+fn is_read(alloc: Global, bytes: &[u8]) -> Option<bool> {
     match read(alloc, bytes) {
-        Ok(file) => Ok(if write(alloc, &file)?.as_slice() == bytes {
+        Ok(file) => if has_bytes(alloc, &file, bytes) {
             Some(true)
         } else {
             None
-        }),
-        Err(_) => Ok(Some(false)),
+        },
+        Err(_) => Some(false),
     }
 }
 
 /// The same of E with another byte at a place; false where E has this byte.
-fn is_read_with(alloc: Global, place: usize, byte: u8) -> Result<Option<bool>, Fail> {
+fn is_read_with(alloc: Global, place: usize, byte: u8) -> Result<Option<bool>, AllocError> {
     let bytes = e_with(alloc, place, byte)?;
-    let is_read = is_read(alloc, &bytes)?;
-    Ok(if bytes.as_slice() == e(alloc)?.as_slice() {
-        is_read.map(|_read| false)
-    } else {
-        is_read
+    let is_e = bytes.as_slice() == e(alloc)?.as_slice();
+    Ok(match is_read(alloc, &bytes) {
+        Some(is_read) => Some(is_read && !is_e),
+        None => None,
     })
 }
 
@@ -125,7 +135,7 @@ fn is_read_with(alloc: Global, place: usize, byte: u8) -> Result<Option<bool>, F
 const FREE: &[usize] = &[60, 72, 85, 86, 87, 88, 93];
 
 /// Whether another byte at a place, of these two, is read, where it is free, and otherwise not.
-fn is_right(alloc: Global, place: usize) -> Result<bool, Fail> {
+fn is_right(alloc: Global, place: usize) -> Result<bool, AllocError> {
     let zero = is_read_with(alloc, place, 0)?;
     let ones = is_read_with(alloc, place, 0xff)?;
     Ok(match (zero, ones) {
@@ -134,36 +144,28 @@ fn is_right(alloc: Global, place: usize) -> Result<bool, Fail> {
     })
 }
 
-/// What users are told of these errors, one after another.
-fn codes(alloc: Global) -> Result<String, AllocError> {
+/// Whether these errors, one after another, are told so.
+fn codes_are_told(alloc: Global) -> Result<bool, AllocError> {
     let (full, memory) = (ClassError::PoolFull, ClassError::Memory);
     let short = ClassError::Format(FormatFault::Short);
     let flags = ClassError::Format(FormatFault::Flags);
-    format!(in alloc; "{full} {memory} {short} {flags}")
+    Ok(format!(in alloc; "{full} {memory} {short} {flags}")?.as_str() == "C9 C10 C3 C11")
 }
 
 /// E as it is, cut, with a byte more, and with one byte that is another.
 #[test]
-fn class_files(rt: HostRuntime) -> Result<(), Fail> {
-    let bytes = e(rt.alloc())?;
-    assert!(rt; comes_back(rt.alloc(), &bytes)?, "read and written");
-    assert!(rt; is_cut(rt.alloc(), &bytes)?, "cut");
-    assert!(rt; one_more_is_told(rt.alloc())?, "a byte more");
-    one_class_file();
-    Ok(())
-}
-
-#[test]
-fn one_byte_is_another(rt: HostRuntime) -> Result<(), Fail> {
+fn class_files(rt: HostRuntime) {
+    assert!(rt; are_whole(rt.alloc()) == Ok(true), "whole");
+    assert!(rt; one_more_is_told(rt.alloc()) == Ok(true), "a byte more");
     for (place, byte, answer) in CHANGES {
         assert!(rt;
-            change_is_told(rt.alloc(), *place, *byte, answer)?,
+            change_is_told(rt.alloc(), *place, *byte, answer) == Ok(true),
             "{place}"
         );
     }
     for place in 0..100usize {
-        assert!(rt; is_right(rt.alloc(), place)?, "{place}");
+        assert!(rt; is_right(rt.alloc(), place) == Ok(true), "{place}");
     }
-    assert!(rt; codes(rt.alloc())?.as_str() == "C9 C10 C3 C11", "codes");
-    Ok(())
+    assert!(rt; codes_are_told(rt.alloc()) == Ok(true), "codes");
+    one_class_file();
 }
