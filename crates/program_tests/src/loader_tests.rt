@@ -141,32 +141,18 @@ fn compare(
     Ok(())
 }
 
-#[test]
-fn programs_are_accepted_or_refused(rt: HostRuntime) -> Result<(), Fail> {
-    for (before, rows, behind) in [
-        ("", ACCEPTED, ""),
-        ("", ONE_RULE, ""),
-        ("", TWO_RULES, ""),
-        (BEFORE, REFERENCES, BEHIND),
-    ] {
-        compare(&rt, rt.alloc(), before, rows, behind)?;
-    }
-    Ok(())
-}
-
-/// Whether a program is refused whose last class has a name that is none, as no text has it.
-fn refuses_a_name(alloc: Global, program: &mut [Listing]) -> Result<bool, AllocError> {
+/// Gives a program's last class a name that is none, as no text has it.
+fn rename_last(alloc: Global, program: &mut [Listing]) -> Result<(), AllocError> {
     if let Some(class) = program.last_mut() {
         class.name = Name::copy_of(alloc, b"[X")?;
     }
-    Ok(told(alloc, program)?.as_str() == "L10 in class [X")
+    Ok(())
 }
 
-#[test]
-fn names_are_names(rt: HostRuntime) -> Result<(), Fail> {
-    let mut program = classes(rt.alloc(), "class E|main; class X")?;
-    assert!(rt; refuses_a_name(rt.alloc(), &mut program)?);
-    Ok(())
+fn refuses_a_name(alloc: Global) -> Result<bool, Fail> {
+    let mut program = classes(alloc, "class E|main; class X")?;
+    rename_last(alloc, &mut program)?;
+    Ok(told(alloc, &program)?.as_str() == "L10 in class [X")
 }
 
 /// Adds so many other classes with so many fields each, each below the one before it.
@@ -202,26 +188,6 @@ const CHAINS: &[(usize, usize, &str)] = &[
     (3, 128, "accepted"),
     (3, 129, "L8 in class C2"),
 ];
-
-#[test]
-fn classes_and_fields_are_few(rt: HostRuntime) -> Result<(), Fail> {
-    for (count, fields, wanted) in CHAINS {
-        assert!(rt;
-            chain_is_told(rt.alloc(), *count, *fields, wanted)?,
-            "{count} and {fields}"
-        );
-    }
-    Ok(())
-}
-
-/// There are as many ways upwards as numbers of so many bits, and each class is looked at once.
-#[test]
-fn layers_of_interfaces(rt: HostRuntime) -> Result<(), Fail> {
-    let layers = layers(rt.alloc(), 40)?;
-    let row = "class X|.implements A1|.implements B1|main";
-    assert!(rt; is_told_of(rt.alloc(), row, layers.as_str(), "", "accepted")?);
-    Ok(())
-}
 
 /// Where the instruction behind the one at a pc stands, by the listing and by the step, and the step's operation.
 fn step_at(program: &Program, place: MethodPlace, pc: u16) -> (u16, u16, &'static str) {
@@ -264,14 +230,6 @@ fn compare_pcs(rt: &impl Abort, program: &Program) {
     }
 }
 
-/// Main's instructions by their pcs, and the initializer behind a class's last method (JVMS 2.9).
-#[test]
-fn instructions_by_their_pcs(rt: HostRuntime) -> Result<(), Fail> {
-    let program = program(rt.alloc(), "class E|main; class F")?;
-    compare_pcs(&rt, &program);
-    Ok(())
-}
-
 /// Whether a program is equal to another one, or not, and the other one to its copy.
 fn compares(program: &Program, other: &Program, is_equal: bool) -> Result<bool, AllocError> {
     let copy = other.copy()?;
@@ -295,9 +253,39 @@ const PROGRAMS: &[(&str, bool)] = &[
     ("class E|.field public x I|main", false),
 ];
 
-/// Programs are equal where their listings are, in one order.
+/// There are as many ways upwards as numbers of so many bits, and each class is looked at once.
+fn accepts_layers(alloc: Global) -> Result<bool, Fail> {
+    let layers = layers(alloc, 40)?;
+    let row = "class X|.implements A1|.implements B1|main";
+    is_told_of(alloc, row, layers.as_str(), "", "accepted")
+}
+
 #[test]
-fn programs_are_compared(rt: HostRuntime) -> Result<(), Fail> {
+fn programs_are_accepted_or_refused(rt: HostRuntime) -> Result<(), Fail> {
+    for (before, rows, behind) in [
+        ("", ACCEPTED, ""),
+        ("", ONE_RULE, ""),
+        ("", TWO_RULES, ""),
+        (BEFORE, REFERENCES, BEHIND),
+    ] {
+        compare(&rt, rt.alloc(), before, rows, behind)?;
+    }
+    for (count, fields, wanted) in CHAINS {
+        assert!(rt;
+            chain_is_told(rt.alloc(), *count, *fields, wanted)?,
+            "{count} and {fields}"
+        );
+    }
+    assert!(rt; refuses_a_name(rt.alloc())?, "a name");
+    assert!(rt; accepts_layers(rt.alloc())?, "layers");
+    Ok(())
+}
+
+/// Main's instructions by their pcs, and the initializer behind a class's last method (JVMS 2.9). Programs are equal
+/// where their listings are, in one order.
+#[test]
+fn programs_have_steps_and_are_compared(rt: HostRuntime) -> Result<(), Fail> {
+    compare_pcs(&rt, &program(rt.alloc(), "class E|main; class F")?);
     let program = program(rt.alloc(), "class E|.field public x I|main; class F")?;
     for (other, is_equal) in PROGRAMS {
         assert!(rt;

@@ -301,17 +301,18 @@ fn compare(rt: &impl Abort, alloc: Global, room: u16, rows: &str) -> Result<(), 
     Ok(())
 }
 
+/// Whether the references among some values are those that are written.
+fn writes_references() -> bool {
+    let cell = Value::Ref(Some(3));
+    let written = Written::of(&[cell, Value::Int(4), Value::Ref(None), Value::Ref(Some(9))]);
+    written.as_slice() == [3, 9].as_slice()
+}
+
 #[test]
 fn mains_are_carried_out(rt: HostRuntime) -> Result<(), Fail> {
     for (room, rows) in [(2u16, TWO_UNITS), (4, LONGS), (6, MOVES), (6, BRANCHES)] {
         compare(&rt, rt.alloc(), room, rows)?;
     }
+    assert!(rt; writes_references());
     Ok(())
-}
-
-#[test]
-fn references_are_written(rt: HostRuntime) {
-    let cell = Value::Ref(Some(3));
-    let written = Written::of(&[cell, Value::Int(4), Value::Ref(None), Value::Ref(Some(9))]);
-    assert!(rt; written.as_slice() == [3, 9].as_slice());
 }

@@ -228,6 +228,17 @@ fn compare_text(
     Ok(compare_program(rt, alloc, &program, rows)?)
 }
 
+fn has_no_classes(alloc: Global, row: &str) -> Result<bool, Fail> {
+    let program = classes(alloc, row)?;
+    Ok(Classes::new(alloc, &program)?.is_none())
+}
+
+/// Where a parent is missing, or classes lie above themselves, there are no classes.
+const NO_CLASSES: [&str; 2] = [
+    "class A < B; class C",
+    "class A|.implements B; class B|.implements A",
+];
+
 #[test]
 fn classes_answer(rt: HostRuntime) -> Result<(), Fail> {
     let layers = layers(rt.alloc(), 20)?;
@@ -238,21 +249,7 @@ fn classes_answer(rt: HostRuntime) -> Result<(), Fail> {
     ] {
         compare_text(&rt, rt.alloc(), row, rows)?;
     }
-    Ok(())
-}
-
-fn has_no_classes(alloc: Global, row: &str) -> Result<bool, Fail> {
-    let program = classes(alloc, row)?;
-    Ok(Classes::new(alloc, &program)?.is_none())
-}
-
-/// Where a parent is missing, or classes lie above themselves, there are no classes.
-#[test]
-fn no_hierarchies(rt: HostRuntime) -> Result<(), Fail> {
-    for row in [
-        "class A < B; class C",
-        "class A|.implements B; class B|.implements A",
-    ] {
+    for row in NO_CLASSES {
         assert!(rt; has_no_classes(rt.alloc(), row)?, "{row}");
     }
     Ok(())
