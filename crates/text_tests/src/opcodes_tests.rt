@@ -85,12 +85,14 @@ const REFUSALS: &[(&str, OpError)] = &[
 fn count_again(alloc: Global, bytes: &[u8]) -> Result<Option<usize>, OpError> {
     let code = decode(alloc, bytes)?;
     let count = code.as_slice().len();
-    let written = again(alloc, code)?;
-    Ok(if written.as_slice() == bytes {
-        Some(count)
-    } else {
-        None
-    })
+    match again(alloc, code) {
+        Ok(written) => Ok(if written.as_slice() == bytes {
+            Some(count)
+        } else {
+            None
+        }),
+        Err(_) => Ok(None),
+    }
 }
 
 /// Whether hexadecimal digits are so many instructions, or no code for this reason.
