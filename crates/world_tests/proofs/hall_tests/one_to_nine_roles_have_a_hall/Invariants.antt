@@ -1,5 +1,5 @@
 use Rattle.world_tests.proofs.hall_tests.one_to_nine_roles_have_a_hall.Given as goal
 
 -- the ledger is the one that the blank will open
-abbrev pub ghosts-told : goal.ghosts-told
-ghosts-told g a = record { name = a.blank.name; parts = a.blank.parts }
+abbrev pub ghosts-shares_for : goal.ghosts-shares_for
+ghosts-shares_for g a = record { name = a.blank.name; parts = a.blank.parts }
