@@ -3,8 +3,9 @@
 use crate::texts::classes;
 use ideal_run::{Choice, Ideal};
 use model::journals::Limits;
+use model::listings::Listing;
 use model::turns::Actor;
-use std::alloc::AllocError;
+use std::alloc::{AllocError, Global};
 use std::test::Fail;
 
 const SUM: &str = "class A|main:|iconst_2|iconst_3|iadd|invokestatic vm/Sys/print(I)V|return|end";
@@ -33,12 +34,17 @@ fn prints_sum(run: &mut Ideal<'_>) -> Result<bool, AllocError> {
     Ok(is_empty && is_done && world.output() == b"5\n".as_slice())
 }
 
+/// The same of the run of a program.
+fn run_prints_sum(alloc: Global, program: &[Listing]) -> Result<bool, AllocError> {
+    match Ideal::new(alloc, program, LIMITS)? {
+        Some(mut run) => prints_sum(&mut run),
+        None => Ok(false),
+    }
+}
+
 #[test]
 fn sum_is_printed(rt: HostRuntime) -> Result<(), Fail> {
     let classes = classes(rt.alloc(), SUM)?;
-    if let Some(mut run) = Ideal::new(rt.alloc(), &classes, LIMITS)? {
-        assert!(rt; prints_sum(&mut run)?);
-        return Ok(());
-    }
-    Err(Fail::new("no run"))
+    assert!(rt; run_prints_sum(rt.alloc(), &classes)?);
+    Ok(())
 }

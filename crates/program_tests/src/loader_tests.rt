@@ -12,6 +12,7 @@ use model::listings::Listing;
 use model::names::Name;
 use model::places::MethodPlace;
 use std::alloc::{AllocError, Global};
+use std::fmt::Write;
 use std::process::Abort;
 use std::test::Fail;
 
@@ -108,11 +109,22 @@ fn told(alloc: Global, program: &[Listing]) -> Result<String, AllocError> {
     }
 }
 
-/// What users are told of the classes of a row that is in three parts.
-fn told_of(alloc: Global, before: &str, words: &str, behind: &str) -> Result<String, Fail> {
+/// Whether users are told this of the classes of a row.
+fn is_told(alloc: Global, row: &str, wanted: &str) -> Result<bool, Fail> {
+    let program = classes(alloc, row)?;
+    Ok(told(alloc, program.as_slice())?.as_str() == wanted)
+}
+
+/// The same of a row that is in three parts.
+fn is_told_of(
+    alloc: Global,
+    before: &str,
+    words: &str,
+    behind: &str,
+    wanted: &str,
+) -> Result<bool, Fail> {
     let row = format!(in alloc; "{before}{words}{behind}")?;
-    let program = classes(alloc, row.as_str())?;
-    Ok(told(alloc, program.as_slice())?)
+    is_told(alloc, row.as_str(), wanted)
 }
 
 fn compare(
@@ -124,78 +136,58 @@ fn compare(
 ) -> Result<(), Fail> {
     for row in rows.lines() {
         let (words, wanted) = row.split_once(" => ").ok_or("no row")?;
-        let found = told_of(alloc, before, words, behind)?;
-        assert!(rt; found.as_str() == wanted, "{words}: {found}");
+        assert!(rt; is_told_of(alloc, before, words, behind, wanted)?, "{row}");
     }
     Ok(())
 }
 
-#[test]
-fn programs_are_accepted_or_refused(rt: HostRuntime) -> Result<(), Fail> {
-    for (before, rows, behind) in [
-        ("", ACCEPTED, ""),
-        ("", ONE_RULE, ""),
-        ("", TWO_RULES, ""),
-        (BEFORE, REFERENCES, BEHIND),
-    ] {
-        compare(&rt, rt.alloc(), before, rows, behind)?;
-    }
-    Ok(())
-}
-
-/// A class whose name is none, as no text has it.
-#[test]
-fn names_are_names(rt: HostRuntime) -> Result<(), Fail> {
-    let mut program = classes(rt.alloc(), "class E|main; class X")?;
+/// Gives a program's last class a name that is none, as no text has it.
+fn rename_last(alloc: Global, program: &mut [Listing]) -> Result<(), AllocError> {
     if let Some(class) = program.last_mut() {
-        class.name = Name::copy_of(rt.alloc(), b"[X")?;
+        class.name = Name::copy_of(alloc, b"[X")?;
     }
-    assert!(rt; told(rt.alloc(), &program)?.as_str() == "L10 in class [X");
     Ok(())
 }
 
-/// Main's class, and so many others with so many fields each, each below the one before it.
-fn chain(alloc: Global, count: usize, fields: usize) -> Result<String, AllocError> {
-    let mut row = String::from_str(alloc, "class C0|main")?;
+fn refuses_a_name(alloc: Global) -> Result<bool, Fail> {
+    let mut program = classes(alloc, "class E|main; class X")?;
+    rename_last(alloc, &mut program)?;
+    Ok(told(alloc, &program)?.as_str() == "L10 in class [X")
+}
+
+/// Adds so many other classes with so many fields each, each below the one before it.
+fn add_classes(row: &mut String, count: usize, fields: usize) -> Result<(), AllocError> {
     for number in 1..count {
-        let class = format!(in alloc; "; class C{number} < C{}", number - 1)?;
-        row.push_str(class.as_str())?;
+        write!(row, "; class C{number} < C{}", number - 1)?;
         for place in 0..fields {
-            let field = format!(in alloc; "|.field public x{place} I")?;
-            row.push_str(field.as_str())?;
+            write!(row, "|.field public x{place} I")?;
         }
     }
+    Ok(())
+}
+
+/// Main's class and these.
+fn chain(alloc: Global, count: usize, fields: usize) -> Result<String, AllocError> {
+    let mut row = String::from_str(alloc, "class C0|main")?;
+    add_classes(&mut row, count, fields)?;
     Ok(row)
 }
 
-/// A program has 256 classes at most, an object 256 fields, with those that it inherits.
-#[test]
-fn classes_and_fields_are_few(rt: HostRuntime) -> Result<(), Fail> {
-    for (count, fields, wanted) in [
-        (256, 0, "accepted"),
-        (257, 0, "L8 in class C256"),
-        (258, 0, "L8 in class C256"),
-        (2, 256, "accepted"),
-        (2, 257, "L8 in class C1"),
-        (3, 128, "accepted"),
-        (3, 129, "L8 in class C2"),
-    ] {
-        let row = chain(rt.alloc(), count, fields)?;
-        let found = told_of(rt.alloc(), "", row.as_str(), "")?;
-        assert!(rt; found.as_str() == wanted, "{count} and {fields}: {found}");
-    }
-    Ok(())
+fn chain_is_told(alloc: Global, count: usize, fields: usize, wanted: &str) -> Result<bool, Fail> {
+    let row = chain(alloc, count, fields)?;
+    is_told(alloc, row.as_str(), wanted)
 }
 
-/// There are as many ways upwards as numbers of so many bits, and each class is looked at once.
-#[test]
-fn layers_of_interfaces(rt: HostRuntime) -> Result<(), Fail> {
-    let layers = layers(rt.alloc(), 40)?;
-    let row = "class X|.implements A1|.implements B1|main";
-    let found = told_of(rt.alloc(), row, layers.as_str(), "")?;
-    assert!(rt; found.as_str() == "accepted");
-    Ok(())
-}
+/// A program has 256 classes at most, an object 256 fields, with those that it inherits.
+const CHAINS: &[(usize, usize, &str)] = &[
+    (256, 0, "accepted"),
+    (257, 0, "L8 in class C256"),
+    (258, 0, "L8 in class C256"),
+    (2, 256, "accepted"),
+    (2, 257, "L8 in class C1"),
+    (3, 128, "accepted"),
+    (3, 129, "L8 in class C2"),
+];
 
 /// Where the instruction behind the one at a pc stands, by the listing and by the step, and the step's operation.
 fn step_at(program: &Program, place: MethodPlace, pc: u16) -> (u16, u16, &'static str) {
@@ -238,32 +230,66 @@ fn compare_pcs(rt: &impl Abort, program: &Program) {
     }
 }
 
-/// Main's instructions by their pcs, and the initializer behind a class's last method (JVMS 2.9).
+/// Whether a program is equal to another one, or not, and the other one to its copy.
+fn compares(program: &Program, other: &Program, is_equal: bool) -> Result<bool, AllocError> {
+    let copy = other.copy()?;
+    Ok((*program == *other) == is_equal && *other == copy)
+}
+
+/// The same of the program of some classes.
+fn compares_with(
+    alloc: Global,
+    program: &Program,
+    other: &str,
+    is_equal: bool,
+) -> Result<bool, Fail> {
+    let other = crate::texts::program(alloc, other)?;
+    Ok(compares(program, &other, is_equal)?)
+}
+
+const PROGRAMS: &[(&str, bool)] = &[
+    ("class E|.field public x I|main; class F", true),
+    ("class E|.field public x J|main; class F", false),
+    ("class E|.field public x I|main", false),
+];
+
+/// There are as many ways upwards as numbers of so many bits, and each class is looked at once.
+fn accepts_layers(alloc: Global) -> Result<bool, Fail> {
+    let layers = layers(alloc, 40)?;
+    let row = "class X|.implements A1|.implements B1|main";
+    is_told_of(alloc, row, layers.as_str(), "", "accepted")
+}
+
 #[test]
-fn instructions_by_their_pcs(rt: HostRuntime) -> Result<(), Fail> {
-    let program = program(rt.alloc(), "class E|main; class F")?;
-    compare_pcs(&rt, &program);
+fn programs_are_accepted_or_refused(rt: HostRuntime) -> Result<(), Fail> {
+    for (before, rows, behind) in [
+        ("", ACCEPTED, ""),
+        ("", ONE_RULE, ""),
+        ("", TWO_RULES, ""),
+        (BEFORE, REFERENCES, BEHIND),
+    ] {
+        compare(&rt, rt.alloc(), before, rows, behind)?;
+    }
+    for (count, fields, wanted) in CHAINS {
+        assert!(rt;
+            chain_is_told(rt.alloc(), *count, *fields, wanted)?,
+            "{count} and {fields}"
+        );
+    }
+    assert!(rt; refuses_a_name(rt.alloc())?, "a name");
+    assert!(rt; accepts_layers(rt.alloc())?, "layers");
     Ok(())
 }
 
-/// Whether the program of some classes is equal to another one, and to its copy.
-fn is_equal(alloc: Global, program: &Program, other: &str) -> Result<(bool, bool), Fail> {
-    let other = crate::texts::program(alloc, other)?;
-    let copy = other.copy()?;
-    Ok((*program == other, other == copy))
-}
-
-/// Programs are equal where their listings are, in one order.
+/// Main's instructions by their pcs, and the initializer behind a class's last method (JVMS 2.9). Programs are equal
+/// where their listings are, in one order.
 #[test]
-fn programs_are_compared(rt: HostRuntime) -> Result<(), Fail> {
+fn programs_have_steps_and_are_compared(rt: HostRuntime) -> Result<(), Fail> {
+    compare_pcs(&rt, &program(rt.alloc(), "class E|main; class F")?);
     let program = program(rt.alloc(), "class E|.field public x I|main; class F")?;
-    for (other, wanted) in [
-        ("class E|.field public x I|main; class F", true),
-        ("class E|.field public x J|main; class F", false),
-        ("class E|.field public x I|main", false),
-    ] {
+    for (other, is_equal) in PROGRAMS {
         assert!(rt;
-            is_equal(rt.alloc(), &program, other)? == (wanted, true),
+            compares_with(rt.alloc(), &program, other, *is_equal)?,
             "{other}"
         );
     }

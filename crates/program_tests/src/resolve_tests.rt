@@ -204,6 +204,41 @@ fn compare(
     Ok(())
 }
 
+/// Asks each row of the classes of a program.
+fn compare_program(
+    rt: &impl Abort,
+    alloc: Global,
+    program: &[Listing],
+    rows: &[(Asked, &str, &str, bool)],
+) -> Result<(), AllocError> {
+    match Classes::new(alloc, program)? {
+        Some(classes) => compare(rt, alloc, &classes, rows)?,
+        None => assert!(rt; false, "no classes"),
+    }
+    Ok(())
+}
+
+fn compare_text(
+    rt: &impl Abort,
+    alloc: Global,
+    row: &str,
+    rows: &[(Asked, &str, &str, bool)],
+) -> Result<(), Fail> {
+    let program = classes(alloc, row)?;
+    Ok(compare_program(rt, alloc, &program, rows)?)
+}
+
+fn has_no_classes(alloc: Global, row: &str) -> Result<bool, Fail> {
+    let program = classes(alloc, row)?;
+    Ok(Classes::new(alloc, &program)?.is_none())
+}
+
+/// Where a parent is missing, or classes lie above themselves, there are no classes.
+const NO_CLASSES: [&str; 2] = [
+    "class A < B; class C",
+    "class A|.implements B; class B|.implements A",
+];
+
 #[test]
 fn classes_answer(rt: HostRuntime) -> Result<(), Fail> {
     let layers = layers(rt.alloc(), 20)?;
@@ -212,24 +247,10 @@ fn classes_answer(rt: HostRuntime) -> Result<(), Fail> {
         (FIELDS, FIELD_ROWS),
         (layers.as_str(), LAYER_ROWS),
     ] {
-        let program = classes(rt.alloc(), row)?;
-        match Classes::new(rt.alloc(), &program)? {
-            Some(classes) => compare(&rt, rt.alloc(), &classes, rows)?,
-            None => return Err(Fail::new("no classes")),
-        }
+        compare_text(&rt, rt.alloc(), row, rows)?;
     }
-    Ok(())
-}
-
-/// Where a parent is missing, or classes lie above themselves, there are no classes.
-#[test]
-fn no_hierarchies(rt: HostRuntime) -> Result<(), Fail> {
-    for row in [
-        "class A < B; class C",
-        "class A|.implements B; class B|.implements A",
-    ] {
-        let program = classes(rt.alloc(), row)?;
-        assert!(rt; Classes::new(rt.alloc(), &program)?.is_none(), "{row}");
+    for row in NO_CLASSES {
+        assert!(rt; has_no_classes(rt.alloc(), row)?, "{row}");
     }
     Ok(())
 }

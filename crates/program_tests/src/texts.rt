@@ -9,15 +9,13 @@ use loader::accept;
 use loader::programs::Program;
 use model::listings::Listing;
 use std::alloc::{AllocError, Global};
+use std::fmt::Write;
 use std::test::Fail;
 
-const OBJECT: &str = "java/lang/Object";
-
-const MAIN: &str = ".method public static main()V\n.limit locals 0\n.limit stack 0";
+const MAIN: &str =
+    ".method public static main()V\n.limit locals 0\n.limit stack 0\nnop\nreturn\n.end method\n";
 
 const HEAD: &str = ".method public static main()V\n.limit locals 3\n.limit stack 6\n";
-
-const NOTHING: &str = "\nnop\nreturn\n.end method\n";
 
 /// The first word, and what is behind it.
 fn parted(words: &str) -> (&str, &str) {
@@ -27,39 +25,36 @@ fn parted(words: &str) -> (&str, &str) {
     }
 }
 
-/// What a line stands for.
-fn pieces(line: &str) -> [&str; 7] {
-    let (word, rest) = parted(line);
-    match word {
-        "class" | "interface" => match rest.split_once(" < ") {
-            Some((name, above)) => [".", word, " ", name, "\n.super ", above, "\n"],
-            None => [".", word, " ", rest, "\n.super ", OBJECT, "\n"],
-        },
-        "code" => {
-            let (locals, rest) = parted(rest);
-            let (stack, method) = parted(rest);
-            [
-                ".method ",
-                method,
-                "\n.limit locals ",
-                locals,
-                "\n.limit stack ",
-                stack,
-                NOTHING,
-            ]
-        }
-        "main" => [MAIN, NOTHING, "", "", "", "", ""],
-        "main:" => [HEAD, "", "", "", "", "", ""],
-        "end" => [".end method\n", "", "", "", "", "", ""],
-        _ => [line, "\n", "", "", "", "", ""],
-    }
+/// Adds the head of a class or interface.
+fn add_head(text: &mut String, word: &str, rest: &str) -> Result<(), AllocError> {
+    let (name, above) = match rest.split_once(" < ") {
+        Some(names) => names,
+        None => (rest, "java/lang/Object"),
+    };
+    write!(text, ".{word} {name}\n.super {above}\n")
 }
 
+/// Adds a method that does nothing, told by its limits of locals and of stack.
+fn add_method(text: &mut String, rest: &str) -> Result<(), AllocError> {
+    let (locals, rest) = parted(rest);
+    let (stack, method) = parted(rest);
+    write!(
+        text,
+        ".method {method}\n.limit locals {locals}\n.limit stack {stack}\nnop\nreturn\n.end method\n"
+    )
+}
+
+/// Adds what a line stands for.
 fn add_line(text: &mut String, line: &str) -> Result<(), AllocError> {
-    for piece in pieces(line) {
-        text.push_str(piece)?;
+    let (word, rest) = parted(line);
+    match word {
+        "class" | "interface" => add_head(text, word, rest),
+        "code" => add_method(text, rest),
+        "main" => text.push_str(MAIN),
+        "main:" => text.push_str(HEAD),
+        "end" => text.push_str(".end method\n"),
+        _ => write!(text, "{line}\n"),
     }
-    Ok(())
 }
 
 /// The text of a class.
@@ -96,18 +91,22 @@ pub fn program(alloc: Global, row: &str) -> Result<Program, Fail> {
 }
 
 /// Layers of two interfaces each, A1 and B1 first, each of them below both of the next layer.
-pub fn layers(alloc: Global, count: usize) -> Result<String, Fail> {
-    let mut row = String::new(alloc);
+fn add_layers(row: &mut String, count: usize) -> Result<(), AllocError> {
     for layer in 1..count {
         let next = layer + 1;
         for side in ["A", "B"] {
-            let class = format!(in alloc;
+            write!(
+                row,
                 "; interface {side}{layer}|.implements A{next}|.implements B{next}"
             )?;
-            row.push_str(class.as_str())?;
         }
     }
-    let last = format!(in alloc; "; interface A{count}; interface B{count}")?;
-    row.push_str(last.as_str())?;
+    write!(row, "; interface A{count}; interface B{count}")
+}
+
+/// A row of these.
+pub fn layers(alloc: Global, count: usize) -> Result<String, AllocError> {
+    let mut row = String::new(alloc);
+    add_layers(&mut row, count)?;
     Ok(row)
 }

@@ -3,12 +3,13 @@
 mod bytes;
 
 use crate::class_bytes::hex;
-use assembler::{assemble, listing};
-use classfile::write;
+use assembler::{AsmError, assemble, listing};
+use classfile::{ClassFile, write};
 use jasmin::read;
 use model::listings::Listing;
-use std::alloc::Global;
-use std::process::Abort;
+use model::trees::ClassTree;
+use std::alloc::{AllocError, Global};
+use std::fmt::Write;
 use std::test::Fail;
 
 /// What a text's answer is to be: bytes in hexadecimal digits, or what users are told.
@@ -29,11 +30,26 @@ enum Wanted {
 /// What a class file begins with.
 const MAGIC: &[u8] = b"\xca\xfe\xba\xbe";
 
-/// The bytes of the class file of a text, or what users are told of it.
-fn answer(alloc: Global, text: &str) -> Result<Vec<u8>, Fail> {
-    let tree = read(alloc, text.as_bytes())?;
-    match assemble(alloc, &tree) {
-        Ok(made) => Ok(write(alloc, &made.file)?),
+/// The bytes of a class file, or what users are told of it.
+fn bytes_of(alloc: Global, file: &ClassFile) -> Result<Vec<u8>, AllocError> {
+    match write(alloc, file) {
+        Ok(bytes) => Ok(bytes),
+        Err(error) => Ok(error.to_string(alloc)?.into_bytes()),
+    }
+}
+
+/// The same of a tree's.
+fn answer_of(alloc: Global, tree: &ClassTree) -> Result<Vec<u8>, AllocError> {
+    match assemble(alloc, tree) {
+        Ok(made) => bytes_of(alloc, &made.file),
+        Err(error) => Ok(error.to_string(alloc)?.into_bytes()),
+    }
+}
+
+/// The same of a text's.
+fn answer(alloc: Global, text: &str) -> Result<Vec<u8>, AllocError> {
+    match read(alloc, text.as_bytes()) {
+        Ok(tree) => answer_of(alloc, &tree),
         Err(error) => Ok(error.to_string(alloc)?.into_bytes()),
     }
 }
@@ -44,7 +60,7 @@ fn stands_at(
     bytes: &[u8],
     place: usize,
     digits: &str,
-) -> Result<(bool, bool), Fail> {
+) -> Result<(bool, bool), AllocError> {
     let wanted = hex(alloc, digits)?;
     Ok(match bytes.get(place..) {
         Some(rest) => (rest.starts_with(&wanted), rest.len() == wanted.len()),
@@ -52,12 +68,12 @@ fn stands_at(
     })
 }
 
-fn ends_in(alloc: Global, bytes: &[u8], digits: &str) -> Result<bool, Fail> {
+fn ends_in(alloc: Global, bytes: &[u8], digits: &str) -> Result<bool, AllocError> {
     let wanted = hex(alloc, digits)?;
     Ok(bytes.ends_with(&wanted))
 }
 
-fn is_wanted(alloc: Global, bytes: &[u8], wanted: Wanted) -> Result<bool, Fail> {
+fn is_wanted(alloc: Global, bytes: &[u8], wanted: Wanted) -> Result<bool, AllocError> {
     match wanted {
         Wanted::Whole(digits) => Ok(stands_at(alloc, bytes, 0, digits)? == (true, true)),
         Wanted::End(digits) => ends_in(alloc, bytes, digits),
@@ -68,29 +84,35 @@ fn is_wanted(alloc: Global, bytes: &[u8], wanted: Wanted) -> Result<bool, Fail> 
 }
 
 /// Whether a text's answer is the wanted one.
-fn has_answer(alloc: Global, text: &str, wanted: Wanted) -> Result<bool, Fail> {
+fn has_answer(alloc: Global, text: &str, wanted: Wanted) -> Result<bool, AllocError> {
     let bytes = answer(alloc, text)?;
     is_wanted(alloc, &bytes, wanted)
 }
 
 /// A class A over B whose `main()V` has these lines, with a number of lines `nop` in the middle.
-fn main_with(alloc: Global, first: &str, nops: u32, last: &str) -> Result<String, Fail> {
-    let mut text = format!(in alloc;
-        ".class public A\n.super B\n.method public static main()V\n.limit stack 2\n.limit locals 0\n{first}"
-    )?;
-    for _ in 0..nops {
-        text.push_str("nop\n")?;
-    }
-    text.push_str(last)?;
-    text.push_str(".end method\n")?;
-    Ok(text)
+fn main_with(alloc: Global, first: &str, nops: usize, last: &str) -> Result<String, AllocError> {
+    let nops = "nop\n".repeat(alloc, nops)?;
+    format!(in alloc;
+        ".class public A\n.super B\n.method public static main()V\n.limit stack 2\n.limit locals 0\n{first}{nops}{last}.end method\n"
+    )
+}
+
+fn main_has_answer(
+    alloc: Global,
+    first: &str,
+    nops: usize,
+    last: &str,
+    wanted: Wanted,
+) -> Result<bool, AllocError> {
+    let text = main_with(alloc, first, nops, last)?;
+    has_answer(alloc, &text, wanted)
 }
 
 /// 2147483646, a switch over it and the greatest int, whose ways lead to `return` behind it.
 const SWITCH: &str = "ldc 2147483646\ntableswitch 2147483646\nX\nX\ndefault : X\nX:\nreturn\n";
 
 /// The first lines of a main, how many lines `nop` follow, and the last lines.
-const MAINS: &[(&str, u32, &str, Wanted)] = &[
+const MAINS: &[(&str, usize, &str, Wanted)] = &[
     // the code, its length before it, and behind it no rows, no attributes of the code and none of the class
     (
         "ldc 2147483647\niconst_1\niadd\ninvokestatic vm/Sys/print(I)V\nreturn\n",
@@ -194,51 +216,42 @@ const MAINS: &[(&str, u32, &str, Wanted)] = &[
     ),
 ];
 
-#[test]
-fn mains_have_code(rt: HostRuntime) -> Result<(), Fail> {
-    for (first, nops, last, wanted) in MAINS {
-        let text = main_with(rt.alloc(), first, *nops, last)?;
-        assert!(rt;
-            has_answer(rt.alloc(), &text, *wanted)?,
-            "{first}{nops}{last}"
-        );
+/// Adds lines with `ldc` of the numbers below 256, and then of the last two again, and `return`.
+fn add_ints(lines: &mut String) -> Result<(), AllocError> {
+    for n in 0u16..256 {
+        write!(lines, "ldc {n}\n")?;
+    }
+    lines.push_str("ldc 254\nldc 255\nreturn\n")
+}
+
+/// Adds a table of 10,000 keys, each with a label of its own, and as many instructions.
+fn add_labels(lines: &mut String) -> Result<(), AllocError> {
+    lines.push_str("iconst_0\ntableswitch 0\n")?;
+    for number in 0u32..10000 {
+        write!(lines, "L{number}\n")?;
+    }
+    lines.push_str("default : L0\n")?;
+    for number in 0u32..10000 {
+        write!(lines, "L{number}:\nnop\n")?;
     }
     Ok(())
 }
 
-/// Lines with `ldc` of the numbers below 256, and then of the last two again, and `return`.
-fn many_ints(alloc: Global) -> Result<String, Fail> {
-    let mut lines = String::new(alloc);
-    for n in 0u16..256 {
-        lines.push_str(&format!(in alloc; "ldc {n}\n")?)?;
-    }
-    lines.push_str("ldc 254\nldc 255\nreturn\n")?;
-    Ok(lines)
-}
-
-/// A table of 10,000 keys, each with a label of its own, and as many instructions.
-fn many_labels(alloc: Global) -> Result<String, Fail> {
-    let mut lines = String::from_str(alloc, "iconst_0\ntableswitch 0\n")?;
-    for number in 0u32..10000 {
-        lines.push_str(&format!(in alloc; "L{number}\n")?)?;
-    }
-    lines.push_str("default : L0\n")?;
-    for number in 0u32..10000 {
-        lines.push_str(&format!(in alloc; "L{number}:\nnop\n")?)?;
-    }
-    Ok(lines)
-}
-
-/// Whether the answer of a text whose main has these lines is all that is wanted.
-fn has_all(alloc: Global, lines: &str, wanted: &[Wanted]) -> Result<bool, Fail> {
-    let text = main_with(alloc, lines, 0, "")?;
-    let bytes = answer(alloc, &text)?;
+/// Whether bytes are all that is wanted.
+fn are_all(alloc: Global, bytes: &[u8], wanted: &[Wanted]) -> Result<bool, AllocError> {
     for wanted in wanted {
-        if !is_wanted(alloc, &bytes, *wanted)? {
+        if !is_wanted(alloc, bytes, *wanted)? {
             return Ok(false);
         }
     }
     Ok(true)
+}
+
+/// Whether the answer of a text whose main has these lines is all that is wanted.
+fn has_all(alloc: Global, lines: &str, wanted: &[Wanted]) -> Result<bool, AllocError> {
+    let text = main_with(alloc, lines, 0, "")?;
+    let bytes = answer(alloc, &text)?;
+    are_all(alloc, &bytes, wanted)
 }
 
 /// 255 numbers in two bytes, and then that of 255, 256.
@@ -252,43 +265,53 @@ const LABELS: &[Wanted] = &[
     Wanted::At(78 + 40012, "0000c35e"),
 ];
 
-#[test]
-fn a_long_ldc_past_255(rt: HostRuntime) -> Result<(), Fail> {
-    let lines = many_ints(rt.alloc())?;
-    assert!(rt; has_all(rt.alloc(), &lines, PAST_255)?);
-    Ok(())
+/// Whether such lines have these.
+fn ints_have(alloc: Global, wanted: &[Wanted]) -> Result<bool, AllocError> {
+    let mut lines = String::new(alloc);
+    add_ints(&mut lines)?;
+    has_all(alloc, &lines, wanted)
 }
 
-#[test]
-fn a_switch_has_10000_labels(rt: HostRuntime) -> Result<(), Fail> {
-    let lines = many_labels(rt.alloc())?;
-    assert!(rt; has_all(rt.alloc(), &lines, LABELS)?);
-    Ok(())
+fn labels_have(alloc: Global, wanted: &[Wanted]) -> Result<bool, AllocError> {
+    let mut lines = String::new(alloc);
+    add_labels(&mut lines)?;
+    has_all(alloc, &lines, wanted)
+}
+
+/// Adds a method that pushes so many longs, all different, and these constants.
+fn add_method(
+    text: &mut String,
+    name: &str,
+    sign: &str,
+    longs: u32,
+    last: &str,
+) -> Result<(), AllocError> {
+    write!(
+        text,
+        ".method static {name}()V\n.limit stack 2\n.limit locals 0\n"
+    )?;
+    for n in 0..longs {
+        write!(text, "ldc2_w {sign}1{n}\n")?;
+    }
+    write!(text, "{last}.end method\n")
 }
 
 /// A class with two methods that each push so many longs, all different, the second one these constants too.
-fn with_longs(alloc: Global, longs: u32, more: &str) -> Result<String, Fail> {
+fn with_longs(alloc: Global, longs: u32, more: &str) -> Result<String, AllocError> {
     let mut text = String::from_str(alloc, ".class A\n.super java/lang/Object\n")?;
-    for (method, sign, last) in [
-        (
-            ".method static m0()V\n.limit stack 2\n.limit locals 0\n",
-            "",
-            "",
-        ),
-        (
-            ".method static m1()V\n.limit stack 2\n.limit locals 0\n",
-            "-",
-            more,
-        ),
-    ] {
-        text.push_str(method)?;
-        for n in 0..longs {
-            text.push_str(&format!(in alloc; "ldc2_w {sign}1{n}\n")?)?;
-        }
-        text.push_str(last)?;
-        text.push_str(".end method\n")?;
-    }
+    add_method(&mut text, "m0", "", longs, "")?;
+    add_method(&mut text, "m1", "-", longs, more)?;
     Ok(text)
+}
+
+fn pool_has_answer(
+    alloc: Global,
+    longs: u32,
+    more: &str,
+    wanted: Wanted,
+) -> Result<bool, AllocError> {
+    let text = with_longs(alloc, longs, more)?;
+    has_answer(alloc, &text, wanted)
 }
 
 // So many longs in each method, and what the second one pushes besides. There are two numbers for each long, and 8 for
@@ -311,22 +334,23 @@ const PAST_FULL: &[(u32, &str, Wanted)] = &[
     (16_381, "ldc_w 1\nldc2_w 2\n", Wanted::Told("A3")),
 ];
 
-fn compare_pools(rt: &impl Abort, alloc: Global, rows: &[(u32, &str, Wanted)]) -> Result<(), Fail> {
+fn have_answers(alloc: Global, rows: &[(u32, &str, Wanted)]) -> Result<bool, AllocError> {
     for (longs, more, wanted) in rows {
-        let text = with_longs(alloc, *longs, more)?;
-        assert!(rt; has_answer(alloc, &text, *wanted)?, "{longs}{more}");
+        if !pool_has_answer(alloc, *longs, more, *wanted)? {
+            return Ok(false);
+        }
     }
-    Ok(())
+    Ok(true)
 }
 
 #[test]
-fn a_pool_is_full(rt: HostRuntime) -> Result<(), Fail> {
-    compare_pools(&rt, rt.alloc(), FULL)
+fn a_pool_is_full(rt: HostRuntime) {
+    assert!(rt; have_answers(rt.alloc(), FULL) == Ok(true));
 }
 
 #[test]
-fn the_last_number_is_65534(rt: HostRuntime) -> Result<(), Fail> {
-    compare_pools(&rt, rt.alloc(), PAST_FULL)
+fn the_last_number_is_65534(rt: HostRuntime) {
+    assert!(rt; have_answers(rt.alloc(), PAST_FULL) == Ok(true));
 }
 
 /// Whether the instructions of a listing's first method stand at these pcs, each with that behind it.
@@ -346,12 +370,37 @@ fn has_pcs(listing: &Listing, pcs: &[(u16, u16)]) -> bool {
 const FIVE: &[u8] =
     b".class A\n.super B\n.method static main()V\n.limit stack 2\n.limit locals 0\nldc 2147483647\niconst_1\niadd\ninvokestatic vm/Sys/print(I)V\nreturn\n.end method\n";
 
+/// Whether the listing of a text has these pcs, and the one that stands beside its class file.
+fn text_has_pcs(alloc: Global, text: &[u8], pcs: &[(u16, u16)]) -> Result<bool, Fail> {
+    let tree = read(alloc, text)?;
+    Ok(listing_has_pcs(alloc, &tree, pcs)? && made_has_pcs(alloc, &tree, pcs)?)
+}
+
+/// Whether the listing of a tree has these pcs.
+fn listing_has_pcs(alloc: Global, tree: &ClassTree, pcs: &[(u16, u16)]) -> Result<bool, AsmError> {
+    Ok(has_pcs(&listing(alloc, tree)?, pcs))
+}
+
+/// Whether the one that stands beside its class file has.
+fn made_has_pcs(alloc: Global, tree: &ClassTree, pcs: &[(u16, u16)]) -> Result<bool, AsmError> {
+    Ok(has_pcs(&assemble(alloc, tree)?.listing, pcs))
+}
+
+const FIVE_PCS: &[(u16, u16)] = &[(0, 2), (2, 3), (3, 4), (4, 7), (7, 8)];
+
 #[test]
-fn a_listing_has_pcs_and_widths(rt: HostRuntime) -> Result<(), Fail> {
-    let pcs = [(0, 2), (2, 3), (3, 4), (4, 7), (7, 8)];
-    let tree = read(rt.alloc(), FIVE)?;
-    let made = assemble(rt.alloc(), &tree)?;
-    let listing = listing(rt.alloc(), &tree)?;
-    assert!(rt; has_pcs(&listing, &pcs) && has_pcs(&made.listing, &pcs));
+fn mains_have_code(rt: HostRuntime) -> Result<(), Fail> {
+    for (first, nops, last, wanted) in MAINS {
+        assert!(rt;
+            main_has_answer(rt.alloc(), first, *nops, last, *wanted) == Ok(true),
+            "{first}{nops}{last}"
+        );
+    }
+    assert!(rt;
+        ints_have(rt.alloc(), PAST_255) == Ok(true),
+        "a long ldc past 255"
+    );
+    assert!(rt; labels_have(rt.alloc(), LABELS) == Ok(true), "10000 labels");
+    assert!(rt; text_has_pcs(rt.alloc(), FIVE, FIVE_PCS)?, "pcs and widths");
     Ok(())
 }

@@ -1,7 +1,6 @@
 //! Class files in hexadecimal digits.
 
-use std::alloc::Global;
-use std::test::Fail;
+use std::alloc::{AllocError, Global};
 
 /// A class E over java/lang/Object with the method `public static main()V`, whose code is one return: 100 bytes.
 pub const E: &str =
@@ -14,7 +13,7 @@ pub const TEXT_OF_E: &str =
     ".class public E\n.super java/lang/Object\n.method public static main()V\n.limit stack 0\n.limit locals 0\nreturn\n.end method\n";
 
 /// The bytes that a text gives, two hexadecimal digits each; what is no such digit is passed over.
-pub fn hex(alloc: Global, text: &str) -> Result<Vec<u8>, Fail> {
+pub fn hex(alloc: Global, text: &str) -> Result<Vec<u8>, AllocError> {
     let mut bytes = Vec::new(alloc);
     let mut high: Option<u8> = None;
     for letter in text.as_bytes() {

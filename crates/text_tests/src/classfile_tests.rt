@@ -6,12 +6,10 @@ mod files;
 mod listings;
 
 use crate::class_bytes::{E, hex};
-use classfile::{ClassHead, one_head, read};
+use classfile::{ClassFile, ClassHead, one_head, read, write};
 use model::class_files::FormatFault;
 use pool::ReadError;
 use std::alloc::{AllocError, Global};
-use std::process::Abort;
-use std::test::*;
 
 /// What stands in E before the count of its pool, its entries, and what stands behind them and before its methods.
 const OPENING: &str = "cafebabe 0000 0031";
@@ -22,12 +20,12 @@ const E_ENTRIES: &str =
 const E_CLASS: &str = "0021 0002 0004 0000 0000";
 
 /// E's bytes.
-fn e(alloc: Global) -> Result<Vec<u8>, Fail> {
+fn e(alloc: Global) -> Result<Vec<u8>, AllocError> {
     hex(alloc, E)
 }
 
 /// E with another byte at a place.
-fn e_with(alloc: Global, place: usize, byte: u8) -> Result<Vec<u8>, Fail> {
+fn e_with(alloc: Global, place: usize, byte: u8) -> Result<Vec<u8>, AllocError> {
     let mut bytes = e(alloc)?;
     if let Some(old) = bytes.get_mut(place) {
         *old = byte;
@@ -43,8 +41,28 @@ fn told(alloc: Global, bytes: &[u8]) -> Result<String, AllocError> {
     }
 }
 
+fn is_told(alloc: Global, bytes: &[u8], wanted: &str) -> Result<bool, AllocError> {
+    Ok(told(alloc, bytes)?.as_str() == wanted)
+}
+
+/// Whether a class file is written as these bytes.
+fn has_bytes(alloc: Global, file: &ClassFile, wanted: &[u8]) -> bool {
+    match write(alloc, file) {
+        Ok(bytes) => bytes.as_slice() == wanted,
+        Err(_) => false,
+    }
+}
+
+/// Whether the class file that these bytes are is written as those.
+fn is_written_as(alloc: Global, bytes: &[u8], wanted: &[u8]) -> bool {
+    match read(alloc, bytes) {
+        Ok(file) => has_bytes(alloc, &file, wanted),
+        Err(_) => false,
+    }
+}
+
 /// E with more entries behind its seven, so that the pool's count is this, and with other methods behind their count.
-fn other_e(alloc: Global, count: u8, entries: &str, methods: &str) -> Result<Vec<u8>, Fail> {
+fn other_e(alloc: Global, count: u8, entries: &str, methods: &str) -> Result<Vec<u8>, AllocError> {
     let digits = format!(in alloc;
         "{OPENING} 00{count:02x} {E_ENTRIES} {entries} {E_CLASS} {methods} 0000"
     )?;
@@ -59,20 +77,18 @@ fn fault(alloc: Global, bytes: &[u8]) -> Option<FormatFault> {
 }
 
 /// How many bytes stand behind the head of these, and the head as it is written again.
-fn head_again(alloc: Global, bytes: &[u8]) -> Result<(usize, Vec<u8>), Fail> {
+fn head_again(alloc: Global, bytes: &[u8]) -> Result<(usize, Vec<u8>), ReadError> {
     let (head, rest) = ClassHead::read(alloc, bytes)?;
     let mut written = Vec::new(alloc);
     head.write(&mut written)?;
     Ok((rest.len(), written))
 }
 
-#[test]
-fn the_head_of_e(rt: HostRuntime) -> Result<(), Fail> {
-    let bytes = e(rt.alloc())?;
-    let (behind, written) = head_again(rt.alloc(), &bytes)?;
-    assert!(rt; behind == 31 && bytes.get(..69) == Some(written.as_slice()));
-    one_head();
-    Ok(())
+/// Whether the head of E ends where it does, and is written as it is.
+fn is_head_of_e(alloc: Global) -> Result<bool, ReadError> {
+    let bytes = e(alloc)?;
+    let (behind, written) = head_again(alloc, &bytes)?;
+    Ok(behind == 31 && bytes.get(..69) == Some(written.as_slice()))
 }
 
 /// Whether the first bytes, up to a head's end, are each time too few for a head.
@@ -88,10 +104,8 @@ fn is_short(alloc: Global, bytes: &[u8]) -> bool {
     true
 }
 
-#[test]
-fn heads_that_are_cut(rt: HostRuntime) -> Result<(), Fail> {
-    assert!(rt; is_short(rt.alloc(), &e(rt.alloc())?));
-    Ok(())
+fn fronts_are_short(alloc: Global) -> Result<bool, AllocError> {
+    Ok(is_short(alloc, &e(alloc)?))
 }
 
 /// A place in E, another byte that is there, and what is wrong with the head then.
@@ -110,13 +124,14 @@ const CHANGES: &[(usize, u8, Option<FormatFault>)] = &[
     (64, 3, Some(FormatFault::Index)),
 ];
 
-#[test]
-fn changed_bytes(rt: HostRuntime) -> Result<(), Fail> {
-    for (place, byte, answer) in CHANGES {
-        let bytes = e_with(rt.alloc(), *place, *byte)?;
-        assert!(rt; fault(rt.alloc(), &bytes) == *answer, "{place} {byte}");
-    }
-    Ok(())
+fn has_fault(
+    alloc: Global,
+    place: usize,
+    byte: u8,
+    wanted: Option<FormatFault>,
+) -> Result<bool, AllocError> {
+    let bytes = e_with(alloc, place, byte)?;
+    Ok(fault(alloc, &bytes) == wanted)
 }
 
 /// What stands in a class A over O before the flags of its one field `x I`.
@@ -124,20 +139,18 @@ const A_FRONT: &str = "cafebabe 0000 0031 000a 01000141 070001 0100014f 070003 0
     01000d436f6e7374616e7456616c7565 0300000007 01000a44657072656361746564 0021 0002 0004 0000 0001";
 
 /// The class A whose field is static or not, deprecated, and has a value.
-fn one_field(alloc: Global, flags: &str, length: &str, value: &str) -> Result<Vec<u8>, Fail> {
+fn one_field(alloc: Global, flags: &str, length: &str, value: &str) -> Result<Vec<u8>, AllocError> {
     let digits = format!(in alloc;
         "{A_FRONT} {flags} 0005 0006 0002 0009 00000000 0007 {length} {value} 0000 0000 00000000 00000000 0000"
     )?;
     hex(alloc, digits.as_str())
 }
 
-#[test]
-fn a_field_is_written(rt: HostRuntime) -> Result<(), Fail> {
-    let bytes = one_field(rt.alloc(), "0008", "00000002", "0008")?;
-    let (behind, written) = head_again(rt.alloc(), &bytes)?;
-    // the attribute Deprecated is left out, and the count of attributes is one less
-    assert!(rt; behind == 14 && written.len() == 92 && written.get(83) == Some(&1));
-    Ok(())
+/// Whether the head is written so: the attribute Deprecated is left out, and the count of attributes is one less.
+fn is_shorter(alloc: Global) -> Result<bool, ReadError> {
+    let bytes = one_field(alloc, "0008", "00000002", "0008")?;
+    let (behind, written) = head_again(alloc, &bytes)?;
+    Ok(behind == 14 && written.len() == 92 && written.get(83) == Some(&1))
 }
 
 /// The flags of the field, the length of its value's attribute, and the value; and what is wrong with the head then.
@@ -150,14 +163,37 @@ const FIELDS: &[(&str, &str, &str, Option<FormatFault>)] = &[
     ("0028", "00000002", "0008", Some(FormatFault::Flags)),
 ];
 
+fn field_has_fault(
+    alloc: Global,
+    flags: &str,
+    length: &str,
+    value: &str,
+    wanted: Option<FormatFault>,
+) -> Result<bool, AllocError> {
+    let bytes = one_field(alloc, flags, length, value)?;
+    Ok(fault(alloc, &bytes) == wanted)
+}
+
 #[test]
-fn fields(rt: HostRuntime) -> Result<(), Fail> {
-    for (flags, length, value, answer) in FIELDS {
-        let bytes = one_field(rt.alloc(), flags, length, value)?;
+fn heads_are_read_and_written(rt: HostRuntime) {
+    assert!(rt; is_head_of_e(rt.alloc()) == Ok(true), "E");
+    assert!(rt; is_shorter(rt.alloc()) == Ok(true), "a field");
+    assert!(rt; fronts_are_short(rt.alloc()) == Ok(true), "cut");
+    one_head();
+}
+
+#[test]
+fn faults_of_heads(rt: HostRuntime) {
+    for (place, byte, answer) in CHANGES {
         assert!(rt;
-            fault(rt.alloc(), &bytes) == *answer,
-            "{flags} {length} {value}"
+            has_fault(rt.alloc(), *place, *byte, *answer) == Ok(true),
+            "{place}"
         );
     }
-    Ok(())
+    for (flags, length, value, answer) in FIELDS {
+        assert!(rt;
+            field_has_fault(rt.alloc(), flags, length, value, *answer) == Ok(true),
+            "{flags}"
+        );
+    }
 }

@@ -103,6 +103,12 @@ fn comes_back(alloc: Global, file: &ClassFile, wanted: &str) -> Result<bool, Fai
     has_text(alloc, &made, wanted)
 }
 
+/// Whether the class file of these digits has this text, which comes back.
+fn have_text(alloc: Global, digits: &str, wanted: &str) -> Result<bool, Fail> {
+    let file = file_of(alloc, digits)?;
+    Ok(has_text(alloc, &file, wanted)? && comes_back(alloc, &file, wanted)?)
+}
+
 /// Whether a tree has R's name and so many parts as R.
 fn is_of_r(tree: &ClassTree) -> bool {
     tree.name.is("p/R")
@@ -111,21 +117,10 @@ fn is_of_r(tree: &ClassTree) -> bool {
         && tree.methods.len() == 3
 }
 
-#[test]
-fn class_files_have_these_texts(rt: HostRuntime) -> Result<(), Fail> {
-    for (digits, wanted) in [(E, TEXT_OF_E), (R, TEXT_OF_R)] {
-        let file = file_of(rt.alloc(), digits)?;
-        assert!(rt; has_text(rt.alloc(), &file, wanted)?, "{wanted}");
-        assert!(rt; comes_back(rt.alloc(), &file, wanted)?, "{wanted}");
-    }
-    Ok(())
-}
-
-#[test]
-fn a_class_file_has_the_tree_of_its_text(rt: HostRuntime) -> Result<(), Fail> {
-    let file = file_of(rt.alloc(), R)?;
-    assert!(rt; is_of_r(&tree(rt.alloc(), &file)?));
-    Ok(())
+/// Whether a class file has a tree of R's name and parts.
+fn has_tree_of_r(alloc: Global, digits: &str) -> Result<bool, Fail> {
+    let file = file_of(alloc, digits)?;
+    Ok(is_of_r(&tree(alloc, &file)?))
 }
 
 /// An interface of two lines.
@@ -137,10 +132,19 @@ fn listed(alloc: Global, text: &str) -> Result<Listing, Fail> {
     Ok(assembler::listing(alloc, &tree)?)
 }
 
+/// Whether the text of a text's listing is this text.
+fn comes_back_of_listing(alloc: Global, wanted: &str) -> Result<bool, Fail> {
+    let listing = listed(alloc, wanted)?;
+    Ok(text(alloc, &listing)?.as_slice() == wanted.as_bytes())
+}
+
 #[test]
-fn an_interface_of_two_lines(rt: HostRuntime) -> Result<(), Fail> {
-    let listing = listed(rt.alloc(), INTERFACE)?;
-    assert!(rt; text(rt.alloc(), &listing)?.as_slice() == INTERFACE.as_bytes());
+fn class_files_have_these_texts(rt: HostRuntime) -> Result<(), Fail> {
+    for (digits, wanted) in [(E, TEXT_OF_E), (R, TEXT_OF_R)] {
+        assert!(rt; have_text(rt.alloc(), digits, wanted)?, "{wanted}");
+    }
+    assert!(rt; has_tree_of_r(rt.alloc(), R)?, "tree");
+    assert!(rt; comes_back_of_listing(rt.alloc(), INTERFACE)?, "interface");
     texts_come_back();
     Ok(())
 }

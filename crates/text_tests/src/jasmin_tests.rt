@@ -241,9 +241,7 @@ fn line_of(line: &str) -> &str {
     }
 }
 
-/// The text of a row.
-fn text_of(alloc: Global, row: &str) -> Result<String, AllocError> {
-    let mut text = String::new(alloc);
+fn add_row(text: &mut String, row: &str) -> Result<(), AllocError> {
     let mut is_behind = false;
     for line in row.split("|") {
         if is_behind {
@@ -252,6 +250,13 @@ fn text_of(alloc: Global, row: &str) -> Result<String, AllocError> {
         text.push_str(line_of(line))?;
         is_behind = true;
     }
+    Ok(())
+}
+
+/// The text of a row.
+fn text_of(alloc: Global, row: &str) -> Result<String, AllocError> {
+    let mut text = String::new(alloc);
+    add_row(&mut text, row)?;
     Ok(text)
 }
 
@@ -263,25 +268,23 @@ fn outcome(alloc: Global, text: &str) -> Result<String, AllocError> {
     }
 }
 
-fn outcome_of_row(alloc: Global, row: &str) -> Result<String, AllocError> {
+fn is_outcome(alloc: Global, text: &str, wanted: &str) -> Result<bool, AllocError> {
+    Ok(outcome(alloc, text)?.as_str() == wanted)
+}
+
+fn is_outcome_of_row(alloc: Global, row: &str, wanted: &str) -> Result<bool, AllocError> {
     let text = text_of(alloc, row)?;
-    outcome(alloc, text.as_str())
+    is_outcome(alloc, text.as_str(), wanted)
 }
 
 /// Reads the text of each row.
 fn compare(rt: &impl Abort, alloc: Global, rows: &str) -> Result<(), Fail> {
     for row in rows.lines() {
         let (text, expected) = row.split_once(" => ").ok_or("no row")?;
-        let found = outcome_of_row(alloc, text)?;
-        assert!(rt; found.as_str() == expected, "{text}: {found}");
-    }
-    Ok(())
-}
-
-#[test]
-fn texts_are_read_or_refused(rt: HostRuntime) -> Result<(), Fail> {
-    for rows in [CLASSES, FIELDS, METHODS, INSTRUCTIONS, LABELS, BYTES] {
-        compare(&rt, rt.alloc(), rows)?;
+        assert!(rt;
+            is_outcome_of_row(alloc, text, expected) == Ok(true),
+            "{row}"
+        );
     }
     Ok(())
 }
@@ -304,14 +307,6 @@ fn is_smallest_class(tree: &ClassTree) -> bool {
         && tree.flags == ClassFlags::PUBLIC
         && (tree.interfaces.len(), tree.fields.len()) == (0, 0)
         && matches!(tree.methods.as_slice(), [main] if is_smallest_main(main))
-}
-
-#[test]
-fn the_smallest_program_is_read(rt: HostRuntime) -> Result<(), Fail> {
-    let tree = read(rt.alloc(), TEXT_OF_E.as_bytes())?;
-    assert!(rt; is_smallest_class(&tree));
-    texts_are_spelled();
-    Ok(())
 }
 
 /// Whether a field has this name, descriptor and flags, and this constant.
@@ -352,13 +347,6 @@ fn is_interface(tree: &ClassTree) -> bool {
 
 const TWO_FIELDS: &str =
     ".interface public a/I\n.super java/lang/Object\n.implements a/J\n.implements K\n.field public static final least J = -9223372036854775808\n.field public static final transient none La/I;\n.method public abstract m(J)I\n.end method\n";
-
-#[test]
-fn an_interface_has_superinterfaces_and_values(rt: HostRuntime) -> Result<(), Fail> {
-    let tree = read(rt.alloc(), TWO_FIELDS.as_bytes())?;
-    assert!(rt; is_interface(&tree));
-    Ok(())
-}
 
 /// A text of a head and lines that are all alike: what begins each, a piece so many times, and what ends it.
 #[derive(Clone, Copy)]
@@ -443,31 +431,56 @@ fn add_line(text: &mut String, long: Long) -> Result<(), AllocError> {
     text.push_str(long.end)
 }
 
-fn outcome_of_long(alloc: Global, long: Long) -> Result<String, AllocError> {
-    let mut text = String::from_str(alloc, long.head)?;
+fn add_lines(text: &mut String, long: Long) -> Result<(), AllocError> {
+    text.push_str(long.head)?;
     for _ in 0..long.lines {
-        add_line(&mut text, long)?;
+        add_line(text, long)?;
     }
-    text.push_str("\n")?;
-    outcome(alloc, text.as_str())
+    text.push_str("\n")
+}
+
+fn is_outcome_of_long(alloc: Global, long: Long, wanted: &str) -> Result<bool, AllocError> {
+    let mut text = String::new(alloc);
+    add_lines(&mut text, long)?;
+    is_outcome(alloc, text.as_str(), wanted)
 }
 
 #[test]
-fn long_texts(rt: HostRuntime) -> Result<(), AllocError> {
+fn texts_are_read_or_refused(rt: HostRuntime) -> Result<(), Fail> {
+    for rows in [CLASSES, FIELDS, METHODS, INSTRUCTIONS, LABELS, BYTES] {
+        compare(&rt, rt.alloc(), rows)?;
+    }
     for (long, expected) in LONG {
-        let found = outcome_of_long(rt.alloc(), *long)?;
-        assert!(rt; found.as_str() == *expected, "{}: {found}", long.begin);
+        assert!(rt;
+            is_outcome_of_long(rt.alloc(), *long, expected) == Ok(true),
+            "{}",
+            long.begin
+        );
     }
     Ok(())
 }
 
-#[test]
-fn a_refusal_prints_its_number_and_line(rt: HostRuntime) -> Result<(), AllocError> {
+/// Whether a refusal is told by its number and its line.
+fn is_told(alloc: Global) -> Result<bool, AllocError> {
     let error = TextError {
         line: 6,
         fault: Fault::Label,
     };
-    let printed = error.to_string(rt.alloc())?;
-    assert!(rt; printed.as_str() == "J5 at line 6" && Fault::Memory.number() == 9);
+    Ok(error.to_string(alloc)?.as_str() == "J5 at line 6" && Fault::Memory.number() == 9)
+}
+
+/// Whether the two trees are read.
+fn trees_are_read(alloc: Global) -> Result<bool, TextError> {
+    Ok(
+        is_smallest_class(&read(alloc, TEXT_OF_E.as_bytes())?)
+            && is_interface(&read(alloc, TWO_FIELDS.as_bytes())?),
+    )
+}
+
+#[test]
+fn trees_and_refusals(rt: HostRuntime) -> Result<(), Fail> {
+    assert!(rt; trees_are_read(rt.alloc())?);
+    assert!(rt; is_told(rt.alloc()) == Ok(true));
+    texts_are_spelled();
     Ok(())
 }

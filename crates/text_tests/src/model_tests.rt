@@ -8,22 +8,12 @@ use model::journals::{HeapShape, Journal, Limits, Outcome, Row};
 use model::names::Name;
 use model::turns::{Actor, Fault};
 use model::values::Kind;
-use std::alloc::Global;
-use std::test::Fail;
+use std::alloc::{AllocError, Global};
 
 /// A name, made of bytes and then shared.
-fn shared(alloc: Global, bytes: &[u8]) -> Result<Name, Fail> {
+fn shared(alloc: Global, bytes: &[u8]) -> Result<Name, AllocError> {
     let made = Name::new(bytes.to_vec(alloc)?)?;
     Ok(made.share()?)
-}
-
-#[test]
-fn names_are_kept(rt: HostRuntime) -> Result<(), Fail> {
-    let copied = Name::copy_of(rt.alloc(), b"vm/Sys")?;
-    let shared = shared(rt.alloc(), copied.as_bytes())?;
-    let is_kept = copied.is("vm/Sys") && !copied.is("vm/Sy") && shared == copied;
-    assert!(rt; is_kept && shared.as_bytes() == b"vm/Sys".as_slice());
-    Ok(())
 }
 
 const SHAPE: HeapShape = HeapShape {
@@ -66,24 +56,6 @@ fn has_noted(journal: &Journal) -> bool {
         && journal.shape() == SHAPE
         && journal.limits() == LIMITS
         && journal.workers() == 1
-}
-
-#[test]
-fn rows_are_noted_in_order(rt: HostRuntime) -> Result<(), Fail> {
-    let mut journal = Journal::new(rt.alloc(), SHAPE, LIMITS, 1)?;
-    journal.note(FIRST);
-    journal.note(SECOND);
-    assert!(rt; has_noted(&journal));
-    Ok(())
-}
-
-#[test]
-fn faults_print_as_users_know_them(rt: HostRuntime) -> Result<(), Fail> {
-    for (fault, printed) in [(Fault::StackEmpty, "F1"), (Fault::MonitorLimit, "F10")] {
-        let found = format!(in rt.alloc(); "{fault}")?;
-        assert!(rt; found.as_str() == printed);
-    }
-    Ok(())
 }
 
 /// Words, and whether each is a class's, a field's and a method's name (JVMS 4.2).
@@ -170,6 +142,34 @@ fn describes_method(word: &[u8], units: Option<usize>, kind: Option<Kind>) -> bo
     is_told && arguments_of(word) == units
 }
 
+fn names_are_kept(alloc: Global) -> Result<bool, AllocError> {
+    let copied = Name::copy_of(alloc, b"vm/Sys")?;
+    let shared = shared(alloc, copied.as_bytes())?;
+    let is_kept = copied.is("vm/Sys") && !copied.is("vm/Sy") && shared == copied;
+    Ok(is_kept && shared.as_bytes() == b"vm/Sys".as_slice())
+}
+
+fn rows_are_noted(alloc: Global) -> Result<bool, AllocError> {
+    let mut journal = Journal::new(alloc, SHAPE, LIMITS, 1)?;
+    journal.note(FIRST);
+    journal.note(SECOND);
+    Ok(has_noted(&journal))
+}
+
+/// Whether two faults are printed as users know them.
+fn faults_are_printed(alloc: Global) -> Result<bool, AllocError> {
+    let (first, last) = (Fault::StackEmpty, Fault::MonitorLimit);
+    Ok(format!(in alloc; "{first} {last}")?.as_str() == "F1 F10")
+}
+
+#[test]
+fn names_rows_and_faults(rt: HostRuntime) {
+    assert!(rt; names_are_kept(rt.alloc()) == Ok(true), "names");
+    assert!(rt; rows_are_noted(rt.alloc()) == Ok(true), "rows");
+    assert!(rt; faults_are_printed(rt.alloc()) == Ok(true), "faults");
+}
+
+/// An array has 255 dimensions at most.
 #[test]
 fn words_are_names_and_descriptors(rt: HostRuntime) {
     for (text, class, field, method) in NAMES {
@@ -184,10 +184,6 @@ fn words_are_names_and_descriptors(rt: HostRuntime) {
     for (text, units, kind) in METHOD_DESCRIPTORS {
         assert!(rt; describes_method(text.as_bytes(), *units, *kind), "{text}");
     }
-}
-
-#[test]
-fn an_array_has_255_dimensions_at_most(rt: HostRuntime) {
     let mut word = [b'['; 257];
     word[256] = b'I';
     assert!(rt; is_array_descriptor(&word[1..]) && !is_array_descriptor(&word));

@@ -7,7 +7,6 @@ use model::instructions::{
 use model::values::Kind;
 use opcodes::{Code, Instr, OpError, decode, encode, one_spelling};
 use std::alloc::{AllocError, Global};
-use std::test::Fail;
 
 /// The code of a method with each opcode once, and each form behind `wide`: constants first, then locals and so on, as
 /// `javap -c` lists it.
@@ -51,19 +50,10 @@ fn has_pcs(code: &Code, pcs: &[u16]) -> bool {
     pcs.next().is_none()
 }
 
-/// Each opcode is read where `javap` sees it, and written again.
-#[test]
-fn opcodes_are_read(rt: HostRuntime) -> Result<(), Fail> {
-    let bytes = hex(rt.alloc(), CODE)?;
-    let code = decode(rt.alloc(), &bytes)?;
-    assert!(rt; has_pcs(&code, PCS), "pcs");
-    assert!(rt; again(rt.alloc(), code)?.as_slice() == bytes.as_slice());
-    Ok(())
-}
-
-/// Why bytes are no code.
-fn refusal(alloc: Global, bytes: &[u8]) -> Option<OpError> {
-    decode(alloc, bytes).err()
+/// Whether bytes are read as code with these pcs, and written again.
+fn come_back(alloc: Global, bytes: &[u8], pcs: &[u16]) -> Result<bool, OpError> {
+    let code = decode(alloc, bytes)?;
+    Ok(has_pcs(&code, pcs) && again(alloc, code)?.as_slice() == bytes)
 }
 
 /// The smallest code of each refusal, and which comes first.
@@ -91,25 +81,35 @@ const REFUSALS: &[(&str, OpError)] = &[
     ("ab000000 00000000 ffffffff", OpError::Switch),
 ];
 
-#[test]
-fn refusals(rt: HostRuntime) -> Result<(), Fail> {
-    for (digits, error) in REFUSALS {
-        let bytes = hex(rt.alloc(), digits)?;
-        assert!(rt; refusal(rt.alloc(), &bytes) == Some(*error), "{digits}");
-    }
-    Ok(())
-}
-
 /// How many instructions bytes are, if these are written as the same bytes again.
 fn count_again(alloc: Global, bytes: &[u8]) -> Result<Option<usize>, OpError> {
     let code = decode(alloc, bytes)?;
     let count = code.as_slice().len();
-    let written = again(alloc, code)?;
-    Ok(if written.as_slice() == bytes {
-        Some(count)
-    } else {
-        None
-    })
+    match again(alloc, code) {
+        Ok(written) => Ok(if written.as_slice() == bytes {
+            Some(count)
+        } else {
+            None
+        }),
+        Err(_) => Ok(None),
+    }
+}
+
+/// Whether hexadecimal digits are so many instructions, or no code for this reason.
+fn counts(alloc: Global, digits: &str, wanted: Result<usize, OpError>) -> Result<bool, AllocError> {
+    let bytes = hex(alloc, digits)?;
+    Ok(count_again(alloc, &bytes) == wanted.map(|count| Some(count)))
+}
+
+/// The same of so many equal bytes.
+fn counts_many(
+    alloc: Global,
+    byte: u8,
+    count: usize,
+    wanted: Result<usize, OpError>,
+) -> Result<bool, AllocError> {
+    let bytes = vec![in alloc; byte; count]?;
+    Ok(count_again(alloc, &bytes) == wanted.map(|count| Some(count)))
 }
 
 /// So many nops, and a tableswitch of 9 with its pad.
@@ -123,18 +123,6 @@ const PADDED: &[(&str, usize)] = &[
     ("000000000000 aa 00 00000000 00000009 00000009 00000000", 7),
     ("00000000000000 aa 00000000 00000009 00000009 00000000", 8),
 ];
-
-#[test]
-fn pads(rt: HostRuntime) -> Result<(), Fail> {
-    for (digits, count) in PADDED {
-        let bytes = hex(rt.alloc(), digits)?;
-        assert!(rt;
-            count_again(rt.alloc(), &bytes)? == Some(*count),
-            "{digits}"
-        );
-    }
-    Ok(())
-}
 
 /// Whether the first instructions load ints from these locals.
 fn loads(code: &Code, locals: &[Local]) -> bool {
@@ -150,39 +138,15 @@ fn loads(code: &Code, locals: &[Local]) -> bool {
 }
 
 /// `wide iload 1` isn't `iload 1`, and that isn't `iload_1`.
-#[test]
-fn forms_stay_apart(rt: HostRuntime) -> Result<(), Fail> {
-    let code = decode(rt.alloc(), &[196, 21, 0, 1, 21, 1, 27])?;
-    let locals = [
-        Local::Wide(1),
-        Local::Byte(1),
-        Local::First(FirstLocal::One),
-    ];
-    assert!(rt; loads(&code, &locals));
-    Ok(())
-}
+const FORMS: [Local; 3] = [
+    Local::Wide(1),
+    Local::Byte(1),
+    Local::First(FirstLocal::One),
+];
 
-/// Whether so many bytes are as many instructions, or why they are no code.
-fn told_of_many(alloc: Global, byte: u8, count: usize) -> Result<Option<OpError>, AllocError> {
-    let bytes = vec![in alloc; byte; count]?;
-    Ok(match count_again(alloc, &bytes) {
-        Ok(found) if found == Some(count) => None,
-        Ok(_) => Some(OpError::Memory),
-        Err(error) => Some(error),
-    })
-}
-
-/// 65,535 bytes are code, 65,536 aren't.
-#[test]
-fn lengths(rt: HostRuntime) -> Result<(), AllocError> {
-    for (byte, count, error) in [
-        (0u8, 65535usize, None),
-        (0, 65536, Some(OpError::Length)),
-        (255, 65536, Some(OpError::Length)),
-    ] {
-        assert!(rt; told_of_many(rt.alloc(), byte, count)? == error);
-    }
-    Ok(())
+fn forms_stay_apart(alloc: Global) -> Result<bool, OpError> {
+    let code = decode(alloc, &[196, 21, 0, 1, 21, 1, 27])?;
+    Ok(loads(&code, &FORMS))
 }
 
 /// `goto` a pc.
@@ -218,45 +182,74 @@ fn faulty(alloc: Global, name: &str) -> Result<Instr, AllocError> {
     }
 }
 
-/// Why an instruction alone has no spelling.
-fn unwritten(alloc: Global, instruction: Instr) -> Option<OpError> {
-    encode(alloc, &[instruction]).err()
+/// Whether an instruction alone has no spelling, for this reason.
+fn is_unwritten(alloc: Global, name: &str, error: OpError) -> Result<bool, AllocError> {
+    let instruction = faulty(alloc, name)?;
+    Ok(encode(alloc, &[instruction]).err() == Some(error))
 }
 
+/// The names of such instructions.
+const FAULTY: &[(&str, OpError)] = &[
+    ("ldc past a byte", OpError::Operand),
+    ("a way past two bytes", OpError::Operand),
+    ("a way to no instruction", OpError::Branch),
+    ("a table without ways", OpError::Switch),
+    ("a table past the greatest int", OpError::Switch),
+    ("keys that fall", OpError::Switch),
+];
+
+/// Whether these errors, one after another, are told so.
+fn codes_are_told(alloc: Global) -> Result<bool, AllocError> {
+    let (opcode, operand, branch) = (OpError::Opcode, OpError::Operand, OpError::Branch);
+    let (switch, length, memory) = (OpError::Switch, OpError::Length, OpError::Memory);
+    let told = format!(in alloc; "{opcode} {operand} {branch} {switch} {length} {memory}")?;
+    Ok(told.as_str() == "O1 O2 O3 O4 O5 O6")
+}
+
+/// Whether each opcode is read where `javap` sees it, and written again.
+fn opcodes_come_back(alloc: Global) -> Result<bool, OpError> {
+    let bytes = hex(alloc, CODE)?;
+    come_back(alloc, &bytes, PCS)
+}
+
+/// A switch has pads; 65,535 bytes are code, 65,536 aren't.
 #[test]
-fn instructions_without_spelling(rt: HostRuntime) -> Result<(), AllocError> {
-    for (name, error) in [
-        ("ldc past a byte", OpError::Operand),
-        ("a way past two bytes", OpError::Operand),
-        ("a way to no instruction", OpError::Branch),
-        ("a table without ways", OpError::Switch),
-        ("a table past the greatest int", OpError::Switch),
-        ("keys that fall", OpError::Switch),
-    ] {
-        let instruction = faulty(rt.alloc(), name)?;
-        assert!(rt; unwritten(rt.alloc(), instruction) == Some(error), "{name}");
+fn code_is_read_and_written(rt: HostRuntime) {
+    assert!(rt; opcodes_come_back(rt.alloc()) == Ok(true), "each opcode");
+    assert!(rt; forms_stay_apart(rt.alloc()) == Ok(true), "forms");
+    for (digits, count) in PADDED {
+        assert!(rt;
+            counts(rt.alloc(), digits, Ok(*count)) == Ok(true),
+            "{digits}"
+        );
     }
-    Ok(())
-}
-
-#[test]
-fn no_instructions(rt: HostRuntime) {
-    let none: [Instr; 0] = [];
-    assert!(rt; encode(rt.alloc(), &none).err() == Some(OpError::Length));
-}
-
-#[test]
-fn codes(rt: HostRuntime) -> Result<(), AllocError> {
-    for (error, code) in [
-        (OpError::Opcode, "O1"),
-        (OpError::Operand, "O2"),
-        (OpError::Branch, "O3"),
-        (OpError::Switch, "O4"),
-        (OpError::Length, "O5"),
-        (OpError::Memory, "O6"),
-    ] {
-        assert!(rt; error.to_string(rt.alloc())?.as_str() == code);
-    }
+    assert!(rt;
+        counts_many(rt.alloc(), 0, 65535, Ok(65535)) == Ok(true),
+        "65535"
+    );
     one_spelling();
-    Ok(())
+}
+
+#[test]
+fn code_is_refused(rt: HostRuntime) {
+    for (digits, error) in REFUSALS {
+        assert!(rt;
+            counts(rt.alloc(), digits, Err(*error)) == Ok(true),
+            "{digits}"
+        );
+    }
+    for byte in [0u8, 255] {
+        assert!(rt; counts_many(rt.alloc(), byte, 65536, Err(OpError::Length)) == Ok(true));
+    }
+    for (name, error) in FAULTY {
+        assert!(rt;
+            is_unwritten(rt.alloc(), name, *error) == Ok(true),
+            "{name}"
+        );
+    }
+    assert!(rt;
+        encode(rt.alloc(), &[]).err() == Some(OpError::Length),
+        "nothing"
+    );
+    assert!(rt; codes_are_told(rt.alloc()) == Ok(true), "codes");
 }

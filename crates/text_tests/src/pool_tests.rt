@@ -1,12 +1,12 @@
 //! Pools by hand: read, written, and made entry by entry.
+//!
+//! What is asked of a pool or a builder stands in functions that borrow it, and one function makes and drops each.
 
 use model::class_files::{Entry, FormatFault};
 use model::listings::Constant;
-use model::names::Name;
+use model::names::{Member, Name};
 use pool::{AddError, Pool, PoolBuilder, ReadError};
 use std::alloc::{AllocError, Global};
-use std::process::Abort;
-use std::test::Fail;
 
 /// The pool of a class E over java/lang/Object with a method `main()V` with code, and four bytes behind it.
 const BYTES: [u8; 60] = [
@@ -15,36 +15,34 @@ const BYTES: [u8; 60] = [
     b'(', b')', b'V', 1, 0, 4, b'C', b'o', b'd', b'e', 12, 0, 5, 0, 6, 0, 33, 0, 2,
 ];
 
-#[test]
-fn a_pool_is_read(rt: HostRuntime) -> Result<(), Fail> {
-    let (pool, rest) = Pool::read(rt.alloc(), &BYTES)?;
-    assert_eq!(rt; rest, [0, 33, 0, 2].as_slice());
-    let told = (
-        pool.count(),
-        pool.text(1),
-        pool.class(2),
-        pool.name_and_type(8),
-    );
-    assert_eq!(rt; told, (9, Some(b"E".as_slice()), Some(1), Some((5, 6))));
-    assert!(rt; pool.entry(0).is_none() && pool.entry(9).is_none());
-    assert!(rt; matches!(pool.entry(4), Some(Entry::Class(3))));
-    Ok(())
+/// Whether a pool has the entries of these bytes.
+fn is_of_e(pool: &Pool) -> bool {
+    pool.count() == 9
+        && pool.text(1) == Some(b"E".as_slice())
+        && pool.class(2) == Some(1)
+        && pool.name_and_type(8) == Some((5, 6))
+        && pool.entry(0).is_none()
+        && pool.entry(9).is_none()
+        && matches!(pool.entry(4), Some(Entry::Class(3)))
 }
 
-/// The bytes of a pool, which is sound.
-fn written(alloc: Global, pool: &Pool) -> Result<Vec<u8>, AllocError> {
+/// Whether a pool is sound, and its bytes are these.
+fn has_bytes(alloc: Global, pool: &Pool, wanted: &[u8]) -> Result<bool, AllocError> {
     let mut bytes = Vec::new(alloc);
-    if pool.check().is_ok() {
-        pool.write(&mut bytes)?;
-    }
-    Ok(bytes)
+    pool.write(&mut bytes)?;
+    Ok(pool.check().is_ok() && bytes.as_slice() == wanted)
+}
+
+/// Whether E's pool is read, up to the bytes behind it, and written again.
+fn comes_back(alloc: Global) -> Result<bool, ReadError> {
+    let (pool, rest) = Pool::read(alloc, &BYTES)?;
+    let is_whole = rest == [0, 33, 0, 2].as_slice() && is_of_e(&pool);
+    Ok(is_whole && has_bytes(alloc, &pool, &BYTES[..56])?)
 }
 
 #[test]
-fn a_pool_is_written(rt: HostRuntime) -> Result<(), Fail> {
-    let (pool, _) = Pool::read(rt.alloc(), &BYTES)?;
-    assert_eq!(rt; written(rt.alloc(), &pool)?.as_slice(), &BYTES[..56]);
-    Ok(())
+fn a_pool_is_read_and_written(rt: HostRuntime) {
+    assert!(rt; comes_back(rt.alloc()) == Ok(true));
 }
 
 /// Why bytes are no pool.
@@ -55,58 +53,58 @@ fn fault(alloc: Global, bytes: &[u8]) -> Option<FormatFault> {
     }
 }
 
+/// Bytes, and why they are no pool.
+const FAULTS: &[(&[u8], Option<FormatFault>)] = &[
+    // no count, and a count of 0
+    (&[0], Some(FormatFault::Short)),
+    (&[0, 0], Some(FormatFault::Index)),
+    // the pool of no entry
+    (&[0, 1], None),
+    // a Float; a text longer than the file, before its bytes are looked at; NUL; a byte past 7F
+    (&[0, 2, 4, 0, 0, 0, 0], Some(FormatFault::Tag)),
+    (&[0, 2, 1, 0, 2, 0], Some(FormatFault::Short)),
+    (&[0, 2, 1, 0, 1, 0], Some(FormatFault::Name)),
+    (&[0, 2, 1, 0, 1, 0x80], Some(FormatFault::Name)),
+    // a Long in the last number is told at its tag
+    (&[0, 2, 5], Some(FormatFault::Index)),
+    (&[0, 3, 5], Some(FormatFault::Short)),
+    // a class that names its own entry, the second of a long, and a text that is no name
+    (&[0, 2, 7, 0, 1], Some(FormatFault::Index)),
+    (
+        &[0, 4, 5, 0, 0, 0, 0, 0, 0, 0, 0, 7, 0, 2],
+        Some(FormatFault::Index),
+    ),
+    (&[0, 3, 1, 0, 1, b'/', 7, 0, 1], Some(FormatFault::Name)),
+    // E, its class, the texts a and ()V, both together, and a member of them: a method, a field, an interface's
+    // method, and one that names E as its class
+    (
+        b"\0\x07\x01\0\x01E\x07\0\x01\x01\0\x01a\x01\0\x03()V\x0c\0\x03\0\x04\x0a\0\x02\0\x05",
+        None,
+    ),
+    (
+        b"\0\x07\x01\0\x01E\x07\0\x01\x01\0\x01a\x01\0\x03()V\x0c\0\x03\0\x04\x09\0\x02\0\x05",
+        Some(FormatFault::Name),
+    ),
+    (
+        b"\0\x07\x01\0\x01E\x07\0\x01\x01\0\x01a\x01\0\x03()V\x0c\0\x03\0\x04\x0b\0\x02\0\x05",
+        None,
+    ),
+    (
+        b"\0\x07\x01\0\x01E\x07\0\x01\x01\0\x01a\x01\0\x03()V\x0c\0\x03\0\x04\x0b\0\x01\0\x05",
+        Some(FormatFault::Index),
+    ),
+];
+
 #[test]
 fn faults(rt: HostRuntime) {
-    for (bytes, wanted) in [
-        // no count, and a count of 0
-        ([0].as_slice(), Some(FormatFault::Short)),
-        ([0, 0].as_slice(), Some(FormatFault::Index)),
-        // the pool of no entry
-        ([0, 1].as_slice(), None),
-        // a Float; a text longer than the file, before its bytes are looked at; NUL; a byte past 7F
-        ([0, 2, 4, 0, 0, 0, 0].as_slice(), Some(FormatFault::Tag)),
-        ([0, 2, 1, 0, 2, 0].as_slice(), Some(FormatFault::Short)),
-        ([0, 2, 1, 0, 1, 0].as_slice(), Some(FormatFault::Name)),
-        ([0, 2, 1, 0, 1, 0x80].as_slice(), Some(FormatFault::Name)),
-        // a Long in the last number is told at its tag
-        ([0, 2, 5].as_slice(), Some(FormatFault::Index)),
-        ([0, 3, 5].as_slice(), Some(FormatFault::Short)),
-        // a class that names its own entry, the second of a long, and a text that is no name
-        ([0, 2, 7, 0, 1].as_slice(), Some(FormatFault::Index)),
-        (
-            [0, 4, 5, 0, 0, 0, 0, 0, 0, 0, 0, 7, 0, 2].as_slice(),
-            Some(FormatFault::Index),
-        ),
-        (
-            [0, 3, 1, 0, 1, b'/', 7, 0, 1].as_slice(),
-            Some(FormatFault::Name),
-        ),
-    ] {
-        assert_eq!(rt; fault(rt.alloc(), bytes), wanted);
-    }
-}
-
-/// E, its class, the texts a and ()V, both together, and a member of them: a method, a field, an interface's method,
-/// and one that names E as its class.
-#[test]
-fn members_of_each_kind(rt: HostRuntime) {
-    for (tag, class, wanted) in [
-        (10u8, 2u8, None),
-        (9, 2, Some(FormatFault::Name)),
-        (11, 2, None),
-        (11, 1, Some(FormatFault::Index)),
-    ] {
-        let bytes = [
-            0, 7, 1, 0, 1, b'E', 7, 0, 1, 1, 0, 1, b'a', 1, 0, 3, b'(', b')', b'V', 12, 0, 3, 0, 4,
-            tag, 0, class, 0, 5,
-        ];
-        assert_eq!(rt; fault(rt.alloc(), &bytes), wanted);
+    for (bytes, wanted) in FAULTS {
+        assert!(rt; fault(rt.alloc(), bytes) == *wanted);
     }
 }
 
 /// An entry of a row.
 #[derive(Clone, Copy)]
-enum Word {
+pub enum Word {
     Text(&'static str),
     Class(u16),
     Both(u16, u16),
@@ -128,59 +126,167 @@ fn entry(alloc: Global, word: Word) -> Result<Entry, AllocError> {
     })
 }
 
-/// Adds entries, each of which is to have the number beside it.
-fn add(
-    rt: &impl Abort,
+/// What entries are to come to.
+#[derive(Clone, Copy)]
+enum Wanted {
+    /// The pool of E.
+    E,
+    /// A pool with this count.
+    Count(u16),
+    /// A pool with `vm/Sys/print(I)V` and two constants.
+    Print,
+    /// No pool.
+    Fault(FormatFault),
+}
+
+/// Rows of entries, each with the number that it is to have.
+const E: &[(Word, u16)] = &[
+    (Word::Text("E"), 1),
+    (Word::Class(1), 2),
+    (Word::Text("java/lang/Object"), 3),
+    (Word::Class(3), 4),
+    // both were added
+    (Word::Text("E"), 1),
+    (Word::Class(1), 2),
+    (Word::Text("main"), 5),
+    (Word::Text("()V"), 6),
+    (Word::Text("Code"), 7),
+    (Word::Both(5, 6), 8),
+];
+
+/// An entry that is there has its number still, and another one the next.
+const KEPT: &[(Word, u16)] = &[
+    (Word::Text("E"), 1),
+    (Word::Class(1), 2),
+    (Word::Text("java/lang/Object"), 3),
+    (Word::Class(3), 4),
+    (Word::Text("main"), 5),
+    (Word::Text("()V"), 6),
+    (Word::Text("Code"), 7),
+    (Word::Class(3), 4),
+    (Word::Class(5), 8),
+];
+
+/// A long takes two numbers.
+const LONGS: &[(Word, u16)] = &[
+    (Word::Long(7), 1),
+    (Word::Int(7), 3),
+    (Word::Long(-7), 4),
+    (Word::Long(7), 1),
+    (Word::Int(-7), 6),
+];
+
+const PRINT: &[(Word, u16)] = &[
+    (Word::Text("vm/Sys"), 1),
+    (Word::Class(1), 2),
+    (Word::Text("print"), 3),
+    (Word::Text("(I)V"), 4),
+    (Word::Both(3, 4), 5),
+    (Word::Method(2, 5), 6),
+    (Word::Long(-7), 7),
+    (Word::Int(8), 9),
+];
+
+/// A class that names no text, one whose name is none, and a reference that names itself.
+const NO_TEXT: &[(Word, u16)] = &[(Word::Class(2), 1)];
+
+const NO_NAME: &[(Word, u16)] = &[(Word::Class(2), 1), (Word::Text("E/"), 2)];
+
+const ITSELF: &[(Word, u16)] = &[(Word::Field(1, 1), 1)];
+
+/// A byte past 7F is told before the class that names nothing.
+const PAST_7F: &[(Word, u16)] = &[(Word::Class(9), 1), (Word::Text("\u{80}"), 2)];
+
+const TEXT: &[(Word, u16)] = &[(Word::Text("E/"), 1)];
+
+/// Whether entries that were added have their numbers, and one that wasn't has none.
+fn knows(alloc: Global, builder: &PoolBuilder, rows: &[(Word, u16)]) -> Result<bool, AllocError> {
+    for (word, number) in rows {
+        if builder.number(&entry(alloc, *word)?) != Some(*number) {
+            return Ok(false);
+        }
+    }
+    Ok(builder.number(&Entry::Class(4)).is_none())
+}
+
+/// Adds entries; whether each has the number beside it, then and at the end.
+pub fn add(
     alloc: Global,
     builder: &mut PoolBuilder,
     rows: &[(Word, u16)],
-) -> Result<(), Fail> {
+) -> Result<bool, AllocError> {
     for (word, number) in rows {
-        assert_eq!(rt; builder.add(entry(alloc, *word)?), Ok(*number));
+        if builder.add(entry(alloc, *word)?) != Ok(*number) {
+            return Ok(false);
+        }
     }
-    Ok(())
+    knows(alloc, builder, rows)
 }
 
-#[test]
-fn a_pool_entry_by_entry(rt: HostRuntime) -> Result<(), Fail> {
-    let mut builder = PoolBuilder::new(rt.alloc());
-    let rows = [
-        (Word::Text("E"), 1),
-        (Word::Class(1), 2),
-        (Word::Text("java/lang/Object"), 3),
-        (Word::Class(3), 4),
-        // both were added
-        (Word::Text("E"), 1),
-        (Word::Class(1), 2),
-        (Word::Text("main"), 5),
-        (Word::Text("()V"), 6),
-        (Word::Text("Code"), 7),
-        (Word::Both(5, 6), 8),
-    ];
-    add(&rt, rt.alloc(), &mut builder, rows.as_slice())?;
-    let numbers = (
-        builder.number(&Entry::Class(3)),
-        builder.number(&Entry::Class(4)),
-    );
-    assert_eq!(rt; numbers, (Some(4), None));
-    let pool = builder.finish()?;
-    assert_eq!(rt; written(rt.alloc(), &pool)?.as_slice(), &BYTES[..56]);
-    Ok(())
+/// Whether a member is `vm/Sys/print(I)V`.
+fn is_print(member: &Member) -> bool {
+    member.class.is("vm/Sys") && member.name.is("print") && member.descriptor.is("(I)V")
 }
 
+/// Whether a pool has `vm/Sys/print(I)V` as number 6.
+fn has_print(pool: &Pool) -> Result<bool, AllocError> {
+    Ok(pool.name(3)?.is("print") && pool.class_name(2)?.is("vm/Sys") && is_print(&pool.member(6)?))
+}
+
+/// Whether a pool has a long as number 7, an int as 9, and no constant as 2.
+fn has_constants(pool: &Pool) -> bool {
+    (pool.long(7), pool.int(9)) == (-7, 8)
+        && pool.value(7) == Some(Constant::Long(-7))
+        && pool.value(9) == Some(Constant::Int(8))
+        && pool.value(2).is_none()
+}
+
+fn is_pool(alloc: Global, pool: &Pool, wanted: Wanted) -> Result<bool, AllocError> {
+    match wanted {
+        Wanted::E => has_bytes(alloc, pool, &BYTES[..56]),
+        Wanted::Count(count) => Ok(pool.count() == count),
+        Wanted::Print => Ok(has_print(pool)? && has_constants(pool)),
+        Wanted::Fault(_) => Ok(false),
+    }
+}
+
+fn is_refusal(error: ReadError, wanted: Wanted) -> bool {
+    match (error, wanted) {
+        (ReadError::Format(fault), Wanted::Fault(wanted)) => fault == wanted,
+        _ => false,
+    }
+}
+
+/// Whether entries have their numbers, and come to what is wanted.
+fn come_to(alloc: Global, rows: &[(Word, u16)], wanted: Wanted) -> Result<bool, AllocError> {
+    let mut builder = PoolBuilder::new(alloc);
+    if !add(alloc, &mut builder, rows)? {
+        return Ok(false);
+    }
+    match builder.finish() {
+        Ok(pool) => is_pool(alloc, &pool, wanted),
+        Err(error) => Ok(is_refusal(error, wanted)),
+    }
+}
+
+/// Entries with what they come to.
+const POOLS: &[(&[(Word, u16)], Wanted)] = &[
+    (E, Wanted::E),
+    (KEPT, Wanted::Count(9)),
+    (LONGS, Wanted::Count(7)),
+    (PRINT, Wanted::Print),
+    (NO_TEXT, Wanted::Fault(FormatFault::Index)),
+    (NO_NAME, Wanted::Fault(FormatFault::Name)),
+    (ITSELF, Wanted::Fault(FormatFault::Index)),
+    (PAST_7F, Wanted::Fault(FormatFault::Name)),
+    (TEXT, Wanted::Count(2)),
+];
+
 #[test]
-fn a_long_takes_two_numbers(rt: HostRuntime) -> Result<(), Fail> {
-    let mut builder = PoolBuilder::new(rt.alloc());
-    let rows = [
-        (Word::Long(7), 1),
-        (Word::Int(7), 3),
-        (Word::Long(-7), 4),
-        (Word::Long(7), 1),
-        (Word::Int(-7), 6),
-    ];
-    add(&rt, rt.alloc(), &mut builder, rows.as_slice())?;
-    assert_eq!(rt; builder.finish()?.count(), 7);
-    Ok(())
+fn pools_entry_by_entry(rt: HostRuntime) {
+    for (rows, wanted) in POOLS {
+        assert!(rt; come_to(rt.alloc(), rows, *wanted) == Ok(true));
+    }
 }
 
 /// A builder with so many ints.
@@ -192,92 +298,27 @@ fn with_ints(alloc: Global, count: i32) -> PoolBuilder {
     builder
 }
 
-#[test]
-fn a_full_pool(rt: HostRuntime) {
-    let mut builder = with_ints(rt.alloc(), 65533);
-    for (word, wanted) in [
-        (Entry::Long(0), Err(AddError::Full)),
-        (Entry::Integer(-1), Ok(65534)),
-        (Entry::Integer(-2), Err(AddError::Full)),
-        // what is there has its number still
-        (Entry::Integer(65532), Ok(65533)),
-    ] {
-        assert_eq!(rt; builder.add(word), wanted);
-    }
-    assert_eq!(rt; builder.finish().ok().map(|pool| pool.count()), Some(65535));
+/// Whether one number more is all that a builder has room for, and what is there has its number still.
+fn fills(builder: &mut PoolBuilder) -> bool {
+    builder.add(Entry::Long(0)) == Err(AddError::Full)
+        && builder.add(Entry::Integer(-1)) == Ok(65534)
+        && builder.add(Entry::Integer(-2)) == Err(AddError::Full)
+        && builder.add(Entry::Integer(65532)) == Ok(65533)
 }
 
-/// Why these entries are no pool.
-fn refusal(alloc: Global, words: &[Word]) -> Result<Option<FormatFault>, Fail> {
-    let mut builder = PoolBuilder::new(alloc);
-    for word in words {
-        builder.add(entry(alloc, *word)?)?;
+/// The count of the pool that is full.
+fn full_count(alloc: Global) -> Option<u16> {
+    let mut builder = with_ints(alloc, 65533);
+    if !fills(&mut builder) {
+        return None;
     }
-    Ok(match builder.finish() {
-        Err(ReadError::Format(fault)) => Some(fault),
-        _ => None,
-    })
+    match builder.finish() {
+        Ok(pool) => Some(pool.count()),
+        Err(_) => None,
+    }
 }
 
 #[test]
-fn entries_that_are_no_pool(rt: HostRuntime) -> Result<(), Fail> {
-    for (words, wanted) in [
-        // a class that names no text, one whose name is none, and a reference that names itself
-        ([Word::Class(2)].as_slice(), Some(FormatFault::Index)),
-        (
-            [Word::Class(2), Word::Text("E/")].as_slice(),
-            Some(FormatFault::Name),
-        ),
-        ([Word::Field(1, 1)].as_slice(), Some(FormatFault::Index)),
-        // a byte past 7F is told before the class that names nothing
-        (
-            [Word::Class(9), Word::Text("\u{80}")].as_slice(),
-            Some(FormatFault::Name),
-        ),
-        ([Word::Text("E/")].as_slice(), None),
-    ] {
-        assert_eq!(rt; refusal(rt.alloc(), words)?, wanted);
-    }
-    Ok(())
-}
-
-/// Entries for `vm/Sys/print(I)V` as number 6, a long as 7 and an int as 9.
-fn print_and_numbers(rt: &impl Abort, alloc: Global) -> Result<Pool, Fail> {
-    let mut builder = PoolBuilder::new(alloc);
-    let rows = [
-        (Word::Text("vm/Sys"), 1),
-        (Word::Class(1), 2),
-        (Word::Text("print"), 3),
-        (Word::Text("(I)V"), 4),
-        (Word::Both(3, 4), 5),
-        (Word::Method(2, 5), 6),
-        (Word::Long(-7), 7),
-        (Word::Int(8), 9),
-    ];
-    add(rt, alloc, &mut builder, rows.as_slice())?;
-    Ok(builder.finish()?)
-}
-
-#[test]
-fn what_numbers_name(rt: HostRuntime) -> Result<(), Fail> {
-    let pool = print_and_numbers(&rt, rt.alloc())?;
-    assert!(rt; pool.name(3)?.is("print"));
-    assert!(rt; pool.class_name(2)?.is("vm/Sys"));
-    let print = pool.member(6)?;
-    assert!(rt; print.class.is("vm/Sys") && print.name.is("print") && print.descriptor.is("(I)V"));
-    Ok(())
-}
-
-#[test]
-fn what_constants_have_numbers(rt: HostRuntime) -> Result<(), Fail> {
-    let pool = print_and_numbers(&rt, rt.alloc())?;
-    assert_eq!(rt; (pool.long(7), pool.int(9)), (-7, 8));
-    for (number, wanted) in [
-        (7u16, Some(Constant::Long(-7))),
-        (9, Some(Constant::Int(8))),
-        (2, None),
-    ] {
-        assert_eq!(rt; pool.value(number), wanted);
-    }
-    Ok(())
+fn a_full_pool(rt: HostRuntime) {
+    assert!(rt; full_count(rt.alloc()) == Some(65535));
 }

@@ -2,13 +2,13 @@
 ghost use Rattle.std.specs.Prelude.{◌≡◌, [], IfOk, All, length, vec_len};
 ghost use Rattle.board.specs.Seats.{IsSeatOf};
 
-use crate::mains::{Op, has_rows, nops, program};
+use crate::mains::{ARRAYS, has_rows, nops, program, world_on};
 use board::{Board, BoardSeat};
-use hall::{Gate, Hall, HallError, Role, drive};
-use model::journals::{HeapShape, Limits, Outcome, Row};
+use hall::{Gate, Hall, HallError, Role, Share, drive};
+use model::journals::{Limits, Outcome, Row};
 use model::turns::{Actor, Status, Turn};
 use scheduler::worlds::World;
-use std::alloc::Global;
+use std::alloc::{AllocError, Global};
 use std::marker::Brand;
 use std::sync::ledger::{Blank, Ledger};
 use std::sync::{Mutex, Wait};
@@ -16,206 +16,186 @@ use std::test::Fail;
 use std::thread;
 use std::thread::Threads;
 
-/// A world that has made no turn, whose main has so many instructions before its return.
-fn world_of(alloc: Global, count: u16, steps: u32) -> Result<World, Fail>
-    ensures { IfOk result (λ world. world.journal.rows ≡ []) }
-{
-    let shape = HeapShape {
-        small: 2,
-        medium: 0,
-        large: 0,
-    };
-    let limits = Limits { steps, output: 0 };
-    Ok(World::new(alloc, nops(alloc, count)?, shape, limits)?)
+/// A worker's turn, with what it is answered.
+type Answer = (usize, Turn, Status);
+
+/// A main with so much stack, its small cells and its limit of rows; the roles of its workers, their turns in order,
+/// how many rows the first and the last of them have made then, and the journal's rows.
+#[derive(Clone, Copy)]
+struct Day {
+    lines: &'static str,
+    stack: u16,
+    small: u32,
+    steps: u32,
+    roles: &'static [Role],
+    turns: &'static [Answer],
+    made: (u64, u64),
+    rows: &'static [Row],
 }
 
-/// What a carrier and a collector are answered in turn, with how many rows each made, and the world afterwards.
-fn carrier_and_collector<L: Ledger, R: Wait>(
+const MAIN: Row = Row {
+    actor: Actor::Thread(0),
+    outcome: Outcome::Done,
+    worker: 0,
+};
+
+/// Main makes an object.
+const MAKES: Row = Row {
+    actor: Actor::Thread(0),
+    outcome: Outcome::Object,
+    worker: 0,
+};
+
+const FIRST_COLLECTS: Row = Row {
+    actor: Actor::Collector,
+    outcome: Outcome::Done,
+    worker: 0,
+};
+
+const SECOND_COLLECTS: Row = Row {
+    actor: Actor::Collector,
+    outcome: Outcome::Done,
+    worker: 1,
+};
+
+/// A carrier and a collector take turns.
+const SHIFTS: Day = Day {
+    lines: "nop\nreturn\n",
+    stack: 0,
+    small: 2,
+    steps: 1000,
+    roles: &[Role::Carrier, Role::Collector],
+    turns: &[
+        (1, Turn::Done, Status::Running),
+        (1, Turn::NotReady, Status::Running),
+        (0, Turn::Done, Status::Running),
+        (0, Turn::Done, Status::Finished),
+        (1, Turn::Done, Status::Finished),
+        (0, Turn::NotReady, Status::Finished),
+    ],
+    made: (2, 2),
+    rows: &[SECOND_COLLECTS, MAIN, MAIN, SECOND_COLLECTS],
+};
+
+/// A carrier waits where a collection is due: two cells of four are free, so that one object may be made before the
+/// collector has its turn.
+const DUE: Day = Day {
+    lines: ARRAYS,
+    stack: 1,
+    small: 4,
+    steps: 100,
+    roles: &[Role::Carrier, Role::Collector],
+    turns: &[
+        (0, Turn::Done, Status::Running),
+        (0, Turn::Done, Status::Running),
+        (0, Turn::NotReady, Status::Running),
+        (1, Turn::Done, Status::Running),
+        (1, Turn::NotReady, Status::Running),
+        (0, Turn::Done, Status::Running),
+    ],
+    made: (3, 1),
+    rows: &[MAIN, MAKES, SECOND_COLLECTS, MAIN],
+};
+
+/// Collector turns follow a done turn while the world runs.
+const ALONE: Day = Day {
+    lines: "nop\nreturn\n",
+    stack: 0,
+    small: 2,
+    steps: 1000,
+    roles: &[Role::Both { gc: 2 }],
+    turns: &[
+        (0, Turn::Done, Status::Running),
+        (0, Turn::Done, Status::Finished),
+        (0, Turn::NotReady, Status::Finished),
+    ],
+    made: (4, 4),
+    rows: &[MAIN, FIRST_COLLECTS, FIRST_COLLECTS, MAIN],
+};
+
+/// Whether workers are answered so.
+fn are_answered<L: Ledger, R: Wait>(
+    rt: &R,
+    hall: &Hall<L>,
+    shares: &mut [Share<L>],
+    turns: &[Answer],
+) -> bool {
+    for (worker, turn, status) in turns {
+        let Some(share) = shares.get_mut(*worker) else {
+            return false;
+        };
+        if hall.turn_for(rt, share) != (*turn, *status) {
+            return false;
+        }
+    }
+    true
+}
+
+/// How many rows the first worker and the last one have made.
+fn counts<L: Ledger>(shares: &[Share<L>]) -> Option<(u64, u64)> {
+    Some((shares.first()?.count(), shares.last()?.count()))
+}
+
+/// Whether a world's journal is of so many workers and has these rows.
+fn has_journal(world: &World, workers: usize, rows: &[Row]) -> bool {
+    usize::from(world.journal().workers()) == workers && has_rows(world, rows)
+}
+
+/// Whether a day in a hall goes so.
+fn goes_so<L: Ledger, R: Wait>(
     rt: &R,
     alloc: Global,
     blank: Blank,
     world: World,
-) -> Result<([(Turn, Status); 6], (u64, u64), World), HallError>
+    day: &Day,
+) -> Result<bool, HallError>
     requires name { blank.name ≡ L.name }
-    requires parts { (blank.parts ≡ L.parts) × (blank.parts ≡ 2) }
+    requires parts { (blank.parts ≡ L.parts) × (blank.parts ≡ length day.now.roles.now) }
     requires empty { world.journal.rows ≡ [] }
 {
-    let roles = [Role::Carrier, Role::Collector];
-    let (hall, mut shares) = Hall::<L>::new(alloc, blank, world, roles.as_slice())?;
-    let (Some(mut collector), Some(mut carrier)) = (shares.pop(), shares.pop()) else {
-        return Err(HallError::World);
-    };
-    let answers = [
-        hall.turn_for(rt, &mut collector),
-        hall.turn_for(rt, &mut collector),
-        hall.turn_for(rt, &mut carrier),
-        hall.turn_for(rt, &mut carrier),
-        hall.turn_for(rt, &mut collector),
-        hall.turn_for(rt, &mut carrier),
-    ];
-    let counts = (carrier.count(), collector.count());
-    let world = hall.close(vec![in alloc; collector, carrier]?)?;
-    Ok((answers, counts, world))
-}
-
-fn row(actor: Actor, worker: u8) -> Row {
-    Row {
-        actor,
-        outcome: Outcome::Done,
-        worker,
+    let (hall, mut shares) = Hall::<L>::new(alloc, blank, world, day.roles)?;
+    let is_told = are_answered(rt, &hall, &mut shares, day.turns);
+    let is_counted = counts(&shares) == Some(day.made);
+    if shares.len() != day.roles.len() {
+        return Ok(false);
     }
+    let world = hall.close(shares)?;
+    Ok(is_told & is_counted & has_journal(&world, day.roles.len(), day.rows))
 }
 
-const MAIN: Actor = Actor::Thread(0);
-
-#[test]
-fn a_carrier_and_a_collector_take_turns(rt: HostRuntime) -> Result<(), Fail> {
-    let world = world_of(rt.alloc(), 1, 1000)?;
-    let (answers, counts, world) = carrier_and_collector::<Brand, HostRuntime>(
-        &rt,
-        rt.alloc(),
-        Blank::new(2),
-        world,
-    )?;
-    assert_eq!(rt;
-        answers,
-        [
-            (Turn::Done, Status::Running),
-            (Turn::NotReady, Status::Running),
-            (Turn::Done, Status::Running),
-            (Turn::Done, Status::Finished),
-            (Turn::Done, Status::Finished),
-            (Turn::NotReady, Status::Finished)
-        ]
-    );
-    assert_eq!(rt; counts, (2, 2));
-    let collected = row(Actor::Collector, 1);
-    let rows = [collected, row(MAIN, 0), row(MAIN, 0), collected];
-    assert!(rt; has_rows(&world, rows.as_slice()));
-    assert_eq!(rt; world.journal().workers(), 2);
-    Ok(())
-}
-
-/// A world that has made no turn, on a heap of four small cells, whose main makes two arrays.
-fn world_of_arrays(alloc: Global) -> Result<World, Fail>
+/// The world in which a day begins.
+fn world_of(alloc: Global, day: &Day) -> Result<World, Fail>
     ensures { IfOk result (λ world. world.journal.rows ≡ []) }
 {
-    let ops = [
-        Op::One,
-        Op::NewInts,
-        Op::Pop,
-        Op::One,
-        Op::NewInts,
-        Op::Pop,
-        Op::Return,
-    ];
-    let program = program(alloc, 1, ops.as_slice())?;
-    let shape = HeapShape {
-        small: 4,
-        medium: 0,
-        large: 0,
-    };
     let limits = Limits {
-        steps: 100,
+        steps: day.steps,
         output: 0,
     };
-    Ok(World::new(alloc, program, shape, limits)?)
-}
-
-/// What a carrier is answered until a collection is due and once more, what the collector then, and the carrier behind
-/// it.
-fn due_collection<L: Ledger, R: Wait>(
-    rt: &R,
-    alloc: Global,
-    blank: Blank,
-    world: World,
-) -> Result<([Turn; 6], World), HallError>
-    requires name { blank.name ≡ L.name }
-    requires parts { (blank.parts ≡ L.parts) × (blank.parts ≡ 2) }
-    requires empty { world.journal.rows ≡ [] }
-{
-    let roles = [Role::Carrier, Role::Collector];
-    let (hall, mut shares) = Hall::<L>::new(alloc, blank, world, roles.as_slice())?;
-    let (Some(mut collector), Some(mut carrier)) = (shares.pop(), shares.pop()) else {
-        return Err(HallError::World);
-    };
-    let answers = [
-        hall.turn_for(rt, &mut carrier).0,
-        hall.turn_for(rt, &mut carrier).0,
-        hall.turn_for(rt, &mut carrier).0,
-        hall.turn_for(rt, &mut collector).0,
-        hall.turn_for(rt, &mut collector).0,
-        hall.turn_for(rt, &mut carrier).0,
-    ];
-    let world = hall.close(vec![in alloc; collector, carrier]?)?;
-    Ok((answers, world))
-}
-
-/// Two cells of four are free, so that one object may be made before the collector has its turn.
-#[test]
-fn a_carrier_waits_where_a_collection_is_due(rt: HostRuntime) -> Result<(), Fail> {
-    let world = world_of_arrays(rt.alloc())?;
-    let (answers, world) = due_collection::<Brand, HostRuntime>(
-        &rt,
-        rt.alloc(),
-        Blank::new(2),
-        world,
-    )?;
-    let (done, none) = (Turn::Done, Turn::NotReady);
-    assert_eq!(rt; answers, [done, done, none, done, none, done]);
-    assert_eq!(rt; world.journal().rows().len(), 4);
-    Ok(())
-}
-
-/// What a worker of this role is answered three times, and the world afterwards.
-fn alone<L: Ledger, R: Wait>(
-    rt: &R,
-    alloc: Global,
-    blank: Blank,
-    world: World,
-    role: Role,
-) -> Result<([(Turn, Status); 3], World), HallError>
-    requires name { blank.name ≡ L.name }
-    requires parts { (blank.parts ≡ L.parts) × (blank.parts ≡ 1) }
-    requires empty { world.journal.rows ≡ [] }
-{
-    let roles = [role];
-    let (hall, mut shares) = Hall::<L>::new(alloc, blank, world, roles.as_slice())?;
-    let Some(mut share) = shares.pop() else {
-        return Err(HallError::World);
-    };
-    let answers = [
-        hall.turn_for(rt, &mut share),
-        hall.turn_for(rt, &mut share),
-        hall.turn_for(rt, &mut share),
-    ];
-    let world = hall.close(vec![in alloc; share]?)?;
-    Ok((answers, world))
+    world_on(
+        alloc,
+        program(alloc, day.stack, day.lines)?,
+        day.small,
+        limits,
+    )
 }
 
 #[test]
-fn collector_turns_follow_a_done_turn_while_the_world_runs(rt: HostRuntime) -> Result<(), Fail> {
-    let world = world_of(rt.alloc(), 1, 1000)?;
-    let role = Role::Both { gc: 2 };
-    let (answers, world) = alone::<Brand, HostRuntime>(
-        &rt,
-        rt.alloc(),
-        Blank::new(1),
-        world,
-        role,
-    )?;
-    assert_eq!(rt;
-        answers,
-        [
-            (Turn::Done, Status::Running),
-            (Turn::Done, Status::Finished),
-            (Turn::NotReady, Status::Finished)
-        ]
-    );
-    let collected = row(Actor::Collector, 0);
-    let rows = [row(MAIN, 0), collected, collected, row(MAIN, 0)];
-    assert!(rt; has_rows(&world, rows.as_slice()));
+fn days_go_so(rt: HostRuntime) -> Result<(), Fail> {
+    for day in [SHIFTS, DUE, ALONE] {
+        let world = world_of(rt.alloc(), &day)?;
+        let blank = Blank::new(day.roles.len() as u64);
+        let goes = goes_so::<Brand, HostRuntime>(&rt, rt.alloc(), blank, world, &day)?;
+        assert!(rt; goes, "{}", day.lines);
+    }
     Ok(())
+}
+
+/// A world that has made no turn, whose main has so many instructions before its return.
+fn world_of_nops(alloc: Global, count: usize, steps: u32) -> Result<World, Fail>
+    ensures { IfOk result (λ world. world.journal.rows ≡ []) }
+{
+    let limits = Limits { steps, output: 0 };
+    world_on(alloc, nops(alloc, count)?, 2, limits)
 }
 
 /// How many shares a hall for these roles has.
@@ -233,10 +213,17 @@ fn shares_for<L: Ledger>(
     Ok(shares.len())
 }
 
+/// What users are told of these errors, one after another.
+fn codes(alloc: Global) -> Result<String, AllocError> {
+    let (roles, memory) = (HallError::Roles, HallError::Memory);
+    let (thread, world) = (HallError::Thread, HallError::World);
+    format!(in alloc; "{roles} {memory} {thread} {world}")
+}
+
 #[test]
 fn one_to_nine_roles_have_a_hall(rt: HostRuntime) -> Result<(), Fail> {
     for (roles, told) in [(0usize, "H1"), (1, ""), (9, ""), (10, "H1")] {
-        let world = world_of(rt.alloc(), 1, 1)?;
+        let world = world_of_nops(rt.alloc(), 1, 1)?;
         let all = [Role::Carrier; 10];
         let roles = &all[..roles];
         let blank = Blank::new(roles.len() as u64);
@@ -250,12 +237,7 @@ fn one_to_nine_roles_have_a_hall(rt: HostRuntime) -> Result<(), Fail> {
         };
         assert_eq!(rt; answer, told);
     }
-    let (roles, memory) = (HallError::Roles, HallError::Memory);
-    let (thread, world) = (HallError::Thread, HallError::World);
-    assert_eq!(rt;
-        format!(in rt.alloc(); "{roles} {memory} {thread} {world}")?.as_str(),
-        "H1 H2 H3 H4"
-    );
+    assert!(rt; codes(rt.alloc())?.as_str() == "H1 H2 H3 H4");
     Ok(())
 }
 
@@ -328,13 +310,13 @@ fn board_of(alloc: Global, workers: usize) -> Result<(Board, Vec<BoardSeat>), Ha
     }
 }
 
-/// How many rows each of two carriers and a collector made, and whether none gave up, with the world afterwards.
+/// How many rows each of two carriers and a collector made, whether none gave up, and how many rows there are.
 fn three_at_once<L: Ledger + Send + Sync, R: Threads + Wait + Sync>(
     rt: &R,
     alloc: Global,
     blank: Blank,
     world: World,
-) -> Result<([u64; 3], bool, World), HallError>
+) -> Result<([u64; 3], bool, usize), HallError>
     requires name { blank.name ≡ L.name }
     requires parts { (blank.parts ≡ L.parts) × (blank.parts ≡ 3) }
     requires empty { world.journal.rows ≡ [] }
@@ -361,23 +343,18 @@ fn three_at_once<L: Ledger + Send + Sync, R: Threads + Wait + Sync>(
         [a, b, c] => [a.count(), b.count(), c.count()],
         _ => [0; 3],
     };
-    Ok((counts, met, hall.close(shares)?))
+    let world = hall.close(shares)?;
+    Ok((counts, met, world.journal().rows().len()))
 }
 
 #[test]
 fn workers_work_beside_each_other(rt: HostRuntime) -> Result<(), Fail> {
-    let world = world_of(rt.alloc(), 10_000, 5_000)?;
-    let (counts, met, world) = three_at_once::<Brand, HostRuntime>(
-        &rt,
-        rt.alloc(),
-        Blank::new(3),
-        world,
-    )?;
-    assert!(rt; met);
+    let world = world_of_nops(rt.alloc(), 10_000, 5_000)?;
+    let blank = Blank::new(3);
+    let (counts, met, rows) = three_at_once::<Brand, HostRuntime>(&rt, rt.alloc(), blank, world)?;
     let [first, second, collector] = counts;
-    assert!(rt; first > 0 && second > 0 && collector > 0);
     let all = first.saturating_add(second).saturating_add(collector);
-    assert_eq!(rt; all, 5_000);
-    assert_eq!(rt; world.journal().rows().len(), 5_000);
+    assert!(rt; met && first > 0 && second > 0 && collector > 0);
+    assert!(rt; all == 5_000 && rows == 5_000);
     Ok(())
 }

@@ -1,51 +1,26 @@
 //! Programs that make objects: births, cells, colours and rows after turns of threads and the collector. What they come
 //! to is worked out by hand from the collector's step (CACM 21(11)) and the JVMS (6.5).
 
-use loader::accept;
-use loader::programs::Program;
+use crate::mains::{program_of, world_on};
 use model::colours::{Colour, Phase};
-use model::journals::{HeapShape, Limits, Outcome};
+use model::journals::{Limits, Outcome};
 use model::turns::Actor;
 use scheduler::worlds::World;
 use std::alloc::{AllocError, Global};
-use std::process::Abort;
 use std::test::Fail;
 
 const MAIN: Actor = Actor::Thread(0);
 
 const GC: Actor = Actor::Collector;
 
-const ONE_OBJECT: &[u8] =
-    b".class K\n.super java/lang/Object\n.field x I\n.method static main()V\n.limit stack 2\n.limit locals 1\nnew K\nastore_0\naload_0\nbipush 5\nputfield K/x I\naload_0\ngetfield K/x I\ninvokestatic vm/Sys/print(I)V\nreturn\n.end method\n";
+const ONE_OBJECT: &str =
+    ".class K\n.super java/lang/Object\n.field x I\n.method static main()V\n.limit stack 2\n.limit locals 1\nnew K\nastore_0\naload_0\nbipush 5\nputfield K/x I\naload_0\ngetfield K/x I\ninvokestatic vm/Sys/print(I)V\nreturn\n.end method\n";
 
-const LINKED: &[u8] =
-    b".class N\n.super java/lang/Object\n.field x I\n.field next LN;\n.method static main()V\n.limit stack 3\n.limit locals 2\nnew N\nastore_0\nnew N\nastore_1\naload_1\nbipush 7\nputfield N/x I\naload_0\naload_1\nputfield N/next LN;\naconst_null\nastore_1\naload_0\ngetfield N/next LN;\naload_0\naconst_null\nputfield N/next LN;\ngetfield N/x I\ninvokestatic vm/Sys/print(I)V\nreturn\n.end method\n";
+const LINKED: &str =
+    ".class N\n.super java/lang/Object\n.field x I\n.field next LN;\n.method static main()V\n.limit stack 3\n.limit locals 2\nnew N\nastore_0\nnew N\nastore_1\naload_1\nbipush 7\nputfield N/x I\naload_0\naload_1\nputfield N/next LN;\naconst_null\nastore_1\naload_0\ngetfield N/next LN;\naload_0\naconst_null\nputfield N/next LN;\ngetfield N/x I\ninvokestatic vm/Sys/print(I)V\nreturn\n.end method\n";
 
-const DROPPED: &[u8] =
-    b".class K\n.super java/lang/Object\n.field x I\n.method static main()V\n.limit stack 1\n.limit locals 0\nnew K\npop\nreturn\n.end method\n";
-
-/// The program of one text.
-fn program_of(alloc: Global, text: &[u8]) -> Result<Program, Fail> {
-    let tree = jasmin::read(alloc, text)?;
-    let mut listings = Vec::new(alloc);
-    listings.push(assembler::listing(alloc, &tree)?)?;
-    accept(alloc, listings.as_slice())?;
-    Ok(Program::new(alloc, listings)?)
-}
-
-/// The world of a text on so many small cells.
-fn world_of(alloc: Global, text: &[u8], small: u32) -> Result<World, Fail> {
-    let shape = HeapShape {
-        small,
-        medium: 0,
-        large: 0,
-    };
-    let limits = Limits {
-        steps: 1000,
-        output: 100,
-    };
-    Ok(World::new(alloc, program_of(alloc, text)?, shape, limits)?)
-}
+const DROPPED: &str =
+    ".class K\n.super java/lang/Object\n.field x I\n.method static main()V\n.limit stack 1\n.limit locals 0\nnew K\npop\nreturn\n.end method\n";
 
 /// So many turns of an actor, and what is seen then.
 type Step = (u8, Actor, &'static str);
@@ -82,90 +57,103 @@ fn seen(alloc: Global, world: &World, cell: u32) -> Result<String, AllocError> {
     }
 }
 
-/// Makes the turns of these steps, and compares what is seen of a cell after each.
-fn follow(
-    rt: &impl Abort,
+/// Makes the turns of these steps; whether this is seen of a cell after each.
+fn follows(
     alloc: Global,
     world: &mut World,
     cell: u32,
     steps: &[Step],
-) -> Result<(), AllocError> {
+) -> Result<bool, AllocError> {
     for (turns, actor, wanted) in steps {
         for _turn in 0..*turns {
             let _ = world.turn(*actor);
         }
-        let told = seen(alloc, world, cell)?;
-        assert!(rt; told.as_str() == *wanted);
+        if seen(alloc, world, cell)?.as_str() != *wanted {
+            return Ok(false);
+        }
     }
-    Ok(())
+    Ok(true)
 }
 
-/// Whether a world has printed this, and its journal has so many rows.
-fn has(world: &World, output: &[u8], rows: usize) -> bool {
-    world.output() == output && world.journal().rows().len() == rows
-}
-
-/// The object takes its cell while the collector marks, grey; the collector blackens it in this cycle.
-#[test]
-fn a_new_object_is_marked(rt: HostRuntime) -> Result<(), Fail> {
-    let mut world = world_of(rt.alloc(), ONE_OBJECT, 3)?;
-    let steps = [
-        (8, GC, "free, marking"),
-        (1, MAIN, "3 grey, marking"),
-        (2, GC, "3 black, marking"),
-        (5, GC, "3 white, idle"),
-        (8, MAIN, "3 grey, idle"), // shaded as it is stored
-    ];
-    follow(&rt, rt.alloc(), &mut world, 2, steps.as_slice())?;
-    assert!(rt; has(&world, b"5\n", 24));
-    let row = world.journal().rows().nth(8);
-    assert!(rt; row.is_some_and(|row| row.outcome == Outcome::Object));
-    Ok(())
-}
+/// The object takes its cell while the collector marks, grey; the collector blackens it in this cycle, and it is shaded
+/// as it is stored.
+const MARKED: &[Step] = &[
+    (8, GC, "free, marking"),
+    (1, MAIN, "3 grey, marking"),
+    (2, GC, "3 black, marking"),
+    (5, GC, "3 white, idle"),
+    (8, MAIN, "3 grey, idle"),
+];
 
 /// The object takes its cell while the collector appends, and stays grey into the next cycle.
-#[test]
-fn a_new_object_stays_grey(rt: HostRuntime) -> Result<(), Fail> {
-    let mut world = world_of(rt.alloc(), ONE_OBJECT, 3)?;
-    let steps = [
-        (9, GC, "free"),
-        (1, MAIN, "3 grey"),
-        (4, GC, "3 grey, idle"),
-        (8, MAIN, "3 grey, idle"),
-    ];
-    follow(&rt, rt.alloc(), &mut world, 2, steps.as_slice())?;
-    assert!(rt; has(&world, b"5\n", 22));
-    Ok(())
-}
+const APPENDED: &[Step] = &[
+    (9, GC, "free"),
+    (1, MAIN, "3 grey"),
+    (4, GC, "3 grey, idle"),
+    (8, MAIN, "3 grey, idle"),
+];
 
 /// The only reference to an object moves from a field that the collector hasn't looked at to a stack that it has: what
 /// getfield reads is shaded, so that the object stays.
-#[test]
-fn what_is_loaded_is_shaded(rt: HostRuntime) -> Result<(), Fail> {
-    let mut world = world_of(rt.alloc(), LINKED, 4)?;
-    let steps = [
-        (12, MAIN, "4 grey, idle"),
-        (28, GC, "4 white, marking"),
-        (2, MAIN, "4 grey, marking"),
-        (3, MAIN, "4 grey, marking"),
-        (14, GC, "4 white, idle"),
-        (3, MAIN, "4 white, idle"),
-    ];
-    follow(&rt, rt.alloc(), &mut world, 3, steps.as_slice())?;
-    assert!(rt; has(&world, b"7\n", 62));
-    Ok(())
-}
+const LOADED: &[Step] = &[
+    (12, MAIN, "4 grey, idle"),
+    (28, GC, "4 white, marking"),
+    (2, MAIN, "4 grey, marking"),
+    (3, MAIN, "4 grey, marking"),
+    (14, GC, "4 white, idle"),
+    (3, MAIN, "4 white, idle"),
+];
 
 /// An object to which nothing leads is gone in the second cycle.
+const FREED: &[Step] = &[
+    (2, MAIN, "3 grey, idle"),
+    (14, GC, "3 white, idle"),
+    (11, GC, "free"),
+    (1, GC, "free, idle"),
+];
+
+/// A program, its small cells and one of them, its steps, and then the row that takes this cell, how many rows there
+/// are, and what is printed.
+type Run = (
+    &'static str,
+    u32,
+    u32,
+    &'static [Step],
+    usize,
+    usize,
+    &'static str,
+);
+
+const RUNS: &[Run] = &[
+    (ONE_OBJECT, 3, 2, MARKED, 8, 24, "5\n"),
+    (ONE_OBJECT, 3, 2, APPENDED, 9, 22, "5\n"),
+    (LINKED, 4, 3, LOADED, 2, 62, "7\n"),
+    (DROPPED, 3, 2, FREED, 0, 28, ""),
+];
+
+const LIMITS: Limits = Limits {
+    steps: 1000,
+    output: 100,
+};
+
+/// Whether a world has printed this, and its journal has so many rows, of which this one takes a cell.
+fn has(world: &World, taking: usize, rows: usize, output: &str) -> bool {
+    let row = world.journal().rows().nth(taking);
+    row.is_some_and(|row| row.outcome == Outcome::Object)
+        && world.journal().rows().len() == rows
+        && world.output() == output.as_bytes()
+}
+
+fn goes_so(alloc: Global, run: &Run) -> Result<bool, Fail> {
+    let (text, small, cell, steps, taking, rows, output) = *run;
+    let mut world = world_on(alloc, program_of(alloc, text)?, small, LIMITS)?;
+    Ok(follows(alloc, &mut world, cell, steps)? && has(&world, taking, rows, output))
+}
+
 #[test]
-fn garbage_is_freed(rt: HostRuntime) -> Result<(), Fail> {
-    let mut world = world_of(rt.alloc(), DROPPED, 3)?;
-    let steps = [
-        (2, MAIN, "3 grey, idle"),
-        (14, GC, "3 white, idle"),
-        (11, GC, "free"),
-        (1, GC, "free, idle"),
-    ];
-    follow(&rt, rt.alloc(), &mut world, 2, steps.as_slice())?;
+fn objects_have_cells_and_colours(rt: HostRuntime) -> Result<(), Fail> {
+    for run in RUNS {
+        assert!(rt; goes_so(rt.alloc(), run)?, "{} {}", run.0, run.5);
+    }
     Ok(())
 }

@@ -1,39 +1,64 @@
-//! Programs of one class, by the code of its main, and the rows of what they come to.
+//! Programs of one class, by the lines of its main, their worlds, and the rows of what they come to.
+ghost use Rattle.std.specs.Prelude.{◌≡◌, [], IfOk};
 
 use loader::accept;
 use loader::programs::Program;
-use model::flags::{ClassFlags, MethodFlags};
-use model::instructions::{
-    ArrayOperation, Constant, Instruction, Invocation, NumberKind, NumberOperation, Operator,
-    Primitive, SmallInt, StackOperation, Width,
-};
-use model::journals::Row;
-use model::listings::{Code, Listed, Listing, Method, Placed};
-use model::names::{Member, Name};
+use model::journals::{HeapShape, Limits, Row};
+use model::listings::Listing;
 use scheduler::worlds::World;
 use std::alloc::{AllocError, Global};
 use std::test::Fail;
 
-/// An instruction of a main.
-#[derive(Clone, Copy)]
-pub enum Op {
-    /// `ldc 2147483647`
-    GreatestInt,
-    /// `iconst_0`
-    Zero,
-    /// `iconst_1`
-    One,
-    /// `iadd`
-    Add,
-    /// `idiv`
-    Divide,
-    /// `invokestatic vm/Sys/print(I)V`
-    Print,
-    /// `newarray int`
-    NewInts,
-    Pop,
-    Nop,
-    Return,
+/// Prints -2147483648.
+pub const WRAPPING_SUM: &str =
+    "ldc 2147483647\niconst_1\niadd\ninvokestatic vm/Sys/print(I)V\nreturn\n";
+
+/// Makes an array of one int, and drops it.
+pub const ARRAY: &str = "iconst_1\nnewarray int\npop\nreturn\n";
+
+/// Two arrays, each of which is garbage when it is popped.
+pub const ARRAYS: &str = "iconst_1\nnewarray int\npop\niconst_1\nnewarray int\npop\nreturn\n";
+
+/// Ends by an ArithmeticException, or by an OutOfMemoryError in its place.
+pub const DIVISION: &str = "iconst_1\niconst_0\nidiv\nreturn\n";
+
+fn listed(alloc: Global, text: &str) -> Result<Listing, Fail> {
+    let tree = jasmin::read(alloc, text.as_bytes())?;
+    Ok(assembler::listing(alloc, &tree)?)
+}
+
+/// The program of one text.
+pub fn program_of(alloc: Global, text: &str) -> Result<Program, Fail> {
+    let listings = vec![in alloc; listed(alloc, text)?]?;
+    accept(alloc, listings.as_slice())?;
+    Ok(Program::new(alloc, listings)?)
+}
+
+/// The program whose main has these lines and so much stack.
+pub fn program(alloc: Global, max_stack: u16, lines: &str) -> Result<Program, Fail> {
+    let text = format!(in alloc;
+        ".class public A\n.super java/lang/Object\n.method static main()V\n.limit stack {max_stack}\n.limit locals 0\n{lines}.end method\n"
+    )?;
+    program_of(alloc, text.as_str())
+}
+
+/// The program whose main is so many times `nop`, and `return`.
+pub fn nops(alloc: Global, count: usize) -> Result<Program, Fail> {
+    let mut lines = "nop\n".repeat(alloc, count)?;
+    lines.push_str("return\n")?;
+    program(alloc, 0, lines.as_str())
+}
+
+/// The world of a program on so many small cells, which has made no turn.
+pub fn world_on(alloc: Global, program: Program, small: u32, limits: Limits) -> Result<World, Fail>
+    ensures { IfOk result (λ world. world.journal.rows ≡ []) }
+{
+    let shape = HeapShape {
+        small,
+        medium: 0,
+        large: 0,
+    };
+    Ok(World::new(alloc, program, shape, limits)?)
 }
 
 /// Whether a world's journal has these rows, and no more.
@@ -45,116 +70,4 @@ pub fn has_rows(world: &World, rows: &[Row]) -> bool {
         }
     }
     found.next().is_none()
-}
-
-/// How many bytes an instruction has.
-fn size(op: Op) -> u16 {
-    match op {
-        Op::GreatestInt | Op::NewInts => 2,
-        Op::Print => 3,
-        _ => 1,
-    }
-}
-
-fn print(alloc: Global) -> Result<Listed, AllocError> {
-    let member = Member {
-        class: Name::copy_of(alloc, b"vm/Sys")?,
-        name: Name::copy_of(alloc, b"print")?,
-        descriptor: Name::copy_of(alloc, b"(I)V")?,
-    };
-    Ok(Instruction::Invoke(Invocation::Static, member))
-}
-
-fn number(operator: Operator) -> Listed {
-    Instruction::Number(NumberOperation::Binary(NumberKind::Int, operator))
-}
-
-fn constant(value: SmallInt) -> Listed {
-    Instruction::Constant(Constant::SmallInt(value))
-}
-
-fn listed(alloc: Global, op: Op) -> Result<Listed, AllocError> {
-    Ok(match op {
-        Op::GreatestInt => Instruction::Constant(Constant::Int(Width::Narrow, 2_147_483_647)),
-        Op::Zero => constant(SmallInt::Zero),
-        Op::One => constant(SmallInt::One),
-        Op::Add => number(Operator::Add),
-        Op::Divide => number(Operator::Div),
-        Op::Print => return print(alloc),
-        Op::NewInts => Instruction::Array(ArrayOperation::New(Primitive::Int)),
-        Op::Pop => Instruction::Stack(StackOperation::Pop),
-        Op::Nop => Instruction::Nop,
-        Op::Return => Instruction::Return(None),
-    })
-}
-
-/// These instructions behind each other.
-fn placed(alloc: Global, ops: &[Op]) -> Result<Vec<Placed>, AllocError> {
-    let mut code = Vec::new(alloc);
-    let mut pc = 0u16;
-    for op in ops {
-        let next = pc.saturating_add(size(*op));
-        let instruction = listed(alloc, *op)?;
-        code.push(Placed {
-            pc,
-            next,
-            instruction,
-        })?;
-        pc = next;
-    }
-    Ok(code)
-}
-
-/// A static `main()V` with this code, so much stack and no locals.
-fn main_of(alloc: Global, max_stack: u16, instructions: Vec<Placed>) -> Result<Method, AllocError> {
-    Ok(Method {
-        flags: MethodFlags::STATIC,
-        name: Name::copy_of(alloc, b"main")?,
-        descriptor: Name::copy_of(alloc, b"()V")?,
-        code: Some(Code {
-            max_stack,
-            max_locals: 0,
-            rows: Vec::new(alloc),
-            instructions,
-        }),
-    })
-}
-
-/// The class A of this method.
-fn class_of(alloc: Global, main: Method) -> Result<Listing, AllocError> {
-    let mut methods = Vec::new(alloc);
-    methods.push(main)?;
-    Ok(Listing {
-        name: Name::copy_of(alloc, b"A")?,
-        flags: ClassFlags::PUBLIC,
-        superclass: Name::copy_of(alloc, b"java/lang/Object")?,
-        interfaces: Vec::new(alloc),
-        fields: Vec::new(alloc),
-        methods,
-    })
-}
-
-/// The program of this class.
-fn program_of(alloc: Global, class: Listing) -> Result<Program, Fail> {
-    let mut listings = Vec::new(alloc);
-    listings.push(class)?;
-    accept(alloc, listings.as_slice())?;
-    Ok(Program::new(alloc, listings)?)
-}
-
-/// The program whose main has this code and so much stack.
-pub fn program(alloc: Global, max_stack: u16, ops: &[Op]) -> Result<Program, Fail> {
-    let code = placed(alloc, ops)?;
-    let main = main_of(alloc, max_stack, code)?;
-    program_of(alloc, class_of(alloc, main)?)
-}
-
-/// The program whose main is so many times `nop`, and `return`.
-pub fn nops(alloc: Global, count: u16) -> Result<Program, Fail> {
-    let mut code = Vec::new(alloc);
-    for _ in 0..count {
-        code.push(Op::Nop)?;
-    }
-    code.push(Op::Return)?;
-    program(alloc, 0, code.as_slice())
 }

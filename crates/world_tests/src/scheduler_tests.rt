@@ -1,16 +1,21 @@
 //! Each call once, on small mains that are run as worlds. What they come to is worked out by hand from the JVMS (6.5).
+//!
+//! A story is a function that borrows a world, which one function makes and drops: a test that owns a world and asks it
+//! eight things takes minutes to prove.
 
 mod journal_texts;
 mod objects;
 mod replaying;
 mod rounds;
 
-use crate::mains::{Op, has_rows, program};
+use crate::mains::{ARRAY, DIVISION, WRAPPING_SUM, has_rows, program, world_on};
 use model::colours::{Colour, Phase};
 use model::journals::{HeapShape, Limits, Outcome, Row};
 use model::turns::{Actor, ClassState, Fault, Status, Turn};
 use model::values::Value;
-use model::views::{CellView, ThreadState};
+use model::views::{CellView, ThreadState, ThreadView};
+use objects::{an_array_is_shown, an_array_that_was_popped_is_not_shown};
+use rounds::rounds_end_with_their_thread;
 use scheduler::worlds::{World, WorldError};
 use std::alloc::{AllocError, Global};
 use std::test::Fail;
@@ -23,33 +28,12 @@ const TWO_CELLS: HeapShape = HeapShape {
 
 const MAIN: Actor = Actor::Thread(0);
 
-/// Prints -2147483648.
-const WRAPPING_SUM: [Op; 5] = [Op::GreatestInt, Op::One, Op::Add, Op::Print, Op::Return];
-
 fn row(actor: Actor, outcome: Outcome) -> Row {
     Row {
         actor,
         outcome,
         worker: 0,
     }
-}
-
-/// A world on two cells, with a million steps and an output of so many bytes.
-fn world_of(alloc: Global, max_stack: u16, ops: &[Op], output: u32) -> Result<World, Fail> {
-    let limits = Limits {
-        steps: 1_000_000,
-        output,
-    };
-    let program = program(alloc, max_stack, ops)?;
-    Ok(World::new(alloc, program, TWO_CELLS, limits)?)
-}
-
-/// The world of `WRAPPING_SUM` with an output of so many bytes, after so many turns of main.
-fn sum_after(alloc: Global, output: u32, turns: usize) -> Result<World, Fail> {
-    let mut world = world_of(alloc, 2, &WRAPPING_SUM, output)?;
-    let turns = turns.min(5);
-    world.run(&[MAIN; 5][..turns]);
-    Ok(world)
 }
 
 /// Whether turns are answered so.
@@ -77,149 +61,121 @@ fn has(world: &World, rows: &[Row], output: &[u8]) -> bool {
     has_rows(world, rows) && world.output() == output
 }
 
-/// Whether main has one frame, which stands at this pc with these values on its stack, bottom first.
-fn stands_at(world: &World, pc: u16, stack: &[Value]) -> Result<bool, AllocError> {
-    Ok(match world.thread(0)? {
-        Some(view) => match &view.state {
-            ThreadState::Live(frames) => match frames.as_slice() {
-                [frame] => frame.pc == pc && frame.stack.as_slice() == stack,
-                _ => false,
-            },
-            ThreadState::Ended(_) => false,
+/// Whether a thread has one frame, which stands at this pc with these values on its stack, bottom first.
+fn is_at(thread: &ThreadView, pc: u16, stack: &[Value]) -> bool {
+    match &thread.state {
+        ThreadState::Live(frames) => match frames.as_slice() {
+            [frame] => frame.pc == pc && frame.stack.as_slice() == stack,
+            _ => false,
         },
-        None => false,
-    })
+        ThreadState::Ended(_) => false,
+    }
 }
 
-/// Whether main has ended, by an exception of this class or by none.
-fn has_ended(world: &World, by: Option<&str>) -> Result<bool, AllocError> {
-    Ok(match world.thread(0)? {
-        Some(view) => match &view.state {
-            ThreadState::Ended(Some(name)) => by.is_some_and(|class| name.is(class)),
-            ThreadState::Ended(None) => by.is_none(),
-            ThreadState::Live(_) => false,
-        },
-        None => false,
-    })
+/// Whether main is such a thread.
+fn stands_at(world: &World, pc: u16, stack: &[Value]) -> bool {
+    match world.thread(0) {
+        Ok(Some(main)) => is_at(&main, pc, stack),
+        _ => false,
+    }
 }
 
-#[test]
-fn a_sum_wraps(rt: HostRuntime) -> Result<(), Fail> {
-    let world = sum_after(rt.alloc(), 12, 3)?;
-    assert!(rt; stands_at(&world, 4, &[Value::Int(-2_147_483_648)])?);
-    assert_eq!(rt; told(&world), (Status::Running, Some(0), false, None));
-    Ok(())
+/// Whether a thread has ended, by an exception of this class or by none.
+fn is_over(thread: &ThreadView, by: Option<&str>) -> bool {
+    match &thread.state {
+        ThreadState::Ended(Some(name)) => by.is_some_and(|class| name.is(class)),
+        ThreadState::Ended(None) => by.is_none(),
+        ThreadState::Live(_) => false,
+    }
 }
 
-#[test]
-fn twelve_bytes_take_the_sum(rt: HostRuntime) -> Result<(), Fail> {
-    let world = sum_after(rt.alloc(), 12, 5)?;
-    assert!(rt; has(&world, &[row(MAIN, Outcome::Done); 5], b"-2147483648\n"));
-    assert_eq!(rt; told(&world), (Status::Finished, None, false, None));
-    assert!(rt; has_ended(&world, None)?);
-    Ok(())
+/// Whether main is such a thread.
+fn has_ended(world: &World, by: Option<&str>) -> bool {
+    match world.thread(0) {
+        Ok(Some(main)) => is_over(&main, by),
+        _ => false,
+    }
 }
 
-#[test]
-fn a_thread_that_ended_has_no_turn(rt: HostRuntime) -> Result<(), Fail> {
-    let mut world = sum_after(rt.alloc(), 12, 5)?;
-    assert!(rt; answers(&mut world, &[(MAIN, Turn::NotReady)]));
-    assert_eq!(rt; world.program().listings().len(), 1);
-    assert_eq!(rt; world.class_state("A"), Some(ClassState::Done));
-    Ok(())
+fn a_sum_wraps(world: &mut World) -> bool {
+    world.run(&[MAIN; 3]);
+    stands_at(world, 4, &[Value::Int(-2_147_483_648)])
+        && told(world) == (Status::Running, Some(0), false, None)
 }
 
-#[test]
-fn eleven_bytes_do_not_take_the_sum(rt: HostRuntime) -> Result<(), Fail> {
-    let mut world = sum_after(rt.alloc(), 11, 4)?;
-    assert!(rt; answers(&mut world, &[(MAIN, Turn::OutputFull)]));
-    assert!(rt; has(&world, &[row(MAIN, Outcome::Done); 3], b""));
-    assert_eq!(rt; told(&world), (Status::Running, Some(0), true, None));
-    Ok(())
+fn twelve_bytes_take_the_sum(world: &mut World) -> bool {
+    world.run(&[MAIN; 5]);
+    has(world, &[row(MAIN, Outcome::Done); 5], b"-2147483648\n")
+        && told(world) == (Status::Finished, None, false, None)
+        && has_ended(world, None)
 }
 
-#[test]
-fn missing_operand_is_a_fault(rt: HostRuntime) -> Result<(), Fail> {
-    let mut world = world_of(rt.alloc(), 2, &[Op::One, Op::Add], 65_536)?;
+fn a_thread_that_ended_has_no_turn(world: &mut World) -> bool {
+    world.run(&[MAIN; 5]);
+    answers(world, &[(MAIN, Turn::NotReady)])
+        && world.program().listings().len() == 1
+        && world.class_state("A") == Some(ClassState::Done)
+}
+
+fn eleven_bytes_do_not_take_the_sum(world: &mut World) -> bool {
+    world.run(&[MAIN; 4]);
+    answers(world, &[(MAIN, Turn::OutputFull)])
+        && has(world, &[row(MAIN, Outcome::Done); 3], b"")
+        && told(world) == (Status::Running, Some(0), true, None)
+}
+
+fn a_missing_operand_is_a_fault(world: &mut World) -> bool {
     let turns = [
         (MAIN, Turn::Done),
         (MAIN, Turn::Fault(Fault::StackEmpty)),
         (MAIN, Turn::Stopped),
     ];
-    assert!(rt; answers(&mut world, &turns));
     let rows = [row(MAIN, Outcome::Done), row(MAIN, Outcome::Fault)];
-    assert!(rt; has(&world, &rows, b""));
     let fault = Some((Fault::StackEmpty, 0));
-    assert_eq!(rt; told(&world), (Status::Faulted, None, false, fault));
-    assert!(rt; stands_at(&world, 1, &[Value::Int(1)])?);
-    Ok(())
+    answers(world, &turns)
+        && has(world, &rows, b"")
+        && told(world) == (Status::Faulted, None, false, fault)
+        && stands_at(world, 1, &[Value::Int(1)])
 }
 
-#[test]
-fn main_without_a_return_is_a_fault(rt: HostRuntime) -> Result<(), Fail> {
-    let mut world = world_of(rt.alloc(), 0, &[Op::Nop], 65_536)?;
+fn a_main_without_a_return_is_a_fault(world: &mut World) -> bool {
     world.run(&[MAIN; 3]);
     let rows = [row(MAIN, Outcome::Done), row(MAIN, Outcome::Fault)];
-    assert!(rt; has(&world, &rows, b""));
-    assert_eq!(rt; world.fault(), Some((Fault::NoInstruction, 0)));
-    Ok(())
+    has(world, &rows, b"") && world.fault() == Some((Fault::NoInstruction, 0))
 }
 
-#[test]
-fn push_past_the_stack_is_a_fault(rt: HostRuntime) -> Result<(), Fail> {
-    let mut world = world_of(rt.alloc(), 0, &[Op::Zero, Op::Return], 65_536)?;
-    assert!(rt; answers(&mut world, &[(MAIN, Turn::Fault(Fault::StackFull))]));
-    assert!(rt; has(&world, &[row(MAIN, Outcome::Fault)], b""));
-    Ok(())
+fn a_push_past_the_stack_is_a_fault(world: &mut World) -> bool {
+    answers(world, &[(MAIN, Turn::Fault(Fault::StackFull))])
+        && has(world, &[row(MAIN, Outcome::Fault)], b"")
 }
 
-#[test]
-fn steps_are_limited(rt: HostRuntime) -> Result<(), Fail> {
-    let limits = Limits {
-        steps: 1,
-        output: 65_536,
-    };
-    let sum = program(rt.alloc(), 2, &WRAPPING_SUM)?;
-    let mut world = World::new(rt.alloc(), sum, TWO_CELLS, limits)?;
-    assert_eq!(rt; world.turn_by(MAIN, 0), Turn::Done);
+fn steps_are_limited(world: &mut World) -> bool {
     let turns = [(MAIN, Turn::StepLimit), (Actor::Thread(1), Turn::StepLimit)];
-    assert!(rt; answers(&mut world, &turns));
-    assert!(rt; has(&world, &[row(MAIN, Outcome::Done)], b""));
-    Ok(())
+    if world.journal().workers() != 1 {
+        return false;
+    }
+    world.turn_by(MAIN, 0) == Turn::Done
+        && answers(world, &turns)
+        && has(world, &[row(MAIN, Outcome::Done)], b"")
 }
 
-#[test]
-fn only_main_was_started(rt: HostRuntime) -> Result<(), Fail> {
-    let mut world = sum_after(rt.alloc(), 65_536, 0)?;
+fn only_main_was_started(world: &mut World) -> bool {
     let turns = [
         (Actor::Thread(1), Turn::NotReady),
         (Actor::Thread(255), Turn::NotReady),
     ];
-    assert!(rt; answers(&mut world, &turns));
-    assert!(rt; has(&world, &[], b""));
-    assert!(rt; world.thread(1)?.is_none());
-    assert_eq!(rt;
-        (world.journal().shape(), world.journal().workers()),
-        (TWO_CELLS, 1)
-    );
-    Ok(())
+    answers(world, &turns)
+        && has(world, &[], b"")
+        && matches!(world.thread(1), Ok(None))
+        && (world.journal().shape(), world.journal().workers()) == (TWO_CELLS, 1)
 }
 
 /// The collector's turn is done and has its row; the thread that is picked is the one behind the last thread's row.
-#[test]
-fn the_collector_has_a_row(rt: HostRuntime) -> Result<(), Fail> {
-    let mut world = sum_after(rt.alloc(), 65_536, 0)?;
+fn the_collector_has_a_row(world: &mut World) -> bool {
     world.run(&[Actor::Collector, MAIN, Actor::Collector]);
     let collected = row(Actor::Collector, Outcome::Done);
-    assert!(rt;
-        has(
-            &world,
-            &[collected, row(MAIN, Outcome::Done), collected],
-            b""
-        )
-    );
-    assert_eq!(rt; world.pick(), Some(0));
-    Ok(())
+    let rows = [collected, row(MAIN, Outcome::Done), collected];
+    has(world, &rows, b"") && world.pick() == Some(0)
 }
 
 /// A cell of four words that holds this birth in this colour.
@@ -231,36 +187,91 @@ fn held(birth: u32, colour: Colour) -> Option<CellView> {
 }
 
 /// Its first step shades births 1 and 2.
-#[test]
-fn the_collector_begins(rt: HostRuntime) -> Result<(), Fail> {
-    let mut world = sum_after(rt.alloc(), 65_536, 0)?;
-    assert!(rt; answers(&mut world, &[(Actor::Collector, Turn::Done)]));
-    assert!(rt; world.phase() == Phase::Statics { slot: 0 });
-    assert_eq!(rt;
-        (world.heap(1), world.heap(2)),
-        (held(2, Colour::Grey), None)
-    );
-    assert_eq!(rt; world.next_birth(), 3);
-    Ok(())
+fn the_collector_begins(world: &mut World) -> bool {
+    answers(world, &[(Actor::Collector, Turn::Done)])
+        && world.phase() == Phase::Statics { slot: 0 }
+        && (world.heap(1), world.heap(2)) == (held(2, Colour::Grey), None)
+        && world.next_birth() == 3
+}
+
+fn no_free_cell_is_out_of_memory(world: &mut World) -> bool {
+    world.run(&[MAIN; 3]);
+    world.loses_nothing();
+    let done = row(MAIN, Outcome::Done);
+    has(world, &[done, done, row(MAIN, Outcome::NoRoom)], b"")
+        && has_ended(world, Some("java/lang/OutOfMemoryError"))
+        && world.next_birth() == 3
+}
+
+/// A story, its main's lines and stack, its small cells, and the limits of steps and of output.
+type Story = (&'static str, &'static str, u16, u32, u32, u32);
+
+const STORIES: &[Story] = &[
+    ("wraps", WRAPPING_SUM, 2, 2, 1_000_000, 12),
+    ("twelve bytes", WRAPPING_SUM, 2, 2, 1_000_000, 12),
+    ("no turn", WRAPPING_SUM, 2, 2, 1_000_000, 12),
+    ("eleven bytes", WRAPPING_SUM, 2, 2, 1_000_000, 11),
+    ("no operand", "iconst_1\niadd\n", 2, 2, 1_000_000, 65_536),
+    ("no return", "nop\n", 0, 2, 1_000_000, 65_536),
+    ("no stack", "iconst_0\nreturn\n", 0, 2, 1_000_000, 65_536),
+    ("one step", WRAPPING_SUM, 2, 2, 1, 65_536),
+    ("only main", WRAPPING_SUM, 2, 2, 1_000_000, 65_536),
+    ("collected", WRAPPING_SUM, 2, 2, 1_000_000, 65_536),
+    ("begins", WRAPPING_SUM, 2, 2, 1_000_000, 65_536),
+    ("no cell", DIVISION, 2, 2, 1_000_000, 0),
+    ("rounds", WRAPPING_SUM, 2, 2, 1_000_000, 12),
+    ("array", ARRAY, 1, 3, 9, 0),
+    ("popped array", ARRAY, 1, 3, 9, 0),
+];
+
+/// Whether a story goes as it is to, on its world.
+fn goes_well(world: &mut World, story: &str) -> bool {
+    match story {
+        "wraps" => a_sum_wraps(world),
+        "twelve bytes" => twelve_bytes_take_the_sum(world),
+        "no turn" => a_thread_that_ended_has_no_turn(world),
+        "eleven bytes" => eleven_bytes_do_not_take_the_sum(world),
+        "no operand" => a_missing_operand_is_a_fault(world),
+        "no return" => a_main_without_a_return_is_a_fault(world),
+        "no stack" => a_push_past_the_stack_is_a_fault(world),
+        "one step" => steps_are_limited(world),
+        "only main" => only_main_was_started(world),
+        "collected" => the_collector_has_a_row(world),
+        "begins" => the_collector_begins(world),
+        "no cell" => no_free_cell_is_out_of_memory(world),
+        "rounds" => rounds_end_with_their_thread(world),
+        "array" => an_array_is_shown(world),
+        "popped array" => an_array_that_was_popped_is_not_shown(world),
+        _ => false,
+    }
+}
+
+/// The same, with a world of its own.
+fn is_told(alloc: Global, story: &Story) -> Result<bool, Fail> {
+    let (name, lines, stack, small, steps, output) = *story;
+    let limits = Limits { steps, output };
+    let mut world = world_on(alloc, program(alloc, stack, lines)?, small, limits)?;
+    Ok(goes_well(&mut world, name))
 }
 
 #[test]
-fn no_free_cell_is_out_of_memory(rt: HostRuntime) -> Result<(), Fail> {
-    let ops = [Op::One, Op::Zero, Op::Divide, Op::Return];
-    let mut world = world_of(rt.alloc(), 2, &ops, 0)?;
-    world.run(&[MAIN; 3]);
-    let done = row(MAIN, Outcome::Done);
-    assert!(rt; has(&world, &[done, done, row(MAIN, Outcome::NoRoom)], b""));
-    assert!(rt; has_ended(&world, Some("java/lang/OutOfMemoryError"))?);
-    assert_eq!(rt; world.next_birth(), 3);
-    world.loses_nothing();
+fn stories_go_well(rt: HostRuntime) -> Result<(), Fail> {
+    for story in STORIES {
+        assert!(rt; is_told(rt.alloc(), story)?, "{}", story.0);
+    }
     Ok(())
 }
 
 /// The error of a world of this shape and with these limits.
 fn refused(alloc: Global, shape: HeapShape, limits: Limits) -> Result<Option<WorldError>, Fail> {
-    let program = program(alloc, 2, &WRAPPING_SUM)?;
+    let program = program(alloc, 2, WRAPPING_SUM)?;
     Ok(World::new(alloc, program, shape, limits).err())
+}
+
+/// What users are told of these errors, one after another.
+fn codes(alloc: Global) -> Result<String, AllocError> {
+    let (shape, limits, memory) = (WorldError::Shape, WorldError::Limits, WorldError::Memory);
+    format!(in alloc; "{shape} {limits} {memory}")
 }
 
 #[test]
@@ -277,10 +288,8 @@ fn worlds_are_refused(rt: HostRuntime) -> Result<(), Fail> {
         (TWO_CELLS, 1, None),
     ] {
         let limits = Limits { steps, output: 0 };
-        assert_eq!(rt; refused(rt.alloc(), shape, limits)?, wanted);
+        assert!(rt; refused(rt.alloc(), shape, limits)? == wanted);
     }
-    let (shape, limits, memory) = (WorldError::Shape, WorldError::Limits, WorldError::Memory);
-    let told = format!(in rt.alloc(); "{shape} {limits} {memory}")?;
-    assert_eq!(rt; told.as_str(), "P1 P2 P3");
+    assert!(rt; codes(rt.alloc())?.as_str() == "P1 P2 P3");
     Ok(())
 }

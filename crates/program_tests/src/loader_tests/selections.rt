@@ -5,6 +5,7 @@ use super::tables::tables_of;
 use crate::texts::classes;
 use loader::selection::Selection;
 use loader::selectors::Selectors;
+use model::listings::Listing;
 use std::alloc::{AllocError, Global};
 use std::fmt::Write;
 use std::process::Abort;
@@ -87,13 +88,6 @@ fn compare_tables(rt: &impl Abort, alloc: Global, selection: &Selection) -> Resu
     Ok(())
 }
 
-#[test]
-fn methods_are_selected(rt: HostRuntime) -> Result<(), Fail> {
-    let tables = tables_of(rt.alloc(), CLASSES)?;
-    compare_rows(&rt, &tables.selection);
-    Ok(compare_tables(&rt, rt.alloc(), &tables.selection)?)
-}
-
 fn compare_selectors(rt: &impl Abort, selectors: &Selectors<'_>) {
     for (name, descriptor, wanted) in SELECTORS {
         let found = selectors.number(name.as_bytes(), descriptor.as_bytes());
@@ -101,10 +95,28 @@ fn compare_selectors(rt: &impl Abort, selectors: &Selectors<'_>) {
     }
 }
 
+fn compare_selection(
+    rt: &impl Abort,
+    alloc: Global,
+    selection: &Selection,
+) -> Result<(), AllocError> {
+    compare_rows(rt, selection);
+    compare_tables(rt, alloc, selection)
+}
+
+fn compare_selectors_of(
+    rt: &impl Abort,
+    alloc: Global,
+    program: &[Listing],
+) -> Result<(), AllocError> {
+    let selectors = Selectors::new(alloc, program)?;
+    compare_selectors(rt, &selectors);
+    Ok(())
+}
+
 #[test]
-fn selectors_count_what_is_called(rt: HostRuntime) -> Result<(), Fail> {
-    let program = classes(rt.alloc(), CLASSES)?;
-    let selectors = Selectors::new(rt.alloc(), &program)?;
-    compare_selectors(&rt, &selectors);
+fn methods_are_selected(rt: HostRuntime) -> Result<(), Fail> {
+    compare_selection(&rt, rt.alloc(), &tables_of(rt.alloc(), CLASSES)?.selection)?;
+    compare_selectors_of(&rt, rt.alloc(), &classes(rt.alloc(), CLASSES)?)?;
     Ok(())
 }

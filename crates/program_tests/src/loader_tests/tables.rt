@@ -9,10 +9,11 @@ use loader::static_slots::Slot;
 use loader::storages::Storage;
 use loader::tables::Tables;
 use model::builtins::Builtin;
+use model::listings::Listing;
 use model::places::MethodPlace;
 use model::values::{Kind, Value};
 use resolve::classes::Classes;
-use std::alloc::Global;
+use std::alloc::{AllocError, Global};
 use std::process::Abort;
 use std::test::Fail;
 
@@ -21,11 +22,18 @@ use std::test::Fail;
 const CLASSES: &str =
     "class A|.field public x B|.field static s C = -1|.field public y J|main|.method public static f(IJ[[I)J|.limit stack 2|.limit locals 5|.catch B from X to Z using Y|.catch Q from X to Z using Y|.catch all from X to Z using Y|X:|nop|Y:|return|Z:|end|code 0 0 static <clinit>()V; class B < A|.implements J|.field public z S|.field static t LA;|.method public abstract g()V|end; interface J|.field public static final c I";
 
+fn tables_of_program(alloc: Global, program: &[Listing]) -> Result<Option<Tables>, AllocError> {
+    match Classes::new(alloc, program)? {
+        Some(classes) => Ok(Some(Tables::new(alloc, &classes)?)),
+        None => Ok(None),
+    }
+}
+
 /// The tables of classes that have their parents.
 pub fn tables_of(alloc: Global, row: &str) -> Result<Tables, Fail> {
     let program = classes(alloc, row)?;
-    match Classes::new(alloc, &program)? {
-        Some(classes) => Ok(Tables::new(alloc, &classes)?),
+    match tables_of_program(alloc, &program)? {
+        Some(tables) => Ok(tables),
         None => Err(Fail::new("no classes")),
     }
 }
@@ -158,16 +166,20 @@ fn compare_initializers(rt: &impl Abort, tables: &Initializers) {
     }
 }
 
-#[test]
-fn tables_by_number(rt: HostRuntime) -> Result<(), Fail> {
-    let tables = tables_of(rt.alloc(), CLASSES)?;
-    compare_classes(&rt, &tables.classes);
-    compare_initializers(&rt, &tables.initializers);
-    assert!(rt; has_words_and_slots(&tables), "words or slots");
+fn compare_tables(rt: &impl Abort, tables: &Tables) {
+    compare_classes(rt, &tables.classes);
+    compare_initializers(rt, &tables.initializers);
+    assert!(rt; has_words_and_slots(tables), "words or slots");
     assert!(rt; has_units(&tables.methods), "units");
     assert!(rt;
         has_bodies(&tables.methods) && has_f(&tables.methods),
         "methods"
     );
+}
+
+#[test]
+fn tables_by_number(rt: HostRuntime) -> Result<(), Fail> {
+    let tables = tables_of(rt.alloc(), CLASSES)?;
+    compare_tables(&rt, &tables);
     Ok(())
 }

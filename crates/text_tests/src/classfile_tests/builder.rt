@@ -1,6 +1,7 @@
 //! Class files that are made part by part.
 
 use super::e;
+use crate::pool_tests::{Word, add};
 use bitflags::Flags;
 use classfile::{
     Body, ClassError, ClassFile, CodeEntry, CodeRow, Instructions, MethodEntry, write,
@@ -8,43 +9,45 @@ use classfile::{
 use model::class_files::{ConstantValue, Entry, FieldEntry, FormatFault};
 use model::flags::{ClassFlags, FieldFlags, MethodFlags};
 use model::instructions::{ClassOperation, Instruction, Test, Width};
-use model::names::Name;
 use opcodes::OpError;
-use pool::PoolBuilder;
+use pool::{AddError, PoolBuilder};
 use std::alloc::{AllocError, Global};
 use std::test::*;
 
-fn text(alloc: Global, text: &str) -> Result<Entry, AllocError> {
-    Ok(Entry::Utf8(Name::copy_of(alloc, text.as_bytes())?))
-}
-
 /// E's seven entries.
-fn entries(alloc: Global) -> Result<PoolBuilder, Fail> {
-    let mut pool = PoolBuilder::new(alloc);
-    for (word, class) in [
-        ("E", Some(1u16)),
-        ("java/lang/Object", Some(3)),
-        ("main", None),
-        ("()V", None),
-        ("Code", None),
-    ] {
-        pool.add(text(alloc, word)?)?;
-        if let Some(name) = class {
-            pool.add(Entry::Class(name))?;
-        }
-    }
-    Ok(pool)
-}
+const ENTRIES: &[(Word, u16)] = &[
+    (Word::Text("E"), 1),
+    (Word::Class(1), 2),
+    (Word::Text("java/lang/Object"), 3),
+    (Word::Class(3), 4),
+    (Word::Text("main"), 5),
+    (Word::Text("()V"), 6),
+    (Word::Text("Code"), 7),
+];
 
-/// E's class with these fields and methods.
-fn body(alloc: Global, fields: Vec<FieldEntry>, methods: Vec<MethodEntry>) -> Body {
+/// The same, and what a field of type I with a value names.
+const WITH_VALUE: &[(Word, u16)] = &[
+    (Word::Text("E"), 1),
+    (Word::Class(1), 2),
+    (Word::Text("java/lang/Object"), 3),
+    (Word::Class(3), 4),
+    (Word::Text("main"), 5),
+    (Word::Text("()V"), 6),
+    (Word::Text("Code"), 7),
+    (Word::Text("ConstantValue"), 8),
+    (Word::Int(7), 9),
+    (Word::Text("I"), 10),
+];
+
+/// E's class without a method.
+fn e_body(alloc: Global) -> Body {
     Body {
         flags: ClassFlags::from_bits_retain(0x0021),
         class: 2,
         superclass: 4,
         interfaces: Vec::new(alloc),
-        fields,
-        methods,
+        fields: Vec::new(alloc),
+        methods: Vec::new(alloc),
     }
 }
 
@@ -73,179 +76,207 @@ fn main(flags: u16, code: Option<CodeEntry>) -> MethodEntry {
     }
 }
 
-/// E's method as it is, from its one instruction.
-fn e_main(alloc: Global) -> Result<MethodEntry, Fail> {
-    Ok(main(9, Some(code(alloc, 7, None, Vec::new(alloc))?)))
-}
-
-/// Why E's entries and this body are no class file.
-fn refusal(alloc: Global, body: Body) -> Result<Option<FormatFault>, Fail> {
-    match ClassFile::new(entries(alloc)?, body) {
-        Ok(_) => Ok(None),
-        Err(ClassError::Format(fault)) => Ok(Some(fault)),
-        Err(_) => Err("another refusal".into()),
-    }
-}
-
-/// Why E with this method alone is no class file.
-fn method_refusal(alloc: Global, method: MethodEntry) -> Result<Option<FormatFault>, Fail> {
-    let mut methods = Vec::new(alloc);
-    methods.push(method)?;
-    refusal(alloc, body(alloc, Vec::new(alloc), methods))
-}
-
-#[test]
-fn e_is_made(rt: HostRuntime) -> Result<(), Fail> {
-    let alloc = rt.alloc();
-    let mut methods = Vec::new(alloc);
-    methods.push(e_main(alloc)?)?;
-    let file = ClassFile::new(entries(alloc)?, body(alloc, Vec::new(alloc), methods))?;
-    assert_eq!(rt; write(alloc, &file)?.as_slice(), e(alloc)?.as_slice());
-    Ok(())
-}
-
-#[test]
-fn an_entry_is_kept_once(rt: HostRuntime) -> Result<(), Fail> {
-    let mut pool = entries(rt.alloc())?;
-    assert_eq!(rt; pool.add(Entry::Class(3)).ok(), Some(4));
-    assert_eq!(rt; pool.add(Entry::Class(5)).ok(), Some(8));
-    Ok(())
-}
-
-#[test]
-fn a_pool_that_is_full(rt: HostRuntime) -> Result<(), Fail> {
-    let mut pool = PoolBuilder::new(rt.alloc());
-    for value in 1..65535i32 {
-        pool.add(Entry::Integer(value))?;
-    }
-    let full = pool.add(Entry::Integer(0)).err().ok_or("there was room")?;
-    assert_eq!(rt;
-        ClassError::from(full).to_string(rt.alloc())?.as_str(),
-        "C9"
-    );
-    assert_eq!(rt; pool.add(Entry::Integer(65534)).ok(), Some(65534));
-    Ok(())
-}
-
-#[test]
-fn classes_that_are_none(rt: HostRuntime) -> Result<(), Fail> {
-    let alloc = rt.alloc();
-    for (flags, superclass, interface, answer) in [
-        (0x0021u16, 4u16, 4u16, None),
-        // final and abstract, a superclass that is a text, and an interface with no number
-        (0x0410, 4, 4, Some(FormatFault::Flags)),
-        (0x0021, 3, 4, Some(FormatFault::Index)),
-        (0x0021, 4, 0, Some(FormatFault::Index)),
-    ] {
-        let mut class = body(alloc, Vec::new(alloc), Vec::new(alloc));
-        class.flags = ClassFlags::from_bits_retain(flags);
-        class.superclass = superclass;
-        class.interfaces.push(interface)?;
-        assert_eq!(rt; refusal(alloc, class)?, answer);
-    }
-    Ok(())
-}
-
-#[test]
-fn methods_without_code(rt: HostRuntime) -> Result<(), Fail> {
-    // native, and neither native nor abstract
-    for (flags, answer) in [(0x0109u16, None), (9, Some(FormatFault::Attribute))] {
-        assert_eq!(rt; method_refusal(rt.alloc(), main(flags, None))?, answer);
-    }
-    Ok(())
-}
-
-#[test]
-fn methods_with_code(rt: HostRuntime) -> Result<(), Fail> {
-    let alloc = rt.alloc();
-    for (flags, name, new, answer) in [
-        (9u16, 7u16, None, None),
-        // abstract, and an attribute of another name
-        (0x0401, 7, None, Some(FormatFault::Attribute)),
-        (9, 5, None, Some(FormatFault::Attribute)),
-        // new of a class, and of a text
-        (9, 7, Some(4), None),
-        (9, 7, Some(3), Some(FormatFault::Attribute)),
-    ] {
-        let code = code(alloc, name, new, Vec::new(alloc))?;
-        assert_eq!(rt; method_refusal(alloc, main(flags, Some(code)))?, answer);
-    }
-    Ok(())
-}
-
 /// A row for the classes under this number.
 fn row(alloc: Global, class: u16) -> Result<Vec<CodeRow>, Fail> {
-    let mut rows = Vec::new(alloc);
-    rows.push(CodeRow {
+    let row = CodeRow {
         start: 0,
         end: 1,
         handler: 0,
         class,
-    })?;
-    Ok(rows)
+    };
+    Ok(vec![in alloc; row]?)
 }
 
-#[test]
-fn rows_that_are_none(rt: HostRuntime) -> Result<(), Fail> {
-    let alloc = rt.alloc();
-    for (class, answer) in [(0u16, None), (4, None), (3, Some(FormatFault::Attribute))] {
-        let entry = code(alloc, 7, None, row(alloc, class)?)?;
-        assert_eq!(rt; method_refusal(alloc, main(9, Some(entry)))?, answer);
-    }
-    Ok(())
+/// What E's class has.
+#[derive(Clone, Copy)]
+enum Part {
+    /// These flags, this superclass, and an interface.
+    Class(u16, u16, u16),
+    /// Its method with these flags and no code.
+    Bare(u16),
+    /// Its method with these flags, and with code under this name: one return, or `new` of the class under a number.
+    Code(u16, u16, Option<u16>),
+    /// Its method, whose code has a row for the classes under this number.
+    Row(u16),
+    /// A static field with a method's descriptor.
+    Field,
+    /// A field of type I with these flags, whose ConstantValue has this number.
+    Value(u16, u16),
 }
 
-#[test]
-fn a_field_with_a_methods_descriptor(rt: HostRuntime) -> Result<(), Fail> {
-    let alloc = rt.alloc();
-    let mut fields = Vec::new(alloc);
-    fields.push(FieldEntry {
-        flags: FieldFlags::from_bits_retain(8),
-        name: 5,
-        descriptor: 6,
-        constant: None,
-    })?;
-    assert_eq!(rt;
-        refusal(alloc, body(alloc, fields, Vec::new(alloc)))?,
-        Some(FormatFault::Attribute)
-    );
-    Ok(())
-}
-
-/// A static or other field of type I whose ConstantValue has this number, in E's pool with an Integer behind its
-/// entries.
-fn with_value(alloc: Global, flags: u16, value: u16) -> Result<bool, Fail> {
-    let mut pool = entries(alloc)?;
-    let name = pool.add(text(alloc, "ConstantValue")?)?;
-    pool.add(Entry::Integer(7))?;
-    let descriptor = pool.add(text(alloc, "I")?)?;
-    let mut fields = Vec::new(alloc);
-    fields.push(FieldEntry {
+/// A field `main`.
+fn field(flags: u16, descriptor: u16, constant: Option<ConstantValue>) -> FieldEntry {
+    FieldEntry {
         flags: FieldFlags::from_bits_retain(flags),
         name: 5,
         descriptor,
-        constant: Some(ConstantValue { name, value }),
-    })?;
-    Ok(ClassFile::new(pool, body(alloc, fields, Vec::new(alloc))).is_ok())
+        constant,
+    }
 }
 
-#[test]
-fn a_field_with_a_value(rt: HostRuntime) -> Result<(), Fail> {
-    // the Integer, a field that isn't static, and a text
-    for (flags, value, is_made) in [(8u16, 9u16, true), (0, 9, false), (8, 5, false)] {
-        assert_eq!(rt; with_value(rt.alloc(), flags, value)?, is_made);
+/// E's method as a part has it; without code where it isn't told of.
+fn method(alloc: Global, part: Part) -> Result<MethodEntry, Fail> {
+    match part {
+        Part::Code(flags, name, new) => {
+            Ok(main(flags, Some(code(alloc, name, new, Vec::new(alloc))?)))
+        }
+        Part::Row(class) => Ok(main(9, Some(code(alloc, 7, None, row(alloc, class)?)?))),
+        Part::Bare(flags) => Ok(main(flags, None)),
+        Part::Class(_, _, _) | Part::Field | Part::Value(_, _) => Ok(main(9, None)),
+    }
+}
+
+fn add_part(alloc: Global, body: &mut Body, part: Part) -> Result<(), Fail> {
+    match part {
+        Part::Class(flags, superclass, interface) => {
+            body.flags = ClassFlags::from_bits_retain(flags);
+            body.superclass = superclass;
+            body.interfaces.push(interface)?;
+        }
+        Part::Field => body.fields.push(field(8, 6, None))?,
+        Part::Value(flags, value) => {
+            let constant = ConstantValue { name: 8, value };
+            body.fields.push(field(flags, 10, Some(constant)))?;
+        }
+        Part::Bare(_) | Part::Code(_, _, _) | Part::Row(_) => {
+            body.methods.push(method(alloc, part)?)?;
+        }
     }
     Ok(())
 }
 
-#[test]
-fn instructions_that_are_no_code(rt: HostRuntime) {
-    for (offset, answer) in [(1u16, Some(OpError::Branch)), (0, None)] {
-        let goto = [Instruction::Branch(Test::Always(Width::Narrow), offset)];
-        assert_eq!(rt; Instructions::encode(rt.alloc(), &goto).err(), answer);
+/// The entries that a part names.
+fn entries(alloc: Global, part: Part) -> Result<PoolBuilder, Fail> {
+    let rows = match part {
+        Part::Value(_, _) => WITH_VALUE,
+        _ => ENTRIES,
+    };
+    let mut pool = PoolBuilder::new(alloc);
+    if add(alloc, &mut pool, rows)? {
+        Ok(pool)
+    } else {
+        Err("other numbers".into())
     }
-    assert_eq!(rt;
-        Instructions::encode(rt.alloc(), &[]).err(),
-        Some(OpError::Length)
+}
+
+/// The class file of E's class with this part.
+fn made(alloc: Global, part: Part) -> Result<Result<ClassFile, ClassError>, Fail> {
+    let mut body = e_body(alloc);
+    add_part(alloc, &mut body, part)?;
+    Ok(ClassFile::new(entries(alloc, part)?, body))
+}
+
+/// E's method as it is.
+const MAIN: Part = Part::Code(9, 7, None);
+
+/// Whether E's class with its method has E's bytes.
+fn is_e(alloc: Global) -> Result<bool, Fail> {
+    let file = made(alloc, MAIN)??;
+    let bytes = write(alloc, &file)?;
+    Ok(bytes.as_slice() == e(alloc)?.as_slice())
+}
+
+/// What a class is to come to.
+#[derive(Clone, Copy)]
+enum Answer {
+    Made,
+    Refused,
+    Fault(FormatFault),
+}
+
+const ATTRIBUTE: Answer = Answer::Fault(FormatFault::Attribute);
+
+const INDEX: Answer = Answer::Fault(FormatFault::Index);
+
+const PARTS: &[(Part, Answer)] = &[
+    // final and abstract, a superclass that is a text, and an interface with no number
+    (Part::Class(0x0021, 4, 4), Answer::Made),
+    (Part::Class(0x0410, 4, 4), Answer::Fault(FormatFault::Flags)),
+    (Part::Class(0x0021, 3, 4), INDEX),
+    (Part::Class(0x0021, 4, 0), INDEX),
+    // no code: native, and neither native nor abstract
+    (Part::Bare(0x0109), Answer::Made),
+    (Part::Bare(9), ATTRIBUTE),
+    // code: abstract, and an attribute of another name
+    (MAIN, Answer::Made),
+    (Part::Code(0x0401, 7, None), ATTRIBUTE),
+    (Part::Code(9, 5, None), ATTRIBUTE),
+    // new of a class, and of a text
+    (Part::Code(9, 7, Some(4)), Answer::Made),
+    (Part::Code(9, 7, Some(3)), ATTRIBUTE),
+    // rows for any class, for a class, and for a text
+    (Part::Row(0), Answer::Made),
+    (Part::Row(4), Answer::Made),
+    (Part::Row(3), ATTRIBUTE),
+    (Part::Field, ATTRIBUTE),
+    // the Integer, a field that isn't static, and a text
+    (Part::Value(8, 9), Answer::Made),
+    (Part::Value(0, 9), Answer::Refused),
+    (Part::Value(8, 5), Answer::Refused),
+];
+
+fn is_answer(made: &Result<ClassFile, ClassError>, wanted: Answer) -> bool {
+    match (made, wanted) {
+        (Ok(_), Answer::Made) | (Err(_), Answer::Refused) => true,
+        (Err(ClassError::Format(found)), Answer::Fault(fault)) => *found == fault,
+        _ => false,
+    }
+}
+
+/// Whether E's class with this part comes to this.
+fn comes_to(alloc: Global, part: Part, wanted: Answer) -> Result<bool, Fail> {
+    let made = made(alloc, part)?;
+    Ok(is_answer(&made, wanted))
+}
+
+/// Why a pool of 65,534 ints takes no other one, if it takes the last one again.
+fn refusal_of_full(alloc: Global) -> Option<AddError> {
+    let mut pool = PoolBuilder::new(alloc);
+    for value in 1..65535i32 {
+        let _number = pool.add(Entry::Integer(value)).is_ok();
+    }
+    let full = pool.add(Entry::Integer(0)).err();
+    if pool.add(Entry::Integer(65534)) == Ok(65534) {
+        full
+    } else {
+        None
+    }
+}
+
+/// Whether users are told C9 of that.
+fn full_is_c9(alloc: Global) -> Result<bool, AllocError> {
+    match refusal_of_full(alloc) {
+        Some(full) => Ok(ClassError::from(full).to_string(alloc)?.as_str() == "C9"),
+        None => Ok(false),
+    }
+}
+
+/// Why no instruction, or a `goto` with this offset alone, is no code.
+fn refusal(alloc: Global, offset: Option<u16>) -> Option<OpError> {
+    match offset {
+        Some(offset) => {
+            let goto = [Instruction::Branch(Test::Always(Width::Narrow), offset)];
+            Instructions::encode(alloc, &goto).err()
+        }
+        None => Instructions::encode(alloc, &[]).err(),
+    }
+}
+
+#[test]
+fn parts_are_made_or_refused(rt: HostRuntime) -> Result<(), Fail> {
+    assert!(rt; is_e(rt.alloc())?, "E");
+    for (part, wanted) in PARTS {
+        assert!(rt; comes_to(rt.alloc(), *part, *wanted)?);
+    }
+    assert!(rt; full_is_c9(rt.alloc())?, "full");
+    assert!(rt;
+        refusal(rt.alloc(), Some(1)) == Some(OpError::Branch),
+        "goto 1"
     );
+    assert!(rt; refusal(rt.alloc(), Some(0)) == None, "goto 0");
+    assert!(rt;
+        refusal(rt.alloc(), None) == Some(OpError::Length),
+        "nothing"
+    );
+    Ok(())
 }

@@ -1,11 +1,9 @@
 //! Methods and their code.
 
-use super::{E_CLASS, E_ENTRIES, OPENING, e, other_e, told};
+use super::{E_CLASS, E_ENTRIES, OPENING, e, is_told, is_written_as, other_e};
 use crate::class_bytes::hex;
-use classfile::{ClassFile, read, write};
+use classfile::{ClassFile, read};
 use std::alloc::{AllocError, Global};
-use std::process::Abort;
-use std::test::*;
 
 /// How many bytes hexadecimal digits stand for.
 fn size(digits: &str) -> usize {
@@ -32,7 +30,7 @@ fn with_code(
     entries: &str,
     code: &str,
     tail: &str,
-) -> Result<Vec<u8>, Fail> {
+) -> Result<Vec<u8>, AllocError> {
     let attribute = attribute(alloc, code, tail)?;
     let digits = format!(in alloc;
         "{OPENING} 00{count:02x} {E_ENTRIES} {entries} {E_CLASS} 0001 0009 0005 0006 0001 {attribute} 0000"
@@ -40,16 +38,17 @@ fn with_code(
     hex(alloc, digits.as_str())
 }
 
-/// What users are told of it.
-fn told_of_code(
+/// Whether users are told this of it.
+fn is_told_of_code(
     alloc: Global,
     count: u8,
     entries: &str,
     code: &str,
     tail: &str,
-) -> Result<String, Fail> {
+    wanted: &str,
+) -> Result<bool, AllocError> {
     let bytes = with_code(alloc, count, entries, code, tail)?;
-    Ok(told(alloc, &bytes)?)
+    is_told(alloc, &bytes, wanted)
 }
 
 /// No rows and no attributes.
@@ -131,53 +130,41 @@ const CODES: &[(u8, &str, &str, &str, &str)] = &[
     (8, "", "b1", "0000 00", "C8"),
 ];
 
-#[test]
-fn codes_are_read_or_refused(rt: HostRuntime) -> Result<(), Fail> {
-    for (count, entries, code, tail, answer) in CODES {
-        let found = told_of_code(rt.alloc(), *count, entries, code, tail)?;
-        assert!(rt; found.as_str() == *answer, "{code} {tail}: {found}");
-    }
-    Ok(())
+fn is_told_of_nops(alloc: Global, count: usize, wanted: &str) -> Result<bool, AllocError> {
+    let code = "00".repeat(alloc, count)?;
+    is_told_of_code(alloc, 8, "", code.as_str(), NO_TAIL, wanted)
 }
 
-#[test]
-fn code_has_65535_bytes_at_most(rt: HostRuntime) -> Result<(), Fail> {
-    for (length, answer) in [(65535usize, "read"), (65536, "O5 in method main()V")] {
-        let code = "00".repeat(rt.alloc(), length)?;
-        let found = told_of_code(rt.alloc(), 8, "", code.as_str(), NO_TAIL)?;
-        assert!(rt; found.as_str() == answer);
-    }
-    Ok(())
-}
-
-/// What users are told of some nops, `ldc` of that Integer, and a tableswitch from 2147483646 with two labels behind
-/// these pads.
-fn told_of_pads(alloc: Global, nops: &str, pads: &str, to_end: &str) -> Result<String, Fail> {
+/// Whether some nops, `ldc` of that Integer, and a tableswitch from 2147483646 with two labels behind these pads are
+/// read.
+fn is_read_with_pads(
+    alloc: Global,
+    nops: &str,
+    pads: &str,
+    to_end: &str,
+) -> Result<bool, AllocError> {
     let code = format!(in alloc;
         "{nops} 12 08 aa {pads} {to_end} 7ffffffe 7fffffff {to_end} {to_end} b1"
     )?;
-    told_of_code(alloc, 9, INTEGER, code.as_str(), NO_TAIL)
+    is_told_of_code(alloc, 9, INTEGER, code.as_str(), NO_TAIL, "read")
 }
 
-#[test]
-fn a_switch_has_pads(rt: HostRuntime) -> Result<(), Fail> {
-    for (nops, right) in [
-        ("", "00"),
-        ("00", ""),
-        ("0000", "000000"),
-        ("000000", "0000"),
-    ] {
-        for (pads, to_end) in [
-            ("", "00000015"),
-            ("00", "00000016"),
-            ("0000", "00000017"),
-            ("000000", "00000018"),
-        ] {
-            let found = told_of_pads(rt.alloc(), nops, pads, to_end)?;
-            assert!(rt; (found.as_str() == "read") == (pads == right));
+/// Pads, and the way from the switch to its end.
+const PADS: &[(&str, &str)] = &[
+    ("", "00000015"),
+    ("00", "00000016"),
+    ("0000", "00000017"),
+    ("000000", "00000018"),
+];
+
+/// Whether of these pads the right ones alone are read behind some nops.
+fn wants_pads(alloc: Global, nops: &str, right: &str) -> Result<bool, AllocError> {
+    for (pads, to_end) in PADS {
+        if is_read_with_pads(alloc, nops, pads, to_end)? != (*pads == right) {
+            return Ok(false);
         }
     }
-    Ok(())
+    Ok(true)
 }
 
 /// An Integer 8, a Long 9, a field `main I` 13, and methods `main()V` of a class 15 and of an interface 16.
@@ -202,25 +189,30 @@ const OPERANDS: &[(&str, &str, u8, u8)] = &[
     ("c1", "", 2, 4),
 ];
 
-fn told_of_operand(alloc: Global, opcode: &str, number: u8, tail: &str) -> Result<String, Fail> {
+fn is_told_of_operand(
+    alloc: Global,
+    opcode: &str,
+    number: u8,
+    tail: &str,
+    wanted: &str,
+) -> Result<bool, AllocError> {
     let code = format!(in alloc; "{opcode} 00{number:02x} {tail}")?;
-    told_of_code(alloc, 17, ENTRIES, code.as_str(), NO_TAIL)
+    is_told_of_code(alloc, 17, ENTRIES, code.as_str(), NO_TAIL, wanted)
 }
 
-#[test]
-fn each_operand_has_its_kind(rt: HostRuntime) -> Result<(), Fail> {
-    for (opcode, tail, one, other) in OPERANDS {
-        for number in 0u8..18 {
-            let answer = if number == *one || number == *other {
-                "read"
-            } else {
-                "C6"
-            };
-            let found = told_of_operand(rt.alloc(), opcode, number, tail)?;
-            assert!(rt; found.as_str() == answer, "{opcode} {number}");
+/// Whether an opcode is read with these numbers alone.
+fn takes(alloc: Global, opcode: &str, tail: &str, one: u8, other: u8) -> Result<bool, AllocError> {
+    for number in 0u8..18 {
+        let wanted = if number == one || number == other {
+            "read"
+        } else {
+            "C6"
+        };
+        if !is_told_of_operand(alloc, opcode, number, tail, wanted)? {
+            return Ok(false);
         }
     }
-    Ok(())
+    Ok(true)
 }
 
 /// Whether a class file has one method, and its code two rows for all of it, for class 2 and for any.
@@ -238,26 +230,24 @@ fn has_rows(file: &ClassFile) -> bool {
         && (any.start, any.end, any.handler, any.class) == (0, 1, 0, 0)
 }
 
-#[test]
-fn rows_are_read_and_written(rt: HostRuntime) -> Result<(), Fail> {
-    let bytes = with_code(
-        rt.alloc(),
-        8,
-        "",
-        "b1",
-        "0002 0000000100000002 0000000100000000 0000",
-    )?;
-    let file = read(rt.alloc(), &bytes)?;
-    assert!(rt; has_rows(&file) && write(rt.alloc(), &file)?.as_slice() == bytes.as_slice());
-    Ok(())
+fn reads_rows(alloc: Global, bytes: &[u8]) -> bool {
+    match read(alloc, bytes) {
+        Ok(file) => has_rows(&file),
+        Err(_) => false,
+    }
 }
 
-#[test]
-fn an_attribute_of_code_is_not_written(rt: HostRuntime) -> Result<(), Fail> {
-    let bytes = with_code(rt.alloc(), 8, "", "b1", "0000 0001 0007 00000001 09")?;
-    let file = read(rt.alloc(), &bytes)?;
-    assert!(rt; write(rt.alloc(), &file)?.as_slice() == e(rt.alloc())?.as_slice());
-    Ok(())
+/// Whether two rows are read, and written as they were.
+fn rows_come_back(alloc: Global) -> Result<bool, AllocError> {
+    let tail = "0002 0000000100000002 0000000100000000 0000";
+    let bytes = with_code(alloc, 8, "", "b1", tail)?;
+    Ok(reads_rows(alloc, &bytes) && is_written_as(alloc, &bytes, &bytes))
+}
+
+/// Whether an attribute of code is left out where the class file is written.
+fn attribute_is_left_out(alloc: Global) -> Result<bool, AllocError> {
+    let bytes = with_code(alloc, 8, "", "b1", "0000 0001 0007 00000001 09")?;
+    Ok(is_written_as(alloc, &bytes, &e(alloc)?))
 }
 
 const NONE: &str = "0000";
@@ -294,20 +284,26 @@ const METHODS: &[(u16, &str, &str)] = &[
     (0x0109, "0001 0003 ffffffff", "C3"),
 ];
 
-/// What users are told of E with these entries behind its own and this method.
-fn told_of_method(alloc: Global, count: u8, entries: &str, method: &str) -> Result<String, Fail> {
+/// Whether users are told this of E with these entries behind its own and this method.
+fn is_told_of_method(
+    alloc: Global,
+    count: u8,
+    entries: &str,
+    method: &str,
+    wanted: &str,
+) -> Result<bool, AllocError> {
     let bytes = other_e(alloc, count, entries, method)?;
-    Ok(told(alloc, &bytes)?)
+    is_told(alloc, &bytes, wanted)
 }
 
-#[test]
-fn a_method_has_code_or_none(rt: HostRuntime) -> Result<(), Fail> {
-    for (flags, attributes, answer) in METHODS {
-        let method = format!(in rt.alloc(); "0001 {flags:04x} 0005 0006 {attributes}")?;
-        let found = told_of_method(rt.alloc(), 8, "", method.as_str())?;
-        assert!(rt; found.as_str() == *answer, "{method}: {found}");
-    }
-    Ok(())
+fn is_told_of_flags(
+    alloc: Global,
+    flags: u16,
+    attributes: &str,
+    wanted: &str,
+) -> Result<bool, AllocError> {
+    let method = format!(in alloc; "0001 {flags:04x} 0005 0006 {attributes}")?;
+    is_told_of_method(alloc, 8, "", method.as_str(), wanted)
 }
 
 /// A descriptor's length, the ints behind its 127 longs, which take 254 units, and a method that has it; and what users
@@ -319,17 +315,69 @@ const ARGUMENTS: &[(&str, &str, &str, &str)] = &[
     ("0083", "49", "0001 0101 0005 0008 0000", "C7"),
 ];
 
-fn compare_arguments(rt: &impl Abort, alloc: Global, longs: &str) -> Result<(), Fail> {
-    for (length, ints, method, answer) in ARGUMENTS {
-        let entry = format!(in alloc; "01 {length} 28 {longs} {ints} 29 56")?;
-        let found = told_of_method(alloc, 9, entry.as_str(), method)?;
-        assert!(rt; found.as_str() == *answer, "{length} {method}");
-    }
-    Ok(())
+fn is_told_of_arguments(
+    alloc: Global,
+    length: &str,
+    ints: &str,
+    method: &str,
+    wanted: &str,
+) -> Result<bool, AllocError> {
+    let longs = "4a".repeat(alloc, 127)?;
+    let entry = format!(in alloc; "01 {length} 28 {longs} {ints} 29 56")?;
+    is_told_of_method(alloc, 9, entry.as_str(), method, wanted)
 }
 
+/// Nops, and the pads of a switch behind them.
+const RIGHT_PADS: &[(&str, &str)] = &[
+    ("", "00"),
+    ("00", ""),
+    ("0000", "000000"),
+    ("000000", "0000"),
+];
+
+/// Code has 65,535 bytes at most; its switches have pads, and each operand has its kind.
 #[test]
-fn arguments_take_255_units(rt: HostRuntime) -> Result<(), Fail> {
-    let longs = "4a".repeat(rt.alloc(), 127)?;
-    compare_arguments(&rt, rt.alloc(), longs.as_str())
+fn codes_are_read_or_refused(rt: HostRuntime) {
+    for (count, entries, code, tail, answer) in CODES {
+        assert!(rt;
+            is_told_of_code(rt.alloc(), *count, entries, code, tail, answer) == Ok(true),
+            "{code} {tail}"
+        );
+    }
+    for (nops, right) in RIGHT_PADS {
+        assert!(rt; wants_pads(rt.alloc(), nops, right) == Ok(true), "pads");
+    }
+    for (opcode, tail, one, other) in OPERANDS {
+        assert!(rt;
+            takes(rt.alloc(), opcode, tail, *one, *other) == Ok(true),
+            "{opcode}"
+        );
+    }
+    assert!(rt;
+        is_told_of_nops(rt.alloc(), 65535, "read") == Ok(true),
+        "65535"
+    );
+    assert!(rt;
+        is_told_of_nops(rt.alloc(), 65536, "O5 in method main()V") == Ok(true),
+        "65536"
+    );
+}
+
+/// A method has code or none, and its arguments take 255 units at most.
+#[test]
+fn methods_are_read_or_refused(rt: HostRuntime) {
+    for (flags, attributes, answer) in METHODS {
+        assert!(rt;
+            is_told_of_flags(rt.alloc(), *flags, attributes, answer) == Ok(true),
+            "{flags} {attributes}"
+        );
+    }
+    for (length, ints, method, answer) in ARGUMENTS {
+        assert!(rt;
+            is_told_of_arguments(rt.alloc(), length, ints, method, answer) == Ok(true),
+            "{length}"
+        );
+    }
+    assert!(rt; rows_come_back(rt.alloc()) == Ok(true), "rows");
+    assert!(rt; attribute_is_left_out(rt.alloc()) == Ok(true), "attribute");
 }

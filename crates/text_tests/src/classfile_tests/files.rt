@@ -1,11 +1,10 @@
 //! Whole class files.
 
-use super::{e, e_with, told};
-use classfile::{ClassError, ClassFile, again, one_class_file, read, write};
+use super::{e, e_with, has_bytes, is_told};
+use classfile::{ClassError, ClassFile, again, one_class_file, read};
 use model::class_files::FormatFault;
 use model::instructions::Instruction;
-use std::alloc::Global;
-use std::test::*;
+use std::alloc::{AllocError, Global};
 
 /// Whether this is E: its head, its one method, and its one instruction.
 fn is_e(file: &ClassFile) -> bool {
@@ -26,44 +25,47 @@ fn is_e(file: &ClassFile) -> bool {
         && matches!(&end.instruction, Instruction::Return(None))
 }
 
-/// The bytes that a class file of these bytes has, and those of one that is read again.
-fn written(alloc: Global, bytes: &[u8]) -> Result<(Vec<u8>, Vec<u8>), Fail> {
-    let file = read(alloc, bytes)?;
-    let copy = again(alloc, &file)?;
-    Ok((write(alloc, &file)?, write(alloc, &copy)?))
-}
-
-#[test]
-fn e_is_read_and_written(rt: HostRuntime) -> Result<(), Fail> {
-    let bytes = e(rt.alloc())?;
-    assert!(rt; is_e(&read(rt.alloc(), &bytes)?));
-    let (first, second) = written(rt.alloc(), &bytes)?;
-    assert!(rt; first.as_slice() == bytes.as_slice() && second.as_slice() == bytes.as_slice());
-    one_class_file();
-    Ok(())
-}
-
-/// Whether users are told C3 of so many of these bytes.
-fn is_cut(alloc: Global, bytes: &[u8], len: usize) -> Result<bool, Fail> {
-    let front = bytes.get(..len).ok_or("no front")?;
-    Ok(told(alloc, front)?.as_str() == "C3")
-}
-
-#[test]
-fn cut_files(rt: HostRuntime) -> Result<(), Fail> {
-    let bytes = e(rt.alloc())?;
-    for len in 0..100usize {
-        assert!(rt; is_cut(rt.alloc(), &bytes, len)?, "{len}");
+/// Whether a copy of a class file is written as these bytes.
+fn copy_has_bytes(alloc: Global, file: &ClassFile, wanted: &[u8]) -> bool {
+    match again(alloc, file) {
+        Ok(copy) => has_bytes(alloc, &copy, wanted),
+        Err(_) => false,
     }
-    Ok(())
 }
 
-#[test]
-fn one_byte_more(rt: HostRuntime) -> Result<(), Fail> {
-    let mut longer = e(rt.alloc())?;
+/// Whether E's bytes are read as E, and written again.
+fn comes_back(alloc: Global, bytes: &[u8]) -> bool {
+    match read(alloc, bytes) {
+        Ok(file) => {
+            is_e(&file) && has_bytes(alloc, &file, bytes) && copy_has_bytes(alloc, &file, bytes)
+        }
+        Err(_) => false,
+    }
+}
+
+/// Whether users are told C3 of each front of these bytes.
+fn is_cut(alloc: Global, bytes: &[u8]) -> Result<bool, AllocError> {
+    for len in 0..100usize {
+        let Some(front) = bytes.get(..len) else {
+            return Ok(false);
+        };
+        if !is_told(alloc, front, "C3")? {
+            return Ok(false);
+        }
+    }
+    Ok(true)
+}
+
+fn one_more_is_told(alloc: Global) -> Result<bool, AllocError> {
+    let mut longer = e(alloc)?;
     longer.push(0)?;
-    assert!(rt; told(rt.alloc(), &longer)?.as_str() == "C4");
-    Ok(())
+    is_told(alloc, &longer, "C4")
+}
+
+/// Whether E's bytes are read and written, and refused if they are cut.
+fn are_whole(alloc: Global) -> Result<bool, AllocError> {
+    let bytes = e(alloc)?;
+    Ok(comes_back(alloc, &bytes) && is_cut(alloc, &bytes)?)
 }
 
 /// A place in E, another byte that is there, and what users are told.
@@ -102,53 +104,68 @@ const CHANGES: &[(usize, u8, &str)] = &[
     (99, 0xff, "C3"),
 ];
 
-#[test]
-fn one_byte_is_another(rt: HostRuntime) -> Result<(), Fail> {
-    for (place, byte, answer) in CHANGES {
-        let bytes = e_with(rt.alloc(), *place, *byte)?;
-        assert!(rt;
-            told(rt.alloc(), &bytes)?.as_str() == *answer,
-            "{place} {byte}"
-        );
-    }
-    Ok(())
+fn change_is_told(alloc: Global, place: usize, byte: u8, wanted: &str) -> Result<bool, AllocError> {
+    let bytes = e_with(alloc, place, byte)?;
+    is_told(alloc, &bytes, wanted)
 }
 
-/// Whether bytes are no class file, or the class file that they are has these bytes; and whether they are one.
-fn come_back(alloc: Global, bytes: &[u8]) -> Result<(bool, bool), Fail> {
+/// Whether bytes are a class file; none where it isn't written as these again.
+fn is_read(alloc: Global, bytes: &[u8]) -> Option<bool> {
     match read(alloc, bytes) {
-        Ok(file) => Ok((write(alloc, &file)?.as_slice() == bytes, true)),
-        Err(_) => Ok((true, false)),
+        Ok(file) => if has_bytes(alloc, &file, bytes) {
+            Some(true)
+        } else {
+            None
+        },
+        Err(_) => Some(false),
     }
+}
+
+/// The same of E with another byte at a place; false where E has this byte.
+fn is_read_with(alloc: Global, place: usize, byte: u8) -> Result<Option<bool>, AllocError> {
+    let bytes = e_with(alloc, place, byte)?;
+    let is_e = bytes.as_slice() == e(alloc)?.as_slice();
+    Ok(match is_read(alloc, &bytes) {
+        Some(is_read) => Some(is_read && !is_e),
+        None => None,
+    })
 }
 
 /// Flags of the class and of the method, the bytes of the limits, and nop for return.
 const FREE: &[usize] = &[60, 72, 85, 86, 87, 88, 93];
 
-#[test]
-fn every_byte_is_another(rt: HostRuntime) -> Result<(), Fail> {
-    for place in 0..100usize {
-        let mut is_free = false;
-        for byte in [0u8, 0xff] {
-            let bytes = e_with(rt.alloc(), place, byte)?;
-            let (is_right, is_read) = come_back(rt.alloc(), &bytes)?;
-            assert!(rt; is_right, "{place}");
-            is_free |= is_read && bytes.as_slice() != e(rt.alloc())?.as_slice();
-        }
-        assert!(rt; is_free == FREE.contains(&place), "{place}");
-    }
-    Ok(())
+/// Whether another byte at a place, of these two, is read, where it is free, and otherwise not.
+fn is_right(alloc: Global, place: usize) -> Result<bool, AllocError> {
+    let zero = is_read_with(alloc, place, 0)?;
+    let ones = is_read_with(alloc, place, 0xff)?;
+    Ok(match (zero, ones) {
+        (Some(zero), Some(ones)) => (zero | ones) == FREE.contains(&place),
+        _ => false,
+    })
 }
 
+/// Whether these errors, one after another, are told so.
+fn codes_are_told(alloc: Global) -> Result<bool, AllocError> {
+    let (full, memory) = (ClassError::PoolFull, ClassError::Memory);
+    let short = ClassError::Format(FormatFault::Short);
+    let flags = ClassError::Format(FormatFault::Flags);
+    Ok(format!(in alloc; "{full} {memory} {short} {flags}")?.as_str() == "C9 C10 C3 C11")
+}
+
+/// E as it is, cut, with a byte more, and with one byte that is another.
 #[test]
-fn what_users_are_told(rt: HostRuntime) -> Result<(), Fail> {
-    for (error, answer) in [
-        (ClassError::PoolFull, "C9"),
-        (ClassError::Memory, "C10"),
-        (ClassError::Format(FormatFault::Short), "C3"),
-        (ClassError::Format(FormatFault::Flags), "C11"),
-    ] {
-        assert!(rt; error.to_string(rt.alloc())?.as_str() == answer);
+fn class_files(rt: HostRuntime) {
+    assert!(rt; are_whole(rt.alloc()) == Ok(true), "whole");
+    assert!(rt; one_more_is_told(rt.alloc()) == Ok(true), "a byte more");
+    for (place, byte, answer) in CHANGES {
+        assert!(rt;
+            change_is_told(rt.alloc(), *place, *byte, answer) == Ok(true),
+            "{place}"
+        );
     }
-    Ok(())
+    for place in 0..100usize {
+        assert!(rt; is_right(rt.alloc(), place) == Ok(true), "{place}");
+    }
+    assert!(rt; codes_are_told(rt.alloc()) == Ok(true), "codes");
+    one_class_file();
 }

@@ -18,8 +18,12 @@ const A: &str = "cafebabe 0000 0031 0014 037fffffff 01000141 070002
     0001 0009 000b 000c 0001 000d 0000001a 0001 0000 00000006 1201 b80013 b1 0001 0000 0002 0005 0005 0000 0000";
 
 /// The listing of the class file with these bytes.
+fn listing_in(alloc: Global, bytes: &[u8]) -> Result<Listing, Fail> {
+    Ok(listing(alloc, &read(alloc, bytes)?)?)
+}
+
 fn listing_of(alloc: Global, text: &str) -> Result<Listing, Fail> {
-    Ok(listing(alloc, &read(alloc, &hex(alloc, text)?)?)?)
+    listing_in(alloc, &hex(alloc, text)?)
 }
 
 fn is_smallest(e: &Listing) -> bool {
@@ -83,17 +87,19 @@ fn code_of(class: &Listing) -> Option<&Code> {
     class.methods.first()?.code.as_ref()
 }
 
-#[test]
-fn the_smallest_class(rt: HostRuntime) -> Result<(), Fail> {
-    assert!(rt; is_smallest(&listing_of(rt.alloc(), E)?));
-    Ok(())
+fn is_a(a: &Listing) -> bool {
+    match code_of(a) {
+        Some(code) => has_field(a) && has_call(code) && has_limits_and_row(code),
+        None => false,
+    }
 }
 
 #[test]
-fn a_class_with_a_call(rt: HostRuntime) -> Result<(), Fail> {
-    let a = listing_of(rt.alloc(), A)?;
-    assert!(rt; has_field(&a), "field");
-    let code = code_of(&a).ok_or("no code")?;
-    assert!(rt; has_call(code) && has_limits_and_row(code), "code");
+fn listings_by_hand(rt: HostRuntime) -> Result<(), Fail> {
+    assert!(rt;
+        is_smallest(&listing_of(rt.alloc(), E)?),
+        "the smallest class"
+    );
+    assert!(rt; is_a(&listing_of(rt.alloc(), A)?), "a class with a call");
     Ok(())
 }

@@ -7,6 +7,7 @@ use scheduler::journal_texts::errors::JournalError;
 use scheduler::journal_texts::reading::read_journal;
 use scheduler::journal_texts::writing::write_journal;
 use std::alloc::{AllocError, Global};
+use std::process::Abort;
 use std::test::Fail;
 
 /// A text of each version. They have the same rows, but for the workers.
@@ -44,12 +45,6 @@ fn written(alloc: Global) -> Result<Vec<u8>, AllocError> {
     write_journal(alloc, &journal)
 }
 
-#[test]
-fn a_journal_is_written(rt: HostRuntime) -> Result<(), Fail> {
-    assert_eq!(rt; written(rt.alloc())?.as_slice(), SECOND.as_bytes());
-    Ok(())
-}
-
 /// Whether this is the text of version 2 of the journal that a text has; empty where it has none.
 fn is_rewritten(alloc: Global, text: &str, wanted: &str) -> Result<bool, AllocError> {
     match read_journal(alloc, text.as_bytes()) {
@@ -76,16 +71,8 @@ const READ: [(&str, &str); 5] = [
     ("JVMJ 2\nheap 1 0 0\nlimits 9 0\nworkers 1\nend 0\n", ""),
 ];
 
-#[test]
-fn what_is_read_is_written_again(rt: HostRuntime) -> Result<(), Fail> {
-    for (text, wanted) in READ {
-        assert!(rt; is_rewritten(rt.alloc(), text, wanted)?, "{text}");
-    }
-    Ok(())
-}
-
 /// Texts behind `JVMJ 2`, and how they are refused.
-const HEADS: [(&str, &str); 24] = [
+const HEADS: &[(&str, &str)] = &[
     ("", "N1"),
     (" 2\nheap 2 0 0\n", "N1"),
     ("\n", "N2"),
@@ -116,7 +103,7 @@ const HEADS: [(&str, &str); 24] = [
 ];
 
 /// Texts behind a head of two workers, and how they are refused.
-const ROWS: [(&str, &str); 23] = [
+const ROWS: &[(&str, &str)] = &[
     ("0 d 2\nend 1\n", "N3 at row 1"),
     ("0 d 1\n256 d 0\nend 3\n", "N3 at row 2"),
     ("0 d 0\n0 d 00\nend 2\n", "N3 at row 2"),
@@ -142,30 +129,8 @@ const ROWS: [(&str, &str); 23] = [
     ("end 0\nend 0\n", "N4"),
 ];
 
-/// Whether the text of a head and of what follows is refused so, or `read`.
-fn is_told(alloc: Global, head: &str, rest: &str, wanted: &str) -> Result<bool, AllocError> {
-    let mut text = Vec::from_slice(alloc, head.as_bytes())?;
-    text.extend_from_slice(rest.as_bytes())?;
-    match read_journal(alloc, &text) {
-        Ok(_) => Ok(wanted == "read"),
-        Err(error) => Ok(format!(in alloc; "{error}")?.as_str() == wanted),
-    }
-}
-
-#[test]
-fn the_first_fault_is_told(rt: HostRuntime) -> Result<(), Fail> {
-    for (rest, wanted) in HEADS {
-        assert!(rt; is_told(rt.alloc(), "JVMJ 2", rest, wanted)?, "{rest}");
-    }
-    let two = "JVMJ 2\nheap 2 0 0\nlimits 9 0\nworkers 2\n";
-    for (rest, wanted) in ROWS {
-        assert!(rt; is_told(rt.alloc(), two, rest, wanted)?, "{rest}");
-    }
-    Ok(())
-}
-
-/// Texts behind a head of version 1, and how they are refused.
-const OLD_ROWS: [(&str, &str); 5] = [
+/// Texts behind a head of version 1, which tells no workers, and how they are refused.
+const OLD_ROWS: &[(&str, &str)] = &[
     ("0 d\nc o\nend 2\n", "read"),
     ("workers 1\n0 d\nend 1\n", "N3 at row 1"),
     ("0 d\n0 d 0\nend 2\n", "N3 at row 2"),
@@ -173,11 +138,47 @@ const OLD_ROWS: [(&str, &str); 5] = [
     ("0 d\nend 2\n", "N4"),
 ];
 
+/// What users are told of a text.
+fn told(alloc: Global, text: &[u8]) -> Result<String, AllocError> {
+    match read_journal(alloc, text) {
+        Ok(_) => String::from_str(alloc, "read"),
+        Err(error) => error.to_string(alloc),
+    }
+}
+
+fn is_told(alloc: Global, head: &str, rest: &str, wanted: &str) -> Result<bool, AllocError> {
+    let text = format!(in alloc; "{head}{rest}")?;
+    Ok(told(alloc, text.as_bytes())?.as_str() == wanted)
+}
+
+/// Reads the text of each row behind a head.
+fn compare(
+    rt: &impl Abort,
+    alloc: Global,
+    head: &str,
+    rows: &[(&str, &str)],
+) -> Result<(), AllocError> {
+    for (rest, wanted) in rows {
+        assert!(rt; is_told(alloc, head, rest, wanted)?, "{rest}");
+    }
+    Ok(())
+}
+
 #[test]
-fn version_1_tells_no_workers(rt: HostRuntime) -> Result<(), Fail> {
-    let head = "JVMJ 1\nheap 2 0 0\nlimits 9 0\n";
-    for (rest, wanted) in OLD_ROWS {
-        assert!(rt; is_told(rt.alloc(), head, rest, wanted)?, "{rest}");
+fn journals_are_written_and_read(rt: HostRuntime) -> Result<(), Fail> {
+    assert!(rt;
+        written(rt.alloc())?.as_slice() == SECOND.as_bytes(),
+        "written"
+    );
+    for (text, wanted) in READ {
+        assert!(rt; is_rewritten(rt.alloc(), text, wanted)?, "{text}");
+    }
+    for (head, rows) in [
+        ("JVMJ 2", HEADS),
+        ("JVMJ 2\nheap 2 0 0\nlimits 9 0\nworkers 2\n", ROWS),
+        ("JVMJ 1\nheap 2 0 0\nlimits 9 0\n", OLD_ROWS),
+    ] {
+        compare(&rt, rt.alloc(), head, rows)?;
     }
     Ok(())
 }
@@ -248,24 +249,26 @@ fn line_at<'a>(lines: &[&'a [u8]], place: usize) -> &'a [u8] {
     }
 }
 
+/// Whether a line is this word and so many numbers.
+fn has_line(alloc: Global, line: &[u8], first: &[u8], numbers: usize) -> Result<bool, AllocError> {
+    Ok(is_line(&words(alloc, line)?, first, numbers))
+}
+
 /// The number of the fault in the first lines, 0 where there is none.
 fn head_fault(alloc: Global, lines: &[&[u8]]) -> Result<u8, AllocError> {
     let first = line_at(lines, 0);
     if first != b"JVMJ 1\n".as_slice() && first != b"JVMJ 2\n".as_slice() {
         return Ok(1);
     }
-    let heap = words(alloc, line_at(lines, 1))?;
-    let limits = words(alloc, line_at(lines, 2))?;
-    let workers = words(alloc, line_at(lines, 3))?;
-    if !is_line(&heap, b"heap", 3) || !is_line(&limits, b"limits", 2) {
+    if !has_line(alloc, line_at(lines, 1), b"heap", 3)? {
         return Ok(2);
     }
+    if !has_line(alloc, line_at(lines, 2), b"limits", 2)? {
+        return Ok(2);
+    }
+    let has_workers = has_line(alloc, line_at(lines, 3), b"workers", 1)?;
     let two = first == b"JVMJ 2\n".as_slice();
-    Ok(if two && !is_line(&workers, b"workers", 1) {
-        7
-    } else {
-        0
-    })
+    Ok(if two && !has_workers { 7 } else { 0 })
 }
 
 /// Whether the last line is the end line of so many rows.
@@ -277,6 +280,14 @@ fn is_end(words: &[&[u8]], rows: usize) -> bool {
     }
 }
 
+fn has_end(alloc: Global, line: &[u8], rows: usize) -> Result<bool, AllocError> {
+    Ok(is_end(&words(alloc, line)?, rows))
+}
+
+fn has_row(alloc: Global, line: &[u8], workers: Option<u32>) -> Result<bool, AllocError> {
+    Ok(is_row(&words(alloc, line)?, workers))
+}
+
 /// The fault in the rows and the end line, with its row.
 fn rows_fault(
     alloc: Global,
@@ -284,33 +295,36 @@ fn rows_fault(
     workers: Option<u32>,
 ) -> Result<(u8, usize), AllocError> {
     for (rows, line) in lines.iter().enumerate() {
-        let words = words(alloc, line)?;
         if line.starts_with(b"end") {
-            let right = is_end(&words, rows) && lines.len() == rows.saturating_add(1);
+            let right = has_end(alloc, line, rows)? && lines.len() == rows.saturating_add(1);
             return Ok((if right { 0 } else { 4 }, 0));
         }
-        if !is_row(&words, workers) {
+        if !has_row(alloc, line, workers)? {
             return Ok((3, rows.saturating_add(1)));
         }
     }
     Ok((4, 0))
 }
 
-/// The first fault of a text, with its row; zeros where there is none.
+/// The first fault of some lines, with its row; zeros where there is none.
+fn fault_in(alloc: Global, lines: &[&[u8]]) -> Result<(u8, usize), AllocError> {
+    let head = head_fault(alloc, lines)?;
+    if head != 0 {
+        return Ok((head, 0));
+    }
+    if line_at(lines, 0) == b"JVMJ 1\n".as_slice() {
+        return rows_fault(alloc, lines.get(3..).unwrap_or(&[]), None);
+    }
+    // the texts here have three workers
+    rows_fault(alloc, lines.get(4..).unwrap_or(&[]), Some(3))
+}
+
 fn plain_fault(alloc: Global, text: &[u8]) -> Result<(u8, usize), AllocError> {
     let mut lines = Vec::new(alloc);
     for line in text.split_inclusive(|b| *b == b'\n') {
         lines.push(line)?;
     }
-    let head = head_fault(alloc, &lines)?;
-    if head != 0 {
-        return Ok((head, 0));
-    }
-    if line_at(&lines, 0) == b"JVMJ 1\n".as_slice() {
-        return rows_fault(alloc, lines.get(3..).unwrap_or(&[]), None);
-    }
-    // the texts here have three workers
-    rows_fault(alloc, lines.get(4..).unwrap_or(&[]), Some(3))
+    fault_in(alloc, &lines)
 }
 
 /// The fault that is told, with its row.
@@ -330,18 +344,32 @@ fn agrees(alloc: Global, text: &[u8]) -> Result<bool, AllocError> {
     Ok(plain_fault(alloc, text)? == told_fault(alloc, text))
 }
 
+/// The same of a text with another byte at a place.
+fn agrees_with(alloc: Global, text: &[u8], place: usize, byte: u8) -> Result<bool, AllocError> {
+    let mut changed = Vec::from_slice(alloc, text)?;
+    if let Some(old) = changed.get_mut(place) {
+        *old = byte;
+    }
+    agrees(alloc, &changed)
+}
+
+/// The same of a text that is cut at a place, and of one with another byte there.
+fn agree_at(alloc: Global, text: &[u8], place: usize) -> Result<bool, AllocError> {
+    let front = text.get(..place).unwrap_or(text);
+    Ok(
+        agrees(alloc, front)?
+            && agrees_with(alloc, text, place, 0)?
+            && agrees_with(alloc, text, place, 255)?,
+    )
+}
+
 #[test]
 fn broken_texts_are_told_as_by_a_plain_reader(rt: HostRuntime) -> Result<(), Fail> {
     for text in [FIRST.as_bytes(), SECOND.as_bytes()] {
-        assert!(rt; agrees(rt.alloc(), text)?);
         for place in 0..text.len() {
-            assert!(rt; agrees(rt.alloc(), &text[..place])?, "cut at {place}");
-            for byte in [0, 255] {
-                let mut changed = Vec::from_slice(rt.alloc(), text)?;
-                changed[place] = byte;
-                assert!(rt; agrees(rt.alloc(), &changed)?, "{byte} at {place}");
-            }
+            assert!(rt; agree_at(rt.alloc(), text, place)?, "{place}");
         }
+        assert!(rt; agrees(rt.alloc(), text)?);
     }
     Ok(())
 }

@@ -1,11 +1,11 @@
 //! Journals that replay on a small main, and journals that don't.
 
-use super::WRAPPING_SUM;
-use crate::mains::program;
+use crate::mains::{WRAPPING_SUM, program};
+use model::journals::Journal;
 use model::turns::Status;
 use scheduler::journal_texts::reading::read_journal;
 use scheduler::journal_texts::writing::write_journal;
-use scheduler::replaying::replay;
+use scheduler::replaying::{ReplayError, replay};
 use scheduler::worlds::World;
 use std::alloc::{AllocError, Global};
 use std::test::Fail;
@@ -29,11 +29,18 @@ const REFUSED: [(&str, &str); 8] = [
     ("limits 9 11\n0 d\n0 d\n0 d\n0 d\nend 4\n", "N5 at row 4"),
 ];
 
-/// The world that a journal's text replays to.
-fn replayed(alloc: Global, text: &[u8]) -> Result<World, Fail> {
-    let journal = read_journal(alloc, text)?;
-    let sum = program(alloc, 2, &WRAPPING_SUM)?;
-    Ok(replay(alloc, sum, &journal)?)
+/// Whether a world's main has printed the sum and ended, and its journal replays and has this text.
+fn is_whole(alloc: Global, world: &World, text: &str) -> Result<bool, Fail> {
+    let is_over = world.status() == Status::Finished
+        && world.output() == b"-2147483648\n".as_slice();
+    Ok(is_over && comes_back(alloc, world.journal(), text)?)
+}
+
+/// Whether the world to which a journal replays has a journal of this text.
+fn comes_back(alloc: Global, journal: &Journal, text: &str) -> Result<bool, Fail> {
+    let sum = program(alloc, 2, WRAPPING_SUM)?;
+    let world = replay(alloc, sum, journal)?;
+    Ok(has_text(alloc, &world, text)?)
 }
 
 /// Whether this is the text of a world's journal.
@@ -41,32 +48,36 @@ fn has_text(alloc: Global, world: &World, text: &str) -> Result<bool, AllocError
     Ok(write_journal(alloc, world.journal())?.as_slice() == text.as_bytes())
 }
 
-#[test]
-fn a_whole_journal_replays(rt: HostRuntime) -> Result<(), Fail> {
-    let world = replayed(rt.alloc(), WHOLE.as_bytes())?;
-    assert!(rt;
-        world.status() == Status::Finished && world.output() == b"-2147483648\n".as_slice()
-    );
-    let sum = program(rt.alloc(), 2, &WRAPPING_SUM)?;
-    let again = replay(rt.alloc(), sum, world.journal())?;
-    assert!(rt; has_text(rt.alloc(), &again, WHOLE)?);
-    Ok(())
+/// The same of a journal's text that replays on that main.
+fn is_whole_text(alloc: Global, text: &str) -> Result<bool, Fail> {
+    let journal = read_journal(alloc, text.as_bytes())?;
+    let world = replay(alloc, program(alloc, 2, WRAPPING_SUM)?, &journal)?;
+    is_whole(alloc, &world, text)
+}
+
+/// Why a journal's text is refused on that main, if it is.
+fn refusal(alloc: Global, text: &str) -> Result<Option<ReplayError>, Fail> {
+    let journal = read_journal(alloc, text.as_bytes())?;
+    Ok(replay(alloc, program(alloc, 2, WRAPPING_SUM)?, &journal).err())
+}
+
+fn is_told(alloc: Global, error: Option<ReplayError>, wanted: &str) -> Result<bool, AllocError> {
+    match error {
+        Some(error) => Ok(error.to_string(alloc)?.as_str() == wanted),
+        None => Ok(false),
+    }
 }
 
 /// Whether the journal of version 1 that has these lines behind the heap's is refused so.
 fn is_refused(alloc: Global, rest: &str, wanted: &str) -> Result<bool, Fail> {
-    let mut text = Vec::from_slice(alloc, b"JVMJ 1\nheap 2 0 0\n")?;
-    text.extend_from_slice(rest.as_bytes())?;
-    let journal = read_journal(alloc, &text)?;
-    let sum = program(alloc, 2, &WRAPPING_SUM)?;
-    match replay(alloc, sum, &journal) {
-        Ok(_) => Ok(false),
-        Err(error) => Ok(format!(in alloc; "{error}")?.as_str() == wanted),
-    }
+    let text = format!(in alloc; "JVMJ 1\nheap 2 0 0\n{rest}")?;
+    let error = refusal(alloc, text.as_str())?;
+    Ok(is_told(alloc, error, wanted)?)
 }
 
 #[test]
-fn the_first_row_that_differs_is_told(rt: HostRuntime) -> Result<(), Fail> {
+fn journals_replay_or_are_refused(rt: HostRuntime) -> Result<(), Fail> {
+    assert!(rt; is_whole_text(rt.alloc(), WHOLE)?);
     for (rest, wanted) in REFUSED {
         assert!(rt; is_refused(rt.alloc(), rest, wanted)?, "{rest}");
     }

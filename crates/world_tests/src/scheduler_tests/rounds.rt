@@ -1,11 +1,9 @@
 //! Rounds of a small main. The rows are counted by hand: each turn of the thread with one of the collector behind it,
 //! but for the last, after which the world runs no more.
 
-use super::sum_after;
 use model::journals::{Outcome, Row};
 use model::turns::{Actor, Turn};
 use scheduler::worlds::World;
-use std::test::Fail;
 
 const MADE: Row = Row {
     actor: Actor::Thread(0),
@@ -31,12 +29,9 @@ fn has_pairs(world: &World, pairs: usize) -> bool {
     rows.next().is_none()
 }
 
-#[test]
-fn rounds_end_with_their_thread(rt: HostRuntime) -> Result<(), Fail> {
-    let mut world = sum_after(rt.alloc(), 12, 0)?;
-    assert_eq!(rt; world.rounds(3, 1), Turn::Done);
-    assert!(rt; has_pairs(&world, 3));
-    assert_eq!(rt; world.rounds(1_000, 1), Turn::NotReady);
-    assert_eq!(rt; world.journal().rows().len(), 9);
-    Ok(())
+pub fn rounds_end_with_their_thread(world: &mut World) -> bool {
+    world.rounds(3, 1) == Turn::Done
+        && has_pairs(world, 3)
+        && world.rounds(1_000, 1) == Turn::NotReady
+        && world.journal().rows().len() == 9
 }
