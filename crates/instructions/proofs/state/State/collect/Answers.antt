@@ -1,9 +1,8 @@
 -- The collector's turn on the state's parts is that of the machine on cells.
 use Rattle.std.proofs.Common.{◌<◌, arith}
 use Rattle.model.specs.declared.turns.Actor.TheVariants.{Collector}
-use Rattle.collector.specs.Freed.{freed_cell}
+use Rattle.instructions.proofs.LoneRoundLemmas.{collected-sound, heap-alone}
 use Rattle.instructions.proofs.Refusing.{unrefused_counted}
-use Rattle.instructions.proofs.StoredLemmas.{cleared-stored}
 use Rattle.instructions.proofs.Turning.{collected_shown}
 use Rattle.instructions.proofs.Waiting.{now}
 use Rattle.instructions.proofs.state.State.collect.Goals as goal
@@ -24,19 +23,6 @@ returns c =
 pub invariant_of-self : goal.invariant_of-self
 invariant_of-self c =
     let a = c.self.inside in
-    let sound = c.self.invariant in
-    rw (c.collect.ensures.heap, c.collect.ensures.thread, c.collect.ensures.slots, c.collect.ensures.states, c.collect.ensures.output) (record {
-      named = sound.named;
-      accepted = sound.accepted;
-      room = sound.room;
-      steps = sound.steps;
-      started = sound.started;
-      few_threads = sound.few_threads;
-      parked = sound.parked;
-      sized = sound.sized;
-      few_slots = sound.few_slots;
-      slots_are = sound.slots_are;
-      classes = sound.classes;
-      births = omega (arith, sound.births);
-      stored = cleared-stored a.program a.machine.heap.objects (freed_cell a.machine.heap.account a.machine.heap.account.phase) sound.stored;
-    })
+    let m = c.collect.new.self in
+    let is = c.collect.ensures in
+    collected-sound a c.self.invariant m (heap-alone a.machine m _ is.heap is.thread is.frames is.slots is.states is.output)
