@@ -32,6 +32,7 @@ mod pushes;
 mod quick_arrays;
 mod quick_calls;
 mod quick_fields;
+mod quick_statics;
 mod readiness;
 mod returns;
 mod starting;
