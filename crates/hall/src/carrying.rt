@@ -6,7 +6,6 @@ use crate::halls::Hall;
 use crate::patience::Patience;
 use crate::shares::Share;
 use board::{Board, BoardSeat};
-use model::turns::{Status, Turn};
 use std::sync::Wait;
 use std::sync::ledger::Ledger;
 
@@ -19,8 +18,9 @@ pub trait Gate {
 
 /// Takes turns of the share's role, each behind the gate and followed by a pulse where it was done, until a stop is
 /// asked, or the world isn't running, or the turn was `OutputFull`, `StepLimit` or `Stopped`; in these last cases it
-/// asks for a stop. Where its turn isn't ready it yields, a carrier until the collector has had one. It takes no
-/// memory.
+/// asks for a stop. Behind a thread's turn that was done it doesn't ask whether the world is running: where it isn't,
+/// the next turn isn't done and tells it. Where its turn isn't ready it yields, a carrier until the collector has had
+/// one. It takes no memory.
 pub fn carry<L: Ledger, G: Gate, R: Wait>(
     rt: &R,
     hall: &Hall<L>,
@@ -46,6 +46,7 @@ pub fn carry<L: Ledger, G: Gate, R: Wait>(
 }
 
 // Takes a turn, tells the board of it, and answers whether it was the worker's last.
+#[inline(always)]
 fn is_last_turn<L: Ledger, R: Wait>(
     rt: &R,
     hall: &Hall<L>,
@@ -58,20 +59,18 @@ fn is_last_turn<L: Ledger, R: Wait>(
     ensures share { IsLater share.old share.new }
     ensures seat { IsSameSeat seat.old seat.new }
 {
-    let (answer, status) = hall.turn_for(rt, share);
-    match answer {
-        Turn::Done => pulse(board, seat),
-        Turn::NotReady => patience.wait(board, seat), // another worker's turn comes first
-        Turn::Stopped | Turn::Fault(_) | Turn::OutputFull | Turn::StepLimit => {}
+    let upshot = hall.turn_and_upshot(rt, share);
+    if upshot.done {
+        pulse(board, seat);
     }
-    if board.stop_asked(seat) {
+    if upshot.over {
+        board.ask_stop(seat);
         return true;
     }
-    let over = is_over(answer, status);
-    if over {
-        board.ask_stop(seat);
+    if !upshot.done {
+        patience.wait(board, seat); // another worker's turn comes first
     }
-    over
+    board.stop_asked(seat)
 }
 
 // A pulse, unless the seat's count is the greatest number.
@@ -81,16 +80,5 @@ fn pulse(board: &Board, seat: &mut BoardSeat)
 {
     if seat.count() < u64::MAX {
         board.pulse(seat);
-    }
-}
-
-// Whether no worker has more to do after a turn with this answer.
-fn is_over(answer: Turn, status: Status) -> bool {
-    match answer {
-        Turn::OutputFull | Turn::StepLimit | Turn::Stopped => true,
-        Turn::Done | Turn::NotReady | Turn::Fault(_) => match status {
-            Status::Running => false,
-            Status::Finished | Status::Stuck | Status::Faulted => true,
-        },
     }
 }

@@ -1,10 +1,12 @@
 //! When a collection is due, so that no carrier finds a heap full of garbage because the collector's thread comes late.
 ghost use Rattle.std.specs.Prelude.{◌≡◌};
+ghost use Rattle.hall.specs.Homes.{IsLater};
 ghost use Rattle.hall.specs.Shares.{Counts};
 
 use crate::roles::Role;
 use crate::shares::{Share, Shared};
 use model::turns::Turn;
+use scheduler::rounds::is_done;
 use scheduler::worlds::World;
 use std::sync::ledger::Ledger;
 
@@ -49,38 +51,58 @@ fn none_taken<L: Ledger>(share: &Share<L>) -> Turn
     Turn::NotReady
 }
 
+// What a worker's turn comes to: whether it was done, and whether no worker has more to do.
+#[derive(Clone, Copy)]
+pub(crate) struct Upshot {
+    pub(crate) done: bool,
+    pub(crate) over: bool,
+}
+
 impl<L: Ledger> Shared<L> {
     // A turn of the share's role, but none of a carrier where a collection is due.
-    #[tactic(auto, using(crate::proofs::Rows::counted))]
+    #[inline(always)]
     pub(crate) fn turn_if_not_due(&mut self, share: &mut Share<L>) -> Turn
         ensures { Counts result share.old share.new }
     {
-        let role = share.role();
-        if self.is_due_before(role) {
-            return none_taken(share);
-        }
-        let due = self.due;
-        let answer = self.turn_as(share, due);
-        self.put_off(role, answer);
-        answer
-    }
-
-    // Whether a collection comes before a turn of this role.
-    fn is_due_before(&self, role: Role) -> bool {
-        match role {
-            Role::Carrier => self.next_birth() >= self.due,
-            Role::Collector | Role::Both { .. } => false,
+        match share.role() {
+            Role::Both { .. } => self.turn_at_once(share),
+            Role::Carrier => self.turn_unless_due(share),
+            Role::Collector => self.turn_and_put_off(share),
         }
     }
 
-    // Behind a collector's turn that was done the next collection is due later.
-    fn put_off(&mut self, role: Role, answer: Turn)
-        ensures { self.new ≡ self.old }
+    // A turn of the share's role.
+    #[inline(always)]
+    #[tactic(auto, using(crate::proofs::Rows::counted))]
+    fn turn_at_once(&mut self, share: &mut Share<L>) -> Turn
+        ensures { Counts result share.old share.new }
     {
-        match (role, answer) {
-            (Role::Collector, Turn::Done) => self.due = self.next_due(),
-            _ => {}
+        let due = self.due;
+        self.turn_as(share, due)
+    }
+
+    // The same, or none where a collection is due.
+    #[inline(always)]
+    fn turn_unless_due(&mut self, share: &mut Share<L>) -> Turn
+        ensures { Counts result share.old share.new }
+    {
+        if self.next_birth() < self.due {
+            self.turn_at_once(share)
+        } else {
+            none_taken(share)
         }
+    }
+
+    // The same of a collector. Behind a turn that was done the next collection is due later.
+    #[inline(never)]
+    fn turn_and_put_off(&mut self, share: &mut Share<L>) -> Turn
+        ensures { Counts result share.old share.new }
+    {
+        let answer = self.turn_at_once(share);
+        if is_done(answer) {
+            self.due = self.next_due();
+        }
+        answer
     }
 
     // Within a cycle the carriers may make one object more at least, else they and the collector would wait for each
@@ -90,6 +112,37 @@ impl<L: Ledger> Shared<L> {
             due_in(&self.world)
         } else {
             self.due.max(self.next_birth().saturating_add(1))
+        }
+    }
+
+    // A turn as `turn_if_not_due` makes it, and what it comes to. Behind a thread's turn that was done the world isn't
+    // asked whether it runs: where it doesn't, the next turn isn't done, and then it is asked.
+    #[inline(always)]
+    pub(crate) fn turn_and_upshot(&mut self, share: &mut Share<L>) -> Upshot
+        ensures { IsLater share.old share.new }
+    {
+        match self.turn_if_not_due(share) {
+            Turn::Done => Upshot {
+                done: true,
+                over: self.is_over_behind(share.role()),
+            },
+            Turn::NotReady | Turn::Fault(_) => Upshot {
+                done: false,
+                over: !self.is_running(),
+            },
+            Turn::Stopped | Turn::OutputFull | Turn::StepLimit => Upshot {
+                done: false,
+                over: true,
+            },
+        }
+    }
+
+    // Whether it is known behind a turn of this role that was done that no worker has more to do.
+    #[inline(always)]
+    fn is_over_behind(&self, role: Role) -> bool {
+        match role {
+            Role::Collector => !self.is_running(),
+            Role::Both { .. } | Role::Carrier => false,
         }
     }
 }

@@ -3,8 +3,10 @@ ghost use Rattle.std.specs.Prelude.{◌≡◌, ◌<◌, ◌≤◌, ◌↔◌, []
 ghost use Rattle.scheduler.specs.Replaying.{IsMade};
 ghost use Rattle.scheduler.specs.Workers.{with_workers};
 ghost use Rattle.hall.specs.Heads.{head_of};
+ghost use Rattle.hall.specs.Homes.{IsLater};
 ghost use Rattle.hall.specs.Shares.{Counts, dealt};
 
+use crate::dues::Upshot;
 use crate::error::HallError;
 use crate::roles::{Burst, Role, SINGLE};
 use crate::shares::{Share, Shared};
@@ -152,6 +154,15 @@ impl<L: Ledger> Hall<L> {
         let mut shared = self.lock.lock(rt);
         let answer = shared.turn_if_not_due(share);
         (answer, shared.status())
+    }
+
+    // The same turn, and what it comes to for the worker.
+    #[inline(always)]
+    pub(crate) fn turn_and_upshot<R: Wait>(&self, rt: &R, share: &mut Share<L>) -> Upshot
+        ensures { IsLater share.old share.new }
+    {
+        let mut shared = self.lock.lock(rt);
+        shared.turn_and_upshot(share)
     }
 
     /// Takes back all shares, in any order, and gives the world. Its journal has as many rows as the shares counted

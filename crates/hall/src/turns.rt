@@ -1,4 +1,7 @@
 //! What is done under the lock.
+//!
+//! With one round a turn a worker takes the lock for each row. So what a thread's turn needs then stands in the loop of
+//! the worker, and what makes many rows, or is rare, is a call (docs/SPEED.md).
 ghost use Rattle.std.specs.Prelude.{◌≡◌, ◌<◌};
 ghost use Rattle.model.specs.Machines.{after_turn_by, answer_to};
 ghost use Rattle.model.specs.Observers.{next_birth_of, phase_of, status_of, pick_of};
@@ -53,6 +56,15 @@ impl<L: Ledger> Shared<L> {
         self.world.status()
     }
 
+    // Whether the world runs.
+    #[inline(never)]
+    pub(crate) fn is_running(&self) -> bool {
+        match self.status() {
+            Status::Running => true,
+            Status::Finished | Status::Stuck | Status::Faulted => false,
+        }
+    }
+
     // Whether the journal's last row is the collector's.
     fn last_is_collector(&self) -> bool
         ensures { result ≡ last_is_collector self.now }
@@ -81,6 +93,7 @@ impl<L: Ledger> Shared<L> {
     }
 
     // A turn of the picked thread.
+    #[inline(always)]
     fn carry(&mut self, share: &mut Share<L>) -> Turn
         requires { share.old.worker < self.old.journal.workers }
         ensures world { self.new ≡ turned_by self.old share.old.worker (pick_of self.old) }
@@ -123,6 +136,7 @@ impl<L: Ledger> Shared<L> {
     }
 
     // So many collector turns.
+    #[inline(never)]
     fn collect_times(&mut self, share: &mut Share<L>, turns: u32)
         requires { share.old.worker < self.old.journal.workers }
         ensures world { self.new ≡ collections self.old share.old.worker turns }
@@ -134,11 +148,15 @@ impl<L: Ledger> Shared<L> {
     }
 
     // So many collector turns, if the world is running.
+    #[inline(always)]
     fn sweep(&mut self, share: &mut Share<L>, gc: u32)
         requires { share.old.worker < self.old.journal.workers }
         ensures world { self.new ≡ swept self.old share.old.worker gc }
         ensures share { CountsRows self.old self.new share.old share.new }
     {
+        if gc == 0 {
+            return;
+        }
         match self.status() {
             Status::Running => self.collect_times(share, gc),
             Status::Finished | Status::Stuck | Status::Faulted => {}
@@ -146,6 +164,7 @@ impl<L: Ledger> Shared<L> {
     }
 
     // A turn of the picked thread and, where it was done, so many collector turns.
+    #[inline(always)]
     fn carry_and_sweep(&mut self, share: &mut Share<L>, gc: u32) -> Turn
         requires { share.old.worker < self.old.journal.workers }
         ensures world { self.new ≡ swept_after result
@@ -164,7 +183,8 @@ impl<L: Ledger> Shared<L> {
 
     // So many rounds of the picked threads, each with so many collector turns, in one call, and what the last of them
     // answered.
-    fn carry_on(&mut self, share: &mut Share<L>, gc: u32, extra: u32) -> Turn
+    #[inline(never)]
+    fn carry_many(&mut self, share: &mut Share<L>, gc: u32, extra: u32) -> Turn
         requires { share.old.worker < self.old.journal.workers }
         ensures world { self.new ≡ after_thread_rounds self.old share.old.worker gc extra }
         ensures answer { result ≡ thread_rounds_answer self.old share.old.worker gc extra }
@@ -178,7 +198,22 @@ impl<L: Ledger> Shared<L> {
         answer
     }
 
+    // The same. Where there are none to make, nothing is done.
+    #[inline(always)]
+    fn carry_on(&mut self, share: &mut Share<L>, gc: u32, extra: u32) -> Turn
+        requires { share.old.worker < self.old.journal.workers }
+        ensures world { self.new ≡ after_thread_rounds self.old share.old.worker gc extra }
+        ensures answer { result ≡ thread_rounds_answer self.old share.old.worker gc extra }
+        ensures share { CountsRows self.old self.new share.old share.new }
+    {
+        if extra == 0 {
+            return Turn::Done;
+        }
+        self.carry_many(share, gc, extra)
+    }
+
     // A round of a thread's turn and so many collector turns, and where it is done so many more.
+    #[inline(always)]
     fn rounds(&mut self, share: &mut Share<L>, gc: u32, extra: u32) -> Turn
         requires { share.old.worker < self.old.journal.workers }
         ensures world { self.new ≡ after_rounds self.old (Both gc) share.old.worker extra }
@@ -201,6 +236,7 @@ impl<L: Ledger> Shared<L> {
     }
 
     // So many rounds of the picked threads, and so often again as many, while all were done and no collection is due.
+    #[inline(never)]
     fn carry_again(&mut self, share: &mut Share<L>, burst: Burst, due: u32) -> Turn
         requires { share.old.worker < self.old.journal.workers }
         ensures world { self.new ≡ after_bursts self.old share.old.worker due burst.extra burst.again }
@@ -217,6 +253,7 @@ impl<L: Ledger> Shared<L> {
     }
 
     // A round of a carrier and, where it was done, its burst.
+    #[inline(always)]
     fn carry_in_bursts(&mut self, share: &mut Share<L>, due: u32) -> Turn
         requires { share.old.worker < self.old.journal.workers }
         ensures world { self.new ≡ after_carried self.old share.old.worker share.old.burst due }
@@ -253,6 +290,7 @@ impl<L: Ledger> Shared<L> {
     }
 
     // A collector's turn and, where it was done, so many more at most.
+    #[inline(never)]
     fn collect_cycle(&mut self, share: &mut Share<L>, most: u32) -> Turn
         requires { share.old.worker < self.old.journal.workers }
         ensures world { self.new ≡ cycled_after result (collected self.old share.old.worker) share.old.worker most }
@@ -269,6 +307,7 @@ impl<L: Ledger> Shared<L> {
     }
 
     // One turn of the share's role, by a worker that the journal knows.
+    #[inline(always)]
     fn turn_of_role(&mut self, share: &mut Share<L>, due: u32) -> Turn
         requires { share.old.worker < self.old.journal.workers }
         ensures world { self.new ≡ after_known self.old share.old.role share.old.worker share.old.burst due }
@@ -285,6 +324,7 @@ impl<L: Ledger> Shared<L> {
 
     // The same by any worker.
     #[tactic(auto, unfolding(crate::specs::Roles::after_role, crate::specs::Roles::answer_role))]
+    #[inline(always)]
     fn turn_if_known(&mut self, share: &mut Share<L>, due: u32) -> Turn
         ensures world { self.new ≡ after_role self.old share.old.role share.old.worker share.old.burst due }
         ensures answer { result ≡ answer_role self.old share.old.role share.old.worker share.old.burst due }
@@ -305,6 +345,7 @@ impl<L: Ledger> Shared<L> {
     /// `due`, from which on a collection is due. The collector's are as many as its burst's sweep at most, until a
     /// cycle ends, each if the world is running. `Done` where they ended with nobody ready. The share counts the rows
     /// that were added. A worker that isn't below the journal's number of workers does nothing, `NotReady`.
+    #[inline(always)]
     pub fn turn_as(&mut self, share: &mut Share<L>, due: u32) -> Turn
         ensures world { self.new ≡ after_role self.old share.old.role share.old.worker share.old.burst due }
         ensures answer { result ≡ answer_role self.old share.old.role share.old.worker share.old.burst due }

@@ -4,7 +4,7 @@ use Rattle.model.specs.Journals.{JournalValue}
 use Rattle.model.specs.Machines.{Recorded}
 use Rattle.hall.specs.Shares.{CountsRows}
 use Rattle.hall.proofs.Rows.{rounds_longer, rounds_counted}
-use Rattle.hall.proofs.shares.Shared.carry_on.Goals as goal
+use Rattle.hall.proofs.shares.Shared.carry_many.Goals as goal
 
 pub overflow_sub-rows : goal.overflow_sub-rows
 overflow_sub-rows g c =
