@@ -3,11 +3,23 @@ ghost use Rattle.std.specs.Prelude.{◌≡◌, ℕ, ◌+◌, ◌≤◌, [], ◌�
 ghost use Rattle.model.specs.Values.{units_of as units_taken, units_of_all};
 ghost use Rattle.model.specs.Locals.{argument_entries};
 ghost use Rattle.model.specs.declared.values.Entry.TheVariants.{Holds, Unset};
+ghost use Rattle.model.specs.declared.values.Value.TheVariants.{Ref};
+ghost use Rattle.std.specs.Prelude.{None};
 ghost use Rattle.values.specs.Slots.{entry_of, value_of};
 ghost use Rattle.frames.specs.Layout.{values_between};
 
 use crate::units::Units;
 use values::slots::{Slot, units_in};
+
+/// What stands for the value of a slot that holds none.
+// Not inlined, so that a copy is one comparison where the slot holds one, as it does in nearly all cases.
+#[cold]
+#[inline(never)]
+fn nothing() -> Slot
+    ensures { entry_of result ≡ Holds (Ref None) }
+{
+    Slot::Null
+}
 
 /// What stands for a slot's value where nothing is taken for a value that holds none.
 #[inline(always)]
@@ -15,7 +27,7 @@ fn settled(slot: Slot) -> Slot
     ensures { entry_of result ≡ Holds (value_of slot) }
 {
     match slot {
-        Slot::Unset | Slot::Upper => Slot::Null,
+        Slot::Unset | Slot::Upper => nothing(),
         Slot::Int(_) | Slot::Long(_) | Slot::Null | Slot::Ref(_) => slot,
     }
 }

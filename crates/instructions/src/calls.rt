@@ -67,6 +67,21 @@ pub(crate) fn argument_fault(frames: &Frames, kinds: &[Kind]) -> Option<Fault>
     None
 }
 
+/// Whether values of these kinds are at the top of the running frame's stack, the last one at the top.
+#[inline(always)]
+pub(crate) fn has_arguments(frames: &Frames, kinds: &[Kind]) -> bool
+    requires { 0 < length frames.now }
+    ensures { result ≡ true → fault_in_pops (reverse kinds.now) (running_frame frames.now).stack ≡ None }
+{
+    for above in 0..kinds.len() {
+        let kind = kinds[kinds.len() - 1 - above];
+        if fault_below(frames, kind, above).is_some() {
+            return false;
+        }
+    }
+    true
+}
+
 /// Shades what so many operands lead to, the lowest first.
 #[inline(always)]
 pub(crate) fn shade_operands(heap: &mut Heap, frames: &Frames, count: u16)
@@ -74,8 +89,8 @@ pub(crate) fn shade_operands(heap: &mut Heap, frames: &Frames, count: u16)
     requires there { count ≤ length (running_frame frames.now).stack }
     ensures { heap.new ≡ all_shaded heap.old (births_of (arguments_on count (running_frame frames.now).stack)) }
 {
-    for below in 0..count {
-        match frames.value((count - 1 - below) as usize) {
+    for below in 0..count as usize {
+        match frames.value(count as usize - 1 - below) {
             Ok(value) => heap.shade(reference_of(value)),
             Err(_) => unreachable!(),
         }

@@ -1,6 +1,8 @@
 //! Returns (JVMS 2.6.4, 6.5): the frame is left, and its caller goes on behind its call.
-ghost use Rattle.std.specs.Prelude.{◌≡◌, ◌≤◌, ◌<◌, ◌+◌, ◌∷◌, [], ℕ, IfOk, IfSome, OnErr, Some, length, true};
+ghost use Rattle.std.specs.Prelude.{◌≡◌, ◌≤◌, ◌<◌, ◌+◌, ◌∷◌, [], ℕ, IfOk, IfSome, List, OnErr, Some, length, true};
 ghost use Rattle.std.specs.Option.{option_map};
+ghost use Rattle.model.specs.declared.places.MethodPlace.{MethodPlace};
+ghost use Rattle.model.specs.ClassListings.{ClassListing};
 ghost use Rattle.model.specs.Frames.{callers, replaced, replaced_if_room, running, running_frame, with_running};
 ghost use Rattle.model.specs.Table.Returns.{leaves_with, resumes, returned};
 ghost use Rattle.model.specs.Values.{units_of as units_taken, units_of_all};
@@ -8,6 +10,7 @@ ghost use Rattle.frames.specs.Heads.{head_of};
 ghost use Rattle.instructions.specs.Acting.{Keeps, Stays, Turns, site_at};
 ghost use Rattle.instructions.specs.CallsByNumbers.{is_call};
 ghost use Rattle.instructions.specs.FirstTurns.{goes_on_plainly};
+ghost use Rattle.instructions.specs.PlainRuns.{AreStepsOf};
 ghost use Rattle.instructions.specs.ReturnsByNumbers.{IsCaller, next_at, past};
 
 use crate::acting::Turned;
@@ -17,6 +20,7 @@ use crate::methods::{gives, is_initializer};
 use crate::pushes::reference_of;
 use frames::Frames;
 use frames::heads::FrameHead;
+use loader::method_codes::MethodCode;
 use loader::operations::Operation;
 use loader::programs::Program;
 use model::turns::{ClassState, Fault, Mark};
@@ -27,7 +31,11 @@ use model::values::{Kind, Value};
 pub(crate) fn caller_of(frames: &Frames) -> Option<FrameHead>
     ensures { result ≡ option_map head_of (running (callers frames.now)) }
 {
-    frames.frame_at(frames.depth().checked_sub(2)?)
+    let depth = frames.depth();
+    if depth < 2 {
+        return None;
+    }
+    frames.frame_at(depth - 2)
 }
 
 /// The pc behind the instruction at which a frame stands. `None` where none begins there.
@@ -45,20 +53,22 @@ pub(crate) fn next_of(program: &Program, frame: FrameHead) -> Option<u16>
 fn is_call(operation: Operation) -> bool
     ensures { result ≡ true → is_call operation ≡ true }
 {
-    match operation {
-        Operation::Invokestatic(_, _)
-        | Operation::Invokespecial(_, _, _)
-        | Operation::Invokevirtual(_, _) => true,
-        _ => false,
+    if let Operation::Invokestatic(_, _) = operation {
+        return true;
     }
+    if let Operation::Invokevirtual(_, _) = operation {
+        return true;
+    }
+    matches!(operation, Operation::Invokespecial(_, _, _))
 }
 
-/// The pc behind the call at which a frame stands, by its step. `None` where it stands at none.
+/// The pc behind the call at a pc of a method, by its steps. `None` where no call begins there.
 #[inline(always)]
-pub(crate) fn next_of_call(program: &Program, frame: FrameHead) -> Option<u16>
-    ensures { IfSome result (λ next. Some next ≡ next_at program.now frame.method frame.pc) }
+pub(crate) fn next_of_call(code: &MethodCode<'_>, pc: u16) -> Option<u16>
+    ensures { IfSome result (λ next. (program : List ClassListing) → (method : MethodPlace)
+        → AreStepsOf program method code.now → Some next ≡ next_at program method pc) }
 {
-    let step = program.code(frame.method).step(frame.pc);
+    let step = code.step(pc);
     if is_call(step.operation) {
         Some(step.next)
     } else {
