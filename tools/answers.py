@@ -4,7 +4,10 @@ A row of kind `text` or `assembled` is a text, of which a bar ends a line, and a
 LINES; it is assembled. `read` says that it is a text, whatever the assembler tells of it; behind `ends` and `at 8` stand bytes of
 the class file. `pool`, `byte of E`, `field of A`, `code of E`, `operand of E`, `pads of E` and `method of E` make class files of the
 two with these names, which are disassembled. `program` and `reference` have classes as in crates/program_tests/src/texts.rt, which are
-run; `accepted` says that no rule refuses them. `journal` rows are upgraded, `replay` rows are replayed on a main that prints a sum.
+run; `accepted` says that no rule refuses them. `main of 4` has the lines of a main on a stack of so many units, whose locals 0 and
+1 hold two objects, a and b, at first; it is run, beside the ideal run too, and tells the values on its stack, the top one first (of
+a switch the value that a way returns with), or how it fails. `journal` rows are upgraded, `replay` rows are replayed on a main
+that prints a sum.
 """
 import os
 import re
@@ -45,6 +48,25 @@ BEFORE = "class E|main:|"
 BEHIND = """|return|end; class A|.field public x I|.field static s I|code 1 0 public m()V|code 0 0 public static f()V|\
 code 1 0 public <init>()V; class B < A|.implements I; interface I|.field public static final c I|\
 .method public abstract i(J)V|end; class abstract V|code 1 0 public <init>()V"""
+# a class with two objects in static fields, which the locals hold too, and the end of a main whose stack is another one
+OBJECTS = """.class public E
+.super java/lang/Object
+.field public static a LE;
+.field public static b LE;
+.method public static main()V
+.limit stack {}
+.limit locals 3
+new E
+putstatic E/a LE;
+new E
+putstatic E/b LE;
+getstatic E/a LE;
+astore 0
+getstatic E/b LE;
+astore 1
+"""
+OTHERWISE = "BAD:\niconst_m1\ninvokestatic vm/Sys/putc(I)V\nreturn\n.end method\n"
+FAILURES = {"throws": "thread 0 ended by java/lang/ArithmeticException", "F": "fault {} in thread 0"}
 SUM = f"{LINES['A'].replace('super B', 'super java/lang/Object')}\nldc 2147483647\niconst_1\niadd\ninvokestatic vm/Sys/print(I)V\n{END}"
 # one journal in both versions, which a plain reader cuts and changes
 JOURNALS = [
@@ -135,6 +157,16 @@ def text_of(line):
     return ".end method\n" if word == "end" else f"{line}\n"
 
 
+def told_by(value, printed):
+    """The lines that tell whether a value is at the top of the stack, and take it off; what they print is added."""
+    if value == "null":
+        return "ifnonnull BAD\n"
+    if value in ("a", "b"):
+        return f"getstatic E/{value} LE;\nif_acmpne BAD\n"
+    printed.append(f"{value.rstrip('L')}\n")
+    return f"invokestatic vm/Sys/{'printl(J)V' if value.endswith('L') else 'print(I)V'}\n"
+
+
 class Folder:
     """A folder in which `jvm` is called."""
 
@@ -150,10 +182,13 @@ class Folder:
         with open(os.path.join(self.path, name), "rb") as file:
             return file.read()
 
-    def told(self, *words):
-        """What is told on standard error, and nothing where the command ends well."""
+    def shown(self, *words):
+        """The output, and what is told on standard error, nothing where the command ends well."""
         done = subprocess.run([self.jvm, *words], cwd=self.path, stdout=subprocess.PIPE, stderr=subprocess.PIPE, timeout=120)
-        return done.stderr.decode().rstrip("\n") if done.returncode else ""
+        return done.stdout.decode("latin-1"), done.stderr.decode().rstrip("\n") if done.returncode else ""
+
+    def told(self, *words):
+        return self.shown(*words)[1]
 
     def text(self, given, wanted):
         """What is wrong with the answer to a text, or nothing."""
@@ -191,6 +226,19 @@ class Folder:
             return None if answer == "" or answer.startswith("jvm: fault F") else answer
         return None if answer == f"jvm: load: {wanted}" else answer or "accepted"
 
+    def main(self, units, given, wanted):
+        """The same of a main's lines on a stack of so many units."""
+        failure = FAILURES.get(wanted) or (FAILURES["F"].format(wanted) if re.fullmatch(r"F\d+", wanted) else None)
+        lines, printed = given.replace("|", "\n") + "\n", []
+        if failure is None:
+            units, values = units + 1, wanted.split(" ") if wanted else []
+            seen = "".join(told_by(value, printed) for value in values)
+            lines = lines.replace("return\n", f"{seen}return\n") if "return\n" in lines else f"{lines}{seen}return\n"
+        text = f"{OBJECTS.format(units)}{lines}{OTHERWISE}"
+        self.put("a.j", text.encode())
+        ran = [self.shown("run", *how, "a.j") for how in ([], ["--gc", "0", "--check"])]
+        return None if ran == 2 * [("".join(printed), f"jvm: {failure}" if failure else "")] else f"{ran}"
+
     def journal(self, given, wanted):
         self.put("in", lines_of(given))
         answer = self.told("upgrade", "in", "out")
@@ -212,6 +260,8 @@ class Folder:
             return self.program(given if kind == "program" else f"{BEFORE}{given}{BEHIND}", wanted)
         if kind in ("journal", "replay"):
             return getattr(self, kind)(given, wanted)
+        if kind.startswith("main of "):
+            return self.main(int(kind.removeprefix("main of ")), given, wanted)
         answers = [self.class_file(digits, told) for digits, told in class_files(kind, given, wanted)]
         return next((why for why in answers if why), None) if answers else "no such kind"
 
