@@ -1,13 +1,17 @@
 """What `jvm` tells of texts, class files, programs and journals, row by row (examples/answers.txt), for run_examples.py.
 
-A row of kind `text` or `assembled` is a text, of which a bar ends a line, and a line H, I, M, Z, A, S, G or N stands for those of
-LINES; it is assembled. `read` says that it is a text, whatever the assembler tells of it; behind `ends` and `at 8` stand bytes of
-the class file. `pool`, `byte of E`, `field of A`, `code of E`, `operand of E`, `pads of E` and `method of E` make class files of the
-two with these names, which are disassembled. `program` and `reference` have classes as in crates/program_tests/src/texts.rt, which are
-run; `accepted` says that no rule refuses them. `main of 4` has the lines of a main on a stack of so many units, whose locals 0 and
-1 hold two objects, a and b, at first; it is run, beside the ideal run too, and tells the values on its stack, the top one first (of
-a switch the value that a way returns with), or how it fails. `journal` rows are upgraded, `replay` rows are replayed on a main
-that prints a sum.
+Each row is of a kind, which says what files are made of it:
+
+text, assembled    A text, of which a bar ends a line, and a line H, I, M, Z, A, S, G or N stands for those of LINES; it is
+                   assembled. `read` says that it is a text, whatever the assembler tells of it; behind `ends` and `at 8` stand
+                   bytes of the class file.
+pool, byte of E, field of A, code of E, operand of E, pads of E, method of E
+                   Class files of the two with these names, which are disassembled.
+program, reference Classes, as in crates/program_tests/src/texts.rt, which are run; `accepted` says that no rule refuses them.
+main of 4          The lines of a main on a stack of so many units, whose locals 0 and 1 hold two objects, a and b, at first. It is
+                   run, beside the ideal run too, and tells the values on its stack, the top one first (of a switch the value
+                   that a way returns with), or how it fails.
+journal, replay    A journal that is upgraded, or replayed on a main that prints a sum.
 """
 import os
 import re
@@ -327,7 +331,7 @@ def tried_bytes(folder):
     return None
 
 
-def tried_rows_of_answers(jvm, room):
+def tried_answers(jvm, room):
     """What was tried of the answers, each with what is wrong, or nothing."""
     folder = Folder(os.path.abspath(jvm), f"{room}/answers")
     for kind, given, wanted in rows():

@@ -23,7 +23,7 @@ import subprocess
 import sys
 import tempfile
 
-from answers import tried_rows_of_answers
+from answers import tried_answers
 from sessions import tried_commands
 
 ROOT = os.path.join(os.path.dirname(os.path.abspath(__file__)), "..")
@@ -174,7 +174,7 @@ def main():
         print(f"examples: there is no {given.jvm}\n{passed} passed, {failed + 1} failed")
         return 1
     with tempfile.TemporaryDirectory() as room:
-        for tried in (tried_texts, tried_others, tried_rows, tried_classes, tried_commands, tried_rows_of_answers):
+        for tried in (tried_texts, tried_others, tried_rows, tried_classes, tried_commands, tried_answers):
             for name, why in tried(os.path.abspath(given.jvm), room):
                 passed, failed = passed + (not why), failed + bool(why)
                 if why:
