@@ -33,7 +33,7 @@ pub struct Assembled {
 
 /// The class file of a tree (JVMS 4), and the listing of both.
 ///
-/// A1 where a method's code is empty or has more than 65,535 bytes, A2 where a branch's way is longer than two bytes
+/// A1 where a method's code is empty or has more than 65,535 bytes, A2 where a branch offset is larger than two bytes
 /// have room for, A4 where the keys of a switch don't rise or a table ends past the greatest int: of the first method
 /// in order that has a fault, A4 before A1 before A2. Then A3 where the pool or a list has more than 65,535. A5 where
 /// memory runs out. A tree that no text spells, as one with SUPER, may be refused with A3.

@@ -79,7 +79,7 @@ fn rise_from(first: i32, pairs: &[(i32, Name)]) -> bool
     true
 }
 
-/// Whether each branch has bytes for its way.
+/// Whether each branch has bytes for its offset.
 pub fn all_reach(instructions: &[Placed]) -> bool
     ensures { result ≡ list_all (λ p. reaches p.pc p.instruction) instructions.now }
 {

@@ -19,7 +19,7 @@ pub enum AsmError {
     /// The code of this method is empty or has more than 65,535 bytes.
     #[error("A1 in method {name}{descriptor}")]
     Size { name: Name, descriptor: Name },
-    /// In this method a branch's way is longer than its two bytes have room for.
+    /// In this method a branch offset is larger than its two bytes have room for.
     #[error("A2 in method {name}{descriptor}")]
     Branch { name: Name, descriptor: Name },
     /// The constant pool or another count would pass 65,535.

@@ -1,4 +1,4 @@
-//! Fields, methods and the class with pool numbers for names.
+//! Fields, methods and the class with constant-pool indices for names.
 ghost use Rattle.std.specs.Prelude.{◌≡◌, [], ◌∷◌, true, map, IfOk, IfErr};
 ghost use Rattle.std.specs.List.{flat_map, list_all, AllByRecursion};
 ghost use Rattle.std.specs.Option.{option_map};

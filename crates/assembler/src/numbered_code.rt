@@ -1,4 +1,4 @@
-//! Code with pool numbers for names.
+//! Code with constant-pool indices for names.
 ghost use Rattle.std.specs.Prelude.{◌≡◌, true, map, IfOk, Some};
 ghost use Rattle.std.specs.List.{flat_map};
 ghost use Rattle.model.specs.ClassFiles.Items.{instruction_items, constant_items, array_items, call_items};

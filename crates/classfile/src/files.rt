@@ -195,7 +195,7 @@ impl ClassFile {
     pub fn has_bytes(&self)
         ensures { IsClass self.now }
     {
-        let _ = &self.head;
+        let _ = &self.head; // for the proof alone, which has what the type says from here
     }
 
     /// What stands before the methods.

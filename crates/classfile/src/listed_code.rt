@@ -1,4 +1,4 @@
-//! Instructions with names in place of pool numbers.
+//! Instructions with names in place of constant-pool indices.
 
 ghost use Rattle.std.specs.Prelude.{◌≡◌, map, IfOk};
 ghost use Rattle.model.specs.ClassFiles.Listing as listing;
@@ -10,7 +10,7 @@ use model::names::Name;
 use pool::Pool;
 use std::alloc::{AllocError, Global};
 
-/// The instructions of a class file's method, with names in place of pool numbers.
+/// The instructions of a class file's method, with names in place of constant-pool indices.
 pub fn listed_instructions(
     alloc: Global,
     pool: &Pool,
@@ -29,7 +29,7 @@ pub fn listed_instructions(
     Ok(all)
 }
 
-/// An instruction of a class file, with names in place of pool numbers.
+/// An instruction of a class file, with names in place of constant-pool indices.
 fn listed(alloc: Global, pool: &Pool, instruction: &Instr) -> Result<Listed, AllocError>
     ensures { IfOk result (λ listed. listed ≡ listing.listed pool.now instruction.now) }
 {

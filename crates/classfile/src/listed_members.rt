@@ -1,4 +1,4 @@
-//! Fields and classes with names in place of pool numbers.
+//! Fields and classes with names in place of constant-pool indices.
 
 ghost use Rattle.std.specs.Prelude.{◌≡◌, map, IfOk};
 ghost use Rattle.model.specs.ClassFiles.Listing as listing;
@@ -9,7 +9,7 @@ use model::names::Name;
 use pool::Pool;
 use std::alloc::{AllocError, Global};
 
-/// The fields of a class file, with names in place of pool numbers.
+/// The fields of a class file, with names in place of constant-pool indices.
 pub fn listed_fields(
     alloc: Global,
     pool: &Pool,

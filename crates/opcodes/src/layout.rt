@@ -3,7 +3,7 @@
 use model::instructions::{Access, ClassOperation, Test};
 use model::values::Kind;
 
-/// What a pool number of two bytes, with nothing behind it, is taken for.
+/// What a constant-pool index of two bytes, with nothing after it, is taken for.
 #[derive(Clone, Copy)]
 pub enum Named {
     /// `ldc_w`

@@ -48,7 +48,7 @@ pub fn put_i32(out: &mut Vec<u8>, z: i32) -> Result<(), AllocError>
     out.extend_from_slice(&z.to_be_bytes())
 }
 
-/// The way from a pc to a target.
+/// The branch offset from a pc to a target.
 pub fn way(pc: u16, target: u16) -> i32
     ensures value { result ≡ offset pc target }
     ensures fits { FitsSigned w32 (offset pc target) }
@@ -56,7 +56,7 @@ pub fn way(pc: u16, target: u16) -> i32
     i32::from(target) - i32::from(pc)
 }
 
-/// Writes the operand of a constant. `Operand` where its pool number has no room.
+/// Writes the operand of a constant. `Operand` where its constant-pool index has no room.
 pub fn put_constant(out: &mut Vec<u8>, constant: Constant<u16, u16>) -> Result<(), OpError>
     ensures ok { OnOk result (ConstantFits constant × (out.new.items ≡ out.old.items ++ constant_operands constant)) }
     ensures err { IfErr result (λ e. ConstantFits constant → e ≡ error.Memory) }

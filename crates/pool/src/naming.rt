@@ -1,4 +1,4 @@
-//! What pool numbers name: texts, classes, members and constants in place of them.
+//! What constant-pool indices name: texts, classes, members and constants in place of them.
 
 ghost use Rattle.std.specs.Prelude.{◌≡◌, IfOk};
 ghost use Rattle.model.specs.ClassFiles.Listing.{name_at, class_at, reference_of, member_at, int_of, long_of, value_of};

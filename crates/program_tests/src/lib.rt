@@ -1,4 +1,4 @@
-//! The tests of the crates that load programs, hold frames and carry out plain operations; see text_tests.
+//! The tests of the crates that load programs and hold frames, cells and colours; see text_tests.
 #![tactic(auto)]
 
 #[cfg(test)]
@@ -9,8 +9,6 @@ mod frames_tests;
 mod ideal_run_tests;
 #[cfg(test)]
 mod loader_tests;
-#[cfg(test)]
-mod plain_steps_tests;
 #[cfg(test)]
 mod resolve_tests;
 #[cfg(test)]

@@ -56,74 +56,6 @@ fn come_back(alloc: Global, bytes: &[u8], pcs: &[u16]) -> Result<bool, OpError> 
     Ok(has_pcs(&code, pcs) && again(alloc, code)?.as_slice() == bytes)
 }
 
-/// The smallest code of each refusal, and which comes first.
-const REFUSALS: &[(&str, OpError)] = &[
-    ("ba", OpError::Opcode),
-    ("bc04", OpError::Opcode),
-    ("c400", OpError::Opcode),
-    ("b900010107", OpError::Opcode),
-    ("10", OpError::Operand),
-    ("c4", OpError::Operand),
-    ("a70001", OpError::Branch),
-    ("a70003", OpError::Branch),
-    ("a7ffff", OpError::Branch),
-    ("c87fffffff", OpError::Branch),
-    ("aa000001", OpError::Switch),
-    ("", OpError::Length),
-    ("a70001 ba", OpError::Opcode),
-    ("ba 10", OpError::Opcode),
-    // a lookupswitch of 1,000 pairs with keys 5, 2 and then the end; a tableswitch from 5 to 4 and then the end
-    (
-        "ab000000 00000000 000003e8 00000005 00000000 00000002",
-        OpError::Switch,
-    ),
-    ("aa000000 00000000 00000005 00000004", OpError::Switch),
-    ("ab000000 00000000 ffffffff", OpError::Switch),
-];
-
-/// How many instructions bytes are, if these are written as the same bytes again.
-fn count_again(alloc: Global, bytes: &[u8]) -> Result<Option<usize>, OpError> {
-    let code = decode(alloc, bytes)?;
-    let count = code.as_slice().len();
-    match again(alloc, code) {
-        Ok(written) => Ok(if written.as_slice() == bytes {
-            Some(count)
-        } else {
-            None
-        }),
-        Err(_) => Ok(None),
-    }
-}
-
-/// Whether hexadecimal digits are so many instructions, or no code for this reason.
-fn counts(alloc: Global, digits: &str, wanted: Result<usize, OpError>) -> Result<bool, AllocError> {
-    let bytes = hex(alloc, digits)?;
-    Ok(count_again(alloc, &bytes) == wanted.map(|count| Some(count)))
-}
-
-/// The same of so many equal bytes.
-fn counts_many(
-    alloc: Global,
-    byte: u8,
-    count: usize,
-    wanted: Result<usize, OpError>,
-) -> Result<bool, AllocError> {
-    let bytes = vec![in alloc; byte; count]?;
-    Ok(count_again(alloc, &bytes) == wanted.map(|count| Some(count)))
-}
-
-/// So many nops, and a tableswitch of 9 with its pad.
-const PADDED: &[(&str, usize)] = &[
-    ("aa 000000 00000000 00000009 00000009 00000000", 1),
-    ("00 aa 0000 00000000 00000009 00000009 00000000", 2),
-    ("0000 aa 00 00000000 00000009 00000009 00000000", 3),
-    ("000000 aa 00000000 00000009 00000009 00000000", 4),
-    ("00000000 aa 000000 00000000 00000009 00000009 00000000", 5),
-    ("0000000000 aa 0000 00000000 00000009 00000009 00000000", 6),
-    ("000000000000 aa 00 00000000 00000009 00000009 00000000", 7),
-    ("00000000000000 aa 00000000 00000009 00000009 00000000", 8),
-];
-
 /// Whether the first instructions load ints from these locals.
 fn loads(code: &Code, locals: &[Local]) -> bool {
     let mut locals = locals.iter();
@@ -212,35 +144,15 @@ fn opcodes_come_back(alloc: Global) -> Result<bool, OpError> {
     come_back(alloc, &bytes, PCS)
 }
 
-/// A switch has pads; 65,535 bytes are code, 65,536 aren't.
 #[test]
 fn code_is_read_and_written(rt: HostRuntime) {
     assert!(rt; opcodes_come_back(rt.alloc()) == Ok(true), "each opcode");
     assert!(rt; forms_stay_apart(rt.alloc()) == Ok(true), "forms");
-    for (digits, count) in PADDED {
-        assert!(rt;
-            counts(rt.alloc(), digits, Ok(*count)) == Ok(true),
-            "{digits}"
-        );
-    }
-    assert!(rt;
-        counts_many(rt.alloc(), 0, 65535, Ok(65535)) == Ok(true),
-        "65535"
-    );
     one_spelling();
 }
 
 #[test]
-fn code_is_refused(rt: HostRuntime) {
-    for (digits, error) in REFUSALS {
-        assert!(rt;
-            counts(rt.alloc(), digits, Err(*error)) == Ok(true),
-            "{digits}"
-        );
-    }
-    for byte in [0u8, 255] {
-        assert!(rt; counts_many(rt.alloc(), byte, 65536, Err(OpError::Length)) == Ok(true));
-    }
+fn instructions_are_refused(rt: HostRuntime) {
     for (name, error) in FAULTY {
         assert!(rt;
             is_unwritten(rt.alloc(), name, *error) == Ok(true),

@@ -45,63 +45,6 @@ fn a_pool_is_read_and_written(rt: HostRuntime) {
     assert!(rt; comes_back(rt.alloc()) == Ok(true));
 }
 
-/// Why bytes are no pool.
-fn fault(alloc: Global, bytes: &[u8]) -> Option<FormatFault> {
-    match Pool::read(alloc, bytes) {
-        Err(ReadError::Format(fault)) => Some(fault),
-        _ => None,
-    }
-}
-
-/// Bytes, and why they are no pool.
-const FAULTS: &[(&[u8], Option<FormatFault>)] = &[
-    // no count, and a count of 0
-    (&[0], Some(FormatFault::Short)),
-    (&[0, 0], Some(FormatFault::Index)),
-    // the pool of no entry
-    (&[0, 1], None),
-    // a Float; a text longer than the file, before its bytes are looked at; NUL; a byte past 7F
-    (&[0, 2, 4, 0, 0, 0, 0], Some(FormatFault::Tag)),
-    (&[0, 2, 1, 0, 2, 0], Some(FormatFault::Short)),
-    (&[0, 2, 1, 0, 1, 0], Some(FormatFault::Name)),
-    (&[0, 2, 1, 0, 1, 0x80], Some(FormatFault::Name)),
-    // a Long in the last number is told at its tag
-    (&[0, 2, 5], Some(FormatFault::Index)),
-    (&[0, 3, 5], Some(FormatFault::Short)),
-    // a class that names its own entry, the second of a long, and a text that is no name
-    (&[0, 2, 7, 0, 1], Some(FormatFault::Index)),
-    (
-        &[0, 4, 5, 0, 0, 0, 0, 0, 0, 0, 0, 7, 0, 2],
-        Some(FormatFault::Index),
-    ),
-    (&[0, 3, 1, 0, 1, b'/', 7, 0, 1], Some(FormatFault::Name)),
-    // E, its class, the texts a and ()V, both together, and a member of them: a method, a field, an interface's
-    // method, and one that names E as its class
-    (
-        b"\0\x07\x01\0\x01E\x07\0\x01\x01\0\x01a\x01\0\x03()V\x0c\0\x03\0\x04\x0a\0\x02\0\x05",
-        None,
-    ),
-    (
-        b"\0\x07\x01\0\x01E\x07\0\x01\x01\0\x01a\x01\0\x03()V\x0c\0\x03\0\x04\x09\0\x02\0\x05",
-        Some(FormatFault::Name),
-    ),
-    (
-        b"\0\x07\x01\0\x01E\x07\0\x01\x01\0\x01a\x01\0\x03()V\x0c\0\x03\0\x04\x0b\0\x02\0\x05",
-        None,
-    ),
-    (
-        b"\0\x07\x01\0\x01E\x07\0\x01\x01\0\x01a\x01\0\x03()V\x0c\0\x03\0\x04\x0b\0\x01\0\x05",
-        Some(FormatFault::Index),
-    ),
-];
-
-#[test]
-fn faults(rt: HostRuntime) {
-    for (bytes, wanted) in FAULTS {
-        assert!(rt; fault(rt.alloc(), bytes) == *wanted);
-    }
-}
-
 /// An entry of a row.
 #[derive(Clone, Copy)]
 pub enum Word {

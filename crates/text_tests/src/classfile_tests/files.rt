@@ -1,7 +1,7 @@
 //! Whole class files.
 
-use super::{e, e_with, has_bytes, is_told};
-use classfile::{ClassError, ClassFile, again, one_class_file, read};
+use crate::class_bytes::{E, hex};
+use classfile::{ClassError, ClassFile, again, one_class_file, read, write};
 use model::class_files::FormatFault;
 use model::instructions::Instruction;
 use std::alloc::{AllocError, Global};
@@ -25,123 +25,63 @@ fn is_e(file: &ClassFile) -> bool {
         && matches!(&end.instruction, Instruction::Return(None))
 }
 
-/// Whether a copy of a class file is written as these bytes.
-fn copy_has_bytes(alloc: Global, file: &ClassFile, wanted: &[u8]) -> bool {
+/// Whether a class file is written as these bytes.
+fn has_bytes(alloc: Global, file: &ClassFile, wanted: &[u8]) -> bool {
+    match write(alloc, file) {
+        Ok(bytes) => bytes.as_slice() == wanted,
+        Err(_) => false,
+    }
+}
+
+/// Whether a copy of a class file is E, and written as these bytes.
+fn copy_is_e(alloc: Global, file: &ClassFile, wanted: &[u8]) -> bool {
     match again(alloc, file) {
-        Ok(copy) => has_bytes(alloc, &copy, wanted),
+        Ok(copy) => is_e(&copy) && has_bytes(alloc, &copy, wanted),
         Err(_) => false,
     }
 }
 
-/// Whether E's bytes are read as E, and written again.
-fn comes_back(alloc: Global, bytes: &[u8]) -> bool {
+/// Whether a class file is written as these bytes; where that is E, also whether it is E, and its copy.
+fn is_written_as(alloc: Global, file: &ClassFile, wanted: &[u8], is_of_e: bool) -> bool {
+    has_bytes(alloc, file, wanted) && (!is_of_e || copy_is_e(alloc, file, wanted))
+}
+
+/// The same of the class file of some bytes.
+fn are_written_as(alloc: Global, bytes: &[u8], wanted: &[u8], is_of_e: bool) -> bool {
     match read(alloc, bytes) {
-        Ok(file) => {
-            is_e(&file) && has_bytes(alloc, &file, bytes) && copy_has_bytes(alloc, &file, bytes)
-        }
+        Ok(file) => is_written_as(alloc, &file, wanted, is_of_e),
         Err(_) => false,
     }
 }
 
-/// Whether users are told C3 of each front of these bytes.
-fn is_cut(alloc: Global, bytes: &[u8]) -> Result<bool, AllocError> {
-    for len in 0..100usize {
-        let Some(front) = bytes.get(..len) else {
-            return Ok(false);
-        };
-        if !is_told(alloc, front, "C3")? {
-            return Ok(false);
-        }
-    }
-    Ok(true)
-}
+/// E with an attribute of its code.
+const WITH_ATTRIBUTE: &str =
+    "cafebabe 0000 0031 0008 01000145 070001 0100106a6176612f6c616e672f4f626a656374 070003
+    0100046d61696e 010003282956 010004436f6465 0021 0002 0004 0000 0000 0001
+    0009 0005 0006 0001 0007 00000014 0000 0000 00000001 b1 0000 0001 0007 00000001 09 0000";
 
-fn one_more_is_told(alloc: Global) -> Result<bool, AllocError> {
-    let mut longer = e(alloc)?;
-    longer.push(0)?;
-    is_told(alloc, &longer, "C4")
-}
+/// E with two exception rows for all of its code, for class 2 and for any.
+const WITH_ROWS: &str =
+    "cafebabe 0000 0031 0008 01000145 070001 0100106a6176612f6c616e672f4f626a656374 070003
+    0100046d61696e 010003282956 010004436f6465 0021 0002 0004 0000 0000 0001
+    0009 0005 0006 0001 0007 0000001d 0000 0000 00000001 b1 0002 0000000100000002 0000000100000000 0000 0000";
 
-/// Whether E's bytes are read and written, and refused if they are cut.
-fn are_whole(alloc: Global) -> Result<bool, AllocError> {
-    let bytes = e(alloc)?;
-    Ok(comes_back(alloc, &bytes) && is_cut(alloc, &bytes)?)
-}
-
-/// A place in E, another byte that is there, and what users are told.
-const CHANGES: &[(usize, u8, &str)] = &[
-    (0, 0, "C1"),
-    (5, 1, "C2"),
-    (7, 0, "C2"),
-    (9, 0, "C6"),
-    (9, 0xff, "C5"),
-    // the length of the first text, which passes the end
-    (11, 0xff, "C3"),
-    // a byte that no text has, and a class's name that begins with a digit
-    (13, 0x80, "C7"),
-    (13, b'1', "C7"),
-    (60, 0x02, "C11"),
-    (64, 3, "C6"),
-    (72, 0, "read"),
-    (72, 0xff, "C11"),
-    // a name that is a class, and one that is no name; a descriptor that is none
-    (74, 2, "C6"),
-    (74, 6, "C7"),
-    (76, 5, "C7"),
-    (80, 2, "C6"),
-    // lengths of the code's attribute, and of the code
-    (81, 0xff, "C3"),
-    (84, 12, "C8"),
-    (84, 14, "C8"),
-    (89, 0xff, "C8"),
-    (92, 2, "C8"),
-    (86, 0xff, "read"),
-    (93, 0, "read"),
-    (93, 0xff, "O1 in method main()V"),
-    // a row that passes the attribute's end, and an attribute that does
-    (95, 1, "C8"),
-    (97, 1, "C8"),
-    (99, 0xff, "C3"),
+/// Class files, and as what they are written: an attribute of code is left out.
+const WRITTEN: &[(&str, &str, bool)] = &[
+    (E, E, true),
+    (WITH_ATTRIBUTE, E, true),
+    (WITH_ROWS, WITH_ROWS, false),
 ];
 
-fn change_is_told(alloc: Global, place: usize, byte: u8, wanted: &str) -> Result<bool, AllocError> {
-    let bytes = e_with(alloc, place, byte)?;
-    is_told(alloc, &bytes, wanted)
-}
-
-/// Whether bytes are a class file; none where it isn't written as these again.
-fn is_read(alloc: Global, bytes: &[u8]) -> Option<bool> {
-    match read(alloc, bytes) {
-        Ok(file) => if has_bytes(alloc, &file, bytes) {
-            Some(true)
-        } else {
-            None
-        },
-        Err(_) => Some(false),
-    }
-}
-
-/// The same of E with another byte at a place; false where E has this byte.
-fn is_read_with(alloc: Global, place: usize, byte: u8) -> Result<Option<bool>, AllocError> {
-    let bytes = e_with(alloc, place, byte)?;
-    let is_e = bytes.as_slice() == e(alloc)?.as_slice();
-    Ok(match is_read(alloc, &bytes) {
-        Some(is_read) => Some(is_read && !is_e),
-        None => None,
-    })
-}
-
-/// Flags of the class and of the method, the bytes of the limits, and nop for return.
-const FREE: &[usize] = &[60, 72, 85, 86, 87, 88, 93];
-
-/// Whether another byte at a place, of these two, is read, where it is free, and otherwise not.
-fn is_right(alloc: Global, place: usize) -> Result<bool, AllocError> {
-    let zero = is_read_with(alloc, place, 0)?;
-    let ones = is_read_with(alloc, place, 0xff)?;
-    Ok(match (zero, ones) {
-        (Some(zero), Some(ones)) => (zero | ones) == FREE.contains(&place),
-        _ => false,
-    })
+fn are_written(
+    alloc: Global,
+    digits: &str,
+    wanted: &str,
+    is_of_e: bool,
+) -> Result<bool, AllocError> {
+    let bytes = hex(alloc, digits)?;
+    let wanted = hex(alloc, wanted)?;
+    Ok(are_written_as(alloc, &bytes, &wanted, is_of_e))
 }
 
 /// Whether these errors, one after another, are told so.
@@ -152,19 +92,13 @@ fn codes_are_told(alloc: Global) -> Result<bool, AllocError> {
     Ok(format!(in alloc; "{full} {memory} {short} {flags}")?.as_str() == "C9 C10 C3 C11")
 }
 
-/// E as it is, cut, with a byte more, and with one byte that is another.
 #[test]
-fn class_files(rt: HostRuntime) {
-    assert!(rt; are_whole(rt.alloc()) == Ok(true), "whole");
-    assert!(rt; one_more_is_told(rt.alloc()) == Ok(true), "a byte more");
-    for (place, byte, answer) in CHANGES {
+fn class_files_are_written(rt: HostRuntime) {
+    for (digits, wanted, is_of_e) in WRITTEN {
         assert!(rt;
-            change_is_told(rt.alloc(), *place, *byte, answer) == Ok(true),
-            "{place}"
+            are_written(rt.alloc(), digits, wanted, *is_of_e) == Ok(true),
+            "{digits}"
         );
-    }
-    for place in 0..100usize {
-        assert!(rt; is_right(rt.alloc(), place) == Ok(true), "{place}");
     }
     assert!(rt; codes_are_told(rt.alloc()) == Ok(true), "codes");
     one_class_file();
