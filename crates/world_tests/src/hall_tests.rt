@@ -349,12 +349,17 @@ fn three_at_once<L: Ledger + Send + Sync, R: Threads + Wait + Sync>(
 
 #[test]
 fn workers_work_beside_each_other(rt: HostRuntime) -> Result<(), Fail> {
-    let world = world_of_nops(rt.alloc(), 10_000, 5_000)?;
+    let limits = Limits {
+        steps: 100_000,
+        output: 0,
+    };
+    let endless = program(rt.alloc(), 0, "Top:\ngoto Top\n")?;
+    let world = world_on(rt.alloc(), endless, 2, limits)?;
     let blank = Blank::new(3);
     let (counts, met, rows) = three_at_once::<Brand, HostRuntime>(&rt, rt.alloc(), blank, world)?;
     let [first, second, collector] = counts;
     let all = first.saturating_add(second).saturating_add(collector);
     assert!(rt; met && first > 0 && second > 0 && collector > 0);
-    assert!(rt; all == 5_000 && rows == 5_000);
+    assert!(rt; all == 100_000 && rows == 100_000);
     Ok(())
 }
