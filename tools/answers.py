@@ -3,7 +3,7 @@
 Each row is of a kind, which says what files are made of it:
 
 text, assembled    A text, of which a bar ends a line, and a line H, I, M, Z, A, S, G or N stands for those of LINES; it is
-                   assembled. `read` says that it is a text, whatever the assembler tells of it; behind `ends` and `at 8` stand
+                   assembled. `read` says that it is a text, whatever the assembler tells of it; after `ends` and `at 8` stand
                    bytes of the class file.
 pool, byte of E, field of A, code of E, operand of E, pads of E, method of E
                    Class files of the two with these names, which are disassembled.
@@ -44,7 +44,7 @@ FREE = {60, 72, 85, 86, 87, 88, 93}
 # a class A over O, up to the flags of its one field `x I`, which is deprecated and has a value
 A_FRONT = """cafebabe 0000 0031 000a 01000141 070001 0100014f 070003 01000178 01000149
     01000d436f6e7374616e7456616c7565 0300000007 01000a44657072656361746564 0021 0002 0004 0000 0001"""
-# the entries behind E's that code names: an Integer 8, a Long 9, a field `main I` 13, and methods `main()V` of a class 15 and of
+# the entries after E's that code names: an Integer 8, a Long 9, a field `main I` 13, and methods `main()V` of a class 15 and of
 # an interface 16
 NAMED = "03 00000007 05 0000000000000007 01 0001 49 0c 0005 000b 09 0002 000c 0c 0005 0006 0a 0002 000e 0b 0002 000e"
 PADS = {"": 0x15, "00": 0x16, "0000": 0x17, "000000": 0x18}
@@ -80,7 +80,7 @@ JOURNALS = [
 
 
 def rows():
-    """The rows: kind, what is given, and what is told."""
+    """The rows: kind, what is given, and what is reported."""
     with open(ROWS, encoding="ascii") as file:
         for section in file.read().split("\n== ")[1:]:
             head, *lines = section.rstrip("\n").split("\n")
@@ -110,9 +110,9 @@ def e_with(count="8", entries="", methods=E_METHODS):
 
 
 def with_code(count, entries, code, tail="0000 0000"):
-    """E with this code, and this behind it in its attribute."""
-    size, behind = (len(bytes.fromhex(it)) for it in (code, tail))
-    attribute = f"0007 {8 + size + behind:08x} 0000 0000 {size:08x} {code} {tail}"
+    """E with this code, and this after it in its attribute."""
+    size, after = (len(bytes.fromhex(it)) for it in (code, tail))
+    attribute = f"0007 {8 + size + after:08x} 0000 0000 {size:08x} {code} {tail}"
     return e_with(count, entries, f"0001 0009 0005 0006 0001 {attribute}")
 
 
@@ -161,7 +161,7 @@ def text_of(line):
     return ".end method\n" if word == "end" else f"{line}\n"
 
 
-def told_by(value, printed):
+def reported_by(value, printed):
     """The lines that tell whether a value is at the top of the stack, and take it off; what they print is added."""
     if value == "null":
         return "ifnonnull BAD\n"
@@ -187,7 +187,7 @@ class Folder:
             return file.read()
 
     def shown(self, *words):
-        """The output, and what is told on standard error, nothing where the command ends well."""
+        """The output, and what is reported on standard error, nothing where the command ends well."""
         done = subprocess.run([self.jvm, *words], cwd=self.path, stdout=subprocess.PIPE, stderr=subprocess.PIPE, timeout=120)
         return done.stdout.decode("latin-1"), done.stderr.decode().rstrip("\n") if done.returncode else ""
 
@@ -214,7 +214,7 @@ class Folder:
         return word == "assembled" or made.endswith(bytes.fromhex(rest))
 
     def class_file(self, digits, wanted):
-        """The same of a class file; with nothing wanted it is refused, whatever is told."""
+        """The same of a class file; with nothing wanted it is refused, whatever is reported."""
         self.put("a.class", bytes.fromhex(digits))
         answer = self.told("dis", "a.class")
         right = bool(answer) if wanted is None else answer == ("" if wanted == "read" else f"jvm: a.class: {wanted}")
@@ -236,7 +236,7 @@ class Folder:
         lines, printed = given.replace("|", "\n") + "\n", []
         if failure is None:
             units, values = units + 1, wanted.split(" ") if wanted else []
-            seen = "".join(told_by(value, printed) for value in values)
+            seen = "".join(reported_by(value, printed) for value in values)
             lines = lines.replace("return\n", f"{seen}return\n") if "return\n" in lines else f"{lines}{seen}return\n"
         text = f"{OBJECTS.format(units)}{lines}{OTHERWISE}"
         self.put("a.j", text.encode())
@@ -298,10 +298,10 @@ def plain_answer(journal):
     workers = 3 if at(0) == "JVMJ 2\n" else 0
     if workers and not is_line(at(3), "workers", 1):
         return "N7"
-    behind = lines[4 if workers else 3 :]
-    for number, line in enumerate(behind):
+    after = lines[4 if workers else 3 :]
+    for number, line in enumerate(after):
         if line.startswith("end"):
-            return "read" if is_line(line, "end", 1) and line == f"end {number}\n" and len(behind) == number + 1 else "N4"
+            return "read" if is_line(line, "end", 1) and line == f"end {number}\n" and len(after) == number + 1 else "N4"
         if not is_row(line, workers):
             return f"N3 at row {number + 1}"
     return "N4"

@@ -9,7 +9,7 @@ that it has, and the collector's rows are all of the last worker. Without files 
 threads that count under one monitor and make garbage on a small heap, and waits for them; each run prints 8000 and ends well,
 since its garbage fits.
 
-Then it runs the program once as a user who may start no thread: that is told, and no journal is written.
+Then it runs the program once as a user who may start no thread: that is reported, and no journal is written.
 
 Ends with status 1 where something differs; the last line has the rows of each worker, of all runs together.
 """

@@ -7,7 +7,7 @@ few functions for it, and not the crate.
 The module of the edit's first file stays, with all that it names: modules, definitions and lemmas. Other modules stand
 under cfg(test); what names one of them (a file of specs/ or proofs/) is a comment, and so are other files of lemmas. A file
 that can't be one, since its first or last line stands twice in it or it names files, stays with all that it names. The
-pairs come behind the line MARK, in place of what stood there. With --try the crate without what is left out is checked,
+pairs come after the line MARK, in place of what stood there. With --try the crate without what is left out is checked,
 wrong body and all but the first file's pairs, and has to be proved. It gains where the edit is the crate's only one: with
 two or more the gate proves the whole crate once more.
 """

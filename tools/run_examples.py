@@ -10,7 +10,7 @@ same class file. The class files of examples/java are run in the same way; there
 printed. The programs of examples/rows.txt are run turn by turn. All but those of rows.txt that have
 several threads, or find no room for an object, are also run by four carriers beside the ideal run, and the journals of these
 runs are replayed: they print the same, whoever took which turn. The sessions of examples/sessions.txt are played command by command,
-and each row of examples/answers.txt is told as it says.
+and each row of examples/answers.txt is reported as it says.
 
 The last line is 'N passed, M failed'. With --after, the passes and failures in the last line of that file are added.
 """

@@ -48,7 +48,7 @@ def bytes_of(lines, is_hex):
 
 
 def steps_of(block):
-    """The steps of a session, each the line that says what it is, and the lines behind it."""
+    """The steps of a session, each the line that says what it is, and the lines after it."""
     steps = []
     for line in block:
         if line.startswith(("-- ", "$ ")):

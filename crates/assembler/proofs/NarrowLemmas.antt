@@ -1,5 +1,6 @@
--- How the numbers that go with `ldc` are found, one use behind the other.
-use Rattle.std.proofs.Common.{◌≡◌, ℤ, ◌≤◌, Bool, true, false, not, ◌&&◌, ◌||◌, List, [], ◌∷◌, ◌++◌, filter, length, take, refl, sym, ◌∙◌, ap, inl, inr, append_assoc, append-nil}
+-- How the numbers that go with `ldc` are found, one use after the other.
+use Rattle.std.proofs.Common.{◌≡◌, ℤ, ◌≤◌, Bool, true, false, not, ◌&&◌, ◌||◌, List, [], ◌∷◌, ◌++◌, filter, length}
+use Rattle.std.proofs.Common.{take, refl, sym, ◌∙◌, ap, inl, inr, append_assoc, append-nil}
 use Rattle.std.specs.Ordering.{int_eq}
 use Rattle.std.proofs.lemmas.List.{take-append-le, take_all}
 use Rattle.std.proofs.lemmas.Bool.Decides.{Decides-int_eq}
@@ -20,8 +21,10 @@ filter_twice p q r [] h = refl
 filter_twice p q r (z ∷ zs) h =
     elim (bool_tells (q z)) [
       | inl t ↦ elim (bool_tells (p z)) [
-        | inl u ↦ ap (filter p) (kept q z zs t) ∙ kept p z (filter q zs) u ∙ ap (λ ys. z ∷ ys) (filter_twice p q r zs h) ∙ sym (kept r z zs (h z ∙ rw (t, u) refl))
-        | inr g ↦ ap (filter p) (kept q z zs t) ∙ left_out p z (filter q zs) g ∙ filter_twice p q r zs h ∙ sym (left_out r z zs (h z ∙ rw (t, g) refl))
+        | inl u ↦ ap (filter p) (kept q z zs t) ∙ kept p z (filter q zs) u ∙ ap (λ ys. z ∷ ys) (filter_twice p q r zs h)
+            ∙ sym (kept r z zs (h z ∙ rw (t, u) refl))
+        | inr g ↦ ap (filter p) (kept q z zs t) ∙ left_out p z (filter q zs) g ∙ filter_twice p q r zs h
+            ∙ sym (left_out r z zs (h z ∙ rw (t, g) refl))
       ]
       | inr f ↦ ap (filter p) (left_out q z zs f) ∙ filter_twice p q r zs h ∙ sym (left_out r z zs (h z ∙ rw f refl))
     ]
@@ -32,7 +35,8 @@ others noted z = not (is_among noted z)
 
 among_push : (noted : List ℤ) (z y : ℤ) → is_among (noted ++ z ∷ []) y ≡ (is_among noted y || int_eq z y)
 among_push [] z y = elim (bool_tells (int_eq z y)) [ inl t ↦ rw t refl | inr f ↦ rw f refl ]
-among_push (n ∷ noted) z y = elim (bool_tells (int_eq n y)) [ inl t ↦ rw t refl | inr f ↦ rw (f, among_push noted z y) refl ]
+among_push (n ∷ noted) z y = elim (bool_tells (int_eq n y)) [ inl t ↦ rw t refl |
+    inr f ↦ rw (f, among_push noted z y) refl ]
 
 not_or : (a b : Bool) → not (a || b) ≡ (not b && not a)
 not_or true true = refl
@@ -53,35 +57,41 @@ among_but noted z y h =
     ]
 
 -- the numbers that are left where one of them is noted already
-pub known_rest : (noted : List ℤ) (z : ℤ) (zs : List ℤ) → is_among noted z ≡ true → filter (others noted) (different (z ∷ zs)) ≡ filter (others noted) (different zs)
+pub known_rest : (noted : List ℤ) (z : ℤ) (zs : List ℤ) → is_among noted z ≡ true
+    → filter (others noted) (different (z ∷ zs)) ≡ filter (others noted) (different zs)
 unfolding others
 known_rest noted z zs h =
     left_out (others noted) z (filter (λ y. not (int_eq z y)) (different zs)) (rw h refl)
     ∙ filter_twice (others noted) (λ y. not (int_eq z y)) (others noted) (different zs) (λ y. among_but noted z y h)
 
 -- a number that is noted already
-pub noted_known : (noted : List ℤ) (z : ℤ) (zs : List ℤ) → is_among noted z ≡ true → numbers_with noted (z ∷ zs) ≡ numbers_with noted zs
+pub noted_known : (noted : List ℤ) (z : ℤ) (zs : List ℤ) → is_among noted z ≡ true → numbers_with noted (z ∷ zs)
+    ≡ numbers_with noted zs
 unfolding numbers_with others
 noted_known noted z zs h =
     ap (λ ys. take 255 (noted ++ ys)) (known_rest noted z zs h)
 
 -- where 255 are noted, no other is
-pub noted_full : (noted : List ℤ) (z : ℤ) (zs : List ℤ) → 255 ≤ length noted → numbers_with noted (z ∷ zs) ≡ numbers_with noted zs
+pub noted_full : (noted : List ℤ) (z : ℤ) (zs : List ℤ) → 255 ≤ length noted → numbers_with noted (z ∷ zs)
+    ≡ numbers_with noted zs
 unfolding numbers_with
 noted_full noted z zs h = full noted _ h ∙ sym (full noted _ h)
   where
     full : (xs ys : List ℤ) → 255 ≤ length xs → take 255 (xs ++ ys) ≡ take 255 xs
     full xs ys g = take-append-le 255 xs ys g
 
--- the numbers that are left behind a new one
-pub new_rest : (noted : List ℤ) (z : ℤ) (zs : List ℤ) → is_among noted z ≡ false → filter (others noted) (different (z ∷ zs)) ≡ z ∷ filter (others (noted ++ z ∷ [])) (different zs)
+-- the numbers that are left after a new one
+pub new_rest : (noted : List ℤ) (z : ℤ) (zs : List ℤ) → is_among noted z ≡ false
+    → filter (others noted) (different (z ∷ zs)) ≡ z ∷ filter (others (noted ++ z ∷ [])) (different zs)
 unfolding others
 new_rest noted z zs h =
     kept (others noted) z (filter (λ y. not (int_eq z y)) (different zs)) (rw h refl)
-    ∙ ap (λ ys. z ∷ ys) (filter_twice (others noted) (λ y. not (int_eq z y)) (others (noted ++ z ∷ [])) (different zs) (λ y. ap not (among_push noted z y) ∙ not_or (is_among noted y) (int_eq z y)))
+    ∙ ap (λ ys. z ∷ ys) (filter_twice (others noted) (λ y. not (int_eq z y)) (others (noted ++ z ∷ [])) (different zs)
+        (λ y. ap not (among_push noted z y) ∙ not_or (is_among noted y) (int_eq z y)))
 
 -- a number that is noted
-pub noted_new : (noted : List ℤ) (z : ℤ) (zs : List ℤ) → is_among noted z ≡ false → numbers_with noted (z ∷ zs) ≡ numbers_with (noted ++ z ∷ []) zs
+pub noted_new : (noted : List ℤ) (z : ℤ) (zs : List ℤ) → is_among noted z ≡ false → numbers_with noted (z ∷ zs)
+    ≡ numbers_with (noted ++ z ∷ []) zs
 unfolding numbers_with others
 noted_new noted z zs h =
     ap (take 255) (ap (λ ys. noted ++ ys) (new_rest noted z zs h) ∙ sym (append_assoc noted (z ∷ []) _))

@@ -1,11 +1,13 @@
 -- A class's flags in its file, where a class has SUPER and an interface hasn't (JVMS 4.1).
-use Rattle.std.proofs.Common.{◌≡◌, ℕ, ◌^◌, ◌<◌, Bool, true, false, not, ◌&&◌, ◌||◌, eqb, refl, sym, ap, ◌∙◌, inl, inr, arith}
+use Rattle.std.proofs.Common.{◌≡◌, ℕ, ◌^◌, ◌<◌, Bool, true, false, not, ◌&&◌, ◌||◌, eqb, refl, sym, ap, ◌∙◌, inl, inr}
+use Rattle.std.proofs.Common.{arith}
 use Rattle.std.specs.Prelude.{bit_and, bit_or}
 use Rattle.std.specs.Int.{w16, bit_at}
 use Rattle.std.proofs.lemmas.Bool.{eqb-true}
 use Rattle.std.proofs.lemmas.Bool.Decides.{eqb_tells}
 use Rattle.std.proofs.lemmas.Nat.{and_le_r, and_or_apart, or_of_16}
-use Rattle.std.proofs.lemmas.Nat.Bits.{and_pow, bit_at_clear_same, bit_at_clear_other, bit_at_set_other, same_from_bits_below}
+use Rattle.std.proofs.lemmas.Nat.Bits.{and_pow, bit_at_clear_same, bit_at_clear_other, bit_at_set_other}
+use Rattle.std.proofs.lemmas.Nat.Bits.{same_from_bits_below}
 use Rattle.model.specs.ClassFiles.Heads.{are_class_flags}
 use Rattle.model.specs.Texts.Flags.{has}
 
@@ -25,7 +27,8 @@ left_out f small h = same_from_bits_below 16 (bit_and f 0xffdf) f (short f) smal
   where
     each : (i : ℕ) → i < 16 → bit_at (bit_and f 0xffdf) i ≡ bit_at f i
     each i lt = elim (eqb_tells i 5) [
-      | inl same ↦ ap (bit_at (bit_and f 0xffdf)) same.1 ∙ bit_at_clear_same w16 f 5 (omega arith) ∙ sym (no_bit f h) ∙ ap (bit_at f) (sym same.1)
+      | inl same ↦ ap (bit_at (bit_and f 0xffdf)) same.1 ∙ bit_at_clear_same w16 f 5 (omega arith) ∙ sym (no_bit f h)
+          ∙ ap (bit_at f) (sym same.1)
       | inr other ↦ bit_at_clear_other w16 f 5 (omega arith) i lt other.1
     ]
 
@@ -35,8 +38,10 @@ again f small h = same_from_bits_below 16 (bit_and (bit_or f 0x0020) 0xffdf) f (
   where
     each : (i : ℕ) → i < 16 → bit_at (bit_and (bit_or f 0x0020) 0xffdf) i ≡ bit_at f i
     each i lt = elim (eqb_tells i 5) [
-      | inl same ↦ ap (bit_at (bit_and (bit_or f 0x0020) 0xffdf)) same.1 ∙ bit_at_clear_same w16 (bit_or f 0x0020) 5 (omega arith) ∙ sym (no_bit f h) ∙ ap (bit_at f) (sym same.1)
-      | inr other ↦ bit_at_clear_other w16 (bit_or f 0x0020) 5 (omega arith) i lt other.1 ∙ bit_at_set_other w16 f 5 (omega arith) i other.1
+      | inl same ↦ ap (bit_at (bit_and (bit_or f 0x0020) 0xffdf)) same.1 ∙ bit_at_clear_same w16 (bit_or f 0x0020) 5
+          (omega arith) ∙ sym (no_bit f h) ∙ ap (bit_at f) (sym same.1)
+      | inr other ↦ bit_at_clear_other w16 (bit_or f 0x0020) 5 (omega arith) i lt other.1
+          ∙ bit_at_set_other w16 f 5 (omega arith) i other.1
     ]
 
 -- SUPER goes with all flags that a class's go with
@@ -48,10 +53,14 @@ interface_still f = has_still f 0x0200 refl
 
 pub agree_still : (f : ℕ) → are_class_flags (bit_or f 0x0020) ≡ are_class_flags f
 agree_still f =
-    ap (λ k. (eqb k 0 && (not (has (bit_or f 0x0020) 0x0200) || has (bit_or f 0x0020) 0x0400)) && not (has (bit_or f 0x0020) 0x0010 && has (bit_or f 0x0020) 0x0400)) (and_or_apart 0xf9ce f 32 refl)
-    ∙ ap (λ b. (eqb (bit_and f 0xf9ce) 0 && (not b || has (bit_or f 0x0020) 0x0400)) && not (has (bit_or f 0x0020) 0x0010 && has (bit_or f 0x0020) 0x0400)) (has_still f 0x0200 refl)
-    ∙ ap (λ b. (eqb (bit_and f 0xf9ce) 0 && (not (has f 0x0200) || b)) && not (has (bit_or f 0x0020) 0x0010 && b)) (has_still f 0x0400 refl)
-    ∙ ap (λ b. (eqb (bit_and f 0xf9ce) 0 && (not (has f 0x0200) || has f 0x0400)) && not (b && has f 0x0400)) (has_still f 0x0010 refl)
+    ap (λ k. (eqb k 0 && (not (has (bit_or f 0x0020) 0x0200) || has (bit_or f 0x0020) 0x0400))
+        && not (has (bit_or f 0x0020) 0x0010 && has (bit_or f 0x0020) 0x0400)) (and_or_apart 0xf9ce f 32 refl)
+    ∙ ap (λ b. (eqb (bit_and f 0xf9ce) 0 && (not b || has (bit_or f 0x0020) 0x0400))
+        && not (has (bit_or f 0x0020) 0x0010 && has (bit_or f 0x0020) 0x0400)) (has_still f 0x0200 refl)
+    ∙ ap (λ b. (eqb (bit_and f 0xf9ce) 0 && (not (has f 0x0200) || b)) && not (has (bit_or f 0x0020) 0x0010 && b))
+        (has_still f 0x0400 refl)
+    ∙ ap (λ b. (eqb (bit_and f 0xf9ce) 0 && (not (has f 0x0200) || has f 0x0400)) && not (b && has f 0x0400))
+        (has_still f 0x0010 refl)
 
 pub or_is_short : (f : ℕ) → f < 2 ^ 16 → bit_or f 0x0020 < 2 ^ 16
 or_is_short f small = or_of_16 f 0x0020 small (omega arith)

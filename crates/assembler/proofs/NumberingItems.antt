@@ -1,15 +1,19 @@
 -- Items that are among others, and lists of items that grow.
-use Rattle.std.proofs.Common.{◌≡◌, ℕ, ℤ, ◌≤◌, true, false, ◌&&◌, ◌||◌, ◌⊎◌, List, [], ◌∷◌, ◌++◌, refl, sym, ◌∙◌, ap, subst, inl, inr, append_assoc, append-nil, arith}
+use Rattle.std.proofs.Common.{◌≡◌, ℕ, ℤ, ◌≤◌, true, false, ◌&&◌, ◌||◌, ◌⊎◌, List, [], ◌∷◌, ◌++◌, refl, sym, ◌∙◌, ap}
+use Rattle.std.proofs.Common.{subst, inl, inr, append_assoc, append-nil, arith}
 use Rattle.std.specs.Str.{bytes_eq}
 use Rattle.std.specs.Ordering.{int_eq}
-use Rattle.std.proofs.lemmas.Bool.{cases_Bool, and_parts, and_from, or_cases, or_from, or_left, or_right, false_from_ne_true, true≢false}
+use Rattle.std.proofs.lemmas.Bool.{cases_Bool, and_parts, and_from, or_cases, or_from, or_left, or_right}
+use Rattle.std.proofs.lemmas.Bool.{false_from_ne_true, true≢false}
 use Rattle.std.proofs.lemmas.Bool.Decides.{Decides-int_eq}
 use Rattle.std.proofs.lemmas.List.Sums.{sum_by-append}
 use Rattle.std.proofs.lemmas.Slice.Eq.{bytes_eq-Decides}
-use Rattle.model.specs.ClassFiles.Items.{Item, is_same_member, is_same_item, is_item_of, with_item, with_items, numbers_taken, items_count}
-use Rattle.model.specs.ClassFiles.Items.Item.{text_item, int_item, long_item, class_item, name_item, field_item, method_item, interface_item}
+use Rattle.model.specs.ClassFiles.Items.{Item, is_same_member, is_same_item, is_item_of, with_item, with_items}
+use Rattle.model.specs.ClassFiles.Items.{numbers_taken, items_count}
+use Rattle.model.specs.ClassFiles.Items.Item.{text_item, int_item, long_item, class_item, name_item, field_item}
+use Rattle.model.specs.ClassFiles.Items.Item.{method_item, interface_item}
 use Rattle.model.specs.declared.names.Member.{Member}
-use Rattle.assembler.specs.Numbering.{named_by, are_items_of, AreClosedBehind, AreClosed}
+use Rattle.assembler.specs.Numbering.{named_by, are_items_of, AreClosedAfter, AreClosed}
 
 -- ---- items that say the same
 
@@ -42,7 +46,8 @@ is_member : (a b : Member) → is_same_member a b ≡ true → a ≡ b
 is_member a b h =
     let first = and_parts (bytes_eq a.class b.class && bytes_eq a.name b.name) (bytes_eq a.descriptor b.descriptor) h in
     let second = and_parts (bytes_eq a.class b.class) (bytes_eq a.name b.name) first.0 in
-    same_parts a b ((bytes_eq-Decides a.class b.class).0 second.0) ((bytes_eq-Decides a.name b.name).0 second.1) ((bytes_eq-Decides a.descriptor b.descriptor).0 first.1)
+    same_parts a b ((bytes_eq-Decides a.class b.class).0 second.0) ((bytes_eq-Decides a.name b.name).0 second.1)
+        ((bytes_eq-Decides a.descriptor b.descriptor).0 first.1)
 
 -- items that are the same are one
 pub same_is : (x y : Item) → is_same_item x y ≡ true → x ≡ y
@@ -59,7 +64,8 @@ same_is (interface_item a) (interface_item b) h = ap interface_item (is_member a
 same_is x y h = absurd cc
 
 pub same_turned : (x y : Item) → is_same_item x y ≡ false → is_same_item y x ≡ false
-same_turned x y h = false_from_ne_true (is_same_item y x) (λ e. true≢false (sym (same_self x) ∙ ap (is_same_item x) (sym (same_is y x e)) ∙ h))
+same_turned x y h = false_from_ne_true (is_same_item y x)
+    (λ e. true≢false (sym (same_self x) ∙ ap (is_same_item x) (sym (same_is y x e)) ∙ h))
 
 -- ---- items that are among others
 
@@ -76,14 +82,16 @@ among_left xs ys x h = among-append xs ys x ∙ or_left (is_item_of xs x) (is_it
 pub among_right : (xs ys : List Item) (x : Item) → is_item_of ys x ≡ true → is_item_of (xs ++ ys) x ≡ true
 among_right xs ys x h = among-append xs ys x ∙ or_right (is_item_of xs x) (is_item_of ys x) h
 
-pub among_cases : (xs ys : List Item) (x : Item) → is_item_of (xs ++ ys) x ≡ true → (is_item_of xs x ≡ true) ⊎ (is_item_of ys x ≡ true)
+pub among_cases : (xs ys : List Item) (x : Item) → is_item_of (xs ++ ys) x ≡ true
+    → (is_item_of xs x ≡ true) ⊎ (is_item_of ys x ≡ true)
 among_cases xs ys x h = or_cases (is_item_of xs x) (is_item_of ys x) (sym (among-append xs ys x) ∙ h)
 
 pub among_first : (x : Item) (xs : List Item) → is_item_of (x ∷ xs) x ≡ true
 among_first x xs = or_left (is_same_item x x) (is_item_of xs x) (same_self x)
 
 -- one of several items that are all among some
-pub one_of : (items xs : List Item) (x : Item) → are_items_of items xs ≡ true → is_item_of xs x ≡ true → is_item_of items x ≡ true
+pub one_of : (items xs : List Item) (x : Item) → are_items_of items xs ≡ true → is_item_of xs x ≡ true
+    → is_item_of items x ≡ true
 one_of items [] x all h = absurd (true≢false (sym h))
 one_of items (y ∷ xs) x all h =
     let both = and_parts (is_item_of items y) (are_items_of items xs) all in
@@ -92,10 +100,12 @@ one_of items (y ∷ xs) x all h =
       | inr r ↦ one_of items xs x both.1 r
     ]
 
-pub all_from : (items xs : List Item) → ((x : Item) → is_item_of xs x ≡ true → is_item_of items x ≡ true) → are_items_of items xs ≡ true
+pub all_from : (items xs : List Item) → ((x : Item) → is_item_of xs x ≡ true → is_item_of items x ≡ true)
+    → are_items_of items xs ≡ true
 all_from items [] each = refl
 all_from items (y ∷ xs) each =
-    and_from (is_item_of items y) (are_items_of items xs) (each y (among_first y xs)) (all_from items xs (λ x h. each x (or_right (is_same_item x y) (is_item_of xs x) h)))
+    and_from (is_item_of items y) (are_items_of items xs) (each y (among_first y xs))
+        (all_from items xs (λ x h. each x (or_right (is_same_item x y) (is_item_of xs x) h)))
 
 pub all_left : (items more xs : List Item) → are_items_of items xs ≡ true → are_items_of (items ++ more) xs ≡ true
 all_left items more xs all = all_from (items ++ more) xs (λ x h. among_left items more x (one_of items xs x all h))
@@ -108,7 +118,8 @@ item_new items x h = rw h refl
 pub item_known : (items : List Item) (x : Item) → is_item_of items x ≡ true → with_item items x ≡ items
 item_known items x h = rw h refl
 
-pub with_item_keeps : (items : List Item) (x y : Item) → is_item_of items y ≡ true → is_item_of (with_item items x) y ≡ true
+pub with_item_keeps : (items : List Item) (x y : Item) → is_item_of items y ≡ true → is_item_of (with_item items x) y
+    ≡ true
 with_item_keeps items x y h = elim (cases_Bool (is_item_of items x)) [
   | inl t ↦ ap (λ (xs : List Item). is_item_of xs y) (item_known items x t) ∙ h
   | inr f ↦ ap (λ (xs : List Item). is_item_of xs y) (item_new items x f) ∙ among_left items (x ∷ []) y h
@@ -117,32 +128,39 @@ with_item_keeps items x y h = elim (cases_Bool (is_item_of items x)) [
 pub with_item_has : (items : List Item) (x : Item) → is_item_of (with_item items x) x ≡ true
 with_item_has items x = elim (cases_Bool (is_item_of items x)) [
   | inl t ↦ ap (λ (xs : List Item). is_item_of xs x) (item_known items x t) ∙ t
-  | inr f ↦ ap (λ (xs : List Item). is_item_of xs x) (item_new items x f) ∙ among_right items (x ∷ []) x (among_first x [])
+  | inr f ↦ ap (λ (xs : List Item). is_item_of xs x) (item_new items x f)
+      ∙ among_right items (x ∷ []) x (among_first x [])
 ]
 
-with_item_only : (items : List Item) (x y : Item) → is_item_of (with_item items x) y ≡ true → (is_item_of items y ≡ true) ⊎ (is_same_item y x ≡ true)
+with_item_only : (items : List Item) (x y : Item) → is_item_of (with_item items x) y ≡ true
+    → (is_item_of items y ≡ true) ⊎ (is_same_item y x ≡ true)
 with_item_only items x y h = elim (cases_Bool (is_item_of items x)) [
   | inl t ↦ inl (sym (ap (λ (xs : List Item). is_item_of xs y) (item_known items x t)) ∙ h)
-  | inr f ↦ elim (among_cases items (x ∷ []) y (sym (ap (λ (xs : List Item). is_item_of xs y) (item_new items x f)) ∙ h)) [
+  | inr f ↦ elim (among_cases items (x ∷ []) y (sym (ap (λ (xs : List Item). is_item_of xs y) (item_new items x f))
+      ∙ h)) [
     | inl l ↦ inl l
     | inr r ↦ elim (or_cases (is_same_item y x) false r) [ inl s ↦ inr s | inr n ↦ absurd (true≢false (sym n)) ]
   ]
 ]
 
-pub with_items_keep : (items xs : List Item) (y : Item) → is_item_of items y ≡ true → is_item_of (with_items items xs) y ≡ true
+pub with_items_keep : (items xs : List Item) (y : Item) → is_item_of items y ≡ true → is_item_of (with_items items xs) y
+    ≡ true
 with_items_keep items [] y h = h
 with_items_keep items (x ∷ xs) y h = with_items_keep (with_item items x) xs y (with_item_keeps items x y h)
 
 -- each item that was added is there
-pub with_items_have : (items xs : List Item) (y : Item) → is_item_of xs y ≡ true → is_item_of (with_items items xs) y ≡ true
+pub with_items_have : (items xs : List Item) (y : Item) → is_item_of xs y ≡ true → is_item_of (with_items items xs) y
+    ≡ true
 with_items_have items [] y h = absurd (true≢false (sym h))
 with_items_have items (x ∷ xs) y h = elim (or_cases (is_same_item y x) (is_item_of xs y) h) [
-  | inl s ↦ with_items_keep (with_item items x) xs y (ap (is_item_of (with_item items x)) (same_is y x s) ∙ with_item_has items x)
+  | inl s ↦ with_items_keep (with_item items x) xs y (ap (is_item_of (with_item items x)) (same_is y x s)
+      ∙ with_item_has items x)
   | inr r ↦ with_items_have (with_item items x) xs y r
 ]
 
 -- and no other that wasn't there
-pub with_items_only : (items xs : List Item) (y : Item) → is_item_of (with_items items xs) y ≡ true → (is_item_of items y ≡ true) ⊎ (is_item_of xs y ≡ true)
+pub with_items_only : (items xs : List Item) (y : Item) → is_item_of (with_items items xs) y ≡ true
+    → (is_item_of items y ≡ true) ⊎ (is_item_of xs y ≡ true)
 with_items_only items [] y h = inl h
 with_items_only items (x ∷ xs) y h = elim (with_items_only (with_item items x) xs y h) [
   | inl l ↦ elim (with_item_only items x y l) [
@@ -160,36 +178,45 @@ with_items-append items (x ∷ xs) ys = with_items-append (with_item items x) xs
 pub all_added : (items xs : List Item) → are_items_of (with_items items xs) xs ≡ true
 all_added items xs = all_from (with_items items xs) xs (λ x h. with_items_have items xs x h)
 
-pub all_kept : (items more xs : List Item) → are_items_of items xs ≡ true → are_items_of (with_items items more) xs ≡ true
-all_kept items more xs all = all_from (with_items items more) xs (λ x h. with_items_keep items more x (one_of items xs x all h))
+pub all_kept : (items more xs : List Item) → are_items_of items xs ≡ true → are_items_of (with_items items more) xs
+    ≡ true
+all_kept items more xs all = all_from (with_items items more) xs
+    (λ x h. with_items_keep items more x (one_of items xs x all h))
 
 -- ---- items that follow those that they name
 
-pub closed-append : (before xs ys : List Item) → AreClosedBehind before xs → AreClosedBehind (before ++ xs) ys → AreClosedBehind before (xs ++ ys)
-closed-append before [] ys left right = subst (λ zs. AreClosedBehind zs ys) (append-nil before) right
+pub closed-append : (before xs ys : List Item) → AreClosedAfter before xs → AreClosedAfter (before ++ xs) ys
+    → AreClosedAfter before (xs ++ ys)
+closed-append before [] ys left right = subst (λ zs. AreClosedAfter zs ys) (append-nil before) right
 closed-append before (x ∷ xs) ys left right = (
   left.0,
   left.1,
-  closed-append (before ++ x ∷ []) xs ys left.2 (subst (λ zs. AreClosedBehind zs ys) (sym (append_assoc before (x ∷ []) xs)) right),
+  closed-append (before ++ x ∷ []) xs ys left.2
+      (subst (λ zs. AreClosedAfter zs ys) (sym (append_assoc before (x ∷ []) xs)) right),
 )
 
 -- closed items with one more whose names are there
-pub closed_grows : (items : List Item) (x : Item) → AreClosed items → are_items_of items (named_by x) ≡ true → AreClosed (with_item items x)
+pub closed_grows : (items : List Item) (x : Item) → AreClosed items → are_items_of items (named_by x) ≡ true
+    → AreClosed (with_item items x)
 closed_grows items x closed named = elim (cases_Bool (is_item_of items x)) [
   | inl t ↦ subst AreClosed (sym (item_known items x t)) closed
   | inr f ↦ subst AreClosed (sym (item_new items x f)) (closed-append [] items (x ∷ []) closed (named, f, tt))
 ]
 
-named_behind : (before xs : List Item) (x : Item) → AreClosedBehind before xs → is_item_of xs x ≡ true → are_items_of (before ++ xs) (named_by x) ≡ true
-named_behind before [] x closed h = absurd (true≢false (sym h))
-named_behind before (y ∷ xs) x closed h = elim (or_cases (is_same_item x y) (is_item_of xs x) h) [
-  | inl s ↦ all_left before (y ∷ xs) (named_by x) (ap (λ z. are_items_of before (named_by z)) (same_is x y s) ∙ closed.0)
-  | inr r ↦ ap (λ zs. are_items_of zs (named_by x)) (sym (append_assoc before (y ∷ []) xs)) ∙ named_behind (before ++ y ∷ []) xs x closed.2 r
+named_after : (before xs : List Item) (x : Item) → AreClosedAfter before xs → is_item_of xs x ≡ true
+    → are_items_of (before ++ xs) (named_by x) ≡ true
+named_after before [] x closed h = absurd (true≢false (sym h))
+named_after before (y ∷ xs) x closed h = elim (or_cases (is_same_item x y) (is_item_of xs x) h) [
+  | inl s ↦ all_left before (y ∷ xs) (named_by x) (ap (λ z. are_items_of before (named_by z)) (same_is x y s)
+      ∙ closed.0)
+  | inr r ↦ ap (λ zs. are_items_of zs (named_by x)) (sym (append_assoc before (y ∷ []) xs))
+      ∙ named_after (before ++ y ∷ []) xs x closed.2 r
 ]
 
 -- of closed items each one's names are there
-pub named_are : (items : List Item) (x : Item) → AreClosed items → is_item_of items x ≡ true → are_items_of items (named_by x) ≡ true
-named_are items x closed h = named_behind [] items x closed h
+pub named_are : (items : List Item) (x : Item) → AreClosed items → is_item_of items x ≡ true
+    → are_items_of items (named_by x) ≡ true
+named_are items x closed h = named_after [] items x closed h
 
 -- ---- items that are different
 
@@ -198,29 +225,32 @@ abbrev pub AreDifferent : List Item → Type 0
 AreDifferent [] = Unit {0}
 AreDifferent (x ∷ xs) = (is_item_of xs x ≡ false) × AreDifferent xs
 
-not_behind : (before xs : List Item) (y : Item) → AreClosedBehind before xs → is_item_of before y ≡ true → is_item_of xs y ≡ false
-not_behind before [] y closed h = refl
-not_behind before (x ∷ xs) y closed h =
+not_after : (before xs : List Item) (y : Item) → AreClosedAfter before xs → is_item_of before y ≡ true → is_item_of xs y
+    ≡ false
+not_after before [] y closed h = refl
+not_after before (x ∷ xs) y closed h =
     or_from (is_same_item y x) (is_item_of xs y)
-    (false_from_ne_true (is_same_item y x) (λ s. true≢false (sym h ∙ ap (is_item_of before) (same_is y x s) ∙ closed.1)))
-    (not_behind (before ++ x ∷ []) xs y closed.2 (among_left before (x ∷ []) y h))
+    (false_from_ne_true (is_same_item y x) (λ s. true≢false (sym h ∙ ap (is_item_of before) (same_is y x s)
+        ∙ closed.1)))
+    (not_after (before ++ x ∷ []) xs y closed.2 (among_left before (x ∷ []) y h))
 
-closed_behind_different : (before xs : List Item) → AreClosedBehind before xs → AreDifferent xs
-closed_behind_different before [] closed = tt
-closed_behind_different before (x ∷ xs) closed = (
-  not_behind (before ++ x ∷ []) xs x closed.2 (among_right before (x ∷ []) x (among_first x [])),
-  closed_behind_different (before ++ x ∷ []) xs closed.2,
+closed_after_different : (before xs : List Item) → AreClosedAfter before xs → AreDifferent xs
+closed_after_different before [] closed = tt
+closed_after_different before (x ∷ xs) closed = (
+  not_after (before ++ x ∷ []) xs x closed.2 (among_right before (x ∷ []) x (among_first x [])),
+  closed_after_different (before ++ x ∷ []) xs closed.2,
 )
 
 pub closed_are_different : (items : List Item) → AreClosed items → AreDifferent items
-closed_are_different items closed = closed_behind_different [] items closed
+closed_are_different items closed = closed_after_different [] items closed
 
 -- ---- counts
 
 pub count_grows : (items : List Item) (x : Item) → items_count items ≤ items_count (with_item items x)
 count_grows items x = elim (cases_Bool (is_item_of items x)) [
   | inl t ↦ subst (λ xs. items_count items ≤ items_count xs) (sym (item_known items x t)) (omega arith)
-  | inr f ↦ subst (λ xs. items_count items ≤ items_count xs) (sym (item_new items x f)) (omega (arith, sum_by-append numbers_taken items (x ∷ [])))
+  | inr f ↦ subst (λ xs. items_count items ≤ items_count xs) (sym (item_new items x f))
+      (omega (arith, sum_by-append numbers_taken items (x ∷ [])))
 ]
 
 -- a pool is no smaller with more in it

@@ -16,4 +16,5 @@ ink_in_text b ink =
     and_from (nat_le 1 b) (nat_le b 127) (le-leb 1 b (omega (arith, low))) (le-leb b 127 (omega (arith, high)))
 
 pub written : (w : List ℕ) → IsPlainName w → is_well_formed (text_item w) ≡ true
-written w name = and_from (nat_le (length w) 65535) (list_all is_text_byte w) name.short (weaker is_ink is_text_byte ink_in_text w (inks_of w name.plain))
+written w name = and_from (nat_le (length w) 65535) (list_all is_text_byte w) name.short (weaker is_ink is_text_byte
+    ink_in_text w (inks_of w name.plain))

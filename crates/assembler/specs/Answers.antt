@@ -16,9 +16,11 @@ HasNumber old added new item answer = Gives old added new (λ items. number_of i
 
 -- these items are refused for a full pool alone, unless memory ran out
 abbrev pub OnlyFull : {A : Type 0} → List Item → List Item → Result A AsmError → Type 0
-OnlyFull old added answer = IfErr answer (λ e. (later : List Item) → HasRoom (with_items old (added ++ later)) → e ≡ error.Memory)
+OnlyFull old added answer = IfErr answer (λ e. (later : List Item) → HasRoom (with_items old (added ++ later))
+    → e ≡ error.Memory)
 
 -- the same where the whole pool also meets another condition
 abbrev pub OnlyFullWhere : {A : Type 0} → List Item → List Item → (List Item → Type 0) → Result A AsmError → Type 0
 OnlyFullWhere old added Meets answer =
-    IfErr answer (λ e. (later : List Item) → HasRoom (with_items old (added ++ later)) → Meets (with_items old (added ++ later)) → e ≡ error.Memory)
+    IfErr answer (λ e. (later : List Item) → HasRoom (with_items old (added ++ later))
+        → Meets (with_items old (added ++ later)) → e ≡ error.Memory)

@@ -1,5 +1,6 @@
 -- The class file of a listing, with the numbers that a pool of items gives (JVMS 4.1).
-use Rattle.std.specs.Prelude.{◌≡◌, ℕ, ◌^◌, ◌<◌, Bool, true, bit_or, List, [], ◌++◌, map, codes, Option, Some, None, if◌then◌else◌}
+use Rattle.std.specs.Prelude.{◌≡◌, ℕ, ◌^◌, ◌<◌, Bool, true, bit_or, List, [], ◌++◌, map, codes, Option, Some, None}
+use Rattle.std.specs.Prelude.{if◌then◌else◌}
 use Rattle.std.specs.Option.{option_map}
 use Rattle.model.specs.Bytecode.{IsCode}
 use Rattle.model.specs.ClassFiles.Classes.{ClassPart}
@@ -72,7 +73,8 @@ Grows old added new = (later : List Item) → with_items old (added ++ later) �
 
 -- the same, and the value is what it will be in the whole pool, whatever is added later
 abbrev pub Stays : {A : Type 0} → List Item → List Item → List Item → (List Item → A) → A → Type 0
-Stays old added new value x = (later : List Item) → (with_items old (added ++ later) ≡ with_items new later) × (x ≡ value (with_items new later))
+Stays old added new value x = (later : List Item) → (with_items old (added ++ later) ≡ with_items new later)
+    × (x ≡ value (with_items new later))
 
 -- the pool has room for its items
 abbrev pub HasRoom : List Item → Type 0
@@ -80,7 +82,7 @@ HasRoom items = items_count items < 2 ^ 16
 
 -- ---- code that has bytes
 
--- instructions stand one behind the other
+-- instructions stand one after the other
 abbrev pub code_stands : Option CodeListing → Bool
 code_stands None = true
 code_stands (Some c) = stand_from 0 c.instructions

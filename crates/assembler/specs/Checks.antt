@@ -44,4 +44,5 @@ has_few_rows m = few_rows m.code
 
 -- lists that a class file can count
 abbrev pub has_short_lists : ClassListing → Bool
-has_short_lists l = is_countable (length l.interfaces) && is_countable (length l.fields) && is_countable (length l.methods) && list_all has_few_rows l.methods
+has_short_lists l = is_countable (length l.interfaces) && is_countable (length l.fields)
+    && is_countable (length l.methods) && list_all has_few_rows l.methods

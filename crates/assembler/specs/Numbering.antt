@@ -1,6 +1,7 @@
--- Numbers in place of what they name: the entries of a pool made of items, and the parts of a class with the numbers that
--- the pool has for them (JVMS 4.4).
-use Rattle.std.specs.Prelude.{◌≡◌, ℕ, ◌+◌, ◌^◌, ◌<◌, ℤ, Bool, true, false, ◌&&◌, List, [], ◌∷◌, ◌++◌, map, length, nat_le, codes, Option, Some, None, if◌then◌else◌}
+-- Numbers in place of what they name: the entries of a pool made of items, and the parts of a class with the numbers
+-- that the pool has for them (JVMS 4.4).
+use Rattle.std.specs.Prelude.{◌≡◌, ℕ, ◌+◌, ◌^◌, ◌<◌, ℤ, Bool, true, false, ◌&&◌, List, [], ◌∷◌, ◌++◌, map, length}
+use Rattle.std.specs.Prelude.{nat_le, codes, Option, Some, None, if◌then◌else◌}
 use Rattle.std.specs.List.{list_all}
 use Rattle.std.specs.Option.{option_map}
 use Rattle.model.specs.Bytecode.Opcodes.{Instr}
@@ -8,14 +9,17 @@ use Rattle.model.specs.ClassFiles.Codes.{CodeRow}
 use Rattle.model.specs.ClassFiles.Entries.{is_text_byte}
 use Rattle.model.specs.ClassFiles.References.{names_class, is_field, is_method, is_member}
 use Rattle.model.specs.Texts.Spelled.{is_int, is_long}
-use Rattle.model.specs.ClassFiles.Items.{Item, is_same_item, is_item_of, numbers_taken, items_count, class_items, name_items, value_item}
-use Rattle.model.specs.ClassFiles.Items.Item.{text_item, int_item, long_item, class_item, name_item, field_item, method_item, interface_item}
+use Rattle.model.specs.ClassFiles.Items.{Item, is_same_item, is_item_of, numbers_taken, items_count, class_items}
+use Rattle.model.specs.ClassFiles.Items.{name_items, value_item}
+use Rattle.model.specs.ClassFiles.Items.Item.{text_item, int_item, long_item, class_item, name_item, field_item}
+use Rattle.model.specs.ClassFiles.Items.Item.{method_item, interface_item}
 use Rattle.model.specs.ClassFiles.Listing.{name_at, referred}
 use Rattle.model.specs.Table.Next.{Listed}
 use Rattle.model.specs.declared.bytecode.Located.{Located}
 use Rattle.model.specs.declared.class_files.ConstantValue.{ConstantValue}
 use Rattle.model.specs.declared.class_files.Entry.{Entry}
-use Rattle.model.specs.declared.class_files.Entry.TheVariants.{Utf8, Integer, Long, Class, Fieldref, Methodref, InterfaceMethodref, NameAndType}
+use Rattle.model.specs.declared.class_files.Entry.TheVariants.{Utf8, Integer, Long, Class, Fieldref, Methodref}
+use Rattle.model.specs.declared.class_files.Entry.TheVariants.{InterfaceMethodref, NameAndType}
 use Rattle.model.specs.declared.class_files.FieldEntry.{FieldEntry}
 use Rattle.model.specs.declared.instructions.ArrayOperation.{ArrayOperation}
 use Rattle.model.specs.declared.instructions.ArrayOperation.TheVariants as array
@@ -49,10 +53,14 @@ entry_of items (text_item text) = Utf8 text
 entry_of items (int_item z) = Integer z
 entry_of items (long_item z) = Long z
 entry_of items (class_item name) = Class (number_of items (text_item name))
-entry_of items (name_item name descriptor) = NameAndType (number_of items (text_item name)) (number_of items (text_item descriptor))
-entry_of items (field_item m) = Fieldref (number_of items (class_item m.class)) (number_of items (name_item m.name m.descriptor))
-entry_of items (method_item m) = Methodref (number_of items (class_item m.class)) (number_of items (name_item m.name m.descriptor))
-entry_of items (interface_item m) = InterfaceMethodref (number_of items (class_item m.class)) (number_of items (name_item m.name m.descriptor))
+entry_of items (name_item name descriptor) = NameAndType (number_of items (text_item name))
+    (number_of items (text_item descriptor))
+entry_of items (field_item m) = Fieldref (number_of items (class_item m.class))
+    (number_of items (name_item m.name m.descriptor))
+entry_of items (method_item m) = Methodref (number_of items (class_item m.class))
+    (number_of items (name_item m.name m.descriptor))
+entry_of items (interface_item m) = InterfaceMethodref (number_of items (class_item m.class))
+    (number_of items (name_item m.name m.descriptor))
 
 -- the pool of the items
 abbrev pub entries_of : List Item → List Entry
@@ -92,15 +100,15 @@ abbrev pub are_items_of : List Item → List Item → Bool
 are_items_of items [] = true
 are_items_of items (x ∷ xs) = is_item_of items x && are_items_of items xs
 
--- behind these items each further one follows those that it names, and stands once
-abbrev pub AreClosedBehind : List Item → List Item → Type 0
-AreClosedBehind before [] = Unit {0}
-AreClosedBehind before (x ∷ xs) =
-    (are_items_of before (named_by x) ≡ true) × (is_item_of before x ≡ false) × AreClosedBehind (before ++ x ∷ []) xs
+-- after these items each further one follows those that it names, and stands once
+abbrev pub AreClosedAfter : List Item → List Item → Type 0
+AreClosedAfter before [] = Unit {0}
+AreClosedAfter before (x ∷ xs) =
+    (are_items_of before (named_by x) ≡ true) × (is_item_of before x ≡ false) × AreClosedAfter (before ++ x ∷ []) xs
 
 -- each item follows those that it names, and stands once
 abbrev pub AreClosed : List Item → Type 0
-AreClosed items = AreClosedBehind [] items
+AreClosed items = AreClosedAfter [] items
 
 -- items that can be a pool: its count is at most 65,535
 pub record IsPool (items : List Item) : Type 0 where
@@ -127,7 +135,7 @@ pub record IsEntry (items : List Item) (entry : Entry) : Type 0 where
   pub entry_is : entry ≡ entry_of items (said items entry)
   pub named : are_items_of items (named_by (said items entry)) ≡ true
 
--- what a reference to a member names, each behind what it names itself
+-- what a reference to a member names, each after what it names itself
 abbrev pub reference_items : Member → List Item
 reference_items m = class_items m.class ++ name_items m.name m.descriptor
 
@@ -187,10 +195,12 @@ numbered_catch items None = 0
 numbered_catch items (Some name) = number_of items (class_item name)
 
 abbrev pub numbered_row : List Item → ExceptionRow → CodeRow
-numbered_row items row = record { start = row.start; end = row.end; handler = row.handler; class = numbered_catch items row.class }
+numbered_row items row = record { start = row.start; end = row.end; handler = row.handler;
+    class = numbered_catch items row.class }
 
 abbrev pub numbered_value : List Item → Constant → ConstantValue
-numbered_value items c = record { name = number_of items (text_item (codes "ConstantValue")); value = number_of items (value_item c) }
+numbered_value items c = record { name = number_of items (text_item (codes "ConstantValue"));
+    value = number_of items (value_item c) }
 
 abbrev pub numbered_field : List Item → Field → FieldEntry
 numbered_field items f = record {

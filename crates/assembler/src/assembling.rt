@@ -40,7 +40,7 @@ pub struct Assembled {
 pub fn assemble(alloc: Global, tree: &ClassTree) -> Result<Assembled, AsmError>
     // The class file has the tree's listing, and the tree is one that can be assembled.
     ensures found { IfOk result (λ made. (file_listing made.file ≡ listing_of tree.now) × (assembles tree.now ≡ true)) }
-    // Its pool is that of the listing, behind the numbers of `ldc`.
+    // Its pool is that of the listing, after the numbers of `ldc`.
     ensures made { IfOk result (λ made. made.file ≡ assembled_tree tree.now) }
     // The listing is the tree's.
     ensures listed { IfOk result (λ made. made.listing ≡ listing_of tree.now) }

@@ -50,7 +50,7 @@ impl<T: Drop> From<AllocFailed<T>> for AsmError {
 }
 
 impl From<AddError> for AsmError {
-    ghost from_gives = { λ e told. e ≡ add.Memory → told ≡ error.Memory };
+    ghost from_gives = { λ e reported. e ≡ add.Memory → reported ≡ error.Memory };
 
     fn from(e: AddError) -> AsmError {
         match e {
@@ -60,9 +60,9 @@ impl From<AddError> for AsmError {
     }
 }
 
-/// Instructions that have no bytes are told as a pool without room.
+/// Instructions that have no bytes are reported as a pool without room.
 impl From<OpError> for AsmError {
-    ghost from_gives = { λ e told. e ≡ op.Memory → told ≡ error.Memory };
+    ghost from_gives = { λ e reported. e ≡ op.Memory → reported ≡ error.Memory };
 
     fn from(e: OpError) -> AsmError {
         match e {
@@ -72,9 +72,9 @@ impl From<OpError> for AsmError {
     }
 }
 
-/// What the format refuses is told as a pool without room.
+/// What the format refuses is reported as a pool without room.
 impl From<ClassError> for AsmError {
-    ghost from_gives = { λ e told. e ≡ class.Memory → told ≡ error.Memory };
+    ghost from_gives = { λ e reported. e ≡ class.Memory → reported ≡ error.Memory };
 
     fn from(e: ClassError) -> AsmError {
         match e {

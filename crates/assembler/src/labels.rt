@@ -2,7 +2,7 @@
 ghost use Rattle.std.specs.Prelude.{◌≡◌, ◌≤◌, ℕ, List, map, IfOk, OnOk, if◌then◌else◌};
 ghost use Rattle.std.specs.Option.{unwrap_or};
 ghost use Rattle.std.specs.Str.{bytes_eq};
-ghost use Rattle.model.specs.Texts.Labels.{pc_behind, pc_of};
+ghost use Rattle.model.specs.Texts.Labels.{pc_following, pc_of};
 ghost use Rattle.model.specs.Texts.Tables.{named};
 ghost use Rattle.model.specs.Texts.Widths.{widened_line};
 ghost use Rattle.assembler.specs.Checks.{pc_in};
@@ -19,7 +19,7 @@ pub fn label_pcs<'a>(
     narrow: &[i32],
     lines: &'a [TextLine],
 ) -> Result<Labels<'a, u16>, AllocError>
-    requires { pc_behind 0 (map (widened_line narrow.now) lines.now) ≤ 65535 }
+    requires { pc_following 0 (map (widened_line narrow.now) lines.now) ≤ 65535 }
     ensures { IfOk result (λ pcs. (name : List ℕ)
         → pc_in pcs name ≡ pc_of 0 (map (widened_line narrow.now) lines.now) name) }
 {

@@ -2,7 +2,7 @@
 ghost use Rattle.std.specs.Prelude.{◌≡◌, ◌≤◌, true, map, IfOk, IfErr};
 ghost use Rattle.std.specs.List.{list_all};
 ghost use Rattle.model.specs.Texts.Assembling.{assembles, method_assembles};
-ghost use Rattle.model.specs.Texts.Labels.{pc_behind};
+ghost use Rattle.model.specs.Texts.Labels.{pc_following};
 ghost use Rattle.model.specs.Texts.ListingOfTree.{placed_from, row_with, code_listing, method_listing, listing_of};
 ghost use Rattle.model.specs.Texts.Widths.{widened_line};
 ghost use Rattle.assembler.specs.Checks.{pc_in, code_is_right, method_is_right};
@@ -42,7 +42,7 @@ impl From<AllocError> for CodeFault {
 }
 
 /// The listing of a tree. A method's switches, size and branches are tested, in this order, and the first fault of the
-/// first method that has one is told: A4, A1 or A2, and A5 where memory runs out.
+/// first method that has one is reported: A4, A1 or A2, and A5 where memory runs out.
 #[tactic(auto, unfolding(model::specs::Texts::ListingOfTree::listing_of, model::specs::Texts::Assembling::assembles, model::specs::Texts::Assembling::listing_assembles))]
 pub fn listing(alloc: Global, tree: &ClassTree) -> Result<Listing, AsmError>
     ensures found { IfOk result (λ listing. (listing ≡ listing_of tree.now)
@@ -123,7 +123,7 @@ fn method_listing(alloc: Global, narrow: &[i32], method: &MethodTree) -> Result<
         None => None,
         Some(body) => match code_listing(alloc, narrow, body) {
             Ok(code) => Some(code),
-            Err(fault) => return Err(told(fault, name, descriptor)),
+            Err(fault) => return Err(reported(fault, name, descriptor)),
         },
     };
     Ok(Method {
@@ -135,7 +135,7 @@ fn method_listing(alloc: Global, narrow: &[i32], method: &MethodTree) -> Result<
 }
 
 /// A fault with the method that has it.
-fn told(what: CodeFault, name: Name, descriptor: Name) -> AsmError
+fn reported(what: CodeFault, name: Name, descriptor: Name) -> AsmError
     ensures { what ≡ fault.Memory → result ≡ error.Memory }
 {
     match what {
@@ -168,7 +168,7 @@ fn code_listing(alloc: Global, narrow: &[i32], body: &BodyTree) -> Result<Code, 
 
 /// The code of a body of 65,535 bytes at most.
 fn settled(alloc: Global, narrow: &[i32], body: &BodyTree) -> Result<Code, AllocError>
-    requires { pc_behind 0 (map (widened_line narrow.now) body.now.lines) ≤ 65535 }
+    requires { pc_following 0 (map (widened_line narrow.now) body.now.lines) ≤ 65535 }
     ensures { IfOk result (λ code. code ≡ code_listing narrow.now body.now) }
 {
     let lines = body.lines.as_slice();
@@ -216,14 +216,14 @@ fn shared_class(class: &Option<Name>) -> Result<Option<Name>, AllocError>
     }
 }
 
-/// The instructions of the lines that hold a method's code, one behind the other.
+/// The instructions of the lines that hold a method's code, one after the other.
 fn placed(
     alloc: Global,
     narrow: &[i32],
     pcs: &Labels<'_, u16>,
     lines: &[TextLine],
 ) -> Result<Vec<Placed>, AllocError>
-    requires { pc_behind 0 (map (widened_line narrow.now) lines.now) ≤ 65535 }
+    requires { pc_following 0 (map (widened_line narrow.now) lines.now) ≤ 65535 }
     ensures { IfOk result (λ placed. placed.items
         ≡ placed_from (pc_in pcs.now) 0 (map (widened_line narrow.now) lines.now)) }
 {

@@ -19,7 +19,7 @@ use pool::PoolBuilder;
 use std::alloc::Global;
 use std::marker::Model;
 
-/// The pool of a class file in the making. What is asked for stands in it from then on, behind what it names itself,
+/// The pool of a class file in the making. What is asked for stands in it from then on, after what it names itself,
 /// and once; its number stays, whatever is added later. A contract sees the items of the pool, in the order of their
 /// numbers. A3 where the pool has no room, A5 where memory runs out; then what an entry names may have been added.
 #[derive(Drop)]

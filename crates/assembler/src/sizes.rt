@@ -3,7 +3,7 @@ ghost use Rattle.std.specs.Prelude.{◌≡◌, ◌≤◌, ◌<◌, ◌+◌, ◌*
 ghost use Rattle.model.specs.Sizes.{constant_size, index_size, local_size, branch_size, array_size, invoke_size};
 ghost use Rattle.model.specs.Sizes.{pad_at, size_at};
 ghost use Rattle.model.specs.Texts.Assembling.{size_is_right};
-ghost use Rattle.model.specs.Texts.Labels.{pc_behind};
+ghost use Rattle.model.specs.Texts.Labels.{pc_following};
 ghost use Rattle.model.specs.Texts.Widths.{widened, widened_constant, widened_line};
 
 use crate::ldc_numbers::among;
@@ -15,8 +15,8 @@ use model::trees::{TextLine, Written};
 
 /// The size of lines that hold code, if it is 65,535 at most. `narrow` are the numbers that go with `ldc`.
 fn code_size(narrow: &[i32], lines: &[TextLine]) -> Option<u16>
-    ensures { MatchOption result (65535 < pc_behind 0 (map (widened_line narrow.now) lines.now)) (λ size. size
-        ≡ pc_behind 0 (map (widened_line narrow.now) lines.now)) }
+    ensures { MatchOption result (65535 < pc_following 0 (map (widened_line narrow.now) lines.now)) (λ size. size
+        ≡ pc_following 0 (map (widened_line narrow.now) lines.now)) }
 {
     let mut pc = 0u16;
     for line in lines {
@@ -33,7 +33,7 @@ fn code_size(narrow: &[i32], lines: &[TextLine]) -> Option<u16>
 
 /// Whether lines hold 1 to 65,535 bytes of code.
 pub fn has_right_size(narrow: &[i32], lines: &[TextLine]) -> bool
-    ensures { result ≡ size_is_right (pc_behind 0 (map (widened_line narrow.now) lines.now)) }
+    ensures { result ≡ size_is_right (pc_following 0 (map (widened_line narrow.now) lines.now)) }
 {
     match code_size(narrow, lines) {
         Some(size) => size >= 1,
@@ -41,7 +41,7 @@ pub fn has_right_size(narrow: &[i32], lines: &[TextLine]) -> bool
     }
 }
 
-/// The pc behind an instruction, if it is 65,535 at most.
+/// The pc after an instruction, if it is 65,535 at most.
 pub fn pc_after(narrow: &[i32], pc: u16, instruction: &Written) -> Option<u16>
     ensures { MatchOption result (65535 < pc + size_at pc (widened narrow.now instruction.now)) (λ next. next
         ≡ pc + size_at pc (widened narrow.now instruction.now)) }

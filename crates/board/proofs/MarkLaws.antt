@@ -1,5 +1,6 @@
 -- What becomes of each worker's mark, and which counts a mark is right of.
-use Rattle.std.proofs.Common.{◌≡◌, ◌≢◌, ◌≤◌, ℕ, zero, suc, max, true, List, [], ◌∷◌, map, refl, ap, sym, ◌∙◌, subst, arith, le_refl, ◌⊎◌, inl, inr}
+use Rattle.std.proofs.Common.{◌≡◌, ◌≢◌, ◌≤◌, ℕ, zero, suc, max, true, List, [], ◌∷◌, map, refl, ap, sym, ◌∙◌, subst}
+use Rattle.std.proofs.Common.{arith, le_refl, ◌⊎◌, inl, inr}
 use Rattle.std.specs.Prelude.{Option, None, Some, IfSome, option_map}
 use Rattle.std.specs.Option.{option_or, is_some}
 use mathlib.Core.Logic.{dite}
@@ -45,15 +46,19 @@ mark_of-together (m ∷ ms) (n ∷ ns) zero = refl
 mark_of-together (m ∷ ms) (n ∷ ns) (suc k) = mark_of-together ms ns k
 
 -- what holds of the changed mark, and of every other, holds of each
-pub each_changed : (P : ℕ → Mark → Type 0) (f : Mark → Mark) (ms : List Mark) (w : ℕ) → P w (f (mark_of ms w)) → ((k : ℕ) → k ≢ w → P k (mark_of ms k)) → (k : ℕ) → P k (mark_of (changed f ms w) k)
+pub each_changed : (P : ℕ → Mark → Type 0) (f : Mark → Mark) (ms : List Mark) (w : ℕ) → P w (f (mark_of ms w))
+    → ((k : ℕ) → k ≢ w → P k (mark_of ms k)) → (k : ℕ) → P k (mark_of (changed f ms w) k)
 each_changed P f ms w here there k = dite (ℕ_discrete k w)
     (λ e. subst (λ (j : ℕ). P j (mark_of (changed f ms w) j)) (sym e) (subst (P w) (sym (mark_of-changed f ms w)) here))
     (λ ne. subst (P k) (sym (mark_of-changed_else f ms w k ne)) (there k ne))
 
-pub each_only : (P : ℕ → Mark → Type 0) (ms : List Mark) (w : ℕ) → P w (mark_of ms w) → ((k : ℕ) → k ≢ w → P k (released (mark_of ms k))) → (k : ℕ) → P k (mark_of (only ms w) k)
-each_only P ms w here there = each_changed P (λ _. mark_of ms w) (map released ms) w here (λ k ne. subst (P k) (sym (mark_of-released ms k)) (there k ne))
+pub each_only : (P : ℕ → Mark → Type 0) (ms : List Mark) (w : ℕ) → P w (mark_of ms w)
+    → ((k : ℕ) → k ≢ w → P k (released (mark_of ms k))) → (k : ℕ) → P k (mark_of (only ms w) k)
+each_only P ms w here there = each_changed P (λ _. mark_of ms w) (map released ms) w here
+    (λ k ne. subst (P k) (sym (mark_of-released ms k)) (there k ne))
 
-pub each_together : (P : ℕ → Mark → Type 0) (ms ns : List Mark) → ((k : ℕ) → P k (joined (mark_of ms k) (mark_of ns k))) → (k : ℕ) → P k (mark_of (together ms ns) k)
+pub each_together : (P : ℕ → Mark → Type 0) (ms ns : List Mark) → ((k : ℕ) → P k (joined (mark_of ms k) (mark_of ns k)))
+    → (k : ℕ) → P k (mark_of (together ms ns) k)
 each_together P ms ns all k = subst (P k) (sym (mark_of-together ms ns k)) (all k)
 
 pub mark_of-found : (ms : List Mark) (w n : ℕ) → mark_of (changed (found n) ms w) w ≡ found n (mark_of ms w)
@@ -77,20 +82,25 @@ pub own-without_it : (ms : List Mark) (w : ℕ) → (mark_of (without ms w) w).o
 own-without_it ms w = ap (λ (m : Mark). m.own) (mark_of-changed released ms w)
 
 pub own-only : (ms : List Mark) (w k : ℕ) → k ≢ w → (mark_of (only ms w) k).own ≡ None
-own-only ms w k ne = ap (λ (m : Mark). m.own) (mark_of-changed_else (λ _. mark_of ms w) (map released ms) w k ne ∙ mark_of-released ms k)
+own-only ms w k ne = ap (λ (m : Mark). m.own) (mark_of-changed_else (λ _. mark_of ms w) (map released ms) w k ne
+    ∙ mark_of-released ms k)
 
-pub own-together : (ms ns : List Mark) (w : ℕ) → (mark_of (together ms ns) w).own ≡ option_or (mark_of ms w).own (mark_of ns w).own
+pub own-together : (ms ns : List Mark) (w : ℕ) → (mark_of (together ms ns) w).own
+    ≡ option_or (mark_of ms w).own (mark_of ns w).own
 own-together ms ns w = ap (λ (m : Mark). m.own) (mark_of-together ms ns w)
 
-pub seen-together : (ms ns : List Mark) (w : ℕ) → ((mark_of ms w).seen ≤ (mark_of (together ms ns) w).seen) × ((mark_of ns w).seen ≤ (mark_of (together ms ns) w).seen)
-seen-together ms ns = each_together (λ w m. ((mark_of ms w).seen ≤ m.seen) × ((mark_of ns w).seen ≤ m.seen)) ms ns (λ w. (omega arith, omega arith))
+pub seen-together : (ms ns : List Mark) (w : ℕ) → ((mark_of ms w).seen ≤ (mark_of (together ms ns) w).seen)
+    × ((mark_of ns w).seen ≤ (mark_of (together ms ns) w).seen)
+seen-together ms ns = each_together (λ w m. ((mark_of ms w).seen ≤ m.seen) × ((mark_of ns w).seen ≤ m.seen)) ms ns
+    (λ w. (omega arith, omega arith))
 
 -- ---- the mark of a worker whose count is n
 
 pub stands_released : (n : ℕ) (m : Mark) → Stands n m → Stands n (released m)
 stands_released n m is = (is.0, tt)
 
-owned_either : (n : ℕ) (o p : Option ℕ) → IfSome o (λ c. n ≡ c) → IfSome p (λ c. n ≡ c) → IfSome (option_or o p) (λ c. n ≡ c)
+owned_either : (n : ℕ) (o p : Option ℕ) → IfSome o (λ c. n ≡ c) → IfSome p (λ c. n ≡ c)
+    → IfSome (option_or o p) (λ c. n ≡ c)
 owned_either n None p x y = y
 owned_either n (Some c) p x y = x
 
@@ -106,7 +116,8 @@ stands_found n m = (le_refl n, owned_found n m.own)
 
 -- another's count may rise
 pub stands_risen : (n k : ℕ) (m : Mark) → n ≤ k → m.own ≡ None → Stands n m → Stands k m
-stands_risen n k m le foreign is = ((let a = is.0 in omega arith), subst (λ (o : Option ℕ). IfSome o (λ c. k ≡ c)) (sym foreign) tt)
+stands_risen n k m le foreign is = ((let a = is.0 in omega arith),
+                                           subst (λ (o : Option ℕ). IfSome o (λ c. k ≡ c)) (sym foreign) tt)
 
 pub owned_is : (n : ℕ) (m : Mark) (count : ℕ) → m.own ≡ Some count → Stands n m → n ≡ count
 owned_is n m count own is = subst (λ (o : Option ℕ). IfSome o (λ c. n ≡ c)) own is.1

@@ -20,19 +20,22 @@ none_seen (suc n) zero = refl
 none_seen (suc n) (suc k) = none_seen n k
 
 pub opening_is : (workers : ℕ) → IsNextSeat workers 0 (unseated workers)
-opening_is workers = record { next_is = refl; own = λ w from to. all_owned workers w to; unseen = λ w. none_seen workers w; stop = refl }
+opening_is workers = record { next_is = refl; own = λ w from to. all_owned workers w to;
+    unseen = λ w. none_seen workers w; stop = refl }
 
 module _ (workers next : ℕ) (v : View) (is : IsNextSeat workers next v) where
   pub rest_is : IsNextSeat workers (next + 1) (seats_left v)
   rest_is = record {
     next_is = (let e = is.next_is in omega arith);
-    own = λ w from to. own-without v.marks v.worker w (λ e. let n = is.next_is in omega arith) ∙ is.own w (omega arith) to;
+    own = λ w from to. own-without v.marks v.worker w
+        (λ e. let n = is.next_is in omega arith) ∙ is.own w (omega arith) to;
     unseen = λ w. seen-without v.marks v.worker w ∙ is.unseen w;
     stop = is.stop;
   }
 
   pub own_seated : next < workers → (mark_of (seated v).marks next).own ≡ Some 0
-  own_seated lt = ap (λ (w : ℕ). (mark_of (only v.marks w) next).own) is.next_is ∙ (ap (λ (m : Mark). m.own) (mark_of-only v.marks next) ∙ is.own next (omega arith) lt)
+  own_seated lt = ap (λ (w : ℕ). (mark_of (only v.marks w) next).own) is.next_is
+      ∙ (ap (λ (m : Mark). m.own) (mark_of-only v.marks next) ∙ is.own next (omega arith) lt)
 
   pub no_other_seated : (w : ℕ) → w ≢ next → (mark_of (seated v).marks w).own ≡ None
   no_other_seated w ne = own-only v.marks v.worker w (λ e. ne (e ∙ is.next_is))

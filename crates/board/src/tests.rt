@@ -75,13 +75,13 @@ fn seats_meet_and_the_board_is_closed(rt: HostRuntime) -> Result<(), Fail> {
 
 #[test]
 fn one_to_nine_workers_have_a_board(rt: HostRuntime) -> Result<(), Fail> {
-    for (workers, told) in [(0, "B1"), (1, ""), (9, ""), (10, "B1")] {
+    for (workers, reported) in [(0, "B1"), (1, ""), (9, ""), (10, "B1")] {
         let answer = match Board::new(rt.alloc(), workers) {
             Ok(_) => "",
             Err(BoardError::Workers) => "B1",
             Err(BoardError::Memory) => "B2",
         };
-        assert_eq!(rt; answer, told);
+        assert_eq!(rt; answer, reported);
     }
     assert_eq!(rt; BoardError::Workers.to_string(rt.alloc())?.as_str(), "B1");
     assert_eq!(rt; BoardError::Memory.to_string(rt.alloc())?.as_str(), "B2");

@@ -1,5 +1,7 @@
-use Rattle.std.proofs.Common.{◌≡◌, ℕ, suc, ◌+◌, ◌-◌, ◌≤◌, ◌<◌, List, ◌++◌, length, take, drop, set, sym, ◌∙◌, ap, arith, length-append, length-drop, append_assoc}
-use Rattle.std.proofs.lemmas.List.{take-take, take-set, take_at, drop-drop, drop-take, drop-set-lt, drop-set-add, drop_at, length-set, length-take-le}
+use Rattle.std.proofs.Common.{◌≡◌, ℕ, suc, ◌+◌, ◌-◌, ◌≤◌, ◌<◌, List, ◌++◌, length, take, drop, set, sym, ◌∙◌, ap, arith}
+use Rattle.std.proofs.Common.{length-append, length-drop, append_assoc}
+use Rattle.std.proofs.lemmas.List.{take-take, take-set, take_at, drop-drop, drop-take, drop-set-lt, drop-set-add}
+use Rattle.std.proofs.lemmas.List.{drop_at, length-set, length-take-le}
 use Rattle.std.proofs.Math.Seq.{take-set-lt}
 use Rattle.model.specs.declared.values.Value.{Value}
 
@@ -12,13 +14,16 @@ pub record SameOutside (from to : ℕ) (old new : List Value) : Type 0 where
   pub above : drop to new ≡ drop to old
 
 -- some words that lie below
-pub stays_below : (base count from to : ℕ) (old new : List Value) → SameOutside from to old new → base + count ≤ from → take count (drop base new) ≡ take count (drop base old)
+pub stays_below : (base count from to : ℕ) (old new : List Value) → SameOutside from to old new → base + count ≤ from
+    → take count (drop base new) ≡ take count (drop base old)
 stays_below base count from to old new same within =
-    let cut = sym (take-take (base + count) from new within) ∙ ap (take (base + count)) same.below ∙ take-take (base + count) from old within in
+    let cut = sym (take-take (base + count) from new within) ∙ ap (take (base + count)) same.below
+          ∙ take-take (base + count) from old within in
     sym (drop-take base count new) ∙ ap (drop base) cut ∙ drop-take base count old
 
 -- some words that lie above
-pub stays_above : (base count from to : ℕ) (old new : List Value) → SameOutside from to old new → to ≤ base → take count (drop base new) ≡ take count (drop base old)
+pub stays_above : (base count from to : ℕ) (old new : List Value) → SameOutside from to old new → to ≤ base
+    → take count (drop base new) ≡ take count (drop base old)
 stays_above base count from to old new same within =
     let sum : to + (base - to) ≡ base = omega arith in
     ap (take count)
@@ -34,7 +39,8 @@ set_same words place v = record {
   above = drop-set-lt (suc place) words place v (omega arith);
 }
 
-pub set_used : (words : List Value) (base count index : ℕ) (v : Value) → index < count → take count (drop base (set words (base + index) v)) ≡ set (take count (drop base words)) index v
+pub set_used : (words : List Value) (base count index : ℕ) (v : Value) → index < count
+    → take count (drop base (set words (base + index) v)) ≡ set (take count (drop base words)) index v
 set_used words base count index v within =
     ap (take count) (drop-set-add base words index v) ∙ take-set-lt count (drop base words) index v within
 
@@ -52,21 +58,24 @@ pub overwrite_same : (words : List Value) (base count : ℕ) (vs : List Value) �
     → base + count ≤ length words → SameOutside base (base + count) words (overwritten words base count vs)
 overwrite_same words base count vs long within = record {
   long =
-      omega (arith, length-append (take base words ++ vs) (drop (base + count) words), length-overwritten words base count vs long within, length-drop (base + count) words);
+      omega (arith, length-append (take base words ++ vs) (drop (base + count) words),
+          length-overwritten words base count vs long within, length-drop (base + count) words);
   below =
       ap (take base) (append_assoc (take base words) vs (drop (base + count) words))
       ∙ take_at (take base words) (vs ++ drop (base + count) words) base (length-take-le base words (omega arith));
-  above = drop_at (take base words ++ vs) (drop (base + count) words) (base + count) (length-overwritten words base count vs long within);
+  above = drop_at (take base words ++ vs) (drop (base + count) words) (base + count)
+      (length-overwritten words base count vs long within);
 }
 
 pub overwrite_used : (words : List Value) (base count : ℕ) (vs : List Value) → length vs ≡ count
     → base + count ≤ length words → take count (drop base (overwritten words base count vs)) ≡ vs
 overwrite_used words base count vs long within =
     ap (λ ws. take count (drop base ws)) (append_assoc (take base words) vs (drop (base + count) words))
-    ∙ ap (take count) (drop_at (take base words) (vs ++ drop (base + count) words) base (length-take-le base words (omega arith)))
+    ∙ ap (take count) (drop_at (take base words) (vs ++ drop (base + count) words) base
+        (length-take-le base words (omega arith)))
     ∙ take_at vs (drop (base + count) words) count long
 
--- the same of words that are told twice
-pub overwrite_told : (new words told : List Value) (base count : ℕ) (vs : List Value)
-    → new ≡ overwritten told base count vs → told ≡ words → new ≡ overwritten words base count vs
-overwrite_told new words told base count vs is same = is ∙ ap (λ ws. overwritten ws base count vs) same
+-- the same of words that are reported twice
+pub overwrite_reported : (new words reported : List Value) (base count : ℕ) (vs : List Value)
+    → new ≡ overwritten reported base count vs → reported ≡ words → new ≡ overwritten words base count vs
+overwrite_reported new words reported base count vs is same = is ∙ ap (λ ws. overwritten ws base count vs) same

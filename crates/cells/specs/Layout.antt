@@ -29,7 +29,8 @@ pub record Stands {K : Type 0} (room from : ℕ) (h : Header K) : Type 0 where
   pub fits : h.length ≤ room
   pub nobody : h.kind ≡ None → h.length ≡ 0
 
--- from this cell and word on, cells stand one behind another, up to the end
+-- from this cell and word on, cells stand one after another, up to the end
 abbrev pub AreLaidOut : {K : Type 0} → (ℕ → ℕ) → ℕ → ℕ → List (Header K) → ℕ → Type 0
 AreLaidOut room cell from [] end = from ≡ end
-AreLaidOut room cell from (h ∷ hs) end = Stands (room cell) from h × AreLaidOut room (suc cell) (from + room cell) hs end
+AreLaidOut room cell from (h ∷ hs) end = Stands (room cell) from h
+    × AreLaidOut room (suc cell) (from + room cell) hs end

@@ -6,8 +6,8 @@ use Rattle.model.specs.Worlds.{Monitor, free_monitor}
 
 -- Objects in the cells of a heap. What an object's kind means, a class or an array's type, is for others to say.
 
--- the kind that was told when the object was made, the words that it uses, its monitor, and the number of the thread that
--- was started on it
+-- the kind that was reported when the object was made, the words that it uses, its monitor, and the number of the
+-- thread that was started on it
 pub record StoredObject (K : Type 0) : Type 0 where
   pub kind : K
   pub words : List Value

@@ -1,5 +1,6 @@
 -- What is read one after another is spelled so, and what is spelled so is read.
-use Rattle.std.proofs.Common.{◌≡◌, ℕ, zero, suc, List, [], ◌∷◌, ◌++◌, length, Ok, refl, sym, ap, subst, ◌∙◌, append_assoc, arith, w16}
+use Rattle.std.proofs.Common.{◌≡◌, ℕ, zero, suc, List, [], ◌∷◌, ◌++◌, length, Ok, refl, sym, ap, subst, ◌∙◌}
+use Rattle.std.proofs.Common.{append_assoc, arith, w16}
 use Rattle.model.specs.ClassFiles.Numbers.{u2}
 use Rattle.model.specs.ClassFiles.Lists.{SpellsAll}
 use Rattle.model.specs.ClassFiles.Heads.{SpellsList}
@@ -28,11 +29,14 @@ module _ {A : Type 0} (read : List ℕ → Reads A) (Spells : List ℕ → A →
     pub number : length x.0 ≡ n
     pub spells : SpellsAll Spells text x.0
 
-  repeated_takes : ReadTakes → (n : ℕ) (bytes : List ℕ) (x : List A × List ℕ) → IsBytes bytes → repeated read n bytes ≡ Ok x → AllFound n bytes x
+  repeated_takes : ReadTakes → (n : ℕ) (bytes : List ℕ) (x : List A × List ℕ) → IsBytes bytes → repeated read n bytes
+      ≡ Ok x → AllFound n bytes x
   unfolding repeated
-  repeated_takes takes zero bytes x fits e = subst (AllFound 0 bytes) (ok_is ([], bytes) x e) (record { text = []; takes = Takes-nothing bytes fits; number = refl; spells = refl })
+  repeated_takes takes zero bytes x fits e = subst (AllFound 0 bytes) (ok_is ([], bytes) x e)
+      (record { text = []; takes = Takes-nothing bytes fits; number = refl; spells = refl })
   repeated_takes takes (suc n) bytes x fits e =
-      let a = bind_ok (read bytes) (λ first. repeated read n first.1 >>= λ others. Ok (first.0 ∷ others.0, others.1)) x e in
+      let a = bind_ok (read bytes) (λ first. repeated read n first.1 >>= λ others. Ok (first.0 ∷ others.0, others.1)) x
+            e in
       let b = bind_ok (repeated read n a.0.1) (λ others. Ok (a.0.0 ∷ others.0, others.1)) x a.2 in
       let one = takes bytes a.0 fits a.1 in
       let others = repeated_takes takes n a.0.1 b.0 one.takes.rest_fits b.1 in
@@ -44,16 +48,19 @@ module _ {A : Type 0} (read : List ℕ → Reads A) (Spells : List ℕ → A →
         spells = (one.text, others.text, refl, one.spells, others.spells);
       })
 
-  repeated_again : ReadAgain → (xs : List A) (text rest : List ℕ) → SpellsAll Spells text xs → repeated read (length xs) (text ++ rest) ≡ Ok (xs, rest)
+  repeated_again : ReadAgain → (xs : List A) (text rest : List ℕ) → SpellsAll Spells text xs
+      → repeated read (length xs) (text ++ rest) ≡ Ok (xs, rest)
   unfolding repeated
   repeated_again again [] text rest spells = ap (λ (t : List ℕ). Ok ([], t ++ rest)) spells
   repeated_again again (x ∷ xs) text rest spells =
       let first = spells.0 in
       let others = spells.1 in
-      ap (λ (t : List ℕ). repeated read (suc (length xs)) (t ++ rest)) spells.2 ∙ ap (repeated read (suc (length xs))) (append_assoc first others rest)
+      ap (λ (t : List ℕ). repeated read (suc (length xs)) (t ++ rest)) spells.2
+          ∙ ap (repeated read (suc (length xs))) (append_assoc first others rest)
       ∙ rw (again first x (others ++ rest) spells.3, repeated_again again xs others rest spells.4) refl
 
-  pub list_takes : ReadTakes → (bytes : List ℕ) (x : List A × List ℕ) → IsBytes bytes → list_from read bytes ≡ Ok x → Found (SpellsList Spells) bytes x
+  pub list_takes : ReadTakes → (bytes : List ℕ) (x : List A × List ℕ) → IsBytes bytes → list_from read bytes ≡ Ok x
+      → Found (SpellsList Spells) bytes x
   unfolding list_from
   list_takes takes bytes x fits e =
       let b = bind_ok (number_at w16 bytes) (λ count. repeated read count.0 count.1) x e in
@@ -61,12 +68,16 @@ module _ {A : Type 0} (read : List ℕ → Reads A) (Spells : List ℕ → A →
       let r = repeated_takes takes b.0.0 b.0.1 x t.0.rest_fits b.2 in
       record {
         text = u2 (length x.0) ++ r.text;
-        takes = subst (λ k. Takes bytes (u2 k ++ r.text) x.1) (sym r.number) (Takes-then bytes (u2 b.0.0) b.0.1 r.text x.1 t.0 r.takes);
+        takes = subst (λ k. Takes bytes (u2 k ++ r.text) x.1) (sym r.number) (Takes-then bytes (u2 b.0.0) b.0.1 r.text
+            x.1 t.0 r.takes);
         spells = record { few = omega (arith, r.number, t.1); body = r.text; bytes_are = refl; all = r.spells };
       }
 
-  pub list_again : ReadAgain → (text : List ℕ) (xs : List A) (rest : List ℕ) → SpellsList Spells text xs → list_from read (text ++ rest) ≡ Ok (xs, rest)
+  pub list_again : ReadAgain → (text : List ℕ) (xs : List A) (rest : List ℕ) → SpellsList Spells text xs
+      → list_from read (text ++ rest) ≡ Ok (xs, rest)
   unfolding list_from
   list_again again text xs rest s =
-      let one : text ++ rest ≡ u2 (length xs) ++ (s.body ++ rest) = ap (λ (t : List ℕ). t ++ rest) s.bytes_are ∙ append_assoc (u2 (length xs)) s.body rest in
-      ap (list_from read) one ∙ rw (number_again w16 wide16 (length xs) (s.body ++ rest) s.few) (repeated_again again xs s.body rest s.all)
+      let one : text ++ rest ≡ u2 (length xs) ++ (s.body ++ rest) = ap (λ (t : List ℕ). t ++ rest) s.bytes_are
+            ∙ append_assoc (u2 (length xs)) s.body rest in
+      ap (list_from read) one ∙ rw (number_again w16 wide16 (length xs) (s.body ++ rest) s.few)
+          (repeated_again again xs s.body rest s.all)

@@ -20,14 +20,16 @@ use Rattle.classfile.specs.Writing.{code_info, method_bytes}
 
 abbrev pub is_constant : List Entry → Bool → List ℕ → Option ConstantValue → Bool
 is_constant pool static type None = true
-is_constant pool static type (Some c) = passes (is_constant_value static) (text_at pool c.name) && is_value_of type (entry_at pool c.value)
+is_constant pool static type (Some c) = passes (is_constant_value static) (text_at pool c.name)
+    && is_value_of type (entry_at pool c.value)
 
 abbrev pub is_type : List Entry → Bool → Option ConstantValue → List ℕ → Bool
 is_type pool static constant type = is_field_descriptor type && is_constant pool static type constant
 
 abbrev pub is_field : List Entry → ℕ → ℕ → ℕ → ℕ → Option ConstantValue → Bool
 is_field pool class flags name descriptor constant =
-    are_field_flags class flags && passes is_field_name (text_at pool name) && passes (is_type pool (has flags 0x0008) constant) (text_at pool descriptor)
+    are_field_flags class flags && passes is_field_name (text_at pool name)
+        && passes (is_type pool (has flags 0x0008) constant) (text_at pool descriptor)
 
 -- its numbers have bytes
 abbrev pub ConstantBounds : Option ConstantValue → Type 0

@@ -14,7 +14,9 @@ abbrev pub code_bytes : List Located → List ℕ
 code_bytes items = flat_map (λ x. spelling x.pc x.instruction) items
 
 unfoldable pub code_info : CodePart → List ℕ
-code_info c = u2 c.max_stack ++ (u2 c.max_locals ++ (sized_bytes (code_bytes c.instructions) ++ (list_bytes row_bytes c.rows ++ attributes_bytes [])))
+code_info c = u2 c.max_stack
+    ++ (u2 c.max_locals ++ (sized_bytes (code_bytes c.instructions)
+    ++ (list_bytes row_bytes c.rows ++ attributes_bytes [])))
 
 abbrev pub code_attribute : CodePart → Attribute
 code_attribute c = record { name = c.name; info = code_info c }
@@ -37,6 +39,6 @@ MethodFits m = CodesFit m.code
 abbrev pub method_bytes : MethodPart → List ℕ
 method_bytes m = u2 m.flags.0 ++ (u2 m.name ++ (u2 m.descriptor ++ attributes_bytes (code_attributes m.code)))
 
--- what stands behind the head: no attribute of the class counts
-abbrev pub behind_head_bytes : List MethodPart → List ℕ
-behind_head_bytes methods = list_bytes method_bytes methods ++ attributes_bytes []
+-- what stands after the head: no attribute of the class counts
+abbrev pub after_head_bytes : List MethodPart → List ℕ
+after_head_bytes methods = list_bytes method_bytes methods ++ attributes_bytes []

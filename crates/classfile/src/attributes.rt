@@ -19,7 +19,7 @@ pub struct Text<'a> {
     pub bytes: &'a [u8],
 }
 
-/// The bytes behind their number, and those after them. C3 where they pass the end.
+/// The bytes after their number, and those after them. C3 where they pass the end.
 #[tactic(auto, unfolding(crate::specs::Reading::Attributes::sized_from))]
 pub fn sized_at(bytes: &[u8]) -> Result<(&[u8], &[u8]), ReadError>
     ensures { Gives (λ x. (x.0.now, x.1.now)) result (sized_from bytes.now) }
@@ -97,7 +97,7 @@ fn skip_some<'a>(pool: &Pool, count: u16, bytes: &'a [u8]) -> Result<&'a [u8], R
     Ok(rest)
 }
 
-/// Skips attributes behind their count.
+/// Skips attributes after their count.
 #[tactic(auto, unfolding(crate::specs::Reading::Attributes::skipped_from))]
 pub fn skip_attributes<'a>(pool: &Pool, bytes: &'a [u8]) -> Result<&'a [u8], ReadError>
     ensures { Gives (λ x. (0, x.now)) result (skipped_from pool.now bytes.now) }

@@ -85,7 +85,7 @@ fn sound_code(
     }
 }
 
-/// The exception rows. C8 where bytes are left behind them and the attributes.
+/// The exception rows. C8 where bytes are left after them and the attributes.
 #[tactic(auto, unfolding(crate::specs::Reading::Codes::tail_from))]
 fn tail_of(alloc: Global, pool: &Pool, bytes: &[u8]) -> Result<Vec<CodeRow>, ReadError>
     ensures { Gives (λ x. x.items) result (tail_from pool.now bytes.now) }
@@ -121,7 +121,7 @@ fn body_of(
     })
 }
 
-/// A fault as it is told inside an attribute: what is cut short there passes the attribute's end.
+/// A fault as it is reported inside an attribute: what is cut short there passes the attribute's end.
 fn inside(fault: FormatFault) -> FormatFault
     ensures { result ≡ reading.inside fault }
 {
@@ -131,7 +131,7 @@ fn inside(fault: FormatFault) -> FormatFault
     }
 }
 
-/// The Code attribute with these bytes under this name. Faulty code is told with its method, before C6 for what its
+/// The Code attribute with these bytes under this name. Faulty code is reported with its method, before C6 for what its
 /// instructions name, and this before the exception rows. C8 where an item passes the attribute's end.
 #[tactic(auto, unfolding(crate::specs::Reading::Codes::code_from))]
 pub fn code_of(
@@ -150,7 +150,7 @@ pub fn code_of(
     }
 }
 
-/// How many bytes a Code attribute takes behind its length.
+/// How many bytes a Code attribute takes after its length.
 fn info_length(code: &CodeEntry) -> u32
     requires code { length (code_bytes code.now.instructions) ≤ 65535 }
     requires rows { length code.now.rows < 2 ^ 16 }

@@ -50,7 +50,7 @@ impl<T: Drop> From<AllocFailed<T>> for ClassError {
 }
 
 impl From<ReadError> for ClassError {
-    ghost from_gives = { λ e told. shown told ≡ e };
+    ghost from_gives = { λ e reported. shown reported ≡ e };
 
     fn from(e: ReadError) -> ClassError {
         match e {
@@ -61,7 +61,8 @@ impl From<ReadError> for ClassError {
 }
 
 impl From<AddError> for ClassError {
-    ghost from_gives = { λ e told. (e ≡ add.Full → told ≡ error.PoolFull) × (e ≡ add.Memory → told ≡ error.Memory) };
+    ghost from_gives = { λ e reported. (e ≡ add.Full → reported ≡ error.PoolFull)
+        × (e ≡ add.Memory → reported ≡ error.Memory) };
 
     fn from(e: AddError) -> ClassError {
         match e {

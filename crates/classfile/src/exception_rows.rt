@@ -72,7 +72,7 @@ fn some_rows_at<'a>(
     Ok((rows, rest))
 }
 
-/// Rows behind their count.
+/// Rows after their count.
 #[tactic(auto, unfolding(crate::specs::Reading::Lists::list_from))]
 pub fn rows_at<'a>(
     alloc: Global,

@@ -55,7 +55,7 @@ fn value_in(pool: &Pool, text: &[u8], info: &[u8]) -> Result<u16, ReadError>
     }
 }
 
-/// A ConstantValue behind its name. C8 where one was found before.
+/// A ConstantValue after its name. C8 where one was found before.
 #[tactic(auto, unfolding(crate::specs::Reading::Fields::constant_from))]
 fn constant_of<'a>(
     pool: &Pool,
@@ -138,7 +138,7 @@ fn attributes_of<'a>(
     Ok((found, rest))
 }
 
-/// A field's attributes behind their count.
+/// A field's attributes after their count.
 #[tactic(auto, unfolding(crate::specs::Reading::Fields::constants_from))]
 fn constants_of<'a>(
     pool: &Pool,

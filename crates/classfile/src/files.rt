@@ -8,8 +8,8 @@ ghost use Rattle.classfile.specs.declared.error.ClassError.TheVariants as error;
 ghost use Rattle.classfile.specs.Reading.Answers.{Answers};
 ghost use Rattle.classfile.specs.Reading.Lists.{repeated, list_from};
 ghost use Rattle.classfile.specs.Reading.Methods.{method_from};
-ghost use Rattle.classfile.specs.Reading.Classes.{behind_head_from, file_from};
-ghost use Rattle.classfile.specs.Writing.{MethodFits, method_bytes, behind_head_bytes};
+ghost use Rattle.classfile.specs.Reading.Classes.{after_head_from, file_from};
+ghost use Rattle.classfile.specs.Writing.{MethodFits, method_bytes, after_head_bytes};
 
 use crate::attributes::skip_attributes;
 use crate::error::ClassError;
@@ -62,7 +62,7 @@ fn some_methods_at<'a>(
     Ok((methods, rest))
 }
 
-/// Methods behind their count.
+/// Methods after their count.
 #[tactic(auto, unfolding(crate::specs::Reading::Lists::list_from))]
 fn methods_at<'a>(
     alloc: Global,
@@ -76,14 +76,10 @@ fn methods_at<'a>(
     some_methods_at(alloc, pool, flags, count, rest)
 }
 
-/// What stands behind a class file's head: its methods, and attributes that are skipped. C4 where bytes are left.
-#[tactic(auto, unfolding(crate::specs::Reading::Classes::behind_head_from))]
-fn behind_head(
-    alloc: Global,
-    head: &ClassHead,
-    bytes: &[u8],
-) -> Result<Vec<MethodEntry>, ClassError>
-    ensures { Answers (λ x. x.items) result (behind_head_from head.now bytes.now) }
+/// What stands after a class file's head: its methods, and attributes that are skipped. C4 where bytes are left.
+#[tactic(auto, unfolding(crate::specs::Reading::Classes::after_head_from))]
+fn after_head(alloc: Global, head: &ClassHead, bytes: &[u8]) -> Result<Vec<MethodEntry>, ClassError>
+    ensures { Answers (λ x. x.items) result (after_head_from head.now bytes.now) }
 {
     let (methods, rest) = methods_at(alloc, head.pool(), head.flags(), bytes)?;
     let rest = skip_attributes(head.pool(), rest)?;
@@ -99,15 +95,15 @@ fn parts_of(alloc: Global, bytes: &[u8]) -> Result<(ClassHead, Vec<MethodEntry>)
     ensures { Answers (λ x. record { head = x.0; methods = x.1.items }) result (file_from bytes.now) }
 {
     let (head, rest) = ClassHead::read(alloc, bytes)?;
-    let methods = behind_head(alloc, &head, rest)?;
+    let methods = after_head(alloc, &head, rest)?;
     Ok((head, methods))
 }
 
 /// Reads a class file: the parts that the bytes are those of (JVMS 4).
 ///
-/// The first fault from left to right is told, C1 to C8 or C11; the pool is read whole before what its entries name is
-/// looked at. Faulty code is told with its method, before C6 for what the instructions name. An attribute that doesn't
-/// count is skipped. C10 where memory runs out.
+/// The first fault from left to right is reported, C1 to C8 or C11; the pool is read whole before what its entries name
+/// is looked at. Faulty code is reported with its method, before C6 for what the instructions name. An attribute that
+/// doesn't count is skipped. C10 where memory runs out.
 pub fn read(alloc: Global, bytes: &[u8]) -> Result<ClassFile, ClassError>
     // What is read is the class file.
     ensures found { IfOk result (IsClassFile bytes.now) }
@@ -129,11 +125,11 @@ fn put_methods(out: &mut Vec<u8>, methods: &[MethodEntry]) -> Result<(), AllocEr
     Ok(())
 }
 
-/// Writes what stands behind a class file's head at the end.
-fn put_behind_head(out: &mut Vec<u8>, methods: &[MethodEntry]) -> Result<(), AllocError>
+/// Writes what stands after a class file's head at the end.
+fn put_after_head(out: &mut Vec<u8>, methods: &[MethodEntry]) -> Result<(), AllocError>
     requires few { length methods.now < 2 ^ 16 }
     requires fit { AllByRecursion MethodFits methods.now }
-    ensures { OnOk result (out.new.items ≡ out.old.items ++ behind_head_bytes methods.now) }
+    ensures { OnOk result (out.new.items ≡ out.old.items ++ after_head_bytes methods.now) }
 {
     out.extend_from_slice(&(methods.len() as u16).to_be_bytes())?;
     put_methods(out, methods)?;
@@ -145,7 +141,7 @@ fn put_file(out: &mut Vec<u8>, file: &ClassFile) -> Result<(), AllocError>
     ensures { OnOk result ((text : List ℕ) × IsClassFile text file.now × (out.new.items ≡ out.old.items ++ text)) }
 {
     file.head.write(out)?;
-    put_behind_head(out, file.methods.as_slice())
+    put_after_head(out, file.methods.as_slice())
 }
 
 /// The bytes of a class file, with the attributes that count and no others. C10 where memory runs out.

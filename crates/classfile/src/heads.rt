@@ -4,14 +4,14 @@ ghost use Rattle.std.specs.Prelude.{◌≡◌, ◌↔◌, ◌++◌, ◌<◌, ◌
 ghost use Rattle.std.specs.List.{flat_map, AllByRecursion};
 ghost use Rattle.model.specs.ClassFiles.Numbers.{u2};
 ghost use Rattle.model.specs.ClassFiles.Fields.{field_bytes};
-ghost use Rattle.model.specs.ClassFiles.Heads.{HeadPart, IsHead, SpellsHead, behind_bytes, head_bytes};
+ghost use Rattle.model.specs.ClassFiles.Heads.{HeadPart, IsHead, SpellsHead, after_bytes, head_bytes};
 ghost use Rattle.model.specs.ClassFiles.Heads as definition;
 ghost use Rattle.model.specs.ClassFiles.Pools.{PoolFits};
 ghost use Rattle.model.specs.ClassFiles.References.{AreSound};
 ghost use Rattle.pool.specs.Reading.Steps.{Gives};
 ghost use Rattle.classfile.specs.Reading.Fields.{field_from};
 ghost use Rattle.classfile.specs.Reading.Lists.{repeated, list_from};
-ghost use Rattle.classfile.specs.Reading.Heads.{opening_from, class_flags_from, class_from, behind_from, head_from};
+ghost use Rattle.classfile.specs.Reading.Heads.{opening_from, class_flags_from, class_from, after_from, head_from};
 ghost use Rattle.classfile.specs.Sound.{ClassStands};
 
 use crate::fields::{field_of, put_field};
@@ -155,7 +155,7 @@ fn fields_at<'a>(
     Ok((fields, rest))
 }
 
-/// Interfaces behind their count.
+/// Interfaces after their count.
 #[tactic(auto, unfolding(crate::specs::Reading::Lists::list_from))]
 fn interfaces_at<'a>(
     alloc: Global,
@@ -168,7 +168,7 @@ fn interfaces_at<'a>(
     classes_at(alloc, pool, count, rest)
 }
 
-/// Fields behind their count.
+/// Fields after their count.
 #[tactic(auto, unfolding(crate::specs::Reading::Lists::list_from))]
 fn counted_fields_at<'a>(
     alloc: Global,
@@ -182,10 +182,10 @@ fn counted_fields_at<'a>(
     fields_at(alloc, pool, flags, count, rest)
 }
 
-/// What stands behind the pool.
-#[tactic(auto, unfolding(crate::specs::Reading::Heads::behind_from))]
-fn behind_pool(alloc: Global, pool: Pool, bytes: &[u8]) -> Result<(Parts, &[u8]), ReadError>
-    ensures { Gives (λ x. (x.0, x.1.now)) result (behind_from pool bytes.now) }
+/// What stands after the pool.
+#[tactic(auto, unfolding(crate::specs::Reading::Heads::after_from))]
+fn after_pool(alloc: Global, pool: Pool, bytes: &[u8]) -> Result<(Parts, &[u8]), ReadError>
+    ensures { Gives (λ x. (x.0, x.1.now)) result (after_from pool bytes.now) }
 {
     let (flags, rest) = class_flags_at(bytes)?;
     let (class, rest) = class_at(&pool, rest)?;
@@ -210,7 +210,7 @@ fn head_of(alloc: Global, bytes: &[u8]) -> Result<(Parts, &[u8]), ReadError>
 {
     let (_, rest) = opening_of(bytes)?;
     let (pool, rest) = Pool::read(alloc, rest)?;
-    behind_pool(alloc, pool, rest)
+    after_pool(alloc, pool, rest)
 }
 
 /// Whether a number is that of a class that is no array.
@@ -402,11 +402,11 @@ fn put_fields(out: &mut Vec<u8>, fields: &[FieldEntry]) -> Result<(), AllocError
     Ok(())
 }
 
-/// Writes what stands behind the pool at the end.
-fn put_behind(out: &mut Vec<u8>, parts: &Parts) -> Result<(), AllocError>
+/// Writes what stands after the pool at the end.
+fn put_after(out: &mut Vec<u8>, parts: &Parts) -> Result<(), AllocError>
     requires interfaces { length parts.now.interfaces < 2 ^ 16 }
     requires fields { length parts.now.fields < 2 ^ 16 }
-    ensures { OnOk result (out.new.items ≡ out.old.items ++ behind_bytes parts.now) }
+    ensures { OnOk result (out.new.items ≡ out.old.items ++ after_bytes parts.now) }
 {
     out.extend_from_slice(&parts.flags.bits().to_be_bytes())?;
     out.extend_from_slice(&parts.class.to_be_bytes())?;
@@ -427,5 +427,5 @@ fn put_parts(out: &mut Vec<u8>, parts: &Parts) -> Result<(), AllocError>
 {
     out.extend_from_slice(&[0xca, 0xfe, 0xba, 0xbe, 0, 0, 0, 49])?;
     parts.pool.write(out)?;
-    put_behind(out, parts)
+    put_after(out, parts)
 }

@@ -40,7 +40,7 @@ impl Model for Instructions {
     ghost invariant = { λ a. IsCode a.bytes.items a.code };
 }
 
-/// A method's code is faulty. Want of memory is told alone, also where there is none for the method's name.
+/// A method's code is faulty. Want of memory is reported alone, also where there is none for the method's name.
 fn faulty(alloc: Global, method: Signature, fault: OpError) -> ClassError
     ensures { Tells fault result }
 {
@@ -62,7 +62,7 @@ fn faulty(alloc: Global, method: Signature, fault: OpError) -> ClassError
 }
 
 impl Instructions {
-    /// The instructions that the bytes are the code of. Faulty code is told with its method.
+    /// The instructions that the bytes are the code of. Faulty code is reported with its method.
     pub fn read(alloc: Global, method: Signature, bytes: &[u8]) -> Result<Instructions, ClassError>
         ensures { Answers (λ x. x) result (as_format (decoded bytes.now)) }
     {

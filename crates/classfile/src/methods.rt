@@ -123,7 +123,7 @@ fn method_type_at<'a, 'b>(
     }
 }
 
-/// A Code attribute behind its name. C8 where the method has none, and where one was found before.
+/// A Code attribute after its name. C8 where the method has none, and where one was found before.
 #[tactic(auto, unfolding(crate::specs::Reading::Methods::found_code_from))]
 fn found_code<'a>(
     alloc: Global,
@@ -195,7 +195,7 @@ fn attributes_of<'a>(
     Ok((found, rest))
 }
 
-/// A method's attributes behind their count. C8 where it wants code and has none.
+/// A method's attributes after their count. C8 where it wants code and has none.
 #[tactic(auto, unfolding(crate::specs::Reading::Methods::codes_from))]
 fn codes_of<'a>(
     alloc: Global,

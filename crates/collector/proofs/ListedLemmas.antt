@@ -1,4 +1,5 @@
-use Rattle.std.proofs.Common.{arith, ◌≡◌, ℕ, zero, suc, ◌≤◌, ◌-◌, List, [], ◌∷◌, length, map, slice_get, Option, None, refl, sym, ◌∙◌, ap}
+use Rattle.std.proofs.Common.{arith, ◌≡◌, ℕ, zero, suc, ◌≤◌, ◌-◌, List, [], ◌∷◌, length, map, slice_get, Option, None}
+use Rattle.std.proofs.Common.{refl, sym, ◌∙◌, ap}
 use Rattle.std.proofs.lemmas.List.{length-map}
 use Rattle.model.specs.declared.values.Value.{Value}
 use Rattle.model.specs.Frames.{Frame}
@@ -21,7 +22,8 @@ slots_are : (slots : List (Option ℕ)) → slots ≡ map field_ref (map slot_le
 slots_are [] = refl
 slots_are (leads ∷ slots) = ap (λ rs. leads ∷ rs) (slots_are slots)
 
-pub slot_is : {K : Type 0} (slots : List (Option ℕ)) (frames : List Frame) (objects : List (Option (StoredObject K))) (n : ℕ)
+pub slot_is : {K : Type 0} (slots : List (Option ℕ)) (frames : List Frame) (objects : List (Option (StoredObject K)))
+    (n : ℕ)
     → ref_at slots n ≡ root_at (listed_world slots frames objects) (Slot n)
 unfolding root_at
 slot_is slots frames objects n = ap (λ rs. ref_at rs n) (slots_are slots)
@@ -51,8 +53,9 @@ no_word : (slots : List (Option ℕ)) (frames : List Frame) (objects : List (Opt
 unfolding word_at
 no_word slots frames objects n = refl
 
--- the same, at a reference whose cell is told by a difference
-pub word_at_cell : (slots : List (Option ℕ)) (frames : List Frame) (objects : List (Option (StoredObject ℕ))) (r c n : ℕ)
+-- the same, at a reference whose cell is reported by a difference
+pub word_at_cell : (slots : List (Option ℕ)) (frames : List Frame) (objects : List (Option (StoredObject ℕ)))
+    (r c n : ℕ)
     → 1 ≤ r → c ≡ r - 1
     → leads_of (slice_get (words_if (object_if (slice_get objects c))) n)
     ≡ word_at (listed_world slots frames objects) r n

@@ -1,4 +1,6 @@
-use Rattle.std.proofs.Common.{◌≡◌, ◌⊎◌, inl, inr, ℕ, zero, suc, ◌+◌, ◌<◌, ◌≤◌, List, [], ◌∷◌, ◌++◌, length, replicate, set, slice_get, nat_eq, Bool, true, false, Option, Some, None, refl, sym, ◌∙◌, ap, subst, arith, eqb-true, eq-eqb}
+use Rattle.std.proofs.Common.{◌≡◌, ◌⊎◌, inl, inr, ℕ, zero, suc, ◌+◌, ◌<◌, ◌≤◌, List, [], ◌∷◌, ◌++◌, length, replicate}
+use Rattle.std.proofs.Common.{set, slice_get, nat_eq, Bool, true, false, Option, Some, None, refl, sym, ◌∙◌, ap, subst}
+use Rattle.std.proofs.Common.{arith, eqb-true, eq-eqb}
 use Rattle.std.specs.List.{list_any}
 use Rattle.model.specs.Worlds.{World, next_birth}
 use Rattle.model.specs.Collector.Places.{Reach, ref_at, word_at, words_of}
@@ -11,8 +13,8 @@ use Rattle.join.proofs.Lists.{get-within, get-older, get-newest, get-set_same, g
 use Rattle.join.proofs.Paths.{alike}
 use Rattle.collector.specs.Reaching.{Marking, all_noted, marked, noted, noted_at, spread, unmarked, with_listed}
 
--- A marking marks what paths lead to, and nothing else. What is marked was listed once, so that all of the list is looked at
--- in as many steps as there are references.
+-- A marking marks what paths lead to, and nothing else. What is marked was listed once, so that all of the list is
+-- looked at in as many steps as there are references.
 
 -- ---- lists
 
@@ -67,7 +69,8 @@ equal_or_not r s = by (nat_eq r s) refl
 
 -- ---- a test of references
 
-test_at : (f : Option ℕ → Bool) (rs : List (Option ℕ)) (k b : ℕ) → ref_at rs k ≡ Some b → f (Some b) ≡ true → list_any f rs ≡ true
+test_at : (f : Option ℕ → Bool) (rs : List (Option ℕ)) (k b : ℕ) → ref_at rs k ≡ Some b → f (Some b) ≡ true
+    → list_any f rs ≡ true
 test_at f [] k b e t = absurd (cc)
 test_at f (r ∷ rs) zero b e t = rw (e, t) refl
 test_at f (r ∷ rs) (suc k) b e t = or-right (f r) (list_any f rs) (test_at f rs k b e t)
@@ -100,7 +103,8 @@ leads_there (suc n) w b = rw (eq-eqb b b refl) refl
 
 pub root_reached : (w : World) (k b : ℕ) → ref_at (roots_of w) k ≡ Some b → Reach w b
 unfolding is_reached
-root_reached w k b e = is_reached-Reach w b (test_at (leads_within (next_birth w) w b) (roots_of w) k b e (leads_there (next_birth w) w b))
+root_reached w k b e = is_reached-Reach w b (test_at (leads_within (next_birth w) w b) (roots_of w) k b e
+    (leads_there (next_birth w) w b))
 
 -- ---- a marking
 
@@ -140,7 +144,8 @@ module _ (w : World) (count : ℕ) where
     }
       where
         by_mark : (s : ℕ) → IsMarked m s → (s ≡ r) ⊎ (s ≡ r → ⊥) → slice_get (set m.marks r true) s ≡ Some true
-        by_mark s k (inl is) = (let k' : slice_get m.marks r ≡ Some true = ap (slice_get m.marks) (sym is) ∙ k in absurd (cc))
+        by_mark s k (inl is) = (let k' : slice_get m.marks r ≡ Some true = ap (slice_get m.marks) (sym is) ∙ k
+                                      in absurd (cc))
         by_mark s k (inr other) = get-set_other m.marks s r true other ∙ k
 
     sound_by : Reach w r → Sound m → Sound (with_mark m r)
@@ -159,13 +164,15 @@ module _ (w : World) (count : ℕ) where
         reached_by q k (inl is) = subst (Reach w) (sym is) path
         reached_by q k (inr other) = s.reached q (before q other k)
 
-        listed_by : (q : ℕ) → IsMarked (with_mark m r) q → (q ≡ r) ⊎ (q ≡ r → ⊥) → (n : ℕ) × (slice_get (m.list ++ r ∷ []) n ≡ Some q)
+        listed_by : (q : ℕ) → IsMarked (with_mark m r) q → (q ≡ r) ⊎ (q ≡ r → ⊥) → (n : ℕ)
+            × (slice_get (m.list ++ r ∷ []) n ≡ Some q)
         listed_by q k (inl is) = (length m.list, get-newest m.list r ∙ ap (λ (x : ℕ). Some x) (sym is))
         listed_by q k (inr other) =
             let old = s.listed q (before q other k) in
             (old.0, get-older m.list r old.0 (get-below m.list old.0 q old.1) ∙ old.1)
 
-        marked_by : (n q : ℕ) → slice_get (m.list ++ r ∷ []) n ≡ Some q → (n ≡ length m.list) ⊎ (n ≡ length m.list → ⊥) → IsMarked (with_mark m r) q
+        marked_by : (n q : ℕ) → slice_get (m.list ++ r ∷ []) n ≡ Some q → (n ≡ length m.list) ⊎ (n ≡ length m.list → ⊥)
+            → IsMarked (with_mark m r) q
         marked_by n q k (inl is) =
             let k' : Some r ≡ Some q = sym (get-newest m.list r) ∙ ap (slice_get (m.list ++ r ∷ [])) (sym is) ∙ k in
             let q_is : r ≡ q = cc in
@@ -185,7 +192,8 @@ module _ (w : World) (count : ℕ) where
     grows : Grows m after
     noted_is : (r : ℕ) → o ≡ Some r → r < count → IsMarked after r
 
-  noted_by : (m : Marking) (r : ℕ) (mark : Option Bool) → slice_get m.marks r ≡ mark → Sound m → Reach w r → After m (Some r) (noted_at m r mark)
+  noted_by : (m : Marking) (r : ℕ) (mark : Option Bool) → slice_get m.marks r ≡ mark → Sound m → Reach w r
+      → After m (Some r) (noted_at m r mark)
   noted_by m r None e s path = record {
     sound = s;
     grows = same m;
@@ -199,7 +207,8 @@ module _ (w : World) (count : ℕ) where
   noted_by m r (Some false) e s path = record {
     sound = sound_by m r e path s;
     grows = grows_by m r e;
-    noted_is = λ q is below. (let q_is : r ≡ q = cc in ap (slice_get (set m.marks r true)) (sym q_is) ∙ get-set_same m.marks r true false e);
+    noted_is = λ q is below. (let q_is : r ≡ q = cc in ap (slice_get (set m.marks r true)) (sym q_is)
+                                    ∙ get-set_same m.marks r true false e);
   }
 
   noted_after : (m : Marking) (o : Option ℕ) → Sound m → Led o → After m o (noted m o)
@@ -227,7 +236,8 @@ module _ (w : World) (count : ℕ) where
         noted_are = λ k r is below. at k r is below one rest;
       }
     where
-      at : (k r : ℕ) → ref_at (o ∷ rs) k ≡ Some r → r < count → After m o (noted m o) → AfterAll (noted m o) rs (all_noted (noted m o) rs) → IsMarked (all_noted (noted m o) rs) r
+      at : (k r : ℕ) → ref_at (o ∷ rs) k ≡ Some r → r < count → After m o (noted m o)
+          → AfterAll (noted m o) rs (all_noted (noted m o) rs) → IsMarked (all_noted (noted m o) rs) r
       at zero r is below one rest = rest.grows.marks r (one.noted_is r is below)
       at (suc k) r is below one rest = rest.noted_are k r is below
 
@@ -235,7 +245,8 @@ module _ (w : World) (count : ℕ) where
 
   -- those of the first so many
   abbrev ClosedBelow : ℕ → Marking → Type 0
-  ClosedBelow n m = (i r : ℕ) → i < n → slice_get m.list i ≡ Some r → (k b : ℕ) → word_at w r k ≡ Some b → b < count → IsMarked m b
+  ClosedBelow n m = (i r : ℕ) → i < n → slice_get m.list i ≡ Some r → (k b : ℕ) → word_at w r k ≡ Some b → b < count
+      → IsMarked m b
 
   record Spread (m after : Marking) : Type 0 where
     sound : Sound after
@@ -246,7 +257,8 @@ module _ (w : World) (count : ℕ) where
   ended n m past s closed = record {
     sound = s;
     grows = same m;
-    closed = λ r is. (let l = s.listed r is in let below = get-below m.list l.0 r l.1 in closed l.0 r (omega (arith, below, past)) l.1);
+    closed = λ r is. (let l = s.listed r is in let below = get-below m.list l.0 r l.1
+                                                     in closed l.0 r (omega (arith, below, past)) l.1);
   }
 
   words_led : (r : ℕ) → Reach w r → AllLed (words_of w.objects r)
@@ -254,16 +266,22 @@ module _ (w : World) (count : ℕ) where
   words_led r path = λ k b e. by_word r k path e
 
   -- the words of one more
-  closed_next : (n r : ℕ) (m : Marking) → slice_get m.list n ≡ Some r → ClosedBelow n m → AfterAll m (words_of w.objects r) (all_noted m (words_of w.objects r)) → ClosedBelow (suc n) (all_noted m (words_of w.objects r))
+  closed_next : (n r : ℕ) (m : Marking) → slice_get m.list n ≡ Some r → ClosedBelow n m
+      → AfterAll m (words_of w.objects r) (all_noted m (words_of w.objects r))
+      → ClosedBelow (suc n) (all_noted m (words_of w.objects r))
   unfolding word_at
   closed_next n r m is closed after = λ i q within e k b word below. by i q within e k b word below (equal_or_not i n)
     where
-      at_same : (i q x : ℕ) → slice_get m.list i ≡ Some x → slice_get (all_noted m (words_of w.objects r)).list i ≡ Some q → x ≡ q
+      at_same : (i q x : ℕ) → slice_get m.list i ≡ Some x → slice_get (all_noted m (words_of w.objects r)).list i
+          ≡ Some q → x ≡ q
       at_same i q x old new = (let e : Some x ≡ Some q = sym (after.grows.list i x old) ∙ new in cc)
 
-      by : (i q : ℕ) → i < suc n → slice_get (all_noted m (words_of w.objects r)).list i ≡ Some q → (k b : ℕ) → ref_at (words_of w.objects q) k ≡ Some b → b < count → (i ≡ n) ⊎ (i ≡ n → ⊥) → IsMarked (all_noted m (words_of w.objects r)) b
+      by : (i q : ℕ) → i < suc n → slice_get (all_noted m (words_of w.objects r)).list i ≡ Some q → (k b : ℕ)
+          → ref_at (words_of w.objects q) k ≡ Some b → b < count → (i ≡ n) ⊎ (i ≡ n → ⊥)
+          → IsMarked (all_noted m (words_of w.objects r)) b
       by i q within e k b word below (inl here) =
-          let q_is : r ≡ q = at_same n q r is (ap (slice_get (all_noted m (words_of w.objects r)).list) (sym here) ∙ e) in
+          let q_is : r ≡ q = at_same n q r is (ap (slice_get (all_noted m (words_of w.objects r)).list) (sym here) ∙ e)
+                in
           after.noted_are k b (subst (λ (x : ℕ). ref_at (words_of w.objects x) k ≡ Some b) (sym q_is) word) below
       by i q within e k b word below (inr other) =
           let under = get-below m.list n r is in
@@ -272,22 +290,29 @@ module _ (w : World) (count : ℕ) where
           let q_is : old.0 ≡ q = at_same i q old.0 old.1 e in
           after.grows.marks b (closed i q before (old.1 ∙ ap (λ (x : ℕ). Some x) q_is) k b word below)
 
-  spread_closes : (steps n : ℕ) (m : Marking) → steps + n ≡ count → Sound m → ClosedBelow n m → Spread m (spread w steps n m)
+  spread_closes : (steps n : ℕ) (m : Marking) → steps + n ≡ count → Sound m → ClosedBelow n m
+      → Spread m (spread w steps n m)
   spread_closes zero n m all s closed = ended n m (let o = s.once in omega (arith, all, o)) s closed
   spread_closes (suc steps) n m all s closed =
       by (slice_get m.list n) refl
-      (λ r is. (let after = words r is in spread_closes steps (suc n) (all_noted m (words_of w.objects r)) (omega (arith, all)) after.sound (closed_next n r m is closed after)))
+      (λ r is. (let after = words r is in spread_closes steps (suc n) (all_noted m (words_of w.objects r))
+                      (omega (arith, all)) after.sound (closed_next n r m is closed after)))
     where
-      words : (r : ℕ) → slice_get m.list n ≡ Some r → AfterAll m (words_of w.objects r) (all_noted m (words_of w.objects r))
+      words : (r : ℕ) → slice_get m.list n ≡ Some r
+          → AfterAll m (words_of w.objects r) (all_noted m (words_of w.objects r))
       words r is = all_after m (words_of w.objects r) s (words_led r (s.reached r (s.marked n r is)))
 
       by : (o : Option ℕ) → slice_get m.list n ≡ o
-          → ((r : ℕ) → slice_get m.list n ≡ Some r → Spread (all_noted m (words_of w.objects r)) (spread w steps (suc n) (all_noted m (words_of w.objects r))))
+          → ((r : ℕ) → slice_get m.list n ≡ Some r
+              → Spread (all_noted m (words_of w.objects r))
+              (spread w steps (suc n) (all_noted m (words_of w.objects r))))
           → Spread m (with_listed m o (λ r. spread w steps (suc n) (all_noted m (words_of w.objects r))))
       by None e rest = ended n m (get-past m.list n e) s closed
       by (Some r) e rest =
           let more = rest r e in
-          record { sound = more.sound; grows = then m (all_noted m (words_of w.objects r)) (spread w steps (suc n) (all_noted m (words_of w.objects r))) (words r e).grows more.grows; closed = more.closed }
+          record { sound = more.sound; grows =
+              then m (all_noted m (words_of w.objects r)) (spread w steps (suc n) (all_noted m (words_of w.objects r)))
+              (words r e).grows more.grows; closed = more.closed }
 
   -- ---- from the roots
 
@@ -308,27 +333,34 @@ module _ (w : World) (count : ℕ) where
   from_roots = all_after (unmarked count) (roots_of w) none_marked (root_reached w)
 
   whole : Spread (all_noted (unmarked count) (roots_of w)) (marked w count)
-  whole = spread_closes count 0 (all_noted (unmarked count) (roots_of w)) (omega arith) (from_roots).sound (λ i r none. absurd (omega (arith, none)))
+  whole = spread_closes count 0 (all_noted (unmarked count) (roots_of w)) (omega arith) (from_roots).sound
+      (λ i r none. absurd (omega (arith, none)))
 
   module _ (all : length w.objects ≤ count) where
     -- what a marked reference leads to is marked
-    leads_marked : (steps a b : ℕ) → (a < count → IsMarked (marked w count) a) → b < count → leads_within steps w b (Some a) ≡ true → IsMarked (marked w count) b
+    leads_marked : (steps a b : ℕ) → (a < count → IsMarked (marked w count) a) → b < count
+        → leads_within steps w b (Some a) ≡ true → IsMarked (marked w count) b
     unfolding leads_within word_at
-    leads_marked zero a b here below e = let is : a ≡ b = eqb-true a b e in subst (IsMarked (marked w count)) is (here (omega (arith, is, below)))
+    leads_marked zero a b here below e = let is : a ≡ b = eqb-true a b e
+                                               in subst (IsMarked (marked w count)) is (here (omega (arith, is, below)))
     leads_marked (suc steps) a b here below e =
         elim (or-cases (nat_eq a b) (list_any (leads_within steps w b) (words_of w.objects a)) e) [
-          | inl same ↦ let is : a ≡ b = eqb-true a b same in subst (IsMarked (marked w count)) is (here (omega (arith, is, below)))
+          | inl same ↦ let is : a ≡ b = eqb-true a b same
+                             in subst (IsMarked (marked w count)) is (here (omega (arith, is, below)))
           | inr there ↦
               let word = passes (leads_within steps w b) (null_leads steps w b) (words_of w.objects a) there in
               let made = words_made w a word.0 word.1.0 word.1.1.0 in
-              leads_marked steps word.1.0 b (λ inside. (whole).closed a (here (omega (arith, made, all))) word.0 word.1.0 word.1.1.0 inside) below word.1.1.1
+              leads_marked steps word.1.0 b (λ inside. (whole).closed a (here (omega (arith, made, all))) word.0
+                  word.1.0 word.1.1.0 inside) below word.1.1.1
         ]
 
     reached_marked : (b : ℕ) → b < count → is_reached w b ≡ true → IsMarked (marked w count) b
     unfolding is_reached
     reached_marked b below e =
         let root = passes (leads_within (next_birth w) w b) (null_leads (next_birth w) w b) (roots_of w) e in
-        leads_marked (next_birth w) root.1.0 b (λ inside. (whole).grows.marks root.1.0 ((from_roots).noted_are root.0 root.1.0 root.1.1.0 inside)) below root.1.1.1
+        leads_marked (next_birth w) root.1.0 b (λ
+            inside. (whole).grows.marks root.1.0 ((from_roots).noted_are root.0 root.1.0 root.1.1.0 inside)) below
+            root.1.1.1
 
     pub marks_tell : (r : ℕ) → r < count → slice_get (marked w count).marks r ≡ Some (is_reached w r)
     marks_tell r below =

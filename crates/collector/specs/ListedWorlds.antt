@@ -12,8 +12,8 @@ use Rattle.model.specs.Collector.Places.{ref_of}
 use Rattle.cells.specs.Objects.{StoredObject, words_if}
 use Rattle.join.specs.OnCells.{nobody}
 
--- A machine told by plain lists, for tests: where its static slots lead, the frames of its one thread, and what its cells
--- hold.
+-- A machine told by plain lists, for tests: where its static slots lead, the frames of its one thread, and what its
+-- cells hold.
 
 abbrev pub slot_leading : Option ℕ → FieldValue
 slot_leading leads = record { class = []; name = []; descriptor = []; value = Ref leads }

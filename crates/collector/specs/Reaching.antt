@@ -1,4 +1,5 @@
-use Rattle.std.specs.Prelude.{ℕ, zero, suc, List, [], ◌∷◌, ◌++◌, replicate, slice_get, slice_set, Bool, true, false, Option, Some, None}
+use Rattle.std.specs.Prelude.{ℕ, zero, suc, List, [], ◌∷◌, ◌++◌, replicate, slice_get, slice_set, Bool, true, false}
+use Rattle.std.specs.Prelude.{Option, Some, None}
 use Rattle.model.specs.Frames.{Frame}
 use Rattle.model.specs.Worlds.{World}
 use Rattle.model.specs.Collector.Places.{entries_at, monitor_at, words_of}
@@ -41,7 +42,8 @@ with_listed m (Some r) spread = spread r
 
 abbrev pub spread : World → ℕ → ℕ → Marking → Marking
 spread w zero n m = m
-spread w (suc steps) n m = with_listed m (slice_get m.list n) (λ r. spread w steps (suc n) (all_noted m (words_of w.objects r)))
+spread w (suc steps) n m = with_listed m (slice_get m.list n)
+    (λ r. spread w steps (suc n) (all_noted m (words_of w.objects r)))
 
 -- all that paths lead to
 abbrev pub marked : World → ℕ → Marking

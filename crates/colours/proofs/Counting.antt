@@ -1,4 +1,5 @@
-use Rattle.std.proofs.Common.{◌≡◌, ℕ, zero, suc, ◌+◌, ◌<◌, ◌≤◌, Bool, true, false, List, [], ◌∷◌, ◌++◌, length, set, slice_get, Some, nat_eq, refl, ap, arith, eqb-true, eq-eqb}
+use Rattle.std.proofs.Common.{◌≡◌, ℕ, zero, suc, ◌+◌, ◌<◌, ◌≤◌, Bool, true, false, List, [], ◌∷◌, ◌++◌, length, set}
+use Rattle.std.proofs.Common.{slice_get, Some, nat_eq, refl, ap, arith, eqb-true, eq-eqb}
 use Rattle.model.specs.declared.colours.Cell.{Cell}
 use Rattle.model.specs.declared.colours.Cell.TheVariants.{Free, Taken}
 use Rattle.model.specs.declared.colours.Colour.TheVariants.{White, Grey, Black}
@@ -41,7 +42,8 @@ free_by (Taken b colour) l = absurd (omega arith)
 
 -- ---- all cells
 
-pub total-set : (f : Cell → ℕ) (cells : List Cell) (c : ℕ) (x : Cell) → c < length cells → total f (set cells c x) + f (cell_at cells c) ≡ total f cells + f x
+pub total-set : (f : Cell → ℕ) (cells : List Cell) (c : ℕ) (x : Cell) → c < length cells
+    → total f (set cells c x) + f (cell_at cells c) ≡ total f cells + f x
 total-set f [] c x l = absurd (omega arith)
 total-set f (y ∷ cells) zero x l = omega arith
 total-set f (y ∷ cells) (suc c) x l = let k = total-set f cells c x (omega arith) in omega (arith, k)
@@ -51,10 +53,13 @@ total-most f one [] = omega arith
 total-most f one (x ∷ cells) = let a = one x in let b = total-most f one cells in omega (arith, a, b)
 
 -- where one cell isn't counted, fewer are than there are cells
-pub total-fewer : (f : Cell → ℕ) → ((x : Cell) → f x ≤ 1) → (cells : List Cell) (c : ℕ) → c < length cells → f (cell_at cells c) ≡ 0 → total f cells < length cells
+pub total-fewer : (f : Cell → ℕ) → ((x : Cell) → f x ≤ 1) → (cells : List Cell) (c : ℕ) → c < length cells
+    → f (cell_at cells c) ≡ 0 → total f cells < length cells
 total-fewer f one [] c l e = absurd (omega arith)
 total-fewer f one (x ∷ cells) zero l e = let b = total-most f one cells in omega (arith, b, e)
-total-fewer f one (x ∷ cells) (suc c) l e = let a = one x in let b = total-fewer f one cells c (omega arith) e in omega (arith, a, b)
+total-fewer f one (x ∷ cells) (suc c) l e = let a = one x
+                                                  in let b = total-fewer f one cells c (omega arith) e
+                                                           in omega (arith, a, b)
 
 -- ---- whether a number is that of a free cell
 
@@ -69,7 +74,8 @@ free_at_within (x ∷ cells) zero l = omega arith
 free_at_within (x ∷ cells) (suc c) l = let k = free_at_within cells c l in omega (arith, k)
 
 pub free_at_free : (cells : List Cell) (c : ℕ) → 1 ≤ free_at cells c → cell_at cells c ≡ Free
-free_at_free cells c l = let e = free_at_cell cells c (free_at_within cells c l) in free_by (cell_at cells c) (omega (arith, e, l))
+free_at_free cells c l = let e = free_at_cell cells c (free_at_within cells c l)
+                               in free_by (cell_at cells c) (omega (arith, e, l))
 
 pub free_at_found : (cells : List Cell) (c : ℕ) → 1 ≤ free_at cells c → slice_get cells c ≡ Some Free
 free_at_found [] c l = absurd (omega arith)
@@ -86,7 +92,8 @@ free_at-set_same [] c x l = absurd (omega arith)
 free_at-set_same (y ∷ cells) zero x l = refl
 free_at-set_same (y ∷ cells) (suc c) x l = free_at-set_same cells c x (omega arith)
 
-pub free_at-set_other : (cells : List Cell) (c d : ℕ) (x : Cell) → (d ≡ c → ⊥) → free_at (set cells c x) d ≡ free_at cells d
+pub free_at-set_other : (cells : List Cell) (c d : ℕ) (x : Cell) → (d ≡ c → ⊥) → free_at (set cells c x) d
+    ≡ free_at cells d
 free_at-set_other [] c d x n = refl
 free_at-set_other (y ∷ cells) zero zero x n = absurd (n refl)
 free_at-set_other (y ∷ cells) zero (suc d) x n = refl

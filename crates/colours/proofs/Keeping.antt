@@ -1,4 +1,6 @@
-use Rattle.std.proofs.Common.{◌≡◌, ◌⊎◌, inl, inr, ℕ, ◌+◌, ◌<◌, ◌≤◌, Bool, true, false, List, [], ◌∷◌, ◌++◌, length, set, nat_le, nat_lt, drop, slice_get, option_map, Option, Some, None, refl, sym, ◌∙◌, ap, arith, length-set}
+use Rattle.std.proofs.Common.{◌≡◌, ◌⊎◌, inl, inr, ℕ, ◌+◌, ◌<◌, ◌≤◌, Bool, true, false, List, [], ◌∷◌, ◌++◌, length, set}
+use Rattle.std.proofs.Common.{nat_le, nat_lt, drop, slice_get, option_map, Option, Some, None, refl, sym, ◌∙◌, ap}
+use Rattle.std.proofs.Common.{arith, length-set}
 use Rattle.std.specs.Option.{IfSome}
 use Rattle.std.proofs.lemmas.List.{length-append}
 use Rattle.circular_buffer.specs.Buffer.{Buffer, buffer}
@@ -12,14 +14,19 @@ use Rattle.model.specs.Collector.Table.{cell_at, listed_in, with_free}
 use Rattle.model.proofs.CollectorLemmas.Cells.{same_or_not, taken_within}
 use Rattle.colours.specs.declared.free_lists.FreeLists.{FreeLists}
 use Rattle.colours.specs.FreeLists.{listing, capacities, account_of}
-use Rattle.colours.specs.Sound.{free_in, grey_in, free_at, one_if, times, times_listed, how_many_listed, Sound, HasRoomForAll}
-use Rattle.colours.proofs.Counting.{one_if-same, one_if-other, times-push, free_in_one, grey_in_one, total-set, total-fewer, free_at_cell, free_at_within, free_at_free, free_at_found, free_at_one, free_at-set_same, free_at-set_other}
+use Rattle.colours.specs.Sound.{free_in, grey_in, free_at, one_if, times, times_listed, how_many_listed, Sound}
+use Rattle.colours.specs.Sound.{HasRoomForAll}
+use Rattle.colours.proofs.Counting.{one_if-same, one_if-other, times-push, free_in_one, grey_in_one, total-set}
+use Rattle.colours.proofs.Counting.{total-fewer, free_at_cell, free_at_within, free_at_free, free_at_found, free_at_one}
+use Rattle.colours.proofs.Counting.{free_at-set_same, free_at-set_other}
 
 -- each step on an account keeps it sound
 
 -- ---- room
 
-pub room_kept : (cells new : List Cell) (free lists : FreeLists) (queue grey : Buffer ℕ) → length new ≡ length cells → capacities lists ≡ capacities free → grey.capacity ≡ queue.capacity → HasRoomForAll cells free queue → HasRoomForAll new lists grey
+pub room_kept : (cells new : List Cell) (free lists : FreeLists) (queue grey : Buffer ℕ) → length new ≡ length cells
+    → capacities lists ≡ capacities free → grey.capacity ≡ queue.capacity → HasRoomForAll cells free queue
+    → HasRoomForAll new lists grey
 room_kept cells new free lists queue grey same e f h = record {
   small = ap (λ (x : ℕ × ℕ × ℕ). x.0) e ∙ h.small ∙ sym same;
   medium = ap (λ (x : ℕ × ℕ × ℕ). x.1) e ∙ h.medium ∙ sym same;
@@ -28,23 +35,32 @@ room_kept cells new free lists queue grey same e f h = record {
 }
 
 -- where a cell isn't grey the grey list has room for one more
-pub room_for_grey : (a : Account) (c : ℕ) → Sound a → c < length a.cells → grey_in (cell_at a.cells c) ≡ 0 → length a.grey < length a.cells
-room_for_grey a c h l e = let few = total-fewer grey_in grey_in_one a.cells c l e in let g = h.grey in omega (arith, few, g)
+pub room_for_grey : (a : Account) (c : ℕ) → Sound a → c < length a.cells → grey_in (cell_at a.cells c) ≡ 0
+    → length a.grey < length a.cells
+room_for_grey a c h l e = let few = total-fewer grey_in grey_in_one a.cells c l e
+                                in let g = h.grey in omega (arith, few, g)
 
 -- where a cell isn't free the free lists have, together
-pub room_for_free : (a : Account) (c : ℕ) → Sound a → c < length a.cells → free_in (cell_at a.cells c) ≡ 0 → how_many_listed a < length a.cells
-room_for_free a c h l e = let few = total-fewer free_in free_in_one a.cells c l e in let f = h.free in omega (arith, few, f)
+pub room_for_free : (a : Account) (c : ℕ) → Sound a → c < length a.cells → free_in (cell_at a.cells c) ≡ 0
+    → how_many_listed a < length a.cells
+room_for_free a c h l e = let few = total-fewer free_in free_in_one a.cells c l e
+                                in let f = h.free in omega (arith, few, f)
 
-pub pushed : (queue grey : Buffer ℕ) (r : ℕ) → grey ≡ buffer (queue.items ++ r ∷ []) queue.capacity → (length grey.items ≡ length queue.items + 1) × (grey.capacity ≡ queue.capacity)
+pub pushed : (queue grey : Buffer ℕ) (r : ℕ) → grey ≡ buffer (queue.items ++ r ∷ []) queue.capacity
+    → (length grey.items ≡ length queue.items + 1) × (grey.capacity ≡ queue.capacity)
 pushed queue grey r e =
     let n = ap (λ (q : Buffer ℕ). length q.items) e in
     let m = length-append queue.items (r ∷ []) in
     (omega (arith, n, m), ap (λ (q : Buffer ℕ). q.capacity) e)
 
-pub popped : (queue grey : Buffer ℕ) (r : ℕ) → Some r ≡ slice_get queue.items 0 → grey ≡ buffer (drop 1 queue.items) queue.capacity → (length grey.items + 1 ≡ length queue.items) × (grey.capacity ≡ queue.capacity)
-popped queue grey r f e = (go queue.items f (ap (λ (q : Buffer ℕ). length q.items) e), ap (λ (q : Buffer ℕ). q.capacity) e)
+pub popped : (queue grey : Buffer ℕ) (r : ℕ) → Some r ≡ slice_get queue.items 0
+    → grey ≡ buffer (drop 1 queue.items) queue.capacity → (length grey.items + 1 ≡ length queue.items)
+    × (grey.capacity ≡ queue.capacity)
+popped queue grey r f e = (go queue.items f (ap (λ (q : Buffer ℕ). length q.items) e),
+    ap (λ (q : Buffer ℕ). q.capacity) e)
   where
-    go : (items : List ℕ) → Some r ≡ slice_get items 0 → length grey.items ≡ length (drop 1 items) → length grey.items + 1 ≡ length items
+    go : (items : List ℕ) → Some r ≡ slice_get items 0 → length grey.items ≡ length (drop 1 items)
+        → length grey.items + 1 ≡ length items
     go [] f n = absurd (cc)
     go (x ∷ items) f n = omega (arith, n)
 
@@ -69,7 +85,8 @@ written a c x b h l f =
       free = rw f.cells (let g = h.free in let k = f.free in omega (arith, g, k, frees));
       listed = λ d. rw f.cells (elim (same_or_not c d) [
         | inl e ↦ rw e (let k = f.here in let z = free_at-set_same a.cells c x l in omega (arith, k, z))
-        | inr n ↦ (let k = f.elsewhere d n in let z = free_at-set_other a.cells c d x n in let g = h.listed d in omega (arith, k, z, g))
+        | inr n ↦ (let k = f.elsewhere d n in let z = free_at-set_other a.cells c d x n
+                                                    in let g = h.listed d in omega (arith, k, z, g))
       ]);
     }
 
@@ -78,7 +95,9 @@ unlisted : (a : Account) (c : ℕ) → Sound a → c < length a.cells → free_i
 unlisted a c h l e = let k = h.listed c in let z = free_at_cell a.cells c l in omega (arith, k, z, e)
 
 -- a cell that holds a birth gets another colour, and the grey list follows
-pub coloured : (a : Account) (c b b' : ℕ) (old new : Colour) (grey : List ℕ) → Sound a → cell_at a.cells c ≡ Taken b old → length grey + grey_in (Taken b old) ≤ length a.grey + grey_in (Taken b' new) → Sound (record a { cells = set a.cells c (Taken b' new); grey = grey })
+pub coloured : (a : Account) (c b b' : ℕ) (old new : Colour) (grey : List ℕ) → Sound a → cell_at a.cells c ≡ Taken b old
+    → length grey + grey_in (Taken b old) ≤ length a.grey + grey_in (Taken b' new)
+    → Sound (record a { cells = set a.cells c (Taken b' new); grey = grey })
 coloured a c b b' old new grey h e f =
     let l = taken_within a.cells c b old e in
     let none : free_in (cell_at a.cells c) ≡ 0 = rw e refl in
@@ -132,7 +151,9 @@ leaves a words r e =
     ]
 
 -- as the code takes it
-module _ (cells : List Cell) (old new : FreeLists) (queue : Buffer ℕ) (phase : Phase) (words c : ℕ) (r : Option ℕ) (taken : (a : Account) → take_cell (listing a old) words ≡ option_map (λ d. (d, listing a new)) r) (is : r ≡ Some c) where
+module _ (cells : List Cell) (old new : FreeLists) (queue : Buffer ℕ) (phase : Phase) (words c : ℕ) (r : Option ℕ)
+    (taken : (a : Account) → take_cell (listing a old) words ≡ option_map (λ d. (d, listing a new)) r) (is : r ≡ Some c)
+    where
   pub takes : take_cell (account_of cells old queue phase) words ≡ Some (c, account_of cells new queue phase)
   takes = taken (account_of cells old queue phase) ∙ ap (option_map (λ d. (d, account_of cells new queue phase))) is
 
@@ -161,7 +182,9 @@ pub is_not_grey : (a : Account) (c : ℕ) (b : Account) → Sound a → Leaves a
 is_not_grey a c b h k = let free = free_at_free a.cells c (is_free a c b h k) in rw free refl
 
 -- a birth comes into it, and the grey list follows
-pub came : (a : Account) (c : ℕ) (b : Account) (birth : ℕ) (colour : Colour) (grey : List ℕ) → Sound a → Leaves a c b → length grey ≤ length a.grey + grey_in (Taken birth colour) → Sound (record b { cells = set a.cells c (Taken birth colour); grey = grey })
+pub came : (a : Account) (c : ℕ) (b : Account) (birth : ℕ) (colour : Colour) (grey : List ℕ) → Sound a → Leaves a c b
+    → length grey ≤ length a.grey + grey_in (Taken birth colour)
+    → Sound (record b { cells = set a.cells c (Taken birth colour); grey = grey })
 came a c b birth colour grey h k f =
     let one = is_free a c b h k in
     let l = free_at_within a.cells c one in
@@ -184,12 +207,20 @@ came a c b birth colour grey h k f =
 -- ---- a cell is given back
 
 -- at the end of one of the lists
-listed_more : (a : Account) (c d : ℕ) (small medium : Bool) → (times_listed d (listed_in a c small medium) ≡ times_listed d a + one_if d c) × (how_many_listed (listed_in a c small medium) ≡ how_many_listed a + 1)
-listed_more a c d true medium = let k = times-push d a.small c in let n = length-append a.small (c ∷ []) in (omega (arith, k), omega (arith, n))
-listed_more a c d false true = let k = times-push d a.medium c in let n = length-append a.medium (c ∷ []) in (omega (arith, k), omega (arith, n))
-listed_more a c d false false = let k = times-push d a.large c in let n = length-append a.large (c ∷ []) in (omega (arith, k), omega (arith, n))
+listed_more : (a : Account) (c d : ℕ) (small medium : Bool)
+    → (times_listed d (listed_in a c small medium) ≡ times_listed d a + one_if d c)
+    × (how_many_listed (listed_in a c small medium) ≡ how_many_listed a + 1)
+listed_more a c d true medium = let k = times-push d a.small c
+                                      in let n = length-append a.small (c ∷ []) in (omega (arith, k), omega (arith, n))
+listed_more a c d false true = let k = times-push d a.medium c
+                                     in let n = length-append a.medium (c ∷ []) in (omega (arith, k), omega (arith, n))
+listed_more a c d false false = let k = times-push d a.large c
+                                      in let n = length-append a.large (c ∷ []) in (omega (arith, k), omega (arith, n))
 
-pub given : (cells : List Cell) (old new : FreeLists) (queue : Buffer ℕ) (phase : Phase) (shape : HeapShape) (c : ℕ) → Sound (account_of cells old queue phase) → c < length cells → free_in (cell_at cells c) ≡ 0 → grey_in (cell_at cells c) ≡ 0 → ((a : Account) → listing a new ≡ with_free shape (listing a old) c) → Sound (account_of (set cells c Free) new queue phase)
+pub given : (cells : List Cell) (old new : FreeLists) (queue : Buffer ℕ) (phase : Phase) (shape : HeapShape) (c : ℕ)
+    → Sound (account_of cells old queue phase) → c < length cells → free_in (cell_at cells c) ≡ 0
+    → grey_in (cell_at cells c) ≡ 0 → ((a : Account) → listing a new ≡ with_free shape (listing a old) c)
+    → Sound (account_of (set cells c Free) new queue phase)
 given cells old new queue phase shape c h l none white lists =
     let a = account_of cells old queue phase in
     let more = λ (d : ℕ). listed_more a c d (nat_lt c shape.small) (nat_lt c (shape.small + shape.medium)) in

@@ -1,4 +1,5 @@
-use Rattle.std.proofs.Common.{◌≡◌, ℕ, zero, suc, ◌+◌, ◌<◌, ◌≤◌, Bool, true, false, List, [], ◌∷◌, ◌++◌, length, replicate, nat_lt, nat_eq, refl, sym, ◌∙◌, ap, arith, append_assoc, ltb-true, ltb-false}
+use Rattle.std.proofs.Common.{◌≡◌, ℕ, zero, suc, ◌+◌, ◌<◌, ◌≤◌, Bool, true, false, List, [], ◌∷◌, ◌++◌, length}
+use Rattle.std.proofs.Common.{replicate, nat_lt, nat_eq, refl, sym, ◌∙◌, ap, arith, append_assoc, ltb-true, ltb-false}
 use Rattle.model.specs.declared.colours.Cell.{Cell}
 use Rattle.model.specs.declared.colours.Cell.TheVariants.{Free}
 use Rattle.model.specs.declared.colours.Phase.TheVariants.{Idle}
@@ -14,7 +15,8 @@ use Rattle.colours.proofs.Counting.{one_if-other}
 -- rising numbers, and the account in which all cells are free
 
 -- the next number goes to the end
-pub number_pushed : (items : List ℕ) (first n m : ℕ) → n ≡ suc m → (items ++ first ∷ []) ++ numbers_up (first + 1) m ≡ items ++ numbers_up first n
+pub number_pushed : (items : List ℕ) (first n m : ℕ) → n ≡ suc m → (items ++ first ∷ []) ++ numbers_up (first + 1) m
+    ≡ items ++ numbers_up first n
 number_pushed items first n m e = rw e (append_assoc items (first ∷ []) (numbers_up (first + 1) m))
 
 pub length-numbers : (n first : ℕ) → length (numbers_up first n) ≡ n
@@ -46,7 +48,8 @@ times-once : (n first c : ℕ) → times c (numbers_up first n) ≤ 1
 times-once zero first c = omega arith
 times-once (suc n) first c = go (nat_lt first c) refl (times-once n (first + 1) c)
   where
-    go : (above : Bool) → nat_lt first c ≡ above → times c (numbers_up (first + 1) n) ≤ 1 → one_if c first + times c (numbers_up (first + 1) n) ≤ 1
+    go : (above : Bool) → nat_lt first c ≡ above → times c (numbers_up (first + 1) n) ≤ 1
+        → one_if c first + times c (numbers_up (first + 1) n) ≤ 1
     go true e rest =
         let l = ltb-true first c e in
         let here = one_if-other c first (λ f. omega arith) in
@@ -89,9 +92,12 @@ empty_is_sound shape fits =
     }
   where
     Listed : ℕ → Type 0
-    Listed c = times c (numbers_up 0 shape.small) + times c (numbers_up shape.small shape.medium) + times c (numbers_up (shape.small + shape.medium) shape.large) ≤ free_at (replicate (shape.small + shape.medium + shape.large) Free) c
+    Listed c = times c (numbers_up 0 shape.small) + times c (numbers_up shape.small shape.medium) + times c
+        (numbers_up (shape.small + shape.medium) shape.large) ≤ free_at
+        (replicate (shape.small + shape.medium + shape.large) Free) c
 
-    go : (c : ℕ) (small medium large : Bool) → nat_lt c shape.small ≡ small → nat_lt c (shape.small + shape.medium) ≡ medium → nat_lt c (shape.small + shape.medium + shape.large) ≡ large → Listed c
+    go : (c : ℕ) (small medium large : Bool) → nat_lt c shape.small ≡ small → nat_lt c (shape.small + shape.medium)
+        ≡ medium → nat_lt c (shape.small + shape.medium + shape.large) ≡ large → Listed c
     go c true medium large e f g =
         let u = ltb-true _ _ e in
         let one = times-once shape.small 0 c in
@@ -123,7 +129,9 @@ empty_is_sound shape fits =
         omega (arith, s, m, l)
 
 -- the parts of which the code makes it
-pub opens : (shape : HeapShape) (cells : List Cell) (free : FreeLists) (queue : Buffer ℕ) → let n = shape.small + shape.medium + shape.large in ShapeFits shape.small shape.medium shape.large → cells ≡ replicate n Free → free ≡ all_free shape n → queue ≡ buffer [] n → AreKept cells free queue Idle
+pub opens : (shape : HeapShape) (cells : List Cell) (free : FreeLists) (queue : Buffer ℕ)
+    → let n = shape.small + shape.medium + shape.large in ShapeFits shape.small shape.medium shape.large
+            → cells ≡ replicate n Free → free ≡ all_free shape n → queue ≡ buffer [] n → AreKept cells free queue Idle
 opens shape cells free queue fits is lists grey =
     let n = shape.small + shape.medium + shape.large in
     let same : n ≡ length cells = sym (ap length is ∙ length-free n) in (

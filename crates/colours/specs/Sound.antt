@@ -8,8 +8,8 @@ use Rattle.circular_buffer.specs.Buffer.{Buffer}
 use Rattle.colours.specs.declared.free_lists.FreeLists.{FreeLists}
 use Rattle.colours.specs.FreeLists.{account_of}
 
--- What the code keeps true of an account, whoever calls it. It is told by counting, so that a step changes two numbers by
--- one. `Tidy` says more, and no call asks for it.
+-- What the code keeps true of an account, whoever calls it. It is reported by counting, so that a step changes two
+-- numbers by one. `Tidy` says more, and no call asks for it.
 
 -- ---- how many cells are free, and how many are grey
 
@@ -51,8 +51,8 @@ times_listed c a = times c a.small + times c a.medium + times c a.large
 abbrev pub how_many_listed : Account → ℕ
 how_many_listed a = length a.small + length a.medium + length a.large
 
--- a cell is in the free lists no more often than it is free, so what is listed is there and free, once, in one list; the
--- free lists together have no more than the free cells, and the grey list no more than the grey ones
+-- a cell is in the free lists no more often than it is free, so what is listed is there and free, once, in one list;
+-- the free lists together have no more than the free cells, and the grey list no more than the grey ones
 pub record Sound (a : Account) : Type 0 where
   pub few : length a.cells ≤ 65535
   pub grey : length a.grey ≤ total grey_in a.cells

@@ -157,8 +157,8 @@ impl Account {
     }
 
     /// A birth of so many words comes into the front cell of the smallest size that has a free cell for it: that cell,
-    /// which was free, is told. It is grey, and its reference goes to the end of the grey list. `None` exactly where no
-    /// free cell has room, and then nothing changes.
+    /// which was free, is reported. It is grey, and its reference goes to the end of the grey list. `None` exactly
+    /// where no free cell has room, and then nothing changes.
     pub fn create(&mut self, words: u32, birth: u32) -> Option<u32>
         ensures cell { result ≡ taken_cell (take_cell self.old words) }
         ensures account { self.new ≡ born_in self.old birth (take_cell self.old words) }

@@ -6,7 +6,8 @@ use Rattle.model.specs.declared.listings.Method.{Method}
 use Rattle.model.specs.CodeListings.{CodeListing}
 use Rattle.model.specs.ClassListings.{ClassListing}
 use Rattle.model.specs.Texts.{tree_of}
-use Rattle.model.specs.Texts.Assembling.{end_from, switch_agrees, size_is_right, reaches, is_countable, body_assembles, method_assembles, pool_size, listing_assembles}
+use Rattle.model.specs.Texts.Assembling.{end_from, switch_agrees, size_is_right, reaches, is_countable, body_assembles}
+use Rattle.model.specs.Texts.Assembling.{method_assembles, pool_size, listing_assembles}
 use Rattle.model.specs.Texts.Classes.{class_tree}
 use Rattle.model.specs.Texts.Disassembling.{text_of}
 use Rattle.model.specs.Texts.ListingOfTree.{listing_of}
@@ -21,7 +22,8 @@ pub text_read : (l : ClassListing) → is_spelled l ≡ true → pcs_fit l ≡ t
 unfolding tree_of
 text_read l e small = ap class_tree (text_statements l e) ∙ class_back l e small
 
-pub round_trip : (l : ClassListing) → is_spelled l ≡ true → pcs_fit l ≡ true → (tree_of (text_of l) ≡ Some (tree_back l)) × (listing_of (tree_back l) ≡ l)
+pub round_trip : (l : ClassListing) → is_spelled l ≡ true → pcs_fit l ≡ true
+    → (tree_of (text_of l) ≡ Some (tree_back l)) × (listing_of (tree_back l) ≡ l)
 round_trip l e small = (text_read l e small, listing_back l e small)
 
 -- ---- what assembles fits
@@ -41,8 +43,10 @@ pub assembled_fits : (l : ClassListing) → listing_assembles l ≡ true → pcs
 unfolding listing_assembles pcs_fit
 assembled_fits l e =
     let methods = list_all method_assembles l.methods in
-    let one = and_parts (methods && is_countable (length l.interfaces) && is_countable (length l.fields) && is_countable (length l.methods)) (is_countable (pool_size l)) e in
-    let two = and_parts (methods && is_countable (length l.interfaces) && is_countable (length l.fields)) (is_countable (length l.methods)) one.0 in
+    let one = and_parts (methods && is_countable (length l.interfaces) && is_countable (length l.fields)
+          && is_countable (length l.methods)) (is_countable (pool_size l)) e in
+    let two = and_parts (methods && is_countable (length l.interfaces) && is_countable (length l.fields))
+          (is_countable (length l.methods)) one.0 in
     let three = and_parts (methods && is_countable (length l.interfaces)) (is_countable (length l.fields)) two.0 in
     let four = and_parts methods (is_countable (length l.interfaces)) three.0 in
     all_from method_assembles (λ (m : Method). code_fits m.code) (λ m fits. body_fits m.code fits) l.methods four.0

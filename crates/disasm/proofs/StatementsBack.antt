@@ -10,6 +10,8 @@ use Rattle.disasm.proofs.PlainWords.{read_lines}
 use Rattle.disasm.proofs.SpelledWords.{class_statements_said}
 use Rattle.disasm.proofs.SpokenText.{text_is}
 
-pub text_statements : (l : ClassListing) → is_spelled l ≡ true → statements_of (lines_of (text_of l)) ≡ statements_back l
+pub text_statements : (l : ClassListing) → is_spelled l ≡ true → statements_of (lines_of (text_of l))
+    ≡ statements_back l
 unfolding statements_back
-text_statements l spelled = ap (λ (bytes : List ℕ). statements_of (lines_of bytes)) (text_is l) ∙ read_lines (class_statements l) (class_statements_said l spelled)
+text_statements l spelled = ap (λ (bytes : List ℕ). statements_of (lines_of bytes)) (text_is l)
+    ∙ read_lines (class_statements l) (class_statements_said l spelled)

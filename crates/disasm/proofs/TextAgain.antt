@@ -19,7 +19,8 @@ some_is a b e = cc
 none_is_some : {A : Type 0} (a : A) → None ≡ Some a → ⊥
 none_is_some a e = cc
 
-pub tree_found : (l : ClassListing) → is_spelled l ≡ true → listing_assembles l ≡ true → (written : List ℕ) → written ≡ text_of l → (found : Tree) → tree_of written ≡ Some found
+pub tree_found : (l : ClassListing) → is_spelled l ≡ true → listing_assembles l ≡ true → (written : List ℕ)
+    → written ≡ text_of l → (found : Tree) → tree_of written ≡ Some found
     → (listing_of found ≡ l) × (assembles found ≡ true)
 unfolding assembles
 tree_found l good right written w found f =
@@ -39,7 +40,9 @@ is_memory fault.Limit h = absurd (h (λ e. cc))
 is_memory fault.Byte h = absurd (h (λ e. cc))
 is_memory fault.Memory h = refl
 
-pub tree_refused : (l : ClassListing) → is_spelled l ≡ true → listing_assembles l ≡ true → (written : List ℕ) → written ≡ text_of l → (f : Fault) → (f ≢ fault.Memory → tree_of written ≡ None)
+pub tree_refused : (l : ClassListing) → is_spelled l ≡ true → listing_assembles l ≡ true → (written : List ℕ)
+    → written ≡ text_of l → (f : Fault) → (f ≢ fault.Memory → tree_of written ≡ None)
     → f ≡ fault.Memory
 tree_refused l good right written w f h =
-    is_memory f (λ other. none_is_some (tree_back l) (sym (h other) ∙ ap tree_of w ∙ text_read l good (assembled_fits l right)))
+    is_memory f (λ other. none_is_some (tree_back l) (sym (h other) ∙ ap tree_of w
+        ∙ text_read l good (assembled_fits l right)))

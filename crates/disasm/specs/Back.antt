@@ -22,16 +22,18 @@ abbrev pub label_back : Bool → ℕ → List TextLine
 label_back false pc = []
 label_back true pc = Label (label pc) ∷ []
 
--- instructions behind a pc, each behind its label; the last label may stand at the end
+-- instructions after a pc, each after its label; the last label may stand at the end
 abbrev pub lines_back : List ℕ → ℕ → List Placed → List TextLine
 lines_back pcs end [] = label_back (is_named pcs end) end
-lines_back pcs end (p ∷ ps) = label_back (is_named pcs p.pc) p.pc ++ (Instruction (with_targets label p.instruction) ∷ lines_back pcs p.next ps)
+lines_back pcs end (p ∷ ps) = label_back (is_named pcs p.pc) p.pc ++ (Instruction (with_targets label p.instruction)
+    ∷ lines_back pcs p.next ps)
 
 abbrev pub row_back : ExceptionRow → CatchRow
 row_back r = record { class = r.class; start = label r.start; end = label r.end; handler = label r.handler }
 
 abbrev pub body_back : CodeListing → Body
-body_back c = record { max_stack = c.max_stack; max_locals = c.max_locals; rows = map row_back c.rows; lines = lines_back (named_pcs c) 0 c.instructions }
+body_back c = record { max_stack = c.max_stack; max_locals = c.max_locals; rows = map row_back c.rows;
+    lines = lines_back (named_pcs c) 0 c.instructions }
 
 abbrev pub method_back : Method → MethodTree
 method_back m = record { flags = m.flags; name = m.name; descriptor = m.descriptor; body = option_map body_back m.code }

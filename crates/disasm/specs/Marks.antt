@@ -2,7 +2,7 @@
 use Rattle.std.specs.Prelude.{◌≡◌, ℕ, Bool, false, List, slice_index_or}
 use Rattle.model.specs.Texts.Disassembling.{is_named}
 
--- what the table says of a pc; nothing is marked behind its end
+-- what the table says of a pc; nothing is marked after its end
 abbrev pub is_marked : List Bool → ℕ → Bool
 is_marked table pc = slice_index_or table pc false
 

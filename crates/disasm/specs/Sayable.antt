@@ -42,7 +42,8 @@ operand_is_sayable (instruction.Monitor op) = true
 -- an exception row begins and ends at an instruction or at the code's end, its handler stands at an instruction, and it
 -- takes anything or a class that is neither an array nor named `all`
 abbrev pub code_is_sayable : CodeListing → Bool
-code_is_sayable c = list_all (λ p. operand_is_sayable p.instruction) c.instructions && list_all (row_is_spelled c.instructions) c.rows
+code_is_sayable c = list_all (λ p. operand_is_sayable p.instruction) c.instructions
+    && list_all (row_is_spelled c.instructions) c.rows
 
 abbrev pub body_is_sayable : Option CodeListing → Bool
 body_is_sayable None = true

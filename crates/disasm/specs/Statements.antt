@@ -1,5 +1,6 @@
 -- The statements of a listing, in the order of the grammar: what the lines of its text say, word by word.
-use Rattle.std.specs.Prelude.{ℕ, ℤ, Bool, true, false, List, [], ◌∷◌, ◌++◌, map, codes, decimal, Option, Some, None, if◌then◌else◌}
+use Rattle.std.specs.Prelude.{ℕ, ℤ, Bool, true, false, List, [], ◌∷◌, ◌++◌, map, codes, decimal, Option, Some, None}
+use Rattle.std.specs.Prelude.{if◌then◌else◌}
 use Rattle.std.specs.Fmt.{signed_decimal}
 use Rattle.std.specs.List.{flat_map}
 use Rattle.model.specs.declared.instructions.ArrayOperation.{ArrayOperation}
@@ -8,7 +9,10 @@ use Rattle.model.specs.declared.instructions.Constant.{Constant}
 use Rattle.model.specs.declared.instructions.Constant.TheVariants as constant
 use Rattle.model.specs.declared.instructions.Increment.{Increment}
 use Rattle.model.specs.declared.instructions.Increment.TheVariants as increment
-use Rattle.model.specs.declared.instructions.Instruction.TheVariants.{Nop, Constant as ConstantOf, Local as LocalOf, Stack, Number, Branch, TableSwitch, LookupSwitch, Return, Static, Field, Array, Class, Invoke, Throw, Monitor}
+use Rattle.model.specs.declared.instructions.Instruction.TheVariants.{Nop, Constant as ConstantOf, Local as LocalOf}
+use Rattle.model.specs.declared.instructions.Instruction.TheVariants.{Stack, Number, Branch, TableSwitch, LookupSwitch}
+use Rattle.model.specs.declared.instructions.Instruction.TheVariants.{Return, Static, Field, Array, Class, Invoke}
+use Rattle.model.specs.declared.instructions.Instruction.TheVariants.{Throw, Monitor}
 use Rattle.model.specs.declared.instructions.Invocation.{Invocation}
 use Rattle.model.specs.declared.instructions.Invocation.TheVariants as invocation
 use Rattle.model.specs.declared.instructions.Local.{Local}
@@ -25,7 +29,10 @@ use Rattle.model.specs.declared.names.Member.{Member}
 use Rattle.model.specs.ClassListings.{ClassListing}
 use Rattle.model.specs.CodeListings.{CodeListing}
 use Rattle.model.specs.Switches.{Table, Lookup}
-use Rattle.model.specs.Texts.Disassembling.{Listed, small_int_name, small_long_name, first_name, kind_letter, element_letter, stack_name, number_name, test_name, access_name, class_name, monitor_name, invocation_name, primitive_name, label, return_text, method_word, named_pcs, is_named, catch_name, number_of_value}
+use Rattle.model.specs.Texts.Disassembling.{Listed, small_int_name, small_long_name, first_name, kind_letter}
+use Rattle.model.specs.Texts.Disassembling.{element_letter, stack_name, number_name, test_name, access_name, class_name}
+use Rattle.model.specs.Texts.Disassembling.{monitor_name, invocation_name, primitive_name, label, return_text}
+use Rattle.model.specs.Texts.Disassembling.{method_word, named_pcs, is_named, catch_name, number_of_value}
 use Rattle.model.specs.Texts.Flags.{has, class_flags, interface_flags, field_flags, method_flags}
 use Rattle.model.specs.Texts.Statements.{Statement}
 
@@ -94,7 +101,7 @@ array_words array.Length = codes "arraylength" ∷ []
 array_words (array.Load k) = (element_letter k ++ codes "aload") ∷ []
 array_words (array.Store k) = (element_letter k ++ codes "astore") ∷ []
 
--- the count of units behind the method of an interface
+-- the count of units after the method of an interface
 abbrev pub count_words : Invocation → List (List ℕ)
 count_words invocation.Virtual = []
 count_words invocation.Special = []
@@ -130,18 +137,19 @@ abbrev pub label_statements : Bool → ℕ → List (List (List ℕ))
 label_statements false pc = []
 label_statements true pc = ((label pc ++ codes ":") ∷ []) ∷ []
 
--- an instruction behind its label
+-- an instruction after its label
 abbrev pub placed_statements : List ℕ → Placed → List (List (List ℕ))
 placed_statements pcs p = label_statements (is_named pcs p.pc) p.pc ++ instruction_statements p.instruction
 
--- instructions behind a pc, each behind its label; the last label may stand at the end
+-- instructions after a pc, each after its label; the last label may stand at the end
 abbrev pub statements_from : List ℕ → ℕ → List Placed → List (List (List ℕ))
 statements_from pcs end [] = label_statements (is_named pcs end) end
 statements_from pcs end (p ∷ ps) = placed_statements pcs p ++ statements_from pcs p.next ps
 
 abbrev pub row_words : ExceptionRow → List (List ℕ)
 row_words r =
-    codes ".catch" ∷ catch_name r.class ∷ codes "from" ∷ label r.start ∷ codes "to" ∷ label r.end ∷ codes "using" ∷ label r.handler ∷ []
+    codes ".catch" ∷ catch_name r.class ∷ codes "from" ∷ label r.start ∷ codes "to" ∷ label r.end ∷ codes "using"
+        ∷ label r.handler ∷ []
 
 abbrev pub stack_words : ℕ → List (List ℕ)
 stack_words n = codes ".limit" ∷ codes "stack" ∷ decimal n ∷ []
@@ -151,7 +159,8 @@ locals_words n = codes ".limit" ∷ codes "locals" ∷ decimal n ∷ []
 
 abbrev pub code_statements : CodeListing → List (List (List ℕ))
 code_statements c =
-    stack_words c.max_stack ∷ locals_words c.max_locals ∷ map row_words c.rows ++ statements_from (named_pcs c) 0 c.instructions
+    stack_words c.max_stack ∷ locals_words c.max_locals ∷ map row_words c.rows
+        ++ statements_from (named_pcs c) 0 c.instructions
 
 -- ---- a class
 
@@ -196,7 +205,8 @@ method_statements m = method_words m ∷ body_statements m.code ++ end_words ∷
 abbrev pub class_statements : ClassListing → List (List (List ℕ))
 class_statements l =
     class_words (has l.flags.0 0x0200) l.flags.0 l.name ∷
-    super_words l.superclass ∷ map interface_words l.interfaces ++ (map field_words l.fields ++ flat_map method_statements l.methods)
+    super_words l.superclass ∷ map interface_words l.interfaces
+        ++ (map field_words l.fields ++ flat_map method_statements l.methods)
 
 -- the statements that the text of a listing spells
 unfoldable pub statements_back : ClassListing → List Statement

@@ -146,7 +146,7 @@ fn put_method_flags(out: &mut Vec<u8>, flags: MethodFlags) -> Result<(), AllocEr
     put_flags(out, &METHOD_FLAGS, flags.bits())
 }
 
-/// Writes the words behind `.method` at the end.
+/// Writes the words after `.method` at the end.
 fn put_method_words(out: &mut Vec<u8>, method: &Method) -> Result<(), AllocError>
     ensures { OnOk result (out.new.items ≡ out.old.items ++ definition.method_words method.now) }
 {

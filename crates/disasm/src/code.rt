@@ -102,7 +102,7 @@ fn put_label_line(out: &mut Vec<u8>, labels: &Labels, pc: u16) -> Result<(), All
     Ok(())
 }
 
-/// Writes an instruction behind its label at the end.
+/// Writes an instruction after its label at the end.
 fn put_placed(out: &mut Vec<u8>, labels: &Labels, placed: &Placed) -> Result<(), AllocError>
     ensures { OnOk result (out.new.items ≡ out.old.items ++ definition.placed_text labels.now placed.now) }
 {
@@ -111,7 +111,7 @@ fn put_placed(out: &mut Vec<u8>, labels: &Labels, placed: &Placed) -> Result<(),
     put(out, "\n")
 }
 
-/// Writes instructions at the end, each behind its label, and the label that may stand behind the last.
+/// Writes instructions at the end, each after its label, and the label that may stand after the last.
 fn put_lines(out: &mut Vec<u8>, labels: &Labels, instructions: &[Placed]) -> Result<(), AllocError>
     ensures { OnOk result (out.new.items ≡ out.old.items ++ definition.lines_from labels.now 0 instructions.now) }
 {

@@ -94,7 +94,7 @@ fn put_wide(out: &mut Vec<u8>, mnemonic: LocalMnemonic, index: u16) -> Result<()
     put_with_local(out, mnemonic, index)
 }
 
-/// Writes an instruction on a local at the end: in one word, with the local behind a space, or in the wide form.
+/// Writes an instruction on a local at the end: in one word, with the local after a space, or in the wide form.
 #[tactic(auto, using(crate::proofs::Back::Mnemonics::said))]
 fn put_local(out: &mut Vec<u8>, access: LocalAccess) -> Result<(), AllocError>
     ensures { OnOk result (out.new.items ≡ out.old.items ++ definition.local_text access) }
@@ -258,7 +258,7 @@ fn put_array(out: &mut Vec<u8>, operation: &ArrayOperation<Name>) -> Result<(), 
     }
 }
 
-/// Writes the count of units at the end that stands behind the method of an interface.
+/// Writes the count of units at the end that stands after the method of an interface.
 fn put_count(out: &mut Vec<u8>, invocation: Invocation) -> Result<(), AllocError>
     ensures { OnOk result (out.new.items ≡ out.old.items ++ definition.count_text invocation) }
 {

@@ -21,7 +21,7 @@ pub fn texts_come_back()
 {}
 
 /// A class file's listing is that of a text exactly where a text can say it, and it assembles. No text can say a
-/// superclass of an interface other than java/lang/Object, a field or a method of an array, a count of 0 behind
+/// superclass of an interface other than java/lang/Object, a field or a method of an array, a count of 0 after
 /// invokeinterface, an exception row with a bound or a handler at no instruction, but for a bound at the code's end,
 /// and one that takes an array or a class named `all`; all else that is in a class file (JVMS 4) it can.
 pub fn class_files_are_spelled()

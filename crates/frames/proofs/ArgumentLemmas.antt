@@ -1,6 +1,10 @@
--- arguments are copied into units behind each other
-use Rattle.std.proofs.Common.{◌≡◌, ℕ, zero, suc, ◌+◌, ◌-◌, ◌<◌, ◌≤◌, List, [], ◌∷◌, ◌++◌, length, map, replicate, reverse, take, drop, slice_set, get_or, refl, ap, sym, ◌∙◌, arith, add-one}
-use Rattle.std.proofs.lemmas.List.{set_split, append_assoc, take_more, take_more_set, drop-set-lt, drop-drop, drop_at, take_at, take-take, take-map, map_push, length-append, length-set, length-take-le, length-drop, get_or_append_left, get_or-take, get_or-drop, reverse-append, reverse-reverse, length-replicate}
+-- arguments are copied into units after each other
+use Rattle.std.proofs.Common.{◌≡◌, ℕ, zero, suc, ◌+◌, ◌-◌, ◌<◌, ◌≤◌, List, [], ◌∷◌, ◌++◌, length, map, replicate}
+use Rattle.std.proofs.Common.{reverse, take, drop, slice_set, get_or, refl, ap, sym, ◌∙◌, arith, add-one}
+use Rattle.std.proofs.lemmas.List.{set_split, append_assoc, take_more, take_more_set, drop-set-lt, drop-drop, drop_at}
+use Rattle.std.proofs.lemmas.List.{take_at, take-take, take-map, map_push, length-append, length-set, length-take-le}
+use Rattle.std.proofs.lemmas.List.{length-drop, get_or_append_left, get_or-take, get_or-drop, reverse-append}
+use Rattle.std.proofs.lemmas.List.{reverse-reverse, length-replicate}
 use Rattle.model.specs.declared.values.Value.{Value}
 use Rattle.model.specs.declared.values.Value.TheVariants.{Int, Long, Ref}
 use Rattle.model.specs.declared.values.Entry.{Entry}
@@ -12,16 +16,23 @@ use Rattle.frames.specs.Layout.{stack_of, values_between}
 use Rattle.frames.proofs.PushLemmas.{units_of_all-take_le}
 
 -- one entry, or two, are written
-pub put_one : (units : List Entry) (end : ℕ) (e : Entry) → end < length units → slice_set units end e ≡ take end units ++ e ∷ [] ++ drop (end + 1) units
-put_one units end e h = rw add-one (set_split units end e h ∙ sym (append_assoc (take end units) (e ∷ []) (drop (suc end) units)))
+pub put_one : (units : List Entry) (end : ℕ) (e : Entry) → end < length units → slice_set units end e ≡ take end units
+    ++ e ∷ [] ++ drop (end + 1) units
+put_one units end e h = rw add-one (set_split units end e h
+    ∙ sym (append_assoc (take end units) (e ∷ []) (drop (suc end) units)))
 
-pub put_two : (units : List Entry) (end : ℕ) (d e : Entry) → end + 1 < length units → slice_set (slice_set units end d) (end + 1) e ≡ take end units ++ d ∷ e ∷ [] ++ drop (end + 2) units
+pub put_two : (units : List Entry) (end : ℕ) (d e : Entry) → end + 1 < length units
+    → slice_set (slice_set units end d) (end + 1) e ≡ take end units ++ d ∷ e ∷ [] ++ drop (end + 2) units
 put_two units end d e h =
-    let second : slice_set (slice_set units end d) (end + 1) e ≡ take (end + 1) (slice_set units end d) ++ e ∷ [] ++ drop (end + 1 + 1) (slice_set units end d) = put_one (slice_set units end d) (end + 1) e (simp length-set (omega arith)) in
-    let before : take (end + 1) (slice_set units end d) ≡ take end units ++ d ∷ [] = take_more_set units end d (omega arith) in
-    let behind : drop (end + 1 + 1) (slice_set units end d) ≡ drop (end + 1 + 1) units = drop-set-lt (end + 1 + 1) units end d (omega arith) in
+    let second : slice_set (slice_set units end d) (end + 1) e ≡ take (end + 1) (slice_set units end d) ++ e ∷ []
+          ++ drop (end + 1 + 1) (slice_set units end d) = put_one (slice_set units end d) (end + 1) e
+          (simp length-set (omega arith)) in
+    let before : take (end + 1) (slice_set units end d) ≡ take end units ++ d ∷ [] = take_more_set units end d
+          (omega arith) in
+    let following : drop (end + 1 + 1) (slice_set units end d) ≡ drop (end + 1 + 1) units = drop-set-lt (end + 1 + 1)
+          units end d (omega arith) in
     let place : end + 1 + 1 ≡ end + 2 = omega arith in
-    second ∙ rw (before, behind, place, append_assoc (take end units) (d ∷ []) (e ∷ []))
+    second ∙ rw (before, following, place, append_assoc (take end units) (d ∷ []) (e ∷ []))
 
 -- a long is written as two, anything else as one
 pub two_entries : (v : Value) → units_of v ≡ 2 → argument_entries (v ∷ []) ≡ Holds v ∷ UpperHalf ∷ []
@@ -40,10 +51,12 @@ length-argument_entries (Int z ∷ vs) = let rest = length-argument_entries vs i
 length-argument_entries (Long z ∷ vs) = let rest = length-argument_entries vs in omega arith
 length-argument_entries (Ref r ∷ vs) = let rest = length-argument_entries vs in omega arith
 
-pub argument_entries-append : (vs ws : List Value) → argument_entries (vs ++ ws) ≡ argument_entries vs ++ argument_entries ws
+pub argument_entries-append : (vs ws : List Value) → argument_entries (vs ++ ws) ≡ argument_entries vs
+    ++ argument_entries ws
 argument_entries-append [] ws = refl
 argument_entries-append (Int z ∷ vs) ws = ap (λ (es : List Entry). Holds (Int z) ∷ es) (argument_entries-append vs ws)
-argument_entries-append (Long z ∷ vs) ws = ap (λ (es : List Entry). Holds (Long z) ∷ UpperHalf ∷ es) (argument_entries-append vs ws)
+argument_entries-append (Long z ∷ vs) ws = ap (λ (es : List Entry). Holds (Long z) ∷ UpperHalf ∷ es)
+    (argument_entries-append vs ws)
 argument_entries-append (Ref r ∷ vs) ws = ap (λ (es : List Entry). Holds (Ref r) ∷ es) (argument_entries-append vs ws)
 
 pub units_of_all-append : (vs ws : List Value) → units_of_all (vs ++ ws) ≡ units_of_all vs + units_of_all ws
@@ -51,14 +64,18 @@ units_of_all-append [] ws = omega arith
 units_of_all-append (v ∷ vs) ws = let rest = units_of_all-append vs ws in omega arith
 
 -- one value more between units
-pub values_between-more : (units : List Entry) (from i : ℕ) → from + i < length units → values_between units from (i + 1) ≡ values_between units from i ++ value_in (get_or units (from + i) Unset) ∷ []
+pub values_between-more : (units : List Entry) (from i : ℕ) → from + i < length units
+    → values_between units from (i + 1) ≡ values_between units from i ++ value_in (get_or units (from + i) Unset) ∷ []
 values_between-more units from i h =
-    let more : take (i + 1) (drop from units) ≡ take i (drop from units) ++ get_or (drop from units) i Unset ∷ [] = take_more (drop from units) i Unset (omega (arith, length-drop from units)) in
+    let more : take (i + 1) (drop from units) ≡ take i (drop from units) ++ get_or (drop from units) i Unset
+          ∷ [] = take_more (drop from units) i Unset (omega (arith, length-drop from units)) in
     rw (more, get_or-drop) (map_push value_in (take i (drop from units)) (get_or units (from + i) Unset))
 
-pub units_between_le : (units : List Entry) (from i count : ℕ) → i ≤ count → units_of_all (values_between units from i) ≤ units_of_all (values_between units from count)
+pub units_between_le : (units : List Entry) (from i count : ℕ) → i ≤ count
+    → units_of_all (values_between units from i) ≤ units_of_all (values_between units from count)
 units_between_le units from i count h =
-    let part : take i (values_between units from count) ≡ values_between units from i = take-map value_in i (take count (drop from units)) ∙ ap (map value_in) (take-take i count (drop from units) h) in
+    let part : take i (values_between units from count) ≡ values_between units from i = take-map value_in i
+          (take count (drop from units)) ∙ ap (map value_in) (take-take i count (drop from units) h) in
     let le = units_of_all-take_le (values_between units from count) i in
     omega (arith, ap units_of_all part)
 
@@ -67,35 +84,58 @@ pub record Copied (old : List Entry) (from base i : ℕ) (now : List Entry) (end
   pub items : now ≡ take base old ++ argument_entries (values_between old from i) ++ drop end old
   pub end_is : end ≡ base + units_of_all (values_between old from i)
 
-pub value_next : (old : List Entry) (from base i : ℕ) (now : List Entry) (end : ℕ) (e : Entry) → Copied old from base i now end → from + i < base → base ≤ length old → e ≡ get_or now (from + i) Unset → value_in e ≡ value_in (get_or old (from + i) Unset)
+pub value_next : (old : List Entry) (from base i : ℕ) (now : List Entry) (end : ℕ) (e : Entry)
+    → Copied old from base i now end → from + i < base → base ≤ length old → e ≡ get_or now (from + i) Unset
+    → value_in e ≡ value_in (get_or old (from + i) Unset)
 value_next old from base i now end e copied before fits read =
     let first : length (take base old) ≡ base = length-take-le base old fits in
-    let split : now ≡ take base old ++ (argument_entries (values_between old from i) ++ drop end old) = copied.items ∙ append_assoc (take base old) (argument_entries (values_between old from i)) (drop end old) in
-    let left : get_or now (from + i) Unset ≡ get_or (take base old) (from + i) Unset = ap (λ (es : List Entry). get_or es (from + i) Unset) split ∙ get_or_append_left (take base old) (argument_entries (values_between old from i) ++ drop end old) Unset (from + i) (omega arith) in
+    let split : now ≡ take base old ++ (argument_entries (values_between old from i) ++ drop end old) = copied.items
+          ∙ append_assoc (take base old) (argument_entries (values_between old from i)) (drop end old) in
+    let left : get_or now (from + i) Unset ≡ get_or (take base old) (from + i) Unset = ap
+          (λ (es : List Entry). get_or es (from + i) Unset) split
+          ∙ get_or_append_left (take base old) (argument_entries (values_between old from i) ++ drop end old) Unset
+          (from + i) (omega arith) in
     ap value_in (read ∙ (left ∙ get_or-take base old (from + i) Unset before))
 
-pub copied_next : (old : List Entry) (from base i : ℕ) (now after : List Entry) (end : ℕ) (v : Value) → Copied old from base i now end → from + i < base → base ≤ length old → end ≤ length old → v ≡ value_in (get_or old (from + i) Unset) → after ≡ take end now ++ argument_entries (v ∷ []) ++ drop (end + units_of v) now → Copied old from base (i + 1) after (end + units_of v)
+pub copied_next : (old : List Entry) (from base i : ℕ) (now after : List Entry) (end : ℕ) (v : Value)
+    → Copied old from base i now end → from + i < base → base ≤ length old → end ≤ length old
+    → v ≡ value_in (get_or old (from + i) Unset) → after ≡ take end now ++ argument_entries (v ∷ [])
+    ++ drop (end + units_of v) now → Copied old from base (i + 1) after (end + units_of v)
 copied_next old from base i now after end v copied before fits inside value put =
     let entries = argument_entries (values_between old from i) in
     let first : length (take base old) ≡ base = length-take-le base old fits in
-    let count : length entries ≡ units_of_all (values_between old from i) = length-argument_entries (values_between old from i) in
+    let count : length entries ≡ units_of_all (values_between old from i) = length-argument_entries
+          (values_between old from i) in
     let end_is = copied.end_is in
     let both : length (take base old ++ entries) ≡ end = omega (arith, length-append (take base old) entries) in
-    let head : take end now ≡ take base old ++ entries = ap (take end) copied.items ∙ take_at (take base old ++ entries) (drop end old) end both in
-    let tail : drop (end + units_of v) now ≡ drop (end + units_of v) old = ap (drop (end + units_of v)) copied.items ∙ (sym (drop-drop (units_of v) end (take base old ++ entries ++ drop end old)) ∙ (ap (drop (units_of v)) (drop_at (take base old ++ entries) (drop end old) end both) ∙ drop-drop (units_of v) end old)) in
-    let more : values_between old from (i + 1) ≡ values_between old from i ++ v ∷ [] = values_between-more old from i (omega arith) ∙ ap (λ (w : Value). values_between old from i ++ w ∷ []) (sym value) in
-    let all : argument_entries (values_between old from (i + 1)) ≡ entries ++ argument_entries (v ∷ []) = ap argument_entries more ∙ argument_entries-append (values_between old from i) (v ∷ []) in
-    let units : units_of_all (values_between old from (i + 1)) ≡ units_of_all (values_between old from i) + units_of_all (v ∷ []) = ap units_of_all more ∙ units_of_all-append (values_between old from i) (v ∷ []) in
+    let head : take end now ≡ take base old ++ entries = ap (take end) copied.items
+          ∙ take_at (take base old ++ entries) (drop end old) end both in
+    let tail : drop (end + units_of v) now ≡ drop (end + units_of v) old = ap (drop (end + units_of v)) copied.items
+          ∙ (sym (drop-drop (units_of v) end (take base old ++ entries ++ drop end old))
+          ∙ (ap (drop (units_of v)) (drop_at (take base old ++ entries) (drop end old) end both)
+          ∙ drop-drop (units_of v) end old)) in
+    let more : values_between old from (i + 1) ≡ values_between old from i ++ v ∷ [] = values_between-more old from i
+          (omega arith) ∙ ap (λ (w : Value). values_between old from i ++ w ∷ []) (sym value) in
+    let all : argument_entries (values_between old from (i + 1)) ≡ entries
+          ++ argument_entries (v ∷ []) = ap argument_entries more ∙ argument_entries-append (values_between old from i)
+          (v ∷ []) in
+    let units : units_of_all (values_between old from (i + 1)) ≡ units_of_all (values_between old from i) + units_of_all
+          (v ∷ []) = ap units_of_all more ∙ units_of_all-append (values_between old from i) (v ∷ []) in
     record {
       items = put ∙ rw (head, tail, all, append_assoc (take base old) entries (argument_entries (v ∷ [])));
       end_is = omega arith;
     }
 
 -- there is room for the next value
-pub room_for_copy : (old : List Entry) (from base i count end : ℕ) (v : Value) → base + units_of_all (values_between old from count) ≤ length old → i < count → from + i < length old → end ≡ base + units_of_all (values_between old from i) → v ≡ value_in (get_or old (from + i) Unset) → end + units_of v ≤ length old
+pub room_for_copy : (old : List Entry) (from base i count end : ℕ) (v : Value)
+    → base + units_of_all (values_between old from count) ≤ length old → i < count → from + i < length old
+    → end ≡ base + units_of_all (values_between old from i) → v ≡ value_in (get_or old (from + i) Unset)
+    → end + units_of v ≤ length old
 room_for_copy old from base i count end v fits within before end_is value =
-    let more : values_between old from (i + 1) ≡ values_between old from i ++ v ∷ [] = values_between-more old from i before ∙ ap (λ (w : Value). values_between old from i ++ w ∷ []) (sym value) in
-    let units : units_of_all (values_between old from (i + 1)) ≡ units_of_all (values_between old from i) + units_of_all (v ∷ []) = ap units_of_all more ∙ units_of_all-append (values_between old from i) (v ∷ []) in
+    let more : values_between old from (i + 1) ≡ values_between old from i ++ v ∷ [] = values_between-more old from i
+          before ∙ ap (λ (w : Value). values_between old from i ++ w ∷ []) (sym value) in
+    let units : units_of_all (values_between old from (i + 1)) ≡ units_of_all (values_between old from i) + units_of_all
+          (v ∷ []) = ap units_of_all more ∙ units_of_all-append (values_between old from i) (v ∷ []) in
     let le = units_between_le old from (i + 1) count (omega arith) in
     omega arith
 
@@ -104,59 +144,91 @@ room_for_copy old from base i count end v fits within before end_is value =
 pub record LaidOut (old now : List Entry) (from count base locals : ℕ) : Type 0 where
   pub long : length now ≡ length old
   pub same : take base old ≡ take base now
-  pub locals_are : take locals (drop base now) ≡ argument_entries (values_between old from count) ++ replicate (locals - units_of_all (values_between old from count)) Unset
+  pub locals_are : take locals (drop base now) ≡ argument_entries (values_between old from count)
+      ++ replicate (locals - units_of_all (values_between old from count)) Unset
 
-pub laid_out : (old now : List Entry) (from count base locals : ℕ) → base + locals ≤ length old → units_of_all (values_between old from count) ≤ locals → now ≡ take base old ++ (argument_entries (values_between old from count) ++ replicate (locals - units_of_all (values_between old from count)) Unset) ++ drop (base + locals) old → LaidOut old now from count base locals
+pub laid_out : (old now : List Entry) (from count base locals : ℕ) → base + locals ≤ length old
+    → units_of_all (values_between old from count) ≤ locals → now ≡ take base old
+    ++ (argument_entries (values_between old from count)
+    ++ replicate (locals - units_of_all (values_between old from count)) Unset) ++ drop (base + locals) old
+    → LaidOut old now from count base locals
 laid_out old now from count base locals fits enough is =
     let vs = values_between old from count in
     let entries = argument_entries vs ++ replicate (locals - units_of_all vs) Unset in
     let first : length (take base old) ≡ base = length-take-le base old (omega arith) in
-    let second : length entries ≡ locals = omega (arith, length-append (argument_entries vs) (replicate (locals - units_of_all vs) Unset), length-argument_entries vs, length-replicate (locals - units_of_all vs) Unset) in
+    let second : length entries
+          ≡ locals = omega (arith, length-append (argument_entries vs) (replicate (locals - units_of_all vs) Unset),
+          length-argument_entries vs, length-replicate (locals - units_of_all vs) Unset) in
     let rest : length (drop (base + locals) old) ≡ length old - (base + locals) = length-drop (base + locals) old in
-    let split : now ≡ take base old ++ (entries ++ drop (base + locals) old) = is ∙ append_assoc (take base old) entries (drop (base + locals) old) in
-    let all : length now ≡ length (take base old) + length (entries ++ drop (base + locals) old) = ap length split ∙ length-append (take base old) (entries ++ drop (base + locals) old) in
+    let split : now ≡ take base old ++ (entries ++ drop (base + locals) old) = is
+          ∙ append_assoc (take base old) entries (drop (base + locals) old) in
+    let all : length now ≡ length (take base old) + length (entries ++ drop (base + locals) old) = ap length split
+          ∙ length-append (take base old) (entries ++ drop (base + locals) old) in
     let some = length-append entries (drop (base + locals) old) in
     record {
       long = omega arith;
       same = rw (split, take_at (take base old) (entries ++ drop (base + locals) old) base first);
-      locals_are = rw (split, drop_at (take base old) (entries ++ drop (base + locals) old) base first, take_at entries (drop (base + locals) old) locals second);
+      locals_are = rw (split, drop_at (take base old) (entries ++ drop (base + locals) old) base first,
+          take_at entries (drop (base + locals) old) locals second);
     }
 
 -- the copied arguments, and then the unset entries
-pub laid_out_items : (old between after : List Entry) (from count base locals end : ℕ) → base + locals ≤ length old → units_of_all (values_between old from count) ≤ locals → end ≡ base + units_of_all (values_between old from count) → between ≡ take base old ++ argument_entries (values_between old from count) ++ drop (base + units_of_all (values_between old from count)) old → after ≡ take end between ++ replicate (base + locals - end) Unset ++ drop (end + (base + locals - end)) between → after ≡ take base old ++ (argument_entries (values_between old from count) ++ replicate (locals - units_of_all (values_between old from count)) Unset) ++ drop (base + locals) old
+pub laid_out_items : (old between after : List Entry) (from count base locals end : ℕ) → base + locals ≤ length old
+    → units_of_all (values_between old from count) ≤ locals → end ≡ base + units_of_all (values_between old from count)
+    → between ≡ take base old ++ argument_entries (values_between old from count)
+    ++ drop (base + units_of_all (values_between old from count)) old → after ≡ take end between
+    ++ replicate (base + locals - end) Unset ++ drop (end + (base + locals - end)) between → after ≡ take base old
+    ++ (argument_entries (values_between old from count)
+    ++ replicate (locals - units_of_all (values_between old from count)) Unset) ++ drop (base + locals) old
 laid_out_items old between after from count base locals end fits enough end_is copied is =
     let vs = values_between old from count in
     let entries = argument_entries vs in
     let first : length (take base old) ≡ base = length-take-le base old (omega arith) in
-    let both : length (take base old ++ entries) ≡ end = omega (arith, length-append (take base old) entries, length-argument_entries vs) in
-    let copy : between ≡ take base old ++ entries ++ drop end old = copied ∙ ap (λ (n : ℕ). take base old ++ entries ++ drop n old) (sym end_is) in
-    let head : take end between ≡ take base old ++ entries = ap (take end) copy ∙ take_at (take base old ++ entries) (drop end old) end both in
+    let both : length (take base old ++ entries) ≡ end = omega (arith, length-append (take base old) entries,
+          length-argument_entries vs) in
+    let copy : between ≡ take base old ++ entries ++ drop end old = copied
+          ∙ ap (λ (n : ℕ). take base old ++ entries ++ drop n old) (sym end_is) in
+    let head : take end between ≡ take base old ++ entries = ap (take end) copy
+          ∙ take_at (take base old ++ entries) (drop end old) end both in
     let many : base + locals - end ≡ locals - units_of_all vs = omega arith in
     let sum : end + (base + locals - end) ≡ end + (locals - units_of_all vs) = ap (λ (n : ℕ). end + n) many in
     let whole : end + (locals - units_of_all vs) ≡ base + locals = omega arith in
-    let tail : drop (end + (locals - units_of_all vs)) between ≡ drop (base + locals) old = ap (drop (end + (locals - units_of_all vs))) copy ∙ (sym (drop-drop (locals - units_of_all vs) end (take base old ++ entries ++ drop end old)) ∙ (ap (drop (locals - units_of_all vs)) (drop_at (take base old ++ entries) (drop end old) end both) ∙ (drop-drop (locals - units_of_all vs) end old ∙ ap (λ (n : ℕ). drop n old) whole))) in
+    let tail : drop (end + (locals - units_of_all vs)) between
+          ≡ drop (base + locals) old = ap (drop (end + (locals - units_of_all vs))) copy
+          ∙ (sym (drop-drop (locals - units_of_all vs) end (take base old ++ entries ++ drop end old))
+          ∙ (ap (drop (locals - units_of_all vs)) (drop_at (take base old ++ entries) (drop end old) end both)
+          ∙ (drop-drop (locals - units_of_all vs) end old ∙ ap (λ (n : ℕ). drop n old) whole))) in
     is ∙ rw (many, head, tail, append_assoc (take base old) entries (replicate (locals - units_of_all vs) Unset))
 
 -- ---- the arguments on a stack are those in its last units
 
-pub stack_of-between : (units : List Entry) (base n : ℕ) → base + n ≤ length units → stack_of units base n ≡ reverse (values_between units base n)
+pub stack_of-between : (units : List Entry) (base n : ℕ) → base + n ≤ length units → stack_of units base n
+    ≡ reverse (values_between units base n)
 stack_of-between units base zero h = refl
 stack_of-between units base (suc n) h =
-    let more : values_between units base (suc n) ≡ values_between units base n ++ value_in (get_or units (base + n) Unset) ∷ [] = rw (← add-one) (values_between-more units base n (omega arith)) in
-    rw (more, reverse-append) (ap (λ (vs : List Value). value_in (get_or units (base + n) Unset) ∷ vs) (stack_of-between units base n (omega arith)))
+    let more : values_between units base (suc n) ≡ values_between units base n
+          ++ value_in (get_or units (base + n) Unset)
+          ∷ [] = rw (← add-one) (values_between-more units base n (omega arith)) in
+    rw (more, reverse-append) (ap (λ (vs : List Value). value_in (get_or units (base + n) Unset) ∷ vs)
+        (stack_of-between units base n (omega arith)))
 
-pub take-stack_of : (units : List Entry) (base n k : ℕ) → k ≤ n → take k (stack_of units base n) ≡ stack_of units (base + (n - k)) k
+pub take-stack_of : (units : List Entry) (base n k : ℕ) → k ≤ n → take k (stack_of units base n)
+    ≡ stack_of units (base + (n - k)) k
 take-stack_of units base n zero h = refl
 take-stack_of units base zero (suc k) h = absurd (omega arith)
 take-stack_of units base (suc n) (suc k) h =
     let rest = take-stack_of units base n k (omega arith) in
     let less : suc n - suc k ≡ n - k = omega arith in
     let place : base + (n - k) + k ≡ base + n = omega arith in
-    let kept : take (suc k) (stack_of units base (suc n)) ≡ stack_of units (base + (n - k)) (suc k) = rw (rest, place) in
+    let kept : take (suc k) (stack_of units base (suc n)) ≡ stack_of units (base + (n - k)) (suc k) = rw (rest, place)
+          in
     kept ∙ ap (λ (m : ℕ). stack_of units (base + m) (suc k)) (sym less)
 
-pub arguments-between : (units : List Entry) (base n k : ℕ) → k ≤ n → base + n ≤ length units → reverse (take k (stack_of units base n)) ≡ values_between units (base + (n - k)) k
-arguments-between units base n k h fits = ap reverse (take-stack_of units base n k h ∙ stack_of-between units (base + (n - k)) k (omega arith)) ∙ reverse-reverse (values_between units (base + (n - k)) k)
+pub arguments-between : (units : List Entry) (base n k : ℕ) → k ≤ n → base + n ≤ length units
+    → reverse (take k (stack_of units base n)) ≡ values_between units (base + (n - k)) k
+arguments-between units base n k h fits = ap reverse (take-stack_of units base n k h
+    ∙ stack_of-between units (base + (n - k)) k (omega arith))
+    ∙ reverse-reverse (values_between units (base + (n - k)) k)
 
 pub units_of_all-reverse : (vs : List Value) → units_of_all (reverse vs) ≡ units_of_all vs
 units_of_all-reverse [] = refl

@@ -1,4 +1,5 @@
-use Rattle.std.specs.Prelude.{ℕ, zero, suc, ◌+◌, ◌-◌, ◌≤◌, List, [], ◌∷◌, ◌++◌, length, slice_index_or, slice_set, take, None}
+use Rattle.std.specs.Prelude.{ℕ, zero, suc, ◌+◌, ◌-◌, ◌≤◌, List, [], ◌∷◌, ◌++◌, length, slice_index_or, slice_set, take}
+use Rattle.std.specs.Prelude.{None}
 use Rattle.model.specs.declared.turns.Mark.TheVariants.{Unmarked}
 use Rattle.frames.specs.declared.activations.Activation.{Activation}
 
@@ -9,7 +10,8 @@ all_of below running (suc n) = take n below ++ running ∷ []
 
 -- where there is none, an activation that no program has
 abbrev pub no_activation : Activation
-no_activation = record { method = record { class = 0; method = 0 }; pc = 0; base = 0; locals = 0; values = 0; room = 0; taken = 0; monitor = None; mark = Unmarked }
+no_activation = record { method = record { class = 0; method = 0 }; pc = 0; base = 0; locals = 0; values = 0; room = 0;
+    taken = 0; monitor = None; mark = Unmarked }
 
 -- the last activation
 abbrev pub last_of : List Activation → Activation
@@ -18,7 +20,7 @@ last_of activations = slice_index_or activations (length activations - 1) no_act
 abbrev pub with_last : List Activation → Activation → List Activation
 with_last activations a = slice_set activations (length activations - 1) a
 
--- all but the running one stand below it, maybe with others behind them, and there is room for 256
+-- all but the running one stand below it, maybe with others after them, and there is room for 256
 pub record AreFew (below : List Activation) (count capacity : ℕ) : Type 0 where
   pub below_are : count - 1 ≤ length below
   pub count_is : count ≤ 256

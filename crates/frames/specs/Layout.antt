@@ -18,7 +18,8 @@ values_between units from count = map value_in (take count (drop from units))
 
 -- the frame that an activation stands for
 abbrev pub frame_of : List Entry → Activation → Frame
-frame_of units a = record { method = a.method; pc = a.pc; locals = take a.locals (drop a.base units); stack = stack_of units (a.base + a.locals) a.values; room = a.room; monitor = a.monitor; mark = a.mark }
+frame_of units a = record { method = a.method; pc = a.pc; locals = take a.locals (drop a.base units);
+    stack = stack_of units (a.base + a.locals) a.values; room = a.room; monitor = a.monitor; mark = a.mark }
 
 -- an activation begins at this unit, and its stack is within its room
 pub record Stands (units : List Entry) (base : ℕ) (a : Activation) : Type 0 where
@@ -26,10 +27,11 @@ pub record Stands (units : List Entry) (base : ℕ) (a : Activation) : Type 0 wh
   pub taken_is : a.taken ≡ units_of_all (stack_of units (a.base + a.locals) a.values)
   pub fits : a.taken ≤ a.room
 
--- activations stand one behind another from one unit to another
+-- activations stand one after another from one unit to another
 abbrev pub AreLaidOut : List Entry → ℕ → List Activation → ℕ → Type 0
 AreLaidOut units base [] end = base ≡ end
-AreLaidOut units base (a ∷ activations) end = Stands units base a × AreLaidOut units (base + a.locals + a.room) activations end
+AreLaidOut units base (a ∷ activations) end = Stands units base a
+    × AreLaidOut units (base + a.locals + a.room) activations end
 
 -- what is true of the parts of a thread's frames: so many units are used, and as many at least were reached, of 4,096
 pub record IsSound (units : List Entry) (activations : List Activation) (used : ℕ) : Type 0 where

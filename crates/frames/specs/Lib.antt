@@ -1,5 +1,5 @@
 pub mod Activations
 pub mod Heads
 pub mod Layout
-pub mod Told
+pub mod Reported
 pub mod Registers

@@ -32,7 +32,7 @@ fn settled(slot: Slot) -> Slot
     }
 }
 
-/// Writes the value of a slot as an argument from this unit on, and says behind which unit it ends.
+/// Writes the value of a slot as an argument from this unit on, and says after which unit it ends.
 #[inline(always)]
 fn put_argument(units: &mut Units, end: usize, slot: Slot) -> usize
     requires fits { end + units_taken (value_of slot) ≤ length units.old }
@@ -50,7 +50,7 @@ fn put_argument(units: &mut Units, end: usize, slot: Slot) -> usize
     end + 1
 }
 
-/// Copies so many values, which stand from one unit on, as arguments to another unit and on, and says behind which unit
+/// Copies so many values, which stand from one unit on, as arguments to another unit and on, and says after which unit
 /// they end.
 #[inline(always)]
 fn copy_arguments(units: &mut Units, from: usize, count: u16, base: usize) -> usize

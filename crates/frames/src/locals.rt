@@ -131,7 +131,7 @@ impl Frames {
         }
     }
 
-    /// Puts an entry at this index, and the upper half of a long behind it.
+    /// Puts an entry at this index, and the upper half of a long after it.
     #[inline(always)]
     fn set_two(&mut self, index: usize, slot: Slot)
         requires some { 0 < length self.old }

@@ -3,7 +3,7 @@ ghost use Rattle.std.specs.Prelude.{◌≡◌, ℕ, ◌+◌, ◌*◌, ◌<◌, �
 ghost use Rattle.model.specs.Frames.{running_frame, with_running, replaced, replaced_if_room, push_all};
 ghost use Rattle.model.specs.Values.{units_of as units_taken, units_of_all};
 ghost use Rattle.values.specs.Slots.{value_of};
-ghost use Rattle.frames.specs.Told.{told, moved_on};
+ghost use Rattle.frames.specs.Reported.{reported, moved_on};
 
 use crate::thread_frames::Frames;
 use model::turns::{Abrupt, Fault};
@@ -120,7 +120,7 @@ impl Frames {
     pub fn replace_slot_if_room(&mut self, next: u16, count: u8, slot: Slot) -> Result<(), Abrupt>
         requires some { 0 < length self.old }
         requires there { count ≤ length (running_frame self.old).stack }
-        ensures step { told result self.new ≡ moved_on self.old
+        ensures step { reported result self.new ≡ moved_on self.old
             (replaced_if_room next (running_frame self.old) count (value_of slot ∷ [])) }
         ensures kept { OnErr result (self.new ≡ self.old) }
     {
@@ -138,7 +138,7 @@ impl Frames {
     pub fn replace_if_room(&mut self, next: u16, count: u8, value: Value) -> Result<(), Abrupt>
         requires some { 0 < length self.old }
         requires there { count ≤ length (running_frame self.old).stack }
-        ensures step { told result self.new ≡ moved_on self.old
+        ensures step { reported result self.new ≡ moved_on self.old
             (replaced_if_room next (running_frame self.old) count (value ∷ [])) }
         ensures kept { OnErr result (self.new ≡ self.old) }
     {
@@ -168,7 +168,7 @@ impl Frames {
     ) -> Result<(), Abrupt>
         requires some { 0 < length self.old }
         requires there { count ≤ length (running_frame self.old).stack }
-        ensures step { told result self.new ≡ moved_on self.old
+        ensures step { reported result self.new ≡ moved_on self.old
             (replaced_if_room next (running_frame self.old) count values.now) }
         ensures kept { OnErr result (self.new ≡ self.old) }
     {

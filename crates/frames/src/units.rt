@@ -103,7 +103,7 @@ impl Units {
     }
 }
 
-/// These slots, and unset ones behind them, up to so many. There is room for them.
+/// These slots, and unset ones after them, up to so many. There is room for them.
 #[inline(never)]
 fn reached(slots: Vec<Slot>, count: usize) -> Vec<Slot>
     requires some { vec_len slots < count }

@@ -9,8 +9,9 @@ module _ {A : Type 0} (R : A → A → Type 0) where
   push (a ∷ xs) [] x y all last = absurd all
   push (a ∷ xs) (b ∷ ys) x y all last = (all.0, push xs ys x y all.1 last)
 
-  -- one more pair behind them
-  pub and_last : (all home xs ys : List A) (x y : A) → all ≡ xs ++ x ∷ [] → home ≡ ys ++ y ∷ [] → Pairwise R xs ys → R x y → Pairwise R all home
+  -- one more pair after them
+  pub and_last : (all home xs ys : List A) (x y : A) → all ≡ xs ++ x ∷ [] → home ≡ ys ++ y ∷ [] → Pairwise R xs ys
+      → R x y → Pairwise R all home
   and_last all home xs ys x y is was rest last = rw (is, was) (push xs ys x y rest last)
 
   pub as_long : (xs ys : List A) → Pairwise R xs ys → length ys ≡ length xs

@@ -1,5 +1,6 @@
 -- The seats that a board gives its workers can be taken along, and those that come home can be given back to it.
-use Rattle.std.proofs.Common.{◌≡◌, ◌<◌, ◌∙◌, ℕ, zero, suc, List, [], ◌∷◌, ◌++◌, length, get_or, All, refl, ap, sym, subst, arith, length-append}
+use Rattle.std.proofs.Common.{◌≡◌, ◌<◌, ◌∙◌, ℕ, zero, suc, List, [], ◌∷◌, ◌++◌, length, get_or, All, refl, ap, sym}
+use Rattle.std.proofs.Common.{subst, arith, length-append}
 use Rattle.std.proofs.lemmas.List.{get_or_push}
 use Rattle.std.specs.Prelude.{slice_get, Some}
 use Rattle.std.proofs.lemmas.Option.{slice_get-get_or, none-some}
@@ -19,21 +20,25 @@ record Left (xs : List BoardSeat) (i : ℕ) (home : BoardSeat) : Type 0 where
   at : slice_get xs i ≡ Some seat
   same : IsSameSeat seat home
 
-left : (xs ys : List BoardSeat) (i : ℕ) (y : BoardSeat) → Pairwise IsSameSeat xs ys → slice_get ys i ≡ Some y → Left xs i y
+left : (xs ys : List BoardSeat) (i : ℕ) (y : BoardSeat) → Pairwise IsSameSeat xs ys → slice_get ys i ≡ Some y
+    → Left xs i y
 left [] [] i y all at = absurd (none-some y at)
 left [] (b ∷ ys) i y all at = absurd all
 left (a ∷ xs) [] i y all at = absurd all
 left (a ∷ xs) (b ∷ ys) zero y all at = record { seat = a; at = refl; same = subst (IsSameSeat a) (inside b y at) all.0 }
-left (a ∷ xs) (b ∷ ys) (suc i) y all at = let l = left xs ys i y all.1 at in record { seat = l.seat; at = l.at; same = l.same }
+left (a ∷ xs) (b ∷ ys) (suc i) y all at = let l = left xs ys i y all.1 at in record { seat = l.seat; at = l.at;
+                                                same = l.same }
 
-module _ (board : Board) (seats home : List BoardSeat) (all : AreAllSeats board seats) (same : Pairwise IsSameSeat seats home) where
+module _ (board : Board) (seats home : List BoardSeat) (all : AreAllSeats board seats)
+    (same : Pairwise IsSameSeat seats home) where
   mine : (i : ℕ) (seat : BoardSeat) → slice_get home i ≡ Some seat → IsSeatOf board seat
   mine i y at =
       let l = left seats home i y same at in
       let m = all.mine i l.seat l.at in
       (l.same.0 ∙ m.0, subst (λ (w : ℕ). w < workers_of board) (sym l.same.1) m.1)
 
-  once : (i j : ℕ) (x y : BoardSeat) → slice_get home i ≡ Some x → slice_get home j ≡ Some y → worker_of x ≡ worker_of y → i ≡ j
+  once : (i j : ℕ) (x y : BoardSeat) → slice_get home i ≡ Some x → slice_get home j ≡ Some y → worker_of x ≡ worker_of y
+      → i ≡ j
   once i j x y at there e =
       let a = left seats home i x same at in
       let b = left seats home j y same there in
@@ -58,4 +63,5 @@ module _ {A : Type 0} where
   pub of_last : (P : A → Type 0) (all xs : List A) (x : A) → all ≡ xs ++ x ∷ [] → All P all → P x
   of_last P all xs x is h =
       let l = length-append xs (x ∷ []) in
-      subst P (ap (λ (zs : List A). get_or zs (length xs) x) is ∙ get_or_push xs x x (length xs) refl) (h (length xs) x (rw is (omega arith)))
+      subst P (ap (λ (zs : List A). get_or zs (length xs) x) is ∙ get_or_push xs x x (length xs) refl)
+          (h (length xs) x (rw is (omega arith)))

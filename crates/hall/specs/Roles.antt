@@ -1,5 +1,6 @@
 -- What a worker of a role does under the lock, on a world as contracts see it.
-use Rattle.std.specs.Prelude.{ℕ, zero, suc, ◌-◌, Bool, true, false, Option, Some, None, nat_lt, length, slice_get, if◌then◌else◌}
+use Rattle.std.specs.Prelude.{ℕ, zero, suc, ◌-◌, Bool, true, false, Option, Some, None, nat_lt, length, slice_get}
+use Rattle.std.specs.Prelude.{if◌then◌else◌}
 use Rattle.model.specs.declared.colours.Phase.{Phase}
 use Rattle.model.specs.declared.colours.Phase.TheVariants.{Idle, Statics, Frames, Mark, Append}
 use Rattle.model.specs.declared.journals.Row.{Row}
@@ -9,7 +10,8 @@ use Rattle.model.specs.declared.turns.Turn.{Turn}
 use Rattle.model.specs.declared.turns.Turn.TheVariants.{Done, NotReady, Stopped, Fault, OutputFull, StepLimit}
 use Rattle.model.specs.Machines.{Recorded, after_turn_by, answer_to}
 use Rattle.model.specs.Observers.{next_birth_of, phase_of, pick_of, status_of, is_running}
-use Rattle.scheduler.specs.Rounds.{answered_by, is_done, swept, turned_by, after_rounds as after_thread_rounds, rounds_answer as thread_rounds_answer}
+use Rattle.scheduler.specs.Rounds.{answered_by, is_done, swept, turned_by, after_rounds as after_thread_rounds}
+use Rattle.scheduler.specs.Rounds.{rounds_answer as thread_rounds_answer}
 use Rattle.hall.specs.declared.roles.Burst.{Burst}
 use Rattle.hall.specs.declared.roles.Role.{Role}
 use Rattle.hall.specs.declared.roles.Role.TheVariants.{Both, Carrier, Collector as Collecting}
@@ -53,7 +55,8 @@ swept_after StepLimit v worker gc = v
 abbrev pub after_allowed : Recorded → Role → ℕ → Recorded
 after_allowed v Carrier worker = turned_by v worker (pick_of v)
 after_allowed v Collecting worker = collected v worker
-after_allowed v (Both gc) worker = swept_after (answered_by v worker (pick_of v)) (turned_by v worker (pick_of v)) worker gc
+after_allowed v (Both gc) worker = swept_after (answered_by v worker (pick_of v)) (turned_by v worker (pick_of v))
+    worker gc
 
 abbrev pub answer_allowed : Recorded → Role → ℕ → Turn
 answer_allowed v Carrier worker = answered_by v worker (pick_of v)
@@ -75,7 +78,8 @@ done_so_far StepLimit = StepLimit
 abbrev pub after_more : Recorded → Role → ℕ → ℕ → Recorded
 after_more v role worker zero = v
 after_more v role worker (suc n) =
-    if is_done (answer_allowed v role worker) then after_more (after_allowed v role worker) role worker n else after_allowed v role worker
+    if is_done (answer_allowed v role worker) then after_more (after_allowed v role worker) role worker n
+        else after_allowed v role worker
 
 abbrev pub answer_more : Recorded → Role → ℕ → ℕ → Turn
 answer_more v role worker zero = Done
@@ -86,13 +90,15 @@ answer_more v role worker (suc n) =
 -- a round and, where it is done, so many more
 abbrev pub after_rounds : Recorded → Role → ℕ → ℕ → Recorded
 after_rounds v role worker extra =
-    if is_done (answer_allowed v role worker) then after_more (after_allowed v role worker) role worker extra else after_allowed v role worker
+    if is_done (answer_allowed v role worker) then after_more (after_allowed v role worker) role worker extra
+        else after_allowed v role worker
 
 abbrev pub answer_rounds : Recorded → Role → ℕ → ℕ → Turn
 answer_rounds v role worker extra =
-    if is_done (answer_allowed v role worker) then answer_more (after_allowed v role worker) role worker extra else answer_allowed v role worker
+    if is_done (answer_allowed v role worker) then answer_more (after_allowed v role worker) role worker extra
+        else answer_allowed v role worker
 
--- ---- a carrier's rounds behind its first, again and again while all were done and no collection is due
+-- ---- a carrier's rounds after its first, again and again while all were done and no collection is due
 
 -- whether rounds that answered this are followed by as many; a collection is due from the birth `due` on
 abbrev pub goes_on : Turn → ℕ → ℕ → Bool
@@ -103,25 +109,29 @@ abbrev pub after_bursts : Recorded → ℕ → ℕ → ℕ → ℕ → Recorded
 after_bursts v worker due extra zero = after_thread_rounds v worker 0 extra
 after_bursts v worker due extra (suc again) =
     if goes_on (thread_rounds_answer v worker 0 extra) (next_birth_of (after_thread_rounds v worker 0 extra)) due
-    then after_bursts (after_thread_rounds v worker 0 extra) worker due extra again else after_thread_rounds v worker 0 extra
+    then after_bursts (after_thread_rounds v worker 0 extra) worker due extra again
+        else after_thread_rounds v worker 0 extra
 
 abbrev pub answer_bursts : Recorded → ℕ → ℕ → ℕ → ℕ → Turn
 answer_bursts v worker due extra zero = done_so_far (thread_rounds_answer v worker 0 extra)
 answer_bursts v worker due extra (suc again) =
     if goes_on (thread_rounds_answer v worker 0 extra) (next_birth_of (after_thread_rounds v worker 0 extra)) due
-    then answer_bursts (after_thread_rounds v worker 0 extra) worker due extra again else done_so_far (thread_rounds_answer v worker 0 extra)
+    then answer_bursts (after_thread_rounds v worker 0 extra) worker due extra again
+        else done_so_far (thread_rounds_answer v worker 0 extra)
 
 abbrev pub after_carried : Recorded → ℕ → Burst → ℕ → Recorded
 after_carried v worker burst due =
-    if is_done (answer_allowed v Carrier worker) then after_bursts (after_allowed v Carrier worker) worker due burst.extra burst.again
+    if is_done (answer_allowed v Carrier worker) then after_bursts (after_allowed v Carrier worker) worker due
+        burst.extra burst.again
     else after_allowed v Carrier worker
 
 abbrev pub answer_carried : Recorded → ℕ → Burst → ℕ → Turn
 answer_carried v worker burst due =
-    if is_done (answer_allowed v Carrier worker) then answer_bursts (after_allowed v Carrier worker) worker due burst.extra burst.again
+    if is_done (answer_allowed v Carrier worker) then answer_bursts (after_allowed v Carrier worker) worker due
+        burst.extra burst.again
     else answer_allowed v Carrier worker
 
--- ---- a collector's turns behind its first, until a cycle ends, each if the world is running
+-- ---- a collector's turns after its first, until a cycle ends, each if the world is running
 
 abbrev pub is_idle : Phase → Bool
 is_idle Idle = true
@@ -147,7 +157,8 @@ cycled_after StepLimit v worker n = v
 
 abbrev pub after_known : Recorded → Role → ℕ → Burst → ℕ → Recorded
 after_known v Carrier worker burst due = after_carried v worker burst due
-after_known v Collecting worker burst due = cycled_after (collected_answer v worker) (collected v worker) worker burst.sweep
+after_known v Collecting worker burst due = cycled_after (collected_answer v worker) (collected v worker) worker
+    burst.sweep
 after_known v (Both gc) worker burst due = after_rounds v (Both gc) worker burst.extra
 
 abbrev pub answer_known : Recorded → Role → ℕ → Burst → ℕ → Turn
@@ -155,10 +166,11 @@ answer_known v Carrier worker burst due = answer_carried v worker burst due
 answer_known v Collecting worker burst due = collected_answer v worker
 answer_known v (Both gc) worker burst due = answer_rounds v (Both gc) worker burst.extra
 
--- the world after a turn of a role by a worker, with rounds behind the first as its burst says, and what it answers; a worker that
--- the journal doesn't know does nothing
+-- the world after a turn of a role by a worker, with rounds after the first as its burst says, and what it answers; a
+-- worker that the journal doesn't know does nothing
 unfoldable pub after_role : Recorded → Role → ℕ → Burst → ℕ → Recorded
 after_role v role worker burst due = if nat_lt worker v.journal.workers then after_known v role worker burst due else v
 
 unfoldable pub answer_role : Recorded → Role → ℕ → Burst → ℕ → Turn
-answer_role v role worker burst due = if nat_lt worker v.journal.workers then answer_known v role worker burst due else NotReady
+answer_role v role worker burst due = if nat_lt worker v.journal.workers then answer_known v role worker burst due
+    else NotReady

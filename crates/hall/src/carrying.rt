@@ -16,9 +16,9 @@ pub trait Gate {
     fn before(&self, worker: usize, turn: u64);
 }
 
-/// Takes turns of the share's role, each behind the gate and followed by a pulse where it was done, until a stop is
+/// Takes turns of the share's role, each after the gate and followed by a pulse where it was done, until a stop is
 /// asked, or the world isn't running, or the turn was `OutputFull`, `StepLimit` or `Stopped`; in these last cases it
-/// asks for a stop. Behind a thread's turn that was done it doesn't ask whether the world is running: where it isn't,
+/// asks for a stop. After a thread's turn that was done it doesn't ask whether the world is running: where it isn't,
 /// the next turn isn't done and tells it. Where its turn isn't ready it yields, a carrier until the collector has had
 /// one. It takes no memory.
 pub fn carry<L: Ledger, G: Gate, R: Wait>(

@@ -93,7 +93,7 @@ impl<L: Ledger> Shared<L> {
         }
     }
 
-    // The same of a collector. Behind a turn that was done the next collection is due later.
+    // The same of a collector. After a turn that was done the next collection is due later.
     #[inline(never)]
     fn turn_and_put_off(&mut self, share: &mut Share<L>) -> Turn
         ensures { Counts result share.old share.new }
@@ -115,7 +115,7 @@ impl<L: Ledger> Shared<L> {
         }
     }
 
-    // A turn as `turn_if_not_due` makes it, and what it comes to. Behind a thread's turn that was done the world isn't
+    // A turn as `turn_if_not_due` makes it, and what it comes to. After a thread's turn that was done the world isn't
     // asked whether it runs: where it doesn't, the next turn isn't done, and then it is asked.
     #[inline(always)]
     pub(crate) fn turn_and_upshot(&mut self, share: &mut Share<L>) -> Upshot
@@ -124,7 +124,7 @@ impl<L: Ledger> Shared<L> {
         match self.turn_if_not_due(share) {
             Turn::Done => Upshot {
                 done: true,
-                over: self.is_over_behind(share.role()),
+                over: self.is_over_after(share.role()),
             },
             Turn::NotReady | Turn::Fault(_) => Upshot {
                 done: false,
@@ -137,9 +137,9 @@ impl<L: Ledger> Shared<L> {
         }
     }
 
-    // Whether it is known behind a turn of this role that was done that no worker has more to do.
+    // Whether it is known after a turn of this role that was done that no worker has more to do.
     #[inline(always)]
-    fn is_over_behind(&self, role: Role) -> bool {
+    fn is_over_after(&self, role: Role) -> bool {
         match role {
             Role::Collector => !self.is_running(),
             Role::Both { .. } | Role::Carrier => false,

@@ -101,7 +101,7 @@ impl<L: Ledger> Hall<L> {
         Hall::in_bursts(alloc, blank, world, roles, SINGLE)
     }
 
-    /// The same with shares whose turns may have more rounds behind the first, so that a worker makes many rows each
+    /// The same with shares whose turns may have more rounds after the first, so that a worker makes many rows each
     /// time it gets the lock.
     pub fn in_bursts(
         alloc: Global,

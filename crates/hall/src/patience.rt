@@ -28,7 +28,7 @@ impl Patience {
         }
     }
 
-    // Called before each turn: a collector's turn that comes behind this look is seen by the wait.
+    // Called before each turn: a collector's turn that comes after this look is seen by the wait.
     pub(crate) fn look(&mut self, board: &Board, seat: &mut BoardSeat)
         requires { IsSeatOf board.now seat.old }
         ensures { IsSameSeat seat.old seat.new }

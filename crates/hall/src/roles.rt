@@ -11,15 +11,15 @@ pub enum Role {
     Collector,
 }
 
-/// How many rounds a worker makes behind the first one of a turn, each time it has the lock.
+/// How many rounds a worker makes after the first one of a turn, each time it has the lock.
 #[derive(Clone, Copy, Debug, PartialEq, Eq)]
 pub struct Burst {
-    /// So many rounds behind the first one, where the worker isn't a collector.
+    /// So many rounds after the first one, where the worker isn't a collector.
     pub extra: u32,
     /// So often a carrier makes as many again, each time only if all of the last ones were done and no collection is
     /// due.
     pub again: u32,
-    /// So many turns of a collector behind its first one, at most: a cycle's end is theirs.
+    /// So many turns of a collector after its first one, at most: a cycle's end is theirs.
     pub sweep: u32,
 }
 

@@ -10,7 +10,7 @@ use std::marker::Model;
 use std::sync::ledger;
 use std::sync::ledger::{Book, Ledger};
 
-/// A worker's share of the journal: its number, its role, which rounds it may make behind the first one of a turn, and
+/// A worker's share of the journal: its number, its role, which rounds it may make after the first one of a turn, and
 /// how many rows it has made. A contract sees these four.
 #[derive(Drop)]
 pub struct Share<L: Ledger> {
@@ -62,7 +62,7 @@ impl<L: Ledger> Share<L> {
         self.role
     }
 
-    /// Which rounds it may make behind the first one of a turn.
+    /// Which rounds it may make after the first one of a turn.
     pub fn burst(&self) -> Burst
         ensures { result ≡ self.now.burst }
     {

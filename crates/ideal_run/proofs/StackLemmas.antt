@@ -1,5 +1,6 @@
 -- stacks, top first
-use Rattle.std.proofs.Common.{◌≡◌, ℕ, ◌+◌, ◌-◌, ◌<◌, ◌≤◌, false, List, [], ◌∷◌, ◌++◌, length, get_or, drop, reverse, nat_le, refl, sym, ◌∙◌, ap, arith}
+use Rattle.std.proofs.Common.{◌≡◌, ℕ, ◌+◌, ◌-◌, ◌<◌, ◌≤◌, false, List, [], ◌∷◌, ◌++◌, length, get_or, drop, reverse}
+use Rattle.std.proofs.Common.{nat_le, refl, sym, ◌∙◌, ap, arith}
 use Rattle.std.proofs.lemmas.List.{drop_more}
 use Rattle.std.proofs.lemmas.Bool.Decides.{nat_tests}
 use Rattle.model.specs.declared.values.Value.{Value}
@@ -25,12 +26,16 @@ le_less u v left h = grind (arith, nat_tests)
 pub le_never : (u v left : ℕ) → left < u → nat_le (u + v) left ≡ false
 le_never u v left h = grind (arith, nat_tests)
 
-pub room-more : (vs : List Value) (i : ℕ) (d : Value) (left : ℕ) → i < length vs → units_of (get_or vs i d) ≤ left → nat_le (units_of_all (drop i vs)) left ≡ nat_le (units_of_all (drop (i + 1) vs)) (left - units_of (get_or vs i d))
+pub room-more : (vs : List Value) (i : ℕ) (d : Value) (left : ℕ) → i < length vs → units_of (get_or vs i d) ≤ left
+    → nat_le (units_of_all (drop i vs)) left ≡ nat_le (units_of_all (drop (i + 1) vs)) (left - units_of (get_or vs i d))
 room-more vs i d left h fits =
-    ap (λ (l : List Value). nat_le (units_of_all l) left) (drop_more vs i d h) ∙ le_less (units_of (get_or vs i d)) (units_of_all (drop (i + 1) vs)) left fits
+    ap (λ (l : List Value). nat_le (units_of_all l) left) (drop_more vs i d h)
+    ∙ le_less (units_of (get_or vs i d)) (units_of_all (drop (i + 1) vs)) left fits
 
-pub room-none : (vs : List Value) (i : ℕ) (d : Value) (left : ℕ) → i < length vs → left < units_of (get_or vs i d) → nat_le (units_of_all (drop i vs)) left ≡ false
+pub room-none : (vs : List Value) (i : ℕ) (d : Value) (left : ℕ) → i < length vs → left < units_of (get_or vs i d)
+    → nat_le (units_of_all (drop i vs)) left ≡ false
 room-none vs i d left h over =
-    ap (λ (l : List Value). nat_le (units_of_all l) left) (drop_more vs i d h) ∙ le_never (units_of (get_or vs i d)) (units_of_all (drop (i + 1) vs)) left over
+    ap (λ (l : List Value). nat_le (units_of_all l) left) (drop_more vs i d h)
+    ∙ le_never (units_of (get_or vs i d)) (units_of_all (drop (i + 1) vs)) left over
 
 pub ruleset stacks = (pushed, room-more, room-none)

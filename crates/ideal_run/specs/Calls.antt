@@ -29,12 +29,14 @@ monitor_wanted w monitor = option_map_or (monitor_of w) monitor free_monitor
 
 -- the frame of a call
 abbrev pub entered_frame : Site → ℕ → Option ℕ → CodeListing → MethodPlace → Frame
-entered_frame s n monitor code place = record (called_frame place code.max_locals code.max_stack (arguments_on n s.frame.stack)) { monitor = monitor }
+entered_frame s n monitor code place = record (called_frame place code.max_locals code.max_stack
+    (arguments_on n s.frame.stack)) { monitor = monitor }
 
 -- the caller without so many operands, and the frame of the call above it
 abbrev pub enters_with : Site → ℕ → Option ℕ → World → CodeListing → MethodPlace → Completion
 enters_with s n monitor after code place =
-    Goes (with_thread after s.thread (Live (with_running (frames_in s) (record s.frame { stack = drop n s.frame.stack }) ++ entered_frame s n monitor code place ∷ []))) []
+    Goes (with_thread after s.thread (Live (with_running (frames_in s) (record s.frame { stack = drop n s.frame.stack })
+    ++ entered_frame s n monitor code place ∷ []))) []
 
 -- which method is called on an object of a class
 abbrev pub found_for : Site → Invocation → Member → List ℕ → Option (Declared Method)

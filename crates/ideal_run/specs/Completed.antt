@@ -41,16 +41,16 @@ abbrev pub runs_on : World → World → ℕ → Frame → World
 runs_on w changed t f = with_thread changed t (Live (with_running (frames_at w t) f))
 
 -- a completion of the definitions, with no births written
-abbrev pub told : World → ℕ → Completion → completion.Completion
-told w t (code.Goes change step) = Goes (moved_to w (changed w t change) t step) []
-told w t (code.Starts birth f thread) = Goes (with_more (runs_on w (started_on w birth) t f) thread) []
-told w t (code.Prints f bytes) = Prints (runs_on w w t f) bytes.items
-told w t (code.Creates next taken contents) = Creates next taken (contents_in contents)
-told w t (code.Throws birth) = Throws birth
-told w t (code.Raises exception) = Raises exception
-told w t (code.Denies states) = Denies states.items
-told w t (code.Faults fault) = Faults fault
-told w t code.Waits = Waits
+abbrev pub reported : World → ℕ → Completion → completion.Completion
+reported w t (code.Goes change step) = Goes (moved_to w (changed w t change) t step) []
+reported w t (code.Starts birth f thread) = Goes (with_more (runs_on w (started_on w birth) t f) thread) []
+reported w t (code.Prints f bytes) = Prints (runs_on w w t f) bytes.items
+reported w t (code.Creates next taken contents) = Creates next taken (contents_in contents)
+reported w t (code.Throws birth) = Throws birth
+reported w t (code.Raises exception) = Raises exception
+reported w t (code.Denies states) = Denies states.items
+reported w t (code.Faults fault) = Faults fault
+reported w t code.Waits = Waits
 
 -- a completion without the births that are written on the way, which only a collector asks for
 abbrev pub plainly : completion.Completion → completion.Completion

@@ -7,4 +7,5 @@ use Rattle.model.specs.Initialisation.{declares_initializer}
 
 -- whether a class declares an initializer and is the class of a name or one of its superclasses
 abbrev pub is_initialised_for : List ClassListing → List ℕ → ClassListing → Bool
-is_initialised_for program name above = declares_initializer above && list_any (bytes_eq above.name) (superclasses program name)
+is_initialised_for program name above = declares_initializer above
+    && list_any (bytes_eq above.name) (superclasses program name)

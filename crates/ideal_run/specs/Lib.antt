@@ -11,6 +11,6 @@ pub mod Runs
 pub mod Started
 pub mod Steps
 pub mod Threads
-pub mod Told
+pub mod Reported
 pub mod Ways
 pub mod Whole

@@ -20,7 +20,8 @@ abbrev pub thread_of : MethodPlace → CodeListing → ℕ → Thread
 thread_of place code birth = Live (called_frame place code.max_locals code.max_stack (Ref (Some birth) ∷ []) ∷ [])
 
 abbrev pub thread_added_on : Site → ℕ → Thread → Completion
-thread_added_on s birth thread = Goes (with_more (with_frame (started_on s.world birth) s (replaced s.next s.frame 1 []).frame) thread) []
+thread_added_on s birth thread = Goes
+    (with_more (with_frame (started_on s.world birth) s (replaced s.next s.frame 1 []).frame) thread) []
 
 abbrev pub begins_on : Site → ℕ → Callee → Completion
 begins_on s birth NoCode = Faults NoMethod

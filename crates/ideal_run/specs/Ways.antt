@@ -20,8 +20,16 @@ response_in response.Fails = Fails
 response_in response.Leaves = Leaves
 
 abbrev pub way_at : List Frame → ℕ → Landing → unwinding.Way
-way_at frames below (landing.Handled handler) = record { landing = Handled handler (slice_index_or frames below no_frame) (reverse (take below frames)); left = reverse (drop (below + 1) frames) }
-way_at frames below landing.Stopped = record { landing = Stopped (slice_index_or frames below no_frame) (reverse (take below frames)); left = reverse (drop (below + 1) frames) }
+way_at frames below (landing.Handled handler) = record {
+  landing = Handled handler
+      (slice_index_or frames below no_frame) (reverse (take below frames));
+  left = reverse (drop (below + 1) frames);
+}
+way_at frames below landing.Stopped = record {
+  landing = Stopped (slice_index_or frames below no_frame)
+      (reverse (take below frames));
+  left = reverse (drop (below + 1) frames);
+}
 way_at frames below landing.Unhandled = record { landing = Unhandled; left = reverse frames }
 
 abbrev pub way_in : List Frame → Way → unwinding.Way

@@ -9,7 +9,7 @@ ghost use Rattle.model.specs.Table.Arrays.{storage_in, element_put, array_operat
 ghost use Rattle.model.specs.Frames.{both, int_on, ref_on};
 ghost use Rattle.model.specs.Views.{contents_in};
 ghost use Rattle.model.specs.Words.{contents_at, contents_if};
-ghost use Rattle.ideal_run.specs.Completed.{told, plainly};
+ghost use Rattle.ideal_run.specs.Completed.{reported, plainly};
 ghost use Rattle.ideal_run.specs.Elements.{made_array, length_in};
 
 use crate::completions::{Change, Completion, Site, completes_abruptly, raises};
@@ -65,9 +65,9 @@ fn unwritten(alloc: Global, element: &[u8], n: usize) -> Result<ContentsView, Al
     })
 }
 
-/// An array of so many elements; a negative size is told before a cell is asked for.
+/// An array of so many elements; a negative size is reported before a cell is asked for.
 fn array_made(site: &Site<'_, '_>, element: &[u8]) -> Result<Completion, AllocError>
-    ensures { IfOk result (λ c. told site.now.world site.now.thread c
+    ensures { IfOk result (λ c. reported site.now.world site.now.thread c
         ≡ plainly (array_made site.now element.now (int_on site.now.frame.stack))) }
 {
     match int_on(site.stack()) {
@@ -106,7 +106,7 @@ fn int_of(number: usize) -> Result<i32, AllocError>
 }
 
 fn length_of(site: &Site<'_, '_>, birth: u32) -> Result<Completion, AllocError>
-    ensures { IfOk result (λ c. told site.now.world site.now.thread c
+    ensures { IfOk result (λ c. reported site.now.world site.now.thread c
         ≡ plainly (length_of site.now (contents_at site.now.world birth))) }
 {
     match length_in(site.world().object_at(birth)) {
@@ -116,7 +116,7 @@ fn length_of(site: &Site<'_, '_>, birth: u32) -> Result<Completion, AllocError>
 }
 
 fn measured(site: &Site<'_, '_>) -> Result<Completion, AllocError>
-    ensures { IfOk result (λ c. told site.now.world site.now.thread c ≡ plainly (array_operated site.now Length)) }
+    ensures { IfOk result (λ c. reported site.now.world site.now.thread c ≡ plainly (array_operated site.now Length)) }
 {
     match ref_on(site.stack()) {
         Err(fault) => Ok(Completion::Faults(fault)),
@@ -208,7 +208,8 @@ fn index_and_array(stack: &[Value]) -> Result<(i32, Option<u32>), Fault>
 
 #[tactic(auto, using(crate::proofs::PlainLemmas::plain))]
 fn loaded(site: &Site<'_, '_>, kind: ElementKind) -> Result<Completion, AllocError>
-    ensures { IfOk result (λ c. told site.now.world site.now.thread c ≡ plainly (array_operated site.now (Load kind))) }
+    ensures { IfOk result (λ c. reported site.now.world site.now.thread c
+        ≡ plainly (array_operated site.now (Load kind))) }
 {
     match index_and_array(site.stack()) {
         Err(fault) => Ok(Completion::Faults(fault)),
@@ -267,7 +268,7 @@ fn element_put(
     birth: u32,
     place: usize,
 ) -> Result<Completion, AllocError>
-    ensures { IfOk result (λ c. told site.now.world site.now.thread c
+    ensures { IfOk result (λ c. reported site.now.world site.now.thread c
         ≡ plainly (element_put site.now (storage_in kind) value (Ok (birth, place)))) }
 {
     if may_hold(site, birth, value)? {
@@ -281,7 +282,7 @@ fn element_put(
 /// The value lies above the index.
 #[tactic(auto, using(crate::proofs::PlainLemmas::plain))]
 fn array_stored(site: &Site<'_, '_>, kind: ElementKind) -> Result<Completion, AllocError>
-    ensures { IfOk result (λ c. told site.now.world site.now.thread c
+    ensures { IfOk result (λ c. reported site.now.world site.now.thread c
         ≡ plainly (array_operated site.now (Store kind))) }
 {
     match value_on(descriptor_kind(letter_for(kind)), site.stack()) {
@@ -301,7 +302,7 @@ pub fn array_operated(
     site: &Site<'_, '_>,
     operation: &ArrayOperation<Name>,
 ) -> Result<Completion, AllocError>
-    ensures { IfOk result (λ c. told site.now.world site.now.thread c
+    ensures { IfOk result (λ c. reported site.now.world site.now.thread c
         ≡ plainly (array_operated site.now operation.now)) }
 {
     match operation {

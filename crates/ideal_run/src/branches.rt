@@ -3,7 +3,7 @@ ghost use Rattle.std.specs.Prelude.{◌≡◌, IfOk};
 ghost use Rattle.model.specs.Table.Branches.{same_reference, identity_holds, zero_test, ints_test, refs_test};
 ghost use Rattle.model.specs.Table.Branches.{null_test, branch_pc, branched_on, branched};
 ghost use Rattle.model.specs.Frames.{int_on, two_ints_on, ref_on, two_refs_on};
-ghost use Rattle.ideal_run.specs.Told.{frame_in};
+ghost use Rattle.ideal_run.specs.Reported.{frame_in};
 
 use crate::frames::{Frame, Moved, faulted, moved};
 use crate::operands::{int_on, ref_on, two_ints_on, two_refs_on};

@@ -3,7 +3,7 @@ ghost use Rattle.std.specs.Prelude.{◌≡◌, IfOk};
 ghost use Rattle.model.specs.Printing.{decimal_line, low_byte};
 ghost use Rattle.model.specs.Table.Builtins.{builtin_call};
 ghost use Rattle.model.specs.declared.builtins.Builtin.TheVariants.{PrintInt, PrintLong, PutByte};
-ghost use Rattle.ideal_run.specs.Completed.{told, plainly, prints_in};
+ghost use Rattle.ideal_run.specs.Completed.{reported, plainly, prints_in};
 
 use crate::completions::{Change, Completion, Site};
 use crate::frames::replaced;
@@ -42,14 +42,14 @@ fn low_byte(alloc: Global, int: i32) -> Result<Vec<u8>, AllocError>
 
 /// The operand goes once the bytes are printed.
 fn prints(site: &Site<'_, '_>, bytes: Vec<u8>) -> Result<Completion, AllocError>
-    ensures { IfOk result (λ c. told site.now.world site.now.thread c ≡ prints_in site.now bytes.items) }
+    ensures { IfOk result (λ c. reported site.now.world site.now.thread c ≡ prints_in site.now bytes.items) }
 {
     let frame = replaced(site.alloc(), site.next(), site.frame(), 1, &[])?;
     Ok(Completion::Prints(frame, bytes))
 }
 
 fn print_int(site: &Site<'_, '_>) -> Result<Completion, AllocError>
-    ensures { IfOk result (λ c. told site.now.world site.now.thread c ≡ plainly (builtin_call site.now PrintInt)) }
+    ensures { IfOk result (λ c. reported site.now.world site.now.thread c ≡ plainly (builtin_call site.now PrintInt)) }
 {
     match int_on(site.stack()) {
         Err(fault) => Ok(Completion::Faults(fault)),
@@ -58,7 +58,7 @@ fn print_int(site: &Site<'_, '_>) -> Result<Completion, AllocError>
 }
 
 fn print_long(site: &Site<'_, '_>) -> Result<Completion, AllocError>
-    ensures { IfOk result (λ c. told site.now.world site.now.thread c ≡ plainly (builtin_call site.now PrintLong)) }
+    ensures { IfOk result (λ c. reported site.now.world site.now.thread c ≡ plainly (builtin_call site.now PrintLong)) }
 {
     match long_on(site.stack()) {
         Err(fault) => Ok(Completion::Faults(fault)),
@@ -67,7 +67,7 @@ fn print_long(site: &Site<'_, '_>) -> Result<Completion, AllocError>
 }
 
 fn put_byte(site: &Site<'_, '_>) -> Result<Completion, AllocError>
-    ensures { IfOk result (λ c. told site.now.world site.now.thread c ≡ plainly (builtin_call site.now PutByte)) }
+    ensures { IfOk result (λ c. reported site.now.world site.now.thread c ≡ plainly (builtin_call site.now PutByte)) }
 {
     match int_on(site.stack()) {
         Err(fault) => Ok(Completion::Faults(fault)),
@@ -77,7 +77,7 @@ fn put_byte(site: &Site<'_, '_>) -> Result<Completion, AllocError>
 
 /// A call of one of the machine's own methods. `AllocError` where memory runs out.
 pub fn builtin_call(site: &Site<'_, '_>, builtin: Builtin) -> Result<Completion, AllocError>
-    ensures { IfOk result (λ c. told site.now.world site.now.thread c ≡ plainly (builtin_call site.now builtin)) }
+    ensures { IfOk result (λ c. reported site.now.world site.now.thread c ≡ plainly (builtin_call site.now builtin)) }
 {
     match builtin {
         Builtin::PrintInt => print_int(site),

@@ -4,7 +4,7 @@ ghost use Rattle.std.specs.Option.{option_copied};
 ghost use Rattle.model.specs.Completions as completion;
 ghost use Rattle.model.specs.Initialisation.{with_states};
 ghost use Rattle.model.specs.Table.Initialisation.{claims, initialises_chain, after_initialising};
-ghost use Rattle.ideal_run.specs.Completed.{told, plainly};
+ghost use Rattle.ideal_run.specs.Completed.{reported, plainly};
 ghost use Rattle.ideal_run.specs.Claimed.{claimed_at, comes_before};
 
 use crate::calls::are_within_limits;
@@ -30,7 +30,7 @@ fn states_with(
 
 /// The thread runs these classes' initializers, the last one first; without room for their frames nothing is claimed.
 fn claims_with(site: &Site<'_, '_>, classes: &[usize]) -> Result<Completion, AllocError>
-    ensures { IfOk result (λ c. told site.now.world site.now.thread c ≡ plainly (claimed_at site.now classes.now)) }
+    ensures { IfOk result (λ c. reported site.now.world site.now.thread c ≡ plainly (claimed_at site.now classes.now)) }
 {
     let alloc = site.alloc();
     let above = claim_frames(alloc, site.program(), classes)?;

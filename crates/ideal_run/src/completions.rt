@@ -3,8 +3,8 @@ ghost use Rattle.std.specs.Prelude.{◌≡◌, ◌∷◌, [], ℕ, Ok, Some, IfO
 ghost use Rattle.model.specs.Worlds.{World};
 ghost use Rattle.model.specs.Completions.{raises, completes_abruptly, frames_in};
 ghost use Rattle.model.specs.Frames.{running, replaced, replaced_if_room};
-ghost use Rattle.ideal_run.specs.Completed.{told, changed, completes_with, pops_in};
-ghost use Rattle.ideal_run.specs.Told.{frame_in};
+ghost use Rattle.ideal_run.specs.Completed.{reported, changed, completes_with, pops_in};
+ghost use Rattle.ideal_run.specs.Reported.{frame_in};
 
 use crate::frames::{Frame, Moved, replaced, replaced_if_room};
 use crate::programs::Program;
@@ -53,7 +53,7 @@ pub enum Completion {
     Waits,
 }
 
-/// A thread's turn as it begins: its running frame stands at an instruction, behind which is the next.
+/// A thread's turn as it begins: its running frame stands at an instruction, after which is the next.
 #[derive(Drop)]
 pub struct Site<'s, 'p> {
     pub alloc: Global,
@@ -126,7 +126,7 @@ impl<'s, 'p> Site<'s, 'p> {
         &frame.stack
     }
 
-    /// The pc behind the instruction.
+    /// The pc after the instruction.
     pub fn next(&self) -> u16
         ensures { result ≡ self.now.next }
     {
@@ -142,7 +142,7 @@ impl<'s, 'p> Site<'s, 'p> {
 
     /// An instruction that changes the running frame alone.
     pub fn completes(&self, moved: Moved) -> Completion
-        ensures { told self.now.world self.now.thread result ≡ completes_with self.now moved }
+        ensures { reported self.now.world self.now.thread result ≡ completes_with self.now moved }
     {
         match moved {
             Ok(frame) => Completion::Goes(Change::Nothing, Step::Runs(frame)),
@@ -152,7 +152,7 @@ impl<'s, 'p> Site<'s, 'p> {
 
     /// A value in place of so many operands. `AllocError` where memory runs out.
     pub fn pushes(&self, n: usize, value: Value) -> Result<Completion, AllocError>
-        ensures { IfOk result (λ c. told self.now.world self.now.thread c
+        ensures { IfOk result (λ c. reported self.now.world self.now.thread c
             ≡ completes_with self.now (Ok (replaced self.now.next self.now.frame n (value ∷ [])).frame)) }
     {
         let frame = replaced(self.alloc(), self.next(), self.frame(), n, &[value])?;
@@ -161,7 +161,7 @@ impl<'s, 'p> Site<'s, 'p> {
 
     /// The same where the value has room, else F2. `AllocError` where memory runs out.
     pub fn pushes_if_room(&self, n: usize, value: Value) -> Result<Completion, AllocError>
-        ensures { IfOk result (λ c. told self.now.world self.now.thread c
+        ensures { IfOk result (λ c. reported self.now.world self.now.thread c
             ≡ completes_with self.now (frame_in (replaced_if_room self.now.next self.now.frame n (value ∷ [])))) }
     {
         let moved = replaced_if_room(self.alloc(), self.next(), self.frame(), n, &[value])?;
@@ -170,7 +170,7 @@ impl<'s, 'p> Site<'s, 'p> {
 
     /// So many operands go, and something changes beside the thread. `AllocError` where memory runs out.
     pub fn pops(&self, n: usize, change: Change) -> Result<Completion, AllocError>
-        ensures { IfOk result (λ c. told self.now.world self.now.thread c
+        ensures { IfOk result (λ c. reported self.now.world self.now.thread c
             ≡ pops_in self.now n (changed self.now.world self.now.thread change)) }
     {
         let frame = replaced(self.alloc(), self.next(), self.frame(), n, &[])?;
@@ -180,7 +180,7 @@ impl<'s, 'p> Site<'s, 'p> {
 
 /// An exception that the machine makes. StackOverflowError was made before the run, with birth 2.
 pub fn raises(exception: Exception) -> Completion
-    ensures { (w : World) (t : ℕ) → told w t result ≡ raises exception }
+    ensures { (w : World) (t : ℕ) → reported w t result ≡ raises exception }
 {
     match exception {
         Exception::StackOverflow => Completion::Throws(2),
@@ -199,7 +199,7 @@ pub fn raises(exception: Exception) -> Completion
 
 /// What an instruction that completes abruptly comes to.
 pub fn completes_abruptly(abrupt: Abrupt) -> Completion
-    ensures { (w : World) (t : ℕ) → told w t result ≡ completes_abruptly abrupt }
+    ensures { (w : World) (t : ℕ) → reported w t result ≡ completes_abruptly abrupt }
 {
     match abrupt {
         Abrupt::Fault(fault) => Completion::Faults(fault),

@@ -1,7 +1,7 @@
 //! The instructions that push a constant (JVMS 6.5).
 ghost use Rattle.std.specs.Prelude.{◌≡◌, IfOk};
 ghost use Rattle.model.specs.Table.Constants.{small_int, small_long, constant_value, constant};
-ghost use Rattle.ideal_run.specs.Told.{frame_in};
+ghost use Rattle.ideal_run.specs.Reported.{frame_in};
 
 use crate::frames::{Frame, Moved, replaced_if_room};
 use model::instructions::{Constant, SmallInt, SmallLong};

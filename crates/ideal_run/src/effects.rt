@@ -8,7 +8,7 @@ ghost use Rattle.model.specs.Table.Threads.{with_more};
 ghost use Rattle.model.specs.Unwinding.{thrown};
 ghost use Rattle.model.specs.Views.{contents_in};
 ghost use Rattle.model.specs.Worlds.{plain_object, frames_at};
-ghost use Rattle.ideal_run.specs.Completed.{told, changed, initialised_in, moved_to, runs_on};
+ghost use Rattle.ideal_run.specs.Completed.{reported, changed, initialised_in, moved_to, runs_on};
 ghost use Rattle.ideal_run.specs.Effected.{choice_in, with_states_in, with_new_if, frame_with, printed};
 ghost use Rattle.ideal_run.specs.Steps.{started_on};
 
@@ -314,7 +314,7 @@ pub fn carry_out(
     completion: Completion,
 ) -> Result<(), AllocError>
     ensures { OnOk result (world.new ≡ (effect_of program.now world.old thread (choice_in choice)
-        (told world.old thread completion)).after) }
+        (reported world.old thread completion)).after) }
 {
     match completion {
         Completion::Goes(changes, step) => goes(world, alloc, thread, changes, step),

@@ -2,7 +2,7 @@
 ghost use Rattle.std.specs.Prelude.{◌≡◌, IfOk};
 ghost use Rattle.model.specs.Table.Fields.{word_place, field_place, word_got, word_put, field_accessed};
 ghost use Rattle.model.specs.declared.instructions.Access.TheVariants.{Get, Put};
-ghost use Rattle.ideal_run.specs.Completed.{told, plainly};
+ghost use Rattle.ideal_run.specs.Completed.{reported, plainly};
 
 use crate::completions::{Change, Completion, Site, raises};
 use crate::frames::below;
@@ -42,7 +42,7 @@ fn field_place(
 
 #[tactic(auto, using(crate::proofs::PlainLemmas::plain))]
 fn word_got(site: &Site<'_, '_>, member: &Member, birth: u32) -> Result<Completion, AllocError>
-    ensures { IfOk result (λ c. told site.now.world site.now.thread c
+    ensures { IfOk result (λ c. reported site.now.world site.now.thread c
         ≡ plainly (word_got site.now birth (field_place site.now member.now birth))) }
 {
     match field_place(site, member, birth)? {
@@ -57,7 +57,7 @@ fn word_put(
     value: Value,
     birth: u32,
 ) -> Result<Completion, AllocError>
-    ensures { IfOk result (λ c. told site.now.world site.now.thread c
+    ensures { IfOk result (λ c. reported site.now.world site.now.thread c
         ≡ plainly (word_put site.now member.now.descriptor value birth (field_place site.now member.now birth))) }
 {
     match field_place(site, member, birth)? {
@@ -71,7 +71,7 @@ fn word_put(
 
 /// A field is read: a null, then F6, then F2.
 fn field_got(site: &Site<'_, '_>, member: &Member) -> Result<Completion, AllocError>
-    ensures { IfOk result (λ c. told site.now.world site.now.thread c
+    ensures { IfOk result (λ c. reported site.now.world site.now.thread c
         ≡ plainly (field_accessed site.now Get member.now)) }
 {
     match ref_on(site.stack()) {
@@ -83,7 +83,7 @@ fn field_got(site: &Site<'_, '_>, member: &Member) -> Result<Completion, AllocEr
 
 /// A field is written: the value lies above the object.
 fn field_put(site: &Site<'_, '_>, member: &Member) -> Result<Completion, AllocError>
-    ensures { IfOk result (λ c. told site.now.world site.now.thread c
+    ensures { IfOk result (λ c. reported site.now.world site.now.thread c
         ≡ plainly (field_accessed site.now Put member.now)) }
 {
     let kind = descriptor_kind(member.descriptor.as_bytes());
@@ -103,7 +103,7 @@ pub fn field_accessed(
     access: Access,
     member: &Member,
 ) -> Result<Completion, AllocError>
-    ensures { IfOk result (λ c. told site.now.world site.now.thread c
+    ensures { IfOk result (λ c. reported site.now.world site.now.thread c
         ≡ plainly (field_accessed site.now access member.now)) }
 {
     match access {

@@ -3,7 +3,7 @@ ghost use Rattle.std.specs.Prelude.{◌≡◌, ◌∷◌, [], IfOk, Ok, Err, nat
 ghost use Rattle.model.specs.declared.turns.Abrupt.TheVariants.{Fault as Faulted};
 ghost use Rattle.model.specs.Values.{units_of, units_of_all};
 ghost use Rattle.model.specs.Frames.{push_all, replaced, replaced_if_room};
-ghost use Rattle.ideal_run.specs.Told.{frame_in};
+ghost use Rattle.ideal_run.specs.Reported.{frame_in};
 
 use model::places::MethodPlace;
 use model::turns::{Abrupt, Fault, Mark};

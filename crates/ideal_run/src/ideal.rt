@@ -2,7 +2,7 @@
 ghost use Rattle.std.specs.Prelude.{◌≡◌, ◌<◌, ℕ, IfOk, OnOk, None, true, false};
 ghost use Rattle.model.specs.Turns.{ideal_step};
 ghost use Rattle.model.specs.declared.turns.Actor.TheVariants.{Thread as ThreadActor};
-ghost use Rattle.ideal_run.specs.Completed.{told};
+ghost use Rattle.ideal_run.specs.Completed.{reported};
 ghost use Rattle.ideal_run.specs.Effected.{choice_in, refuses};
 ghost use Rattle.ideal_run.specs.Runs.{AreOpened, run_after};
 
@@ -38,7 +38,7 @@ impl<'a> Model for Ideal<'a> {
 
 /// Whether a completion refuses the turn of a thread that lives: it waits, or prints more than the output has room for.
 fn is_refused(limits: Limits, world: &World, completion: &Completion) -> bool
-    ensures { (t : ℕ) → result ≡ refuses limits world.now (told world.now t completion.now) }
+    ensures { (t : ℕ) → result ≡ refuses limits world.now (reported world.now t completion.now) }
 {
     match completion {
         Completion::Waits => true,

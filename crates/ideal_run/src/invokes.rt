@@ -11,7 +11,7 @@ ghost use Rattle.model.specs.Monitors.{is_full, may_enter};
 ghost use Rattle.model.specs.declared.instructions.Invocation.TheVariants.{Static};
 ghost use Rattle.ideal_run.specs.Called.{callee_in};
 ghost use Rattle.ideal_run.specs.Calls.{monitor_called, monitor_wanted, enters_with, found_for, found_by};
-ghost use Rattle.ideal_run.specs.Completed.{told, plainly, changed};
+ghost use Rattle.ideal_run.specs.Completed.{reported, plainly, changed};
 ghost use Rattle.ideal_run.specs.Steps.{monitor_in};
 
 use crate::builtins::builtin_call;
@@ -151,7 +151,7 @@ fn enters_frame(
     place: MethodPlace,
 ) -> Result<Completion, AllocError>
     requires { caller.now ≡ site.now.frame }
-    ensures { IfOk result (λ c. told site.now.world site.now.thread c
+    ensures { IfOk result (λ c. reported site.now.world site.now.thread c
         ≡ enters_with site.now n monitor (changed site.now.world site.now.thread entry) code.now place) }
 {
     let alloc = site.alloc();
@@ -180,7 +180,7 @@ fn enters_tested(
     requires room { has_room_for (frames_in site.now) code.now.max_locals code.now.max_stack ≡ true }
     requires count { is_full (monitor_in monitor) ≡ false }
     requires operands { n ≡ arguments_in member.now + option_len object }
-    ensures { IfOk result (λ c. told site.now.world site.now.thread c
+    ensures { IfOk result (λ c. reported site.now.world site.now.thread c
         ≡ plainly (enters_method (record { site = site.now; member = member.now; object = object })
         (record { method = method.now; code = code.now; place = place }))) }
 {
@@ -201,7 +201,7 @@ fn enters_method(
     code: &Code,
     place: MethodPlace,
 ) -> Result<Completion, AllocError>
-    ensures { IfOk result (λ c. told site.now.world site.now.thread c
+    ensures { IfOk result (λ c. reported site.now.world site.now.thread c
         ≡ plainly (enters_method (record { site = site.now; member = member.now; object = object })
         (record { method = method.now; code = code.now; place = place }))) }
 {
@@ -227,7 +227,7 @@ fn called(
     object: Option<u32>,
     callee: Callee<'_>,
 ) -> Result<Completion, AllocError>
-    ensures { IfOk result (λ c. told site.now.world site.now.thread c
+    ensures { IfOk result (λ c. reported site.now.world site.now.thread c
         ≡ plainly (called (record { site = site.now; member = member.now; object = object })
         (callee_in callee.entry))) }
 {
@@ -242,7 +242,8 @@ fn called(
 
 /// A static method is called.
 fn static_called(site: &Site<'_, '_>, member: &Member) -> Result<Completion, AllocError>
-    ensures { IfOk result (λ c. told site.now.world site.now.thread c ≡ plainly (invoked site.now Static member.now)) }
+    ensures { IfOk result (λ c. reported site.now.world site.now.thread c
+        ≡ plainly (invoked site.now Static member.now)) }
 {
     match fault_in_pops(&pops_of(site.alloc(), member)?, site.stack()) {
         Some(fault) => Ok(Completion::Faults(fault)),
@@ -259,7 +260,7 @@ fn called_on(
     member: &Member,
     invocation: Invocation,
 ) -> Result<Completion, AllocError>
-    ensures { IfOk result (λ c. told site.now.world site.now.thread c
+    ensures { IfOk result (λ c. reported site.now.world site.now.thread c
         ≡ plainly (called_on site.now member.now (found_by site.now invocation member.now)
         (ref_on (drop (arguments_in member.now) site.now.frame.stack)))) }
 {
@@ -308,7 +309,7 @@ fn on_object(
     member: &Member,
     invocation: Invocation,
 ) -> Result<Completion, AllocError>
-    ensures { IfOk result (λ c. told site.now.world site.now.thread c
+    ensures { IfOk result (λ c. reported site.now.world site.now.thread c
         ≡ plainly (on_object site.now member.now (found_by site.now invocation member.now))) }
 {
     match fault_in_pops(&pops_of(site.alloc(), member)?, site.stack()) {
@@ -324,7 +325,7 @@ pub fn invoked(
     invocation: Invocation,
     member: &Member,
 ) -> Result<Completion, AllocError>
-    ensures { IfOk result (λ c. told site.now.world site.now.thread c
+    ensures { IfOk result (λ c. reported site.now.world site.now.thread c
         ≡ plainly (invoked site.now invocation member.now)) }
 {
     match invocation {

@@ -3,6 +3,7 @@
 //! by family: each function has the name of its definition.
 #![tactic(auto)]
 
+mod arithmetic;
 mod arrays;
 mod branches;
 mod builtins;
@@ -19,7 +20,6 @@ mod initialisation;
 mod invokes;
 mod locals;
 mod monitors;
-mod numbers;
 mod objects;
 mod opening;
 mod operands;

@@ -5,7 +5,7 @@ ghost use Rattle.model.specs.Frames.{as_int};
 ghost use Rattle.model.specs.Locals.{entries_of, has_local, local_at, freed, with_local, stored, stored_at, value_on};
 ghost use Rattle.model.specs.Table.Locals.{first_index, local_index, increment_index, increment_amount, loaded_on};
 ghost use Rattle.model.specs.Table.Locals.{incremented, local};
-ghost use Rattle.ideal_run.specs.Told.{frame_in};
+ghost use Rattle.ideal_run.specs.Reported.{frame_in};
 
 use crate::frames::{Frame, Moved, below, faulted, replaced_if_room};
 use crate::operands::{of_kind, value_on};

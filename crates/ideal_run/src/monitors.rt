@@ -4,7 +4,7 @@ ghost use Rattle.model.specs.Monitors.{is_owner, may_enter, is_full, entered, ex
 ghost use Rattle.model.specs.Table.Objects.{is_instance};
 ghost use Rattle.model.specs.Table.Monitors.{operates, operates_if, monitor_operated};
 ghost use Rattle.model.specs.declared.instructions.MonitorOperation.TheVariants.{Enter, Exit};
-ghost use Rattle.ideal_run.specs.Completed.{told, plainly};
+ghost use Rattle.ideal_run.specs.Completed.{reported, plainly};
 ghost use Rattle.ideal_run.specs.Steps.{monitor_in};
 
 use crate::completions::{Change, Completion, Site, raises};
@@ -71,7 +71,7 @@ pub fn exited(monitor: Monitor) -> Monitor
 
 /// A monitor of another thread is waited for; then F10.
 fn enters(site: &Site<'_, '_>, birth: u32) -> Result<Completion, AllocError>
-    ensures { IfOk result (λ c. told site.now.world site.now.thread c ≡ plainly (operates site.now Enter birth)) }
+    ensures { IfOk result (λ c. reported site.now.world site.now.thread c ≡ plainly (operates site.now Enter birth)) }
 {
     let monitor = site.world().monitor_of(birth);
     if !may_enter(site.thread(), monitor) {
@@ -84,7 +84,7 @@ fn enters(site: &Site<'_, '_>, birth: u32) -> Result<Completion, AllocError>
 }
 
 fn exits(site: &Site<'_, '_>, birth: u32) -> Result<Completion, AllocError>
-    ensures { IfOk result (λ c. told site.now.world site.now.thread c ≡ plainly (operates site.now Exit birth)) }
+    ensures { IfOk result (λ c. reported site.now.world site.now.thread c ≡ plainly (operates site.now Exit birth)) }
 {
     let monitor = site.world().monitor_of(birth);
     if is_owner(site.thread(), monitor) {
@@ -101,7 +101,7 @@ fn operates_if(
     birth: u32,
     is_there: bool,
 ) -> Result<Completion, AllocError>
-    ensures { IfOk result (λ c. told site.now.world site.now.thread c
+    ensures { IfOk result (λ c. reported site.now.world site.now.thread c
         ≡ plainly (operates_if site.now operation birth is_there)) }
 {
     if !is_there {
@@ -121,7 +121,7 @@ fn operates_at(
     is_there: bool,
 ) -> Result<Completion, AllocError>
     requires { is_there ≡ is_instance site.now (codes "java/lang/Object") birth }
-    ensures { IfOk result (λ c. told site.now.world site.now.thread c
+    ensures { IfOk result (λ c. reported site.now.world site.now.thread c
         ≡ plainly (operates_if site.now operation birth (is_instance site.now (codes "java/lang/Object") birth))) }
 {
     match operates_if(site, operation, birth, is_there) {
@@ -136,7 +136,8 @@ pub fn monitor_operated(
     site: &Site<'_, '_>,
     operation: MonitorOperation,
 ) -> Result<Completion, AllocError>
-    ensures { IfOk result (λ c. told site.now.world site.now.thread c ≡ plainly (monitor_operated site.now operation)) }
+    ensures { IfOk result (λ c. reported site.now.world site.now.thread c
+        ≡ plainly (monitor_operated site.now operation)) }
 {
     match ref_on(site.stack()) {
         Err(fault) => Ok(Completion::Faults(fault)),

@@ -1,10 +1,10 @@
 //! `new`, `checkcast` and `instanceof` (JVMS 6.5).
 ghost use Rattle.std.specs.Prelude.{◌≡◌, IfOk, map};
-ghost use Rattle.model.specs.Table.Objects.{new_instance, told_if, class_operated};
+ghost use Rattle.model.specs.Table.Objects.{new_instance, reported_if, class_operated};
 ghost use Rattle.model.specs.Views.{contents_in};
 ghost use Rattle.model.specs.Words.{unwritten};
 ghost use Rattle.model.specs.declared.instructions.ClassOperation.TheVariants.{CheckCast, InstanceOf};
-ghost use Rattle.ideal_run.specs.Completed.{told, plainly};
+ghost use Rattle.ideal_run.specs.Completed.{reported, plainly};
 
 use crate::completions::{Completion, Site, raises};
 use crate::operands::ref_on;
@@ -63,7 +63,7 @@ fn new_instance(
 
 /// The reference is pushed again.
 fn cast(site: &Site<'_, '_>, name: &Name) -> Result<Completion, AllocError>
-    ensures { IfOk result (λ c. told site.now.world site.now.thread c
+    ensures { IfOk result (λ c. reported site.now.world site.now.thread c
         ≡ plainly (class_operated site.now CheckCast name.now)) }
 {
     match ref_on(site.stack()) {
@@ -79,8 +79,8 @@ fn cast(site: &Site<'_, '_>, name: &Name) -> Result<Completion, AllocError>
     }
 }
 
-fn told_if(site: &Site<'_, '_>, is: bool) -> Result<Completion, AllocError>
-    ensures { IfOk result (λ c. told site.now.world site.now.thread c ≡ plainly (told_if site.now is)) }
+fn reported_if(site: &Site<'_, '_>, is: bool) -> Result<Completion, AllocError>
+    ensures { IfOk result (λ c. reported site.now.world site.now.thread c ≡ plainly (reported_if site.now is)) }
 {
     if is {
         site.pushes(1, Value::Int(1))
@@ -91,13 +91,13 @@ fn told_if(site: &Site<'_, '_>, is: bool) -> Result<Completion, AllocError>
 
 /// Null is no instance.
 fn tested(site: &Site<'_, '_>, name: &Name) -> Result<Completion, AllocError>
-    ensures { IfOk result (λ c. told site.now.world site.now.thread c
+    ensures { IfOk result (λ c. reported site.now.world site.now.thread c
         ≡ plainly (class_operated site.now InstanceOf name.now)) }
 {
     match ref_on(site.stack()) {
         Err(fault) => Ok(Completion::Faults(fault)),
-        Ok(None) => told_if(site, false),
-        Ok(Some(birth)) => told_if(site, is_instance(site, name.as_bytes(), birth)?),
+        Ok(None) => reported_if(site, false),
+        Ok(Some(birth)) => reported_if(site, is_instance(site, name.as_bytes(), birth)?),
     }
 }
 
@@ -107,7 +107,7 @@ pub fn class_operated(
     operation: ClassOperation,
     name: &Name,
 ) -> Result<Completion, AllocError>
-    ensures { IfOk result (λ c. told site.now.world site.now.thread c
+    ensures { IfOk result (λ c. reported site.now.world site.now.thread c
         ≡ plainly (class_operated site.now operation name.now)) }
 {
     match operation {

@@ -6,8 +6,8 @@ ghost use Rattle.model.specs.Initialisation.{runs_initializer};
 ghost use Rattle.model.specs.Programs.{instruction_of};
 ghost use Rattle.model.specs.Table.Returns.{same_kind, same_result, gives, past_invoke, left_world, awake, resumed};
 ghost use Rattle.model.specs.Table.Returns.{leaves_with, returned};
-ghost use Rattle.ideal_run.specs.Completed.{told, plainly, changed, resumes_with};
-ghost use Rattle.ideal_run.specs.Told.{frame_in};
+ghost use Rattle.ideal_run.specs.Completed.{reported, plainly, changed, resumes_with};
+ghost use Rattle.ideal_run.specs.Reported.{frame_in};
 
 use crate::completions::{Change, Completion, Site, completes_abruptly};
 use crate::frames::{Frame, Moved, faulted, moved, replaced_if_room};
@@ -51,7 +51,7 @@ fn gives(kind: Option<Kind>, method: Option<&Method>) -> bool
     }
 }
 
-/// A caller stays at its invoke instruction until the return, and then goes on behind it with the result, if there is
+/// A caller stays at its invoke instruction until the return, and then goes on after it with the result, if there is
 /// one.
 fn past_invoke(
     site: &Site<'_, '_>,
@@ -120,7 +120,7 @@ fn callers(frames: &[Frame]) -> &[Frame]
 
 /// The caller goes on, if it can.
 fn resumes(site: &Site<'_, '_>, caller: Moved) -> Completion
-    ensures { told site.now.world site.now.thread result ≡ resumes_with site.now caller }
+    ensures { reported site.now.world site.now.thread result ≡ resumes_with site.now caller }
 {
     match caller {
         Err(abrupt) => completes_abruptly(abrupt),
@@ -131,7 +131,7 @@ fn resumes(site: &Site<'_, '_>, caller: Moved) -> Completion
 /// The running frame is left with a result, if there is one; the thread of the outermost frame ends.
 #[tactic(auto, using(crate::proofs::PlainLemmas::plain))]
 fn leaves_with(site: &Site<'_, '_>, value: Option<Value>) -> Result<Completion, AllocError>
-    ensures { IfOk result (λ c. told site.now.world site.now.thread c ≡ plainly (leaves_with site.now value)) }
+    ensures { IfOk result (λ c. reported site.now.world site.now.thread c ≡ plainly (leaves_with site.now value)) }
 {
     match running(callers(site.frames())) {
         None => Ok(Completion::Goes(left(site), Step::Ends(None))),
@@ -141,7 +141,7 @@ fn leaves_with(site: &Site<'_, '_>, value: Option<Value>) -> Result<Completion, 
 
 /// A return: F7, then the operand, then the room in the caller. `AllocError` where memory runs out.
 pub fn returned(site: &Site<'_, '_>, kind: Option<Kind>) -> Result<Completion, AllocError>
-    ensures { IfOk result (λ c. told site.now.world site.now.thread c ≡ plainly (returned site.now kind)) }
+    ensures { IfOk result (λ c. reported site.now.world site.now.thread c ≡ plainly (returned site.now kind)) }
 {
     let frame = site.frame();
     if !gives(kind, site.program().method_at(frame.method)) {

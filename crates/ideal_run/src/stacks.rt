@@ -4,7 +4,7 @@ ghost use Rattle.std.specs.Prelude.{◌≡◌, ◌++◌, IfOk};
 ghost use Rattle.model.specs.Table.Stacks.{unit_on, units_on, group_on, groups_on, with_top, popped_on, doubled_on};
 ghost use Rattle.model.specs.Table.Stacks.{inserted_on, rearranged};
 ghost use Rattle.model.specs.declared.instructions.StackOperation.TheVariants.{Swap};
-ghost use Rattle.ideal_run.specs.Told.{frame_in};
+ghost use Rattle.ideal_run.specs.Reported.{frame_in};
 ghost use Rattle.ideal_run.specs.Groups.{units_in};
 
 use crate::frames::{Frame, Moved, below, faulted, moved, replaced_if_room};

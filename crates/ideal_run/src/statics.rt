@@ -1,7 +1,7 @@
 //! `getstatic` and `putstatic` (JVMS 6.5).
 ghost use Rattle.std.specs.Prelude.{◌≡◌, IfOk, Ok};
 ghost use Rattle.model.specs.Table.Statics.{slot_of, static_got, static_put, static_accessed};
-ghost use Rattle.ideal_run.specs.Completed.{told, plainly};
+ghost use Rattle.ideal_run.specs.Completed.{reported, plainly};
 
 use crate::completions::{Change, Completion, Site};
 use crate::operands::value_on;
@@ -23,7 +23,7 @@ fn slot_of(site: &Site<'_, '_>, member: &Member) -> Option<usize>
 
 #[tactic(auto, using(crate::proofs::PlainLemmas::plain))]
 fn static_got(site: &Site<'_, '_>, slot: Option<usize>) -> Result<Completion, AllocError>
-    ensures { IfOk result (λ c. told site.now.world site.now.thread c ≡ plainly (static_got site.now slot)) }
+    ensures { IfOk result (λ c. reported site.now.world site.now.thread c ≡ plainly (static_got site.now slot)) }
 {
     match slot {
         None => Ok(Completion::Faults(Fault::WrongClass)),
@@ -37,7 +37,7 @@ fn static_put(
     value: Value,
     slot: Option<usize>,
 ) -> Result<Completion, AllocError>
-    ensures { IfOk result (λ c. told site.now.world site.now.thread c
+    ensures { IfOk result (λ c. reported site.now.world site.now.thread c
         ≡ plainly (static_put site.now descriptor.now (Ok value) slot)) }
 {
     match slot {
@@ -52,7 +52,7 @@ pub fn static_accessed(
     access: Access,
     member: &Member,
 ) -> Result<Completion, AllocError>
-    ensures { IfOk result (λ c. told site.now.world site.now.thread c
+    ensures { IfOk result (λ c. reported site.now.world site.now.thread c
         ≡ plainly (static_accessed site.now access member.now)) }
 {
     let slot = slot_of(site, member);

@@ -1,7 +1,7 @@
 //! The switches (JVMS 6.5).
 ghost use Rattle.std.specs.Prelude.{◌≡◌, IfOk};
 ghost use Rattle.model.specs.Table.Switches.{table_switched, lookup_switched};
-ghost use Rattle.ideal_run.specs.Told.{frame_in};
+ghost use Rattle.ideal_run.specs.Reported.{frame_in};
 
 use crate::frames::{Frame, Moved, faulted, moved};
 use crate::operands::int_on;

@@ -11,8 +11,9 @@ ghost use Rattle.model.specs.Table.Initialisation.{declarer};
 ghost use Rattle.model.specs.Worlds.{frames_at};
 ghost use Rattle.model.specs.Table.Next.{by_family, class_of_operation, class_of_call, class_used, at_site};
 ghost use Rattle.model.specs.Table.Next.{at_instruction, completion};
-ghost use Rattle.ideal_run.specs.Completed.{told, plainly};
+ghost use Rattle.ideal_run.specs.Completed.{reported, plainly};
 
+use crate::arithmetic::number;
 use crate::arrays::array_operated;
 use crate::branches::branched;
 use crate::claims::before_initialised;
@@ -23,7 +24,6 @@ use crate::frames::{Frame, moved};
 use crate::invokes::invoked;
 use crate::locals::local;
 use crate::monitors::monitor_operated;
-use crate::numbers::number;
 use crate::objects::class_operated;
 use crate::programs::Program;
 use crate::returns::returned;
@@ -39,7 +39,7 @@ use model::turns::{Exception, Fault, Mark};
 use std::alloc::{AllocError, Global};
 
 fn number_at(site: &Site<'_, '_>, operation: NumberOperation) -> Result<Completion, AllocError>
-    ensures { IfOk result (λ c. told site.now.world site.now.thread c
+    ensures { IfOk result (λ c. reported site.now.world site.now.thread c
         ≡ plainly (completes site.now (number site.now.next operation site.now.frame))) }
 {
     let moved = number(site.alloc(), site.next(), operation, site.frame())?;
@@ -47,7 +47,7 @@ fn number_at(site: &Site<'_, '_>, operation: NumberOperation) -> Result<Completi
 }
 
 fn branched_at(site: &Site<'_, '_>, test: Test, target: u16) -> Result<Completion, AllocError>
-    ensures { IfOk result (λ c. told site.now.world site.now.thread c
+    ensures { IfOk result (λ c. reported site.now.world site.now.thread c
         ≡ plainly (completes site.now (branched site.now.next test target site.now.frame))) }
 {
     let moved = branched(site.alloc(), site.next(), test, target, site.frame())?;
@@ -57,7 +57,8 @@ fn branched_at(site: &Site<'_, '_>, test: Test, target: u16) -> Result<Completio
 /// Each family's case.
 #[tactic(auto, using(crate::proofs::PlainLemmas::plain))]
 fn by_family(site: &Site<'_, '_>, instruction: &Listed) -> Result<Completion, AllocError>
-    ensures { IfOk result (λ c. told site.now.world site.now.thread c ≡ plainly (by_family site.now instruction.now)) }
+    ensures { IfOk result (λ c. reported site.now.world site.now.thread c
+        ≡ plainly (by_family site.now instruction.now)) }
 {
     let alloc = site.alloc();
     let next = site.next();
@@ -150,7 +151,8 @@ fn class_used<'c>(program: &'c Program<'_>, instruction: &'c Listed) -> Option<&
 
 #[tactic(auto, using(crate::proofs::PlainLemmas::plain))]
 fn at_site(site: &Site<'_, '_>, instruction: &Listed) -> Result<Completion, AllocError>
-    ensures { IfOk result (λ c. told site.now.world site.now.thread c ≡ plainly (at_site site.now instruction.now)) }
+    ensures { IfOk result (λ c. reported site.now.world site.now.thread c
+        ≡ plainly (at_site site.now instruction.now)) }
 {
     let class = class_used(site.program(), instruction);
     match before_initialised(site, class)? {
@@ -168,7 +170,7 @@ fn at_instruction(
     frame: &Frame,
 ) -> Result<Completion, AllocError>
     requires { running (frames_at world.now thread) ≡ Some frame.now }
-    ensures { IfOk result (λ c. told world.now thread c
+    ensures { IfOk result (λ c. reported world.now thread c
         ≡ plainly (at_instruction program.now world.now thread frame.now (instruction_of program.now frame.now))) }
 {
     match program.instruction_of(frame) {
@@ -196,7 +198,7 @@ pub fn completion(
     world: &World,
     thread: u8,
 ) -> Result<Completion, AllocError>
-    ensures { IfOk result (λ c. told world.now thread c ≡ plainly (completion program.now world.now thread)) }
+    ensures { IfOk result (λ c. reported world.now thread c ≡ plainly (completion program.now world.now thread)) }
 {
     match running(world.frames_at(thread)) {
         None => Ok(Completion::Faults(Fault::NoInstruction)),

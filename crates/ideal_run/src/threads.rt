@@ -5,7 +5,7 @@ ghost use Rattle.model.specs.Objects.{object_at};
 ghost use Rattle.model.specs.Table.Threads.{started, starts, joined, has_live_thread, thread_if};
 ghost use Rattle.ideal_run.specs.Called.{callee_in};
 ghost use Rattle.ideal_run.specs.Started.{thread_of, thread_added_on, begins_on};
-ghost use Rattle.ideal_run.specs.Completed.{told, plainly};
+ghost use Rattle.ideal_run.specs.Completed.{reported, plainly};
 
 use crate::callees::{Callee, callee_of};
 use crate::calls::called_frame;
@@ -39,7 +39,7 @@ fn coded_thread(
 
 /// One thread more, and the object goes.
 fn thread_added(site: &Site<'_, '_>, birth: u32, thread: Thread) -> Result<Completion, AllocError>
-    ensures { IfOk result (λ c. told site.now.world site.now.thread c ≡ thread_added_on site.now birth thread) }
+    ensures { IfOk result (λ c. reported site.now.world site.now.thread c ≡ thread_added_on site.now birth thread) }
 {
     let frame = replaced(site.alloc(), site.next(), site.frame(), 1, &[])?;
     Ok(Completion::Starts(birth, frame, thread))
@@ -47,7 +47,7 @@ fn thread_added(site: &Site<'_, '_>, birth: u32, thread: Thread) -> Result<Compl
 
 /// What the object's `run()V` has to run begins; that of the machine's own method has ended at once.
 fn begins(site: &Site<'_, '_>, birth: u32, callee: Callee<'_>) -> Result<Completion, AllocError>
-    ensures { IfOk result (λ c. told site.now.world site.now.thread c
+    ensures { IfOk result (λ c. reported site.now.world site.now.thread c
         ≡ begins_on site.now birth (callee_in callee.entry)) }
 {
     match callee {
@@ -67,7 +67,7 @@ fn begins(site: &Site<'_, '_>, birth: u32, callee: Callee<'_>) -> Result<Complet
 /// The object is started: IllegalThreadStateException where it was before, then F8, then F9.
 fn starts(site: &Site<'_, '_>, birth: u32, object: &ObjectView) -> Result<Completion, AllocError>
     requires { object_at site.now.world birth ≡ Some object.now }
-    ensures { IfOk result (λ c. told site.now.world site.now.thread c
+    ensures { IfOk result (λ c. reported site.now.world site.now.thread c
         ≡ plainly (starts site.now birth (Some object.now))) }
 {
     if object.thread.is_some() {
@@ -83,7 +83,7 @@ fn starts(site: &Site<'_, '_>, birth: u32, object: &ObjectView) -> Result<Comple
 
 /// `start`: a null, then F6. `AllocError` where memory runs out.
 pub fn started(site: &Site<'_, '_>) -> Result<Completion, AllocError>
-    ensures { IfOk result (λ c. told site.now.world site.now.thread c
+    ensures { IfOk result (λ c. reported site.now.world site.now.thread c
         ≡ plainly (started site.now (ref_on site.now.frame.stack))) }
 {
     match ref_on(site.stack()) {
@@ -111,7 +111,7 @@ fn is_running(site: &Site<'_, '_>, birth: u32) -> bool
 
 /// `join`: a null; the thread waits while the object's thread lives. `AllocError` where memory runs out.
 pub fn joined(site: &Site<'_, '_>) -> Result<Completion, AllocError>
-    ensures { IfOk result (λ c. told site.now.world site.now.thread c
+    ensures { IfOk result (λ c. reported site.now.world site.now.thread c
         ≡ plainly (joined site.now (ref_on site.now.frame.stack))) }
 {
     match ref_on(site.stack()) {

@@ -2,7 +2,7 @@
 ghost use Rattle.std.specs.Prelude.{◌≡◌, IfOk};
 ghost use Rattle.model.specs.Table.Objects.{is_instance};
 ghost use Rattle.model.specs.Table.Throws.{threw};
-ghost use Rattle.ideal_run.specs.Completed.{told, plainly};
+ghost use Rattle.ideal_run.specs.Completed.{reported, plainly};
 
 use crate::completions::{Completion, Site, raises};
 use crate::operands::ref_on;
@@ -19,7 +19,7 @@ pub fn is_instance(site: &Site<'_, '_>, name: &[u8], birth: u32) -> Result<bool,
 
 /// `athrow`: a null, then F6. `AllocError` where memory runs out.
 pub fn threw(site: &Site<'_, '_>) -> Result<Completion, AllocError>
-    ensures { IfOk result (λ c. told site.now.world site.now.thread c ≡ plainly (threw site.now)) }
+    ensures { IfOk result (λ c. reported site.now.world site.now.thread c ≡ plainly (threw site.now)) }
 {
     match ref_on(site.stack()) {
         Err(fault) => Ok(Completion::Faults(fault)),

@@ -1,16 +1,21 @@
--- What holds of the classes of a program that no rule refuses: each stands once, with each member once, within the limits.
-use Rattle.std.proofs.Common.{◌≡◌, ℕ, ◌+◌, ◌≤◌, List, [], ◌∷◌, length, take, Bool, true, false, ◌||◌, nat_lt, Option, Some, None, refl, sym, ap, arith, ◌∙◌}
+-- What holds of the classes of a program that no rule refuses: each stands once, with each member once, within the
+-- limits.
+use Rattle.std.proofs.Common.{◌≡◌, ℕ, ◌+◌, ◌≤◌, List, [], ◌∷◌, length, take, Bool, true, false, ◌||◌, nat_lt, Option}
+use Rattle.std.proofs.Common.{Some, None, refl, sym, ap, arith, ◌∙◌}
 use Rattle.std.specs.Prelude.{slice_get, zero, suc}
 use Rattle.std.specs.List.{find, list_any}
 use Rattle.std.proofs.lemmas.Bool.{ltb-false}
 use Rattle.std.proofs.lemmas.List.{take_all}
 use Rattle.model.specs.declared.listings.Method.{Method}
 use Rattle.model.specs.declared.refusals.LoadRule.{LoadRule}
-use Rattle.model.specs.declared.refusals.LoadRule.TheVariants.{BadExceptionRow, BuiltinName, ClassTwice, Cycle, LimitPassed, MemberTwice, MissingSuperclass, RefusedMember, UnresolvedReference, WrongSuperclass}
+use Rattle.model.specs.declared.refusals.LoadRule.TheVariants.{BadExceptionRow, BuiltinName, ClassTwice, Cycle}
+use Rattle.model.specs.declared.refusals.LoadRule.TheVariants.{LimitPassed, MemberTwice, MissingSuperclass}
+use Rattle.model.specs.declared.refusals.LoadRule.TheVariants.{RefusedMember, UnresolvedReference, WrongSuperclass}
 use Rattle.model.specs.Accepted.BuiltinNames.{has_builtin_name}
 use Rattle.model.specs.Accepted.Cycles.{is_on_cycle}
 use Rattle.model.specs.Accepted.ExceptionRows.{has_bad_row}
-use Rattle.model.specs.Accepted.LimitsOfClasses.{first_past_limits, has_too_many_fields, is_too_large, passes_limits, units_to_begin}
+use Rattle.model.specs.Accepted.LimitsOfClasses.{first_past_limits, has_too_many_fields, is_too_large, passes_limits}
+use Rattle.model.specs.Accepted.LimitsOfClasses.{units_to_begin}
 use Rattle.model.specs.Accepted.MembersTwice.{has_member_twice}
 use Rattle.model.specs.Accepted.References.{has_unresolved}
 use Rattle.model.specs.Accepted.RefusedMembers.{has_refused_member}
@@ -72,12 +77,16 @@ module _ (program : List ClassListing) where
   unrefused e =
       let own = neither (refused_by BuiltinName (find has_builtin_name program)) from_classes e in
       let classes = neither (refused_by ClassTwice (find (is_class_twice program) program)) from_missing own.1 in
-      let missing = neither (refused_by MissingSuperclass (find (has_missing_parent program) program)) from_cycles classes.1 in
+      let missing = neither (refused_by MissingSuperclass (find (has_missing_parent program) program)) from_cycles
+            classes.1 in
       let cycles = neither (refused_by Cycle (find (is_on_cycle program) program)) from_wrong missing.1 in
-      let wrong = neither (refused_by WrongSuperclass (find (has_wrong_parent program) program)) from_members cycles.1 in
+      let wrong = neither (refused_by WrongSuperclass (find (has_wrong_parent program) program)) from_members cycles.1
+            in
       let members = neither (refused_by MemberTwice (find has_member_twice program)) from_refused wrong.1 in
-      let refused = neither (refused_by RefusedMember (find (has_refused_member program) program)) from_references members.1 in
-      let references = neither (refused_by UnresolvedReference (find (has_unresolved program) program)) from_rows refused.1 in
+      let refused = neither (refused_by RefusedMember (find (has_refused_member program) program)) from_references
+            members.1 in
+      let references = neither (refused_by UnresolvedReference (find (has_unresolved program) program)) from_rows
+            refused.1 in
       let rows = neither (refused_by BadExceptionRow (find (has_bad_row program) program)) last references.1 in
       let limits = neither (refused_by LimitPassed (first_past_limits program)) (refused_main program) rows.1 in
       record {
@@ -120,7 +129,8 @@ module _ (program : List ClassListing) where
       ap (passes_limits m) (sym is)
       ∙ none-any-at (λ (m : Method). passes_limits m m.code) c.methods k m
       (methods-fit c (not-large n c free.limits at)) here in
-      let both = either-false (nat_lt code.max_locals (units_to_begin m)) (nat_lt 4096 (code.max_locals + code.max_stack)) fits in
+      let both = either-false (nat_lt code.max_locals (units_to_begin m))
+            (nat_lt 4096 (code.max_locals + code.max_stack)) fits in
       record {
         arguments = ltb-false code.max_locals (units_to_begin m) both.0;
         frame = ltb-false 4096 (code.max_locals + code.max_stack) both.1;

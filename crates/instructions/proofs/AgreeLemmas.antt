@@ -1,4 +1,6 @@
-use Rattle.std.proofs.Common.{◌≡◌, inl, inr, ℕ, zero, suc, ◌+◌, ◌<◌, ◌≤◌, Bool, true, false, List, [], ◌∷◌, ◌++◌, length, map, set, slice_get, nat_lt, nat_le, Option, Some, None, is_some, refl, sym, ◌∙◌, ap, subst, arith, length-set, leb-true, le-ltb, ltb-false}
+use Rattle.std.proofs.Common.{◌≡◌, inl, inr, ℕ, zero, suc, ◌+◌, ◌<◌, ◌≤◌, Bool, true, false, List, [], ◌∷◌, ◌++◌}
+use Rattle.std.proofs.Common.{length, map, set, slice_get, nat_lt, nat_le, Option, Some, None, is_some, refl, sym, ◌∙◌}
+use Rattle.std.proofs.Common.{ap, subst, arith, length-set, leb-true, le-ltb, ltb-false}
 use Rattle.std.specs.Prelude.{replicate, if◌then◌else◌}
 use Rattle.std.specs.Option.{IfSome, option_map}
 use Rattle.std.proofs.Math.Seq.{map-set_same}
@@ -25,7 +27,8 @@ use Rattle.colours.specs.Births.{born_in, taken_cell}
 use Rattle.colours.proofs.Steps.{one_taken}
 use Rattle.colours.proofs.Keeping.{front_taken}
 use Rattle.collector.specs.Freed.{freed_in, freed_cell}
-use Rattle.join.specs.TurnsOnCells.{shade_at, shade_cell, shade_cell_if, black_at, blacken_cell, birth_in, statics_on, frames_on, word_on, mark_on, step_on}
+use Rattle.join.specs.TurnsOnCells.{shade_at, shade_cell, shade_cell_if, black_at, blacken_cell, birth_in, statics_on}
+use Rattle.join.specs.TurnsOnCells.{frames_on, word_on, mark_on, step_on}
 use Rattle.join.proofs.Opening.{two_cells}
 use Rattle.instructions.specs.Heaps.{cleared}
 use Rattle.instructions.specs.HeapsAgree.{is_taken, Agree, AllFrom}
@@ -265,7 +268,8 @@ module _
     slot_looked s true = looked (root_at w (Slot s)) (Statics (s + 1))
     slot_looked s false = regarded shape a objects a.grey (Frames 0 0 0) k
 
-    frame_looked : (t d j : ℕ) (thread frame entry : Bool) → Agree shape (frames_on w a t d j thread frame entry) objects
+    frame_looked : (t d j : ℕ) (thread frame entry : Bool)
+        → Agree shape (frames_on w a t d j thread frame entry) objects
     frame_looked t d j true true true = looked (root_at w (FrameEntry t d j)) (Frames t d (j + 1))
     frame_looked t d j true true false = looked (root_at w (MethodMonitor t d)) (Frames t (d + 1) 0)
     frame_looked t d j true false entry = regarded shape a objects a.grey (Frames (t + 1) 0 0) k
@@ -313,10 +317,10 @@ module _
     stepped_agree (Mark q) = marked q a.grey
     stepped_agree (Append p) = appended p (nat_lt p (length a.cells)) refl
 
-    -- where shape and freed cell are told by other names
-    pub collected_agree : (told : HeapShape) (phase : Phase) (freed : Option ℕ) → told ≡ shape
-        → freed ≡ freed_cell a phase → Agree shape (step_on told w a phase) (cleared objects freed)
-    collected_agree told phase freed same is = rw (same, is) (stepped_agree phase)
+    -- where shape and freed cell are reported by other names
+    pub collected_agree : (reported : HeapShape) (phase : Phase) (freed : Option ℕ) → reported ≡ shape
+        → freed ≡ freed_cell a phase → Agree shape (step_on reported w a phase) (cleared objects freed)
+    collected_agree reported phase freed same is = rw (same, is) (stepped_agree phase)
 
 -- ---- the opening
 
@@ -381,7 +385,9 @@ opening_agrees shape o o' fits =
 -- ---- a cell of the account is one of an object
 
 pub taken_among : {K : Type 0} (cells : List Cell) (objects : List (Option (StoredObject K))) (o : Option (ℕ × Account))
-    → map is_taken cells ≡ map is_some objects → IfSome o (λ taken. taken.0 < length cells) → IfSome o (λ taken. taken.0 < length objects)
+    → map is_taken cells ≡ map is_some objects → IfSome o (λ taken. taken.0 < length cells)
+        → IfSome o (λ taken. taken.0 < length objects)
 taken_among cells objects o same among =
-    let count : length cells ≡ length objects = sym (length-map cells is_taken) ∙ ap length same ∙ length-map objects is_some in
+    let count : length cells ≡ length objects = sym (length-map cells is_taken) ∙ ap length same
+          ∙ length-map objects is_some in
     subst (λ n. IfSome o (λ taken. taken.0 < n)) count among

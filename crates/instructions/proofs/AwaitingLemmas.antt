@@ -1,9 +1,12 @@
--- When a call waits: another thread has entered the monitor of the method that it calls, or the thread that it joins goes on.
-use Rattle.std.proofs.Common.{◌≡◌, ℕ, ℤ, List, Bool, true, false, not, Option, Some, None, Result, Ok, Err, refl, ap, ◌∙◌}
+-- When a call waits: another thread has entered the monitor of the method that it calls, or the thread that it joins
+-- goes on.
+use Rattle.std.proofs.Common.{◌≡◌, ℕ, ℤ, List, Bool, true, false, not, Option, Some, None, Result, Ok, Err, refl, ap}
+use Rattle.std.proofs.Common.{◌∙◌}
 use Rattle.std.specs.Prelude.{drop, length, reverse, slice_get, if◌then◌else◌}
 use Rattle.std.specs.Option.{option_map, option_map_or}
 use Rattle.model.specs.declared.builtins.Builtin.{Builtin}
-use Rattle.model.specs.declared.builtins.Builtin.TheVariants.{PrintInt, PrintLong, PutByte, Initialize, RunThread, StartThread, JoinThread}
+use Rattle.model.specs.declared.builtins.Builtin.TheVariants.{PrintInt, PrintLong, PutByte, Initialize, RunThread}
+use Rattle.model.specs.declared.builtins.Builtin.TheVariants.{StartThread, JoinThread}
 use Rattle.model.specs.declared.places.MethodPlace.{MethodPlace}
 use Rattle.model.specs.declared.turns.Exception.TheVariants.{StackOverflow}
 use Rattle.model.specs.declared.turns.Fault.{Fault}
@@ -31,8 +34,14 @@ use Rattle.instructions.specs.declared.awaiting.Awaited.TheVariants.{Entry}
 use Rattle.instructions.specs.declared.kinds.Course.{Course}
 use Rattle.instructions.specs.declared.kinds.Kind.{Kind}
 use Rattle.instructions.specs.Acting.{AreIn}
-use Rattle.instructions.specs.Awaiting.{awaited_of_own, goes_on_in, awaits, awaits_thread, awaited_as, awaited_at, awaited_of_body, awaited_of_known, awaited_on, awaited_selected, awaited_special}
-use Rattle.instructions.specs.CallsByNumbers.{called_as, called_at, called_known, called_none, called_object, called_on, called_selected, called_special, called_static, enters, enters_frame, is_call, is_kind_of, is_static, is_synchronized, known_at, method_monitor, monitor_wanted, no_own, object_found, operands_of, place_of_number, runs, selected_place}
+use Rattle.instructions.specs.Awaiting.{awaited_of_own, goes_on_in, awaits, awaits_thread, awaited_as, awaited_at}
+use Rattle.instructions.specs.Awaiting.{awaited_of_body, awaited_of_known, awaited_on, awaited_selected}
+use Rattle.instructions.specs.Awaiting.{awaited_special}
+use Rattle.instructions.specs.CallsByNumbers.{called_as, called_at, called_known, called_none, called_object, called_on}
+use Rattle.instructions.specs.CallsByNumbers.{called_selected, called_special, called_static, enters, enters_frame}
+use Rattle.instructions.specs.CallsByNumbers.{is_call, is_kind_of, is_static, is_synchronized, known_at, method_monitor}
+use Rattle.instructions.specs.CallsByNumbers.{monitor_wanted, no_own, object_found, operands_of, place_of_number, runs}
+use Rattle.instructions.specs.CallsByNumbers.{selected_place}
 use Rattle.instructions.specs.Heaps.{HeapValue, kind_held}
 use Rattle.instructions.specs.OwnCalls.{operated_by_calls, own_call}
 use Rattle.instructions.specs.Shown.{objects_shown}
@@ -43,7 +52,8 @@ use Rattle.instructions.proofs.MonitoringLemmas.{monitor-shown}
 
 -- ---- what waits where objects are shown
 
-module _ (courses : List Course) (s : Site) (h : HeapValue) (shown : s.world.objects ≡ objects_shown s.program h.objects)
+module _ (courses : List Course) (s : Site) (h : HeapValue) (shown : s.world.objects
+    ≡ objects_shown s.program h.objects)
     (alike : AreIn courses s.world.threads) where
   -- a completion waits for this
   abbrev WaitsFor : Completion → Option Awaited → Type 0
@@ -59,7 +69,8 @@ module _ (courses : List Course) (s : Site) (h : HeapValue) (shown : s.world.obj
   where-so true fault c awaited e = e
   where-so false fault c awaited e = refl
 
-  wanted : (monitor : Option ℕ) → not (may_enter s.thread (monitor_wanted s monitor).owner) ≡ awaits courses s.thread h s.frame (option_map Entry monitor)
+  wanted : (monitor : Option ℕ) → not (may_enter s.thread (monitor_wanted s monitor).owner)
+      ≡ awaits courses s.thread h s.frame (option_map Entry monitor)
   wanted None = refl
   wanted (Some birth) =
       ap (λ (m : Monitor). not (may_enter s.thread m.owner)) (monitor-shown s.program h s.world shown birth)
@@ -191,7 +202,9 @@ module _ (courses : List Course) (s : Site) (h : HeapValue) (shown : s.world.obj
   static : (place : MethodPlace) (facts : Option MethodFacts) → WaitsFor (called_static s place facts) None
   static place None = refl
   static place (Some facts) = by (fault_in_pops (reverse facts.arguments) s.frame.stack) where
-    no-monitor : (b : Bool) → awaits courses s.thread h s.frame (option_map Entry (let none : Option ℕ = None in if b then none else none)) ≡ false
+    no-monitor : (b : Bool)
+        → awaits courses s.thread h s.frame
+        (option_map Entry (let none : Option ℕ = None in if b then none else none)) ≡ false
     no-monitor true = refl
     no-monitor false = refl
 
@@ -207,7 +220,8 @@ module _ (courses : List Course) (s : Site) (h : HeapValue) (shown : s.world.obj
     by (Some fault) = refl
 
 -- a call waits where another thread has entered the monitor of its method, or goes on that it joins
-pub call_waits : (courses : List Course) (s : Site) (h : HeapValue) → s.world.objects ≡ objects_shown s.program h.objects
+pub call_waits : (courses : List Course) (s : Site) (h : HeapValue) → s.world.objects
+    ≡ objects_shown s.program h.objects
     → AreIn courses s.world.threads → (op : Operation) → is_call op ≡ true
     → waits (operated_by_calls s h op) ≡ awaits_thread s.program courses s.thread h s.frame op
 call_waits courses s h shown alike (operation.Invokestatic class method) e =
@@ -215,10 +229,13 @@ call_waits courses s h shown alike (operation.Invokestatic class method) e =
 call_waits courses s h shown alike (operation.Invokevirtual class selector) e =
     selected courses s h shown alike class (slice_get (selectors s.program) selector)
 call_waits courses s h shown alike (operation.Invokespecial class declarer method) e =
-    let place = place_of_number (declarer, method) in special courses s h shown alike class place (known_at s.program place)
+    let place = place_of_number (declarer, method)
+          in special courses s h shown alike class place (known_at s.program place)
 call_waits courses s h shown alike (operation.Invokenone class declarer method) e =
     none courses s h shown alike class (known_at s.program (place_of_number (declarer, method)))
-call_waits courses s h shown alike operation.PrintInt e = bytes courses s h shown alike decimal_line (int_on s.frame.stack)
-call_waits courses s h shown alike operation.PrintLong e = bytes courses s h shown alike decimal_line (long_on s.frame.stack)
+call_waits courses s h shown alike operation.PrintInt e = bytes courses s h shown alike decimal_line
+    (int_on s.frame.stack)
+call_waits courses s h shown alike operation.PrintLong e = bytes courses s h shown alike decimal_line
+    (long_on s.frame.stack)
 call_waits courses s h shown alike operation.PutByte e = bytes courses s h shown alike low_byte (int_on s.frame.stack)
 call_waits courses s h shown alike _ e = cc

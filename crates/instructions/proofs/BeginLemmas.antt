@@ -1,5 +1,6 @@
 -- A thread that begins with a method: its frame has a local for the object and lies within its limits.
-use Rattle.std.proofs.Common.{◌≡◌, ℕ, ◌+◌, ◌<◌, List, length, Bool, true, false, ◌&&◌, ◌||◌, not, Option, Some, None, refl, sym, ap, arith, ◌∙◌}
+use Rattle.std.proofs.Common.{◌≡◌, ℕ, ◌+◌, ◌<◌, List, length, Bool, true, false, ◌&&◌, ◌||◌, not, Option, Some, None}
+use Rattle.std.proofs.Common.{refl, sym, ap, arith, ◌∙◌}
 use Rattle.std.specs.Prelude.{codes, if◌then◌else◌}
 use Rattle.std.specs.List.{find}
 use Rattle.std.specs.Option.{option_map}
@@ -39,10 +40,12 @@ neither : (a b : Bool) → not (a || b) ≡ true → a ≡ false
 neither true b e = cc
 neither false b e = refl
 
-module _ (program : List ClassListing) (free : Unrefused program) (hides : find has_builtin_name program ≡ None) (courses : List Course)
+module _ (program : List ClassListing) (free : Unrefused program) (hides : find has_builtin_name program ≡ None)
+    (courses : List Course)
     (few : length courses < 64) (birth : ℕ) where
   -- a method that is no static one
-  of-known : (place : MethodPlace) (facts : MethodFacts) → known_at program place ≡ Some facts → is_static_known facts ≡ false
+  of-known : (place : MethodPlace) (facts : MethodFacts) → known_at program place ≡ Some facts → is_static_known facts
+      ≡ false
       → (begun : Begun) → begun_by place birth facts.body ≡ Some begun → CanBegin courses begun
   of-known place facts known instance begun e = by facts.body refl e
     where
@@ -57,9 +60,11 @@ module _ (program : List ClassListing) (free : Unrefused program) (hides : find 
           ap (λ b. units_of_kinds facts.arguments + (if b then 0 else 1)) instance in
           rw (← same) (few, omega (arith, arguments, object), fits.frame)
 
-  pub can-begin : (kind : Kind) (begun : Begun) → begun_of program birth (Some kind) ≡ Some begun → CanBegin courses begun
+  pub can-begin : (kind : Kind) (begun : Begun) → begun_of program birth (Some kind) ≡ Some begun
+      → CanBegin courses begun
   can-begin (Array type) begun e = cc
-  can-begin (Instance class) begun e = by (selected program (class_name program class) (codes "run") (codes "()V")) refl e
+  can-begin (Instance class) begun e = by (selected program (class_name program class) (codes "run") (codes "()V")) refl
+      e
     where
       by : (o : Option (Declared Method)) → selected program (class_name program class) (codes "run") (codes "()V") ≡ o
           → begun_at program birth (place_if program o) ≡ Some begun → CanBegin courses begun
@@ -70,6 +75,9 @@ module _ (program : List ClassListing) (free : Unrefused program) (hides : find 
           let place = methods.where_it_is program free hides test d found in
           let known = methods.known program free hides test d found in
           let static = neither (is_static d.member) (is_private d.member)
-          (both (is_pair (codes "run") (codes "()V") d.member.name d.member.descriptor) _ (found-test program test d found)).1 in
+          (both (is_pair (codes "run") (codes "()V") d.member.name d.member.descriptor) _
+              (found-test program test d found)).1 in
           of-known place (method_facts program d.class d.member) known static begun
-          (sym (ap (begun_known place birth) known) ∙ sym (ap (λ n. begun_at program birth (option_map place_of_number n)) (methods.numbered program free hides test d found)) ∙ k)
+          (sym (ap (begun_known place birth) known)
+              ∙ sym (ap (λ n. begun_at program birth (option_map place_of_number n))
+              (methods.numbered program free hides test d found)) ∙ k)

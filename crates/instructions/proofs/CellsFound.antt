@@ -1,5 +1,6 @@
 -- The object of a birth is in the cell that holds the birth.
-use Rattle.std.proofs.Common.{◌≡◌, ℕ, zero, suc, List, [], ◌∷◌, map, slice_get, true, false, Option, Some, None, IfSome, refl, sym, ap}
+use Rattle.std.proofs.Common.{◌≡◌, ℕ, zero, suc, List, [], ◌∷◌, map, slice_get, true, false, Option, Some, None, IfSome}
+use Rattle.std.proofs.Common.{refl, sym, ap}
 use Rattle.std.specs.Prelude.{is_some}
 use Rattle.model.specs.declared.colours.Cell.{Cell}
 use Rattle.model.specs.declared.colours.Cell.TheVariants.{Taken}
@@ -11,7 +12,8 @@ use Rattle.join.proofs.ObjectsRead.{holding}
 use Rattle.instructions.specs.HeapsAgree.{is_taken}
 
 pub is_there : {K : Type 0} (cells : List Cell) (objects : List (Option (StoredObject K))) (c b : ℕ) (x : Colour)
-    → map is_taken cells ≡ map is_some objects → cell_at cells c ≡ Taken b x → is_some (object_if (slice_get objects c)) ≡ true
+    → map is_taken cells ≡ map is_some objects → cell_at cells c ≡ Taken b x → is_some (object_if (slice_get objects c))
+        ≡ true
 is_there [] objects c b x taken held = absurd (cc)
 is_there (z ∷ cells) [] c b x taken held = absurd (cc)
 is_there (z ∷ cells) (None ∷ objects) zero b x taken held =
@@ -22,12 +24,14 @@ is_there (z ∷ cells) (Some o ∷ objects) zero b x taken held = refl
 is_there (z ∷ cells) (o ∷ objects) (suc c) b x taken held = is_there cells objects c b x (cc) held
 
 pub object_there : {K : Type 0} (cells : List Cell) (objects : List (Option (StoredObject K))) (b c : ℕ)
-    → map is_taken cells ≡ map is_some objects → cell_from 0 b cells ≡ Some c → is_some (object_if (slice_get objects c)) ≡ true
+    → map is_taken cells ≡ map is_some objects → cell_from 0 b cells ≡ Some c
+        → is_some (object_if (slice_get objects c)) ≡ true
 object_there cells objects b c taken found =
     let held = holding b cells c found in is_there cells objects c b held.0 taken held.1
 
 -- the same of what was found, if something was
 pub found_there : {K : Type 0} (cells : List Cell) (objects : List (Option (StoredObject K))) (b : ℕ) (found : Option ℕ)
-    → map is_taken cells ≡ map is_some objects → found ≡ cell_from 0 b cells → IfSome found (λ c. is_some (object_if (slice_get objects c)) ≡ true)
+    → map is_taken cells ≡ map is_some objects → found ≡ cell_from 0 b cells
+        → IfSome found (λ c. is_some (object_if (slice_get objects c)) ≡ true)
 found_there cells objects b None taken e = tt
 found_there cells objects b (Some c) taken e = object_there cells objects b c taken (sym e)

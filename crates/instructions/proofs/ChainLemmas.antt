@@ -1,5 +1,6 @@
 -- The classes from one upwards that were never used, by names and by numbers.
-use Rattle.std.proofs.Common.{◌≡◌, ℕ, zero, suc, ◌+◌, ◌≤◌, List, [], ◌∷◌, Bool, cond, length, map, slice_get, slice_index_or, position, Option, Some, None, refl, sym, ap, ◌∙◌, arith}
+use Rattle.std.proofs.Common.{◌≡◌, ℕ, zero, suc, ◌+◌, ◌≤◌, List, [], ◌∷◌, Bool, cond, length, map, slice_get}
+use Rattle.std.proofs.Common.{slice_index_or, position, Option, Some, None, refl, sym, ap, ◌∙◌, arith}
 use Rattle.std.specs.Option.{option_and_then, option_map}
 use Rattle.std.specs.Str.{bytes_eq}
 use Rattle.std.proofs.lemmas.List.{length-map}
@@ -16,7 +17,7 @@ use Rattle.model.specs.Table.Initialisation.{after_initialising, initialises_cha
 use Rattle.resolve.specs.Numbers.{all_classes, class_number, name_of}
 use Rattle.resolve.proofs.ClassAtNumber.{class_at_number, number_inside}
 use Rattle.resolve.proofs.IndexLemmas.{turned}
-use Rattle.resolve.proofs.NumberLemmas.{place_behind, position-append, position-cons, position-map}
+use Rattle.resolve.proofs.NumberLemmas.{place_after, position-append, position-cons, position-map}
 use Rattle.loader.specs.ClassTables.{class_tables, superclass_in as superclass_number}
 use Rattle.loader.proofs.ClassTableLemmas.{superclass-number}
 use Rattle.instructions.proofs.ListPlaces.{item-at}
@@ -34,16 +35,16 @@ position-same p q (x ∷ xs) same =
 abbrev own_names : List (List ℕ)
 own_names = map name_of builtin_classes
 
--- a number is a place in the program, or one behind it
+-- a number is a place in the program, or one after it
 number-is : (program : List ClassListing) (name : List ℕ)
     → class_number program name
-    ≡ or_else (position (is_named name) program) (place_behind (length program) (position (bytes_eq name) own_names))
+    ≡ or_else (position (is_named name) program) (place_after (length program) (position (bytes_eq name) own_names))
 number-is program name =
     position-append (bytes_eq name) (map name_of program) own_names
-    ∙ ap (λ o. or_else o (place_behind (length (map name_of program)) (position (bytes_eq name) own_names)))
+    ∙ ap (λ o. or_else o (place_after (length (map name_of program)) (position (bytes_eq name) own_names)))
     (position-map (bytes_eq name) name_of program
     ∙ position-same (λ (c : ClassListing). bytes_eq name c.name) (is_named name) program (λ c. turned name c.name))
-    ∙ ap (λ n. or_else (position (is_named name) program) (place_behind n (position (bytes_eq name) own_names)))
+    ∙ ap (λ n. or_else (position (is_named name) program) (place_after n (position (bytes_eq name) own_names)))
     (length-map program name_of)
 
 state-past : (states : List ClassState) (n : ℕ) → length states ≤ n → slice_index_or states n Done ≡ Done
@@ -70,7 +71,7 @@ module _ (program : List ClassListing) (states : List ClassState) (sized : lengt
   state-same name n further e =
       by (position (is_named name) program) (position (bytes_eq name) own_names) (sym (number-is program name) ∙ e)
     where
-      by : (listed own : Option ℕ) → or_else listed (place_behind (length program) own) ≡ Some n
+      by : (listed own : Option ℕ) → or_else listed (place_after (length program) own) ≡ Some n
           → chain_if states listed further ≡ chain_with n (slice_index_or states n Done) further
       by (Some k) own is =
           let same : k ≡ n = cc in ap (λ (m : ℕ). chain_with m (slice_index_or states m Done) further) same

@@ -1,5 +1,7 @@
 -- The frames of a claim: what is left of them on the way upwards, what they take, and how they are entered.
-use Rattle.std.proofs.Common.{◌≡◌, inl, inr, ℕ, zero, suc, ◌+◌, ◌-◌, ◌<◌, ◌≤◌, List, [], ◌∷◌, ◌++◌, Bool, true, false, ◌&&◌, length, nat_le, nat_lt, set, slice_index_or, Option, Some, None, refl, sym, ap, subst, ◌∙◌, arith}
+use Rattle.std.proofs.Common.{◌≡◌, inl, inr, ℕ, zero, suc, ◌+◌, ◌-◌, ◌<◌, ◌≤◌, List, [], ◌∷◌, ◌++◌, Bool, true, false}
+use Rattle.std.proofs.Common.{◌&&◌, length, nat_le, nat_lt, set, slice_index_or, Option, Some, None, refl, sym, ap}
+use Rattle.std.proofs.Common.{subst, ◌∙◌, arith}
 use Rattle.std.proofs.Math.Seq.{set-append_seam}
 use Rattle.std.proofs.lemmas.Bool.{le-leb, leb-true}
 use Rattle.std.proofs.lemmas.Bool.Decides.{leb_tells}
@@ -10,8 +12,10 @@ use Rattle.model.specs.declared.turns.Mark.TheVariants.{Waiting}
 use Rattle.model.specs.declared.values.Entry.TheVariants.{Unset}
 use Rattle.model.specs.Accepted.Refusals.{refusal_of}
 use Rattle.model.specs.ClassListings.{ClassListing}
-use Rattle.model.specs.Frames.{Frame, has_room_for, no_frame, opening_frame, running_frame, units_of_frames, with_running, within_limits}
-use Rattle.model.specs.Initialisation.{callers_waiting, initializer_frames, initializer_place, started_at, waiting, with_states}
+use Rattle.model.specs.Frames.{Frame, has_room_for, no_frame, opening_frame, running_frame, units_of_frames}
+use Rattle.model.specs.Frames.{with_running, within_limits}
+use Rattle.model.specs.Initialisation.{callers_waiting, initializer_frames, initializer_place, started_at, waiting}
+use Rattle.model.specs.Initialisation.{with_states}
 use Rattle.loader.specs.declared.initializers.ClassInitializer.{ClassInitializer}
 use Rattle.loader.specs.ClassTables.{class_tables, superclass_in}
 use Rattle.loader.specs.Initializers.{initializers, place_in}
@@ -70,7 +74,8 @@ module _ (program : List ClassListing) where
       pub left-further : (above : Option ℕ) → above ≡ superclass_in (class_tables program) class
           → AreLeft (count - (passed + 1)) above
       left-further above above_is =
-          let cut : length (class ∷ further) ≡ count - passed = ap (λ (cs : List ℕ). length cs) (sym left-is) ∙ h.whole in
+          let cut : length (class ∷ further) ≡ count - passed = ap (λ (cs : List ℕ). length cs) (sym left-is) ∙ h.whole
+                in
           subst (AreLeft (count - (passed + 1))) (sym above_is) (record {
             whole = omega (arith, cut, inside);
             listed = (subst (AreBelow (length program)) left-is h.listed).1;
@@ -175,7 +180,8 @@ module _ (program : List ClassListing) (passed count : ℕ) (next : Option ℕ) 
   -- ---- and is entered
 
   module _ (accepted : refusal_of program ≡ None) (frames whole : List Frame)
-      (all : frames ++ callers_waiting (initializer_frames program (rest_of program (count - passed) next)) ≡ whole) where
+      (all : frames ++ callers_waiting (initializer_frames program (rest_of program (count - passed) next)) ≡ whole)
+          where
     whole-is : frames ++ callers_waiting (opened ∷ later) ≡ whole
     whole-is = ap (λ fs. frames ++ callers_waiting fs) (sym frames-left) ∙ all
 
@@ -191,7 +197,8 @@ module _ (program : List ClassListing) (passed count : ℕ) (next : Option ℕ) 
         let small = leb-true (units_of_frames whole) 4096 parts.1 in
         let long : length frames + suc (length later) ≡ length whole =
         ap (λ n. length frames + n) (sym (length-waiting (opened ∷ later)))
-        ∙ sym (length-append frames (callers_waiting (opened ∷ later))) ∙ ap (λ (fs : List Frame). length fs) whole-is in
+        ∙ sym (length-append frames (callers_waiting (opened ∷ later))) ∙ ap (λ (fs : List Frame). length fs) whole-is
+            in
         let wide : units_of_frames frames + (locals + stack + units_of_frames later) ≡ units_of_frames whole =
         ap (λ n. units_of_frames frames + n)
         (sym (units-waiting (opened ∷ later) ∙ units-opening (initializer_place program class) locals stack later))
@@ -206,7 +213,8 @@ module _ (program : List ClassListing) (passed count : ℕ) (next : Option ℕ) 
         ∙ ap (λ fs. frames ++ fs) (waits-none opened later (omega (arith, few-later, last))) ∙ whole-is
 
     enters-waiting : passed + 1 < count → (after : List Frame)
-        → after ≡ with_running (frames ++ opened ∷ []) (record (running_frame (frames ++ opened ∷ [])) { mark = Waiting })
+        → after ≡ with_running (frames ++ opened ∷ []) (record (running_frame (frames ++ opened ∷ []))
+            { mark = Waiting })
         → after ++ callers_waiting later ≡ whole
     enters-waiting more after is =
         ap (λ fs. fs ++ callers_waiting later)
@@ -246,7 +254,8 @@ pub units-over : (program : List ClassListing) (class count left : ℕ) (next : 
 units-over program class count left next units none all =
     let over : units_of_frames (initializer_frames program (rest_of program left next)) ≡ 0 =
     ap (λ cs. units_of_frames (initializer_frames program cs)) (rest-over program left next none) in
-    let same : units ≡ units_of_frames (initializer_frames program (claimed program class count)) = omega (arith, all, over) in
+    let same : units ≡ units_of_frames (initializer_frames program (claimed program class count)) = omega (arith, all,
+          over) in
     same ∙ sym (units-waiting (initializer_frames program (claimed program class count)))
 
 -- ---- whether a claim fits

@@ -1,5 +1,6 @@
 -- Claims of classes: the walk upwards, and what a claim takes.
-use Rattle.std.proofs.Common.{◌≡◌, ◌≢◌, ℕ, zero, suc, ◌+◌, ◌-◌, ◌<◌, List, [], ◌∷◌, length, slice_index_or, Option, Some, None, refl, sym, ap, subst, ◌∙◌, arith}
+use Rattle.std.proofs.Common.{◌≡◌, ◌≢◌, ℕ, zero, suc, ◌+◌, ◌-◌, ◌<◌, List, [], ◌∷◌, length, slice_index_or, Option}
+use Rattle.std.proofs.Common.{Some, None, refl, sym, ap, subst, ◌∙◌, arith}
 use Rattle.model.specs.declared.turns.ClassState.{ClassState}
 use Rattle.model.specs.declared.turns.ClassState.TheVariants.{Unused, Running, Done, Failed}
 use Rattle.model.specs.ClassListings.{ClassListing}
@@ -7,7 +8,8 @@ use Rattle.model.specs.Classes.Subclasses.{enough_steps}
 use Rattle.model.specs.Initialisation.{Chain, chain_end, chain_with}
 use Rattle.loader.specs.ClassFacts.{ClassFacts}
 use Rattle.loader.specs.ClassTables.{class_tables, superclass_in}
-use Rattle.instructions.specs.InitialisingByNumbers.{AreBelow, AreClaimed, chain_at, chain_upwards, claimed, classes_upwards}
+use Rattle.instructions.specs.InitialisingByNumbers.{AreBelow, AreClaimed, chain_at, chain_upwards, claimed}
+use Rattle.instructions.specs.InitialisingByNumbers.{classes_upwards}
 
 -- ---- the walk upwards
 
@@ -74,13 +76,15 @@ module _ (classes : List ClassFacts) (states : List ClassState) (whole : Chain) 
     walk-ends other =
         ends (suc (steps - (passed + 1))) (Some class) count state
         (at (steps - (passed + 1)) class state is
-        ∙ stops class state (chain_upwards (steps - (passed + 1)) classes states (superclass_in classes class)) other) one
+        ∙ stops class state (chain_upwards (steps - (passed + 1)) classes states (superclass_in classes class)) other)
+            one
 
     pub walk-next : state ≡ Unused → (above : Option ℕ) → above ≡ superclass_in classes class
         → Walks classes states whole (steps - (passed + 1)) above (count + 1)
     walk-next unused above above_is =
         let further = chain_upwards (steps - (passed + 1)) classes states (superclass_in classes class) in
-        let is : chain_upwards (suc (steps - (passed + 1))) classes states (Some class) ≡ chain_with class Unused further =
+        let is : chain_upwards (suc (steps - (passed + 1))) classes states (Some class)
+              ≡ chain_with class Unused further =
         at (steps - (passed + 1)) class state is ∙ ap (λ state. chain_with class state further) unused in
         let more : count + length (chain_upwards (suc (steps - (passed + 1))) classes states (Some class)).unused
         ≡ count + suc (length further.unused) = ap (λ (c : Chain). count + length c.unused) is in
@@ -147,7 +151,8 @@ module _ (program : List ClassListing) (states : List ClassState) (class count :
       unused-upwards (class_tables program) states (suc (enough_steps program)) (Some class)
       ∙ ap (claimed program class) found.1
 
-  pub chain-found : (let chain : Chain = record { unused = claimed program class count; above = above } in chain_at program states class ≡ chain)
+  pub chain-found : (let chain : Chain = record { unused = claimed program class count; above = above }
+                           in chain_at program states class ≡ chain)
   chain-found = by (chain_at program states class) is-claimed found.0 where
     by : (c : Chain) → c.unused ≡ claimed program class count → c.above ≡ above
         → (let chain : Chain = record { unused = claimed program class count; above = above } in c ≡ chain)

@@ -1,5 +1,6 @@
 -- What the code of a program refers to is there, where no class refers to what isn't.
-use Rattle.std.proofs.Common.{◌≡◌, ℕ, zero, suc, List, [], ◌∷◌, Bool, true, false, ◌||◌, not, cond, length, Option, Some, None, refl, ap, sym, ◌∙◌}
+use Rattle.std.proofs.Common.{◌≡◌, ℕ, zero, suc, List, [], ◌∷◌, Bool, true, false, ◌||◌, not, cond, length, Option}
+use Rattle.std.proofs.Common.{Some, None, refl, ap, sym, ◌∙◌}
 use Rattle.std.specs.Prelude.{◌==◌, slice_get}
 use Rattle.std.specs.List.{find, list_any}
 use Rattle.std.specs.Option.{option_and_then}
@@ -22,7 +23,8 @@ was-not true e = refl
 was-not false e = cc
 
 -- what none is found to be, none is
-pub none-found-at : {A : Type 0} (p : A → Bool) (xs : List A) (n : ℕ) (x : A) → find p xs ≡ None → slice_get xs n ≡ Some x
+pub none-found-at : {A : Type 0} (p : A → Bool) (xs : List A) (n : ℕ) (x : A) → find p xs ≡ None → slice_get xs n
+    ≡ Some x
     → p x ≡ false
 none-found-at p [] n x none e = cc
 none-found-at p (y ∷ ys) n x none e = by (p y) refl none n e (λ n rest e. none-found-at p ys n x rest e) where

@@ -1,5 +1,6 @@
 -- Threads by their numbers, in cyclic order.
-use Rattle.std.proofs.Common.{◌≡◌, ◌⊎◌, inl, inr, ◌<◌, ◌≤◌, ◌+◌, ◌-◌, arith, min, ℕ, zero, suc, List, [], ◌∷◌, ◌++◌, length, take, drop, Bool, true, false, ◌||◌, Some, None, is_some, refl, ap, sym, ◌∙◌}
+use Rattle.std.proofs.Common.{◌≡◌, ◌⊎◌, inl, inr, ◌<◌, ◌≤◌, ◌+◌, ◌-◌, arith, min, ℕ, zero, suc, List, [], ◌∷◌, ◌++◌}
+use Rattle.std.proofs.Common.{length, take, drop, Bool, true, false, ◌||◌, Some, None, is_some, refl, ap, sym, ◌∙◌}
 use Rattle.std.specs.Prelude.{nat_le, slice_get}
 use Rattle.std.proofs.lemmas.Bool.{leb-false, leb-true}
 use Rattle.std.specs.List.{find, list_any}
@@ -49,7 +50,8 @@ pub cyclic-up : (start count within : ℕ) → within ≤ count → (start ≡ w
 cyclic-up start count within few (inl same) =
     let from : 0 + within ≡ within = omega arith in
     let all : within ≡ within - 0 = omega arith in
-    rw same (ap (λ ns. ns ++ take within (numbers_up 0 count)) (drop-up within 0 count ∙ ap (λ n. numbers_up n (count - within)) from)
+    rw same (ap (λ ns. ns ++ take within (numbers_up 0 count)) (drop-up within 0 count
+        ∙ ap (λ n. numbers_up n (count - within)) from)
     ∙ ap (λ ns. numbers_up within (count - within) ++ ns) (take-up within 0 count few ∙ ap (numbers_up 0) all))
 cyclic-up start count within few (inr past) =
     let none : count - start ≡ 0 = omega (arith, past.0) in
@@ -66,7 +68,8 @@ found-next p from to within e =
     let left : to - from ≡ suc (to - (from + 1)) = omega (arith, within) in
     sym (ap (λ n. find p (numbers_up from n)) left ∙ rw e refl)
 
-pub passed-next : (p : ℕ → Bool) (from to : ℕ) → from < to → p from ≡ false → find p (numbers_between from to) ≡ find p (numbers_between (from + 1) to)
+pub passed-next : (p : ℕ → Bool) (from to : ℕ) → from < to → p from ≡ false → find p (numbers_between from to)
+    ≡ find p (numbers_between (from + 1) to)
 passed-next p from to within e =
     let left : to - from ≡ suc (to - (from + 1)) = omega (arith, within) in
     ap (λ n. find p (numbers_up from n)) left ∙ rw e refl
@@ -94,10 +97,12 @@ found-second p (x ∷ xs) ys e = by (found-second p xs ys) (p x) refl
 
 module _ (p : ℕ → Bool) (start within : ℕ) (threads : List Thread) (few : within ≤ length threads)
     (is : (start ≡ within) ⊎ ((length threads ≤ start) × (within ≡ length threads))) where
-  order : cyclic_from start (numbers_from 0 threads) ≡ numbers_between within (length threads) ++ numbers_between 0 within
+  order : cyclic_from start (numbers_from 0 threads) ≡ numbers_between within (length threads)
+      ++ numbers_between 0 within
   order = ap (cyclic_from start) (numbers-of 0 threads) ∙ cyclic-up start (length threads) within few is
 
-  pub cyclic-first : (n : ℕ) → Some n ≡ find p (numbers_between within (length threads)) → Some n ≡ find p (cyclic_from start (numbers_from 0 threads))
+  pub cyclic-first : (n : ℕ) → Some n ≡ find p (numbers_between within (length threads))
+      → Some n ≡ find p (cyclic_from start (numbers_from 0 threads))
   cyclic-first n found = sym (ap (find p) order ∙ found-first p _ _ n (sym found))
 
   pub cyclic-second : None ≡ find p (numbers_between within (length threads))
@@ -114,7 +119,8 @@ some-found p (x ∷ xs) = by (some-found p xs) (p x) refl
     by more true is = rw is refl
     by more false is = rw is more
 
-pub any-next : (p : ℕ → Bool) (from to : ℕ) → from < to → p from ≡ false → list_any p (numbers_between from to) ≡ list_any p (numbers_between (from + 1) to)
+pub any-next : (p : ℕ → Bool) (from to : ℕ) → from < to → p from ≡ false → list_any p (numbers_between from to)
+    ≡ list_any p (numbers_between (from + 1) to)
 any-next p from to within e =
     let left : to - from ≡ suc (to - (from + 1)) = omega (arith, within) in
     ap (λ n. list_any p (numbers_up from n)) left ∙ rw e refl
@@ -129,17 +135,22 @@ any-none p from to over =
     let left : to - from ≡ 0 = omega (arith, over) in
     sym (ap (λ n. list_any p (numbers_up from n)) left)
 
--- a thread lives, by its number among those of a list behind others
-any-behind : (q : Thread → Bool) (p : ℕ → Bool) (n : ℕ) (threads : List Thread)
-    → ((k : ℕ) (t : Thread) → slice_get threads k ≡ Some t → p (n + k) ≡ q t) → list_any q threads ≡ list_any p (numbers_from n threads)
-any-behind q p n [] same = refl
-any-behind q p n (t ∷ ts) same =
+-- a thread lives, by its number among those of a list after others
+any-following : (q : Thread → Bool) (p : ℕ → Bool) (n : ℕ) (threads : List Thread)
+    → ((k : ℕ) (t : Thread) → slice_get threads k ≡ Some t → p (n + k) ≡ q t) → list_any q threads
+        ≡ list_any p (numbers_from n threads)
+any-following q p n [] same = refl
+any-following q p n (t ∷ ts) same =
     let here : n + 0 ≡ n = omega arith in
     let first : q t ≡ p n = sym (same 0 t refl) ∙ ap p here in
-    rw first (ap (λ b. p n || b) (any-behind q p (n + 1) ts (λ k u at. let there : n + 1 + k ≡ n + suc k = omega arith in ap p there ∙ same (suc k) u at)))
+    rw first (ap (λ b. p n || b)
+        (any-following q p (n + 1) ts (λ k u at. let there : n + 1 + k ≡ n + suc k = omega arith in ap p there
+                                                       ∙ same (suc k) u at)))
 
-pub some-lives : (threads : List Thread) → list_any (λ t. lives (Some t)) threads ≡ list_any (λ n. lives (slice_get threads n)) (numbers_from 0 threads)
-some-lives threads = any-behind (λ t. lives (Some t)) (λ n. lives (slice_get threads n)) 0 threads (λ k t at. let here : 0 + k ≡ k = omega arith in rw here (ap lives at))
+pub some-lives : (threads : List Thread) → list_any (λ t. lives (Some t)) threads
+    ≡ list_any (λ n. lives (slice_get threads n)) (numbers_from 0 threads)
+some-lives threads = any-following (λ t. lives (Some t)) (λ n. lives (slice_get threads n)) 0 threads
+    (λ k t at. let here : 0 + k ≡ k = omega arith in rw here (ap lives at))
 
 -- ---- the lesser of two
 

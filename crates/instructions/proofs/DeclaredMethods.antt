@@ -1,5 +1,6 @@
 -- A method that was found by name: its number, what is known of it by its number, and its place in the program.
-use Rattle.std.proofs.Common.{◌≡◌, ◌⊎◌, inl, inr, ℕ, zero, suc, ◌+◌, List, [], ◌∷◌, ◌++◌, length, Bool, true, false, cond, ◌==◌, ◌&&◌, not, Option, Some, None, refl, sym, ap, arith, ◌∙◌}
+use Rattle.std.proofs.Common.{◌≡◌, ◌⊎◌, inl, inr, ℕ, zero, suc, ◌+◌, List, [], ◌∷◌, ◌++◌, length, Bool, true, false}
+use Rattle.std.proofs.Common.{cond, ◌==◌, ◌&&◌, not, Option, Some, None, refl, sym, ap, arith, ◌∙◌}
 use Rattle.std.specs.Prelude.{codes, is_none, is_some, slice_get}
 use Rattle.std.specs.List.{find, list_all, position}
 use Rattle.std.specs.Option.{option_and_then, option_map, option_zip}
@@ -18,7 +19,8 @@ use Rattle.model.specs.Classes.Flags.{is_static}
 use Rattle.model.specs.Classes.MethodPlaces.{is_method, member_of, place_of}
 use Rattle.model.specs.Classes.Named.{builtin, class_named, or_else}
 use Rattle.model.specs.Classes.Search.{Declared, declared_in, first_declared}
-use Rattle.model.specs.Programs.{builtin_of, empty_initializer, is_member, is_own_initializer, method_at, method_in as method_of_class}
+use Rattle.model.specs.Programs.{builtin_of, empty_initializer, is_member, is_own_initializer, method_at}
+use Rattle.model.specs.Programs.{method_in as method_of_class}
 use Rattle.resolve.specs.Numbers.{all_classes}
 use Rattle.resolve.proofs.ClassAtNumber.{class_at_number}
 use Rattle.resolve.proofs.ListLemmas.{found-passes}
@@ -52,7 +54,8 @@ module _ (program : List ClassListing) (test : Method → Bool) where
   in_class name (Some c) d is e = by (find test c.methods) refl e
     where
       by : (m : Option Method) → find test c.methods ≡ m
-          → option_map (λ (m : Method). let found : Declared Method = record { class = name; member = m } in found) m ≡ Some d
+          → option_map (λ (m : Method). let found : Declared Method = record { class = name; member = m } in found) m
+                                              ≡ Some d
           → IsFound program test d
       by None h k = cc
       by (Some m) h k =
@@ -94,21 +97,22 @@ found-place p (y ∷ ys) x e = by (p y) e (λ k. found-place p ys x k) where
   by true k rest = record { place = 0; there = k }
   by false k rest = let later = rest k in record { place = suc later.place; there = later.there }
 
-pub record IsBehind {A : Type 0} (xs ys : List A) (k : ℕ) (x : A) : Type 0 where
+pub record IsAfter {A : Type 0} (xs ys : List A) (k : ℕ) (x : A) : Type 0 where
   pub place : ℕ
   pub is : k ≡ length xs + place
   pub there : slice_get ys place ≡ Some x
 
--- what stands in two lists stands in the first or behind it
+-- what stands in two lists stands in the first or after it
 pub either-part : {A : Type 0} (xs ys : List A) (k : ℕ) (x : A) → slice_get (xs ++ ys) k ≡ Some x
-    → (slice_get xs k ≡ Some x) ⊎ IsBehind xs ys k x
+    → (slice_get xs k ≡ Some x) ⊎ IsAfter xs ys k x
 either-part [] ys k x e = inr (record { place = k; is = omega arith; there = e })
 either-part (z ∷ zs) ys zero x e = inl e
 either-part (z ∷ zs) ys (suc k) x e =
     elim (either-part zs ys k x e) [
       | inl there ↦ inl there
-      | inr behind ↦
-          inr (let at = behind.is in record { place = behind.place; is = omega (arith, at); there = behind.there })
+      | inr following ↦
+          inr (let at = following.is in record { place = following.place; is = omega (arith, at);
+                     there = following.there })
     ]
 
 -- ---- the machine's own classes
@@ -117,7 +121,8 @@ pub own-members : find has_member_twice builtin_classes ≡ None
 unfolding builtin_classes has_member_twice
 own-members = refl
 
-pub own-codes : list_all (λ (c : ClassListing). list_all (λ (m : Method). is_none m.code) c.methods) builtin_classes ≡ true
+pub own-codes : list_all (λ (c : ClassListing). list_all (λ (m : Method). is_none m.code) c.methods) builtin_classes
+    ≡ true
 unfolding builtin_classes
 own-codes = refl
 
@@ -132,7 +137,9 @@ is_static_as static (Some own) = same_bool static (is_printing own)
 abbrev member_in : ClassListing → Method → Member
 member_in c m = record { class = c.name; name = m.name; descriptor = m.descriptor }
 
-own-static : list_all (λ (c : ClassListing). list_all (λ (m : Method). is_static_as (is_static m) (builtin_of (member_in c m))) c.methods) builtin_classes
+own-static : list_all
+    (λ (c : ClassListing). list_all (λ (m : Method). is_static_as (is_static m) (builtin_of (member_in c m))) c.methods)
+    builtin_classes
     ≡ true
 unfolding builtin_classes
 own-static = refl
@@ -141,7 +148,8 @@ and-both : (a b : Bool) → (a && b) ≡ true → (a ≡ true) × (b ≡ true)
 and-both true b e = (refl, e)
 and-both false b e = cc
 
-pub all-at : {A : Type 0} (p : A → Bool) (xs : List A) (k : ℕ) (x : A) → list_all p xs ≡ true → slice_get xs k ≡ Some x → p x ≡ true
+pub all-at : {A : Type 0} (p : A → Bool) (xs : List A) (k : ℕ) (x : A) → list_all p xs ≡ true → slice_get xs k ≡ Some x
+    → p x ≡ true
 all-at p [] k x all e = cc
 all-at p (y ∷ ys) zero x all e = let same : y ≡ x = cc in ap p (sym same) ∙ (and-both (p y) (list_all p ys) all).0
 all-at p (y ∷ ys) (suc k) x all e = all-at p ys k x (and-both (p y) (list_all p ys) all).1 e
@@ -200,7 +208,8 @@ module _ (program : List ClassListing) (free : Unrefused program) (hides : find 
 
   pub class_there : slice_get (all_classes program) class_of.number ≡ Some is.class
   class_there =
-      sym (ap (option_and_then (slice_get (all_classes program))) class_of.is) ∙ class_at_number program d.class ∙ is.named
+      sym (ap (option_and_then (slice_get (all_classes program))) class_of.is) ∙ class_at_number program d.class
+          ∙ is.named
 
   pub class_name_is : is.class.name ≡ d.class
   class_name_is =
@@ -212,9 +221,10 @@ module _ (program : List ClassListing) (free : Unrefused program) (hides : find 
   found_at = found-place test is.class.methods d.member is.found
 
   abbrev pub part : Type 0
-  part = (slice_get program class_of.number ≡ Some is.class) ⊎ IsBehind program builtin_classes class_of.number is.class
+  part = (slice_get program class_of.number ≡ Some is.class) ⊎ IsAfter program builtin_classes class_of.number is.class
 
-  pub parts : (slice_get program class_of.number ≡ Some is.class) ⊎ IsBehind program builtin_classes class_of.number is.class
+  pub parts : (slice_get program class_of.number ≡ Some is.class) ⊎ IsAfter program builtin_classes class_of.number
+      is.class
   parts = either-part program builtin_classes class_of.number is.class class_there
 
   abbrev pub where_it_is : MethodPlace
@@ -224,19 +234,23 @@ module _ (program : List ClassListing) (free : Unrefused program) (hides : find 
   alone =
       elim parts [
         | inl at ↦ method-place program class_of.number found_at.place is.class d.member free.members at found_at.there
-        | inr own ↦ method-place builtin_classes own.place found_at.place is.class d.member own-members own.there found_at.there
+        | inr own ↦ method-place builtin_classes own.place found_at.place is.class d.member own-members own.there
+            found_at.there
       ]
 
   pub numbered : method_number program d ≡ Some (class_of.number, found_at.place)
   numbered =
       ap (λ o. option_zip o (method_place program d)) class_of.is
-      ∙ ap (λ o. option_zip (Some class_of.number) (option_and_then (λ (c : ClassListing). position (is_method d.member.name d.member.descriptor) c.methods) o)) is.named
+      ∙ ap (λ o. option_zip (Some class_of.number)
+          (option_and_then (λ (c : ClassListing). position (is_method d.member.name d.member.descriptor) c.methods) o))
+          is.named
       ∙ ap (option_zip (Some class_of.number)) alone
 
   method_there : slice_get program class_of.number ≡ Some is.class → method_at program where_it_is ≡ Some d.member
   method_there at =
       ap (option_and_then (λ (c : ClassListing). method_of_class c found_at.place)) at
-      ∙ ap (λ o. or_else o (cond (found_at.place == length is.class.methods) (Some empty_initializer) None)) found_at.there
+      ∙ ap (λ o. or_else o (cond (found_at.place == length is.class.methods) (Some empty_initializer) None))
+          found_at.there
 
   pub known : known_at program where_it_is ≡ Some (method_facts program d.class d.member)
   known =
@@ -258,7 +272,8 @@ module _ (program : List ClassListing) (free : Unrefused program) (hides : find 
   declared_there : declared_at program row ≡ Some d
   declared_there =
       ap (option_and_then (method_in found_at.place)) class_there
-      ∙ ap (option_map (λ (m : Method). let found : Declared Method = record { class = is.class.name; member = m } in found)) found_at.there
+      ∙ ap (option_map (λ (m : Method). let found : Declared Method = record { class = is.class.name; member = m }
+                                              in found)) found_at.there
       ∙ ap (λ name. Some (record { class = name; member = d.member })) class_name_is
 
   -- it stands there in the program, or has no code
@@ -266,11 +281,13 @@ module _ (program : List ClassListing) (free : Unrefused program) (hides : find 
   placed =
       elim parts [
         | inl at ↦
-            inl (row-place program row d free.classes free.members (slice_get_within program class_of.number is.class at) declared_there)
+            inl (row-place program row d free.classes free.members (slice_get_within program class_of.number is.class
+                at) declared_there)
         | inr own ↦
             inr (none-is d.member.code
             (all-at (λ (m : Method). is_none m.code) is.class.methods found_at.place d.member
-            (all-at (λ (c : ClassListing). list_all (λ (m : Method). is_none m.code) c.methods) builtin_classes own.place is.class own-codes own.there)
+            (all-at (λ (c : ClassListing). list_all (λ (m : Method). is_none m.code) c.methods) builtin_classes
+                own.place is.class own-codes own.there)
             found_at.there))
       ]
     where
@@ -285,13 +302,18 @@ module _ (program : List ClassListing) (free : Unrefused program) (hides : find 
       elim parts [
         | inl at ↦
             let plain : is_some (builtin d.class) ≡ false =
-            ap (λ n. is_some (builtin n)) (sym class_name_is) ∙ none-found-at has_builtin_name program class_of.number is.class hides at in
+            ap (λ n. is_some (builtin n)) (sym class_name_is) ∙ none-found-at has_builtin_name program class_of.number
+                is.class hides at in
             let none : builtin_of (member_of d) ≡ None = not-own (member_of d) plain in absurd (cc)
         | inr there ↦
             were-same (is_static d.member) (is_printing own)
             (ap (is_static_as (is_static d.member)) (sym e)
-            ∙ ap (λ (n : List ℕ). is_static_as (is_static d.member) (builtin_of (record { class = n; name = d.member.name; descriptor = d.member.descriptor }))) (sym class_name_is)
-            ∙ all-at (λ (m : Method). is_static_as (is_static m) (builtin_of (member_in is.class m))) is.class.methods found_at.place d.member
-            (all-at (λ (c : ClassListing). list_all (λ (m : Method). is_static_as (is_static m) (builtin_of (member_in c m))) c.methods) builtin_classes there.place is.class own-static there.there)
+            ∙ ap (λ (n : List ℕ). is_static_as (is_static d.member)
+                (builtin_of (record { class = n; name = d.member.name; descriptor = d.member.descriptor })))
+                (sym class_name_is)
+            ∙ all-at (λ (m : Method). is_static_as (is_static m) (builtin_of (member_in is.class m))) is.class.methods
+                found_at.place d.member
+            (all-at (λ (c : ClassListing). list_all (λ (m : Method). is_static_as (is_static m)
+                (builtin_of (member_in c m))) c.methods) builtin_classes there.place is.class own-static there.there)
             found_at.there)
       ]

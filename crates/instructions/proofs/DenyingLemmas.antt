@@ -1,6 +1,7 @@
--- A class that can't be used: what is thrown leaves the machine as every NoClassDefFoundError does, but for the states of
--- the classes that have failed.
-use Rattle.std.proofs.Common.{◌≡◌, ◌⊎◌, inl, inr, ℕ, zero, suc, ◌+◌, List, [], ◌∷◌, ◌++◌, Bool, true, false, is_some, map, slice_set, Option, Some, None, Ok, Err, refl, sym, ap, subst, ◌∙◌}
+-- A class that can't be used: what is thrown leaves the machine as every NoClassDefFoundError does, but for the states
+-- of the classes that have failed.
+use Rattle.std.proofs.Common.{◌≡◌, ◌⊎◌, inl, inr, ℕ, zero, suc, ◌+◌, List, [], ◌∷◌, ◌++◌, Bool, true, false, is_some}
+use Rattle.std.proofs.Common.{map, slice_set, Option, Some, None, Ok, Err, refl, sym, ap, subst, ◌∙◌}
 use Rattle.std.specs.Prelude.{if◌then◌else◌, nat_le, reverse}
 use Rattle.model.specs.declared.journals.Outcome.{Outcome}
 use Rattle.model.specs.declared.journals.Outcome.TheVariants.{Fault as FaultOutcome}
@@ -24,11 +25,12 @@ use Rattle.model.specs.Unwinding.{Landing, handling, initialised_by, landed, thr
 use Rattle.model.specs.Unwinding.Landing.{Handled, Stopped, Unhandled}
 use Rattle.model.specs.Worlds.{Monitor, Object, World, frames_at, plain_object, with_class_states, with_thread}
 use Rattle.model.specs.Worlds.Thread.{Live as LiveThread}
-use Rattle.join.specs.TurnsOnCells.{CellMachine, birth_in, carried_on, carried_unless, faulted_on, outcome_if_on, raised_at, turned_on}
+use Rattle.join.specs.TurnsOnCells.{CellMachine, birth_in, carried_on, carried_unless, faulted_on, outcome_if_on}
+use Rattle.join.specs.TurnsOnCells.{raised_at, turned_on}
 use Rattle.instructions.specs.declared.acting.Turned.{Turned}
 use Rattle.instructions.specs.declared.kinds.Course.TheVariants.{Live}
 use Rattle.instructions.specs.declared.machines.Machine.{Machine}
-use Rattle.instructions.specs.Acting.{Scene, shown, told, turned}
+use Rattle.instructions.specs.Acting.{Scene, shown, reported, turned}
 
 -- ---- classes fail in any order
 
@@ -70,7 +72,8 @@ module _ (states : List ClassState) where
     where
       by : (b : Bool) (u : World) → with_monitor_of (with_class_states w states) birth (exited (monitor_of w birth))
           ≡ with_class_states u states
-          → (if b then with_monitor_of (with_class_states w states) birth (exited (monitor_of w birth)) else with_class_states w states)
+          → (if b then with_monitor_of (with_class_states w states) birth (exited (monitor_of w birth))
+              else with_class_states w states)
           ≡ with_class_states (if b then u else w) states
       by true u e = e
       by false u e = refl
@@ -115,7 +118,8 @@ module _ (program : List ClassListing) (classes : List ℕ) where
   abbrev Follows : World → Effect → Effect → Type 0
   Follows w e further =
       ((further ≡ e) × (is_fault e.after ≡ true))
-      ⊎ ((let same : Effect = record { after = failed_too e.after; writes = e.writes } in further ≡ same) × (e.after.fault ≡ w.fault))
+      ⊎ ((let same : Effect = record { after = failed_too e.after; writes = e.writes } in further ≡ same)
+                × (e.after.fault ≡ w.fault))
 
   abbrev handled : World → ℕ → ℕ → ℕ → Frame → List Frame → Effect
   handled w t birth handler f callers = record {
@@ -144,7 +148,8 @@ module _ (program : List ClassListing) (classes : List ℕ) where
       let class = class_at w birth in
       let way = way_of program class (reverse (frames_at w t)) in
       let left = without program w t way.left in
-      subst (λ (u : World). Follows w (landed before left t birth class way.landing) (landed before u t birth class way.landing))
+      subst (λ (u : World). Follows w (landed before left t birth class way.landing)
+          (landed before u t birth class way.landing))
       (sym (without-too w t way.left))
       (follows-from left w (landed before left t birth class way.landing)
       (landed before (failed_too left) t birth class way.landing)
@@ -170,7 +175,8 @@ module _ (program : List ClassListing) (classes : List ℕ) where
       by (Some fault) at faulty = faulty
   carried-too x a births w e further none (inr f) =
       inr (
-        ap (carried_on x a births) f.0 ∙ ap (carried_unless x a births (record { after = failed_too e.after; writes = e.writes })) (f.1 ∙ none)
+        ap (carried_on x a births) f.0
+            ∙ ap (carried_unless x a births (record { after = failed_too e.after; writes = e.writes })) (f.1 ∙ none)
             ∙ sym (ap (λ o. failed_on (carried_unless x a births e o)) (f.1 ∙ none)),
         ap (λ o. is_fault (carried_unless x a births e o).world) (f.1 ∙ none) ∙ ap is_some (f.1 ∙ none),
       )
@@ -239,22 +245,24 @@ module _ (program : List ClassListing) (classes : List ℕ) where
     abbrev z : CellMachine
     z = turned_on program before m.thread (Denies (with_states Failed classes m.states.items))
 
-    pub denies_told : (t : Turned)
-        → told before m.thread (shown program scene raised) (Ok t) ≡ turned program before m.thread (Raises NoClassDefFound)
+    pub denies_reported : (t : Turned)
+        → reported before m.thread (shown program scene raised) (Ok t)
+            ≡ turned program before m.thread (Raises NoClassDefFound)
         → after.frames ≡ raised.frames → after.slots ≡ raised.slots
         → after.states.items ≡ with_states Failed classes raised.states.items → after.output.items ≡ raised.output.items
         → after.heap ≡ raised.heap
-        → told before m.thread (shown program scene after) (Ok t)
+        → reported before m.thread (shown program scene after) (Ok t)
         ≡ turned program before m.thread (Denies (with_states Failed classes m.states.items))
-    denies_told t is frames slots states output heap =
+    denies_reported t is frames slots states output heap =
         goes-too y z (outcome_if_on before.account (Some 0)) (denied-too before m.thread refl)
         (shown program scene raised t.course) (shown program scene after t.course) t.outcome is refl
         (rw (frames, slots, states, output, heap) refl)
 
-    pub denies_fault_told : (fault : Fault)
-        → told before m.thread (shown program scene raised) (Err fault) ≡ turned program before m.thread (Raises NoClassDefFound)
-        → told before m.thread (shown program scene after) (Err fault)
+    pub denies_fault_reported : (fault : Fault)
+        → reported before m.thread (shown program scene raised) (Err fault)
+            ≡ turned program before m.thread (Raises NoClassDefFound)
+        → reported before m.thread (shown program scene after) (Err fault)
         ≡ turned program before m.thread (Denies (with_states Failed classes m.states.items))
-    denies_fault_told fault is =
+    denies_fault_reported fault is =
         faults-too y z (outcome_if_on before.account (Some 0)) (denied-too before m.thread refl)
         (faulted_on before m.thread fault) is refl

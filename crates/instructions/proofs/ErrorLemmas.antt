@@ -1,5 +1,6 @@
 -- The two errors that are made before a run stay of their classes as long as their births stand in their cells.
-use Rattle.std.proofs.Common.{◌≡◌, ◌≤◌, ◌<◌, ◌+◌, ◌-◌, ℕ, zero, suc, List, [], ◌∷◌, length, set, slice_get, nat_lt, Bool, true, false, Option, Some, None, refl, sym, ◌∙◌, ap, arith, ltb-false}
+use Rattle.std.proofs.Common.{◌≡◌, ◌≤◌, ◌<◌, ◌+◌, ◌-◌, ℕ, zero, suc, List, [], ◌∷◌, length, set, slice_get, nat_lt}
+use Rattle.std.proofs.Common.{Bool, true, false, Option, Some, None, refl, sym, ◌∙◌, ap, arith, ltb-false}
 use Rattle.std.specs.Prelude.{replicate}
 use Rattle.std.specs.Option.{option_map}
 use Rattle.model.specs.declared.colours.Cell.{Cell}
@@ -20,13 +21,15 @@ use Rattle.collector.specs.Freed.{freed_in, freed_cell}
 use Rattle.colours.specs.Births.{born_in, taken_cell}
 use Rattle.colours.proofs.Steps.{one_taken}
 use Rattle.join.specs.ReadBack.{birth_of}
-use Rattle.join.specs.TurnsOnCells.{shade_at, shade_cell, shade_cell_if, black_at, blacken_cell, statics_on, frames_on, word_on, mark_on, step_on}
+use Rattle.join.specs.TurnsOnCells.{shade_at, shade_cell, shade_cell_if, black_at, blacken_cell, statics_on, frames_on}
+use Rattle.join.specs.TurnsOnCells.{word_on, mark_on, step_on}
 use Rattle.instructions.specs.Heaps.{cleared}
 use Rattle.instructions.specs.HeapsAgree.{ErrorIs, ErrorsAre, kind_in}
 use Rattle.instructions.proofs.AgreeLemmas.{cells_left, past_the_last}
 
 -- a birth that stands in a cell stood there, with an object of the same kind
-abbrev KeepsBirths : {K : Type 0} → List Cell → List (Option (StoredObject K)) → List Cell → List (Option (StoredObject K)) → ℕ → Type 0
+abbrev KeepsBirths : {K : Type 0} → List Cell → List (Option (StoredObject K)) → List Cell
+    → List (Option (StoredObject K)) → ℕ → Type 0
 KeepsBirths cells objects after left births =
     (n b : ℕ) → 1 ≤ b → b < births → birth_of (cell_at after n) ≡ b
     → (birth_of (cell_at cells n) ≡ b) × (kind_in left n ≡ kind_in objects n)
@@ -44,8 +47,10 @@ kept : {K : Type 0} (cells : List Cell) (objects : List (Option (StoredObject K)
 kept cells objects after left births grown memory stack keeps grows errors =
     let three = errors.least in
     record {
-      memory_is = kept_error cells objects after left births 0 1 memory keeps (omega arith) (omega (arith, three)) errors.memory_is;
-      stack_is = kept_error cells objects after left births 1 2 stack keeps (omega arith) (omega (arith, three)) errors.stack_is;
+      memory_is = kept_error cells objects after left births 0 1 memory keeps (omega arith) (omega (arith, three))
+          errors.memory_is;
+      stack_is = kept_error cells objects after left births 1 2 stack keeps (omega arith) (omega (arith, three))
+          errors.stack_is;
       least = omega (arith, grows, three);
     }
 
@@ -59,12 +64,14 @@ births-set (x ∷ xs) zero (suc n) v e = refl
 births-set (x ∷ xs) (suc c) zero v e = refl
 births-set (x ∷ xs) (suc c) (suc n) v e = births-set xs c n v e
 
-recoloured : {K : Type 0} (cells : List Cell) (objects : List (Option (StoredObject K))) (c b births : ℕ) (x x' : Colour)
+recoloured : {K : Type 0} (cells : List Cell) (objects : List (Option (StoredObject K))) (c b births : ℕ)
+    (x x' : Colour)
     → cell_at cells c ≡ Taken b x → KeepsBirths cells objects (set cells c (Taken b x')) objects births
 recoloured cells objects c b births x x' held n birth least less stands =
     (sym (births-set cells c n (Taken b x') (sym (ap birth_of held))) ∙ stands, refl)
 
-same : {K : Type 0} (cells : List Cell) (objects : List (Option (StoredObject K))) (births : ℕ) → KeepsBirths cells objects cells objects births
+same : {K : Type 0} (cells : List Cell) (objects : List (Option (StoredObject K))) (births : ℕ)
+    → KeepsBirths cells objects cells objects births
 same cells objects births n b least less stands = (stands, refl)
 
 -- another cell comes, whose birth is none of those before
@@ -103,23 +110,28 @@ module _ {K : Type 0} (memory stack : K) where
   pub shaded_errors : (a : Account) (objects : List (Option (StoredObject K))) (births r : ℕ)
       → ErrorsAre memory stack a.cells objects births → ErrorsAre memory stack (shade_cell a r).cells objects births
   shaded_errors a objects births r =
-      kept a.cells objects (shade_cell a r).cells objects births births memory stack (shaded-births a objects births r) (omega arith)
+      kept a.cells objects (shade_cell a r).cells objects births births memory stack (shaded-births a objects births r)
+          (omega arith)
 
   -- ---- a new object
 
-  created-births : (a : Account) (objects : List (Option (StoredObject K))) (births c words : ℕ) (object : StoredObject K)
+  created-births : (a : Account) (objects : List (Option (StoredObject K))) (births c words : ℕ)
+      (object : StoredObject K)
       → Some c ≡ taken_cell (take_cell a words)
       → KeepsBirths a.cells objects (born_in a births (take_cell a words)).cells (set objects c (Some object)) births
   created-births a objects births c words object is =
       let t = one_taken a births c (take_cell a words) is in
       rw (t.2, cells_left a words (c, t.0) t.1)
-      (λ n b least less stands. changed a.cells objects c n b (Taken births Grey) (Some object) (λ e. omega (arith, e, less)) least stands)
+      (λ n b least less stands. changed a.cells objects c n b (Taken births Grey) (Some object)
+          (λ e. omega (arith, e, less)) least stands)
 
-  pub came_errors : (a : Account) (objects : List (Option (StoredObject K))) (births c words : ℕ) (object : StoredObject K)
+  pub came_errors : (a : Account) (objects : List (Option (StoredObject K))) (births c words : ℕ)
+      (object : StoredObject K)
       → Some c ≡ taken_cell (take_cell a words) → ErrorsAre memory stack a.cells objects births
       → ErrorsAre memory stack (born_in a births (take_cell a words)).cells (set objects c (Some object)) (births + 1)
   came_errors a objects births c words object is =
-      kept a.cells objects (born_in a births (take_cell a words)).cells (set objects c (Some object)) births (births + 1) memory
+      kept a.cells objects (born_in a births (take_cell a words)).cells (set objects c (Some object)) births
+          (births + 1) memory
       stack (created-births a objects births c words object is) (omega arith)
 
   -- ---- an object changes but for its kind
@@ -139,7 +151,8 @@ module _ {K : Type 0} (memory stack : K) where
       → ErrorsAre memory stack cells objects births
       → ErrorsAre memory stack cells (set objects c (option_map change (object_if (slice_get objects c)))) births
   changed_errors cells objects births c change stays =
-      kept cells objects cells (set objects c (option_map change (object_if (slice_get objects c)))) births births memory stack
+      kept cells objects cells (set objects c (option_map change (object_if (slice_get objects c)))) births births
+          memory stack
       (λ n b least less stands. (stands, kind-changed objects c n change stays)) (omega arith)
 
   -- ---- a step of the collector
@@ -184,11 +197,13 @@ module _ {K : Type 0} (memory stack : K) where
     listed-cells b c false true = refl
     listed-cells b c false false = refl
 
-    swept-births : (p : ℕ) (cell : Cell) → cell_at a.cells p ≡ cell → Keeping (swept shape a p cell).cells (freed_in p cell)
+    swept-births : (p : ℕ) (cell : Cell) → cell_at a.cells p ≡ cell
+        → Keeping (swept shape a p cell).cells (freed_in p cell)
     swept-births p Free held = same a.cells objects births
     swept-births p (Taken b White) held =
         rw (listed-cells (with_cell a p Free) p (nat_lt p shape.small) (nat_lt p (shape.small + shape.medium)))
-        (λ n birth least less stands. changed a.cells objects p n birth Free None (λ e. omega (arith, e, least)) least stands)
+        (λ n birth least less stands. changed a.cells objects p n birth Free None (λ e. omega (arith, e, least)) least
+            stands)
     swept-births p (Taken b Grey) held = same a.cells objects births
     swept-births p (Taken b Black) held = recoloured a.cells objects p b births Black White held
 
@@ -206,30 +221,37 @@ module _ {K : Type 0} (memory stack : K) where
     stepped-births (Mark q) = marked q a.grey
     stepped-births (Append p) = appended p (nat_lt p (length a.cells)) refl
 
-    -- where shape and freed cell are told by other names
-    pub collected_errors : (told : HeapShape) (phase : Phase) (freed : Option ℕ) → told ≡ shape → freed ≡ freed_cell a phase
+    -- where shape and freed cell are reported by other names
+    pub collected_errors : (reported : HeapShape) (phase : Phase) (freed : Option ℕ) → reported ≡ shape
+        → freed ≡ freed_cell a phase
         → ErrorsAre memory stack a.cells objects births
-        → ErrorsAre memory stack (step_on told w a phase).cells (cleared objects freed) births
-    collected_errors told phase freed shape_is is =
-        rw (shape_is, is) (kept a.cells objects (step_on shape w a phase).cells (cleared objects (freed_cell a phase)) births births memory stack
+        → ErrorsAre memory stack (step_on reported w a phase).cells (cleared objects freed) births
+    collected_errors reported phase freed shape_is is =
+        rw (shape_is, is) (kept a.cells objects (step_on shape w a phase).cells (cleared objects (freed_cell a phase))
+            births births memory stack
         (stepped-births phase) (omega arith))
 
 -- ---- the opening
 
 two_kinds : {K : Type 0} (cells : List Cell) (n total : ℕ) (o o' : StoredObject K) → total ≡ suc (suc n)
     → ErrorsAre o.kind o'.kind cells (set (set (replicate total None) 0 (Some o)) 1 (Some o')) 3
-two_kinds cells n total o o' count = rw count (record { memory_is = λ stands. refl; stack_is = λ stands. refl; least = omega arith })
+two_kinds cells n total o o' count = rw count (record { memory_is = λ stands. refl; stack_is = λ stands. refl;
+    least = omega arith })
 
-pub opening_errors : {K : Type 0} (cells : List Cell) (shape : HeapShape) (o o' : StoredObject K) → ShapeFits shape.small shape.medium shape.large
-    → ErrorsAre o.kind o'.kind cells (set (set (replicate (shape.small + shape.medium + shape.large) None) 0 (Some o)) 1 (Some o')) 3
+pub opening_errors : {K : Type 0} (cells : List Cell) (shape : HeapShape) (o o' : StoredObject K)
+    → ShapeFits shape.small shape.medium shape.large
+    → ErrorsAre o.kind o'.kind cells (set (set (replicate (shape.small + shape.medium + shape.large) None) 0 (Some o)) 1
+        (Some o')) 3
 opening_errors cells shape o o' fits =
     let least = fits.0 in
     let total = shape.small + shape.medium + shape.large in
     two_kinds cells (total - 2) total o o' (omega (arith, least))
 
 -- the kinds under other names
-pub renamed : {K : Type 0} {memory stack memory' stack' : K} (cells : List Cell) (objects : List (Option (StoredObject K))) (births : ℕ)
-    → memory ≡ memory' → stack ≡ stack' → ErrorsAre memory stack cells objects births → ErrorsAre memory' stack' cells objects births
+pub renamed : {K : Type 0} {memory stack memory' stack' : K} (cells : List Cell)
+    (objects : List (Option (StoredObject K))) (births : ℕ)
+    → memory ≡ memory' → stack ≡ stack' → ErrorsAre memory stack cells objects births
+        → ErrorsAre memory' stack' cells objects births
 renamed cells objects births first second errors = record {
   memory_is = λ stands. errors.memory_is stands ∙ ap Some first;
   stack_is = λ stands. errors.stack_is stands ∙ ap Some second;

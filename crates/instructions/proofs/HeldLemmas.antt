@@ -6,7 +6,8 @@ use Rattle.std.proofs.lemmas.Option.{slice_get-map}
 use Rattle.model.specs.declared.values.Value.{Value}
 use Rattle.model.specs.ClassListings.{ClassListing}
 use Rattle.model.specs.Objects.{object_at}
-use Rattle.model.specs.Words.{contents_if, contents_at, element_or_null, slot_at, value_at, with_slot, with_value_at, with_word, with_word_in, with_word_of, word_of}
+use Rattle.model.specs.Words.{contents_if, contents_at, element_or_null, slot_at, value_at, with_slot, with_value_at}
+use Rattle.model.specs.Words.{with_word, with_word_in, with_word_of, word_of}
 use Rattle.model.specs.Worlds.{Contents, FieldValue, Object, World}
 use Rattle.model.specs.Worlds.Contents.{Instance as InstanceOf}
 use Rattle.join.specs.OnCells.{nobody}
@@ -79,7 +80,8 @@ module _ (program : List ClassListing) (h : HeapValue) (w : World)
       by (Some (Some x)) is k =
           ap (with_word_of w (suc cell) place v) (object-shown cell ∙ ap (option_map (object_shown program)) is)
           ∙ ap (λ object. with_objects (set w.objects (suc cell) object)) (object-written x place v)
-          ∙ ap (λ objects. with_objects (set objects (suc cell) (object_shown program (Some (word_set place v x))))) shown
+          ∙ ap (λ objects. with_objects (set objects (suc cell) (object_shown program (Some (word_set place v x)))))
+              shown
           ∙ ap (λ objects. with_objects (nobody ∷ objects))
           (sym (map-set (object_shown program) h.objects cell (Some (word_set place v x))))
           ∙ sym (ap (λ found. after (object_if found)) is)

@@ -1,5 +1,6 @@
 -- What the initialisation of classes tells.
-use Rattle.std.proofs.Common.{◌≡◌, ◌≢◌, ℕ, List, [], ◌∷◌, ◌++◌, Bool, true, false, ◌==◌, ◌<◌, length, not, Some, None, Ok, refl, sym, ap, ◌∙◌, arith}
+use Rattle.std.proofs.Common.{◌≡◌, ◌≢◌, ℕ, List, [], ◌∷◌, ◌++◌, Bool, true, false, ◌==◌, ◌<◌, length, not, Some, None}
+use Rattle.std.proofs.Common.{Ok, refl, sym, ap, ◌∙◌, arith}
 use Rattle.std.specs.Prelude.{if◌then◌else◌}
 use Rattle.model.specs.declared.turns.ClassState.{ClassState}
 use Rattle.model.specs.declared.turns.ClassState.TheVariants.{Unused, Running, Done, Failed}
@@ -17,17 +18,19 @@ use Rattle.loader.specs.declared.operations.Operation.{Operation}
 use Rattle.loader.specs.declared.operations.Operation.TheVariants.{Getstatic, Invokestatic, New, Putstatic}
 use Rattle.instructions.specs.declared.kinds.Course.TheVariants.{Live}
 use Rattle.instructions.specs.declared.machines.Machine.{Machine}
-use Rattle.instructions.specs.Acting.{Scene, shown, site_at, told, turned}
+use Rattle.instructions.specs.Acting.{Scene, shown, site_at, reported, turned}
 use Rattle.instructions.specs.Heaps.{HeapValue}
 use Rattle.instructions.specs.Shown.{objects_shown}
 use Rattle.instructions.specs.Initialising.{claims_so_many, denies_so_many}
-use Rattle.instructions.specs.InitialisingByNumbers.{AreClaimed, chain_at, claim_frames, claimed, class_used_by, initialises_class, is_others}
+use Rattle.instructions.specs.InitialisingByNumbers.{AreClaimed, chain_at, claim_frames, claimed, class_used_by}
+use Rattle.instructions.specs.InitialisingByNumbers.{initialises_class, is_others}
 use Rattle.instructions.proofs.ActingLemmas.{done_in, goes_in}
 use Rattle.instructions.proofs.Scenes.{frames_shown}
 
 -- ---- operations that use no class
 
-pub uses_none : (program : List ClassListing) (op : Operation) → ((n : ℕ) → op ≢ Getstatic n) → ((n : ℕ) → op ≢ Putstatic n)
+pub uses_none : (program : List ClassListing) (op : Operation) → ((n : ℕ) → op ≢ Getstatic n)
+    → ((n : ℕ) → op ≢ Putstatic n)
     → ((n : ℕ) → op ≢ New n) → ((c m : ℕ) → op ≢ Invokestatic c m) → class_used_by program op ≡ None
 uses_none program (Getstatic n) gets puts makes calls = absurd (gets n refl)
 uses_none program (Putstatic n) gets puts makes calls = absurd (puts n refl)
@@ -66,12 +69,12 @@ module _ (program : List ClassListing) (scene : Scene) (m after : Machine) (here
   abbrev claiming : World
   claiming = with_class_states before (with_states (Running m.thread) (claimed program class count) m.states.items)
 
-  pub claim_told : within_limits entered ≡ true → after.frames ≡ entered → after.slots ≡ m.slots
+  pub claim_reported : within_limits entered ≡ true → after.frames ≡ entered → after.slots ≡ m.slots
       → after.states.items ≡ with_states (Running m.thread) (claimed program class count) m.states.items
       → after.output.items ≡ m.output.items → after.heap ≡ m.heap
-      → told (shown program scene m Live) m.thread (shown program scene after) (Ok (done_in Live))
+      → reported (shown program scene m Live) m.thread (shown program scene after) (Ok (done_in Live))
       ≡ turned program (shown program scene m Live) m.thread (claims_so_many site class count)
-  claim_told fits frames slots states output heap =
+  claim_reported fits frames slots states output heap =
       goes_in program scene m after here claiming [] refl (rw (slots, states) refl) (sym output)
       (ap (λ (h : HeapValue). objects_shown program h.objects) (sym heap)) refl refl
       (ap (λ (h : HeapValue). h.account) (sym heap)) (ap (λ (h : HeapValue). h.births) heap)
@@ -82,11 +85,11 @@ module _ (program : List ClassListing) (scene : Scene) (m after : Machine) (here
   overflows-claim = claim-is false
 
 -- a turn that waits changes nothing
-pub waits_told : (program : List ClassListing) (scene : Scene) (m : Machine)
-    → told (shown program scene m Live) m.thread (shown program scene m) (Ok (done_in Live))
+pub waits_reported : (program : List ClassListing) (scene : Scene) (m : Machine)
+    → reported (shown program scene m Live) m.thread (shown program scene m) (Ok (done_in Live))
     ≡ turned program (shown program scene m Live) m.thread Waits
 unfolding turned_on
-waits_told program scene m = refl
+waits_reported program scene m = refl
 
 -- ---- what comes before an operation, by the state of the class above
 
@@ -121,7 +124,8 @@ claims-some s own [] e = absurd (omega (arith, e))
 claims-some s own (c ∷ cs) e = refl
 
 module _ (program : List ClassListing) (m : Machine) (next class count : ℕ) (above : ClassState)
-    (is : (let chain : Chain = record { unused = claimed program class count; above = above } in chain_at program m.states.items class ≡ chain))
+    (is : (let chain : Chain = record { unused = claimed program class count; above = above }
+                 in chain_at program m.states.items class ≡ chain))
     (w : World) (shows : w.statics.states ≡ m.states.items) where
   abbrev here : Site
   here = site_at program m w next
@@ -130,16 +134,19 @@ module _ (program : List ClassListing) (m : Machine) (next class count : ℕ) (a
   initialises-is : (own : Completion)
       → initialises_class here own (Some class) ≡ initialises here (claimed program class count) above own
   initialises-is own =
-      ap (λ states. initialises_chain here own (chain_at program states class)) shows ∙ ap (initialises_chain here own) is
+      ap (λ states. initialises_chain here own (chain_at program states class)) shows
+          ∙ ap (initialises_chain here own) is
 
-  pub others-wait : (own : Completion) → is_others m.thread above ≡ true → initialises_class here own (Some class) ≡ Waits
+  pub others-wait : (own : Completion) → is_others m.thread above ≡ true → initialises_class here own (Some class)
+      ≡ Waits
   others-wait own e = initialises-is own ∙ waits-others here own (claimed program class count) above e
 
   pub failed-denies : (own : Completion) → above ≡ Failed
       → initialises_class here own (Some class) ≡ denies_so_many here class count
   failed-denies own e = initialises-is own ∙ ap (λ above. initialises here (claimed program class count) above own) e
 
-  module _ (fine : is_others m.thread above ≡ false) (usable : above ≢ Failed) (there : AreClaimed program class count) where
+  module _ (fine : is_others m.thread above ≡ false) (usable : above ≢ Failed) (there : AreClaimed program class count)
+      where
     pub may-use : (own : Completion) → count ≡ 0 → initialises_class here own (Some class) ≡ own
     may-use own none =
         initialises-is own ∙ claims-then here own (claimed program class count) above fine usable

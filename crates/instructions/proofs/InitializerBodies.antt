@@ -1,5 +1,6 @@
 -- The initializer of each class of an accepted program has code, within limits that the tables tell.
-use Rattle.std.proofs.Common.{◌≡◌, ℕ, zero, suc, ◌+◌, ◌<◌, ◌≤◌, List, [], ◌∷◌, Bool, true, false, ◌&&◌, ◌||◌, ◌==◌, not, cond, length, is_some, slice_get, nat_lt, Option, Some, None, refl, sym, ap, ◌∙◌, arith}
+use Rattle.std.proofs.Common.{◌≡◌, ℕ, zero, suc, ◌+◌, ◌<◌, ◌≤◌, List, [], ◌∷◌, Bool, true, false, ◌&&◌, ◌||◌, ◌==◌, not}
+use Rattle.std.proofs.Common.{cond, length, is_some, slice_get, nat_lt, Option, Some, None, refl, sym, ap, ◌∙◌, arith}
 use Rattle.std.specs.Prelude.{codes}
 use Rattle.std.specs.List.{list_any, position_or_len}
 use Rattle.std.specs.Option.{option_and_then, option_map}
@@ -20,7 +21,8 @@ use Rattle.model.specs.Classes.Named.{builtin, or_else}
 use Rattle.model.specs.CodeListings.{CodeListing}
 use Rattle.model.specs.Frames.{opening_frame}
 use Rattle.model.specs.Initialisation.{framed, initializer_in, initializer_place, started_at}
-use Rattle.model.specs.Programs.{builtin_of, empty_initializer, is_class_initializer, is_member, is_own_initializer, method_at, method_in}
+use Rattle.model.specs.Programs.{builtin_of, empty_initializer, is_class_initializer, is_member, is_own_initializer}
+use Rattle.model.specs.Programs.{method_at, method_in}
 use Rattle.loader.specs.declared.initializers.ClassInitializer.{ClassInitializer}
 use Rattle.loader.specs.declared.method_tables.Body.{Body}
 use Rattle.loader.specs.declared.method_tables.Body.TheVariants.{Coded, NoCode, Own}
@@ -42,13 +44,15 @@ module _ (m : Member) (is : m.name ≡ codes "<clinit>") where
   other : (a c : Bool) (name : List ℕ) → bytes_eq (codes "<clinit>") name ≡ false
       → (a && bytes_eq m.name name && c) ≡ true → ⊥
   other a c name differs e =
-      let named : bytes_eq m.name name ≡ true = (both a (bytes_eq m.name name) (both (a && bytes_eq m.name name) c e).0).1 in
+      let named : bytes_eq m.name name
+            ≡ true = (both a (bytes_eq m.name name) (both (a && bytes_eq m.name name) c e).0).1 in
       let same : true ≡ false = sym named ∙ ap (λ n. bytes_eq n name) is ∙ differs in
       cc
 
   not-member : (class name descriptor : List ℕ) → bytes_eq (codes "<clinit>") name ≡ false
       → is_member m class name descriptor ≡ true → ⊥
-  not-member class name descriptor differs e = other (bytes_eq m.class class) (bytes_eq m.descriptor descriptor) name differs e
+  not-member class name descriptor differs e = other (bytes_eq m.class class) (bytes_eq m.descriptor descriptor) name
+      differs e
 
   not-first : is_own_initializer m ≡ true → ⊥
   not-first e = other (is_some (builtin m.class)) (bytes_eq m.descriptor (codes "()V")) (codes "<init>") refl e
@@ -96,7 +100,8 @@ unrefused-at program name (x ∷ xs) zero m none e =
     let same : x ≡ m = cc in
     ap (is_refused program name) (sym same) ∙ (either (is_refused program name x) _ none).0
 unrefused-at program name (x ∷ xs) (suc n) m none e =
-    unrefused-at program name xs n m (either (is_refused program name x) (list_any (is_refused program name) xs) none).1 e
+    unrefused-at program name xs n m (either (is_refused program name x) (list_any (is_refused program name) xs) none).1
+        e
 
 place-within : (p : Method → Bool) (ms : List Method) → position_or_len p ms ≤ length ms
 place-within p [] = omega arith
@@ -113,7 +118,8 @@ record IsInitializer (program : List ClassListing) (c : ClassListing) : Type 0 w
   code_is : method.code ≡ Some code
   named : is_class_initializer method ≡ true
 
-module _ (program : List ClassListing) (c : ClassListing) (none : list_any (is_refused program c.name) c.methods ≡ false) where
+module _ (program : List ClassListing) (c : ClassListing) (none : list_any (is_refused program c.name) c.methods
+    ≡ false) where
   abbrev place : ℕ
   place = position_or_len is_class_initializer c.methods
 
@@ -123,7 +129,8 @@ module _ (program : List ClassListing) (c : ClassListing) (none : list_any (is_r
     by true h =
         let first = first_within is_class_initializer c.methods place refl (ltb-true place (length c.methods) h) in
         let fine = unrefused-at program c.name c.methods place first.item none first.there in
-        let right : is_wrong_initializer first.item ≡ false = (either (is_wrong_initializer first.item) _ (either _ _ fine).0).0 in
+        let right : is_wrong_initializer first.item
+              ≡ false = (either (is_wrong_initializer first.item) _ (either _ _ fine).0).0 in
         let code = coded (is_class_initializer first.item) _ first.item.code first.passes right in
         record {
           method = first.item;
@@ -137,9 +144,11 @@ module _ (program : List ClassListing) (c : ClassListing) (none : list_any (is_r
         let last : place ≡ length c.methods = omega (arith, past, place-within is_class_initializer c.methods) in
         record {
           method = empty_initializer;
-          code = record { max_stack = 0; max_locals = 0; rows = []; instructions = record { pc = 0; next = 1; instruction = Return None } ∷ [] };
+          code = record { max_stack = 0; max_locals = 0; rows = []; instructions = record { pc = 0; next = 1;
+              instruction = Return None } ∷ [] };
           there =
-              ap (λ o. or_else o (cond (place == length c.methods) (Some empty_initializer) None)) (slice_get_past c.methods place past)
+              ap (λ o. or_else o (cond (place == length c.methods) (Some empty_initializer) None))
+                  (slice_get_past c.methods place past)
               ∙ ap (λ b. cond b (Some empty_initializer) None) ((Decides-eqb place (length c.methods)).1 last);
           code_is = refl;
           named = refl;
@@ -151,7 +160,7 @@ pub record HasInitializer (program : List ClassListing) (class : ℕ) : Type 0 w
   pub locals : ℕ
   pub stack : ℕ
   pub facts : MethodFacts
-  pub told : facts_at (method_tables program) (place_in (initializers program) class) ≡ Some facts
+  pub reported : facts_at (method_tables program) (place_in (initializers program) class) ≡ Some facts
   pub body : facts.body ≡ Coded locals stack
   pub starts : started_at program (initializer_place program class)
       ≡ opening_frame (initializer_place program class) locals stack ∷ []
@@ -171,7 +180,7 @@ initializer-there program class accepted inside =
           locals = found.code.max_locals;
           stack = found.code.max_stack;
           facts = method_facts program c.name found.method;
-          told =
+          reported =
               ap (facts_at (method_tables program)) (initializer-place program class)
               ∙ program-facts program (initializer_place program class) c at
               ∙ ap (option_map (method_facts program c.name)) there;
@@ -185,19 +194,23 @@ initializer-there program class accepted inside =
 
 -- ---- as the tables are read
 
-module _ (program : List ClassListing) (class : ℕ) (accepted : refusal_of program ≡ None) (inside : class < length program)
+module _ (program : List ClassListing) (class : ℕ) (accepted : refusal_of program ≡ None)
+    (inside : class < length program)
     (o : Option MethodFacts) (tables : List (List MethodFacts)) (places : List ClassInitializer) (place : MethodPlace)
-    (told : o ≡ facts_at tables place) (tables_are : tables ≡ method_tables program) (placed : place ≡ place_in places class)
+    (reported : o ≡ facts_at tables place) (tables_are : tables ≡ method_tables program) (placed : place
+        ≡ place_in places class)
     (places_are : places ≡ initializers program) where
   abbrev there : HasInitializer program class
   there = initializer-there program class accepted inside
 
   found : o ≡ Some there.facts
   found =
-      told ∙ ap (λ tables. facts_at tables place) tables_are
-      ∙ ap (facts_at (method_tables program)) (placed ∙ ap (λ places. place_in places class) places_are) ∙ there.told
+      reported ∙ ap (λ tables. facts_at tables place) tables_are
+      ∙ ap (facts_at (method_tables program)) (placed ∙ ap (λ places. place_in places class) places_are)
+          ∙ there.reported
 
-  body-is : (facts : MethodFacts) (body : Body) → o ≡ Some facts → body ≡ facts.body → body ≡ Coded there.locals there.stack
+  body-is : (facts : MethodFacts) (body : Body) → o ≡ Some facts → body ≡ facts.body
+      → body ≡ Coded there.locals there.stack
   body-is facts body some is =
       let same : facts ≡ there.facts = one (sym some ∙ found) in
       is ∙ ap (λ (facts : MethodFacts). facts.body) same ∙ there.body

@@ -1,5 +1,6 @@
 -- The class of what a heap holds, by its number: whether it is of a class named, and that nobody is of any.
-use Rattle.std.proofs.Common.{◌≡◌, ℕ, zero, suc, ◌+◌, List, [], ◌∷◌, ◌++◌, ◌-◌, length, map, replicate, take, Bool, true, false, cond, ◌==◌, Option, Some, None, refl, sym, ap, arith, ◌∙◌}
+use Rattle.std.proofs.Common.{◌≡◌, ℕ, zero, suc, ◌+◌, List, [], ◌∷◌, ◌++◌, ◌-◌, length, map, replicate, take, Bool}
+use Rattle.std.proofs.Common.{true, false, cond, ◌==◌, Option, Some, None, refl, sym, ap, arith, ◌∙◌}
 use Rattle.std.specs.Prelude.{codes, is_some, nat_le, slice_get, ◌%◌}
 use Rattle.std.specs.List.{find, position}
 use Rattle.std.specs.Option.{option_map}
@@ -26,8 +27,9 @@ use Rattle.instructions.specs.declared.kinds.Kind.{Kind}
 use Rattle.instructions.specs.declared.kinds.Kind.TheVariants.{Instance, Array}
 use Rattle.instructions.specs.CallsByNumbers.{is_kind_of}
 use Rattle.instructions.specs.Heaps.{HeapValue, kind_held}
-use Rattle.instructions.specs.Shown.{class_name, kind_name, kind_name_if, last_element, name_or_none, object_shown, objects_shown, type_name}
-use Rattle.resolve.proofs.NumberLemmas.{number-own, place_behind}
+use Rattle.instructions.specs.Shown.{class_name, kind_name, kind_name_if, last_element, name_or_none, object_shown}
+use Rattle.instructions.specs.Shown.{objects_shown, type_name}
+use Rattle.resolve.proofs.NumberLemmas.{number-own, place_after}
 use Rattle.instructions.proofs.ByNumberLemmas.{HasNumber, name-some, number-names, number-of}
 use Rattle.instructions.proofs.ListPlaces.{Each, first_nowhere}
 use Rattle.instructions.proofs.Upwards.{nameless}
@@ -82,10 +84,12 @@ described-some b bs = by (b == 76) refl (b == 91) refl
     by false h true k = (Reference (b ∷ bs), rw (h, k) refl)
     by false h false k = (Number b, rw (h, k) refl)
 
-type-some : (program : List ClassListing) (type : TypeNumber) → (b : ℕ) × (bs : List ℕ) × (type_name program type ≡ b ∷ bs)
+type-some : (program : List ClassListing) (type : TypeNumber) → (b : ℕ) × (bs : List ℕ)
+    × (type_name program type ≡ b ∷ bs)
 type-some program type = by type.dimensions
   where
-    last : (x : Bool) → nat_le 32768 type.element ≡ x → (b : ℕ) × (bs : List ℕ) × (last_element program type.element ≡ b ∷ bs)
+    last : (x : Bool) → nat_le 32768 type.element ≡ x → (b : ℕ) × (bs : List ℕ)
+        × (last_element program type.element ≡ b ∷ bs)
     last true e = (type.element % 256, [], rw e refl)
     last false e = (76, class_name program type.element ++ 59 ∷ [], rw e refl)
 
@@ -128,15 +132,18 @@ module _ (program : List ClassListing) (hierarchy : IsHierarchy program) (hides 
   pub class : HasNumber program above
   class = number-of program above c named
 
-  instance-below : (k : ℕ) → is_subtype program (class_name program k) above ≡ is_subtype_in (class_tables program) k class.number
+  instance-below : (k : ℕ) → is_subtype program (class_name program k) above
+      ≡ is_subtype_in (class_tables program) k class.number
   instance-below k = by (slice_get (all_classes program) k) refl
     where
       by : (o : Option ClassListing) → slice_get (all_classes program) k ≡ o
           → is_subtype program (class_name program k) above ≡ is_subtype_in (class_tables program) k class.number
       by None e =
-          let name : class_name program k ≡ [] = ap name_or_none (name-at program k ∙ ap (option_map (λ (c : ClassListing). c.name)) e) in
+          let name : class_name program k
+                ≡ [] = ap name_or_none (name-at program k ∙ ap (option_map (λ (c : ClassListing). c.name)) e) in
           ap (λ n. is_subtype program n above) name ∙ nobody-below
-          ∙ sym (ap (is_below class.number) (slice_get-map (class_facts program) (all_classes program) k ∙ ap (option_map (class_facts program)) e))
+          ∙ sym (ap (is_below class.number) (slice_get-map (class_facts program) (all_classes program) k
+              ∙ ap (option_map (class_facts program)) e))
       by (Some d) e =
           ap (λ n. is_subtype program n above) (name-some program k d e)
           ∙ sym (subtype-names program k class.number d above e (number-names program above class.number class.is))
@@ -149,7 +156,8 @@ module _ (program : List ClassListing) (hierarchy : IsHierarchy program) (hides 
   each-other [] none = tt
   each-other (d ∷ ds) none = (
     refuted (bytes_eq (codes "java/lang/Object") d.name)
-        (λ e. own-differs d (by (is_some (builtin d.name)) none) ((bytes_eq-Decides (codes "java/lang/Object") d.name).0 e)),
+        (λ e. own-differs d (by (is_some (builtin d.name)) none) ((bytes_eq-Decides (codes "java/lang/Object") d.name).0
+            e)),
     each-other ds (rest (is_some (builtin d.name)) none),
   )
     where
@@ -169,14 +177,15 @@ module _ (program : List ClassListing) (hierarchy : IsHierarchy program) (hides 
   object-number =
       sym (number-own program (codes "java/lang/Object")
       (sym (first_nowhere (bytes_eq (codes "java/lang/Object")) (map name_of program) (each-other program hides))))
-      ∙ ap (place_behind (length program)) object-first
+      ∙ ap (place_after (length program)) object-first
 
   pub array-object : bytes_eq above (codes "java/lang/Object") ≡ (class.number == length program)
   array-object =
       same-bool (bytes_eq above (codes "java/lang/Object")) (class.number == length program)
       (λ e. (Decides-eqb class.number (length program)).1
       (let same = one class.number (length program + 0)
-      (sym class.is ∙ ap (class_number program) ((bytes_eq-Decides above (codes "java/lang/Object")).0 e) ∙ object-number) in
+      (sym class.is ∙ ap (class_number program) ((bytes_eq-Decides above (codes "java/lang/Object")).0 e)
+          ∙ object-number) in
       omega (arith, same)))
       (λ e. (bytes_eq-Decides above (codes "java/lang/Object")).1
       (one above (codes "java/lang/Object")

@@ -1,5 +1,6 @@
 -- The words of a superclass are the first ones of a class's objects, and each word is that of a field of a class above.
-use Rattle.std.proofs.Common.{◌≡◌, inl, inr, ℕ, List, [], ◌∷◌, ◌++◌, not, filter, flat_map, map, reverse, Option, Some, None, refl, ap, ◌∙◌}
+use Rattle.std.proofs.Common.{◌≡◌, inl, inr, ℕ, List, [], ◌∷◌, ◌++◌, not, filter, flat_map, map, reverse, Option, Some}
+use Rattle.std.proofs.Common.{None, refl, ap, ◌∙◌}
 use Rattle.std.specs.List.{find}
 use Rattle.std.proofs.lemmas.Grind.{flat_map-append}
 use Rattle.std.proofs.lemmas.List.{reverse-append}
@@ -13,7 +14,7 @@ use Rattle.model.specs.Classes.Search.{Declared, superclasses}
 use Rattle.model.specs.Classes.Subclass.{HasName}
 use Rattle.resolve.specs.Hierarchies.{IsHierarchy}
 use Rattle.instructions.proofs.ListPlaces.{Each, each-append, each-reverse}
-use Rattle.instructions.proofs.Upwards.{superclasses-behind}
+use Rattle.instructions.proofs.Upwards.{superclasses-following}
 
 -- a list begins with another
 pub record BeginsWith {A : Type 0} (first whole : List A) : Type 0 where
@@ -28,7 +29,7 @@ module _ (program : List ClassListing) where
       → HasName (superclasses program name) above
       → BeginsWith (layout program above) (layout program name)
   layout-begins hierarchy hides name above there =
-      let way = superclasses-behind program hierarchy hides name above there in
+      let way = superclasses-following program hierarchy hides name above there in
       record {
         rest = flat_map fields_named (reverse way.before);
         joined =

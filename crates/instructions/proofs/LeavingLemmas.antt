@@ -1,5 +1,6 @@
 -- Frames that are left, one after another, and what a world shows of it.
-use Rattle.std.proofs.Common.{◌≡◌, ◌<◌, ◌≤◌, ◌+◌, ◌-◌, ℕ, suc, List, [], ◌∷◌, ◌++◌, map, reverse, take, length, Bool, true, false, refl, sym, ap, ◌∙◌, subst, arith}
+use Rattle.std.proofs.Common.{◌≡◌, ◌<◌, ◌≤◌, ◌+◌, ◌-◌, ℕ, suc, List, [], ◌∷◌, ◌++◌, map, reverse, take, length, Bool}
+use Rattle.std.proofs.Common.{true, false, refl, sym, ap, ◌∙◌, subst, arith}
 use Rattle.std.specs.Prelude.{filter, cond}
 use Rattle.std.proofs.lemmas.List.{reverse-append, take-take, length-take-le, take_more, take_all}
 use Rattle.model.specs.declared.turns.ClassState.{ClassState}
@@ -22,12 +23,15 @@ use Rattle.instructions.proofs.MonitoringLemmas.{all_released-shown, released-sh
 
 pub running_last : (frames : List Frame) → 0 < length frames → frames ≡ callers frames ++ running_frame frames ∷ []
 running_last frames some =
-    let whole : take (length frames - 1 + 1) frames ≡ callers frames ++ running_frame frames ∷ [] = take_more frames (length frames - 1) no_frame (omega arith) in
+    let whole : take (length frames - 1 + 1) frames ≡ callers frames ++ running_frame frames
+          ∷ [] = take_more frames (length frames - 1) no_frame (omega arith) in
     let all : take (length frames - 1 + 1) frames ≡ frames = take_all (length frames - 1 + 1) frames (omega arith) in
     cc
 
-pub running_first : (frames : List Frame) → 0 < length frames → reverse frames ≡ running_frame frames ∷ reverse (callers frames)
-running_first frames some = ap reverse (running_last frames some) ∙ reverse-append (callers frames) (running_frame frames ∷ [])
+pub running_first : (frames : List Frame) → 0 < length frames → reverse frames ≡ running_frame frames
+    ∷ reverse (callers frames)
+running_first frames some = ap reverse (running_last frames some)
+    ∙ reverse-append (callers frames) (running_frame frames ∷ [])
 
 pub innermost-next : (n : ℕ) (frames : List Frame) → 0 < length frames
     → innermost (suc n) frames ≡ running_frame frames ∷ innermost n (callers frames)
@@ -49,17 +53,20 @@ module _ (program : List ClassListing) (state : ClassState) where
   states_next f fs states = by (runs_initializer program f)
     where
       by : (b : Bool)
-          → with_states state (classes (cond b (f ∷ filter (runs_initializer program) fs) (filter (runs_initializer program) fs))) states
+          → with_states state (classes (cond b (f ∷ filter (runs_initializer program) fs)
+              (filter (runs_initializer program) fs))) states
           ≡ with_states state (initialised_by program fs) (with_states state (classes (cond b (f ∷ []) [])) states)
       by true = refl
       by false = refl
 
-  pub left_next : (f : Frame) (fs : List Frame) (a b c : Machine) → HasLeft program state (f ∷ []) a b → HasLeft program state fs b c
+  pub left_next : (f : Frame) (fs : List Frame) (a b c : Machine) → HasLeft program state (f ∷ []) a b
+      → HasLeft program state fs b c
       → HasLeft program state (f ∷ fs) a c
   left_next f fs a b c one rest = record {
     thread = rest.thread ∙ one.thread;
     slots = rest.slots ∙ one.slots;
-    states = rest.states ∙ ap (with_states state (initialised_by program fs)) one.states ∙ sym (states_next f fs a.states.items);
+    states = rest.states ∙ ap (with_states state (initialised_by program fs)) one.states
+        ∙ sym (states_next f fs a.states.items);
     heap = rest.heap ∙ ap (λ (h : HeapValue). all_released_in h b.thread (monitors_of fs)) one.heap
         ∙ ap (λ (t : ℕ). all_released_in (released_in a.heap a.thread f.monitor) t (monitors_of fs)) one.thread;
     output = rest.output ∙ one.output;
@@ -102,7 +109,8 @@ module _ (program : List ClassListing) (h : HeapValue) (w : World) (t : ℕ) (f 
   pub returned-shown : initialised_if (released w t f.monitor) f.method.class (runs_initializer program f)
       ≡ world_left program h w t Done (f ∷ [])
   returned-shown =
-      ap (λ (v : World). initialised_if v f.method.class (runs_initializer program f)) (released-shown program h w shown t f.monitor)
+      ap (λ (v : World). initialised_if v f.method.class (runs_initializer program f))
+          (released-shown program h w shown t f.monitor)
       ∙ by_runs (runs_initializer program f)
       ∙ ap (λ (classes : List ℕ). stated classes) (sym (initialised-one program f))
 
@@ -120,27 +128,33 @@ module _ (program : List ClassListing) (old : Machine) (count : ℕ) where
   first some = record { some = some; frames = refl; left = λ after k. k }
 
   pub rest-first : count ≤ length old.frames → RestLeaves program old old count (count - 0)
-  rest-first some = let all : count ≡ count - 0 = omega arith in subst (RestLeaves program old old count) all (first some)
+  rest-first some = let all : count ≡ count - 0 = omega arith
+                          in subst (RestLeaves program old old count) all (first some)
 
   callers_left : (frames : List Frame) (rest : ℕ) → suc rest ≤ length frames
       → take (length (callers frames) - rest) (callers frames) ≡ take (length frames - suc rest) frames
   callers_left frames rest some =
-      let fewer : length (callers frames) ≡ length frames - 1 = length-take-le (length frames - 1) frames (omega arith) in
+      let fewer : length (callers frames) ≡ length frames - 1 = length-take-le (length frames - 1) frames (omega arith)
+            in
       let same : length (callers frames) - rest ≡ length frames - suc rest = omega arith in
-      ap (λ (n : ℕ). take n (callers frames)) same ∙ take-take (length frames - suc rest) (length frames - 1) frames (omega arith)
+      ap (λ (n : ℕ). take n (callers frames)) same ∙ take-take (length frames - suc rest) (length frames - 1) frames
+          (omega arith)
 
   after_one : (now next : Machine) (rest : ℕ) → RestLeaves program old now count (suc rest)
       → HasLeft program Failed (running_frame now.frames ∷ []) now next → next.frames ≡ callers now.frames
       → RestLeaves program old next count rest
   after_one now next rest k one is =
       let many = k.some in
-      let fewer : length (callers now.frames) ≡ length now.frames - 1 = length-take-le (length now.frames - 1) now.frames (omega arith) in
+      let fewer : length (callers now.frames) ≡ length now.frames - 1 = length-take-le (length now.frames - 1)
+            now.frames (omega arith) in
       record {
         some = omega (arith, fewer, ap length is);
-        frames = ap (λ (frames : List Frame). take (length frames - rest) frames) is ∙ callers_left now.frames rest many ∙ k.frames;
+        frames = ap (λ (frames : List Frame). take (length frames - rest) frames) is ∙ callers_left now.frames rest many
+            ∙ k.frames;
         left = λ after left. k.left after
             (rw (innermost-next rest now.frames (omega arith))
-            (left_next program Failed (running_frame now.frames) (innermost rest (callers now.frames)) now next after one
+            (left_next program Failed (running_frame now.frames) (innermost rest (callers now.frames)) now next after
+                one
             (subst (λ (frames : List Frame). HasLeft program Failed (innermost rest frames) next after) is left)));
       }
 
@@ -152,14 +166,19 @@ module _ (program : List ClassListing) (old : Machine) (count : ℕ) where
       after_one now next (count - (i + 1)) (subst (RestLeaves program old now count) more k) one is
 
   -- a frame is there as long as one is to be left
-  pub rest-some : (now : Machine) (i : ℕ) → i < count → RestLeaves program old now count (count - i) → 0 < length now.frames
+  pub rest-some : (now : Machine) (i : ℕ) → i < count → RestLeaves program old now count (count - i)
+      → 0 < length now.frames
   rest-some now i within k = let many = k.some in omega arith
 
   over : (now : Machine) → RestLeaves program old now count 0
-      → HasLeft program Failed (innermost count old.frames) old now × (now.frames ≡ take (length old.frames - count) old.frames)
+      → HasLeft program Failed (innermost count old.frames) old now
+          × (now.frames ≡ take (length old.frames - count) old.frames)
   over now k =
-      (k.left now (left_none program Failed now), sym (take_all (length now.frames - 0) now.frames (omega arith)) ∙ k.frames)
+      (k.left now (left_none program Failed now), sym (take_all (length now.frames - 0) now.frames (omega arith))
+          ∙ k.frames)
 
   pub rest-over : (now : Machine) (i : ℕ) → count ≤ i → RestLeaves program old now count (count - i)
-      → HasLeft program Failed (innermost count old.frames) old now × (now.frames ≡ take (length old.frames - count) old.frames)
-  rest-over now i past k = let none : count - i ≡ 0 = omega arith in over now (subst (RestLeaves program old now count) none k)
+      → HasLeft program Failed (innermost count old.frames) old now
+          × (now.frames ≡ take (length old.frames - count) old.frames)
+  rest-over now i past k = let none : count - i ≡ 0 = omega arith
+                                 in over now (subst (RestLeaves program old now count) none k)

@@ -1,10 +1,12 @@
-use Rattle.std.proofs.Common.{◌≡◌, false, ℕ, zero, suc, List, [], ◌∷◌, length, map, slice_get, Option, Some, None, refl, sym, ◌∙◌, ap}
+use Rattle.std.proofs.Common.{◌≡◌, false, ℕ, zero, suc, List, [], ◌∷◌, length, map, slice_get, Option, Some, None, refl}
+use Rattle.std.proofs.Common.{sym, ◌∙◌, ap}
 use Rattle.std.proofs.lemmas.List.{length-map}
 use Rattle.model.specs.declared.values.Value.{Value}
 use Rattle.model.specs.ClassListings.{ClassListing}
 use Rattle.model.specs.Frames.{Frame}
 use Rattle.model.specs.Worlds.{Thread, World, frames_at, frames_of, opening_slots}
-use Rattle.model.specs.Collector.Places.{entries_at, field_ref, monitor_at, object_refs, ref_at, ref_of, root_at, word_at, words_of}
+use Rattle.model.specs.Collector.Places.{entries_at, field_ref, monitor_at, object_refs, ref_at, ref_of, root_at}
+use Rattle.model.specs.Collector.Places.{word_at, words_of}
 use Rattle.model.specs.Collector.Places.Place.{FrameEntry, MethodMonitor, Slot}
 use Rattle.cells.specs.Objects.{StoredObject, object_if, words_if}
 use Rattle.instructions.specs.declared.kinds.Kind.{Kind}
@@ -47,19 +49,23 @@ module _ (program : List ClassListing) (threads : ThreadsValue) (running : ℕ) 
 
   module _ (own : List Frame) (lives : LivesWith threads running frames t own) where
     frames-lent : frames_at looked t ≡ own
-    frames-lent = ap frames_of (thread_got program threads.courses (all_frames threads running frames) t Live own lives.live lives.own)
+    frames-lent = ap frames_of (thread_got program threads.courses (all_frames threads running frames) t Live own
+        lives.live lives.own)
 
     pub depth-lent : (n : ℕ) → n ≡ length own → n ≡ length (frames_at looked t)
     depth-lent n is = is ∙ ap length (sym frames-lent)
 
-    pub entries-lent : (frame n : ℕ) → n ≡ length (entries_at own frame) → n ≡ length (entries_at (frames_at looked t) frame)
+    pub entries-lent : (frame n : ℕ) → n ≡ length (entries_at own frame)
+        → n ≡ length (entries_at (frames_at looked t) frame)
     entries-lent frame n is = is ∙ ap (λ fs. length (entries_at fs frame)) (sym frames-lent)
 
-    pub entry-lent : (frame entry : ℕ) (r : Option ℕ) → r ≡ ref_at (entries_at own frame) entry → r ≡ root_at looked (FrameEntry t frame entry)
+    pub entry-lent : (frame entry : ℕ) (r : Option ℕ) → r ≡ ref_at (entries_at own frame) entry
+        → r ≡ root_at looked (FrameEntry t frame entry)
     unfolding root_at
     entry-lent frame entry r is = is ∙ ap (λ fs. ref_at (entries_at fs frame) entry) (sym frames-lent)
 
-    pub monitor-lent : (frame : ℕ) (r : Option ℕ) → r ≡ monitor_at own frame → r ≡ root_at looked (MethodMonitor t frame)
+    pub monitor-lent : (frame : ℕ) (r : Option ℕ) → r ≡ monitor_at own frame
+        → r ≡ root_at looked (MethodMonitor t frame)
     unfolding root_at
     monitor-lent frame r is = is ∙ ap (λ fs. monitor_at fs frame) (sym frames-lent)
 

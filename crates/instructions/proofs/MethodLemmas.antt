@@ -1,5 +1,6 @@
 -- What the tables say of the method of a frame is what its listing says.
-use Rattle.std.proofs.Common.{◌≡◌, ℕ, zero, suc, List, [], ◌∷◌, length, slice_get, nat_lt, Bool, true, false, Option, Some, None, refl, sym, ap, ◌∙◌, subst, ◌<◌, arith}
+use Rattle.std.proofs.Common.{◌≡◌, ℕ, zero, suc, List, [], ◌∷◌, length, slice_get, nat_lt, Bool, true, false, Option}
+use Rattle.std.proofs.Common.{Some, None, refl, sym, ap, ◌∙◌, subst, ◌<◌, arith}
 use Rattle.std.specs.Option.{option_and_then, option_map}
 use Rattle.std.proofs.lemmas.Bool.{ltb-true, ltb-false}
 use Rattle.std.proofs.lemmas.Option.{slice_get_past}
@@ -18,13 +19,13 @@ use Rattle.instructions.specs.MethodsByNumber.{facts_if, facts_in, gives_in, is_
 
 module _ (program : List ClassListing) (place : MethodPlace) where
   -- the facts of a method that there is, and no others
-  pub data Told : Option MethodFacts → Option Method → Type 0 where
-    Nothing : Told None None
-    Facts : (name : List ℕ) (m : Method) → Told (Some (method_facts program name m)) (Some m)
+  pub data Reported : Option MethodFacts → Option Method → Type 0 where
+    Nothing : Reported None None
+    Facts : (name : List ℕ) (m : Method) → Reported (Some (method_facts program name m)) (Some m)
 
-  told_as : (name : List ℕ) (m : Option Method) → Told (option_map (method_facts program name) m) m
-  told_as name None = Nothing
-  told_as name (Some m) = Facts name m
+  reported_as : (name : List ℕ) (m : Option Method) → Reported (option_map (method_facts program name) m) m
+  reported_as name None = Nothing
+  reported_as name (Some m) = Facts name m
 
   somewhere : (classes : List ClassListing) (n : ℕ) → n < length classes → slice_get classes n ≡ None → ⊥
   somewhere [] n within none = absurd (omega arith)
@@ -34,38 +35,41 @@ module _ (program : List ClassListing) (place : MethodPlace) where
   abbrev method_of_class : Option ClassListing → Option Method
   method_of_class class = option_and_then (λ (c : ClassListing). method_in c place.method) class
 
-  pub method-told : Told (facts_in program place) (method_at program place)
-  method-told = by (nat_lt place.class (length program)) refl
+  pub method-reported : Reported (facts_in program place) (method_at program place)
+  method-reported = by (nat_lt place.class (length program)) refl
     where
       there : (o : Option ClassListing) → slice_get program place.class ≡ o → place.class < length program
-          → Told (facts_at (method_tables program) place) (method_at program place)
+          → Reported (facts_at (method_tables program) place) (method_at program place)
       there None is within = absurd (somewhere program place.class within is)
       there (Some c) is within =
-          subst (λ facts. Told facts (method_at program place)) (sym (program-facts program place c is)) (told_as c.name (method_at program place))
+          subst (λ facts. Reported facts (method_at program place)) (sym (program-facts program place c is))
+              (reported_as c.name (method_at program place))
 
       by : (b : Bool) → nat_lt place.class (length program) ≡ b
-          → Told (facts_if b (facts_at (method_tables program) place)) (method_at program place)
+          → Reported (facts_if b (facts_at (method_tables program) place)) (method_at program place)
       by true is = there (slice_get program place.class) refl (ltb-true place.class (length program) is)
       by false is =
           let none : method_at program place ≡ None =
           ap method_of_class (slice_get_past program place.class (ltb-false place.class (length program) is)) in
-          subst (Told None) (sym none) Nothing
+          subst (Reported None) (sym none) Nothing
 
   -- ---- what is asked of it
 
-  initializer_as : (facts : Option MethodFacts) (m : Option Method) → Told facts m → is_initializer_in facts ≡ is_initializer_if m
+  initializer_as : (facts : Option MethodFacts) (m : Option Method) → Reported facts m → is_initializer_in facts
+      ≡ is_initializer_if m
   initializer_as _ _ Nothing = refl
   initializer_as _ _ (Facts name m) = refl
 
   pub initializer-is : is_initializer_in (facts_in program place) ≡ is_initializer_if (method_at program place)
-  initializer-is = initializer_as _ _ method-told
+  initializer-is = initializer_as _ _ method-reported
 
-  gives_as : (kind : Option Kind) (facts : Option MethodFacts) (m : Option Method) → Told facts m → gives_in kind facts ≡ gives kind m
+  gives_as : (kind : Option Kind) (facts : Option MethodFacts) (m : Option Method) → Reported facts m
+      → gives_in kind facts ≡ gives kind m
   gives_as kind _ _ Nothing = refl
   gives_as kind _ _ (Facts name m) = refl
 
   pub gives-is : (kind : Option Kind) → gives_in kind (facts_in program place) ≡ gives kind (method_at program place)
-  gives-is kind = gives_as kind _ _ method-told
+  gives-is kind = gives_as kind _ _ method-reported
 
   -- of what was found in the tables
   pub initializer-found : (facts : Option MethodFacts) → facts ≡ facts_in program place
@@ -77,5 +81,6 @@ module _ (program : List ClassListing) (place : MethodPlace) where
   gives-found kind facts is = ap (gives_in kind) is ∙ gives-is kind
 
 -- whether a frame runs a class initializer, by numbers
-pub runs_initializer_is : (program : List ClassListing) (f : Frame) → runs_initializer_in program f ≡ runs_initializer program f
+pub runs_initializer_is : (program : List ClassListing) (f : Frame) → runs_initializer_in program f
+    ≡ runs_initializer program f
 runs_initializer_is program f = initializer-is program f.method

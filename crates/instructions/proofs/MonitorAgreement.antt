@@ -63,7 +63,8 @@ module _ (program : List ClassListing) (hierarchy : IsHierarchy program)
   number-is = (Decides-eqb number (length program)).0 (sym first)
 
   -- what is an Object by its number is one by its name
-  pub object-named : (o : Option Kind) → is_subtype program (kind_name_if program o) (codes "java/lang/Object") ≡ is_object program o
+  pub object-named : (o : Option Kind) → is_subtype program (kind_name_if program o) (codes "java/lang/Object")
+      ≡ is_object program o
   object-named None = nobody-below program hierarchy hides (codes "java/lang/Object") there.listing there.named
   object-named (Some (Instance k)) =
       kind-below program hierarchy hides (codes "java/lang/Object") there.listing there.named refl (Instance k)
@@ -72,7 +73,8 @@ module _ (program : List ClassListing) (hierarchy : IsHierarchy program)
       kind-below program hierarchy hides (codes "java/lang/Object") there.listing there.named refl (Array type)
       ∙ sym first
 
-pub monitor_agrees : (s : Site) (h : HeapValue) (slots : List Value) → IsNumbered s h slots → refusal_of s.program ≡ None
+pub monitor_agrees : (s : Site) (h : HeapValue) (slots : List Value) → IsNumbered s h slots → refusal_of s.program
+    ≡ None
     → (operation : MonitorOperation) → by_family s (Monitor operation) ≡ operated_by_monitors s h operation
 monitor_agrees s h slots shown accepted operation = by (ref_on s.frame.stack)
   where
@@ -83,4 +85,5 @@ monitor_agrees s h slots shown accepted operation = by (ref_on s.frame.stack)
         ap (λ name. operates_if s operation birth (is_subtype s.program name (codes "java/lang/Object")))
         (class_held s.program h s.world shown.objects_are birth)
         ∙ ap (operates_if s operation birth)
-        (object-named s.program (accepted_hierarchy s.program accepted) (none_hides s.program accepted) (kind_held h birth))
+        (object-named s.program (accepted_hierarchy s.program accepted) (none_hides s.program accepted)
+            (kind_held h birth))

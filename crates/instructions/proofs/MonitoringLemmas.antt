@@ -1,12 +1,14 @@
 -- Monitors of a heap's objects: what a change of one keeps, and what a world shows of it.
-use Rattle.std.proofs.Common.{◌≡◌, ℕ, zero, suc, List, [], ◌∷◌, map, set, slice_get, Option, Some, None, Bool, true, false, refl, sym, ap, ◌∙◌}
+use Rattle.std.proofs.Common.{◌≡◌, ℕ, zero, suc, List, [], ◌∷◌, map, set, slice_get, Option, Some, None, Bool, true}
+use Rattle.std.proofs.Common.{false, refl, sym, ap, ◌∙◌}
 use Rattle.std.specs.Prelude.{is_some, if◌then◌else◌}
 use Rattle.std.specs.Option.{option_map}
 use Rattle.std.proofs.lemmas.List.{map-set}
 use Rattle.model.specs.declared.journals.HeapShape.{HeapShape}
 use Rattle.model.specs.Accounts.{Account}
 use Rattle.model.specs.ClassListings.{ClassListing}
-use Rattle.model.specs.Monitors.{exited, is_owner, monitor_of, monitor_if as monitor_of_object, released, released_all, with_monitor_if, with_monitor_of}
+use Rattle.model.specs.Monitors.{exited, is_owner, monitor_of, monitor_if as monitor_of_object, released, released_all}
+use Rattle.model.specs.Monitors.{with_monitor_if, with_monitor_of}
 use Rattle.model.specs.Worlds.{Monitor, Object, World}
 use Rattle.join.specs.OnCells.{nobody}
 use Rattle.cells.specs.Objects.{StoredObject, monitor_if, monitor_set, object_if}
@@ -56,7 +58,8 @@ module _ (program : List ClassListing) where
   nothing : (h : HeapValue) → MonitorsAlone program h h
   nothing h = record { shape = refl; account = refl; births = refl; classes = refl; stored = λ stored. stored }
 
-  pub monitored-alone : (h : HeapValue) (reference : ℕ) (m : Monitor) → MonitorsAlone program h (monitored h reference m)
+  pub monitored-alone : (h : HeapValue) (reference : ℕ) (m : Monitor)
+      → MonitorsAlone program h (monitored h reference m)
   monitored-alone h zero m = nothing h
   monitored-alone h (suc cell) m = record {
     shape = refl;
@@ -64,17 +67,21 @@ module _ (program : List ClassListing) where
     births = refl;
     classes = refl;
     stored = λ stored.
-        set-stored program h.objects cell _ stored (as_stored m (object_if (slice_get h.objects cell)) (held-stored program h.objects cell stored));
+        set-stored program h.objects cell _ stored (as_stored m (object_if (slice_get h.objects cell))
+            (held-stored program h.objects cell stored));
   }
 
-  either : (h after : HeapValue) (b : Bool) → MonitorsAlone program h after → MonitorsAlone program h (if b then after else h)
+  either : (h after : HeapValue) (b : Bool) → MonitorsAlone program h after
+      → MonitorsAlone program h (if b then after else h)
   either h after true alone = alone
   either h after false alone = nothing h
 
-  pub released-alone : (h : HeapValue) (t : ℕ) (reference : Option ℕ) → MonitorsAlone program h (released_in h t reference)
+  pub released-alone : (h : HeapValue) (t : ℕ) (reference : Option ℕ)
+      → MonitorsAlone program h (released_in h t reference)
   released-alone h t None = nothing h
   released-alone h t (Some reference) =
-      either h _ (is_owner t (monitor_held h reference).owner) (monitored-alone h reference (exited (monitor_held h reference)))
+      either h _ (is_owner t (monitor_held h reference).owner)
+          (monitored-alone h reference (exited (monitor_held h reference)))
 
   pub all_released-alone : (h : HeapValue) (t : ℕ) (references : List (Option ℕ))
       → MonitorsAlone program h (all_released_in h t references)
@@ -121,8 +128,10 @@ module _ (program : List ClassListing) (h : HeapValue) (w : World)
       by None is k = cc
       by (Some None) is k = cc
       by (Some (Some x)) is k =
-          ap (with_monitor_if w (suc cell) m) (object-shown program h w shown cell ∙ ap (option_map (object_shown program)) is)
-          ∙ ap (λ (objects : List Object). with_objects (set objects (suc cell) (object_shown program (Some (monitor_set m x))))) shown
+          ap (with_monitor_if w (suc cell) m) (object-shown program h w shown cell
+              ∙ ap (option_map (object_shown program)) is)
+          ∙ ap (λ (objects : List Object). with_objects
+              (set objects (suc cell) (object_shown program (Some (monitor_set m x))))) shown
           ∙ ap (λ (objects : List Object). with_objects (nobody ∷ objects))
           (sym (map-set (object_shown program) h.objects cell (Some (monitor_set m x))))
           ∙ sym (ap (λ found. after (object_if found)) is)
@@ -135,7 +144,8 @@ module _ (program : List ClassListing) (h : HeapValue) (w : World)
 
   either_shown : (t birth : ℕ) (b : Bool) → is_owner t (monitor_held h birth).owner ≡ b
       → (if b then with_monitor_of w birth (exited (monitor_held h birth)) else w)
-      ≡ with_objects (objects_shown program (if b then monitored h birth (exited (monitor_held h birth)) else h).objects)
+      ≡ with_objects (objects_shown program (if b then monitored h birth (exited (monitor_held h birth))
+          else h).objects)
   either_shown t birth true owns = owned t birth (held h birth) refl owns
   either_shown t birth false owns = ap with_objects shown
 
@@ -157,4 +167,5 @@ all_released-shown program h w t (monitor ∷ monitors) shown =
     let here = released-shown program h w shown t monitor in
     ap (λ (w : World). released_all w t monitors) here
     ∙ all_released-shown program (released_in h t monitor)
-    (let after : World = record w { objects = objects_shown program (released_in h t monitor).objects } in after) t monitors refl
+    (let after : World = record w { objects = objects_shown program (released_in h t monitor).objects } in after) t
+           monitors refl

@@ -1,5 +1,6 @@
 -- The state of a class by its name.
-use Rattle.std.proofs.Common.{◌≡◌, inl, inr, ◌<◌, ◌≤◌, ◌+◌, arith, ℕ, zero, suc, List, [], ◌∷◌, length, Bool, true, false, Option, Some, None, is_some, refl, ap, sym, ◌∙◌}
+use Rattle.std.proofs.Common.{◌≡◌, inl, inr, ◌<◌, ◌≤◌, ◌+◌, arith, ℕ, zero, suc, List, [], ◌∷◌, length, Bool, true}
+use Rattle.std.proofs.Common.{false, Option, Some, None, is_some, refl, ap, sym, ◌∙◌}
 use Rattle.std.specs.Prelude.{position, slice_get}
 use Rattle.std.specs.List.{find, position_or_len}
 use Rattle.std.specs.Option.{option_map}
@@ -14,7 +15,8 @@ use Rattle.instructions.proofs.ListPlaces.{first_at}
 
 -- ---- what is first at a place is found, and what is nowhere is not
 
-found-at : (p : ClassListing → Bool) (xs : List ClassListing) (n : ℕ) (x : ClassListing) → slice_get xs n ≡ Some x → p x ≡ true → is_some (find p xs) ≡ true
+found-at : (p : ClassListing → Bool) (xs : List ClassListing) (n : ℕ) (x : ClassListing) → slice_get xs n ≡ Some x
+    → p x ≡ true → is_some (find p xs) ≡ true
 found-at p [] n x there e = cc
 found-at p (y ∷ ys) zero x there e = let same : y ≡ x = cc in let passes : p y ≡ true = ap p same ∙ e in rw passes refl
 found-at p (y ∷ ys) (suc n) x there e = by (found-at p ys n x there e) (p y) refl
@@ -37,27 +39,32 @@ found-nowhere p (y ∷ ys) e = by (found-nowhere p ys) (p y) refl
 
 module _ (program : List ClassListing) (name : List ℕ) (states : List ClassState) where
   -- of the class of a name
-  abbrev pub told : Option ClassListing → Option ClassState
-  told class = option_map (λ (c : ClassListing). state_at states (position (is_named name) program)) class
+  abbrev pub reported : Option ClassListing → Option ClassState
+  reported class = option_map (λ (c : ClassListing). state_at states (position (is_named name) program)) class
 
-  some-told : (o : Option ClassListing) → is_some o ≡ true → told (or_else o (builtin name)) ≡ Some (state_at states (position (is_named name) program))
-  some-told None e = cc
-  some-told (Some c) e = refl
+  some-reported : (o : Option ClassListing) → is_some o ≡ true → reported (or_else o (builtin name))
+      ≡ Some (state_at states (position (is_named name) program))
+  some-reported None e = cc
+  some-reported (Some c) e = refl
 
-  pub listed-state : (n : ℕ) (o : Option ClassState) → position (is_named name) program ≡ Some n → length states ≡ length program → o ≡ slice_get states n
-      → o ≡ told (class_named program name)
+  pub listed-state : (n : ℕ) (o : Option ClassState) → position (is_named name) program ≡ Some n → length states
+      ≡ length program → o ≡ slice_get states n
+      → o ≡ reported (class_named program name)
   listed-state n o at sized is =
       let first = first_at (is_named name) program n at in
       let within : n < length program = slice_get_within program n first.item first.there in
       let there : n < length states = omega (arith, within, sized) in
-      let named : is_some (find (is_named name) program) ≡ true = found-at (is_named name) program n first.item first.there first.passes in
+      let named : is_some (find (is_named name) program) ≡ true = found-at (is_named name) program n first.item
+            first.there first.passes in
       is ∙ slice_get-get_or states n Done there ∙ ap (λ (place : Option ℕ). Some (state_at states place)) (sym at)
-      ∙ sym (some-told (find (is_named name) program) named)
+      ∙ sym (some-reported (find (is_named name) program) named)
 
-  pub unlisted-state : position (is_named name) program ≡ None → is_some (builtin name) ≡ false → None ≡ told (class_named program name)
+  pub unlisted-state : position (is_named name) program ≡ None → is_some (builtin name) ≡ false
+      → None ≡ reported (class_named program name)
   unlisted-state none other =
       let nowhere : find (is_named name) program ≡ None = found-nowhere (is_named name) program (past none) in
-      sym (ap (λ (o : Option ClassListing). told (or_else o (builtin name))) nowhere ∙ ap told (no-class (builtin name) other))
+      sym (ap (λ (o : Option ClassListing). reported (or_else o (builtin name))) nowhere
+          ∙ ap reported (no-class (builtin name) other))
     where
       no-class : (o : Option ClassListing) → is_some o ≡ false → o ≡ None
       no-class None e = refl

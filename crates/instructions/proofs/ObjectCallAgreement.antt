@@ -1,5 +1,6 @@
 -- Calls on objects by numbers are what the instruction table says by names.
-use Rattle.std.proofs.Common.{◌≡◌, ℕ, List, length, Bool, true, false, ◌==◌, ◌&&◌, ◌||◌, not, Option, Some, None, Result, Ok, Err, refl, sym, ap, subst, ◌∙◌}
+use Rattle.std.proofs.Common.{◌≡◌, ℕ, List, length, Bool, true, false, ◌==◌, ◌&&◌, ◌||◌, not, Option, Some, None}
+use Rattle.std.proofs.Common.{Result, Ok, Err, refl, sym, ap, subst, ◌∙◌}
 use Rattle.std.specs.Prelude.{drop, if◌then◌else◌}
 use Rattle.std.specs.List.{find, list_any}
 use Rattle.std.specs.Option.{option_and_then, option_map, option_zip}
@@ -30,17 +31,21 @@ use Rattle.model.specs.Objects.{class_at}
 use Rattle.model.specs.Programs.{builtin_of}
 use Rattle.model.specs.Signatures.{argument_kinds}
 use Rattle.model.specs.Table.Builtins.{builtin_call}
-use Rattle.model.specs.Table.Invokes.{Call, arguments_in, called, called_on as called_by_name, on_object, selected_for, special_for, with_arguments}
+use Rattle.model.specs.Table.Invokes.{Call, arguments_in, called, called_on as called_by_name, on_object, selected_for}
+use Rattle.model.specs.Table.Invokes.{special_for, with_arguments}
 use Rattle.resolve.specs.Hierarchies.{IsHierarchy}
 use Rattle.loader.specs.declared.operations.Operation.TheVariants as operation
 use Rattle.loader.specs.MethodTables.{body_of, method_facts}
-use Rattle.loader.specs.ResolvedOperations.{calls_none, calls_selected, calls_special, method_named, method_number, special_call, virtual_call}
+use Rattle.loader.specs.ResolvedOperations.{calls_none, calls_selected, calls_special, method_named, method_number}
+use Rattle.loader.specs.ResolvedOperations.{special_call, virtual_call}
 use Rattle.loader.specs.Selections.{is_virtual_of}
 use Rattle.loader.specs.Selectors.{selector_of}
 use Rattle.instructions.specs.declared.kinds.Kind.{Kind}
 use Rattle.instructions.specs.declared.kinds.Kind.TheVariants.{Instance, Array}
 use Rattle.instructions.specs.ByNumbers.{IsNumbered}
-use Rattle.instructions.specs.CallsByNumbers.{called_as, called_at, called_by, called_known, called_none, called_object, called_on, called_selected, called_special, is_kind_of, known_at, place_if, place_of_number, runs, selected_place}
+use Rattle.instructions.specs.CallsByNumbers.{called_as, called_at, called_by, called_known, called_none, called_object}
+use Rattle.instructions.specs.CallsByNumbers.{called_on, called_selected, called_special, is_kind_of, known_at}
+use Rattle.instructions.specs.CallsByNumbers.{place_if, place_of_number, runs, selected_place}
 use Rattle.instructions.specs.Heaps.{HeapValue, kind_held}
 use Rattle.instructions.specs.OwnCalls.{is_printing}
 use Rattle.instructions.specs.Shown.{class_name, kind_name_if}
@@ -64,12 +69,15 @@ neither false b e = refl
 -- what the machine's own methods come to that are called as a member is, none of them static
 abbrev pub OwnAlike : (Site → Builtin → Completion) → Site → Member → Type 0
 OwnAlike own s m =
-    (builtin : Builtin) → is_printing builtin ≡ false → m.name ≡ own_name builtin → m.descriptor ≡ own_descriptor builtin
+    (builtin : Builtin) → is_printing builtin ≡ false → m.name ≡ own_name builtin → m.descriptor
+        ≡ own_descriptor builtin
     → builtin_call s builtin ≡ own s builtin
 
-module _ (own : Site → Builtin → Completion) (s : Site) (h : HeapValue) (slots : List Value) (shown : IsNumbered s h slots)
+module _ (own : Site → Builtin → Completion) (s : Site) (h : HeapValue) (slots : List Value)
+    (shown : IsNumbered s h slots)
     (free : Unrefused s.program) (hierarchy : IsHierarchy s.program) (hides : find has_builtin_name s.program ≡ None)
-    (m : Member) (c : ClassListing) (named : class_named s.program m.class ≡ Some c) (plain : element_of m.class ≡ None) where
+    (m : Member) (c : ClassListing) (named : class_named s.program m.class ≡ Some c) (plain : element_of m.class ≡ None)
+        where
   abbrev pub class : HasNumber s.program m.class
   class = class_numbered s.program hierarchy hides m.class c named
 
@@ -83,7 +91,8 @@ module _ (own : Site → Builtin → Completion) (s : Site) (h : HeapValue) (slo
       (birth : ℕ) (kind : Kind) → kind_held h birth ≡ Some kind → is_kind_of s.program kind class.number ≡ true
       → called (call birth) (callee_of s.program (method birth)) ≡ called_at (own s) s birth (by_kind kind)
 
-  object-same : (method : ℕ → Option (Declared Method)) (by_kind : Kind → Option MethodPlace) → MethodsAgree method by_kind
+  object-same : (method : ℕ → Option (Declared Method)) (by_kind : Kind → Option MethodPlace)
+      → MethodsAgree method by_kind
       → (r : Result (Option ℕ) Fault) → called_by_name s m method r ≡ called_object (own s) s h class.number by_kind r
   object-same method by_kind agree (Err fault) = refl
   object-same method by_kind agree (Ok None) = refl
@@ -103,14 +112,17 @@ module _ (own : Site → Builtin → Completion) (s : Site) (h : HeapValue) (slo
       by : (o : Option Kind) → kind_held h birth ≡ o
           → table (subtype_of (class_at s.world birth)) ≡ called_as (own s) s class.number by_kind birth o
       by None e =
-          ap table (ap subtype_of (class_held s.program h s.world shown.objects_are birth ∙ ap (kind_name_if s.program) e)
+          ap table (ap subtype_of (class_held s.program h s.world shown.objects_are birth
+              ∙ ap (kind_name_if s.program) e)
           ∙ nobody-below s.program hierarchy hides m.class c named)
       by (Some kind) e =
-          ap table (ap subtype_of (class_held s.program h s.world shown.objects_are birth ∙ ap (kind_name_if s.program) e)
+          ap table (ap subtype_of (class_held s.program h s.world shown.objects_are birth
+              ∙ ap (kind_name_if s.program) e)
           ∙ kind-below s.program hierarchy hides m.class c named plain kind)
           ∙ if-same kind e (is_kind_of s.program kind class.number) refl
 
-  on_object-same : (method : ℕ → Option (Declared Method)) (by_kind : Kind → Option MethodPlace) → MethodsAgree method by_kind
+  on_object-same : (method : ℕ → Option (Declared Method)) (by_kind : Kind → Option MethodPlace)
+      → MethodsAgree method by_kind
       → on_object s m method ≡ called_on (own s) s h class.number (argument_kinds m.descriptor) by_kind
   on_object-same method by_kind agree =
       ap (with_arguments s m) (object-same method by_kind agree (ref_on (drop (arguments_in m) s.frame.stack)))
@@ -133,7 +145,8 @@ module _ (own : Site → Builtin → Completion) (s : Site) (h : HeapValue) (slo
         ≡ runs (own s) s place (method_facts s.program d.class d.member) (Some birth) (body_of d.class d.member)
     known-same birth =
         ap (called_known (own s) s birth place) (methods.known s.program free hides test d is)
-        ∙ ap (λ b. if b then Faults NoMethod else runs (own s) s place (method_facts s.program d.class d.member) (Some birth) (body_of d.class d.member)) instance
+        ∙ ap (λ b. if b then Faults NoMethod else runs (own s) s place (method_facts s.program d.class d.member)
+            (Some birth) (body_of d.class d.member)) instance
 
     found-same : (birth : ℕ)
         → called (call birth) (callee_of s.program (Some d)) ≡ called_at (own s) s birth (Some place)
@@ -179,13 +192,15 @@ module _ (own : Site → Builtin → Completion) (s : Site) (h : HeapValue) (slo
         ∙ sym (ap none_kinds signature.descriptor)
         ∙ sym (ap (called_none (own s) s h class.number) (methods.known s.program free hides test d is))
 
-    none-numbered : called_none (own s) s h class.number (known_at s.program place) ≡ called_by own s h (calls_none (method_named s.program m d))
+    none-numbered : called_none (own s) s h class.number (known_at s.program place)
+        ≡ called_by own s h (calls_none (method_named s.program m d))
     none-numbered = sym (ap (λ n. called_by own s h (calls_none n)) special_number)
 
   -- ---- a method that is selected
 
   module _ (alike : OwnAlike own s m) where
-    virtual-found : (class_name : List ℕ) (d : Declared Method) → selected s.program class_name m.name m.descriptor ≡ Some d
+    virtual-found : (class_name : List ℕ) (d : Declared Method) → selected s.program class_name m.name m.descriptor
+        ≡ Some d
         → IsFound s.program (is_virtual_of m.name m.descriptor) d
     virtual-found class_name d e =
         declared-found s.program (is_virtual_of m.name m.descriptor) (superclasses s.program class_name) d e
@@ -218,7 +233,8 @@ module _ (own : Site → Builtin → Completion) (s : Site) (h : HeapValue) (slo
             let found = virtual-found (class_name s.program j) d is in
             let good = virtual-is d found in
             found-same alike (is_virtual_of m.name m.descriptor) d found good.signature good.instance birth
-            ∙ sym (ap (called_at (own s) s birth) (placed-same alike (is_virtual_of m.name m.descriptor) d found good.signature good.instance))
+            ∙ sym (ap (called_at (own s) s birth) (placed-same alike (is_virtual_of m.name m.descriptor) d found
+                good.signature good.instance))
 
     module _ (selector : HasSelector s.program m) (no_object : (class.number == length s.program) ≡ true → ⊥) where
       virtual_number : virtual_call s.program m ≡ operation.Invokevirtual class.number selector.selector
@@ -228,13 +244,15 @@ module _ (own : Site → Builtin → Completion) (s : Site) (h : HeapValue) (slo
 
       virtual-same : on_object s m (selected_for s m) ≡ called_by own s h (virtual_call s.program m)
       virtual-same =
-          on_object-same (selected_for s m) (selected_place s.program (m.name, m.descriptor)) (selected-agrees no_object)
+          on_object-same (selected_for s m) (selected_place s.program (m.name, m.descriptor))
+              (selected-agrees no_object)
           ∙ sym (ap (called_selected (own s) s h class.number) selector.there)
           ∙ sym (ap (called_by own s h) virtual_number)
 
       virtual-valid : virtual_call s.program m ≡ operation.Invalid → ⊥
       virtual-valid e =
-          let one : operation.Invokevirtual class.number selector.selector ≡ operation.Invalid = sym virtual_number ∙ e in cc
+          let one : operation.Invokevirtual class.number selector.selector ≡ operation.Invalid = sym virtual_number ∙ e
+                in cc
 
       pub virtual-case : CallAgrees own s h Virtual m (virtual_call s.program m)
       virtual-case = record { same = virtual-same; valid = virtual-valid }
@@ -244,7 +262,8 @@ module _ (own : Site → Builtin → Completion) (s : Site) (h : HeapValue) (slo
 
     -- ---- a method that the object has no part in
 
-    module _ (d : Declared Method) (resolved : resolved_method s.program m ≡ Some d) (instance : is_static d.member ≡ false) where
+    module _ (d : Declared Method) (resolved : resolved_method s.program m ≡ Some d) (instance : is_static d.member
+        ≡ false) where
       abbrev above : List ℕ
       above = superclass_at s.program s.frame.method.class
 
@@ -269,35 +288,43 @@ module _ (own : Site → Builtin → Completion) (s : Site) (h : HeapValue) (slo
           ∙ none-numbered alike (is_method m.name m.descriptor) d resolved_is resolved_signature instance)
           (none-valid alike (is_method m.name m.descriptor) d resolved_is resolved_signature instance)
 
-      special-some : (test : Method → Bool) (x : Declared Method) → special_for s m ≡ Some x → IsFound s.program test x → HasSignature m x
+      special-some : (test : Method → Bool) (x : Declared Method) → special_for s m ≡ Some x → IsFound s.program test x
+          → HasSignature m x
           → is_static x.member ≡ false → SpecialAgrees (Some x)
       special-some test x e is signature static =
-          special-by (Some x) e (special-same alike test x is signature static) (special-valid alike test x is signature static)
+          special-by (Some x) e (special-same alike test x is signature static) (special-valid alike test x is signature
+              static)
 
-      pub special-case : CallAgrees own s h Special m (special_call s.program m (special_method s.program above m) (resolved_method s.program m))
+      pub special-case : CallAgrees own s h Special m (special_call s.program m (special_method s.program above m)
+          (resolved_method s.program m))
       special-case =
-          subst (λ o. CallAgrees own s h Special m (special_call s.program m (special_method s.program above m) o)) (sym resolved)
+          subst (λ o. CallAgrees own s h Special m (special_call s.program m (special_method s.program above m) o))
+              (sym resolved)
           (by (not (is_initializer m.name) && list_any (bytes_eq d.class) (superclasses s.program above)) refl)
         where
           chosen : Bool → Option (Declared Method)
           chosen b = if b then selected s.program above m.name m.descriptor else Some d
 
-          chosen-is : (b : Bool) → (not (is_initializer m.name) && list_any (bytes_eq d.class) (superclasses s.program above)) ≡ b
+          chosen-is : (b : Bool)
+              → (not (is_initializer m.name) && list_any (bytes_eq d.class) (superclasses s.program above)) ≡ b
               → special_for s m ≡ chosen b
           chosen-is b e = ap (option_and_then _) resolved ∙ ap chosen e
 
-          selected-by : (o : Option (Declared Method)) → selected s.program above m.name m.descriptor ≡ o → special_for s m ≡ o → SpecialAgrees o
+          selected-by : (o : Option (Declared Method)) → selected s.program above m.name m.descriptor ≡ o
+              → special_for s m ≡ o → SpecialAgrees o
           selected-by None is e = special-none e
           selected-by (Some x) is e =
               let found = virtual-found above x is in
               let good = virtual-is x found in
               special-some (is_virtual_of m.name m.descriptor) x e found good.signature good.instance
 
-          by : (b : Bool) → (not (is_initializer m.name) && list_any (bytes_eq d.class) (superclasses s.program above)) ≡ b
+          by : (b : Bool) → (not (is_initializer m.name) && list_any (bytes_eq d.class) (superclasses s.program above))
+              ≡ b
               → SpecialAgrees (special_for s m)
           by true e =
               subst SpecialAgrees (sym (chosen-is true e))
               (selected-by (selected s.program above m.name m.descriptor) refl (chosen-is true e))
           by false e =
               subst SpecialAgrees (sym (chosen-is false e))
-              (special-some (is_method m.name m.descriptor) d (chosen-is false e) resolved_is resolved_signature instance)
+              (special-some (is_method m.name m.descriptor) d (chosen-is false e) resolved_is resolved_signature
+                  instance)

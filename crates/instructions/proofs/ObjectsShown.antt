@@ -1,5 +1,6 @@
 -- An object in a cell as plain data: what it holds, its monitor and its thread.
-use Rattle.std.proofs.Common.{◌≡◌, ℕ, ◌≤◌, List, length, map, slice_get, Option, Some, None, refl, sym, ◌∙◌, ap, subst, arith}
+use Rattle.std.proofs.Common.{◌≡◌, ℕ, ◌≤◌, List, length, map, slice_get, Option, Some, None, refl, sym, ◌∙◌, ap, subst}
+use Rattle.std.proofs.Common.{arith}
 use Rattle.std.specs.Option.{option_map}
 use Rattle.std.proofs.lemmas.List.{length-map, map-append}
 use Rattle.std.proofs.lemmas.Option.{slice_get-map}
@@ -28,20 +29,27 @@ module _ (program : List ClassListing) where
       → length words ≤ length (layout program (name_or_none (option_map name_of o)))
   enough_in None words e = omega (arith, e)
   enough_in (Some c) words e =
-      let same : length (map (word_of program) (layout program c.name)) ≡ length (layout program c.name) = length-map (layout program c.name) (word_of program) in
+      let same : length (map (word_of program) (layout program c.name)) ≡ length (layout program c.name) = length-map
+            (layout program c.name) (word_of program) in
       omega (arith, e, same)
 
-  enough_of : (class : ℕ) (words : List Value) → IsStored program (Instance class) words → length words ≤ length (layout program (class_name program class))
+  enough_of : (class : ℕ) (words : List Value) → IsStored program (Instance class) words
+      → length words ≤ length (layout program (class_name program class))
   enough_of class words e =
-      let facts : slice_get (class_tables program) class ≡ option_map (class_facts program) (slice_get (all_classes program) class) = slice_get-map (class_facts program) (all_classes program) class in
-      let name : slice_get (class_names program) class ≡ option_map name_of (slice_get (all_classes program) class) = ap (λ names. slice_get names class) names_are ∙ slice_get-map name_of (all_classes program) class in
+      let facts : slice_get (class_tables program) class
+            ≡ option_map (class_facts program) (slice_get (all_classes program) class) = slice_get-map
+            (class_facts program) (all_classes program) class in
+      let name : slice_get (class_names program) class ≡ option_map name_of (slice_get (all_classes program) class) = ap
+            (λ names. slice_get names class) names_are ∙ slice_get-map name_of (all_classes program) class in
       subst (λ n. length words ≤ length (layout program (name_or_none n))) (sym name)
       (enough_in (slice_get (all_classes program) class) words (e ∙ ap (λ f. length (words_known f)) facts))
 
   pub enough_fields : (kind : Kind) (class : ℕ) (words : List Value) (name : List ℕ)
-      → IsStored program kind words → kind ≡ Instance class → name ≡ class_name program class → length words ≤ length (layout program name)
+      → IsStored program kind words → kind ≡ Instance class → name ≡ class_name program class
+          → length words ≤ length (layout program name)
   enough_fields kind class words name stored is named =
-      subst (λ n. length words ≤ length (layout program n)) (sym named) (enough_of class words (subst (λ k. IsStored program k words) is stored))
+      subst (λ n. length words ≤ length (layout program n)) (sym named)
+          (enough_of class words (subst (λ k. IsStored program k words) is stored))
 
   -- ---- what stands in a cell
 
@@ -55,7 +63,8 @@ module _ (program : List ClassListing) where
   abbrev with_all : Contents → Monitor → Option ℕ → Object
   with_all contents monitor thread = record { contents = contents; monitor = monitor; thread = thread }
 
-  in_cell : (births : Naming) (o : Option (Option (StoredObject Kind))) (kind : Kind) (words : List Value) (contents : Contents) (monitor : Monitor) (thread : Option ℕ)
+  in_cell : (births : Naming) (o : Option (Option (StoredObject Kind))) (kind : Kind) (words : List Value)
+      (contents : Contents) (monitor : Monitor) (thread : Option ℕ)
       → Some kind ≡ option_map (λ object. object.kind) (object_if o) → words ≡ words_if (object_if o)
       → contents ≡ named_contents births (contents_shown program kind words)
       → monitor ≡ monitor_if (object_if o) → thread ≡ thread_if (object_if o)
@@ -66,11 +75,15 @@ module _ (program : List ClassListing) where
       let same : kind ≡ object.kind = cc in
       rw (holds, owned, started, has, same) refl
 
-  pub object_is : (births : Naming) (objects : List (Option (StoredObject Kind))) (cell : ℕ) (kind : Kind) (words : List Value) (contents : Contents) (monitor : Monitor) (thread : Option ℕ)
-      → Some kind ≡ option_map (λ object. object.kind) (object_if (slice_get objects cell)) → words ≡ words_if (object_if (slice_get objects cell))
+  pub object_is : (births : Naming) (objects : List (Option (StoredObject Kind))) (cell : ℕ) (kind : Kind)
+      (words : List Value) (contents : Contents) (monitor : Monitor) (thread : Option ℕ)
+      → Some kind ≡ option_map (λ object. object.kind) (object_if (slice_get objects cell))
+          → words ≡ words_if (object_if (slice_get objects cell))
       → contents ≡ named_contents births (contents_shown program kind words)
-      → monitor ≡ monitor_if (object_if (slice_get objects cell)) → thread ≡ thread_if (object_if (slice_get objects cell))
-      → Some (with_all contents monitor thread) ≡ option_map (named_object births) (slice_get (map (object_shown program) objects) cell)
+      → monitor ≡ monitor_if (object_if (slice_get objects cell))
+          → thread ≡ thread_if (object_if (slice_get objects cell))
+      → Some (with_all contents monitor thread)
+          ≡ option_map (named_object births) (slice_get (map (object_shown program) objects) cell)
   object_is births objects cell kind words contents monitor thread is has holds owned started =
       in_cell births (slice_get objects cell) kind words contents monitor thread is has holds owned started
       ∙ ap (option_map (named_object births)) (sym (slice_get-map (object_shown program) objects cell))

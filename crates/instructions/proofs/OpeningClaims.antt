@@ -1,5 +1,6 @@
 -- The claim with which a program opens.
-use Rattle.std.proofs.Common.{◌≡◌, ℕ, zero, suc, ◌+◌, ◌<◌, ◌≤◌, List, [], ◌∷◌, ◌++◌, true, cond, length, map, position, slice_get, take, replicate, Some, None, refl, sym, ap, ◌∙◌, arith}
+use Rattle.std.proofs.Common.{◌≡◌, ℕ, zero, suc, ◌+◌, ◌<◌, ◌≤◌, List, [], ◌∷◌, ◌++◌, true, cond, length, map, position}
+use Rattle.std.proofs.Common.{slice_get, take, replicate, Some, None, refl, sym, ap, ◌∙◌, arith}
 use Rattle.std.specs.Option.{option_map}
 use Rattle.std.specs.Str.{bytes_eq}
 use Rattle.std.proofs.lemmas.Bool.{le-leb}
@@ -13,7 +14,9 @@ use Rattle.model.specs.declared.values.Entry.TheVariants.{Unset}
 use Rattle.model.specs.Accepted.Refusals.{refusal_of}
 use Rattle.model.specs.ClassListings.{ClassListing}
 use Rattle.model.specs.Frames.{Frame, opening_frame, running_frame, with_running, within_limits}
-use Rattle.model.specs.Initialisation.{Chain, callers_waiting, claimed_states, first_claim, framed, initializer_frames, main_frames, opening_frames, opening_states, state_if, waiting, wants_initialising, with_states}
+use Rattle.model.specs.Initialisation.{Chain, callers_waiting, claimed_states, first_claim, framed, initializer_frames}
+use Rattle.model.specs.Initialisation.{main_frames, opening_frames, opening_states, state_if, waiting}
+use Rattle.model.specs.Initialisation.{wants_initialising, with_states}
 use Rattle.model.specs.Programs.{code_at, main_in}
 use Rattle.model.specs.Worlds.{opening_fits}
 use Rattle.model.specs.Classes.Builtin.{builtin_classes}
@@ -32,7 +35,8 @@ use Rattle.instructions.proofs.ClaimFrames.{frames-count, running-last, waits-fi
 pub opening-sized : (program : List ClassListing) → length (opening_states program) ≡ length program
 opening-sized program = length-map program (λ c. state_if (wants_initialising program c))
 
-take-more : {A B : Type 0} (f : A → B) (xs : List A) (n : ℕ) (y : B) → n < length xs → option_map f (slice_get xs n) ≡ Some y
+take-more : {A B : Type 0} (f : A → B) (xs : List A) (n : ℕ) (y : B) → n < length xs → option_map f (slice_get xs n)
+    ≡ Some y
     → take (suc n) (map f xs) ≡ take n (map f xs) ++ y ∷ []
 take-more f [] n y inside e = absurd (omega (arith, inside))
 take-more f (x ∷ xs) zero y inside e = let same : f x ≡ y = cc in ap (λ y. y ∷ []) same
@@ -66,7 +70,8 @@ first-number c cs = first-place c.name (map name_of cs ++ map name_of builtin_cl
 module _ (program : List ClassListing) (accepted : refusal_of program ≡ None) (locals stack : ℕ)
     (main : IsMain program locals stack) (place : MethodPlace) (placed : main_in program ≡ Some place)
     (few : locals + stack ≤ 4096) (count : ℕ) (above : ClassState)
-    (chain : (let found : Chain = record { unused = claimed program 0 count; above = above } in chain_at program (opening_states program) 0 ≡ found))
+    (chain : (let found : Chain = record { unused = claimed program 0 count; above = above }
+                    in chain_at program (opening_states program) 0 ≡ found))
     (there : AreClaimed program 0 count) where
   abbrev opened : Frame
   opened = opening_frame place locals stack
@@ -78,7 +83,8 @@ module _ (program : List ClassListing) (accepted : refusal_of program ≡ None) 
     by (c ∷ cs) e =
         ap (λ (c : Chain). c.unused)
         (chain-same (c ∷ cs) (opening_states (c ∷ cs)) (opening-sized (c ∷ cs)) c.name 0 (first-number c cs))
-        ∙ ap (λ (p : List ClassListing). (chain_at p (opening_states p) 0).unused) e ∙ ap (λ (c : Chain). c.unused) chain
+        ∙ ap (λ (p : List ClassListing). (chain_at p (opening_states p) 0).unused) e
+            ∙ ap (λ (c : Chain). c.unused) chain
 
   main-is : main_frames program (main_in program) ≡ opened ∷ []
   main-is =
@@ -110,10 +116,12 @@ module _ (program : List ClassListing) (accepted : refusal_of program ≡ None) 
 
     pub main-fits : true ≡ opening_fits program
     main-fits =
-        let small : length (replicate locals Unset) + stack + 0 ≤ 4096 = omega (arith, few, length-replicate locals Unset) in
+        let small : length (replicate locals Unset) + stack + 0 ≤ 4096 = omega (arith, few,
+              length-replicate locals Unset) in
         sym (ap within_limits alone ∙ le-leb (length (replicate locals Unset) + stack + 0) 4096 small)
 
-    pub main-alone : (frames before : List Frame) → before ≡ [] → frames ≡ before ++ opened ∷ [] → frames ≡ opening_frames program
+    pub main-alone : (frames before : List Frame) → before ≡ [] → frames ≡ before ++ opened ∷ []
+        → frames ≡ opening_frames program
     main-alone frames before empty is = is ∙ ap (λ fs. fs ++ opened ∷ []) empty ∙ sym alone
 
     pub states-stay : (states : List ClassState) → states ≡ opening_states program → states ≡ claimed_states program

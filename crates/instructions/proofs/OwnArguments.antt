@@ -1,8 +1,10 @@
 -- The machine's own methods on objects take no arguments.
-use Rattle.std.proofs.Common.{◌≡◌, inl, inr, ℕ, zero, suc, List, [], ◌∷◌, ◌++◌, map, false, Option, Some, None, Ok, refl, sym, ap, ◌∙◌}
+use Rattle.std.proofs.Common.{◌≡◌, inl, inr, ℕ, zero, suc, List, [], ◌∷◌, ◌++◌, map, false, Option, Some, None, Ok}
+use Rattle.std.proofs.Common.{refl, sym, ap, ◌∙◌}
 use Rattle.std.specs.Prelude.{slice_get}
 use Rattle.model.specs.declared.builtins.Builtin.{Builtin}
-use Rattle.model.specs.declared.builtins.Builtin.TheVariants.{PrintInt, PrintLong, PutByte, Initialize, RunThread, StartThread, JoinThread}
+use Rattle.model.specs.declared.builtins.Builtin.TheVariants.{PrintInt, PrintLong, PutByte, Initialize, RunThread}
+use Rattle.model.specs.declared.builtins.Builtin.TheVariants.{StartThread, JoinThread}
 use Rattle.model.specs.declared.listings.Method.{Method}
 use Rattle.model.specs.declared.names.Member.{Member}
 use Rattle.model.specs.declared.places.MethodPlace.{MethodPlace}
@@ -45,7 +47,8 @@ module _ (program : List ClassListing) where
   in-more class (m ∷ ms) last (suc k) facts e = in-more class ms last k facts e
 
   in-classes : (cs : List ClassListing) (n k : ℕ) (methods : List MethodFacts) (facts : MethodFacts)
-      → slice_get (map (class_methods program) cs) n ≡ Some methods → slice_get methods k ≡ Some facts → IsOfMethod program facts
+      → slice_get (map (class_methods program) cs) n ≡ Some methods → slice_get methods k ≡ Some facts
+          → IsOfMethod program facts
   in-classes [] n k methods facts there e = cc
   in-classes (c ∷ cs) zero k methods facts there e =
       let same : class_methods program c ≡ methods = cc in
@@ -53,25 +56,29 @@ module _ (program : List ClassListing) where
   in-classes (c ∷ cs) (suc n) k methods facts there e = in-classes cs n k methods facts there e
 
   in-own : (cs : List ClassListing) (n k : ℕ) (methods : List MethodFacts) (facts : MethodFacts)
-      → slice_get (map (own_methods program) cs) n ≡ Some methods → slice_get methods k ≡ Some facts → IsOfMethod program facts
+      → slice_get (map (own_methods program) cs) n ≡ Some methods → slice_get methods k ≡ Some facts
+          → IsOfMethod program facts
   in-own [] n k methods facts there e = cc
   in-own (c ∷ cs) zero k methods facts there e =
       let same : own_methods program c ≡ methods = cc in
       in-methods c.name c.methods k facts (ap (λ (ms : List MethodFacts). slice_get ms k) same ∙ e)
   in-own (c ∷ cs) (suc n) k methods facts there e = in-own cs n k methods facts there e
 
-  known-method : (place : MethodPlace) (facts : MethodFacts) → known_at program place ≡ Some facts → IsOfMethod program facts
+  known-method : (place : MethodPlace) (facts : MethodFacts) → known_at program place ≡ Some facts
+      → IsOfMethod program facts
   known-method place facts known =
       let methods = and_then-some (λ (methods : List MethodFacts). slice_get methods place.method)
       (slice_get (method_tables program) place.class) facts known in
-      elim (either-part (map (class_methods program) program) (map (own_methods program) builtin_classes) place.class methods.0 methods.1) [
+      elim (either-part (map (class_methods program) program) (map (own_methods program) builtin_classes) place.class
+          methods.0 methods.1) [
         | inl there ↦ in-classes program place.class place.method methods.0 facts there methods.2
-        | inr behind ↦ in-own builtin_classes behind.place place.method methods.0 facts behind.there methods.2
+        | inr following ↦ in-own builtin_classes following.place place.method methods.0 facts following.there methods.2
       ]
 
 -- ---- its arguments
 
-own-body : (own : Option Builtin) (code : Option CodeListing) (builtin : Builtin) → body_by own code ≡ Own builtin → own ≡ Some builtin
+own-body : (own : Option Builtin) (code : Option CodeListing) (builtin : Builtin) → body_by own code ≡ Own builtin
+    → own ≡ Some builtin
 own-body (Some b) code builtin e = cc
 own-body None None builtin e = cc
 own-body None (Some code) builtin e = cc
@@ -85,7 +92,8 @@ no-kinds RunThread e = refl
 no-kinds StartThread e = refl
 no-kinds JoinThread e = refl
 
-module _ (program : List ClassListing) (place : MethodPlace) (facts : MethodFacts) (known : known_at program place ≡ Some facts)
+module _ (program : List ClassListing) (place : MethodPlace) (facts : MethodFacts) (known : known_at program place
+    ≡ Some facts)
     (builtin : Builtin) (own : facts.body ≡ Own builtin) (plain : is_printing builtin ≡ false) where
   no-arguments : facts.arguments ≡ []
   no-arguments =

@@ -5,7 +5,8 @@ use Rattle.std.specs.Option.{option_map_or}
 use Rattle.std.specs.Str.{bytes_eq}
 use Rattle.std.proofs.lemmas.Slice.Eq.{bytes_eq-Decides}
 use Rattle.model.specs.declared.builtins.Builtin.{Builtin}
-use Rattle.model.specs.declared.builtins.Builtin.TheVariants.{PrintInt, PrintLong, PutByte, Initialize, RunThread, StartThread, JoinThread}
+use Rattle.model.specs.declared.builtins.Builtin.TheVariants.{PrintInt, PrintLong, PutByte, Initialize, RunThread}
+use Rattle.model.specs.declared.builtins.Builtin.TheVariants.{StartThread, JoinThread}
 use Rattle.model.specs.declared.names.Member.{Member}
 use Rattle.model.specs.declared.values.Kind.TheVariants.{Int as IntKind, Long as LongKind}
 use Rattle.model.specs.declared.values.Value.{Value}
@@ -46,24 +47,36 @@ both true b e = (refl, e)
 both false b e = cc
 
 seven : (P : Builtin → Type 0) (a b c d e f g : Bool) (own : Builtin)
-    → (a ≡ true → P PrintInt) → (b ≡ true → P PrintLong) → (c ≡ true → P PutByte) → (d ≡ true → P RunThread) → (e ≡ true → P StartThread) → (f ≡ true → P JoinThread) → (g ≡ true → P Initialize)
-    → cond a (Some PrintInt) (cond b (Some PrintLong) (cond c (Some PutByte) (cond d (Some RunThread) (cond e (Some StartThread) (cond f (Some JoinThread) (cond g (Some Initialize) None)))))) ≡ Some own
+    → (a ≡ true → P PrintInt) → (b ≡ true → P PrintLong) → (c ≡ true → P PutByte) → (d ≡ true → P RunThread)
+        → (e ≡ true → P StartThread) → (f ≡ true → P JoinThread) → (g ≡ true → P Initialize)
+    → cond a (Some PrintInt)
+        (cond b (Some PrintLong)
+        (cond c (Some PutByte)
+        (cond d (Some RunThread)
+        (cond e (Some StartThread) (cond f (Some JoinThread) (cond g (Some Initialize) None)))))) ≡ Some own
     → P own
 seven P true b c d e f g own pa pb pc pd pe pf pg is = let same : PrintInt ≡ own = cc in rw (← same) (pa refl)
 seven P false true c d e f g own pa pb pc pd pe pf pg is = let same : PrintLong ≡ own = cc in rw (← same) (pb refl)
 seven P false false true d e f g own pa pb pc pd pe pf pg is = let same : PutByte ≡ own = cc in rw (← same) (pc refl)
-seven P false false false true e f g own pa pb pc pd pe pf pg is = let same : RunThread ≡ own = cc in rw (← same) (pd refl)
-seven P false false false false true f g own pa pb pc pd pe pf pg is = let same : StartThread ≡ own = cc in rw (← same) (pe refl)
-seven P false false false false false true g own pa pb pc pd pe pf pg is = let same : JoinThread ≡ own = cc in rw (← same) (pf refl)
-seven P false false false false false false true own pa pb pc pd pe pf pg is = let same : Initialize ≡ own = cc in rw (← same) (pg refl)
+seven P false false false true e f g own pa pb pc pd pe pf pg
+    is = let same : RunThread ≡ own = cc in rw (← same) (pd refl)
+seven P false false false false true f g own pa pb pc pd pe pf pg
+    is = let same : StartThread ≡ own = cc in rw (← same) (pe refl)
+seven P false false false false false true g own pa pb pc pd pe pf pg
+    is = let same : JoinThread ≡ own = cc in rw (← same) (pf refl)
+seven P false false false false false false true own pa pb pc pd pe pf pg
+    is = let same : Initialize ≡ own = cc in rw (← same) (pg refl)
 seven P false false false false false false false own pa pb pc pd pe pf pg is = cc
 
 module _ (m : Member) where
-  as_member : (own : Builtin) (class : List ℕ) → is_member m class (own_name own) (own_descriptor own) ≡ true → IsCalled m own
+  as_member : (own : Builtin) (class : List ℕ) → is_member m class (own_name own) (own_descriptor own) ≡ true
+      → IsCalled m own
   as_member own class e =
-      let parts = both (bytes_eq m.class class && bytes_eq m.name (own_name own)) (bytes_eq m.descriptor (own_descriptor own)) e in
+      let parts = both (bytes_eq m.class class && bytes_eq m.name (own_name own))
+            (bytes_eq m.descriptor (own_descriptor own)) e in
       record {
-        name = (bytes_eq-Decides m.name (own_name own)).0 (both (bytes_eq m.class class) (bytes_eq m.name (own_name own)) parts.0).1;
+        name = (bytes_eq-Decides m.name (own_name own)).0
+            (both (bytes_eq m.class class) (bytes_eq m.name (own_name own)) parts.0).1;
         descriptor = (bytes_eq-Decides m.descriptor (own_descriptor own)).0 parts.1;
       }
 
@@ -77,12 +90,16 @@ module _ (m : Member) where
 
   pub own_called : (own : Builtin) → builtin_of m ≡ Some own → IsCalled m own
   own_called own e =
-      seven (IsCalled m) (is_member m (codes "vm/Sys") (codes "print") (codes "(I)V")) (is_member m (codes "vm/Sys") (codes "printl") (codes "(J)V"))
-      (is_member m (codes "vm/Sys") (codes "putc") (codes "(I)V")) (is_member m (codes "java/lang/Thread") (codes "run") (codes "()V"))
-      (is_member m (codes "java/lang/Thread") (codes "start") (codes "()V")) (is_member m (codes "java/lang/Thread") (codes "join") (codes "()V"))
+      seven (IsCalled m) (is_member m (codes "vm/Sys") (codes "print") (codes "(I)V"))
+          (is_member m (codes "vm/Sys") (codes "printl") (codes "(J)V"))
+      (is_member m (codes "vm/Sys") (codes "putc") (codes "(I)V")) (is_member m (codes "java/lang/Thread") (codes "run")
+          (codes "()V"))
+      (is_member m (codes "java/lang/Thread") (codes "start") (codes "()V"))
+          (is_member m (codes "java/lang/Thread") (codes "join") (codes "()V"))
       (is_own_initializer m) own
       (as_member PrintInt (codes "vm/Sys")) (as_member PrintLong (codes "vm/Sys")) (as_member PutByte (codes "vm/Sys"))
-      (as_member RunThread (codes "java/lang/Thread")) (as_member StartThread (codes "java/lang/Thread")) (as_member JoinThread (codes "java/lang/Thread"))
+      (as_member RunThread (codes "java/lang/Thread")) (as_member StartThread (codes "java/lang/Thread"))
+          (as_member JoinThread (codes "java/lang/Thread"))
       as_initializer e
 
 -- ---- operands

@@ -1,5 +1,6 @@
 -- Objects of the machine's own classes have no words.
-use Rattle.std.proofs.Common.{◌≡◌, ℕ, zero, suc, ◌+◌, List, [], ◌∷◌, ◌++◌, Bool, true, false, length, flat_map, map, slice_get, Option, Some, None, is_some, refl, sym, ap, subst, arith, ◌∙◌}
+use Rattle.std.proofs.Common.{◌≡◌, ℕ, zero, suc, ◌+◌, List, [], ◌∷◌, ◌++◌, Bool, true, false, length, flat_map, map}
+use Rattle.std.proofs.Common.{slice_get, Option, Some, None, is_some, refl, sym, ap, subst, arith, ◌∙◌}
 use Rattle.std.specs.List.{find, list_all}
 use Rattle.model.specs.declared.listings.Field.{Field}
 use Rattle.model.specs.ClassListings.{ClassListing}
@@ -42,7 +43,8 @@ all-at p (y ∷ ys) (suc n) x h e = all-at p ys n x (and-right (p y) (list_all p
 no-fields : (name : List ℕ) (c : ClassListing) → fieldless c.fields ≡ true → instance_fields_in name (Some c) ≡ []
 no-fields name c e = by c.fields e
   where
-    by : (fields : List Field) → fieldless fields ≡ true → instance_fields_in name (Some (record c { fields = fields })) ≡ []
+    by : (fields : List Field) → fieldless fields ≡ true → instance_fields_in name (Some (record c { fields = fields }))
+        ≡ []
     by [] e = refl
     by (f ∷ fs) e = cc
 
@@ -50,13 +52,13 @@ flat-none : {A B : Type 0} (f : A → List B) (xs : List A) → Each (λ x. f x 
 flat-none f [] h = refl
 flat-none f (x ∷ xs) h = ap (λ ys. ys ++ flat_map f xs) h.0 ∙ flat-none f xs h.1
 
-get-behind : {A : Type 0} (xs ys : List A) (n : ℕ) → slice_get (xs ++ ys) (length xs + n) ≡ slice_get ys n
-get-behind {A = A} xs ys n = behind xs (length xs + n) refl
+get-following : {A : Type 0} (xs ys : List A) (n : ℕ) → slice_get (xs ++ ys) (length xs + n) ≡ slice_get ys n
+get-following {A = A} xs ys n = following xs (length xs + n) refl
   where
-    behind : (xs : List A) (k : ℕ) → k ≡ length xs + n → slice_get (xs ++ ys) k ≡ slice_get ys n
-    behind [] k e = ap (slice_get ys) (omega (arith, e))
-    behind (x ∷ xs) zero e = absurd (omega (arith, e))
-    behind (x ∷ xs) (suc k) e = behind xs k (omega (arith, e))
+    following : (xs : List A) (k : ℕ) → k ≡ length xs + n → slice_get (xs ++ ys) k ≡ slice_get ys n
+    following [] k e = ap (slice_get ys) (omega (arith, e))
+    following (x ∷ xs) zero e = absurd (omega (arith, e))
+    following (x ∷ xs) (suc k) e = following xs k (omega (arith, e))
 
 module _ (program : List ClassListing) (hierarchy : IsHierarchy program)
     (hides : find has_builtin_name program ≡ None) where
@@ -69,13 +71,15 @@ module _ (program : List ClassListing) (hierarchy : IsHierarchy program)
   own-none : (name : List ℕ) (c : ClassListing) → listed program name ≡ None → builtin name ≡ Some c → HasNone name
   own-none name c none e =
       ap (λ o. instance_fields_in name (or_else o (builtin name))) none ∙ ap (instance_fields_in name) e
-      ∙ no-fields name c (all-found (λ (c : ClassListing). fieldless c.fields) (is_named name) builtin_classes c own_fieldless e)
+      ∙ no-fields name c (all-found (λ (c : ClassListing). fieldless c.fields) (is_named name) builtin_classes c
+          own_fieldless e)
 
   nothing-above : (n : ℕ) (name : List ℕ) → listed program name ≡ None → Each HasNone (upwards n program name)
   unfolding upwards
   nothing-above zero name none = tt
   nothing-above (suc n) name none =
-      subst (λ o. Each HasNone (with_superclasses name (λ above. upwards n program above) (or_else o (builtin name)))) (sym none)
+      subst (λ o. Each HasNone (with_superclasses name (λ above. upwards n program above) (or_else o (builtin name))))
+          (sym none)
       (by (builtin name) refl (λ above none. nothing-above n above none))
     where
       by : (c : Option ClassListing) → builtin name ≡ c
@@ -86,7 +90,8 @@ module _ (program : List ClassListing) (hierarchy : IsHierarchy program)
 
   own-layout : (name : List ℕ) → is_some (builtin name) ≡ true → layout program name ≡ []
   own-layout name own =
-      flat-none fields_named _ (each-reverse HasNone _ (nothing-above _ name (unlisted program hierarchy hides name own)))
+      flat-none fields_named _
+          (each-reverse HasNone _ (nothing-above _ name (unlisted program hierarchy hides name own)))
 
   own-words : (place : ℕ) → words_in (class_tables program) (length program + place) ≡ []
   own-words place = by (slice_get (all_classes program) (length program + place)) refl
@@ -96,11 +101,13 @@ module _ (program : List ClassListing) (hierarchy : IsHierarchy program)
       by None e = words-none program (length program + place) e
       by (Some c) e =
           let own : is_some (builtin c.name) ≡ true =
-          all-at (λ (c : ClassListing). is_some (builtin c.name)) builtin_classes place c own_there (sym (get-behind program builtin_classes place) ∙ e) in
+          all-at (λ (c : ClassListing). is_some (builtin c.name)) builtin_classes place c own_there
+              (sym (get-following program builtin_classes place) ∙ e) in
           words-layout program (length program + place) c e ∙ ap (map (word_of program)) (own-layout c.name own)
 
 -- an object of one is made with all its words
 pub own-stored : (program : List ClassListing) → CanRun program → (place : ℕ)
     → IsStored program (own_class program place) []
 own-stored program can place =
-    sym (ap length (own-words program (accepted_hierarchy program can.accepted) (none_hides program can.accepted) place))
+    sym (ap length (own-words program (accepted_hierarchy program can.accepted) (none_hides program can.accepted)
+        place))

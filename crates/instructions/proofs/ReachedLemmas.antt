@@ -1,5 +1,8 @@
--- What paths lead to depends on threads, static fields and objects alone; what is shown of the object of a birth, by its cell.
-use Rattle.std.proofs.Common.{◌≡◌, ℕ, zero, suc, ◌+◌, ◌<◌, ◌≤◌, List, [], ◌∷◌, get_or, length, map, slice_get, Bool, true, false, if◌then◌else◌, Option, Some, None, Result, Ok, Err, IfOk, refl, sym, ◌∙◌, ap, arith}
+-- What paths lead to depends on threads, static fields and objects alone; what is shown of the object of a birth, by
+-- its cell.
+use Rattle.std.proofs.Common.{◌≡◌, ℕ, zero, suc, ◌+◌, ◌<◌, ◌≤◌, List, [], ◌∷◌, get_or, length, map, slice_get, Bool}
+use Rattle.std.proofs.Common.{true, false, if◌then◌else◌, Option, Some, None, Result, Ok, Err, IfOk, refl, sym, ◌∙◌, ap}
+use Rattle.std.proofs.Common.{arith}
 use Rattle.std.specs.Prelude.{is_some}
 use Rattle.std.proofs.lemmas.List.{length-map}
 use Rattle.model.specs.declared.colours.Cell.{Cell}
@@ -24,12 +27,14 @@ use Rattle.instructions.specs.Shown.{keyed, objects_shown}
 
 -- ---- two worlds of the same places
 
-module _ (w v : World) (roots : (p : Place) → root_at w p ≡ root_at v p) (words : (b k : ℕ) → word_at w b k ≡ word_at v b k) where
+module _ (w v : World) (roots : (p : Place) → root_at w p ≡ root_at v p) (words : (b k : ℕ) → word_at w b k
+    ≡ word_at v b k) where
   same_path : (b : ℕ) → Reach w b → Reach v b
   same_path b (at_root p e) = at_root p (sym (roots p) ∙ e)
   same_path b (by_word a k r e) = by_word a k (same_path a r) (sym (words a k) ∙ e)
 
-same_reached : (w v : World) → ((p : Place) → root_at w p ≡ root_at v p) → ((b k : ℕ) → word_at w b k ≡ word_at v b k) → (b : ℕ) → is_reached w b ≡ is_reached v b
+same_reached : (w v : World) → ((p : Place) → root_at w p ≡ root_at v p) → ((b k : ℕ) → word_at w b k ≡ word_at v b k)
+    → (b : ℕ) → is_reached w b ≡ is_reached v b
 same_reached w v roots words b =
     alike (is_reached w b) (is_reached v b)
     (λ e. Reach-is_reached v b (same_path w v roots words b (is_reached-Reach w b e)))
@@ -71,7 +76,8 @@ module _
 -- ---- the marks
 
 -- there is a reference for each object
-pub enough_references : {K : Type 0} (f : Option (StoredObject K) → Object) (o : Object) (cells : List Cell) (objects : List (Option (StoredObject K))) (count : ℕ)
+pub enough_references : {K : Type 0} (f : Option (StoredObject K) → Object) (o : Object) (cells : List Cell)
+    (objects : List (Option (StoredObject K))) (count : ℕ)
     → map is_taken cells ≡ map is_some objects → count ≡ length cells → length (o ∷ map f objects) ≤ count + 1
 enough_references f o cells objects count taken is =
     let left : length (map is_taken cells) ≡ length cells = length-map cells is_taken in
@@ -88,7 +94,8 @@ below_count cells objects count r taken is below =
     let both : length (map is_taken cells) ≡ length (map is_some objects) = ap length taken in
     omega (arith, is, left, right, both, below)
 
-pub within_objects : {K : Type 0} (objects : List (Option (StoredObject K))) (c : ℕ) → is_some (object_if (slice_get objects c)) ≡ true → c + 1 ≤ length objects
+pub within_objects : {K : Type 0} (objects : List (Option (StoredObject K))) (c : ℕ)
+    → is_some (object_if (slice_get objects c)) ≡ true → c + 1 ≤ length objects
 within_objects [] c there = absurd (cc)
 within_objects (o ∷ objects) zero there = omega arith
 within_objects (o ∷ objects) (suc c) there = let h = within_objects objects c there in omega (arith, h)
@@ -110,13 +117,17 @@ module _ (x : CellMachine) (b : ℕ) where
   pub in_no_cell : cell_from 0 b x.account.cells ≡ None → None ≡ object_on x b
   in_no_cell e = ap (reached_object_in x) (sym e)
 
-  by_mark : (c : ℕ) (t : Bool) → cell_from 0 b x.account.cells ≡ Some c → is_reached x.world (suc c) ≡ t → (if t then object_in x c else None) ≡ object_on x b
-  by_mark c t e mark = ap (λ (s : Bool). if s then object_in x c else None) (sym mark) ∙ ap (reached_object_in x) (sym e)
+  by_mark : (c : ℕ) (t : Bool) → cell_from 0 b x.account.cells ≡ Some c → is_reached x.world (suc c) ≡ t
+      → (if t then object_in x c else None) ≡ object_on x b
+  by_mark c t e mark = ap (λ (s : Bool). if s then object_in x c else None) (sym mark)
+      ∙ ap (reached_object_in x) (sym e)
 
-  pub in_reached_cell : (c : ℕ) → cell_from 0 b x.account.cells ≡ Some c → is_reached x.world (suc c) ≡ true → object_in x c ≡ object_on x b
+  pub in_reached_cell : (c : ℕ) → cell_from 0 b x.account.cells ≡ Some c → is_reached x.world (suc c) ≡ true
+      → object_in x c ≡ object_on x b
   in_reached_cell c e mark = by_mark c true e mark
 
-  pub in_unreached_cell : (c : ℕ) → cell_from 0 b x.account.cells ≡ Some c → is_reached x.world (suc c) ≡ false → None ≡ object_on x b
+  pub in_unreached_cell : (c : ℕ) → cell_from 0 b x.account.cells ≡ Some c → is_reached x.world (suc c) ≡ false
+      → None ≡ object_on x b
   in_unreached_cell c e mark = by_mark c false e mark
 
 -- ---- what holds of what was got

@@ -1,5 +1,6 @@
 -- The field to which a reference is resolved is one of the class that declares it, by the name and descriptor named.
-use Rattle.std.proofs.Common.{◌≡◌, ℕ, suc, ◌+◌, length, List, [], ◌∷◌, Bool, true, false, ◌||◌, ◌&&◌, not, map, reverse, Option, Some, None, refl, sym, ap, arith, ◌∙◌}
+use Rattle.std.proofs.Common.{◌≡◌, ℕ, suc, ◌+◌, length, List, [], ◌∷◌, Bool, true, false, ◌||◌, ◌&&◌, not, map, reverse}
+use Rattle.std.proofs.Common.{Option, Some, None, refl, sym, ap, arith, ◌∙◌}
 use Rattle.std.specs.List.{find, list_all, list_any}
 use Rattle.std.specs.Option.{option_map}
 use Rattle.std.specs.Str.{bytes_eq}
@@ -12,7 +13,8 @@ use Rattle.model.specs.Classes.Flags.{is_static_field}
 use Rattle.model.specs.Classes.Layout.{instance_fields_in, layout}
 use Rattle.model.specs.Classes.Named.{builtin, class_named, is_named, listed, or_else}
 use Rattle.model.specs.Classes.Resolution.{field_of, resolved_field}
-use Rattle.model.specs.Classes.Search.{Declared, declared_in, field_order, first_declared, superclasses, upwards, with_superclasses}
+use Rattle.model.specs.Classes.Search.{Declared, declared_in, field_order, first_declared, superclasses, upwards}
+use Rattle.model.specs.Classes.Search.{with_superclasses}
 use Rattle.model.specs.Words.{is_field, unwritten}
 use Rattle.model.specs.Worlds.{FieldValue, opening_slot, opening_slots, opening_slots_of}
 use Rattle.resolve.proofs.AcyclicLemmas.{named-listed}

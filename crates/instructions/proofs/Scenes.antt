@@ -14,16 +14,19 @@ get_between : (before after : List Thread) (t : Thread) → slice_get (before ++
 get_between [] after t = refl
 get_between (b ∷ bs) after t = get_between bs after t
 
-pub set_between : {A : Type 0} (before after : List A) (t u : A) → slice_set (before ++ t ∷ after) (length before) u ≡ before ++ u ∷ after
+pub set_between : {A : Type 0} (before after : List A) (t u : A) → slice_set (before ++ t ∷ after) (length before) u
+    ≡ before ++ u ∷ after
 set_between [] after t u = refl
 set_between (b ∷ bs) after t u = ap (λ ts. b ∷ ts) (set_between bs after t u)
 
 module _ (scene : Scene) (n : ℕ) (here : length scene.before ≡ n) where
   pub thread_there : (t : Thread) → slice_get (threads_shown scene t) n ≡ Some t
-  thread_there t = subst (λ n. slice_get (threads_shown scene t) n ≡ Some t) here (get_between scene.before scene.after t)
+  thread_there t = subst (λ n. slice_get (threads_shown scene t) n ≡ Some t) here
+      (get_between scene.before scene.after t)
 
   pub thread_set : (t u : Thread) → slice_set (threads_shown scene t) n u ≡ threads_shown scene u
-  thread_set t u = subst (λ n. slice_set (threads_shown scene t) n u ≡ threads_shown scene u) here (set_between scene.before scene.after t u)
+  thread_set t u = subst (λ n. slice_set (threads_shown scene t) n u ≡ threads_shown scene u) here
+      (set_between scene.before scene.after t u)
 
 module _ (program : List ClassListing) (scene : Scene) (m : Machine) (here : length scene.before ≡ m.thread) where
   -- the running thread's frames are those of the machine

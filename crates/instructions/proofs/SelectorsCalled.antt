@@ -1,11 +1,15 @@
 -- Selectors stand once each, and what the code of a program calls on objects has one.
-use Rattle.std.proofs.Common.{◌≡◌, ℕ, zero, suc, ◌+◌, List, [], ◌∷◌, ◌++◌, length, fold, Bool, true, false, cond, ◌||◌, ◌&&◌, Option, Some, None, refl, sym, ap, subst, arith, ◌∙◌}
+use Rattle.std.proofs.Common.{◌≡◌, ℕ, zero, suc, ◌+◌, List, [], ◌∷◌, ◌++◌, length, fold, Bool, true, false, cond, ◌||◌}
+use Rattle.std.proofs.Common.{◌&&◌, Option, Some, None, refl, sym, ap, subst, arith, ◌∙◌}
 use Rattle.std.specs.Prelude.{slice_get, ◌==◌, if◌then◌else◌}
 use Rattle.std.specs.List.{find, list_any, position}
 use Rattle.std.specs.Option.{option_and_then}
 use Rattle.std.specs.Str.{bytes_eq}
 use Rattle.std.proofs.lemmas.Slice.Eq.{bytes_eq-Decides}
-use Rattle.model.specs.declared.instructions.Instruction.TheVariants.{Nop, Constant, Local, Stack, Number, Branch, TableSwitch, LookupSwitch, Return, Static as StaticField, Field, Array, Class, Invoke, Throw, Monitor}
+use Rattle.model.specs.declared.instructions.Instruction.TheVariants.{Nop, Constant, Local, Stack, Number, Branch}
+use Rattle.model.specs.declared.instructions.Instruction.TheVariants.{TableSwitch, LookupSwitch, Return}
+use Rattle.model.specs.declared.instructions.Instruction.TheVariants.{Static as StaticField, Field, Array, Class}
+use Rattle.model.specs.declared.instructions.Instruction.TheVariants.{Invoke, Throw, Monitor}
 use Rattle.model.specs.declared.instructions.Invocation.{Invocation}
 use Rattle.model.specs.declared.instructions.Invocation.TheVariants.{Virtual, Special, Static, Interface}
 use Rattle.model.specs.declared.listings.Method.{Method}
@@ -17,8 +21,9 @@ use Rattle.model.specs.Classes.Named.{or_else}
 use Rattle.model.specs.CodeListings.{CodeListing}
 use Rattle.model.specs.Programs.{code_at, empty_initializer, method_at, method_in, placed_at}
 use Rattle.model.specs.Table.Next.{Listed}
-use Rattle.resolve.proofs.NumberLemmas.{place_behind, position-append}
-use Rattle.loader.specs.Selectors.{Signature, is_signature, selector_of, selectors, with_called, with_classes, with_code, with_instructions, with_member, with_methods, with_signature}
+use Rattle.resolve.proofs.NumberLemmas.{place_after, position-append}
+use Rattle.loader.specs.Selectors.{Signature, is_signature, selector_of, selectors, with_called, with_classes}
+use Rattle.loader.specs.Selectors.{with_code, with_instructions, with_member, with_methods, with_signature}
 use Rattle.instructions.proofs.CodeResolves.{and_then-some}
 use Rattle.instructions.proofs.ListPlaces.{first_at, first_of}
 
@@ -29,7 +34,8 @@ fold-keeps : {A B : Type 0} (P : A → Type 0) (f : A → B → A) → ((a : A) 
 fold-keeps P f keeps [] a p = p
 fold-keeps P f keeps (x ∷ xs) a p = fold-keeps P f keeps xs (f a x) (keeps a x p)
 
-fold-has : {A B : Type 0} (P : A → Type 0) (f : A → B → A) → ((a : A) (b : B) → P a → P (f a b)) → (x : B) → ((a : A) → P (f a x))
+fold-has : {A B : Type 0} (P : A → Type 0) (f : A → B → A) → ((a : A) (b : B) → P a → P (f a b)) → (x : B)
+    → ((a : A) → P (f a x))
     → (xs : List B) (k : ℕ) (a : A) → slice_get xs k ≡ Some x → P (fold f a xs)
 fold-has P f keeps x brings [] k a e = cc
 fold-has P f keeps x brings (y ∷ ys) zero a e =
@@ -38,7 +44,8 @@ fold-has P f keeps x brings (y ∷ ys) (suc k) a e = fold-has P f keeps x brings
 
 -- ---- what signatures keep, whatever is called
 
-module _ (P : List Signature → Type 0) (keeps : (ss : List Signature) (s : Signature) → P ss → P (with_signature ss s)) where
+module _ (P : List Signature → Type 0) (keeps : (ss : List Signature) (s : Signature) → P ss → P (with_signature ss s))
+    where
   member-keeps : (ss : List Signature) (invocation : Invocation) (m : Member) → P ss → P (with_member ss invocation m)
   member-keeps ss Virtual m p = keeps ss (m.name, m.descriptor) p
   member-keeps ss (Interface count) m p = keeps ss (m.name, m.descriptor) p
@@ -65,7 +72,8 @@ module _ (P : List Signature → Type 0) (keeps : (ss : List Signature) (s : Sig
 
   instructions-keep : (is : List Placed) (ss : List Signature) → P ss → P (with_instructions ss is)
   instructions-keep is ss p =
-      fold-keeps P (λ (called : List Signature) (i : Placed). with_called called i.instruction) (λ ss i p. called-keeps ss i.instruction p) is ss p
+      fold-keeps P (λ (called : List Signature) (i : Placed). with_called called i.instruction)
+          (λ ss i p. called-keeps ss i.instruction p) is ss p
 
   code-keeps : (code : Option CodeListing) (ss : List Signature) → P ss → P (with_code ss code)
   code-keeps None ss p = p
@@ -73,31 +81,40 @@ module _ (P : List Signature → Type 0) (keeps : (ss : List Signature) (s : Sig
 
   methods-keep : (methods : List Method) (ss : List Signature) → P ss → P (with_methods ss methods)
   methods-keep methods ss p =
-      fold-keeps P (λ (called : List Signature) (m : Method). with_code called m.code) (λ ss m p. code-keeps m.code ss p) methods ss p
+      fold-keeps P (λ (called : List Signature) (m : Method). with_code called m.code)
+          (λ ss m p. code-keeps m.code ss p) methods ss p
 
   classes-keep : (classes : List ClassListing) (ss : List Signature) → P ss → P (with_classes ss classes)
   classes-keep classes ss p =
-      fold-keeps P (λ (called : List Signature) (c : ClassListing). with_methods called c.methods) (λ ss c p. methods-keep c.methods ss p) classes ss p
+      fold-keeps P (λ (called : List Signature) (c : ClassListing). with_methods called c.methods)
+          (λ ss c p. methods-keep c.methods ss p) classes ss p
 
   -- ---- an instruction of the code of a program
 
   module _ (i : Placed) (brings : (ss : List Signature) → P (with_called ss i.instruction)) where
-    instructions-have : (is : List Placed) (k : ℕ) (ss : List Signature) → slice_get is k ≡ Some i → P (with_instructions ss is)
+    instructions-have : (is : List Placed) (k : ℕ) (ss : List Signature) → slice_get is k ≡ Some i
+        → P (with_instructions ss is)
     instructions-have is k ss e =
-        fold-has P (λ (called : List Signature) (j : Placed). with_called called j.instruction) (λ ss j p. called-keeps ss j.instruction p)
+        fold-has P (λ (called : List Signature) (j : Placed). with_called called j.instruction)
+            (λ ss j p. called-keeps ss j.instruction p)
         i brings is k ss e
 
-    methods-have : (m : Method) (code : CodeListing) → m.code ≡ Some code → (n : ℕ) → slice_get code.instructions n ≡ Some i
-        → (methods : List Method) (k : ℕ) (ss : List Signature) → slice_get methods k ≡ Some m → P (with_methods ss methods)
+    methods-have : (m : Method) (code : CodeListing) → m.code ≡ Some code → (n : ℕ) → slice_get code.instructions n
+        ≡ Some i
+        → (methods : List Method) (k : ℕ) (ss : List Signature) → slice_get methods k ≡ Some m
+            → P (with_methods ss methods)
     methods-have m code is n at methods k ss e =
-        fold-has P (λ (called : List Signature) (m : Method). with_code called m.code) (λ ss m p. code-keeps m.code ss p)
-        m (λ ss. subst (λ code. P (with_code ss code)) (sym is) (instructions-have code.instructions n ss at)) methods k ss e
+        fold-has P (λ (called : List Signature) (m : Method). with_code called m.code)
+            (λ ss m p. code-keeps m.code ss p)
+        m (λ ss. subst (λ code. P (with_code ss code)) (sym is) (instructions-have code.instructions n ss at)) methods k
+            ss e
 
     program-has : (c : ClassListing) (m : Method) (code : CodeListing) → m.code ≡ Some code
         → (n : ℕ) → slice_get code.instructions n ≡ Some i → (k : ℕ) → slice_get c.methods k ≡ Some m
         → (program : List ClassListing) (j : ℕ) → slice_get program j ≡ Some c → P (selectors program)
     program-has c m code is n at k there program j e =
-        fold-has P (λ (called : List Signature) (c : ClassListing). with_methods called c.methods) (λ ss c p. methods-keep c.methods ss p)
+        fold-has P (λ (called : List Signature) (c : ClassListing). with_methods called c.methods)
+            (λ ss c p. methods-keep c.methods ss p)
         c (λ ss. methods-have m code is n at c.methods k ss there) program j [] e
 
 -- ---- each signature once
@@ -127,12 +144,15 @@ IsOnce ss = (k : ℕ) (s : Signature) → slice_get ss k ≡ Some s → position
 none-once : IsOnce []
 none-once k s e = cc
 
-nowhere : (s : Signature) (ss : List Signature) → list_any (is_signature s) ss ≡ false → position (is_signature s) ss ≡ None
+nowhere : (s : Signature) (ss : List Signature) → list_any (is_signature s) ss ≡ false → position (is_signature s) ss
+    ≡ None
 nowhere s ss none = by (position (is_signature s) ss) refl
   where
-    any-at : (ss : List Signature) (k : ℕ) (x : Signature) → slice_get ss k ≡ Some x → is_signature s x ≡ true → list_any (is_signature s) ss ≡ true
+    any-at : (ss : List Signature) (k : ℕ) (x : Signature) → slice_get ss k ≡ Some x → is_signature s x ≡ true
+        → list_any (is_signature s) ss ≡ true
     any-at [] k x e h = cc
-    any-at (y ∷ ys) zero x e h = let same : y ≡ x = cc in ap (λ b. b || list_any (is_signature s) ys) (ap (is_signature s) same ∙ h)
+    any-at (y ∷ ys) zero x e h = let same : y ≡ x = cc
+                                       in ap (λ b. b || list_any (is_signature s) ys) (ap (is_signature s) same ∙ h)
     any-at (y ∷ ys) (suc k) x e h = ap (λ b. is_signature s y || b) (any-at ys k x e h) ∙ or-true (is_signature s y)
       where
         or-true : (a : Bool) → (a || true) ≡ true
@@ -156,19 +176,22 @@ at-end (z ∷ zs) y zero x e other = other e _
 at-end (z ∷ zs) y (suc k) x e other =
     let rest = at-end zs y k x e other in (rest.0, (let n = rest.1 in omega (arith, n)))
 
-one-more : (ss : List Signature) (t : Signature) → IsOnce ss → list_any (is_signature t) ss ≡ false → IsOnce (ss ++ t ∷ [])
+one-more : (ss : List Signature) (t : Signature) → IsOnce ss → list_any (is_signature t) ss ≡ false
+    → IsOnce (ss ++ t ∷ [])
 one-more ss t once new k s e = by (slice_get ss k) refl
   where
     by : (o : Option Signature) → slice_get ss k ≡ o → position (is_signature s) (ss ++ t ∷ []) ≡ Some k
     by (Some x) h =
         let same : x ≡ s = one-of (sym (first-part ss (t ∷ []) k x h) ∙ e) in
         position-append (is_signature s) ss (t ∷ [])
-        ∙ ap (λ o. or_else o (place_behind (length ss) (position (is_signature s) (t ∷ [])))) (once k s (h ∙ ap Some same))
+        ∙ ap (λ o. or_else o (place_after (length ss) (position (is_signature s) (t ∷ []))))
+            (once k s (h ∙ ap Some same))
       where
         one-of : Some x ≡ Some s → x ≡ s
         one-of e = cc
 
-        first-part : (xs ys : List Signature) (k : ℕ) (x : Signature) → slice_get xs k ≡ Some x → slice_get (xs ++ ys) k ≡ Some x
+        first-part : (xs ys : List Signature) (k : ℕ) (x : Signature) → slice_get xs k ≡ Some x → slice_get (xs ++ ys) k
+            ≡ Some x
         first-part [] ys k x e = cc
         first-part (z ∷ zs) ys zero x e = e
         first-part (z ∷ zs) ys (suc k) x e = first-part zs ys k x e
@@ -177,13 +200,14 @@ one-more ss t once new k s e = by (slice_get ss k) refl
         let place : k ≡ length ss + 0 = last.1 in
         ap (λ s. position (is_signature s) (ss ++ t ∷ [])) last.0
         ∙ position-append (is_signature t) ss (t ∷ [])
-        ∙ ap (λ o. or_else o (place_behind (length ss) (position (is_signature t) (t ∷ [])))) (nowhere t ss new)
+        ∙ ap (λ o. or_else o (place_after (length ss) (position (is_signature t) (t ∷ [])))) (nowhere t ss new)
         ∙ here (signature-itself t) ∙ ap Some (sym place)
       where
         differ : None ≡ Some s → ⊥
         differ e = cc
 
-        here : is_signature t t ≡ true → place_behind (length ss) (position (is_signature t) (t ∷ [])) ≡ Some (length ss + 0)
+        here : is_signature t t ≡ true → place_after (length ss) (position (is_signature t) (t ∷ []))
+            ≡ Some (length ss + 0)
         here e = rw e refl
 
 once-kept : (ss : List Signature) (s : Signature) → IsOnce ss → IsOnce (with_signature ss s)
@@ -246,7 +270,8 @@ member-brings (Interface count) m e ss = has-brought (m.name, m.descriptor) ss
 member-brings Special m e ss = cc
 member-brings Static m e ss = cc
 
-found-place : {A : Type 0} (p : A → Bool) (xs : List A) (x : A) → find p xs ≡ Some x → (k : ℕ) × (slice_get xs k ≡ Some x)
+found-place : {A : Type 0} (p : A → Bool) (xs : List A) (x : A) → find p xs ≡ Some x → (k : ℕ)
+    × (slice_get xs k ≡ Some x)
 found-place p [] x e = cc
 found-place p (y ∷ ys) x e = by (p y) e (λ k. found-place p ys x k) where
   by : (b : Bool) → cond b (Some y) (find p ys) ≡ Some x → (find p ys ≡ Some x → (k : ℕ) × (slice_get ys k ≡ Some x))
@@ -306,7 +331,8 @@ module _ (program : List ClassListing) (m : Member) where
 
       by : (c : ClassListing) (x : Method) → slice_get program place.class ≡ Some c → x.code ≡ Some code
           → (o : Option Method) → slice_get c.methods place.method ≡ o
-          → or_else o (cond (place.method == length c.methods) (Some empty_initializer) None) ≡ Some x → HasSelector program m
+          → or_else o (cond (place.method == length c.methods) (Some empty_initializer) None) ≡ Some x
+              → HasSelector program m
       by c x class is (Some y) e k =
           let same : y ≡ x = cc in
           let found = found-place (λ (i : Placed). i.pc == pc) code.instructions i at in

@@ -1,4 +1,5 @@
-use Rattle.std.proofs.Common.{◌≡◌, ℕ, zero, suc, ◌+◌, List, [], ◌∷◌, ◌++◌, length, map, set, slice_get, Option, Some, None, refl, sym, ◌∙◌, ap, arith}
+use Rattle.std.proofs.Common.{◌≡◌, ℕ, zero, suc, ◌+◌, List, [], ◌∷◌, ◌++◌, length, map, set, slice_get, Option, Some}
+use Rattle.std.proofs.Common.{None, refl, sym, ◌∙◌, ap, arith}
 use Rattle.std.specs.Prelude.{codes, replicate}
 use Rattle.std.proofs.lemmas.List.{map-set, length-replicate}
 use Rattle.model.specs.declared.colours.Cell.TheVariants.{Free, Taken}
@@ -8,7 +9,10 @@ use Rattle.model.specs.declared.colours.Phase.TheVariants.{Idle, Statics, Frames
 use Rattle.model.specs.declared.journals.HeapShape.{HeapShape}
 use Rattle.model.specs.declared.turns.ClassState.{ClassState}
 use Rattle.model.specs.declared.turns.Exception.{Exception}
-use Rattle.model.specs.declared.turns.Exception.TheVariants.{Arithmetic, NullPointer, ClassCast, NegativeArraySize, ArrayStore, IllegalMonitorState, ArrayIndexOutOfBounds, IllegalThreadState, StackOverflow, ExceptionInInitializer, NoClassDefFound}
+use Rattle.model.specs.declared.turns.Exception.TheVariants.{Arithmetic, NullPointer, ClassCast, NegativeArraySize}
+use Rattle.model.specs.declared.turns.Exception.TheVariants.{ArrayStore, IllegalMonitorState, ArrayIndexOutOfBounds}
+use Rattle.model.specs.declared.turns.Exception.TheVariants.{IllegalThreadState, StackOverflow, ExceptionInInitializer}
+use Rattle.model.specs.declared.turns.Exception.TheVariants.{NoClassDefFound}
 use Rattle.model.specs.declared.turns.Fault.{Fault}
 use Rattle.model.specs.declared.values.Value.{Value}
 use Rattle.model.specs.ClassListings.{ClassListing}
@@ -27,8 +31,10 @@ use Rattle.join.specs.TurnsOnCells.{CellMachine, collected_on, opening_on, step_
 use Rattle.join.proofs.Opening.{two_cells}
 use Rattle.instructions.specs.declared.kinds.Kind.{Kind}
 use Rattle.instructions.specs.declared.kinds.Kind.TheVariants.{Instance, Array}
-use Rattle.instructions.specs.Heaps.{HeapValue, cleared, collected, exception_kind, looked_at, made, memory_error_kind, opening_stored, own_class}
-use Rattle.instructions.specs.Shown.{class_name, contents_shown, field_keys, kind_name, keyed, name_or_none, object_shown, objects_shown}
+use Rattle.instructions.specs.Heaps.{HeapValue, cleared, collected, exception_kind, looked_at, made, memory_error_kind}
+use Rattle.instructions.specs.Heaps.{opening_stored, own_class}
+use Rattle.instructions.specs.Shown.{class_name, contents_shown, field_keys, kind_name, keyed, name_or_none}
+use Rattle.instructions.specs.Shown.{object_shown, objects_shown}
 use Rattle.instructions.proofs.AgreeLemmas.{cells_number}
 use Rattle.instructions.proofs.KeyedLemmas.{length-keyed}
 use Rattle.model.specs.Objects.{class_of, made_of, words_in}
@@ -69,13 +75,13 @@ made-shown program kind words = refl
 
 own_name : (program : List ClassListing) (place : ℕ) (name : List ℕ)
     → slice_get (map name_of builtin_classes) place ≡ Some name → class_name program (length program + place) ≡ name
-own_name program place name is = ap name_or_none (behind program (length program + place) refl ∙ is)
+own_name program place name is = ap name_or_none (following program (length program + place) refl ∙ is)
   where
-    behind : (cs : List ClassListing) (n : ℕ) → n ≡ length cs + place
+    following : (cs : List ClassListing) (n : ℕ) → n ≡ length cs + place
         → slice_get (map name_of cs ++ map name_of builtin_classes) n ≡ slice_get (map name_of builtin_classes) place
-    behind [] n e = ap (slice_get (map name_of builtin_classes)) (omega (arith, e))
-    behind (c ∷ cs) zero e = absurd (omega (arith, e))
-    behind (c ∷ cs) (suc n) e = behind cs n (omega (arith, e))
+    following [] n e = ap (slice_get (map name_of builtin_classes)) (omega (arith, e))
+    following (c ∷ cs) zero e = absurd (omega (arith, e))
+    following (c ∷ cs) (suc n) e = following cs n (omega (arith, e))
 
 pub memory_error_name : (program : List ClassListing)
     → kind_name program (memory_error_kind program) ≡ codes "java/lang/OutOfMemoryError"

@@ -1,10 +1,12 @@
 -- What a thread begins with, by numbers, is what the instruction table says by names.
-use Rattle.std.proofs.Common.{◌≡◌, inl, inr, ℕ, suc, ◌+◌, List, [], ◌∷◌, length, Bool, true, false, Option, Some, None, Result, Ok, Err, refl, sym, ap, arith, ◌∙◌}
+use Rattle.std.proofs.Common.{◌≡◌, inl, inr, ℕ, suc, ◌+◌, List, [], ◌∷◌, length, Bool, true, false, Option, Some, None}
+use Rattle.std.proofs.Common.{Result, Ok, Err, refl, sym, ap, arith, ◌∙◌}
 use Rattle.std.specs.Prelude.{codes, is_some, nat_le}
 use Rattle.std.specs.List.{find, list_all}
 use Rattle.std.specs.Option.{option_map}
 use Rattle.model.specs.declared.builtins.Builtin.{Builtin}
-use Rattle.model.specs.declared.builtins.Builtin.TheVariants.{PrintInt, PrintLong, PutByte, Initialize, RunThread, StartThread, JoinThread}
+use Rattle.model.specs.declared.builtins.Builtin.TheVariants.{PrintInt, PrintLong, PutByte, Initialize, RunThread}
+use Rattle.model.specs.declared.builtins.Builtin.TheVariants.{StartThread, JoinThread}
 use Rattle.model.specs.declared.listings.Method.{Method}
 use Rattle.model.specs.declared.names.Member.{Member}
 use Rattle.model.specs.declared.places.MethodPlace.{MethodPlace}
@@ -22,7 +24,8 @@ use Rattle.model.specs.Completions.{Completion, Site}
 use Rattle.model.specs.Frames.{ref_on}
 use Rattle.model.specs.Objects.{class_if, class_of, object_at}
 use Rattle.model.specs.Programs.{builtin_of}
-use Rattle.model.specs.Table.Threads.{begins as begins_by_name, start_if, started as started_by_name, starts as starts_by_name}
+use Rattle.model.specs.Table.Threads.{begins as begins_by_name, start_if, started as started_by_name}
+use Rattle.model.specs.Table.Threads.{starts as starts_by_name}
 use Rattle.model.specs.WellNamed.{is_well_named}
 use Rattle.model.specs.Worlds.{Object}
 use Rattle.resolve.specs.Hierarchies.{IsHierarchy}
@@ -46,7 +49,8 @@ use Rattle.instructions.proofs.TypeOrder.{named-classes, proper-named}
 use Rattle.instructions.proofs.TypesHeld.{few}
 use Rattle.instructions.proofs.Upwards.{next}
 
-module _ (s : Site) (h : HeapValue) (shown : s.world.objects ≡ objects_shown s.program h.objects) (accepted : refusal_of s.program ≡ None)
+module _ (s : Site) (h : HeapValue) (shown : s.world.objects ≡ objects_shown s.program h.objects)
+    (accepted : refusal_of s.program ≡ None)
     (names : list_all is_well_named s.program ≡ true) where
   free : Unrefused s.program
   free = unrefused s.program accepted
@@ -78,7 +82,8 @@ module _ (s : Site) (h : HeapValue) (shown : s.world.objects ≡ objects_shown s
       by : (o : Option ClassListing) → class_named s.program (91 ∷ name) ≡ o
           → with_superclasses (91 ∷ name) (λ superclass. upwards (length s.program + 22) s.program superclass) o ≡ []
       by None e = refl
-      by (Some c) e = absurd (wrong (proper-named s.program (few s.program accepted (named-classes s.program names)) (named-classes s.program names) hierarchy hides (91 ∷ name) c e))
+      by (Some c) e = absurd (wrong (proper-named s.program (few s.program accepted (named-classes s.program names))
+          (named-classes s.program names) hierarchy hides (91 ∷ name) c e))
         where
           wrong : false ≡ true → ⊥
           wrong k = cc
@@ -94,7 +99,8 @@ module _ (s : Site) (h : HeapValue) (shown : s.world.objects ≡ objects_shown s
       place = methods.where_it_is s.program free hides test d is
 
       coded-same : (code : Option CodeListing) → d.member.code ≡ code
-          → begins_by_name s birth object (coded d.member code (place_of s.program d)) ≡ begins s birth object (begun_by place birth (body_by None code))
+          → begins_by_name s birth object (coded d.member code (place_of s.program d))
+              ≡ begins s birth object (begun_by place birth (body_by None code))
       coded-same None e = refl
       coded-same (Some code) e =
           elim (methods.placed s.program free hides test d is) [
@@ -105,39 +111,49 @@ module _ (s : Site) (h : HeapValue) (shown : s.world.objects ≡ objects_shown s
           differ : Some code ≡ None → ⊥
           differ e = cc
 
-      callee-same : begins_by_name s birth object (callee_of s.program (Some d)) ≡ begins s birth object (begun_by place birth (body_of d.class d.member))
+      callee-same : begins_by_name s birth object (callee_of s.program (Some d))
+          ≡ begins s birth object (begun_by place birth (body_of d.class d.member))
       callee-same = by (builtin_of (member_of d))
         where
           by : (builtin : Option Builtin)
-              → begins_by_name s birth object (callee_by s.program d builtin) ≡ begins s birth object (begun_by place birth (body_by builtin d.member.code))
+              → begins_by_name s birth object (callee_by s.program d builtin)
+                  ≡ begins s birth object (begun_by place birth (body_by builtin d.member.code))
           by None = coded-same d.member.code refl
           by (Some builtin) = refl
 
-      found-same : begins_by_name s birth object (callee_of s.program (Some d)) ≡ begins s birth object (begun_at s.program birth (place_if s.program (Some d)))
+      found-same : begins_by_name s birth object (callee_of s.program (Some d))
+          ≡ begins s birth object (begun_at s.program birth (place_if s.program (Some d)))
       found-same =
           callee-same
-          ∙ sym (ap (λ f. begins s birth object (begun_known place birth f)) (methods.known s.program free hides test d is))
-          ∙ sym (ap (λ n. begins s birth object (begun_at s.program birth (option_map place_of_number n))) (methods.numbered s.program free hides test d is))
+          ∙ sym (ap (λ f. begins s birth object (begun_known place birth f)) (methods.known s.program free hides test d
+              is))
+          ∙ sym (ap (λ n. begins s birth object (begun_at s.program birth (option_map place_of_number n)))
+              (methods.numbered s.program free hides test d is))
 
     by-kind : (o : Option Kind)
-        → begins_by_name s birth object (callee_of s.program (run (kind_name_if s.program o))) ≡ begins s birth object (begun_of s.program birth o)
+        → begins_by_name s birth object (callee_of s.program (run (kind_name_if s.program o)))
+            ≡ begins s birth object (begun_of s.program birth o)
     by-kind None = ap (λ d. begins_by_name s birth object (callee_of s.program d)) run-nobody
-    by-kind (Some (Array type)) = ap (λ d. begins_by_name s birth object (callee_of s.program d)) (run-array (type_name s.program type))
+    by-kind (Some (Array type)) = ap (λ d. begins_by_name s birth object (callee_of s.program d))
+        (run-array (type_name s.program type))
     by-kind (Some (Instance class)) = by (run (class_name s.program class)) refl
       where
         by : (o : Option (Declared Method)) → run (class_name s.program class) ≡ o
-            → begins_by_name s birth object (callee_of s.program o) ≡ begins s birth object (begun_at s.program birth (place_if s.program o))
+            → begins_by_name s birth object (callee_of s.program o)
+                ≡ begins s birth object (begun_at s.program birth (place_if s.program o))
         by None e = refl
         by (Some d) e =
             found-same d (virtual-is s.program free hides (class_name s.program class) (codes "run") (codes "()V") d e)
 
-  starts-same : (birth : ℕ) (o : Option Object) → object_at s.world birth ≡ o → starts_by_name s birth o ≡ starts s h birth o
+  starts-same : (birth : ℕ) (o : Option Object) → object_at s.world birth ≡ o → starts_by_name s birth o
+      ≡ starts s h birth o
   starts-same birth None e = refl
   starts-same birth (Some object) e =
       let class : class_of object.contents ≡ kind_name_if s.program (kind_held h birth) =
       sym (ap class_if e) ∙ class_held s.program h s.world shown birth in
       ap (λ (begun : Completion). start_if begun (is_some object.thread) (nat_le 64 (length s.world.threads)))
-      (ap (λ n. begins_by_name s birth object (callee_of s.program (run n))) class ∙ by-kind birth object (kind_held h birth))
+      (ap (λ n. begins_by_name s birth object (callee_of s.program (run n))) class
+          ∙ by-kind birth object (kind_held h birth))
 
   started-same : (r : Result (Option ℕ) Fault) → started_by_name s r ≡ started s h r
   started-same (Err fault) = refl

@@ -1,5 +1,6 @@
 -- A thread that starts on an object, and one that is joined: what is kept of the heap, and what the turn tells.
-use Rattle.std.proofs.Common.{◌≡◌, ℕ, zero, suc, ◌<◌, ◌≤◌, List, [], ◌∷◌, ◌++◌, length, map, set, slice_get, Bool, true, false, Option, Some, None, Ok, refl, sym, ap, arith, ◌∙◌, le-leb, leb-true}
+use Rattle.std.proofs.Common.{◌≡◌, ℕ, zero, suc, ◌<◌, ◌≤◌, List, [], ◌∷◌, ◌++◌, length, map, set, slice_get, Bool, true}
+use Rattle.std.proofs.Common.{false, Option, Some, None, Ok, refl, sym, ap, arith, ◌∙◌, le-leb, leb-true}
 use Rattle.std.specs.Prelude.{is_some, nat_le, if◌then◌else◌}
 use Rattle.std.specs.Option.{option_map}
 use Rattle.std.proofs.lemmas.List.{map-set}
@@ -25,7 +26,8 @@ use Rattle.instructions.specs.declared.kinds.Course.{Course}
 use Rattle.instructions.specs.declared.kinds.Course.TheVariants.{Live}
 use Rattle.instructions.specs.declared.kinds.Kind.{Kind}
 use Rattle.instructions.specs.declared.machines.Machine.{Machine}
-use Rattle.instructions.specs.Acting.{AreIn, Scene, is_alive, shown, site_at, thread_begun, threads_shown, turned, with_begun}
+use Rattle.instructions.specs.Acting.{AreIn, Scene, is_alive, shown, site_at, thread_begun, threads_shown, turned}
+use Rattle.instructions.specs.Acting.{with_begun}
 use Rattle.instructions.specs.ByNumbers.{AreStored, HoldsStored}
 use Rattle.instructions.specs.Heaps.{HeapValue, all_shaded, held, kind_held}
 use Rattle.instructions.specs.HeapThreads.{thread_held, with_thread_on}
@@ -72,7 +74,8 @@ module _ (program : List ClassListing) where
   as_stored t (Some object) fits = fits
 
   pub numbered-alone : (h : HeapValue) (reference t : ℕ) → ThreadsAlone program h (with_thread_on h reference t)
-  numbered-alone h zero t = record { shape = refl; account = refl; births = refl; classes = refl; stored = λ stored. stored }
+  numbered-alone h zero t = record { shape = refl; account = refl; births = refl; classes = refl;
+      stored = λ stored. stored }
   numbered-alone h (suc cell) t = record {
     shape = refl;
     account = refl;
@@ -86,7 +89,8 @@ module _ (program : List ClassListing) where
 -- ---- what a world shows of it
 
 module _ (program : List ClassListing) (h : HeapValue) where
-  place-shown : (objects : List (Option (StoredObject Kind))) (cell : ℕ) (o : StoredObject Kind) → object_if (slice_get objects cell) ≡ Some o
+  place-shown : (objects : List (Option (StoredObject Kind))) (cell : ℕ) (o : StoredObject Kind)
+      → object_if (slice_get objects cell) ≡ Some o
       → slice_get (map (object_shown program) objects) cell ≡ Some (object_shown program (Some o))
   place-shown [] cell o e = cc
   place-shown (None ∷ objects) zero o e = cc
@@ -104,7 +108,8 @@ module _ (program : List ClassListing) (h : HeapValue) where
   thread-shown (suc cell) = by h.objects cell
     where
       by : (objects : List (Option (StoredObject Kind))) (cell : ℕ)
-          → thread_if (slice_get (map (object_shown program) objects) cell) ≡ thread_of (object_if (slice_get objects cell))
+          → thread_if (slice_get (map (object_shown program) objects) cell)
+              ≡ thread_of (object_if (slice_get objects cell))
       by [] cell = refl
       by (None ∷ objects) zero = refl
       by (Some x ∷ objects) zero = refl
@@ -118,7 +123,8 @@ module _ (program : List ClassListing) (h : HeapValue) where
   numbered-shown (suc cell) t o e =
       ap (λ (objects : List Object). nobody ∷ objects)
       (sym (map-set (object_shown program) h.objects cell (Some (thread_set (Some t) o))))
-      ∙ ap (λ (x : Option (StoredObject Kind)). objects_shown program (set h.objects cell (option_map (thread_set (Some t)) x))) (sym e)
+      ∙ ap (λ (x : Option (StoredObject Kind)). objects_shown program
+          (set h.objects cell (option_map (thread_set (Some t)) x))) (sym e)
 
 -- ---- the threads
 
@@ -134,7 +140,8 @@ alive-shown (t ∷ ts) after frames = ap (λ bs. is_alive t ∷ bs) (alive-shown
 abbrev pub alike : List Course → List Thread → Type 0
 alike courses threads = map goes_on courses ≡ map is_alive threads
 
-pub alike-length : (courses : List Course) (threads : List Thread) → AreIn courses threads → length courses ≡ length threads
+pub alike-length : (courses : List Course) (threads : List Thread) → AreIn courses threads → length courses
+    ≡ length threads
 alike-length courses threads e = sym (length-map goes_on courses) ∙ ap length e ∙ length-map is_alive threads
 
 alike-lives : (courses : List Course) (threads : List Thread) → AreIn courses threads → (n : ℕ)
@@ -158,7 +165,8 @@ alike-lives (c ∷ cs) (t ∷ ts) e (suc n) = alike-lives cs ts (ap (λ (bs : Li
     tail (b ∷ bs) = bs
 
 -- in a scene they are those of the machine's world
-pub lives-shown : (courses : List Course) (scene : Scene) (frames : List Frame) → AreIn courses (threads_shown scene (LiveThread []))
+pub lives-shown : (courses : List Course) (scene : Scene) (frames : List Frame)
+    → AreIn courses (threads_shown scene (LiveThread []))
     → AreIn courses (threads_shown scene (LiveThread frames))
 lives-shown courses scene frames e = e ∙ alive-shown scene.before scene.after frames
 
@@ -179,49 +187,64 @@ module _ (program : List ClassListing) (scene : Scene) (m after : Machine) (here
       → w.objects ≡ (shown program scene after Live).world.objects → w.fault ≡ None → w.rows ≡ scene.rows
       → shade_cells x.account written ≡ after.heap.account → after.heap.births ≡ m.heap.births
       → (with_begun (Some begun) (shown program scene after Live), Done)
-      ≡ turned program x m.thread (Goes (with_more (with_thread w m.thread (LiveThread after.frames)) (thread_begun begun)) written)
+      ≡ turned program x m.thread
+          (Goes (with_more (with_thread w m.thread (LiveThread after.frames)) (thread_begun begun)) written)
   unfolding turned_on
   more_in begun w written threads statics output objects fault rows account births =
-      rw (threads, statics, output, objects, fault, rows, account, births, thread_replaced scene m.thread here (LiveThread m.frames) (LiveThread after.frames)) refl
+      rw (threads, statics, output, objects, fault, rows, account, births,
+          thread_replaced scene m.thread here (LiveThread m.frames) (LiveThread after.frames)) refl
 
-  begins_in : (courses : List Course) → AreIn courses (threads_shown scene (LiveThread [])) → (next birth : ℕ) (o : StoredObject Kind) (begun : Begun)
-      → held m.heap birth ≡ Some o → after.frames ≡ with_running m.frames (replaced next (running_frame m.frames) 1 []).frame
+  begins_in : (courses : List Course) → AreIn courses (threads_shown scene (LiveThread []))
+      → (next birth : ℕ) (o : StoredObject Kind) (begun : Begun)
+      → held m.heap birth ≡ Some o → after.frames
+          ≡ with_running m.frames (replaced next (running_frame m.frames) 1 []).frame
       → after.slots ≡ m.slots → after.states.items ≡ m.states.items → after.output.items ≡ m.output.items
       → after.heap.objects ≡ (with_thread_on m.heap birth (length courses)).objects
       → shade_cells m.heap.account (begun_writes birth begun) ≡ after.heap.account → after.heap.births ≡ m.heap.births
       → (with_begun (Some begun) (shown program scene after Live), Done)
-      ≡ turned program x m.thread (begins (site_at program m x.world next) birth (object_shown program (Some o)) (Some begun))
+      ≡ turned program x m.thread (begins (site_at program m x.world next) birth (object_shown program (Some o))
+          (Some begun))
   begins_in courses lives next birth o begun is frames slots states output objects account births =
       let few : length courses ≡ length x.world.threads =
       alike-length courses x.world.threads (lives-shown courses scene m.frames lives) in
-      let known : (numbered x.world birth (object_shown program (Some o))).objects ≡ objects_shown program after.heap.objects =
+      let known : (numbered x.world birth (object_shown program (Some o))).objects
+            ≡ objects_shown program after.heap.objects =
       ap (λ (n : ℕ). set x.world.objects birth (object_shown program (Some (thread_set (Some n) o)))) (sym few)
       ∙ numbered-shown program m.heap birth (length courses) o is ∙ ap (objects_shown program) (sym objects) in
       more_in begun (numbered x.world birth (object_shown program (Some o))) (begun_writes birth begun) refl
       (rw (slots, states) refl) (sym output) known refl refl account births
       ∙ ap (λ (fs : List Frame). turned program x m.thread
-      (Goes (with_more (with_thread (numbered x.world birth (object_shown program (Some o))) m.thread (LiveThread fs)) (thread_begun begun)) (begun_writes birth begun)))
-      (frames ∙ ap (λ (fs : List Frame). with_running fs (replaced next (running_frame m.frames) 1 []).frame) (sym (frames_shown program scene m here)))
+      (Goes (with_more (with_thread (numbered x.world birth (object_shown program (Some o))) m.thread (LiveThread fs))
+          (thread_begun begun)) (begun_writes birth begun)))
+      (frames ∙ ap (λ (fs : List Frame). with_running fs (replaced next (running_frame m.frames) 1 []).frame)
+          (sym (frames_shown program scene m here)))
 
   -- the object at the top goes, and knows its thread by its number
-  pub begins_told : (courses : List Course) → AreIn courses (threads_shown scene (LiveThread [])) → (next birth : ℕ) (begun : Begun)
-      → is_some (held m.heap birth) ≡ true → after.frames ≡ with_running m.frames (replaced next (running_frame m.frames) 1 []).frame
+  pub begins_reported : (courses : List Course) → AreIn courses (threads_shown scene (LiveThread []))
+      → (next birth : ℕ) (begun : Begun)
+      → is_some (held m.heap birth) ≡ true → after.frames
+          ≡ with_running m.frames (replaced next (running_frame m.frames) 1 []).frame
       → after.slots ≡ m.slots → after.states.items ≡ m.states.items → after.output.items ≡ m.output.items
       → after.heap ≡ all_shaded (with_thread_on m.heap birth (length courses)) (begun_writes birth begun)
       → (with_begun (Some begun) (shown program scene after Live), Done)
-      ≡ turned program x m.thread (begins (site_at program m x.world next) birth (object_shown program (held m.heap birth)) (Some begun))
-  begins_told courses lives next birth begun there frames slots states output heap = by (held m.heap birth) refl there
+      ≡ turned program x m.thread (begins (site_at program m x.world next) birth
+          (object_shown program (held m.heap birth)) (Some begun))
+  begins_reported courses lives next birth begun there frames slots states output heap = by (held m.heap birth) refl
+      there
     where
       alone : ThreadsAlone program m.heap (with_thread_on m.heap birth (length courses))
       alone = numbered-alone program m.heap birth (length courses)
 
       by : (o : Option (StoredObject Kind)) → held m.heap birth ≡ o → is_some o ≡ true
           → (with_begun (Some begun) (shown program scene after Live), Done)
-          ≡ turned program x m.thread (begins (site_at program m x.world next) birth (object_shown program o) (Some begun))
+          ≡ turned program x m.thread (begins (site_at program m x.world next) birth (object_shown program o)
+              (Some begun))
       by None is some = cc
       by (Some o) is some =
-          begins_in courses lives next birth o begun is frames slots states output (ap (λ (h : HeapValue). h.objects) heap)
-          (ap (λ (a : Account). shade_cells a (begun_writes birth begun)) (sym alone.account) ∙ sym (ap (λ (h : HeapValue). h.account) heap))
+          begins_in courses lives next birth o begun is frames slots states output
+              (ap (λ (h : HeapValue). h.objects) heap)
+          (ap (λ (a : Account). shade_cells a (begun_writes birth begun)) (sym alone.account)
+              ∙ sym (ap (λ (h : HeapValue). h.account) heap))
           (ap (λ (h : HeapValue). h.births) heap ∙ alone.births)
 
 -- ---- start and join, by what the code finds

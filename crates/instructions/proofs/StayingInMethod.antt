@@ -1,5 +1,6 @@
 -- A move of the running frame leaves its method and its mark.
-use Rattle.std.proofs.Common.{◌≡◌, ◌+◌, ◌++◌, ℕ, ℤ, length, List, Bool, true, false, Option, Some, None, Result, Ok, Err, IfSome, IfOk, refl, [], ◌∷◌}
+use Rattle.std.proofs.Common.{◌≡◌, ◌+◌, ◌++◌, ℕ, ℤ, length, List, Bool, true, false, Option, Some, None, Result, Ok}
+use Rattle.std.proofs.Common.{Err, IfSome, IfOk, refl, [], ◌∷◌}
 use Rattle.std.specs.Prelude.{drop, nat_le, if◌then◌else◌}
 use Rattle.model.specs.declared.values.Kind.TheVariants as kind
 use Rattle.model.specs.declared.values.Value.{Value}
@@ -27,13 +28,16 @@ use Rattle.model.specs.declared.turns.Abrupt.TheVariants.{Fault as Faulted}
 use Rattle.model.specs.declared.turns.Fault.{Fault}
 use Rattle.model.specs.declared.turns.Fault.TheVariants.{StackFull}
 use Rattle.model.specs.Arithmetic.{conversion_result, operator_result, width_of}
-use Rattle.model.specs.Frames.{Frame, Moved, as_int, int_on, push_all, ref_on, replaced, replaced_if_room, two_ints_on, two_longs_on, two_refs_on}
+use Rattle.model.specs.Frames.{Frame, Moved, as_int, int_on, push_all, ref_on, replaced, replaced_if_room, two_ints_on}
+use Rattle.model.specs.Frames.{two_longs_on, two_refs_on}
 use Rattle.model.specs.Locals.{has_local, local_at, stored_if_local, value_on}
 use Rattle.model.specs.Values.{units_of_all}
 use Rattle.model.specs.Table.Branches.{branched, branched_on, ints_test, null_test, refs_test, zero_test}
 use Rattle.model.specs.Table.Constants.{constant as pushed, constant_value}
-use Rattle.model.specs.Table.Locals.{incremented_on, increment_amount, increment_index, loaded_on, local as accessed, local_index}
-use Rattle.model.specs.Table.Numbers.{binary_on, compared_on, converted_on, negated_on, number as computed, number_value, operand_of, operands_of, operated, source_kind, target_kind}
+use Rattle.model.specs.Table.Locals.{incremented_on, increment_amount, increment_index, loaded_on, local as accessed}
+use Rattle.model.specs.Table.Locals.{local_index}
+use Rattle.model.specs.Table.Numbers.{binary_on, compared_on, converted_on, negated_on, number as computed}
+use Rattle.model.specs.Table.Numbers.{number_value, operand_of, operands_of, operated, source_kind, target_kind}
 use Rattle.model.specs.Table.Stacks.{doubled_on, group_on, groups_on, inserted_on, popped_on, rearranged, swapped_on}
 use Rattle.model.specs.Table.Stacks.Units.{One, Two}
 use Rattle.loader.specs.declared.operations.Operation.{Operation}
@@ -73,8 +77,10 @@ module _ (next : ℕ) (f : Frame) where
 
   accessed-stays : (a : LocalAccess) → Stays (accessed next a f)
   accessed-stays (access.Load kind place) = loaded-stays (local_at kind f.locals (local_index place))
-  accessed-stays (access.Store kind place) = stored-stays (local_index place) (has_local kind f.locals (local_index place)) (value_on kind f.stack)
-  accessed-stays (access.Increment i) = incremented-stays (increment_index i) (increment_amount i) (as_int (local_at kind.Int f.locals (increment_index i)))
+  accessed-stays (access.Store kind place) = stored-stays (local_index place)
+      (has_local kind f.locals (local_index place)) (value_on kind f.stack)
+  accessed-stays (access.Increment i) = incremented-stays (increment_index i) (increment_amount i)
+      (as_int (local_at kind.Int f.locals (increment_index i)))
 
   operated-stays : (kind : NumberKind) (o : Option ℤ) → Stays (operated next f kind o)
   operated-stays kind None = tt

@@ -1,5 +1,6 @@
 -- What the turn of a thread comes to is what the instruction table says.
-use Rattle.std.proofs.Common.{◌≡◌, inl, inr, ℕ, ℤ, List, length, Bool, true, false, Option, Some, None, refl, ap, subst, sym, ◌∙◌}
+use Rattle.std.proofs.Common.{◌≡◌, inl, inr, ℕ, ℤ, List, length, Bool, true, false, Option, Some, None, refl, ap, subst}
+use Rattle.std.proofs.Common.{sym, ◌∙◌}
 use Rattle.std.specs.Prelude.{if◌then◌else◌}
 use Rattle.std.specs.List.{list_all}
 use Rattle.std.specs.Option.{option_map, option_and_then}
@@ -8,8 +9,13 @@ use Rattle.model.specs.declared.instructions.Access.TheVariants.{Get, Put}
 use Rattle.model.specs.declared.instructions.ArrayOperation.TheVariants.{New as NewArray, NewOf, Length, Load, Store}
 use Rattle.model.specs.declared.instructions.ClassOperation.TheVariants.{New as NewObject, CheckCast, InstanceOf}
 use Rattle.model.specs.declared.instructions.ElementKind.TheVariants as element
-use Rattle.model.specs.declared.instructions.Instruction.TheVariants.{Nop, Constant, Local, Stack, Number, Branch, TableSwitch, LookupSwitch, Return, Static as StaticField, Field as FieldOf, Array as ArrayOf, Class as ClassOf, Invoke, Throw, Monitor}
-use Rattle.model.specs.declared.instructions.Constant.TheVariants.{Null, SmallInt, SmallLong, Byte, Short, Int as IntConstant, Long as LongConstant}
+use Rattle.model.specs.declared.instructions.Instruction.TheVariants.{Nop, Constant, Local, Stack, Number, Branch}
+use Rattle.model.specs.declared.instructions.Instruction.TheVariants.{TableSwitch, LookupSwitch, Return}
+use Rattle.model.specs.declared.instructions.Instruction.TheVariants.{Static as StaticField, Field as FieldOf}
+use Rattle.model.specs.declared.instructions.Instruction.TheVariants.{Array as ArrayOf, Class as ClassOf, Invoke, Throw}
+use Rattle.model.specs.declared.instructions.Instruction.TheVariants.{Monitor}
+use Rattle.model.specs.declared.instructions.Constant.TheVariants.{Null, SmallInt, SmallLong, Byte, Short}
+use Rattle.model.specs.declared.instructions.Constant.TheVariants.{Int as IntConstant, Long as LongConstant}
 use Rattle.model.specs.declared.instructions.Invocation.{Invocation}
 use Rattle.model.specs.declared.instructions.LookupSwitch.{LookupSwitch as LookupSwitchOf}
 use Rattle.model.specs.declared.instructions.TableSwitch.{TableSwitch as TableSwitchOf}
@@ -43,7 +49,8 @@ use Rattle.loader.specs.declared.operations.Operation.TheVariants as operation
 use Rattle.loader.specs.declared.operations.TypeNumber.{TypeNumber}
 use Rattle.loader.specs.Operations.{operation_of, or_resolved}
 use Rattle.loader.specs.PlainOperations.{is_32_bits}
-use Rattle.loader.specs.ResolvedOperations.{accesses_slot, accesses_word, call_operation, casts, makes_array, makes_object, slot_number, tests_type, type_of, word_named}
+use Rattle.loader.specs.ResolvedOperations.{accesses_slot, accesses_word, call_operation, casts, makes_array}
+use Rattle.loader.specs.ResolvedOperations.{makes_object, slot_number, tests_type, type_of, word_named}
 use Rattle.loader.specs.Steps.{step_of, step_in}
 use Rattle.loader.specs.StepLists.{step_or_none}
 use Rattle.plain_steps.specs.Plain.{is_plain}
@@ -58,7 +65,8 @@ use Rattle.instructions.specs.ByNumbers.{AreStored, IsNumbered, operated_by_numb
 use Rattle.instructions.specs.CallsByNumbers.{is_call}
 use Rattle.instructions.specs.Heaps.{HeapValue}
 use Rattle.instructions.specs.NamedThings.{goes_by_name, goes_by_type}
-use Rattle.instructions.specs.Operated.{aside_at, completed_at, marked, moved_or, operated, operated_on_calls, printed_at, standing, stepped, waits_at}
+use Rattle.instructions.specs.Operated.{aside_at, completed_at, marked, moved_or, operated, operated_on_calls}
+use Rattle.instructions.specs.Operated.{printed_at, standing, stepped, waits_at}
 use Rattle.instructions.specs.OwnCalls.{operated_by_calls, own_call}
 use Rattle.instructions.specs.Shown.{keyed, objects_shown}
 use Rattle.instructions.specs.TypesByNumbers.{operated_by_types}
@@ -77,56 +85,67 @@ step_for program superclass i = step_or_none (option_map (step_of program superc
 
 -- the step at a frame's method and pc is that of the instruction at which the frame stands
 step-of_instruction : (program : List ClassListing) (superclass : List ℕ) (o : Option CodeListing) (pc : ℕ)
-    → step_or_none (option_and_then (λ (code : CodeListing). step_in (step_of program superclass) code.instructions pc) o)
+    → step_or_none (option_and_then (λ (code : CodeListing). step_in (step_of program superclass) code.instructions pc)
+        o)
     ≡ step_for program superclass (option_and_then (λ (code : CodeListing). placed_at code pc) o)
 step-of_instruction program superclass None pc = refl
 step-of_instruction program superclass (Some code) pc = refl
 
 step_stands : (program : List ClassListing) (f : Frame)
     → standing program f ≡ step_for program (superclass_at program f.method.class) (instruction_of program f)
-step_stands program f = step-of_instruction program (superclass_at program f.method.class) (code_at program f.method) f.pc
+step_stands program f = step-of_instruction program (superclass_at program f.method.class) (code_at program f.method)
+    f.pc
 
 -- ---- each family's operations are carried out as that family's
 
-slot_stays : (s : Site) (h : HeapValue) (access : Access) (o : Option ℕ) → operated_by_numbers s h (accesses_slot access o) ≡ operated s h (accesses_slot access o)
+slot_stays : (s : Site) (h : HeapValue) (access : Access) (o : Option ℕ)
+    → operated_by_numbers s h (accesses_slot access o) ≡ operated s h (accesses_slot access o)
 unfolding plain_move
 slot_stays s h access None = refl
 slot_stays s h Get (Some n) = refl
 slot_stays s h Put (Some n) = refl
 
-word_stays : (s : Site) (h : HeapValue) (access : Access) (o : Option (ℕ × (ℕ × ℕ))) → operated_by_numbers s h (accesses_word access o) ≡ operated s h (accesses_word access o)
+word_stays : (s : Site) (h : HeapValue) (access : Access) (o : Option (ℕ × (ℕ × ℕ)))
+    → operated_by_numbers s h (accesses_word access o) ≡ operated s h (accesses_word access o)
 unfolding plain_move
 word_stays s h access None = refl
 word_stays s h Get (Some n) = refl
 word_stays s h Put (Some n) = refl
 
-new_stays : (s : Site) (h : HeapValue) (o : Option ℕ) → operated_by_numbers s h (makes_object o) ≡ operated s h (makes_object o)
+new_stays : (s : Site) (h : HeapValue) (o : Option ℕ) → operated_by_numbers s h (makes_object o)
+    ≡ operated s h (makes_object o)
 unfolding plain_move
 new_stays s h None = refl
 new_stays s h (Some n) = refl
 
-named_stays : (s : Site) (h : HeapValue) (superclass : List ℕ) (i : Listed) → goes_by_name i ≡ true → operated_by_numbers s h (operation_of s.program superclass i) ≡ operated s h (operation_of s.program superclass i)
-named_stays s h superclass (StaticField access m) e = slot_stays s h access (option_and_then (slot_number s.program) (resolved_field s.program m))
+named_stays : (s : Site) (h : HeapValue) (superclass : List ℕ) (i : Listed) → goes_by_name i ≡ true
+    → operated_by_numbers s h (operation_of s.program superclass i) ≡ operated s h (operation_of s.program superclass i)
+named_stays s h superclass (StaticField access m) e = slot_stays s h access (option_and_then (slot_number s.program)
+    (resolved_field s.program m))
 named_stays s h superclass (FieldOf access m) e = word_stays s h access (word_named s.program m)
 named_stays s h superclass (ClassOf NewObject name) e = new_stays s h (class_number s.program name)
 named_stays s h superclass _ e = cc
 
-array_stays : (s : Site) (h : HeapValue) (o : Option TypeNumber) → operated_by_types s h (makes_array o) ≡ operated s h (makes_array o)
+array_stays : (s : Site) (h : HeapValue) (o : Option TypeNumber) → operated_by_types s h (makes_array o)
+    ≡ operated s h (makes_array o)
 unfolding plain_move
 array_stays s h None = refl
 array_stays s h (Some t) = refl
 
-cast_stays : (s : Site) (h : HeapValue) (o : Option TypeNumber) → operated_by_types s h (casts o) ≡ operated s h (casts o)
+cast_stays : (s : Site) (h : HeapValue) (o : Option TypeNumber) → operated_by_types s h (casts o)
+    ≡ operated s h (casts o)
 unfolding plain_move
 cast_stays s h None = refl
 cast_stays s h (Some t) = refl
 
-test_stays : (s : Site) (h : HeapValue) (o : Option TypeNumber) → operated_by_types s h (tests_type o) ≡ operated s h (tests_type o)
+test_stays : (s : Site) (h : HeapValue) (o : Option TypeNumber) → operated_by_types s h (tests_type o)
+    ≡ operated s h (tests_type o)
 unfolding plain_move
 test_stays s h None = refl
 test_stays s h (Some t) = refl
 
-typed_stays : (s : Site) (h : HeapValue) (superclass : List ℕ) (i : Listed) → goes_by_type i ≡ true → operated_by_types s h (operation_of s.program superclass i) ≡ operated s h (operation_of s.program superclass i)
+typed_stays : (s : Site) (h : HeapValue) (superclass : List ℕ) (i : Listed) → goes_by_type i ≡ true
+    → operated_by_types s h (operation_of s.program superclass i) ≡ operated s h (operation_of s.program superclass i)
 unfolding plain_move
 typed_stays s h superclass (ArrayOf (NewArray primitive)) e = refl
 typed_stays s h superclass (ArrayOf (NewOf name)) e = array_stays s h (type_of s.program name)
@@ -147,7 +166,8 @@ typed_stays s h superclass (ClassOf CheckCast name) e = cast_stays s h (type_of 
 typed_stays s h superclass (ClassOf InstanceOf name) e = test_stays s h (type_of s.program name)
 typed_stays s h superclass _ e = cc
 
-call_stays : (s : Site) (h : HeapValue) (op : Operation) → is_call op ≡ true → operated_by_calls s h op ≡ operated s h op
+call_stays : (s : Site) (h : HeapValue) (op : Operation) → is_call op ≡ true → operated_by_calls s h op
+    ≡ operated s h op
 unfolding plain_move
 call_stays s h (operation.Invokestatic a b) e = refl
 call_stays s h (operation.Invokevirtual a b) e = refl
@@ -191,7 +211,8 @@ module _ (program : List ClassListing) (w : World) (t : ℕ) (h : HeapValue) (f 
   plain_agrees : (n : ℕ) (i : Listed) → is_plain i ≡ true → Agree n i
   plain_agrees n i e =
       let d = direct_move n f i e in
-      by_family-plain (site n) i d.0 d.1 d.2 d.3 ∙ sym (ap (λ o. moved_or (site n) o (operated_on_calls (site n) h d.0)) d.3)
+      by_family-plain (site n) i d.0 d.1 d.2 d.3
+          ∙ sym (ap (λ o. moved_or (site n) o (operated_on_calls (site n) h d.0)) d.3)
       ∙ sym (ap (λ o. operated (site n) h (or_resolved program above i o)) d.2)
 
   returned_agrees : (n : ℕ) (kind : Option Kind) → Agree n (Return kind)
@@ -203,7 +224,8 @@ module _ (program : List ClassListing) (w : World) (t : ℕ) (h : HeapValue) (f 
 
   module _ (kept : IsKept program w h) where
     numbered : (n : ℕ) → IsNumbered (site n) h kept.slots
-    numbered n = record { objects_are = kept.objects_are; stored = kept.stored; fields_are = kept.fields_are; slots_fit = kept.slots_fit }
+    numbered n = record { objects_are = kept.objects_are; stored = kept.stored; fields_are = kept.fields_are;
+        slots_fit = kept.slots_fit }
 
     thrown_agrees : (n : ℕ) → Agree n Throw
     unfolding plain_move
@@ -215,35 +237,43 @@ module _ (program : List ClassListing) (w : World) (t : ℕ) (h : HeapValue) (f 
     monitor_stays n Exit = monitor_agrees (site n) h kept.slots (numbered n) kept.accepted Exit
 
     -- at an instruction of the frame's code
-    module _ (i : Placed) (code : CodeListing) (there : code_at program f.method ≡ Some code) (at : placed_at code f.pc ≡ Some i) where
+    module _ (i : Placed) (code : CodeListing) (there : code_at program f.method ≡ Some code) (at : placed_at code f.pc
+        ≡ Some i) where
       abbrev n : ℕ
       n = i.next
 
       named_agrees : goes_by_name i.instruction ≡ true → Agree n i.instruction
       named_agrees named =
-          (code-by_numbers (site n) h kept.slots (numbered n) kept.accepted above f.method code f.pc i there at named).same
+          (code-by_numbers (site n) h kept.slots (numbered n) kept.accepted above f.method code f.pc i there at
+              named).same
           ∙ named_stays (site n) h above i.instruction named
 
       typed_agrees : goes_by_type i.instruction ≡ true → Agree n i.instruction
       typed_agrees typed =
-          (code-by_types (site n) h kept.slots (numbered n) kept.accepted kept.names above f.method code f.pc i there at typed).same
+          (code-by_types (site n) h kept.slots (numbered n) kept.accepted kept.names above f.method code f.pc i there at
+              typed).same
           ∙ typed_stays (site n) h above i.instruction typed
 
-      called_agrees : (invocation : Invocation) (m : Member) → i.instruction ≡ Invoke invocation m → Agree n (Invoke invocation m)
+      called_agrees : (invocation : Invocation) (m : Member) → i.instruction ≡ Invoke invocation m
+          → Agree n (Invoke invocation m)
       called_agrees invocation m is =
-          let agrees = code-call (own_call h) (site n) h kept.slots (numbered n) kept.accepted kept.names code f.pc i invocation m there at is
+          let agrees = code-call (own_call h) (site n) h kept.slots (numbered n) kept.accepted kept.names code f.pc i
+                invocation m there at is
           (own-alike (site n) h kept.objects_are kept.accepted kept.names m) in
           agrees.same ∙ call_stays (site n) h (call_operation program above invocation m) (call_is_call agrees.valid)
         where
-          call_is_call : (call_operation program above invocation m ≡ operation.Invalid → ⊥) → is_call (call_operation program above invocation m) ≡ true
+          call_is_call : (call_operation program above invocation m ≡ operation.Invalid → ⊥)
+              → is_call (call_operation program above invocation m) ≡ true
           call_is_call valid = by (call-is program above invocation m)
             where
-              by : IsCallIfValid (call_operation program above invocation m) → is_call (call_operation program above invocation m) ≡ true
+              by : IsCallIfValid (call_operation program above invocation m)
+                  → is_call (call_operation program above invocation m) ≡ true
               by (inl call) = call
               by (inr invalid) = absurd (valid invalid)
 
       -- the instruction that stands aside is the one that is there
-      aside_operated : (j : Listed) → i.instruction ≡ j → operated (site n) h operation.Aside ≡ moved_or (site n) (aside_move n j f) (Faults NoInstruction)
+      aside_operated : (j : Listed) → i.instruction ≡ j → operated (site n) h operation.Aside
+          ≡ moved_or (site n) (aside_move n j f) (Faults NoInstruction)
       unfolding plain_move
       aside_operated j is =
           let found : instruction_of program f ≡ Some i = rw there at in
@@ -260,7 +290,8 @@ module _ (program : List ClassListing) (w : World) (t : ℕ) (h : HeapValue) (f 
       unfolding plain_move
       long_agrees z is = by (is_32_bits z)
         where
-          by : (b : Bool) → by_family (site n) (Constant (LongConstant z)) ≡ operated (site n) h (if b then operation.Lconst z else operation.Aside)
+          by : (b : Bool) → by_family (site n) (Constant (LongConstant z))
+              ≡ operated (site n) h (if b then operation.Lconst z else operation.Aside)
           by true = refl
           by false = sym (aside_operated (Constant (LongConstant z)) is)
 
@@ -291,12 +322,15 @@ module _ (program : List ClassListing) (w : World) (t : ℕ) (h : HeapValue) (f 
       placed_agrees (Monitor operation) is = monitor_stays n operation
 
       -- the class that it uses is initialised first
-      site_agrees : after_initialising (site n) (class_used program i.instruction) (by_family (site n) i.instruction) ≡ stepped program w t h f (step_for program above (Some i))
+      site_agrees : after_initialising (site n) (class_used program i.instruction) (by_family (site n) i.instruction)
+          ≡ stepped program w t h f (step_for program above (Some i))
       site_agrees =
           ap (after_initialising (site n) (class_used program i.instruction)) (placed_agrees i.instruction refl)
-          ∙ code-initialises (site n) kept.accepted kept.sized above (operated (site n) h (operation_of program above i.instruction)) f.method code f.pc i there at
+          ∙ code-initialises (site n) kept.accepted kept.sized above
+              (operated (site n) h (operation_of program above i.instruction)) f.method code f.pc i there at
 
-    at_agrees : (i : Option Placed) → instruction_of program f ≡ i → at_instruction program w t f i ≡ stepped program w t h f (step_for program above i)
+    at_agrees : (i : Option Placed) → instruction_of program f ≡ i → at_instruction program w t f i
+        ≡ stepped program w t h f (step_for program above i)
     unfolding plain_move
     at_agrees None e = refl
     at_agrees (Some i) e =
@@ -304,7 +338,8 @@ module _ (program : List ClassListing) (w : World) (t : ℕ) (h : HeapValue) (f 
         site_agrees i code.0 code.1 code.2
 
     marked_agrees : (m : Mark) → at_mark program w t f m ≡ marked m (stepped program w t h f (standing program f))
-    marked_agrees Unmarked = at_agrees (instruction_of program f) refl ∙ ap (stepped program w t h f) (sym (step_stands program f))
+    marked_agrees Unmarked = at_agrees (instruction_of program f) refl
+        ∙ ap (stepped program w t h f) (sym (step_stands program f))
     marked_agrees Waiting = refl
     marked_agrees Failing = refl
 
@@ -321,7 +356,8 @@ module _ (program : List ClassListing) (w : World) (t : ℕ) (h : HeapValue) (ke
   print_completed = ap prints completion_completed ∙ turn_prints program w t h (running (frames_at w t))
 
 -- whether the turn waits, of the machine's parts
-pub waits_completed : (program : List ClassListing) (courses : List Course) (w : World) (m : Machine) (t : ℕ) → IsKept program w m.heap
+pub waits_completed : (program : List ClassListing) (courses : List Course) (w : World) (m : Machine) (t : ℕ)
+    → IsKept program w m.heap
     → w.statics.states ≡ m.states.items → AreIn courses w.threads
     → waits (completion program w t) ≡ waits_at program courses m t (running (frames_at w t))
 waits_completed program courses w m t kept states lives =

@@ -1,5 +1,6 @@
 -- Objects keep all words of their classes: as they are made, written and freed.
-use Rattle.std.proofs.Common.{◌≡◌, ℕ, zero, suc, List, [], ◌∷◌, set, slice_get, Option, Some, None, ◌∙◌, length-set, refl}
+use Rattle.std.proofs.Common.{◌≡◌, ℕ, zero, suc, List, [], ◌∷◌, set, slice_get, Option, Some, None, ◌∙◌, length-set}
+use Rattle.std.proofs.Common.{refl}
 use Rattle.std.specs.Prelude.{◌+◌, replicate}
 use Rattle.std.specs.Option.{option_map}
 use Rattle.std.proofs.lemmas.List.{length-map}
@@ -14,14 +15,17 @@ use Rattle.cells.specs.Objects.{StoredObject, object_if, word_set}
 use Rattle.instructions.specs.declared.kinds.Kind.{Kind}
 use Rattle.instructions.specs.declared.kinds.Kind.TheVariants.{Instance, Array}
 use Rattle.instructions.specs.ByNumbers.{AreStored, HoldsStored, IsStored}
-use Rattle.instructions.specs.Heaps.{HeapValue, cleared, created, exception_kind, made, memory_error_kind, opening_stored}
+use Rattle.instructions.specs.Heaps.{HeapValue, cleared, created, exception_kind, made, memory_error_kind}
+use Rattle.instructions.specs.Heaps.{opening_stored}
 
 -- a new object leaves the heap its shape
-pub created-shape : (h : HeapValue) (kind : Kind) (words : List Value) (o : Option (ℕ × Account)) → (created h kind words o).shape ≡ h.shape
+pub created-shape : (h : HeapValue) (kind : Kind) (words : List Value) (o : Option (ℕ × Account))
+    → (created h kind words o).shape ≡ h.shape
 created-shape h kind words None = refl
 created-shape h kind words (Some taken) = refl
 
-pub created-classes : (h : HeapValue) (kind : Kind) (words : List Value) (o : Option (ℕ × Account)) → (created h kind words o).classes ≡ h.classes
+pub created-classes : (h : HeapValue) (kind : Kind) (words : List Value) (o : Option (ℕ × Account))
+    → (created h kind words o).classes ≡ h.classes
 created-classes h kind words None = refl
 created-classes h kind words (Some taken) = refl
 
@@ -80,4 +84,5 @@ module _ (program : List ClassListing) where
       let count = shape.small + shape.medium + shape.large in
       set-stored (set (replicate count None) 0 (Some (made (memory_error_kind program) []))) 1
       (Some (made (exception_kind program StackOverflow) []))
-      (set-stored (replicate count None) 0 (Some (made (memory_error_kind program) [])) (nobody-stored count) first) second
+      (set-stored (replicate count None) 0 (Some (made (memory_error_kind program) [])) (nobody-stored count) first)
+          second

@@ -1,5 +1,6 @@
 -- Operations on arrays, and tests of types, by numbers are what the instruction table says by names.
-use Rattle.std.proofs.Common.{◌≡◌, ◌⊎◌, ◌≤◌, ℕ, ℤ, zero, suc, List, [], ◌∷◌, ◌==◌, Bool, true, false, cond, drop, length, slice_get, Option, Some, None, Result, Ok, Err, refl, sym, ap, subst, ◌∙◌}
+use Rattle.std.proofs.Common.{◌≡◌, ◌⊎◌, ◌≤◌, ℕ, ℤ, zero, suc, List, [], ◌∷◌, ◌==◌, Bool, true, false, cond, drop}
+use Rattle.std.proofs.Common.{length, slice_get, Option, Some, None, Result, Ok, Err, refl, sym, ap, subst, ◌∙◌}
 use Rattle.std.specs.Prelude.{nat_lt}
 use Rattle.std.specs.List.{list_all}
 use Rattle.std.specs.Option.{option_and_then}
@@ -8,10 +9,17 @@ use Rattle.model.specs.declared.instructions.ArrayOperation.{ArrayOperation}
 use Rattle.model.specs.declared.instructions.ArrayOperation.TheVariants.{New as NewArray, NewOf, Length, Load, Store}
 use Rattle.model.specs.declared.instructions.ClassOperation.TheVariants.{New as NewObject, CheckCast, InstanceOf}
 use Rattle.model.specs.declared.instructions.ElementKind.{ElementKind}
-use Rattle.model.specs.declared.instructions.ElementKind.TheVariants.{Int as IntElement, Long as LongElement, Ref as RefElement, Byte as ByteElement, Char as CharElement, Short as ShortElement}
-use Rattle.model.specs.declared.instructions.Instruction.TheVariants.{Nop, Constant, Local, Stack, Number as NumberOf, Branch, TableSwitch, LookupSwitch, Return, Static as StaticField, Field as FieldOf, Array as ArrayOf, Class as ClassOf, Invoke, Throw, Monitor}
+use Rattle.model.specs.declared.instructions.ElementKind.TheVariants.{Int as IntElement, Long as LongElement}
+use Rattle.model.specs.declared.instructions.ElementKind.TheVariants.{Ref as RefElement, Byte as ByteElement}
+use Rattle.model.specs.declared.instructions.ElementKind.TheVariants.{Char as CharElement, Short as ShortElement}
+use Rattle.model.specs.declared.instructions.Instruction.TheVariants.{Nop, Constant, Local, Stack, Number as NumberOf}
+use Rattle.model.specs.declared.instructions.Instruction.TheVariants.{Branch, TableSwitch, LookupSwitch, Return}
+use Rattle.model.specs.declared.instructions.Instruction.TheVariants.{Static as StaticField, Field as FieldOf}
+use Rattle.model.specs.declared.instructions.Instruction.TheVariants.{Array as ArrayOf, Class as ClassOf, Invoke, Throw}
+use Rattle.model.specs.declared.instructions.Instruction.TheVariants.{Monitor}
 use Rattle.model.specs.declared.instructions.Primitive.{Primitive}
-use Rattle.model.specs.declared.instructions.Primitive.TheVariants.{Char as Chars, Byte as Bytes, Short as Shorts, Int as Ints, Long as Longs}
+use Rattle.model.specs.declared.instructions.Primitive.TheVariants.{Char as Chars, Byte as Bytes, Short as Shorts}
+use Rattle.model.specs.declared.instructions.Primitive.TheVariants.{Int as Ints, Long as Longs}
 use Rattle.model.specs.declared.listings.Method.{Method}
 use Rattle.model.specs.declared.listings.Placed.{Placed}
 use Rattle.model.specs.declared.places.MethodPlace.{MethodPlace}
@@ -31,15 +39,18 @@ use Rattle.model.specs.Frames.{Frame, both, int_on, ref_on}
 use Rattle.model.specs.Locals.{value_on}
 use Rattle.model.specs.Programs.{code_at, empty_initializer, method_at, method_in, placed_at}
 use Rattle.model.specs.Stores.{Storage, storage_kind}
-use Rattle.model.specs.Table.Arrays.{array_made, array_stored, descriptor_of, element_got, element_put, length_of, loaded, may_hold, measured, put_if, storage_in}
+use Rattle.model.specs.Table.Arrays.{array_made, array_stored, descriptor_of, element_got, element_put, length_of}
+use Rattle.model.specs.Table.Arrays.{loaded, may_hold, measured, put_if, storage_in}
 use Rattle.model.specs.Table.Next.{Listed, by_family}
-use Rattle.model.specs.Table.Objects.{cast, cast_if, is_instance, tested, told_if}
+use Rattle.model.specs.Table.Objects.{cast, cast_if, is_instance, tested, reported_if}
 use Rattle.model.specs.Words.{contents_at, contents_if}
 use Rattle.loader.specs.declared.operations.Operation.{Operation}
-use Rattle.loader.specs.declared.operations.Operation.TheVariants.{Invalid, Newarray, Anewarray, Arraylength, Checkcast, Instanceof}
+use Rattle.loader.specs.declared.operations.Operation.TheVariants.{Invalid, Newarray, Anewarray, Arraylength, Checkcast}
+use Rattle.loader.specs.declared.operations.Operation.TheVariants.{Instanceof}
 use Rattle.loader.specs.declared.operations.TypeNumber.{TypeNumber}
 use Rattle.loader.specs.Operations.{operation_of}
-use Rattle.loader.specs.ResolvedOperations.{array_operation, casts, load_of, makes_array, primitive_letter, store_of, tests_type, type_of}
+use Rattle.loader.specs.ResolvedOperations.{array_operation, casts, load_of, makes_array, primitive_letter, store_of}
+use Rattle.loader.specs.ResolvedOperations.{tests_type, type_of}
 use Rattle.resolve.proofs.ListLemmas.{all-found}
 use Rattle.model.specs.Texts.Names.{is_class_name}
 use Rattle.model.specs.WellNamed.{is_well_named, type_is_named, types_are_named, types_are_named_in}
@@ -50,7 +61,8 @@ use Rattle.instructions.specs.Heaps.{HeapValue, held, kind_held}
 use Rattle.instructions.specs.NamedThings.{goes_by_type}
 use Rattle.instructions.specs.Shown.{type_name}
 use Rattle.instructions.specs.TypeNumbers.{is_element, is_object_of}
-use Rattle.instructions.specs.TypesByNumbers.{array_made_if, cast_by, element_put_by, length_in, loaded_by, measured_by, operated_by_types, place_of_element, stored_by, takes, tested_by}
+use Rattle.instructions.specs.TypesByNumbers.{array_made_if, cast_by, element_put_by, length_in, loaded_by, measured_by}
+use Rattle.instructions.specs.TypesByNumbers.{operated_by_types, place_of_element, stored_by, takes, tested_by}
 use Rattle.instructions.proofs.CodeResolves.{placed-resolves}
 use Rattle.instructions.proofs.TypeNames.{HasType, IsArray, IsClass, elements_named, typed}
 use Rattle.instructions.proofs.TypeOrder.{AreClassNames, named-classes}
@@ -62,7 +74,8 @@ pub record AgreesByType (s : Site) (h : HeapValue) (i : Listed) (operation : Ope
   pub valid : operation ≡ Invalid → ⊥
   pub stays : (next : ℕ) (f : Frame) → plain_move next operation f ≡ None
 
-module _ (s : Site) (h : HeapValue) (slots : List Value) (shown : IsNumbered s h slots) (accepted : refusal_of s.program ≡ None)
+module _ (s : Site) (h : HeapValue) (slots : List Value) (shown : IsNumbered s h slots) (accepted : refusal_of s.program
+    ≡ None)
     (names : AreClassNames s.program) where
   abbrev few_classes : length s.program ≤ 256
   few_classes = few s.program accepted names
@@ -81,19 +94,24 @@ module _ (s : Site) (h : HeapValue) (slots : List Value) (shown : IsNumbered s h
   load-same : (kind : ElementKind) (r : Result (ℤ × Option ℕ) Fault) → loaded s kind r ≡ loaded_by s h kind r
   load-same kind (Err fault) = refl
   load-same kind (Ok operands) =
-      ap (element_got s) (place-is s.program accepted names h s.world shown.objects_are shown.stored kind operands.0 operands.1)
+      ap (element_got s) (place-is s.program accepted names h s.world shown.objects_are shown.stored kind operands.0
+          operands.1)
 
-  holds-same : (v : Value) (birth : ℕ) → may_hold s (contents_at s.world birth) v ≡ takes s.program h (kind_held h birth) v
+  holds-same : (v : Value) (birth : ℕ) → may_hold s (contents_at s.world birth) v
+      ≡ takes s.program h (kind_held h birth) v
   holds-same (Int z) birth = refl
   holds-same (Long z) birth = refl
   holds-same (Ref None) birth = refl
-  holds-same (Ref (Some value)) birth = takes-is s.program accepted names h s.world shown.objects_are shown.stored value birth
+  holds-same (Ref (Some value)) birth = takes-is s.program accepted names h s.world shown.objects_are shown.stored value
+      birth
 
-  put-same : (storage : Storage) (v : Value) (r : Result (ℕ × ℕ) Abrupt) → element_put s storage v r ≡ element_put_by s h storage v r
+  put-same : (storage : Storage) (v : Value) (r : Result (ℕ × ℕ) Abrupt) → element_put s storage v r
+      ≡ element_put_by s h storage v r
   put-same storage v (Err abrupt) = refl
   put-same storage v (Ok place) = ap (put_if s storage v place) (holds-same v place.0)
 
-  store-same : (kind : ElementKind) (r : Result (Value × (ℤ × Option ℕ)) Fault) → array_stored s kind r ≡ stored_by s h kind r
+  store-same : (kind : ElementKind) (r : Result (Value × (ℤ × Option ℕ)) Fault) → array_stored s kind r
+      ≡ stored_by s h kind r
   store-same kind (Err fault) = refl
   store-same kind (Ok operands) =
       ap (element_put s (storage_in kind) operands.0)
@@ -116,14 +134,15 @@ module _ (s : Site) (h : HeapValue) (slots : List Value) (shown : IsNumbered s h
     test-same : (r : Result (Option ℕ) Fault) → tested s name r ≡ tested_by s h type r
     test-same (Err fault) = refl
     test-same (Ok None) = refl
-    test-same (Ok (Some birth)) = ap (told_if s) (instance-same birth)
+    test-same (Ok (Some birth)) = ap (reported_if s) (instance-same birth)
 
   -- ---- each instruction
 
   abbrev Agrees : Listed → Operation → Type 0
   Agrees = AgreesByType s h
 
-  primitive-case : (primitive : Primitive) → Agrees (ArrayOf (NewArray primitive)) (Newarray (primitive_letter primitive))
+  primitive-case : (primitive : Primitive)
+      → Agrees (ArrayOf (NewArray primitive)) (Newarray (primitive_letter primitive))
   unfolding plain_move
   primitive-case Chars = record { same = refl; valid = λ e. cc; stays = λ next f. refl }
   primitive-case Bytes = record { same = refl; valid = λ e. cc; stays = λ next f. refl }
@@ -131,7 +150,8 @@ module _ (s : Site) (h : HeapValue) (slots : List Value) (shown : IsNumbered s h
   primitive-case Ints = record { same = refl; valid = λ e. cc; stays = λ next f. refl }
   primitive-case Longs = record { same = refl; valid = λ e. cc; stays = λ next f. refl }
 
-  array-case : (name : List ℕ) (type : TypeNumber) → is_element s.program type.element ≡ true → descriptor_of name ≡ type_name s.program type
+  array-case : (name : List ℕ) (type : TypeNumber) → is_element s.program type.element ≡ true → descriptor_of name
+      ≡ type_name s.program type
       → Agrees (ArrayOf (NewOf name)) (Anewarray type)
   unfolding plain_move
   array-case name type there named = record {
@@ -144,12 +164,18 @@ module _ (s : Site) (h : HeapValue) (slots : List Value) (shown : IsNumbered s h
 
   load-case : (kind : ElementKind) → Agrees (ArrayOf (Load kind)) (load_of kind)
   unfolding plain_move
-  load-case IntElement = record { same = load-same IntElement (both (int_on s.frame.stack) (ref_on (drop 1 s.frame.stack))); valid = λ e. cc; stays = λ next f. refl }
-  load-case LongElement = record { same = load-same LongElement (both (int_on s.frame.stack) (ref_on (drop 1 s.frame.stack))); valid = λ e. cc; stays = λ next f. refl }
-  load-case RefElement = record { same = load-same RefElement (both (int_on s.frame.stack) (ref_on (drop 1 s.frame.stack))); valid = λ e. cc; stays = λ next f. refl }
-  load-case ByteElement = record { same = load-same ByteElement (both (int_on s.frame.stack) (ref_on (drop 1 s.frame.stack))); valid = λ e. cc; stays = λ next f. refl }
-  load-case CharElement = record { same = load-same CharElement (both (int_on s.frame.stack) (ref_on (drop 1 s.frame.stack))); valid = λ e. cc; stays = λ next f. refl }
-  load-case ShortElement = record { same = load-same ShortElement (both (int_on s.frame.stack) (ref_on (drop 1 s.frame.stack))); valid = λ e. cc; stays = λ next f. refl }
+  load-case IntElement = record { same = load-same IntElement
+      (both (int_on s.frame.stack) (ref_on (drop 1 s.frame.stack))); valid = λ e. cc; stays = λ next f. refl }
+  load-case LongElement = record { same = load-same LongElement
+      (both (int_on s.frame.stack) (ref_on (drop 1 s.frame.stack))); valid = λ e. cc; stays = λ next f. refl }
+  load-case RefElement = record { same = load-same RefElement
+      (both (int_on s.frame.stack) (ref_on (drop 1 s.frame.stack))); valid = λ e. cc; stays = λ next f. refl }
+  load-case ByteElement = record { same = load-same ByteElement
+      (both (int_on s.frame.stack) (ref_on (drop 1 s.frame.stack))); valid = λ e. cc; stays = λ next f. refl }
+  load-case CharElement = record { same = load-same CharElement
+      (both (int_on s.frame.stack) (ref_on (drop 1 s.frame.stack))); valid = λ e. cc; stays = λ next f. refl }
+  load-case ShortElement = record { same = load-same ShortElement
+      (both (int_on s.frame.stack) (ref_on (drop 1 s.frame.stack))); valid = λ e. cc; stays = λ next f. refl }
 
   abbrev operands : ElementKind → Result (Value × (ℤ × Option ℕ)) Fault
   operands kind =
@@ -158,30 +184,41 @@ module _ (s : Site) (h : HeapValue) (slots : List Value) (shown : IsNumbered s h
 
   store-case : (kind : ElementKind) → Agrees (ArrayOf (Store kind)) (store_of kind)
   unfolding plain_move
-  store-case IntElement = record { same = store-same IntElement (operands IntElement); valid = λ e. cc; stays = λ next f. refl }
-  store-case LongElement = record { same = store-same LongElement (operands LongElement); valid = λ e. cc; stays = λ next f. refl }
-  store-case RefElement = record { same = store-same RefElement (operands RefElement); valid = λ e. cc; stays = λ next f. refl }
-  store-case ByteElement = record { same = store-same ByteElement (operands ByteElement); valid = λ e. cc; stays = λ next f. refl }
-  store-case CharElement = record { same = store-same CharElement (operands CharElement); valid = λ e. cc; stays = λ next f. refl }
-  store-case ShortElement = record { same = store-same ShortElement (operands ShortElement); valid = λ e. cc; stays = λ next f. refl }
+  store-case IntElement = record { same = store-same IntElement (operands IntElement); valid = λ e. cc;
+      stays = λ next f. refl }
+  store-case LongElement = record { same = store-same LongElement (operands LongElement); valid = λ e. cc;
+      stays = λ next f. refl }
+  store-case RefElement = record { same = store-same RefElement (operands RefElement); valid = λ e. cc;
+      stays = λ next f. refl }
+  store-case ByteElement = record { same = store-same ByteElement (operands ByteElement); valid = λ e. cc;
+      stays = λ next f. refl }
+  store-case CharElement = record { same = store-same CharElement (operands CharElement); valid = λ e. cc;
+      stays = λ next f. refl }
+  store-case ShortElement = record { same = store-same ShortElement (operands ShortElement); valid = λ e. cc;
+      stays = λ next f. refl }
 
   length-case : Agrees (ArrayOf Length) Arraylength
   unfolding plain_move
   length-case = record { same = length-same (ref_on s.frame.stack); valid = λ e. cc; stays = λ next f. refl }
 
-  cast-case : (name : List ℕ) (t : HasType s.program few_classes name) → Agrees (ClassOf CheckCast name) (Checkcast t.type)
+  cast-case : (name : List ℕ) (t : HasType s.program few_classes name)
+      → Agrees (ClassOf CheckCast name) (Checkcast t.type)
   unfolding plain_move
-  cast-case name t = record { same = cast-same name t.type t.there t.what (ref_on s.frame.stack); valid = λ e. cc; stays = λ next f. refl }
+  cast-case name t = record { same = cast-same name t.type t.there t.what (ref_on s.frame.stack); valid = λ e. cc;
+      stays = λ next f. refl }
 
-  test-case : (name : List ℕ) (t : HasType s.program few_classes name) → Agrees (ClassOf InstanceOf name) (Instanceof t.type)
+  test-case : (name : List ℕ) (t : HasType s.program few_classes name)
+      → Agrees (ClassOf InstanceOf name) (Instanceof t.type)
   unfolding plain_move
-  test-case name t = record { same = test-same name t.type t.there t.what (ref_on s.frame.stack); valid = λ e. cc; stays = λ next f. refl }
+  test-case name t = record { same = test-same name t.type t.there t.what (ref_on s.frame.stack); valid = λ e. cc;
+      stays = λ next f. refl }
 
   array-agrees : (operation : ArrayOperation (List ℕ)) → resolves s.program (ArrayOf operation) ≡ true
       → type_is_named (ArrayOf operation) ≡ true → Agrees (ArrayOf operation) (array_operation s.program operation)
   array-agrees (NewArray primitive) there named = primitive-case primitive
   array-agrees (NewOf name) there named =
-      let t = typed s.program few_classes name named (and_parts (is_type s.program name) (nat_lt (dimensions name) 255) there).0 in
+      let t = typed s.program few_classes name named (and_parts (is_type s.program name) (nat_lt (dimensions name) 255)
+            there).0 in
       subst (λ o. Agrees (ArrayOf (NewOf name)) (makes_array o)) (sym t.is)
       (array-case name t.type t.there (elements_named s.program few_classes name named t))
   array-agrees Length there named = length-case
@@ -224,7 +261,8 @@ module _ (s : Site) (h : HeapValue) (slots : List Value) (shown : IsNumbered s h
 
 -- ---- in code of a program whose classes have the names of class files
 
-all-at : {A : Type 0} (p : A → Bool) (xs : List A) (n : ℕ) (x : A) → list_all p xs ≡ true → slice_get xs n ≡ Some x → p x ≡ true
+all-at : {A : Type 0} (p : A → Bool) (xs : List A) (n : ℕ) (x : A) → list_all p xs ≡ true → slice_get xs n ≡ Some x
+    → p x ≡ true
 all-at p [] n x all e = cc
 all-at p (y ∷ ys) zero x all e = let same : y ≡ x = cc in ap p (sym same) ∙ (and_parts (p y) (list_all p ys) all).0
 all-at p (y ∷ ys) (suc n) x all e = all-at p ys n x (and_parts (p y) (list_all p ys) all).1 e
@@ -246,20 +284,25 @@ module _ (program : List ClassListing) (names : list_all is_well_named program �
   in_empty true m e = let same : empty_initializer ≡ m = cc in ap are_named (sym same)
   in_empty false m e = cc
 
-  in_methods : (c : ClassListing) (n : ℕ) (m : Method) → list_all are_named c.methods ≡ true → method_in c n ≡ Some m → are_named m ≡ true
+  in_methods : (c : ClassListing) (n : ℕ) (m : Method) → list_all are_named c.methods ≡ true → method_in c n ≡ Some m
+      → are_named m ≡ true
   in_methods c n m all e = by (slice_get c.methods n) refl e
     where
-      by : (o : Option Method) → slice_get c.methods n ≡ o → or_else o (cond (n == length c.methods) (Some empty_initializer) None) ≡ Some m
+      by : (o : Option Method) → slice_get c.methods n ≡ o
+          → or_else o (cond (n == length c.methods) (Some empty_initializer) None) ≡ Some m
           → are_named m ≡ true
       by None at k = in_empty (n == length c.methods) m k
       by (Some x) at k = all-at are_named c.methods n m all (at ∙ k)
 
-  pub placed-named : (place : MethodPlace) (code : CodeListing) (pc : ℕ) (i : Placed) → code_at program place ≡ Some code
+  pub placed-named : (place : MethodPlace) (code : CodeListing) (pc : ℕ) (i : Placed) → code_at program place
+      ≡ Some code
       → placed_at code pc ≡ Some i → type_is_named i.instruction ≡ true
   placed-named place code pc i there at =
       let method = and_then-some (λ (m : Method). m.code) (method_at program place) code there in
-      let class = and_then-some (λ (c : ClassListing). method_in c place.method) (slice_get program place.class) method.0 method.1 in
-      let named : types_are_named class.0.methods ≡ true = types-named class.0 (all-at is_well_named program place.class class.0 names class.1) in
+      let class = and_then-some (λ (c : ClassListing). method_in c place.method) (slice_get program place.class)
+            method.0 method.1 in
+      let named : types_are_named class.0.methods
+            ≡ true = types-named class.0 (all-at is_well_named program place.class class.0 names class.1) in
       let whole : types_are_named_in (Some code) ≡ true =
       ap types_are_named_in (sym method.2)
       ∙ in_methods class.0 place.method method.0 named class.2 in
@@ -267,7 +310,8 @@ module _ (program : List ClassListing) (names : list_all is_well_named program �
 
 -- at a pc of a method
 pub code-by_types : (s : Site) (h : HeapValue) (slots : List Value) → IsNumbered s h slots → refusal_of s.program ≡ None
-    → list_all is_well_named s.program ≡ true → (superclass : List ℕ) (place : MethodPlace) (code : CodeListing) (pc : ℕ) (i : Placed)
+    → list_all is_well_named s.program ≡ true → (superclass : List ℕ) (place : MethodPlace) (code : CodeListing)
+        (pc : ℕ) (i : Placed)
     → code_at s.program place ≡ Some code → placed_at code pc ≡ Some i → goes_by_type i.instruction ≡ true
     → AgreesByType s h i.instruction (operation_of s.program superclass i.instruction)
 code-by_types s h slots shown accepted names superclass place code pc i there at goes =

@@ -1,5 +1,7 @@
 -- The types that instructions of class files name, and their numbers.
-use Rattle.std.proofs.Common.{◌≡◌, ◌⊎◌, inl, inr, ◌<◌, ◌≤◌, ◌+◌, ◌-◌, ℕ, zero, suc, List, [], ◌∷◌, ◌++◌, ◌&&◌, ◌||◌, ◌==◌, ◌%◌, Bool, true, false, cond, not, drop, take, length, map, replicate, slice_get, is_some, Option, Some, None, refl, sym, ap, subst, arith, ◌∙◌, length-append}
+use Rattle.std.proofs.Common.{◌≡◌, ◌⊎◌, inl, inr, ◌<◌, ◌≤◌, ◌+◌, ◌-◌, ℕ, zero, suc, List, [], ◌∷◌, ◌++◌, ◌&&◌, ◌||◌}
+use Rattle.std.proofs.Common.{◌==◌, ◌%◌, Bool, true, false, cond, not, drop, take, length, map, replicate, slice_get}
+use Rattle.std.proofs.Common.{is_some, Option, Some, None, refl, sym, ap, subst, arith, ◌∙◌, length-append}
 use Rattle.std.specs.Prelude.{codes, nat_le, nat_lt, if◌then◌else◌}
 use Rattle.std.specs.List.{before_first, position_or_len}
 use Rattle.std.specs.Option.{option_map}
@@ -16,7 +18,8 @@ use Rattle.model.specs.Classes.Types.Element.{Reference}
 use Rattle.model.specs.Classes.Types.{described, dimensions, element_of, is_there_within, is_type, type_is_there}
 use Rattle.model.specs.Signatures.{dimensions as brackets}
 use Rattle.model.specs.Table.Arrays.{descriptor_of}
-use Rattle.model.specs.Texts.Descriptors.{is_array_descriptor, is_class_type, is_element_type, is_field_descriptor, is_int_type, is_long_type, is_type as is_type_word}
+use Rattle.model.specs.Texts.Descriptors.{is_array_descriptor, is_class_type, is_element_type, is_field_descriptor}
+use Rattle.model.specs.Texts.Descriptors.{is_int_type, is_long_type, is_type as is_type_word}
 use Rattle.model.specs.Texts.Names.{are_parts, fits, is_class_name}
 use Rattle.resolve.specs.Numbers.{class_names, name_of}
 use Rattle.loader.specs.declared.operations.TypeNumber.{TypeNumber}
@@ -90,9 +93,11 @@ program_count (c ∷ cs) = ap suc (program_count cs)
 pub names_count : (program : List ClassListing) → length (class_names program) ≡ length program + 23
 names_count program =
     length-append (map name_of program) (map name_of builtin_classes)
-    ∙ ap (λ n. n + length (map name_of builtin_classes)) (program_count program) ∙ ap (λ n. length program + n) own_count
+    ∙ ap (λ n. n + length (map name_of builtin_classes)) (program_count program)
+        ∙ ap (λ n. length program + n) own_count
 
-pub number_within : (program : List ClassListing) (n : ℕ) (name : List ℕ) → slice_get (class_names program) n ≡ Some name
+pub number_within : (program : List ClassListing) (n : ℕ) (name : List ℕ) → slice_get (class_names program) n
+    ≡ Some name
     → n < length program + 23
 number_within program n name e =
     subst (λ (m : ℕ). n < m) (names_count program) (slice_get_within (class_names program) n name e)
@@ -115,7 +120,8 @@ module _ (program : List ClassListing) (few : length program ≤ 256) where
   -- ---- types that are there
 
   there-on : (n : ℕ) (name : List ℕ) → is_there_within (suc n) program name
-      ≡ type_is_there (is_some (class_named program name)) (λ element. is_there_within n program element) (element_of name)
+      ≡ type_is_there (is_some (class_named program name)) (λ element. is_there_within n program element)
+          (element_of name)
   unfolding is_there_within
   there-on n name = refl
 
@@ -159,7 +165,8 @@ module _ (program : List ClassListing) (few : length program ≤ 256) where
       (record { element = 32841; is = refl; there = refl; same = refl })
       (record { element = 32842; is = refl; there = refl; same = refl })
 
-  one-letter : (letter : ℕ) (word : List ℕ) → is_number_letter letter ≡ true → bytes_eq word (letter ∷ []) ≡ true → IsWord word
+  one-letter : (letter : ℕ) (word : List ℕ) → is_number_letter letter ≡ true → bytes_eq word (letter ∷ []) ≡ true
+      → IsWord word
   one-letter letter word is e = subst IsWord (sym ((bytes_eq-Decides word (letter ∷ [])).0 e)) (letter-word letter is)
 
   -- ---- a class's name between `L` and `;`
@@ -203,7 +210,8 @@ module _ (program : List ClassListing) (few : length program ≤ 256) where
   -- the word of a class that is there
   class-word : (name : List ℕ) → HasNumber program name → IsWord (76 ∷ name ++ 59 ∷ [])
   class-word name class =
-      let there : slice_get (class_names program) class.number ≡ Some name = number-names program name class.number class.is in
+      let there : slice_get (class_names program) class.number ≡ Some name = number-names program name class.number
+            class.is in
       let number = class_element class.number (number_within program class.number name there) in
       record {
         element = class.number;
@@ -211,7 +219,8 @@ module _ (program : List ClassListing) (few : length program ≤ 256) where
         there = number.there;
         same =
             ap (λ (o : Option (List ℕ)). 76 ∷ name_or_none o ++ 59 ∷ []) (sym there)
-            ∙ ap (λ b. if b then (class.number % 256) ∷ [] else 76 ∷ class_name program class.number ++ 59 ∷ []) (sym number.low);
+            ∙ ap (λ b. if b then (class.number % 256) ∷ [] else 76 ∷ class_name program class.number ++ 59 ∷ [])
+                (sym number.low);
       }
 
   class-type : (bytes : List ℕ) (n : ℕ) → position_or_len ends bytes + 1 ≡ length bytes
@@ -223,7 +232,8 @@ module _ (program : List ClassListing) (few : length program ≤ 256) where
       let named : element_of (91 ∷ 76 ∷ bytes) ≡ Some (Reference (take (position_or_len ends bytes) bytes)) =
       ap (λ xs. described (76 ∷ xs)) whole ∙ between (take (position_or_len ends bytes) bytes) in
       let there : is_there_within n program (take (position_or_len ends bytes) bytes) ≡ true =
-      ap (type_is_there (is_some (class_named program (91 ∷ 76 ∷ bytes))) (λ element. is_there_within n program element)) (sym named)
+      ap (type_is_there (is_some (class_named program (91 ∷ 76 ∷ bytes)))
+          (λ element. is_there_within n program element)) (sym named)
       ∙ sym (there-on n (91 ∷ 76 ∷ bytes)) ∙ e in
       subst (λ xs. IsWord (76 ∷ xs)) (sym whole)
       (class-word (take (position_or_len ends bytes) bytes) (class-number n (take (position_or_len ends bytes) bytes)
@@ -231,7 +241,8 @@ module _ (program : List ClassListing) (few : length program ≤ 256) where
 
   -- ---- a word that is no array's
 
-  last-word : (b : ℕ) (bs : List ℕ) (n : ℕ) → is_element_type (b ∷ bs) ≡ true → is_there_within n program (91 ∷ b ∷ bs) ≡ true
+  last-word : (b : ℕ) (bs : List ℕ) (n : ℕ) → is_element_type (b ∷ bs) ≡ true → is_there_within n program (91 ∷ b ∷ bs)
+      ≡ true
       → IsWord (b ∷ bs)
   last-word b bs n word e =
       elim (or_cases (is_int_type (b ∷ bs) || is_long_type (b ∷ bs)) (is_class_type (b ∷ bs)) word) [
@@ -245,9 +256,11 @@ module _ (program : List ClassListing) (few : length program ≤ 256) where
     where
       int : is_int_type (b ∷ bs) ≡ true → IsWord (b ∷ bs)
       int h =
-          elim (or_cases (bytes_eq (b ∷ bs) (codes "B") || bytes_eq (b ∷ bs) (codes "C") || bytes_eq (b ∷ bs) (codes "S")) (bytes_eq (b ∷ bs) (codes "I")) h) [
+          elim (or_cases (bytes_eq (b ∷ bs) (codes "B") || bytes_eq (b ∷ bs) (codes "C")
+              || bytes_eq (b ∷ bs) (codes "S")) (bytes_eq (b ∷ bs) (codes "I")) h) [
             | inl h ↦
-                elim (or_cases (bytes_eq (b ∷ bs) (codes "B") || bytes_eq (b ∷ bs) (codes "C")) (bytes_eq (b ∷ bs) (codes "S")) h) [
+                elim (or_cases (bytes_eq (b ∷ bs) (codes "B") || bytes_eq (b ∷ bs) (codes "C"))
+                    (bytes_eq (b ∷ bs) (codes "S")) h) [
                   | inl h ↦
                       elim (or_cases (bytes_eq (b ∷ bs) (codes "B")) (bytes_eq (b ∷ bs) (codes "C")) h) [
                         | inl h ↦ one-letter 66 (b ∷ bs) refl h
@@ -260,7 +273,8 @@ module _ (program : List ClassListing) (few : length program ≤ 256) where
 
       class : is_class_type (b ∷ bs) ≡ true → IsWord (b ∷ bs)
       class h =
-          let parts = and_parts (b == 76 && position_or_len ends bs + 1 == length bs) (are_parts false (before_first ends bs)) h in
+          let parts = and_parts (b == 76 && position_or_len ends bs + 1 == length bs)
+                (are_parts false (before_first ends bs)) h in
           let head = and_parts (b == 76) (position_or_len ends bs + 1 == length bs) parts.0 in
           let first : b ≡ 76 = eqb-true b 76 head.0 in
           subst (λ (x : ℕ). IsWord (x ∷ bs)) (sym first)
@@ -288,9 +302,11 @@ module _ (program : List ClassListing) (few : length program ≤ 256) where
   word-of (b ∷ bs) n word e = by (b == 91) refl word (λ n word e. word-of bs n word e)
     where
       Of : ℕ → Type 0
-      Of x = is_element_type (drop (dimensions (x ∷ bs)) (x ∷ bs)) ≡ true → is_there_within n program (91 ∷ x ∷ bs) ≡ true → IsWord (x ∷ bs)
+      Of x = is_element_type (drop (dimensions (x ∷ bs)) (x ∷ bs)) ≡ true → is_there_within n program (91 ∷ x ∷ bs)
+          ≡ true → IsWord (x ∷ bs)
 
-      more : ((n : ℕ) → is_element_type (drop (dimensions bs) bs) ≡ true → is_there_within n program (91 ∷ bs) ≡ true → IsWord bs) → Of 91
+      more : ((n : ℕ) → is_element_type (drop (dimensions bs) bs) ≡ true → is_there_within n program (91 ∷ bs) ≡ true
+          → IsWord bs) → Of 91
       more rest word e = inner n e
         where
           inner : (n : ℕ) → is_there_within n program (91 ∷ 91 ∷ bs) ≡ true → IsWord (91 ∷ bs)
@@ -300,12 +316,15 @@ module _ (program : List ClassListing) (few : length program ≤ 256) where
               (rest n (ap (λ k. is_element_type (drop k (91 ∷ bs))) (sym (one_more (dimensions bs))) ∙ word)
               (sym (there-on n (91 ∷ 91 ∷ bs)) ∙ e))
 
-      by : (c : Bool) → (b == 91) ≡ c → is_element_type (drop (if b == 91 then 1 + dimensions bs else 0) (b ∷ bs)) ≡ true
-          → ((n : ℕ) → is_element_type (drop (dimensions bs) bs) ≡ true → is_there_within n program (91 ∷ bs) ≡ true → IsWord bs)
+      by : (c : Bool) → (b == 91) ≡ c → is_element_type (drop (if b == 91 then 1 + dimensions bs else 0) (b ∷ bs))
+          ≡ true
+          → ((n : ℕ) → is_element_type (drop (dimensions bs) bs) ≡ true → is_there_within n program (91 ∷ bs) ≡ true
+              → IsWord bs)
           → IsWord (b ∷ bs)
       by true is word rest = subst Of (sym (eqb-true b 91 is)) (more rest) word e
       by false is word rest =
-          last-word b bs n (ap (λ c. is_element_type (drop (if c then 1 + dimensions bs else 0) (b ∷ bs))) (sym is) ∙ word) e
+          last-word b bs n (ap (λ c. is_element_type (drop (if c then 1 + dimensions bs else 0) (b ∷ bs))) (sym is)
+              ∙ word) e
 
   -- ---- the types that instructions name
 
@@ -332,7 +351,8 @@ module _ (program : List ClassListing) (few : length program ≤ 256) where
   class-typed name plain e =
       let class = class-number (length name + 1) name plain e in
       let none : dimensions name ≡ 0 = no_dimensions name plain in
-      let there : slice_get (class_names program) class.number ≡ Some name = number-names program name class.number class.is in
+      let there : slice_get (class_names program) class.number ≡ Some name = number-names program name class.number
+            class.is in
       let number = class_element class.number (number_within program class.number name there) in
       record {
         type = type_with 0 class.number;
@@ -347,8 +367,10 @@ module _ (program : List ClassListing) (few : length program ≤ 256) where
       → HasType (91 ∷ word)
   array-typed word named e =
       let field = and_parts (fits (91 ∷ word)) (is_type_word (91 ∷ word)) named in
-      let count : brackets (91 ∷ word) ≡ suc (dimensions word) = brackets_are (91 ∷ word) ∙ one_more (dimensions word) in
-      let type = and_parts (nat_le (brackets (91 ∷ word)) 255) (is_element_type (drop (brackets (91 ∷ word)) (91 ∷ word))) field.1 in
+      let count : brackets (91 ∷ word) ≡ suc (dimensions word) = brackets_are (91 ∷ word) ∙ one_more (dimensions word)
+            in
+      let type = and_parts (nat_le (brackets (91 ∷ word)) 255)
+            (is_element_type (drop (brackets (91 ∷ word)) (91 ∷ word))) field.1 in
       let few : brackets (91 ∷ word) ≤ 255 = leb-true (brackets (91 ∷ word)) 255 type.0 in
       let counted : nat_le (suc (dimensions word)) 65535 ≡ true =
       le-leb (suc (dimensions word)) 65535 (omega (arith, few, count)) in
@@ -357,7 +379,8 @@ module _ (program : List ClassListing) (few : length program ≤ 256) where
       record {
         type = type_with (suc (dimensions word)) w.element;
         is =
-            ap (λ n. option_map (λ element. type_with (counted_dimensions n) element) (last_number program n (91 ∷ word)))
+            ap (λ n. option_map (λ element. type_with (counted_dimensions n) element)
+                (last_number program n (91 ∷ word)))
             (one_more (dimensions word))
             ∙ ap (option_map (λ element. type_with (counted_dimensions (suc (dimensions word))) element)) w.is
             ∙ ap (λ b. Some (type_with (if b then suc (dimensions word) else 65535) w.element)) counted;
@@ -377,19 +400,23 @@ module _ (program : List ClassListing) (few : length program ≤ 256) where
       array [] h e = cc
       array (b ∷ bs) h e =
           let first : b ≡ 91 = eqb-true b 91 (and_parts (b == 91) (is_field_descriptor (b ∷ bs)) h).0 in
-          subst (λ (x : ℕ). is_array_descriptor (x ∷ bs) ≡ true → is_type program (x ∷ bs) ≡ true → HasType (x ∷ bs)) (sym first)
+          subst (λ (x : ℕ). is_array_descriptor (x ∷ bs) ≡ true → is_type program (x ∷ bs) ≡ true → HasType (x ∷ bs))
+              (sym first)
           (array-typed bs) h e
 
   -- arrays of a type have the descriptor that its numbers show
-  pub elements_named : (name : List ℕ) → names_class name ≡ true → (t : HasType name) → descriptor_of name ≡ type_name program t.type
+  pub elements_named : (name : List ℕ) → names_class name ≡ true → (t : HasType name) → descriptor_of name
+      ≡ type_name program t.type
   elements_named name named t = elim t.what [ inl c ↦ class name t.type named c | inr a ↦ array name t.type a ]
     where
-      class : (name : List ℕ) (type : TypeNumber) → names_class name ≡ true → IsClass name type → descriptor_of name ≡ type_name program type
+      class : (name : List ℕ) (type : TypeNumber) → names_class name ≡ true → IsClass name type → descriptor_of name
+          ≡ type_name program type
       class [] type named c = cc
       class (b ∷ bs) type named c =
           ap (λ t. if t then b ∷ bs else 76 ∷ b ∷ bs ++ 59 ∷ []) c.unbracketed
           ∙ ap (λ (o : Option (List ℕ)). 76 ∷ name_or_none o ++ 59 ∷ []) (sym c.named)
-          ∙ ap (λ t. if t then (type.element % 256) ∷ [] else 76 ∷ class_name program type.element ++ 59 ∷ []) (sym c.low)
+          ∙ ap (λ t. if t then (type.element % 256) ∷ [] else 76 ∷ class_name program type.element ++ 59 ∷ [])
+              (sym c.low)
           ∙ ap (λ n. replicate n 91 ++ last_element program type.element) (sym c.plain)
 
       array : (name : List ℕ) (type : TypeNumber) → IsArray name type → descriptor_of name ≡ type_name program type

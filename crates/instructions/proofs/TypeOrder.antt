@@ -1,10 +1,13 @@
 -- What the types of a program are below, by numbers.
-use Rattle.std.proofs.Common.{◌≡◌, ◌⊎◌, inl, inr, ◌<◌, ◌≤◌, ◌+◌, ◌-◌, ◌%◌, ℕ, zero, suc, List, [], ◌∷◌, ◌++◌, ◌&&◌, ◌==◌, Bool, true, false, cond, not, drop, length, map, replicate, slice_get, is_none, is_some, Option, Some, None, refl, sym, ap, subst, arith, ◌∙◌, length-append}
+use Rattle.std.proofs.Common.{◌≡◌, ◌⊎◌, inl, inr, ◌<◌, ◌≤◌, ◌+◌, ◌-◌, ◌%◌, ℕ, zero, suc, List, [], ◌∷◌, ◌++◌, ◌&&◌}
+use Rattle.std.proofs.Common.{◌==◌, Bool, true, false, cond, not, drop, length, map, replicate, slice_get, is_none}
+use Rattle.std.proofs.Common.{is_some, Option, Some, None, refl, sym, ap, subst, arith, ◌∙◌, length-append}
 use Rattle.std.specs.Prelude.{codes, nat_le, nat_lt, slice_index_or, if◌then◌else◌}
 use Rattle.std.specs.List.{find, list_all}
 use Rattle.std.specs.Option.{option_map}
 use Rattle.std.specs.Str.{bytes_eq}
-use Rattle.std.proofs.lemmas.Bool.{and_from, and_parts, cases_eq, eq-eqb, false_from_ne_true, le-leb, leb-true, lt-leb, ltb-true, ne_eqb, not-true, not_from_false}
+use Rattle.std.proofs.lemmas.Bool.{and_from, and_parts, cases_eq, eq-eqb, false_from_ne_true, le-leb, leb-true, lt-leb}
+use Rattle.std.proofs.lemmas.Bool.{ltb-true, ne_eqb, not-true, not_from_false}
 use Rattle.std.proofs.lemmas.List.{length-map, length-replicate}
 use Rattle.std.proofs.lemmas.List.Folds.{list_all-append, list_all-map}
 use Rattle.std.proofs.lemmas.Option.{slice_get-map}
@@ -13,7 +16,8 @@ use Rattle.model.specs.Accepted.BuiltinNames.{has_builtin_name}
 use Rattle.model.specs.Accepted.Superclasses.{has_missing_parent}
 use Rattle.model.specs.ClassListings.{ClassListing}
 use Rattle.model.specs.Classes.Builtin.{builtin_classes}
-use Rattle.model.specs.Classes.Named.{builtin, class_named, is_named, listed, or_else, parents_in, parents_named, parents_of}
+use Rattle.model.specs.Classes.Named.{builtin, class_named, is_named, listed, or_else, parents_in, parents_named}
+use Rattle.model.specs.Classes.Named.{parents_of}
 use Rattle.model.specs.Classes.Subclass.{HasName, Subclass}
 use Rattle.model.specs.Classes.Subclass.Subclass.{same, parent, through}
 use Rattle.model.specs.Classes.Subclasses.{is_subclass}
@@ -31,9 +35,11 @@ use Rattle.loader.specs.ClassTables.{class_facts, class_tables, is_below, is_sub
 use Rattle.loader.proofs.ClassTableLemmas.{name-at, subtype-names}
 use Rattle.instructions.specs.declared.kinds.Kind.TheVariants.{Instance}
 use Rattle.instructions.specs.Shown.{class_name, last_element, name_or_none, type_name}
-use Rattle.instructions.specs.TypeNumbers.{is_array_below, is_element, is_element_below, is_kind_of, is_letter, is_number_letter, object_class}
+use Rattle.instructions.specs.TypeNumbers.{is_array_below, is_element, is_element_below, is_kind_of, is_letter}
+use Rattle.instructions.specs.TypeNumbers.{is_number_letter, object_class}
 use Rattle.instructions.proofs.ByNumberLemmas.{number-names, number-of}
-use Rattle.instructions.proofs.TypeNames.{IsArray, IsClass, between, is_bracketed, letters, name_unbracketed, names_count, no_array}
+use Rattle.instructions.proofs.TypeNames.{IsArray, IsClass, between, is_bracketed, letters, name_unbracketed}
+use Rattle.instructions.proofs.TypeNames.{names_count, no_array}
 
 -- ---- tests of numbers
 
@@ -49,7 +55,8 @@ leb-suc a b = by (nat_le a b) refl
   where
     by : (c : Bool) → nat_le a b ≡ c → nat_le (suc a) (suc b) ≡ c
     by true e = le-leb (suc a) (suc b) (omega (arith, leb-true a b e))
-    by false e = false_from_ne_true (nat_le (suc a) (suc b)) (λ h. differ (le-leb a b (omega (arith, leb-true (suc a) (suc b) h))) e)
+    by false e = false_from_ne_true (nat_le (suc a) (suc b))
+        (λ h. differ (le-leb a b (omega (arith, leb-true (suc a) (suc b) h))) e)
       where
         differ : nat_le a b ≡ true → nat_le a b ≡ false → ⊥
         differ p q = cc
@@ -73,7 +80,8 @@ own-proper : list_all (λ (c : ClassListing). is_proper c.name) builtin_classes 
 unfolding builtin_classes
 own-proper = refl
 
-own-parents : list_all (λ (c : ClassListing). list_all (λ p. not (is_bracketed p)) (parents_of c)) builtin_classes ≡ true
+own-parents : list_all (λ (c : ClassListing). list_all (λ p. not (is_bracketed p)) (parents_of c)) builtin_classes
+    ≡ true
 unfolding builtin_classes
 own-parents = refl
 
@@ -101,11 +109,13 @@ no-object c own =
     false_from_ne_true (bytes_eq c.name object)
     (λ e. differ (ap (λ name. is_some (builtin name)) ((bytes_eq-Decides c.name object).0 e) ∙ object-there) own)
 
-cond-none : {A : Type 0} (b : Bool) (x : A) (rest : Option A) → cond b (Some x) rest ≡ None → (b ≡ false) × (rest ≡ None)
+cond-none : {A : Type 0} (b : Bool) (x : A) (rest : Option A) → cond b (Some x) rest ≡ None → (b ≡ false)
+    × (rest ≡ None)
 cond-none true x rest e = cc
 cond-none false x rest e = (refl, e)
 
-no-objects : (cs : List ClassListing) → find has_builtin_name cs ≡ None → list_all (λ name. not (bytes_eq name object)) (map name_of cs) ≡ true
+no-objects : (cs : List ClassListing) → find has_builtin_name cs ≡ None
+    → list_all (λ name. not (bytes_eq name object)) (map name_of cs) ≡ true
 no-objects [] none = refl
 no-objects (c ∷ cs) none =
     let parts = cond-none (has_builtin_name c) c (find has_builtin_name cs) none in
@@ -114,7 +124,8 @@ no-objects (c ∷ cs) none =
 
 -- ---- the place of a name that stands once in a list
 
-all-at : (p : List ℕ → Bool) (xs : List (List ℕ)) (n : ℕ) (x : List ℕ) → list_all p xs ≡ true → slice_get xs n ≡ Some x → p x ≡ true
+all-at : (p : List ℕ → Bool) (xs : List (List ℕ)) (n : ℕ) (x : List ℕ) → list_all p xs ≡ true → slice_get xs n ≡ Some x
+    → p x ≡ true
 all-at p [] n x all e = cc
 all-at p (y ∷ ys) zero x all e = let same : y ≡ x = cc in ap p (sym same) ∙ and-left (p y) (list_all p ys) all
 all-at p (y ∷ ys) (suc n) x all e = all-at p ys n x (and-right (p y) (list_all p ys) all) e
@@ -122,16 +133,18 @@ all-at p (y ∷ ys) (suc n) x all e = all-at p ys n x (and-right (p y) (list_all
 once : (x : List ℕ) (names more : List (List ℕ)) (n : ℕ) (name : List ℕ)
     → list_all (λ y. not (bytes_eq y x)) names ≡ true → list_all (λ y. not (bytes_eq y x)) more ≡ true
     → slice_get (names ++ x ∷ more) n ≡ Some name → bytes_eq name x ≡ (n == length names)
-once x [] more zero name before behind e =
+once x [] more zero name before following e =
     let same : x ≡ name = cc in ap (λ y. bytes_eq y x) (sym same) ∙ (bytes_eq-Decides x x).1 refl
-once x [] more (suc n) name before behind e =
-    not-true (bytes_eq name x) (all-at (λ y. not (bytes_eq y x)) more n name behind e) ∙ sym (ne_eqb (suc n) 0 (λ h. omega (arith, h)))
-once x (y ∷ ys) more zero name before behind e =
+once x [] more (suc n) name before following e =
+    not-true (bytes_eq name x) (all-at (λ y. not (bytes_eq y x)) more n name following e)
+        ∙ sym (ne_eqb (suc n) 0 (λ h. omega (arith, h)))
+once x (y ∷ ys) more zero name before following e =
     let same : y ≡ name = cc in
-    ap (λ z. bytes_eq z x) (sym same) ∙ not-true (bytes_eq y x) (and-left (not (bytes_eq y x)) (list_all (λ y. not (bytes_eq y x)) ys) before)
+    ap (λ z. bytes_eq z x) (sym same)
+        ∙ not-true (bytes_eq y x) (and-left (not (bytes_eq y x)) (list_all (λ y. not (bytes_eq y x)) ys) before)
     ∙ sym (ne_eqb 0 (suc (length ys)) (λ h. omega (arith, h)))
-once x (y ∷ ys) more (suc n) name before behind e =
-    once x ys more n name (and-right (not (bytes_eq y x)) (list_all (λ y. not (bytes_eq y x)) ys) before) behind e
+once x (y ∷ ys) more (suc n) name before following e =
+    once x ys more n name (and-right (not (bytes_eq y x)) (list_all (λ y. not (bytes_eq y x)) ys) before) following e
     ∙ sym (eqb-suc n (length ys))
 
 -- the classes of the program have classes' names
@@ -146,13 +159,15 @@ pub named-classes : (program : List ClassListing) → list_all is_well_named pro
 named-classes [] e = refl
 named-classes (c ∷ cs) e =
     let parts = and_parts (is_well_named c) (list_all is_well_named cs) e in
-    and_from (is_class_name c.name) (list_all (λ (c : ClassListing). is_class_name c.name) cs) (class-name c parts.0) (named-classes cs parts.1)
+    and_from (is_class_name c.name) (list_all (λ (c : ClassListing). is_class_name c.name) cs) (class-name c parts.0)
+        (named-classes cs parts.1)
 
 proper-names : (cs : List ClassListing) → AreClassNames cs → list_all is_proper (map name_of cs) ≡ true
 proper-names [] e = refl
 proper-names (c ∷ cs) e =
     let parts = and_parts (is_class_name c.name) (list_all (λ (c : ClassListing). is_class_name c.name) cs) e in
-    and_from (is_proper c.name) (list_all is_proper (map name_of cs)) (proper-name c.name parts.0) (proper-names cs parts.1)
+    and_from (is_proper c.name) (list_all is_proper (map name_of cs)) (proper-name c.name parts.0)
+        (proper-names cs parts.1)
 
 module _ (program : List ClassListing) (few : length program ≤ 256) (names : AreClassNames program)
     (hierarchy : IsHierarchy program) (hides : find has_builtin_name program ≡ None) where
@@ -168,7 +183,8 @@ module _ (program : List ClassListing) (few : length program ≤ 256) (names : A
   -- a class that is there has such a name
   pub proper-named : (name : List ℕ) (c : ClassListing) → class_named program name ≡ Some c → is_proper name ≡ true
   proper-named name c e =
-      let class = number-of program name c e in proper-at class.number name (number-names program name class.number class.is)
+      let class = number-of program name c e
+            in proper-at class.number name (number-names program name class.number class.is)
 
   pub class_unbracketed : (n : ℕ) → is_bracketed (class_name program n) ≡ false
   class_unbracketed n = by (slice_get (class_names program) n) refl
@@ -186,27 +202,32 @@ module _ (program : List ClassListing) (few : length program ≤ 256) (names : A
     where
       by : (o : Option ClassListing) → class_named program p ≡ o → is_bracketed p ≡ false
       by None e =
-          absurd (differ (any-has (λ name. is_none (class_named program name)) (parents_of c) p h (ap (λ (o : Option ClassListing). is_none o) e)) none)
+          absurd (differ (any-has (λ name. is_none (class_named program name)) (parents_of c) p h
+              (ap (λ (o : Option ClassListing). is_none o) e)) none)
       by (Some d) e = proper-unbracketed p (proper-named p d e)
 
   parents-plain : (name p : List ℕ) → HasName (parents_named program name) p → is_bracketed p ≡ false
   parents-plain name p h = by (listed program name) (builtin name) refl refl h
     where
-      by : (o k : Option ClassListing) → listed program name ≡ o → builtin name ≡ k → HasName (parents_in (or_else o k)) p → is_bracketed p ≡ false
+      by : (o k : Option ClassListing) → listed program name ≡ o → builtin name ≡ k
+          → HasName (parents_in (or_else o k)) p → is_bracketed p ≡ false
       by None None e f h = absurd h
       by None (Some c) e f h =
           not-true (is_bracketed p)
           (all-of (λ p. not (is_bracketed p)) (parents_of c) p
-          (all-found (λ (c : ClassListing). list_all (λ p. not (is_bracketed p)) (parents_of c)) (is_named name) builtin_classes c own-parents f) h)
+          (all-found (λ (c : ClassListing). list_all (λ p. not (is_bracketed p)) (parents_of c)) (is_named name)
+              builtin_classes c own-parents f) h)
       by (Some c) k e f h =
           parents-there c p (none-fails (has_missing_parent program) (is_named name) program c hierarchy.0 e) h
 
-  plain-above : {name above : List ℕ} → Subclass program name above → is_bracketed name ≡ false → is_bracketed above ≡ false
+  plain-above : {name above : List ℕ} → Subclass program name above → is_bracketed name ≡ false → is_bracketed above
+      ≡ false
   plain-above same plain = plain
   plain-above (parent {name = name} {above = above} h) plain = parents-plain name above h
   plain-above (through middle p q) plain = plain-above q (plain-above p plain)
 
-  no-array-above : (name above : List ℕ) → is_bracketed name ≡ false → is_bracketed above ≡ true → is_subclass program name above ≡ false
+  no-array-above : (name above : List ℕ) → is_bracketed name ≡ false → is_bracketed above ≡ true
+      → is_subclass program name above ≡ false
   no-array-above name above plain array =
       false_from_ne_true (is_subclass program name above)
       (λ e. differ array (plain-above (is_within-Subclass (length program + 23) program name above e) plain))
@@ -222,7 +243,8 @@ module _ (program : List ClassListing) (few : length program ≤ 256) (names : A
   alone : {name above : List ℕ} → Subclass program name above → name ≡ [] → above ≡ []
   alone same e = e
   alone (parent {name = name} {above = above} h) e =
-      absurd (subst (λ (o : Option ClassListing). HasName (parents_in o) above) (ap (class_named program) e ∙ nobody-named) h)
+      absurd (subst (λ (o : Option ClassListing). HasName (parents_in o) above) (ap (class_named program) e
+          ∙ nobody-named) h)
   alone (through middle p q) e = alone q (alone p e)
 
   nothing-above : (above : List ℕ) → is_proper above ≡ true → is_subclass program [] above ≡ false
@@ -236,7 +258,8 @@ module _ (program : List ClassListing) (few : length program ≤ 256) (names : A
   -- ---- a type that is no array
 
   subtype-on : (n : ℕ) (name above : List ℕ) → is_subtype_within (suc n) program name above
-      ≡ types_compare (is_subclass program name above) (bytes_eq above object) (λ n' m. is_subtype_within n program n' m) (element_of name) (element_of above)
+      ≡ types_compare (is_subclass program name above) (bytes_eq above object)
+          (λ n' m. is_subtype_within n program n' m) (element_of name) (element_of above)
   unfolding is_subtype_within
   subtype-on n name above = refl
 
@@ -245,9 +268,11 @@ module _ (program : List ClassListing) (few : length program ≤ 256) (names : A
   plain-subtype zero name above plain some = absurd (omega (arith, some))
   plain-subtype (suc n) name above plain some =
       subtype-on n name above
-      ∙ ap (λ o. types_compare (is_subclass program name above) (bytes_eq above object) (λ n' m. is_subtype_within n program n' m) o (element_of above)) (no_array name plain)
+      ∙ ap (λ o. types_compare (is_subclass program name above) (bytes_eq above object)
+          (λ n' m. is_subtype_within n program n' m) o (element_of above)) (no_array name plain)
 
-  pub plain-is : (name above : List ℕ) → is_bracketed name ≡ false → is_subtype program name above ≡ is_subclass program name above
+  pub plain-is : (name above : List ℕ) → is_bracketed name ≡ false → is_subtype program name above
+      ≡ is_subclass program name above
   plain-is name above plain = plain-subtype (length name + 1) name above plain (omega arith)
 
   -- ---- classes by their numbers
@@ -264,7 +289,8 @@ module _ (program : List ClassListing) (few : length program ≤ 256) (names : A
     where
       by : (o : Option ClassListing) → slice_get (all_classes program) n ≡ o → IsListed n
       by None e =
-          let none : slice_get (class_names program) n ≡ None = name-at program n ∙ ap (option_map (λ (c : ClassListing). c.name)) e in
+          let none : slice_get (class_names program) n ≡ None = name-at program n
+                ∙ ap (option_map (λ (c : ClassListing). c.name)) e in
           absurd (gone none)
         where
           gone : slice_get (class_names program) n ≡ None → ⊥
@@ -275,7 +301,8 @@ module _ (program : List ClassListing) (few : length program ≤ 256) (names : A
               past (x ∷ xs) zero inside none = cc
               past (x ∷ xs) (suc k) inside none = past xs k (omega (arith, inside)) none
       by (Some c) e =
-          let name : slice_get (class_names program) n ≡ Some c.name = name-at program n ∙ ap (option_map (λ (c : ClassListing). c.name)) e in
+          let name : slice_get (class_names program) n ≡ Some c.name = name-at program n
+                ∙ ap (option_map (λ (c : ClassListing). c.name)) e in
           let is : class_name program n ≡ c.name = ap name_or_none name in
           record {
             class = c;
@@ -297,7 +324,8 @@ module _ (program : List ClassListing) (few : length program ≤ 256) (names : A
   letter-past : (n : ℕ) → is_letter n ≡ true → length program + 23 ≤ n
   letter-past n high = omega (arith, few, leb-true 32768 n high)
 
-  pub object-is : (n : ℕ) → is_letter n ≡ false → is_element program n ≡ true → bytes_eq (class_name program n) object ≡ (n == object_class program)
+  pub object-is : (n : ℕ) → is_letter n ≡ false → is_element program n ≡ true → bytes_eq (class_name program n) object
+      ≡ (n == object_class program)
   object-is n low there =
       let class = element-listed n low there in
       once object (map name_of program) (drop 1 (map name_of builtin_classes)) n (class_name program n)
@@ -338,49 +366,60 @@ module _ (program : List ClassListing) (few : length program ≤ 256) (names : A
   word-holds (suc n) e there = refl
   word-holds zero e there = by (is_letter e) refl
     where
-      by : (b : Bool) → is_letter e ≡ b → described (if is_letter e then (e % 256) ∷ [] else 76 ∷ class_name program e ++ 59 ∷ []) ≡ Some (held_last (is_letter e) e)
+      by : (b : Bool) → is_letter e ≡ b → described (if is_letter e then (e % 256) ∷ [] else 76 ∷ class_name program e
+          ++ 59 ∷ []) ≡ Some (held_last (is_letter e) e)
       by true high =
-          numbered_letters (λ e. described (if is_letter e then (e % 256) ∷ [] else 76 ∷ class_name program e ++ 59 ∷ []) ≡ Some (held_last (is_letter e) e))
+          numbered_letters (λ e. described (if is_letter e then (e % 256) ∷ [] else 76 ∷ class_name program e
+              ++ 59 ∷ []) ≡ Some (held_last (is_letter e) e))
           refl refl refl refl refl e high there
       by false low =
-          ap (λ b. described (if b then (e % 256) ∷ [] else 76 ∷ class_name program e ++ 59 ∷ [])) low ∙ between program few (class_name program e)
+          ap (λ b. described (if b then (e % 256) ∷ [] else 76 ∷ class_name program e ++ 59 ∷ [])) low
+              ∙ between program few (class_name program e)
           ∙ ap (λ b. Some (held_last b e)) (sym low)
 
   -- ---- an array below a class
 
   abbrev compared : ℕ → List ℕ → List ℕ → Option Element → Option Element → Bool
-  compared n name above = types_compare (is_subclass program name above) (bytes_eq above object) (λ x y. is_subtype_within n program x y)
+  compared n name above = types_compare (is_subclass program name above) (bytes_eq above object)
+      (λ x y. is_subtype_within n program x y)
 
   array-on : (n d e : ℕ) (above : List ℕ) → is_element program e ≡ true
-      → is_subtype_within (suc n) program (array d e) above ≡ compared n (array d e) above (Some (held_in d e)) (element_of above)
+      → is_subtype_within (suc n) program (array d e) above ≡ compared n (array d e) above (Some (held_in d e))
+          (element_of above)
   array-on n d e above there =
-      subtype-on n (array d e) above ∙ ap (λ o. compared n (array d e) above o (element_of above)) (word-holds d e there)
+      subtype-on n (array d e) above ∙ ap (λ o. compared n (array d e) above o (element_of above))
+          (word-holds d e there)
 
   below-class : (n d e c : ℕ) → is_element program e ≡ true → is_letter c ≡ false → is_element program c ≡ true → 1 ≤ n
       → is_subtype_within n program (array d e) (class_name program c) ≡ (c == object_class program)
   below-class zero d e c there low class some = absurd (omega (arith, some))
   below-class (suc n) d e c there low class some =
       array-on n d e (class_name program c) there
-      ∙ ap (compared n (array d e) (class_name program c) (Some (held_in d e))) (no_array (class_name program c) (class_unbracketed c))
+      ∙ ap (compared n (array d e) (class_name program c) (Some (held_in d e)))
+          (no_array (class_name program c) (class_unbracketed c))
       ∙ object-is c low class
 
   -- ---- what arrays hold at last, compared
 
   past-above : (n above : ℕ) → length program + 23 ≤ above → is_subtype_in (class_tables program) n above ≡ false
   past-above n above past =
-      ap (is_below above) (slice_get-map (class_facts program) (all_classes program) n) ∙ by (slice_get (all_classes program) n)
+      ap (is_below above) (slice_get-map (class_facts program) (all_classes program) n)
+          ∙ by (slice_get (all_classes program) n)
     where
-      none-at : (f : List ℕ → Bool) (xs : List (List ℕ)) (k : ℕ) → length xs ≤ k → slice_index_or (map f xs) k false ≡ false
+      none-at : (f : List ℕ → Bool) (xs : List (List ℕ)) (k : ℕ) → length xs ≤ k → slice_index_or (map f xs) k false
+          ≡ false
       none-at f [] k past = refl
       none-at f (x ∷ xs) zero past = absurd (omega (arith, past))
       none-at f (x ∷ xs) (suc k) past = none-at f xs k (omega (arith, past))
 
       by : (o : Option ClassListing) → is_below above (option_map (class_facts program) o) ≡ false
       by None = refl
-      by (Some c) = none-at (is_subtype program c.name) (class_names program) above (subst (λ (m : ℕ). m ≤ above) (sym (names_count program)) past)
+      by (Some c) = none-at (is_subtype program c.name) (class_names program) above
+          (subst (λ (m : ℕ). m ≤ above) (sym (names_count program)) past)
 
   abbrev last_compared : ℕ → ℕ → ℕ → Bool
-  last_compared n e c = compared n (array 0 e) (array 0 c) (Some (held_last (is_letter e) e)) (Some (held_last (is_letter c) c))
+  last_compared n e c = compared n (array 0 e) (array 0 c) (Some (held_last (is_letter e) e))
+      (Some (held_last (is_letter c) c))
 
   last-is : (n e c : ℕ) → is_element program e ≡ true → is_element program c ≡ true → 1 ≤ n
       → last_compared n e c ≡ is_element_below program e c
@@ -428,17 +467,20 @@ module _ (program : List ClassListing) (few : length program ≤ 256) (names : A
 
   fewer : (d e above c : ℕ) → above ≤ d → is_below_by d e above c ≡ (c == object_class program)
   fewer d e above c le =
-      ap (λ b. if b then c == object_class program else (above == d + 1 && is_element_below program e c)) (le-leb above d le)
+      ap (λ b. if b then c == object_class program else (above == d + 1 && is_element_below program e c))
+          (le-leb above d le)
 
   more : (d e above c : ℕ) → d + 1 < above → is_below_by d e above c ≡ false
   more d e above c less =
-      ap (λ b. if b then c == object_class program else (above == d + 1 && is_element_below program e c)) (lt-leb above d (omega (arith, less)))
+      ap (λ b. if b then c == object_class program else (above == d + 1 && is_element_below program e c))
+          (lt-leb above d (omega (arith, less)))
       ∙ ap (λ b. b && is_element_below program e c) (ne_eqb above (d + 1) (λ same. omega (arith, less, same)))
 
   shift : (d e above c : ℕ) → is_below_by d e above c ≡ is_below_by (suc d) e (suc above) c
   shift d e above c =
       let one : suc d + 1 ≡ suc (d + 1) = omega arith in
-      ap (λ b. if b then c == object_class program else (above == d + 1 && is_element_below program e c)) (sym (leb-suc above d))
+      ap (λ b. if b then c == object_class program else (above == d + 1 && is_element_below program e c))
+          (sym (leb-suc above d))
       ∙ ap (λ b. if nat_le (suc above) (suc d) then c == object_class program else (b && is_element_below program e c))
       (sym (eqb-suc above (d + 1)) ∙ ap (λ k. suc above == k) (sym one))
 
@@ -454,35 +496,44 @@ module _ (program : List ClassListing) (few : length program ≤ 256) (names : A
       ∙ by d above (omega (arith, steps)) (λ d above steps. array-below d n e above c steps there other)
     where
       Smaller : Type 0
-      Smaller = (d above : ℕ) → d + 2 ≤ n → is_subtype_within n program (array d e) (array above c) ≡ is_below_by d e (suc above) c
+      Smaller = (d above : ℕ) → d + 2 ≤ n → is_subtype_within n program (array d e) (array above c)
+          ≡ is_below_by d e (suc above) c
 
       by : (d above : ℕ) → d + 1 ≤ n → Smaller
-          → compared n (array d e) (array above c) (Some (held_in d e)) (Some (held_in above c)) ≡ is_below_by d e (suc above) c
+          → compared n (array d e) (array above c) (Some (held_in d e)) (Some (held_in above c))
+              ≡ is_below_by d e (suc above) c
       by zero zero steps rest = last-is n e c there other (omega (arith, steps))
       by zero (suc above) steps rest = last (is_letter e) refl ∙ sym (more 0 e (suc (suc above)) c (omega arith))
         where
           last : (b : Bool) → is_letter e ≡ b
-              → compared n (array 0 e) (array (suc above) c) (Some (held_last (is_letter e) e)) (Some (Reference (array above c))) ≡ false
-          last true high = ap (λ b. compared n (array 0 e) (array (suc above) c) (Some (held_last b e)) (Some (Reference (array above c)))) high
+              → compared n (array 0 e) (array (suc above) c) (Some (held_last (is_letter e) e))
+                  (Some (Reference (array above c))) ≡ false
+          last true high = ap (λ b. compared n (array 0 e) (array (suc above) c) (Some (held_last b e))
+              (Some (Reference (array above c)))) high
           last false low =
-              ap (λ b. compared n (array 0 e) (array (suc above) c) (Some (held_last b e)) (Some (Reference (array above c)))) low
+              ap (λ b. compared n (array 0 e) (array (suc above) c) (Some (held_last b e))
+                  (Some (Reference (array above c)))) low
               ∙ plain-subtype n (class_name program e) (array above c) (class_unbracketed e) (omega (arith, steps))
               ∙ no-array-above (class_name program e) (array above c) (class_unbracketed e) refl
       by (suc d) zero steps rest = last (is_letter c) refl ∙ sym (fewer (suc d) e 1 c (omega arith))
         where
           last : (b : Bool) → is_letter c ≡ b
-              → compared n (array (suc d) e) (array 0 c) (Some (Reference (array d e))) (Some (held_last (is_letter c) c)) ≡ (c == object_class program)
+              → compared n (array (suc d) e) (array 0 c) (Some (Reference (array d e)))
+                  (Some (held_last (is_letter c) c)) ≡ (c == object_class program)
           last true high =
-              ap (λ b. compared n (array (suc d) e) (array 0 c) (Some (Reference (array d e))) (Some (held_last b c))) high ∙ sym (not_object c high)
+              ap (λ b. compared n (array (suc d) e) (array 0 c) (Some (Reference (array d e))) (Some (held_last b c)))
+                  high ∙ sym (not_object c high)
           last false low =
-              ap (λ b. compared n (array (suc d) e) (array 0 c) (Some (Reference (array d e))) (Some (held_last b c))) low
+              ap (λ b. compared n (array (suc d) e) (array 0 c) (Some (Reference (array d e))) (Some (held_last b c)))
+                  low
               ∙ below-class n d e c there low other (omega (arith, steps))
       by (suc d) (suc above) steps rest = rest d above (omega (arith, steps)) ∙ shift d e (suc above) c
 
   -- ---- what an object is of
 
   -- the class of what isn't there is empty
-  pub nobody-below : (name : List ℕ) (type : TypeNumber) → (IsClass program few name type) ⊎ (IsArray program few name type)
+  pub nobody-below : (name : List ℕ) (type : TypeNumber)
+      → (IsClass program few name type) ⊎ (IsArray program few name type)
       → is_subtype program [] name ≡ false
   nobody-below name type (inl c) =
       plain-is [] name refl ∙ nothing-above name (proper-at type.element name c.named)
@@ -501,11 +552,14 @@ module _ (program : List ClassListing) (few : length program ≤ 256) (names : A
       by : (o : Option ClassListing) → slice_get (all_classes program) k ≡ o
           → is_subtype program (class_name program k) name ≡ is_subtype_in (class_tables program) k type.element
       by None e =
-          let none : class_name program k ≡ [] = ap name_or_none (name-at program k ∙ ap (option_map (λ (c : ClassListing). c.name)) e) in
+          let none : class_name program k
+                ≡ [] = ap name_or_none (name-at program k ∙ ap (option_map (λ (c : ClassListing). c.name)) e) in
           ap (λ x. is_subtype program x name) none ∙ nobody-below name type (inl c)
-          ∙ sym (ap (is_below type.element) (slice_get-map (class_facts program) (all_classes program) k ∙ ap (option_map (class_facts program)) e))
+          ∙ sym (ap (is_below type.element) (slice_get-map (class_facts program) (all_classes program) k
+              ∙ ap (option_map (class_facts program)) e))
       by (Some d) e =
-          let is : class_name program k ≡ d.name = ap name_or_none (name-at program k ∙ ap (option_map (λ (c : ClassListing). c.name)) e) in
+          let is : class_name program k ≡ d.name = ap name_or_none (name-at program k
+                ∙ ap (option_map (λ (c : ClassListing). c.name)) e) in
           ap (λ x. is_subtype program x name) is ∙ sym (subtype-names program k type.element d name e c.named)
   instance-below k name type (inr a) =
       plain-is (class_name program k) name (class_unbracketed k)
@@ -527,7 +581,8 @@ module _ (program : List ClassListing) (few : length program ≤ 256) (names : A
   array-kind type name above there other (inl c) =
       let is : class_name program above.element ≡ name = ap name_or_none c.named in
       ap (λ x. is_subtype program (array type.dimensions type.element) x) (sym is)
-      ∙ below-class (length (array type.dimensions type.element) + 1) type.dimensions type.element above.element there c.low other (omega arith)
+      ∙ below-class (length (array type.dimensions type.element) + 1) type.dimensions type.element above.element there
+          c.low other (omega arith)
       ∙ sym (fewer type.dimensions type.element above.dimensions above.element (omega (arith, c.plain)))
   array-kind type name above there other (inr a) =
       ap (λ x. is_subtype program (array type.dimensions type.element) x) a.named

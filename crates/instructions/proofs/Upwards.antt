@@ -1,5 +1,6 @@
 -- Going from a class to its superclasses ends in a hierarchy, so that what is above one of them is the end of the way.
-use Rattle.std.proofs.Common.{◌≡◌, ◌⊎◌, inl, inr, ℕ, zero, suc, ◌+◌, ◌<◌, ◌≤◌, List, [], ◌∷◌, ◌++◌, Bool, true, false, ◌||◌, length, Option, Some, None, is_none, is_some, refl, sym, ap, subst, arith, ◌∙◌}
+use Rattle.std.proofs.Common.{◌≡◌, ◌⊎◌, inl, inr, ℕ, zero, suc, ◌+◌, ◌<◌, ◌≤◌, List, [], ◌∷◌, ◌++◌, Bool, true, false}
+use Rattle.std.proofs.Common.{◌||◌, length, Option, Some, None, is_none, is_some, refl, sym, ap, subst, arith, ◌∙◌}
 use Rattle.std.specs.Prelude.{codes}
 use Rattle.std.specs.List.{find, list_all, list_any}
 use Rattle.model.specs.ClassListings.{ClassListing}
@@ -7,7 +8,8 @@ use Rattle.model.specs.Accepted.BuiltinNames.{has_builtin_name}
 use Rattle.model.specs.Accepted.Cycles.{is_on_cycle}
 use Rattle.model.specs.Accepted.Superclasses.{has_missing_parent}
 use Rattle.model.specs.Classes.Builtin.{builtin_classes}
-use Rattle.model.specs.Classes.Named.{builtin, class_named, is_named, listed, or_else, parents_in, parents_named, parents_of}
+use Rattle.model.specs.Classes.Named.{builtin, class_named, is_named, listed, or_else, parents_in, parents_named}
+use Rattle.model.specs.Classes.Named.{parents_of}
 use Rattle.model.specs.Classes.Search.{superclasses, upwards, with_superclasses}
 use Rattle.model.specs.Classes.Subclass.{HasName, Subclass}
 use Rattle.model.specs.Classes.Subclass.Subclass.{same, parent, through}
@@ -89,24 +91,24 @@ module _ (program : List ClassListing) where
 
   -- ---- what is above a class of the way is the way's end
 
-  pub record IsBehind (names ending : List (List ℕ)) : Type 0 where
+  pub record IsAfter (names ending : List (List ℕ)) : Type 0 where
     pub before : List (List ℕ)
     pub joined : names ≡ before ++ ending
 
-  behind : (n total : ℕ) (name above : List ℕ) → ends n program name ≡ true → n ≤ total
+  following : (n total : ℕ) (name above : List ℕ) → ends n program name ≡ true → n ≤ total
       → HasName (upwards n program name) above
-      → IsBehind (upwards n program name) (upwards total program above)
-  behind zero total name above h le there = absurd (subst (λ names. HasName names above) (none_first name) there)
-  behind (suc n) total name above h le there =
-      subst (λ names. IsBehind names (upwards total program above)) (sym (next n name))
+      → IsAfter (upwards n program name) (upwards total program above)
+  following zero total name above h le there = absurd (subst (λ names. HasName names above) (none_first name) there)
+  following (suc n) total name above h le there =
+      subst (λ names. IsAfter names (upwards total program above)) (sym (next n name))
       (by (class_named program name) refl h (subst (λ names. HasName names above) (next n name) there)
-      (λ superclass e later. behind n total superclass above e (omega (arith, le)) later))
+      (λ superclass e later. following n total superclass above e (omega (arith, le)) later))
     where
       by : (c : Option ClassListing) → class_named program name ≡ c → ends_on (ends n program) c ≡ true
           → HasName (with_superclasses name (λ superclass. upwards n program superclass) c) above
           → ((superclass : List ℕ) → ends n program superclass ≡ true → HasName (upwards n program superclass) above
-          → IsBehind (upwards n program superclass) (upwards total program above))
-          → IsBehind (with_superclasses name (λ superclass. upwards n program superclass) c)
+          → IsAfter (upwards n program superclass) (upwards total program above))
+          → IsAfter (with_superclasses name (λ superclass. upwards n program superclass) c)
           (upwards total program above)
       by None is e k further = absurd k
       by (Some c) is e (inl here) further = record {
@@ -315,11 +317,11 @@ module _ (program : List ClassListing) (hierarchy : IsHierarchy program)
       ends-ranked (length program) name (count-all (λ (c : ClassListing). is_subclass program name c.name) program)
 
   -- what is above a class that is above another is the end of what is above the other
-  pub superclasses-behind : (name above : List ℕ) → HasName (superclasses program name) above
-      → IsBehind program (superclasses program name) (superclasses program above)
-  superclasses-behind name above there =
+  pub superclasses-following : (name above : List ℕ) → HasName (superclasses program name) above
+      → IsAfter program (superclasses program name) (superclasses program above)
+  superclasses-following name above there =
       let same : superclasses program name ≡ upwards (length program + 8) program name =
       stable program (length program + 8) (length program + 23) name (ends-all name) (omega arith) in
-      subst (λ names. IsBehind program names (superclasses program above)) (sym same)
-      (behind program (length program + 8) (length program + 23) name above (ends-all name) (omega arith)
+      subst (λ names. IsAfter program names (superclasses program above)) (sym same)
+      (following program (length program + 8) (length program + 23) name above (ends-all name) (omega arith)
       (subst (λ names. HasName names above) same there))

@@ -1,5 +1,6 @@
 -- The class that an operation uses is the one that its instruction uses.
-use Rattle.std.proofs.Common.{◌≡◌, ℕ, suc, ℤ, List, [], ◌∷◌, Bool, true, false, ◌&&◌, cond, is_some, position, slice_get, Option, Some, None, refl, sym, ap, subst, ◌∙◌}
+use Rattle.std.proofs.Common.{◌≡◌, ℕ, suc, ℤ, List, [], ◌∷◌, Bool, true, false, ◌&&◌, cond, is_some, position}
+use Rattle.std.proofs.Common.{slice_get, Option, Some, None, refl, sym, ap, subst, ◌∙◌}
 use Rattle.std.specs.Prelude.{codes, if◌then◌else◌}
 use Rattle.std.specs.List.{find}
 use Rattle.std.specs.Option.{option_and_then, option_map, option_zip}
@@ -7,21 +8,29 @@ use Rattle.std.specs.Str.{bytes_eq}
 use Rattle.std.proofs.lemmas.Option.{slice_get-map}
 use Rattle.std.proofs.lemmas.Slice.Eq.{bytes_eq-Decides}
 use Rattle.model.specs.declared.builtins.Builtin.{Builtin}
-use Rattle.model.specs.declared.builtins.Builtin.TheVariants.{PrintInt, PrintLong, PutByte, Initialize, RunThread, StartThread, JoinThread}
+use Rattle.model.specs.declared.builtins.Builtin.TheVariants.{PrintInt, PrintLong, PutByte, Initialize, RunThread}
+use Rattle.model.specs.declared.builtins.Builtin.TheVariants.{StartThread, JoinThread}
 use Rattle.model.specs.declared.instructions.Access.{Access}
 use Rattle.model.specs.declared.instructions.Access.TheVariants.{Get, Put}
 use Rattle.model.specs.declared.instructions.ArrayOperation.{ArrayOperation}
-use Rattle.model.specs.declared.instructions.ArrayOperation.TheVariants.{New as NewArrayOf, NewOf, Length, Load as LoadElement, Store as StoreElement}
+use Rattle.model.specs.declared.instructions.ArrayOperation.TheVariants.{New as NewArrayOf, NewOf, Length}
+use Rattle.model.specs.declared.instructions.ArrayOperation.TheVariants.{Load as LoadElement, Store as StoreElement}
 use Rattle.model.specs.declared.instructions.ClassOperation.TheVariants.{New as NewObject, CheckCast, InstanceOf}
 use Rattle.model.specs.declared.instructions.Comparison.{Comparison}
-use Rattle.model.specs.declared.instructions.Comparison.TheVariants.{Equal, NotEqual, Less, GreaterOrEqual, Greater, LessOrEqual}
+use Rattle.model.specs.declared.instructions.Comparison.TheVariants.{Equal, NotEqual, Less, GreaterOrEqual, Greater}
+use Rattle.model.specs.declared.instructions.Comparison.TheVariants.{LessOrEqual}
 use Rattle.model.specs.declared.instructions.Constant.{Constant as ConstantOf}
 use Rattle.model.specs.declared.instructions.Constant.TheVariants.{Null, SmallInt, SmallLong, Byte, Short, Int, Long}
 use Rattle.model.specs.declared.instructions.Conversion.{Conversion}
-use Rattle.model.specs.declared.instructions.Conversion.TheVariants.{IntToLong, LongToInt, IntToByte, IntToChar, IntToShort}
+use Rattle.model.specs.declared.instructions.Conversion.TheVariants.{IntToLong, LongToInt, IntToByte, IntToChar}
+use Rattle.model.specs.declared.instructions.Conversion.TheVariants.{IntToShort}
 use Rattle.model.specs.declared.instructions.ElementKind.TheVariants as element
 use Rattle.model.specs.declared.instructions.Identity.TheVariants.{Same, Different}
-use Rattle.model.specs.declared.instructions.Instruction.TheVariants.{Nop, Constant, Local, Stack, Number, Branch, TableSwitch, LookupSwitch, Return, Static as StaticField, Field as FieldOf, Array as ArrayOf, Class as ClassOf, Invoke, Throw, Monitor}
+use Rattle.model.specs.declared.instructions.Instruction.TheVariants.{Nop, Constant, Local, Stack, Number, Branch}
+use Rattle.model.specs.declared.instructions.Instruction.TheVariants.{TableSwitch, LookupSwitch, Return}
+use Rattle.model.specs.declared.instructions.Instruction.TheVariants.{Static as StaticField, Field as FieldOf}
+use Rattle.model.specs.declared.instructions.Instruction.TheVariants.{Array as ArrayOf, Class as ClassOf, Invoke, Throw}
+use Rattle.model.specs.declared.instructions.Instruction.TheVariants.{Monitor}
 use Rattle.model.specs.declared.instructions.Invocation.TheVariants.{Virtual, Special, Static, Interface}
 use Rattle.model.specs.declared.instructions.LocalAccess.{LocalAccess}
 use Rattle.model.specs.declared.instructions.LocalAccess.TheVariants.{Load, Store, Increment}
@@ -30,9 +39,11 @@ use Rattle.model.specs.declared.instructions.NumberKind.TheVariants as number
 use Rattle.model.specs.declared.instructions.NumberOperation.{NumberOperation}
 use Rattle.model.specs.declared.instructions.NumberOperation.TheVariants.{Binary, Negate, Convert, CompareLongs}
 use Rattle.model.specs.declared.instructions.Operator.{Operator}
-use Rattle.model.specs.declared.instructions.Operator.TheVariants.{Add, Sub, Mul, Div, Rem, Shl, Shr, Ushr, And, Or, Xor}
+use Rattle.model.specs.declared.instructions.Operator.TheVariants.{Add, Sub, Mul, Div, Rem, Shl, Shr, Ushr, And, Or}
+use Rattle.model.specs.declared.instructions.Operator.TheVariants.{Xor}
 use Rattle.model.specs.declared.instructions.StackOperation.{StackOperation}
-use Rattle.model.specs.declared.instructions.StackOperation.TheVariants.{Pop, Pop2, Dup, DupX1, DupX2, Dup2, Dup2X1, Dup2X2, Swap}
+use Rattle.model.specs.declared.instructions.StackOperation.TheVariants.{Pop, Pop2, Dup, DupX1, DupX2, Dup2, Dup2X1}
+use Rattle.model.specs.declared.instructions.StackOperation.TheVariants.{Dup2X2, Swap}
 use Rattle.model.specs.declared.instructions.Test.{Test}
 use Rattle.model.specs.declared.instructions.Test.TheVariants.{Always, Zero, Ints, Refs, Null as NullTest}
 use Rattle.model.specs.declared.listings.Field.{Field}
@@ -62,8 +73,13 @@ use Rattle.loader.specs.declared.operations.Operation.TheVariants.{Aside, Lconst
 use Rattle.loader.specs.declared.operations.TypeNumber.{TypeNumber}
 use Rattle.loader.specs.ClassNumbers.{class_place}
 use Rattle.loader.specs.Operations.{operation_of}
-use Rattle.loader.specs.PlainOperations.{branch_operation, constant_operation, conversion_operation, int_operation, ints_branch, is_32_bits, local_operation, long_operation, number_operation, return_operation, stack_operation, zero_branch}
-use Rattle.loader.specs.ResolvedOperations.{accesses_slot, accesses_word, array_operation, calls_none, calls_own, calls_selected, calls_special, calls_static, casts, makes_array, makes_object, method_named, method_number, method_place, selector_named, slot_number, special_call, static_call, tests_type, type_of, word_named}
+use Rattle.loader.specs.PlainOperations.{branch_operation, constant_operation, conversion_operation, int_operation}
+use Rattle.loader.specs.PlainOperations.{ints_branch, is_32_bits, local_operation, long_operation, number_operation}
+use Rattle.loader.specs.PlainOperations.{return_operation, stack_operation, zero_branch}
+use Rattle.loader.specs.ResolvedOperations.{accesses_slot, accesses_word, array_operation, calls_none, calls_own}
+use Rattle.loader.specs.ResolvedOperations.{calls_selected, calls_special, calls_static, casts, makes_array}
+use Rattle.loader.specs.ResolvedOperations.{makes_object, method_named, method_number, method_place, selector_named}
+use Rattle.loader.specs.ResolvedOperations.{slot_number, special_call, static_call, tests_type, type_of, word_named}
 use Rattle.loader.specs.StaticSlots.{slot_of, static_slots}
 use Rattle.instructions.specs.InitialisingByNumbers.{class_used_by, slot_class}
 use Rattle.instructions.proofs.ChainLemmas.{AreSame}
@@ -220,7 +236,8 @@ module _ (program : List ClassListing) where
   virtual-none None = refl
   virtual-none (Some n) = refl
 
-  special-none : (m : Member) (selected resolved : Option (Declared Method)) → UsesNone (special_call program m selected resolved)
+  special-none : (m : Member) (selected resolved : Option (Declared Method))
+      → UsesNone (special_call program m selected resolved)
   special-none m (Some d) resolved = by (method_named program m d) where
     by : (o : Option (ℕ × (ℕ × ℕ))) → UsesNone (calls_special o)
     by None = refl
@@ -403,7 +420,8 @@ module _ (program : List ClassListing) (hides : find has_builtin_name program �
           ∙ ap (option_map (slot_of program)) first.there)
           ∙ ap (λ name. Some (class_place program name)) (class-same d first.item first.passes)
           ∙ ap (λ n. Some n) (first_at (bytes_eq d.class) (class_names program) class.number class.is).place_is in
-          subst (λ slot. AreSame program (Some d.class) (class_used_by program (accesses_slot access slot))) (sym slot.is)
+          subst (λ slot. AreSame program (Some d.class) (class_used_by program (accesses_slot access slot)))
+              (sym slot.is)
           (subst (AreSame program (Some d.class)) (sym (by_access access slot.place ∙ listed)) class.is)
         where
           by_access : (access : Access) (n : ℕ)
@@ -456,7 +474,8 @@ module _ (program : List ClassListing) (hides : find has_builtin_name program �
   pub used-same : (superclass : List ℕ) (i : Listed) → resolves program i ≡ true
       → AreSame program (class_used program i) (class_used_by program (operation_of program superclass i))
   used-same superclass Nop there = tt
-  used-same superclass (Constant c) there = no-class (class_used_by program (constant_operation c)) (constant-none program c)
+  used-same superclass (Constant c) there = no-class (class_used_by program (constant_operation c))
+      (constant-none program c)
   used-same superclass (Local a) there = no-class (class_used_by program (local_operation a)) (local-none program a)
   used-same superclass (Stack o) there = no-class (class_used_by program (stack_operation o)) (stack-none program o)
   used-same superclass (Number o) there = no-class (class_used_by program (number_operation o)) (number-none program o)
@@ -469,20 +488,24 @@ module _ (program : List ClassListing) (hides : find has_builtin_name program �
   used-same superclass (FieldOf access m) there =
       no-class (class_used_by program (accesses_word access (word_named program m)))
       (field-none program access (word_named program m))
-  used-same superclass (ArrayOf o) there = no-class (class_used_by program (array_operation program o)) (array-none program o)
+  used-same superclass (ArrayOf o) there = no-class (class_used_by program (array_operation program o))
+      (array-none program o)
   used-same superclass (ClassOf NewObject name) there = new-same name there
   used-same superclass (ClassOf CheckCast name) there =
       no-class (class_used_by program (casts (type_of program name))) (casts-none program (type_of program name))
   used-same superclass (ClassOf InstanceOf name) there =
       no-class (class_used_by program (tests_type (type_of program name))) (tests-none program (type_of program name))
   used-same superclass (Invoke Virtual m) there =
-      no-class (class_used_by program (calls_selected (selector_named program m))) (virtual-none program (selector_named program m))
+      no-class (class_used_by program (calls_selected (selector_named program m)))
+          (virtual-none program (selector_named program m))
   used-same superclass (Invoke Special m) there =
-      no-class (class_used_by program (special_call program m (special_method program superclass m) (resolved_method program m)))
+      no-class (class_used_by program (special_call program m (special_method program superclass m)
+          (resolved_method program m)))
       (special-none program m (special_method program superclass m) (resolved_method program m))
   used-same superclass (Invoke Static m) there = call-same m
   used-same superclass (Invoke (Interface count) m) there =
-      no-class (class_used_by program (calls_selected (selector_named program m))) (virtual-none program (selector_named program m))
+      no-class (class_used_by program (calls_selected (selector_named program m)))
+          (virtual-none program (selector_named program m))
   used-same superclass Throw there = tt
   used-same superclass (Monitor Enter) there = tt
   used-same superclass (Monitor Exit) there = tt

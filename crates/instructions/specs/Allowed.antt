@@ -8,4 +8,5 @@ pub record IsAllowed (s : Loaded) (t : ℕ) : Type 0 where
   pub faultless : s.machine.world.fault ≡ None
   pub counted : s.machine.world.rows < s.limits.steps
   pub live : is_live s.machine.world t ≡ true
-  pub fits : IfSome (print_of s.program s.machine.world t) (λ line. length s.machine.world.output + length line ≤ s.limits.output)
+  pub fits : IfSome (print_of s.program s.machine.world t) (λ line. length s.machine.world.output + length
+      line ≤ s.limits.output)

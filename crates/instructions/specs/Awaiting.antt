@@ -1,7 +1,8 @@
 use Rattle.std.specs.Prelude.{ℕ, List, slice_get, Bool, false, not, Option, Some, None, Result, Ok, Err, if◌then◌else◌}
 use Rattle.std.specs.Option.{option_map}
 use Rattle.model.specs.declared.builtins.Builtin.{Builtin}
-use Rattle.model.specs.declared.builtins.Builtin.TheVariants.{PrintInt, PrintLong, PutByte, Initialize, RunThread, StartThread, JoinThread}
+use Rattle.model.specs.declared.builtins.Builtin.TheVariants.{PrintInt, PrintLong, PutByte, Initialize, RunThread}
+use Rattle.model.specs.declared.builtins.Builtin.TheVariants.{StartThread, JoinThread}
 use Rattle.model.specs.declared.places.MethodPlace.{MethodPlace}
 use Rattle.model.specs.declared.turns.Fault.{Fault}
 use Rattle.model.specs.ClassListings.{ClassListing}
@@ -18,15 +19,16 @@ use Rattle.instructions.specs.declared.awaiting.Awaited.{Awaited}
 use Rattle.instructions.specs.declared.awaiting.Awaited.TheVariants.{Entry, End}
 use Rattle.instructions.specs.declared.kinds.Course.{Course}
 use Rattle.instructions.specs.declared.kinds.Kind.{Kind}
-use Rattle.instructions.specs.CallsByNumbers.{is_kind_of, is_static, known_at, method_monitor, object_found, place_of_number, selected_place}
+use Rattle.instructions.specs.CallsByNumbers.{is_kind_of, is_static, known_at, method_monitor, object_found}
+use Rattle.instructions.specs.CallsByNumbers.{place_of_number, selected_place}
 use Rattle.instructions.specs.HeapMonitors.{monitor_held}
 use Rattle.instructions.specs.HeapThreads.{thread_held}
 use Rattle.instructions.specs.Heaps.{HeapValue, kind_held}
 use Rattle.instructions.specs.MonitorsByNumbers.{is_object}
 use Rattle.instructions.specs.Starting.{lives_on}
 
--- Whether a call, or monitorenter, waits for another thread: for a monitor (JVMS 2.11.10), or for the end of the thread that
--- a call joins.
+-- Whether a call, or monitorenter, waits for another thread: for a monitor (JVMS 2.11.10), or for the end of the thread
+-- that a call joins.
 
 -- ---- what a method waits for that is called on an object
 
@@ -74,7 +76,8 @@ awaited_selected program h f class None = None
 awaited_selected program h f class (Some signature) =
     awaited_on program h class (selected_place program signature) (object_found (argument_kinds signature.1) f.stack)
 
-abbrev pub awaited_special : List ClassListing → HeapValue → Frame → ℕ → MethodPlace → Option MethodFacts → Option Awaited
+abbrev pub awaited_special : List ClassListing → HeapValue → Frame → ℕ → MethodPlace → Option MethodFacts
+    → Option Awaited
 awaited_special program h f class place None = None
 awaited_special program h f class place (Some facts) =
     awaited_on program h class (λ kind. Some place) (object_found facts.arguments f.stack)

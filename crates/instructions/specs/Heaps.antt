@@ -2,7 +2,10 @@ use Rattle.std.specs.Prelude.{ℕ, zero, suc, ◌+◌, List, [], length, replica
 use Rattle.std.specs.Option.{option_map}
 use Rattle.model.specs.declared.journals.HeapShape.{HeapShape}
 use Rattle.model.specs.declared.turns.Exception.{Exception}
-use Rattle.model.specs.declared.turns.Exception.TheVariants.{Arithmetic, NullPointer, ClassCast, NegativeArraySize, ArrayStore, IllegalMonitorState, ArrayIndexOutOfBounds, IllegalThreadState, StackOverflow, ExceptionInInitializer, NoClassDefFound}
+use Rattle.model.specs.declared.turns.Exception.TheVariants.{Arithmetic, NullPointer, ClassCast, NegativeArraySize}
+use Rattle.model.specs.declared.turns.Exception.TheVariants.{ArrayStore, IllegalMonitorState, ArrayIndexOutOfBounds}
+use Rattle.model.specs.declared.turns.Exception.TheVariants.{IllegalThreadState, StackOverflow, ExceptionInInitializer}
+use Rattle.model.specs.declared.turns.Exception.TheVariants.{NoClassDefFound}
 use Rattle.model.specs.declared.values.Value.{Value}
 use Rattle.model.specs.ClassListings.{ClassListing}
 use Rattle.model.specs.Accounts.{Account, opening_account}
@@ -15,18 +18,18 @@ use Rattle.instructions.specs.declared.kinds.Kind.{Kind}
 use Rattle.instructions.specs.declared.kinds.Kind.TheVariants.{Instance}
 use Rattle.instructions.specs.Shown.{keyed, objects_shown}
 
--- The heap that the code keeps: the account of its cells, and the objects in them, whose kinds are numbers. A reference is
--- the number of a cell and one more.
+-- The heap that the code keeps: the account of its cells, and the objects in them, whose kinds are numbers. A reference
+-- is the number of a cell and one more.
 
 pub record HeapValue : Type 0 where
   pub shape : HeapShape
   pub account : Account
   pub objects : List (Option (StoredObject Kind))
   pub births : ℕ
-  -- how many classes the program has, behind which the machine's own are numbered
+  -- how many classes the program has, after which the machine's own are numbered
   pub classes : ℕ
 
--- ---- the machine's own classes by their numbers, which stand behind those of the program
+-- ---- the machine's own classes by their numbers, which stand after those of the program
 
 abbrev pub own_class : List ClassListing → ℕ → Kind
 own_class program place = Instance (length program + place)
@@ -59,7 +62,8 @@ made kind words = made_object kind words
 -- births 1 and 2 are in the first two cells
 abbrev pub opening_stored : List ClassListing → HeapShape → List (Option (StoredObject Kind))
 opening_stored program shape =
-    slice_set (slice_set (replicate (shape.small + shape.medium + shape.large) None) 0 (Some (made (memory_error_kind program) [])))
+    slice_set (slice_set (replicate (shape.small + shape.medium + shape.large) None) 0
+        (Some (made (memory_error_kind program) [])))
     1 (Some (made (exception_kind program StackOverflow) []))
 
 abbrev pub opening_heap : List ClassListing → HeapShape → HeapValue
@@ -106,7 +110,8 @@ reference_taken (Some taken) = Some (suc taken.0)
 abbrev pub written : HeapValue → ℕ → ℕ → Value → HeapValue
 written h zero index v = h
 written h (suc cell) index v =
-    record h { objects = slice_set h.objects cell (option_map (word_set index v) (object_if (slice_get h.objects cell))) }
+    record h { objects = slice_set h.objects cell (option_map (word_set index v) (object_if (slice_get h.objects cell)))
+        }
 
 -- ---- the collector's turn
 

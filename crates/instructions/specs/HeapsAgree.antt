@@ -23,7 +23,8 @@ abbrev pub AllFrom : ℕ → List ℕ → Type 0
 AllFrom first cells = All (λ c. first ≤ c) cells
 
 -- an object is where the account has a birth, and nowhere else; the free lists of greater cells have no smaller ones
-pub record Agree {K : Type 0} (shape : HeapShape) (a : Account) (objects : List (Option (StoredObject K))) : Type 0 where
+pub record Agree {K : Type 0} (shape : HeapShape) (a : Account) (objects : List (Option (StoredObject K))) : Type 0
+    where
   pub fits : ShapeFits shape.small shape.medium shape.large
   pub count : length a.cells ≡ shape.small + shape.medium + shape.large
   pub taken : map is_taken a.cells ≡ map is_some objects
@@ -40,7 +41,8 @@ abbrev pub ErrorIs : {K : Type 0} → ℕ → ℕ → K → List Cell → List (
 ErrorIs cell birth kind cells objects = birth_of (cell_at cells cell) ≡ birth → kind_in objects cell ≡ Some kind
 
 -- birth 1 is thrown where no cell has room, birth 2 where no frame has; other births have greater numbers
-pub record ErrorsAre {K : Type 0} (memory stack : K) (cells : List Cell) (objects : List (Option (StoredObject K))) (births : ℕ) : Type 0 where
+pub record ErrorsAre {K : Type 0} (memory stack : K) (cells : List Cell) (objects : List (Option (StoredObject K)))
+    (births : ℕ) : Type 0 where
   pub memory_is : ErrorIs 0 1 memory cells objects
   pub stack_is : ErrorIs 1 2 stack cells objects
   pub least : 3 ≤ births
@@ -54,7 +56,8 @@ abbrev pub HoldsErrors : Account → Type 0
 HoldsErrors a = (birth_of (cell_at a.cells 0) ≡ 1) × (birth_of (cell_at a.cells 1) ≡ 2)
 
 -- all that is kept true of a heap
-pub record IsHeap (shape : HeapShape) (a : Account) (objects : List (Option (StoredObject Kind))) (births classes : ℕ) : Type 0 where
+pub record IsHeap (shape : HeapShape) (a : Account) (objects : List (Option (StoredObject Kind)))
+    (births classes : ℕ) : Type 0 where
   pub agree : Agree shape a objects
   pub errors : ErrorsAre (own_kind classes 16) (own_kind classes 17) a.cells objects births
   pub few : classes ≤ 256

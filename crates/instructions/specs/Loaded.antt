@@ -28,11 +28,13 @@ pub record Loaded : Type 0 where
 
 -- a program that has made no turn
 abbrev pub fresh : List ClassListing → Limits → HeapShape → Loaded
-fresh program limits shape = record { program = program; limits = limits; shape = shape; machine = opening_on program shape }
+fresh program limits shape = record { program = program; limits = limits; shape = shape;
+    machine = opening_on program shape }
 
 -- the same after a turn of a thread
 abbrev pub after_step : Loaded → ℕ → Loaded
-after_step s t = record s { machine = counted_on (turned_on s.program s.machine t (completion s.program s.machine.world t)) }
+after_step s t = record s
+    { machine = counted_on (turned_on s.program s.machine t (completion s.program s.machine.world t)) }
 
 -- the same after a turn of the collector
 abbrev pub after_collection : Loaded → Loaded
@@ -40,7 +42,8 @@ after_collection s = record s { machine = counted_on (collected_on s.shape s.mac
 
 -- ---- how the parts of the state show a machine on cells
 
-abbrev pub world_shown : List ClassListing → List Thread → List Value → List ClassState → List (Option (StoredObject Kind)) → List ℕ → Option (Fault × ℕ) → ℕ → World
+abbrev pub world_shown : List ClassListing → List Thread → List Value → List ClassState
+    → List (Option (StoredObject Kind)) → List ℕ → Option (Fault × ℕ) → ℕ → World
 world_shown program threads slots states objects output fault rows = record {
   threads = threads;
   statics = record { fields = keyed (opening_slots program) slots; states = states };
@@ -50,7 +53,8 @@ world_shown program threads slots states objects output fault rows = record {
   rows = rows;
 }
 
-abbrev pub machine_shown : List ClassListing → List Thread → List Value → List ClassState → HeapValue → List ℕ → Option (Fault × ℕ) → ℕ → CellMachine
+abbrev pub machine_shown : List ClassListing → List Thread → List Value → List ClassState → HeapValue → List ℕ
+    → Option (Fault × ℕ) → ℕ → CellMachine
 machine_shown program threads slots states heap output fault rows = record {
   world = world_shown program threads slots states heap.objects output fault rows;
   account = heap.account;
@@ -60,11 +64,13 @@ machine_shown program threads slots states heap output fault rows = record {
 -- the parts of a state, with its threads
 abbrev pub state_shown : List ClassListing → Machine → ThreadsValue → Option (Fault × ℕ) → ℕ → CellMachine
 state_shown program m threads fault rows =
-    machine_shown program (all_shown program threads m.thread m.frames) m.slots m.states.items m.heap m.output.items fault rows
+    machine_shown program (all_shown program threads m.thread m.frames) m.slots m.states.items m.heap m.output.items
+        fault rows
 
--- what holds of the parts: names of the program are names, no rule refuses it, each class has a state, objects have all words
--- of their classes, the machine runs a thread that was started, and a turn makes one birth at most
-pub record IsSound (program : List ClassListing) (limits : Limits) (m : Machine) (threads : ThreadsValue) (rows : ℕ) : Type 0 where
+-- what holds of the parts: names of the program are names, no rule refuses it, each class has a state, objects have all
+-- words of their classes, the machine runs a thread that was started, and a turn makes one birth at most
+pub record IsSound (program : List ClassListing) (limits : Limits) (m : Machine) (threads : ThreadsValue)
+    (rows : ℕ) : Type 0 where
   pub named : list_all is_well_named program ≡ true
   pub accepted : refusal_of program ≡ None
   pub room : limits.output ≤ vec_capacity m.output

@@ -1,7 +1,10 @@
 use Rattle.std.specs.Prelude.{Bool, true, false}
 use Rattle.model.specs.declared.instructions.ClassOperation.{ClassOperation}
 use Rattle.model.specs.declared.instructions.ClassOperation.TheVariants.{New, CheckCast, InstanceOf}
-use Rattle.model.specs.declared.instructions.Instruction.TheVariants.{Nop, Constant, Local, Stack, Number, Branch, TableSwitch, LookupSwitch, Return, Static as StaticField, Field, Array, Class, Invoke, Throw, Monitor}
+use Rattle.model.specs.declared.instructions.Instruction.TheVariants.{Nop, Constant, Local, Stack, Number, Branch}
+use Rattle.model.specs.declared.instructions.Instruction.TheVariants.{TableSwitch, LookupSwitch, Return}
+use Rattle.model.specs.declared.instructions.Instruction.TheVariants.{Static as StaticField, Field, Array, Class}
+use Rattle.model.specs.declared.instructions.Instruction.TheVariants.{Invoke, Throw, Monitor}
 use Rattle.model.specs.Table.Next.{Listed}
 
 -- Which instructions name a field or a type, for which operations have numbers.

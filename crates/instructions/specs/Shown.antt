@@ -1,4 +1,5 @@
-use Rattle.std.specs.Prelude.{ℕ, ◌%◌, List, [], ◌∷◌, ◌++◌, map, replicate, slice_get, nat_le, Option, Some, None, if◌then◌else◌}
+use Rattle.std.specs.Prelude.{ℕ, ◌%◌, List, [], ◌∷◌, ◌++◌, map, replicate, slice_get, nat_le, Option, Some, None}
+use Rattle.std.specs.Prelude.{if◌then◌else◌}
 use Rattle.model.specs.declared.values.Value.{Value}
 use Rattle.model.specs.declared.values.Value.TheVariants.{Ref}
 use Rattle.model.specs.ClassListings.{ClassListing}
@@ -60,12 +61,14 @@ field_keys program class = map unwritten (layout program (class_name program cla
 -- ---- objects
 
 abbrev pub contents_shown : List ClassListing → Kind → List Value → Contents
-contents_shown program (Instance class) words = InstanceOf (class_name program class) (keyed (field_keys program class) words)
+contents_shown program (Instance class) words = InstanceOf (class_name program class)
+    (keyed (field_keys program class) words)
 contents_shown program (Array type) words = ArrayOf (type_name program type) words
 
 abbrev pub object_shown : List ClassListing → Option (StoredObject Kind) → Object
 object_shown program None = nobody
-object_shown program (Some o) = record { contents = contents_shown program o.kind o.words; monitor = o.monitor; thread = o.thread }
+object_shown program (Some o) = record { contents = contents_shown program o.kind o.words; monitor = o.monitor;
+    thread = o.thread }
 
 -- an object stands at its reference, the number of its cell and one more
 abbrev pub objects_shown : List ClassListing → List (Option (StoredObject Kind)) → List Object

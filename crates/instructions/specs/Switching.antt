@@ -3,7 +3,8 @@ use Rattle.instructions.specs.declared.machines.Machine.{Machine}
 use Rattle.instructions.specs.Threads.{ThreadsValue, all_frames}
 
 -- The machine runs another thread: its frames come to it, those that it had are parked, and no other part is another.
-pub record IsSwitched (old : ThreadsValue) (machine : Machine) (t : ℕ) (new : ThreadsValue) (after : Machine) : Type 0 where
+pub record IsSwitched (old : ThreadsValue) (machine : Machine) (t : ℕ) (new : ThreadsValue) (after : Machine) : Type 0
+    where
   pub courses : new.courses ≡ old.courses
   pub all : all_frames new t after.frames ≡ all_frames old machine.thread machine.frames
   pub frames : slice_get (all_frames old machine.thread machine.frames) t ≡ Some after.frames

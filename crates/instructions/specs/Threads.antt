@@ -1,4 +1,5 @@
-use Rattle.std.specs.Prelude.{◌≡◌, ◌≤◌, ◌+◌, ◌-◌, ℕ, zero, suc, Bool, true, false, slice_get, List, [], ◌∷◌, ◌++◌, drop, length, replicate, slice_set, Option, Some, None}
+use Rattle.std.specs.Prelude.{◌≡◌, ◌≤◌, ◌+◌, ◌-◌, ℕ, zero, suc, Bool, true, false, slice_get, List, [], ◌∷◌, ◌++◌, drop}
+use Rattle.std.specs.Prelude.{length, replicate, slice_set, Option, Some, None}
 use Rattle.std.specs.Option.{option_map_or}
 use Rattle.model.specs.ClassListings.{ClassListing}
 use Rattle.model.specs.Frames.{Frame}
@@ -15,8 +16,8 @@ use Rattle.instructions.specs.Shown.{thread_shown}
 
 -- The threads that were started, and the frames of each.
 
--- the courses of the threads that were started, by their numbers, and the frames of all that can be started. In the place of
--- the thread that the machine runs stand frames that are nobody's
+-- the courses of the threads that were started, by their numbers, and the frames of all that can be started. In the
+-- place of the thread that the machine runs stand frames that are nobody's
 pub record ThreadsValue : Type 0 where
   pub courses : List Course
   pub parked : List (List Frame)
@@ -29,7 +30,8 @@ all_frames threads running frames = slice_set threads.parked running frames
 abbrev pub threads_in : List ClassListing → List Course → List (List Frame) → List Thread
 threads_in program [] all = []
 threads_in program (course ∷ courses) [] = thread_shown program course [] ∷ threads_in program courses []
-threads_in program (course ∷ courses) (frames ∷ all) = thread_shown program course frames ∷ threads_in program courses all
+threads_in program (course ∷ courses) (frames ∷ all) = thread_shown program course frames ∷ threads_in program courses
+    all
 
 abbrev pub all_shown : List ClassListing → ThreadsValue → ℕ → List Frame → List Thread
 all_shown program threads running frames = threads_in program threads.courses (all_frames threads running frames)
@@ -44,7 +46,8 @@ abbrev pub lives_in : List Course → ℕ → Bool
 lives_in courses thread = option_map_or goes_on (slice_get courses thread) false
 
 -- it does, and has these frames
-pub record LivesWith (threads : ThreadsValue) (running : ℕ) (frames : List Frame) (thread : ℕ) (lent : List Frame) : Type 0 where
+pub record LivesWith (threads : ThreadsValue) (running : ℕ) (frames : List Frame) (thread : ℕ)
+    (lent : List Frame) : Type 0 where
   pub live : slice_get threads.courses thread ≡ Some Live
   pub own : slice_get (all_frames threads running frames) thread ≡ Some lent
 
@@ -74,7 +77,8 @@ begun_if threads (Some begun) = begun_as threads begun
 -- a thread has made a turn
 abbrev pub noted_as : ThreadsValue → ℕ → Stepped → ThreadsValue
 noted_as threads thread stepped =
-    begun_if (record { courses = slice_set threads.courses thread stepped.turned.course; parked = threads.parked }) stepped.begun
+    begun_if (record { courses = slice_set threads.courses thread stepped.turned.course; parked = threads.parked })
+        stepped.begun
 
 -- the numbers from one up to another
 abbrev pub numbers_up : ℕ → ℕ → List ℕ

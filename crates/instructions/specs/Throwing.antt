@@ -1,4 +1,5 @@
-use Rattle.std.specs.Prelude.{◌≡◌, ◌<◌, ◌+◌, ◌-◌, ℕ, List, length, slice_get, take, reverse, nat_le, nat_lt, Bool, true, false, ◌&&◌, not, ◌==◌, Option, Some, None, Result, Ok, Err, if◌then◌else◌}
+use Rattle.std.specs.Prelude.{◌≡◌, ◌<◌, ◌+◌, ◌-◌, ℕ, List, length, slice_get, take, reverse, nat_le, nat_lt, Bool, true}
+use Rattle.std.specs.Prelude.{false, ◌&&◌, not, ◌==◌, Option, Some, None, Result, Ok, Err, if◌then◌else◌}
 use Rattle.std.specs.List.{find}
 use Rattle.std.specs.Option.{option_map}
 use Rattle.model.specs.declared.turns.Mark.{Mark}

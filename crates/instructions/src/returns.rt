@@ -38,7 +38,7 @@ pub(crate) fn caller_of(frames: &Frames) -> Option<FrameHead>
     frames.frame_at(depth - 2)
 }
 
-/// The pc behind the instruction at which a frame stands. `None` where none begins there.
+/// The pc after the instruction at which a frame stands. `None` where none begins there.
 pub(crate) fn next_of(program: &Program, frame: FrameHead) -> Option<u16>
     ensures { result ≡ next_at program.now frame.method frame.pc }
 {

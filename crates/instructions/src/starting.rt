@@ -32,7 +32,7 @@ use model::turns::{Exception, Fault};
 /// How many threads may be started.
 const MOST_THREADS: usize = 64;
 
-/// How many classes the machine has of its own, which are numbered behind those of the program.
+/// How many classes the machine has of its own, which are numbered after those of the program.
 const OWN_CLASSES: usize = 23;
 
 /// Whether a method is called `run()V`.

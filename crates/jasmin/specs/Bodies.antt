@@ -8,7 +8,8 @@ use Rattle.model.specs.declared.trees.MethodTree.{MethodTree}
 use Rattle.model.specs.Texts.Bodies.{Body}
 use Rattle.model.specs.Texts.Classes.{is_end}
 use Rattle.model.specs.Texts.Heads.{MethodHead}
-use Rattle.model.specs.Texts.Methods.{Saying, part, opens, stack_limit, locals_limit, catch_row, code_line, saying_of, body_of_parts, parts_of, body_of, method_under}
+use Rattle.model.specs.Texts.Methods.{Saying, part, opens, stack_limit, locals_limit, catch_row, code_line, saying_of}
+use Rattle.model.specs.Texts.Methods.{body_of_parts, parts_of, body_of, method_under}
 use Rattle.model.specs.Texts.Statements.{Statement}
 use Rattle.model.specs.Texts.Switches.{Switch}
 
@@ -42,10 +43,10 @@ abbrev pub block_of : List Statement → Option (List Statement)
 block_of [] = None
 block_of (s ∷ ss) = if is_end s then Some [] else in_block s (block_of ss)
 
--- the statements behind the first `.end method`
-abbrev pub behind_block : List Statement → List Statement
-behind_block [] = []
-behind_block (s ∷ ss) = if is_end s then ss else behind_block ss
+-- the statements after the first `.end method`
+abbrev pub after_block : List Statement → List Statement
+after_block [] = []
+after_block (s ∷ ss) = if is_end s then ss else after_block ss
 
 -- the body that statements begin with, whether its labels agree or not
 abbrev pub first_parts : List Statement → Option Body

@@ -110,7 +110,7 @@ fn outside_switch(
 }
 
 /// What a statement says as a line of an open switch. Where it is none, a directive that is out of place or a limit
-/// that is given again is told before a wrong form.
+/// that is given again is reported before a wrong form.
 #[tactic(auto, using(crate::proofs::BodyLemmas::switches))]
 fn in_switch(
     alloc: Global,
@@ -165,7 +165,7 @@ pub fn end_of(class: ClassFlags, statement: Statement<'_>) -> Result<(), Fault>
     Err(Fault::Statement)
 }
 
-/// The words behind `.end`.
+/// The words after `.end`.
 #[tactic(auto, using(crate::proofs::BodyLemmas::directives))]
 fn end(operands: Words<'_>) -> Result<Part, Fault>
     ensures { MatchResult result (λ part. Says None (Some (codes ".end" ∷ operands.entry)) part)
@@ -177,7 +177,7 @@ fn end(operands: Words<'_>) -> Result<Part, Fault>
     }
 }
 
-/// That `method` stands behind `.end`, alone.
+/// That `method` stands after `.end`, alone.
 fn ends_method(operands: Words<'_>) -> Result<(), Fault>
     ensures { MatchResult result (λ _. is_end (Some (codes ".end" ∷ operands.entry))
         ≡ true) (λ _. is_end (Some (codes ".end" ∷ operands.entry)) ≡ false) }
@@ -189,7 +189,7 @@ fn ends_method(operands: Words<'_>) -> Result<(), Fault>
     }
 }
 
-/// The words behind `.limit`. A limit that is given again is told before a fault of its number.
+/// The words after `.limit`. A limit that is given again is reported before a fault of its number.
 fn limit(given: Given, mut operands: Words<'_>) -> Result<Part, Fault>
     ensures { MatchResult result (λ part. Says None (Some (codes ".limit" ∷ operands.entry)) part)
         (λ _. SaysNothing None (Some (codes ".limit" ∷ operands.entry))) }
@@ -244,7 +244,7 @@ fn line_of(alloc: Global, class: ClassFlags, statement: Statement<'_>) -> Result
     }
 }
 
-/// The label that a word with a colon behind it gives.
+/// The label that a word with a colon after it gives.
 pub fn label_of(word: &[u8]) -> Option<&[u8]>
     ensures { option_map (λ label. label.now) result ≡ label_of word.now }
 {

@@ -14,7 +14,7 @@ use model::names::Name;
 use model::trees::CatchRow;
 use std::alloc::Global;
 
-/// The words behind a `.catch`.
+/// The words after a `.catch`.
 #[derive(Clone, Copy)]
 struct CatchWords<'a> {
     class: &'a [u8],

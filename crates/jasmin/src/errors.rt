@@ -31,7 +31,7 @@ pub enum Fault {
 }
 
 impl Fault {
-    /// The number behind the J by which users know the fault, from 1 to 9.
+    /// The number after the J by which users know the fault, from 1 to 9.
     pub fn number(self) -> u8 {
         self as u8 + 1
     }
@@ -63,7 +63,7 @@ impl<T: Drop> From<AllocFailed<T>> for Fault {
 }
 
 /// Why a text was refused: the least line that is at fault, counted from 1, and the first of its faults by number.
-/// What is missing at the end is told at the number of lines plus 1.
+/// What is missing at the end is reported at the number of lines plus 1.
 #[derive(Clone, Copy, Debug, PartialEq, Eq)]
 pub struct TextError {
     pub line: usize,

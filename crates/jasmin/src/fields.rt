@@ -19,7 +19,7 @@ use model::listings::{Constant, Field};
 use model::names::Name;
 use std::alloc::Global;
 
-/// The words of a `.field`; those of its value stand behind a `=`.
+/// The words of a `.field`; those of its value stand after a `=`.
 #[derive(Drop)]
 struct FieldWords<'a> {
     flags: u16,
@@ -55,7 +55,7 @@ pub fn field(alloc: Global, class: ClassFlags, statement: Statement<'_>) -> Resu
     })
 }
 
-/// The words behind `.field`: flags, none of which is given twice, a name and a descriptor, and behind a `=` a value.
+/// The words after `.field`: flags, none of which is given twice, a name and a descriptor, and after a `=` a value.
 fn field_words<'a>(mut words: Words<'a>) -> Result<FieldWords<'a>, Fault>
     ensures { MatchResult result (λ f. field_words words.entry
         ≡ Some (record { flags = f.flags; name = f.name.now; descriptor = f.descriptor.now; value = f.value }))

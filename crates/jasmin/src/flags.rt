@@ -32,7 +32,7 @@ const OF_INTERFACE_FIELD: u16 = 0x0019;
 /// What no abstract method has: PRIVATE, STATIC, FINAL, SYNCHRONIZED and NATIVE.
 const NEVER_ABSTRACT: u16 = 0x013a;
 
-/// The words behind a directive that takes flags and one word more: the flags, which a table lists and of which none
+/// The words after a directive that takes flags and one word more: the flags, which a table lists and of which none
 /// is given twice, and that last word.
 pub fn flags_and_word<'a>(
     table: &[(&str, u16)],

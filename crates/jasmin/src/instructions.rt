@@ -188,7 +188,7 @@ fn invoke_interface(alloc: Global, operands: Words<'_>) -> Result<Written, Fault
     interface_call(alloc, word, count)
 }
 
-/// The instruction behind `wide`, which asks for the wide form of a local.
+/// The instruction after `wide`, which asks for the wide form of a local.
 pub fn wide_instruction(mut operands: Words<'_>) -> Result<Written, Fault>
     ensures { MatchResult result (λ i. wide_instruction operands.entry ≡ Some i) (λ _. wide_instruction operands.entry
         ≡ None) }

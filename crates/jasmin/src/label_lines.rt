@@ -1,5 +1,5 @@
 //! The lines on which a method gives and uses its labels: that a label is at fault is known only once the method was
-//! read, at lines behind.
+//! read, at lines after.
 ghost use Rattle.std.specs.Prelude.{◌≡◌};
 
 use crate::bodies::{Part, label_of};
@@ -96,9 +96,9 @@ impl LabelLines {
         Ok(())
     }
 
-    /// The fault that is told where reading a text ended with this one: that of a label on a line before it in the
+    /// The fault that is reported where reading a text ended with this one: that of a label on a line before it in the
     /// method that was open there, if there is one. Faults of memory stay.
-    pub fn told(&mut self, alloc: Global, text: &[u8], error: TextError) -> TextError
+    pub fn reported(&mut self, alloc: Global, text: &[u8], error: TextError) -> TextError
         ensures { error.fault ≡ Fault.Memory → result.fault ≡ Fault.Memory }
     {
         if error.fault == Fault::Memory {
@@ -226,7 +226,7 @@ fn kind_of(line: &[u8]) -> LineKind<'_> {
     }
 }
 
-/// Whether a directive and the words behind it are `.method` or `.end method`.
+/// Whether a directive and the words after it are `.method` or `.end method`.
 fn is_bound(first: &[u8], mut words: Words<'_>) -> bool {
     first == b".method".as_slice()
         || first == b".end".as_slice()

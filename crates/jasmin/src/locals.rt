@@ -1,4 +1,4 @@
-//! Locals behind a mnemonic.
+//! Locals after a mnemonic.
 ghost use Rattle.std.specs.Prelude.{◌≡◌, None, Some, MatchResult};
 ghost use Rattle.model.specs.Texts.Locals.{local_form, increment_form, increment_of, local_by};
 
@@ -44,7 +44,7 @@ fn local_form(width: Width, index: u16) -> Local
     }
 }
 
-/// A local and what is added to it. Of the faults of both the lower one is told.
+/// A local and what is added to it. Of the faults of both the lower one is reported.
 fn increment(width: Width, index: &[u8], by: &[u8]) -> Result<Increment, Fault>
     ensures { MatchResult result (λ i. increment_of width (index.now, by.now)
         ≡ Some i) (λ _. increment_of width (index.now, by.now) ≡ None) }

@@ -1,4 +1,4 @@
-//! The operands behind a mnemonic or a directive.
+//! The operands after a mnemonic or a directive.
 ghost use Rattle.std.specs.Prelude.{◌≡◌, ◌≢◌, ◌≤ℤ◌, None, Some, IfOk, MatchResult};
 ghost use Rattle.model.specs.Texts.Instructions.{alone};
 ghost use Rattle.model.specs.Texts.Operands.{only, both, only_number, only_natural};

@@ -3,12 +3,12 @@ ghost use Rattle.std.specs.Prelude.{◌≡◌, ◌≢◌, [], ◌∷◌, true, c
 ghost use Rattle.std.specs.Option.{option_and_then, option_to_list};
 ghost use Rattle.model.specs.Texts.{tree_of};
 ghost use Rattle.model.specs.Texts.Classes.{class_tree, interfaces_of, fields_of, methods_of, begins_otherwise};
-ghost use Rattle.model.specs.Texts.Classes.{behind_led};
+ghost use Rattle.model.specs.Texts.Classes.{after_led};
 ghost use Rattle.model.specs.Texts.Flags.{has};
 ghost use Rattle.model.specs.Texts.Heads.{MethodHead as Head};
 ghost use Rattle.model.specs.Texts.Methods.{body_with, method_without};
 ghost use Rattle.jasmin.specs.Statements.{ahead};
-ghost use Rattle.jasmin.specs.Bodies.{Says, SaysNothing, opened, block_of, behind_block, first_parts, first_body};
+ghost use Rattle.jasmin.specs.Bodies.{Says, SaysNothing, opened, block_of, after_block, first_parts, first_body};
 ghost use Rattle.jasmin.specs.Bodies.{first_method};
 ghost use Rattle.jasmin.specs.Classes.{class_under};
 
@@ -40,7 +40,7 @@ pub fn read(alloc: Global, text: &[u8]) -> Result<ClassTree, TextError>
         Ok(tree) => Ok(tree),
         Err(fault) => {
             let line = statements.line();
-            Err(labels.told(alloc, text, TextError { line, fault }))
+            Err(labels.reported(alloc, text, TextError { line, fault }))
         }
     }
 }
@@ -58,11 +58,11 @@ fn class_tree(
     let head = class_head(first)?;
     let second = next_of(statements)?.ok_or(Fault::Statement)?;
     let superclass = super_name(head.flags, second)?;
-    members_behind(alloc, head, superclass, statements, labels)
+    members_after(alloc, head, superclass, statements, labels)
 }
 
 /// The class of a head and a superclass, by the statements of its interfaces, fields and methods.
-fn members_behind(
+fn members_after(
     alloc: Global,
     head: ClassHead<'_>,
     superclass: &[u8],
@@ -74,9 +74,9 @@ fn members_behind(
         ≢ Fault.Memory → class_under head.entry.flags head.entry.name.now superclass.now statements.old ≡ None) }
 {
     let third = next_of(statements)?;
-    let (interfaces, behind) = interfaces_of(alloc, third, statements)?;
-    let (fields, behind) = fields_of(alloc, head.flags, behind, statements)?;
-    let methods = methods_of(alloc, head.flags, behind, statements, labels)?;
+    let (interfaces, following) = interfaces_of(alloc, third, statements)?;
+    let (fields, following) = fields_of(alloc, head.flags, following, statements)?;
+    let methods = methods_of(alloc, head.flags, following, statements, labels)?;
     Ok(ClassTree {
         flags: head.flags,
         name: Name::copy_of(alloc, head.name)?,
@@ -87,7 +87,7 @@ fn members_behind(
     })
 }
 
-/// The interfaces that statements begin with, the first of which was read, and the first statement behind them.
+/// The interfaces that statements begin with, the first of which was read, and the first statement after them.
 #[tactic(auto, using(crate::proofs::DeclarationLemmas::declarations))]
 fn interfaces_of<'a>(
     alloc: Global,
@@ -95,7 +95,7 @@ fn interfaces_of<'a>(
     statements: &mut Statements<'a>,
 ) -> Result<(Vec<Name>, Option<Statement<'a>>), Fault>
     ensures { MatchResult result (λ found. (interfaces_of (ahead first.entry statements.old) ≡ Some found.0.items)
-        × (behind_led (codes ".implements") (ahead first.entry statements.old) ≡ ahead found.1 statements.new)) (λ e. e
+        × (after_led (codes ".implements") (ahead first.entry statements.old) ≡ ahead found.1 statements.new)) (λ e. e
         ≢ Fault.Memory → interfaces_of (ahead first.entry statements.old) ≡ None) }
 {
     let mut interfaces = Vec::new(alloc);
@@ -112,7 +112,7 @@ fn interfaces_of<'a>(
 }
 
 /// The fields that statements begin with, the first of which was read, in a class with these flags, and the first
-/// statement behind them.
+/// statement after them.
 #[tactic(auto, using(crate::proofs::DeclarationLemmas::declarations))]
 fn fields_of<'a>(
     alloc: Global,
@@ -121,7 +121,7 @@ fn fields_of<'a>(
     statements: &mut Statements<'a>,
 ) -> Result<(Vec<Field>, Option<Statement<'a>>), Fault>
     ensures { MatchResult result (λ found. (fields_of class (ahead first.entry statements.old) ≡ Some found.0.items)
-        × (behind_led (codes ".field") (ahead first.entry statements.old) ≡ ahead found.1 statements.new)) (λ e. e
+        × (after_led (codes ".field") (ahead first.entry statements.old) ≡ ahead found.1 statements.new)) (λ e. e
         ≢ Fault.Memory → fields_of class (ahead first.entry statements.old) ≡ None) }
 {
     let mut fields = Vec::new(alloc);
@@ -182,7 +182,7 @@ fn method_under(
           name = head.entry.name.now;
           descriptor = head.entry.descriptor.now;
         }) statements.old ≡ Some method)
-        × (statements.new ≡ behind_block statements.old)) (λ e. e ≢ Fault.Memory
+        × (statements.new ≡ after_block statements.old)) (λ e. e ≢ Fault.Memory
         → first_method (record {
           flags = head.entry.flags;
           name = head.entry.name.now;
@@ -214,7 +214,7 @@ fn method_under(
 #[tactic(auto, using(crate::proofs::MethodLemmas::ends))]
 fn no_body(class: ClassFlags, statements: &mut Statements<'_>) -> Result<(), Fault>
     ensures { MatchResult result (λ _. (block_of statements.old ≡ Some [])
-        × (statements.new ≡ behind_block statements.old)) (λ _. (head : Head)
+        × (statements.new ≡ after_block statements.old)) (λ _. (head : Head)
         → option_and_then (method_without head) (block_of statements.old) ≡ None) }
 {
     let statement = next_of(statements)?.ok_or(Fault::End)?;
@@ -230,7 +230,7 @@ fn body(
     labels: &mut LabelLines,
 ) -> Result<BodyTree, Fault>
     ensures { MatchResult result (λ body. (first_body statements.old ≡ Some body)
-        × (statements.new ≡ behind_block statements.old)) (λ e. e ≢ Fault.Memory → first_body statements.old ≡ None) }
+        × (statements.new ≡ after_block statements.old)) (λ e. e ≢ Fault.Memory → first_body statements.old ≡ None) }
 {
     let body = body_parts(alloc, class, statements, labels)?;
     labels_agree(alloc, body.rows.as_slice(), body.lines.as_slice())?;
@@ -247,7 +247,7 @@ fn body_parts(
     labels: &mut LabelLines,
 ) -> Result<BodyTree, Fault>
     ensures { MatchResult result (λ body. (first_parts statements.old ≡ Some body)
-        × (statements.new ≡ behind_block statements.old)) (λ e. e ≢ Fault.Memory → first_parts statements.old ≡ None) }
+        × (statements.new ≡ after_block statements.old)) (λ e. e ≢ Fault.Memory → first_parts statements.old ≡ None) }
 {
     let mut stack: Option<u16> = None;
     let mut locals: Option<u16> = None;

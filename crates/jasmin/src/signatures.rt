@@ -109,15 +109,15 @@ fn class_and_name(path: &[u8]) -> Option<(&[u8], &[u8])>
     ensures none { IfNone result (class_in path.now ≡ []) }
     ensures some { IfSome result (λ cut. (cut.0.now ≡ class_in path.now) × (cut.1.now ≡ name_in path.now)) }
 {
-    let behind = behind_last_slash(path);
-    if behind == 0 {
+    let following = after_last_slash(path);
+    if following == 0 {
         return None;
     }
-    Some((&path[..behind - 1], &path[behind..]))
+    Some((&path[..following - 1], &path[following..]))
 }
 
-/// The place behind the last slash, or 0 where there is none.
-fn behind_last_slash(path: &[u8]) -> usize
+/// The place after the last slash, or 0 where there is none.
+fn after_last_slash(path: &[u8]) -> usize
     ensures { result + suffix_len (λ b. not (b == 47)) path.now ≡ length path.now }
 {
     let mut place = path.len();

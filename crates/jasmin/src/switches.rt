@@ -86,7 +86,7 @@ pub fn table_begins(alloc: Global, operands: Words<'_>) -> Result<OpenSwitch, Fa
     }))
 }
 
-/// A `lookupswitch`, which has nothing behind it.
+/// A `lookupswitch`, which has nothing after it.
 pub fn lookup_begins(alloc: Global, mut operands: Words<'_>) -> Result<OpenSwitch, Fault>
     ensures { MatchResult result (λ switch. lookup_begins operands.entry
         ≡ Some (switch_of switch)) (λ _. lookup_begins operands.entry ≡ None) }
@@ -99,7 +99,7 @@ pub fn lookup_begins(alloc: Global, mut operands: Words<'_>) -> Result<OpenSwitc
     }
 }
 
-/// A line of a switch: a label of a table, or behind a key or `default` and a colon a label.
+/// A line of a switch: a label of a table, or after a key or `default` and a colon a label.
 pub fn switch_line(
     alloc: Global,
     switch: OpenSwitch,

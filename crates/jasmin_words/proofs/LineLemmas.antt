@@ -1,5 +1,6 @@
 -- How the lines of a text begin, by the place of its first newline.
-use Rattle.std.proofs.Common.{◌≡◌, ℕ, suc, ◌+◌, ◌-◌, ◌<◌, ◌≤◌, ◌==◌, Bool, true, false, ◌&&◌, List, [], ◌∷◌, length, take, drop, refl, ap, arith, inl, inr, Some, None}
+use Rattle.std.proofs.Common.{◌≡◌, ℕ, suc, ◌+◌, ◌-◌, ◌<◌, ◌≤◌, ◌==◌, Bool, true, false, ◌&&◌, List, [], ◌∷◌, length}
+use Rattle.std.proofs.Common.{take, drop, refl, ap, arith, inl, inr, Some, None}
 use Rattle.std.specs.List.{position, position_or_len, onto_first}
 use Rattle.std.specs.Bool.{if◌then◌else◌}
 use Rattle.std.specs.Cmp.Lexicographic.{pointwise}
@@ -35,8 +36,10 @@ lines_none b (c ∷ cs) none =
     ]
 
 -- a byte before a line that ends by a newline
-before_line : (b c : ℕ) (cs : List ℕ) → lines_of (c ∷ cs) ≡ without_return (take (place (c ∷ cs)) (c ∷ cs)) ∷ lines_of (drop (place (c ∷ cs) + 1) (c ∷ cs))
-    → (if b == 13 && (c == 10) then lines_of (c ∷ cs) else onto_first b (lines_of (c ∷ cs))) ≡ without_return (b ∷ take (place (c ∷ cs)) (c ∷ cs)) ∷ lines_of (drop (place (c ∷ cs) + 1) (c ∷ cs))
+before_line : (b c : ℕ) (cs : List ℕ) → lines_of (c ∷ cs) ≡ without_return (take (place (c ∷ cs)) (c ∷ cs))
+    ∷ lines_of (drop (place (c ∷ cs) + 1) (c ∷ cs))
+    → (if b == 13 && (c == 10) then lines_of (c ∷ cs) else onto_first b (lines_of (c ∷ cs)))
+        ≡ without_return (b ∷ take (place (c ∷ cs)) (c ∷ cs)) ∷ lines_of (drop (place (c ∷ cs) + 1) (c ∷ cs))
 before_line b c cs rest =
     elim (eqb_tells c 10) [
       | inl t ↦ elim (eqb_tells b 13) [ inl u ↦ rw (t.0, u.0) refl | inr g ↦ rw (t.0, g.0) refl ]
@@ -44,7 +47,8 @@ before_line b c cs rest =
     ]
 
 -- the first line is what stands before the first newline
-pub lines_first : (bs : List ℕ) → place bs < length bs → lines_of bs ≡ without_return (take (place bs) bs) ∷ lines_of (drop (place bs + 1) bs)
+pub lines_first : (bs : List ℕ) → place bs < length bs → lines_of bs ≡ without_return (take (place bs) bs)
+    ∷ lines_of (drop (place bs + 1) bs)
 lines_first [] found = absurd (omega arith)
 lines_first (b ∷ []) found =
     elim (eqb_tells b 10) [
@@ -60,7 +64,8 @@ lines_first (b ∷ c ∷ cs) found =
     ]
 
 -- the newline that `position` finds
-pub cut_at : (bs : List ℕ) (n : ℕ) → Some n ≡ position is_newline bs → lines_of bs ≡ without_return (take n bs) ∷ lines_of (drop (n + 1) bs)
+pub cut_at : (bs : List ℕ) (n : ℕ) → Some n ≡ position is_newline bs → lines_of bs ≡ without_return (take n bs)
+    ∷ lines_of (drop (n + 1) bs)
 cut_at bs n found = let at = position_some is_newline bs n found in rw at.0 (lines_first bs at.1)
 
 pub cut_nowhere : (bs : List ℕ) → 0 < length bs → None ≡ position is_newline bs → lines_of bs ≡ bs ∷ []
@@ -71,16 +76,19 @@ less_one : (n : ℕ) → suc n - 1 ≡ n
 less_one n = omega arith
 
 -- a line whose last byte is no carriage return
-pub without_return_keeps : (bs : List ℕ) → pointwise nat_eq (drop (length bs - 1) bs) (13 ∷ []) ≡ false → without_return bs ≡ bs
+pub without_return_keeps : (bs : List ℕ) → pointwise nat_eq (drop (length bs - 1) bs) (13 ∷ []) ≡ false
+    → without_return bs ≡ bs
 without_return_keeps [] h = refl
 without_return_keeps (b ∷ []) h =
     elim (eqb_tells b 13) [ inl t ↦ let g = rw t.0 at h in cc | inr f ↦ rw f.0 refl ]
 without_return_keeps (b ∷ c ∷ cs) h = ap (λ ds. b ∷ ds) (without_return_keeps (c ∷ cs) (rw less_one (rw less_one at h)))
 
 -- a line whose last byte is one
-pub without_return_drops : (bs : List ℕ) → pointwise nat_eq (drop (length bs - 1) bs) (13 ∷ []) ≡ true → without_return bs ≡ take (length bs - 1) bs
+pub without_return_drops : (bs : List ℕ) → pointwise nat_eq (drop (length bs - 1) bs) (13 ∷ []) ≡ true
+    → without_return bs ≡ take (length bs - 1) bs
 without_return_drops [] h = refl
 without_return_drops (b ∷ []) h =
     elim (eqb_tells b 13) [ inl t ↦ rw t.0 refl | inr f ↦ let g = rw f.0 at h in cc ]
 without_return_drops (b ∷ c ∷ cs) h =
-    let e = without_return_drops (c ∷ cs) (rw less_one (rw less_one at h)) in rw less_one (ap (λ ds. b ∷ ds) (rw less_one at e))
+    let e = without_return_drops (c ∷ cs) (rw less_one (rw less_one at h))
+          in rw less_one (ap (λ ds. b ∷ ds) (rw less_one at e))

@@ -1,5 +1,6 @@
 -- What a position in a list tells.
-use Rattle.std.proofs.Common.{◌≡◌, ℕ, suc, ◌+◌, ◌<◌, ◌≤◌, Bool, true, false, ◌&&◌, List, length, refl, arith, inl, inr, Some, None}
+use Rattle.std.proofs.Common.{◌≡◌, ℕ, suc, ◌+◌, ◌<◌, ◌≤◌, Bool, true, false, ◌&&◌, List, length, refl, arith, inl, inr}
+use Rattle.std.proofs.Common.{Some, None}
 use Rattle.std.specs.List.{position, position_or_len}
 use Rattle.std.specs.Prelude.{◌⊎◌}
 use Rattle.std.proofs.lemmas.Bool.Decides.{leb_tells}
@@ -19,7 +20,8 @@ bool_tells true = inl refl
 bool_tells false = inr refl
 
 -- a place that was found is the first one
-pub position_some : {A : Type 0} (p : A → Bool) (xs : List A) (n : ℕ) → Some n ≡ position p xs → (n ≡ position_or_len p xs) × (position_or_len p xs < length xs)
+pub position_some : {A : Type 0} (p : A → Bool) (xs : List A) (n : ℕ) → Some n ≡ position p xs
+    → (n ≡ position_or_len p xs) × (position_or_len p xs < length xs)
 position_some p xs n found =
     elim (leb_tells (suc (position_or_len p xs)) (length xs)) [
       | inl t ↦ let h = rw t.0 at found in (cc, omega arith)

@@ -43,7 +43,7 @@ impl<'a> Lines<'a> {
     }
 }
 
-/// The first line of a text, and what stands behind it.
+/// The first line of a text, and what stands after it.
 fn cut_line(text: &[u8]) -> (&[u8], &[u8])
     requires { 0 < length text.now }
     ensures { lines_of text.now ≡ result.0.now ∷ lines_of result.1.now }

@@ -11,7 +11,7 @@ use std::marker::Model;
 #[derive(Clone, Copy, Debug, PartialEq, Eq)]
 pub struct NotText;
 
-/// The words of a line that has some: the first, and those behind it.
+/// The words of a line that has some: the first, and those after it.
 #[derive(Drop)]
 pub struct Statement<'a> {
     pub first: &'a [u8],
@@ -54,7 +54,7 @@ impl<'a> Statements<'a> {
         self.line.saturating_add(usize::from(self.ended))
     }
 
-    /// The next statement, if one is left. `NotText` where its line is no text; that line is then behind.
+    /// The next statement, if one is left. `NotText` where its line is no text; that line is then after.
     pub fn next_statement(&mut self) -> Result<Option<Statement<'a>>, NotText>
         ensures read { MatchResult result (λ found. MatchOption found ((self.old ≡ [])
             × (self.new ≡ [])) (λ s. self.old ≡ Some (s.first.now ∷ s.operands) ∷ self.new)) (λ _. self.old

@@ -64,7 +64,7 @@ fn less_blanks(line: &[u8]) -> &[u8]
     }
 }
 
-/// The first word of a line that begins with one, a comment's too, and what stands behind it.
+/// The first word of a line that begins with one, a comment's too, and what stands after it.
 fn cut_word(line: &[u8]) -> (&[u8], &[u8])
     requires { ends_word line.now ≡ false }
     ensures { runs_of line.now ≡ result.0.now ∷ runs_of result.1.now }

@@ -10,7 +10,8 @@ use Rattle.model.specs.Worlds.Contents.{Instance, Array}
 use Rattle.model.specs.Collector.Places.{ref_of, entry_ref, field_ref, contents_refs}
 use Rattle.model.specs.Collector.Moves.{LeadNowhere}
 use Rattle.model.proofs.CollectorLemmas.Moving.{AllMay}
-use Rattle.join.specs.Naming.{Naming, named_ref, named_value, named_entry, named_field, named_frame, named_thread, named_contents}
+use Rattle.join.specs.Naming.{Naming, named_ref, named_value, named_entry, named_field, named_frame, named_thread}
+use Rattle.join.specs.Naming.{named_contents}
 
 -- two namings that agree on some births have one image of what leads to these alone
 
@@ -37,7 +38,8 @@ module _ (h g : Naming) (P : ℕ → Type 0) (same : (b : ℕ) → P b → h b �
   entries_agree [] k = refl
   entries_agree (e ∷ es) k = rw (entry_agrees e k.0, entries_agree es k.1) refl
 
-  pub fields_agree : (fs : List FieldValue) → AllMay P (map field_ref fs) → map (named_field h) fs ≡ map (named_field g) fs
+  pub fields_agree : (fs : List FieldValue) → AllMay P (map field_ref fs) → map (named_field h) fs
+      ≡ map (named_field g) fs
   fields_agree [] k = refl
   fields_agree (f ∷ fs) k = rw (value_agrees f.value k.0, fields_agree fs k.1) refl
 
@@ -51,17 +53,21 @@ module _ (h g : Naming) (P : ℕ → Type 0) (same : (b : ℕ) → P b → h b �
     pub monitor : (b : ℕ) → f.monitor ≡ Some b → P b
 
   pub frame_agrees : (f : Frame) → FrameMay f → named_frame h f ≡ named_frame g f
-  frame_agrees f k = rw (entries_agree f.locals k.locals, values_agree f.stack k.stack, ref_agrees f.monitor k.monitor) refl
+  frame_agrees f k = rw (entries_agree f.locals k.locals, values_agree f.stack k.stack, ref_agrees f.monitor k.monitor)
+      refl
 
-  frames_agree : (fs : List Frame) → ((d : ℕ) (f : Frame) → slice_get fs d ≡ Some f → FrameMay f) → map (named_frame h) fs ≡ map (named_frame g) fs
+  frames_agree : (fs : List Frame) → ((d : ℕ) (f : Frame) → slice_get fs d ≡ Some f → FrameMay f)
+      → map (named_frame h) fs ≡ map (named_frame g) fs
   frames_agree [] k = refl
   frames_agree (f ∷ fs) k = rw (frame_agrees f (k 0 f refl), frames_agree fs (λ d. k (suc d))) refl
 
-  thread_agrees : (t : Thread) → ((d : ℕ) (f : Frame) → slice_get (frames_of (Some t)) d ≡ Some f → FrameMay f) → named_thread h t ≡ named_thread g t
+  thread_agrees : (t : Thread) → ((d : ℕ) (f : Frame) → slice_get (frames_of (Some t)) d ≡ Some f → FrameMay f)
+      → named_thread h t ≡ named_thread g t
   thread_agrees (Live frames) k = ap Live (frames_agree frames k)
   thread_agrees (Ended by) k = refl
 
-  pub threads_agree : (ts : List Thread) → ((t d : ℕ) (f : Frame) → slice_get (frames_of (slice_get ts t)) d ≡ Some f → FrameMay f) → map (named_thread h) ts ≡ map (named_thread g) ts
+  pub threads_agree : (ts : List Thread) → ((t d : ℕ) (f : Frame) → slice_get (frames_of (slice_get ts t)) d ≡ Some f
+      → FrameMay f) → map (named_thread h) ts ≡ map (named_thread g) ts
   threads_agree [] k = refl
   threads_agree (t ∷ ts) k = rw (thread_agrees t (k 0), threads_agree ts (λ u. k (suc u))) refl
 
@@ -77,7 +83,9 @@ nowhere_fields : (h : Naming) (fs : List FieldValue) → LeadNowhere (map field_
 nowhere_fields h [] k = refl
 nowhere_fields h (f ∷ fs) k = go f.value k (λ l. nowhere_fields h fs l)
   where
-    go : (v : Value) → LeadNowhere (ref_of v ∷ map field_ref fs) → (LeadNowhere (map field_ref fs) → map (named_field h) fs ≡ fs) → record f { value = named_value h v } ∷ map (named_field h) fs ≡ record f { value = v } ∷ fs
+    go : (v : Value) → LeadNowhere (ref_of v ∷ map field_ref fs)
+        → (LeadNowhere (map field_ref fs) → map (named_field h) fs ≡ fs) → record f { value = named_value h v }
+        ∷ map (named_field h) fs ≡ record f { value = v } ∷ fs
     go (Int z) k more = ap (λ rest. record f { value = Int z } ∷ rest) (more k)
     go (Long z) k more = ap (λ rest. record f { value = Long z } ∷ rest) (more k)
     go (Ref None) k more = ap (λ rest. record f { value = Ref None } ∷ rest) (more k)

@@ -1,4 +1,5 @@
-use Rattle.std.proofs.Common.{◌≡◌, ℕ, zero, suc, ◌<◌, List, [], ◌∷◌, ◌++◌, length, map, set, reverse, slice_get, Some, refl, sym, ◌∙◌, ap, arith}
+use Rattle.std.proofs.Common.{◌≡◌, ℕ, zero, suc, ◌<◌, List, [], ◌∷◌, ◌++◌, length, map, set, reverse, slice_get, Some}
+use Rattle.std.proofs.Common.{refl, sym, ◌∙◌, ap, arith}
 use Rattle.std.proofs.lemmas.List.{map-append, reverse-append}
 
 -- lists
@@ -10,7 +11,8 @@ reverse-map f (x ∷ xs) =
     ∙ sym (map-append f (reverse xs) (x ∷ [])) ∙ ap (map f) (sym (reverse-append (x ∷ []) xs))
 
 -- one function after another
-pub map-after : {A B C : Type 0} (f : A → B) (g : B → C) (k : A → C) → ((x : A) → g (f x) ≡ k x) → (xs : List A) → map g (map f xs) ≡ map k xs
+pub map-after : {A B C : Type 0} (f : A → B) (g : B → C) (k : A → C) → ((x : A) → g (f x) ≡ k x) → (xs : List A)
+    → map g (map f xs) ≡ map k xs
 map-after f g k e [] = refl
 map-after f g k e (x ∷ xs) = rw (e x, map-after f g k e xs) refl
 
@@ -35,12 +37,14 @@ get-within [] k l = absurd (omega arith)
 get-within (x ∷ xs) zero l = (x, refl)
 get-within (x ∷ xs) (suc k) l = get-within xs k (omega arith)
 
-pub get-set_same : {A : Type 0} (xs : List A) (k : ℕ) (x y : A) → slice_get xs k ≡ Some y → slice_get (set xs k x) k ≡ Some x
+pub get-set_same : {A : Type 0} (xs : List A) (k : ℕ) (x y : A) → slice_get xs k ≡ Some y → slice_get (set xs k x) k
+    ≡ Some x
 get-set_same [] k x y e = absurd (cc)
 get-set_same (z ∷ zs) zero x y e = refl
 get-set_same (z ∷ zs) (suc k) x y e = get-set_same zs k x y e
 
-pub get-set_other : {A : Type 0} (xs : List A) (j k : ℕ) (x : A) → (j ≡ k → ⊥) → slice_get (set xs k x) j ≡ slice_get xs j
+pub get-set_other : {A : Type 0} (xs : List A) (j k : ℕ) (x : A) → (j ≡ k → ⊥) → slice_get (set xs k x) j
+    ≡ slice_get xs j
 get-set_other [] j k x n = refl
 get-set_other (z ∷ zs) zero zero x n = absurd (n refl)
 get-set_other (z ∷ zs) zero (suc k) x n = refl

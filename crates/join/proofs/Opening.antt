@@ -28,26 +28,33 @@ two_named n zero b x e = (let k : 1 ≡ b = cc in sym k)
 two_named n (suc zero) b x e = (let k : 2 ≡ b = cc in sym k)
 two_named n (suc (suc c)) b x e = absurd (no_birth n c b x e)
 
-pub two_cells : (s m l : ℕ) → 2 ≤ s + m + l → (n : ℕ) × ((opening_account (record { small = s; medium = m; large = l })).cells ≡ Taken 1 White ∷ Taken 2 White ∷ replicate n Free)
-two_cells (suc (suc s)) m l two = (s + m + l, let k : suc (suc s) + m + l ≡ suc (suc (s + m + l)) = omega arith in rw k refl)
-two_cells (suc zero) (suc m) l two = (m + l, let k : suc zero + suc m + l ≡ suc (suc (m + l)) = omega arith in rw k refl)
+pub two_cells : (s m l : ℕ) → 2 ≤ s + m + l → (n : ℕ)
+    × ((opening_account (record { small = s; medium = m; large = l })).cells ≡ Taken 1 White ∷ Taken 2 White
+    ∷ replicate n Free)
+two_cells (suc (suc s)) m l two = (s + m + l, let k : suc (suc s) + m + l ≡ suc (suc (s + m + l)) = omega arith
+                                                    in rw k refl)
+two_cells (suc zero) (suc m) l two = (m + l, let k : suc zero + suc m + l ≡ suc (suc (m + l)) = omega arith
+                                                   in rw k refl)
 two_cells (suc zero) zero (suc l) two = (l, let k : suc zero + zero + suc l ≡ suc (suc l) = omega arith in rw k refl)
 two_cells (suc zero) zero zero two = absurd (omega arith)
-two_cells zero (suc (suc m)) l two = (m + l, let k : zero + suc (suc m) + l ≡ suc (suc (m + l)) = omega arith in rw k refl)
+two_cells zero (suc (suc m)) l two = (m + l, let k : zero + suc (suc m) + l ≡ suc (suc (m + l)) = omega arith
+                                                   in rw k refl)
 two_cells zero (suc zero) (suc l) two = (l, let k : zero + suc zero + suc l ≡ suc (suc l) = omega arith in rw k refl)
 two_cells zero (suc zero) zero two = absurd (omega arith)
 two_cells zero zero (suc (suc l)) two = (l, let k : zero + zero + suc (suc l) ≡ suc (suc l) = omega arith in rw k refl)
 two_cells zero zero (suc zero) two = absurd (omega arith)
 two_cells zero zero zero two = absurd (omega arith)
 
-pub opening_joint : (program : List ClassListing) (shape : HeapShape) → 2 ≤ shape.small + shape.medium + shape.large → Joint (opening_on program shape) (opening_machine program shape)
+pub opening_joint : (program : List ClassListing) (shape : HeapShape) → 2 ≤ shape.small + shape.medium + shape.large
+    → Joint (opening_on program shape) (opening_machine program shape)
 opening_joint program shape two =
     let k = two_cells shape.small shape.medium shape.large two in
     record {
       naming = λ b. b;
       joined = record {
         world = refl;
-        account = ap (λ grey. let a : Account = record (opening_account shape) { grey = grey } in a) (sym (map-id (opening_account shape).grey));
+        account = ap (λ grey. let a : Account = record (opening_account shape) { grey = grey }
+                                    in a) (sym (map-id (opening_account shape).grey));
         births = refl;
         named = subst (Named (λ b. b)) (sym k.1) (two_named k.0);
         memory_error = refl;
@@ -65,5 +72,6 @@ pub opening_bounded : (program : List ClassListing) → Bounded (opening_world p
 unfolding word_at
 opening_bounded program x k b e = absurd (no_word x k b e)
 
-pub opening_joins : (program : List ClassListing) (shape : HeapShape) → ShapeFits shape.small shape.medium shape.large → Joint (opening_on program shape) (opening_machine program shape)
+pub opening_joins : (program : List ClassListing) (shape : HeapShape) → ShapeFits shape.small shape.medium shape.large
+    → Joint (opening_on program shape) (opening_machine program shape)
 opening_joins program shape fits = opening_joint program shape fits.0

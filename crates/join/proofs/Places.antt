@@ -1,4 +1,5 @@
-use Rattle.std.proofs.Common.{◌≡◌, ℕ, zero, suc, List, [], ◌∷◌, map, reverse, slice_get, Option, Some, None, refl, sym, ◌∙◌, ap}
+use Rattle.std.proofs.Common.{◌≡◌, ℕ, zero, suc, List, [], ◌∷◌, map, reverse, slice_get, Option, Some, None, refl, sym}
+use Rattle.std.proofs.Common.{◌∙◌, ap}
 use Rattle.std.specs.Option.{option_map}
 use Rattle.std.proofs.lemmas.List.{map-append}
 use Rattle.std.proofs.lemmas.Option.{slice_get-map}
@@ -10,7 +11,9 @@ use Rattle.model.specs.declared.colours.Cell.{Cell}
 use Rattle.model.specs.Frames.{Frame}
 use Rattle.model.specs.Worlds.{World, Contents, frames_at}
 use Rattle.model.specs.Worlds.Contents.{Instance, Array}
-use Rattle.model.specs.Collector.Places.{ref_of, entry_ref, field_ref, ref_at, frame_refs, refs_of_frame, monitor_of_frame, entries_at, monitor_at, contents_refs, words_of, slots_of, root_at, word_at}
+use Rattle.model.specs.Collector.Places.{ref_of, entry_ref, field_ref, ref_at, frame_refs, refs_of_frame}
+use Rattle.model.specs.Collector.Places.{monitor_of_frame, entries_at, monitor_at, contents_refs, words_of, slots_of}
+use Rattle.model.specs.Collector.Places.{root_at, word_at}
 use Rattle.model.specs.Collector.Places.Place.{Slot, FrameEntry, MethodMonitor}
 use Rattle.join.specs.Naming.{Naming, named_ref, named_value, named_entry, named_field, named_frame, named_contents}
 use Rattle.join.specs.OnCells.{on_cells, InCell}
@@ -37,13 +40,15 @@ module _ (h : Naming) where
   entry_ref_named UpperHalf = refl
 
   -- a list whose elements lead to the names of what they led to
-  through : {A : Type 0} (f : A → A) (g : A → Option ℕ) → ((x : A) → g (f x) ≡ named_ref h (g x)) → (xs : List A) → map g (map f xs) ≡ map (named_ref h) (map g xs)
+  through : {A : Type 0} (f : A → A) (g : A → Option ℕ) → ((x : A) → g (f x) ≡ named_ref h (g x)) → (xs : List A)
+      → map g (map f xs) ≡ map (named_ref h) (map g xs)
   through f g k [] = refl
   through f g k (x ∷ xs) = rw (k x, through f g k xs) refl
 
   frame_refs_named : (f : Frame) → frame_refs (named_frame h f) ≡ map (named_ref h) (frame_refs f)
   frame_refs_named f =
-      rw (through (named_entry h) entry_ref entry_ref_named f.locals, through (named_value h) ref_of value_ref f.stack, reverse-map (named_ref h) (map ref_of f.stack))
+      rw (through (named_entry h) entry_ref entry_ref_named f.locals, through (named_value h) ref_of value_ref f.stack,
+          reverse-map (named_ref h) (map ref_of f.stack))
       (sym (map-append (named_ref h) (map entry_ref f.locals) (reverse (map ref_of f.stack))))
 
   frame_if : (o : Option Frame) → refs_of_frame (option_map (named_frame h) o) ≡ map (named_ref h) (refs_of_frame o)
@@ -59,11 +64,16 @@ module _ (h : Naming) where
   contents_named (Array element values) = through (named_value h) ref_of value_ref values
 
   module _ (cells : List Cell) (w : World) where
-    pub entries_on_cells : (t d : ℕ) → entries_at (frames_at (on_cells h cells w) t) d ≡ map (named_ref h) (entries_at (frames_at w t) d)
-    entries_on_cells t d = ap (λ fs. entries_at fs d) (frames_on_cells h cells w t) ∙ ap refs_of_frame (slice_get-map (named_frame h) (frames_at w t) d) ∙ frame_if (slice_get (frames_at w t) d)
+    pub entries_on_cells : (t d : ℕ) → entries_at (frames_at (on_cells h cells w) t) d
+        ≡ map (named_ref h) (entries_at (frames_at w t) d)
+    entries_on_cells t d = ap (λ fs. entries_at fs d) (frames_on_cells h cells w t)
+        ∙ ap refs_of_frame (slice_get-map (named_frame h) (frames_at w t) d) ∙ frame_if (slice_get (frames_at w t) d)
 
-    monitor_on_cells : (t d : ℕ) → monitor_at (frames_at (on_cells h cells w) t) d ≡ named_ref h (monitor_at (frames_at w t) d)
-    monitor_on_cells t d = ap (λ fs. monitor_at fs d) (frames_on_cells h cells w t) ∙ ap monitor_of_frame (slice_get-map (named_frame h) (frames_at w t) d) ∙ monitor_if (slice_get (frames_at w t) d)
+    monitor_on_cells : (t d : ℕ) → monitor_at (frames_at (on_cells h cells w) t) d
+        ≡ named_ref h (monitor_at (frames_at w t) d)
+    monitor_on_cells t d = ap (λ fs. monitor_at fs d) (frames_on_cells h cells w t)
+        ∙ ap monitor_of_frame (slice_get-map (named_frame h) (frames_at w t) d)
+        ∙ monitor_if (slice_get (frames_at w t) d)
 
     pub slots_on_cells : slots_of (on_cells h cells w) ≡ map (named_ref h) (slots_of w)
     slots_on_cells = through (named_field h) field_ref (λ f. value_ref f.value) w.statics.fields
@@ -72,17 +82,21 @@ module _ (h : Naming) where
     unfolding root_at
     slot_on_cells i = ap (λ rs. ref_at rs i) slots_on_cells ∙ ref_at_named (slots_of w) i
 
-    pub entry_on_cells : (t d j : ℕ) → root_at (on_cells h cells w) (FrameEntry t d j) ≡ named_ref h (root_at w (FrameEntry t d j))
+    pub entry_on_cells : (t d j : ℕ) → root_at (on_cells h cells w) (FrameEntry t d j)
+        ≡ named_ref h (root_at w (FrameEntry t d j))
     unfolding root_at
     entry_on_cells t d j = ap (λ rs. ref_at rs j) (entries_on_cells t d) ∙ ref_at_named (entries_at (frames_at w t) d) j
 
-    pub method_on_cells : (t d : ℕ) → root_at (on_cells h cells w) (MethodMonitor t d) ≡ named_ref h (root_at w (MethodMonitor t d))
+    pub method_on_cells : (t d : ℕ) → root_at (on_cells h cells w) (MethodMonitor t d)
+        ≡ named_ref h (root_at w (MethodMonitor t d))
     unfolding root_at
     method_on_cells t d = monitor_on_cells t d
 
-    pub words_on_cells : (b : ℕ) → InCell h cells w b → words_of (on_cells h cells w).objects (h b) ≡ map (named_ref h) (words_of w.objects b)
+    pub words_on_cells : (b : ℕ) → InCell h cells w b → words_of (on_cells h cells w).objects (h b)
+        ≡ map (named_ref h) (words_of w.objects b)
     words_on_cells b s = rw (object_in_cell h cells w b s, s.made) (contents_named s.object.contents)
 
-    pub word_on_cells : (b q : ℕ) → InCell h cells w b → word_at (on_cells h cells w) (h b) q ≡ named_ref h (word_at w b q)
+    pub word_on_cells : (b q : ℕ) → InCell h cells w b → word_at (on_cells h cells w) (h b) q
+        ≡ named_ref h (word_at w b q)
     unfolding word_at
     word_on_cells b q s = ap (λ rs. ref_at rs q) (words_on_cells b s) ∙ ref_at_named (words_of w.objects b) q

@@ -1,4 +1,5 @@
-use Rattle.std.proofs.Common.{is_some, Bool, ◌≡◌, ℕ, ◌+◌, List, [], ◌∷◌, map, slice_get, nat_le, not, is_none, ◌&&◌, if◌then◌else◌, Option, Some, None, refl, ◌∙◌, ap}
+use Rattle.std.proofs.Common.{is_some, Bool, ◌≡◌, ℕ, ◌+◌, List, [], ◌∷◌, map, slice_get, nat_le, not, is_none, ◌&&◌}
+use Rattle.std.proofs.Common.{if◌then◌else◌, Option, Some, None, refl, ◌∙◌, ap}
 use Rattle.std.specs.Option.{option_map}
 use Rattle.std.proofs.lemmas.Option.{slice_get-map}
 use Rattle.model.specs.declared.journals.Limits.{Limits}
@@ -65,11 +66,14 @@ module _ (h : Naming) (cells : List Cell) where
 
     pub ready_on_cells : (t : ℕ) → is_ready program on t ≡ is_ready program w t
     ready_on_cells t =
-        ap (λ live. is_none w.fault && live && not (waits (completion program on t))) (ap lives (slice_get-map (named_thread h) w.threads t) ∙ lives_named (slice_get w.threads t))
-        ∙ ap (λ b. is_none w.fault && is_live w t && not b) (ap waits (completion_on_cells h cells program w u t) ∙ waits_named (completion program w t))
+        ap (λ live. is_none w.fault && live && not (waits (completion program on t)))
+            (ap lives (slice_get-map (named_thread h) w.threads t) ∙ lives_named (slice_get w.threads t))
+        ∙ ap (λ b. is_none w.fault && is_live w t && not b) (ap waits (completion_on_cells h cells program w u t)
+            ∙ waits_named (completion program w t))
 
     pub overflows_on_cells : (t : ℕ) → overflows program limits on t ≡ overflows program limits w t
-    overflows_on_cells t = ap (passes limits.output w.output) (ap prints (completion_on_cells h cells program w u t) ∙ prints_named (completion program w t))
+    overflows_on_cells t = ap (passes limits.output w.output) (ap prints (completion_on_cells h cells program w u t)
+        ∙ prints_named (completion program w t))
 
     pub asked_on_cells : (t : ℕ) → asked program on t ≡ asked program w t
     asked_on_cells t = ap asks (completion_on_cells h cells program w u t) ∙ asks_named (completion program w t)
@@ -92,24 +96,31 @@ module _ (h : Naming) (cells : List Cell) where
 
     pub status_on_cells : status_in program on ≡ status_in program w
     status_on_cells =
-        ap (λ ns. status_by (is_some w.fault) (list_any (is_live on) ns) (list_any (is_ready program on) ns)) numbers_on_cells
-        ∙ ap (λ some. status_by (is_some w.fault) some (list_any (is_ready program on) (thread_numbers w))) (any_same (is_live on) (is_live w) live_on_cells (thread_numbers w))
-        ∙ ap (status_by (is_some w.fault) (some_lives w)) (any_same (is_ready program on) (is_ready program w) ready_on_cells (thread_numbers w))
+        ap (λ ns. status_by (is_some w.fault) (list_any (is_live on) ns) (list_any (is_ready program on) ns))
+            numbers_on_cells
+        ∙ ap (λ some. status_by (is_some w.fault) some (list_any (is_ready program on) (thread_numbers w)))
+            (any_same (is_live on) (is_live w) live_on_cells (thread_numbers w))
+        ∙ ap (status_by (is_some w.fault) (some_lives w)) (any_same (is_ready program on) (is_ready program w)
+            ready_on_cells (thread_numbers w))
 
     -- ---- refusals
 
     thread_on_cells : (t : ℕ) → thread_refusal program limits on t ≡ thread_refusal program limits w t
     thread_on_cells t =
-        ap (λ ready. if ready then (if overflows program limits on t then Some OutputFull else None) else Some NotReady) (ready_on_cells t)
-        ∙ ap (λ full. if is_ready program w t then (if full then Some OutputFull else None) else Some NotReady) (overflows_on_cells t)
+        ap (λ ready. if ready then (if overflows program limits on t then Some OutputFull else None) else Some NotReady)
+            (ready_on_cells t)
+        ∙ ap (λ full. if is_ready program w t then (if full then Some OutputFull else None) else Some NotReady)
+            (overflows_on_cells t)
 
     actor_on_cells : (actor : Actor) → actor_refusal program limits on actor ≡ actor_refusal program limits w actor
     actor_on_cells (ThreadActor t) = thread_on_cells t
     actor_on_cells Collector = refl
 
-    after_on_cells : (actor : Actor) (o : Option (Fault × ℕ)) → refusal_after program limits on actor o ≡ refusal_after program limits w actor o
+    after_on_cells : (actor : Actor) (o : Option (Fault × ℕ)) → refusal_after program limits on actor o
+        ≡ refusal_after program limits w actor o
     after_on_cells actor (Some fault) = refl
-    after_on_cells actor None = ap (λ r. if nat_le limits.steps w.rows then Some StepLimit else r) (actor_on_cells actor)
+    after_on_cells actor None = ap (λ r. if nat_le limits.steps w.rows then Some StepLimit
+        else r) (actor_on_cells actor)
 
     pub refusal_on_cells : (actor : Actor) → refusal program limits on actor ≡ refusal program limits w actor
     unfolding refusal

@@ -7,7 +7,8 @@ use Rattle.model.specs.Limits.{ShapeFits}
 use Rattle.model.specs.declared.turns.Turn.{Turn}
 use Rattle.model.specs.Worlds.{World}
 use Rattle.model.specs.Turns.{refusal}
-use Rattle.model.specs.Machines.{Recorded, Machine, machine_of, opening_machine, after_turn_by, answer_unless_refused, answer_to, told_of}
+use Rattle.model.specs.Machines.{Recorded, Machine, machine_of, opening_machine, after_turn_by, answer_unless_refused}
+use Rattle.model.specs.Machines.{answer_to, reported_of}
 use Rattle.model.specs.Collector.Runs.{Holds, moved_by, moved_by_all, machine_after}
 use Rattle.model.proofs.CollectorLemmas.Running.{moved_keeps, opening_holds, machine_after-is, machine_of-turn}
 use Rattle.join.specs.Runs.{EachRun, EachTurnIsShown}
@@ -26,24 +27,32 @@ record Keeps (shape : HeapShape) (on : CellMachine) (m : Machine) : Type 0 where
   bound : Bounded m.world
   joint : Joint on m
 
-turn_keeps : (program : List ClassListing) (shape : HeapShape) (limits : Limits) (on : CellMachine) (m : Machine) (actor : Actor) → Keeps shape on m → Keeps shape (moved_on program shape limits on actor) (moved_by program shape limits m actor)
+turn_keeps : (program : List ClassListing) (shape : HeapShape) (limits : Limits) (on : CellMachine) (m : Machine)
+    (actor : Actor) → Keeps shape on m
+    → Keeps shape (moved_on program shape limits on actor) (moved_by program shape limits m actor)
 turn_keeps program shape limits on m actor k = record {
   holds = moved_keeps program shape limits m actor k.holds;
   bound = turn_bounds program shape limits on m actor k.holds k.bound k.joint;
   joint = turn_joins program shape limits on m actor k.holds k.bound k.joint;
 }
 
-all_keep : (program : List ClassListing) (shape : HeapShape) (limits : Limits) (on : CellMachine) (m : Machine) (actors : List Actor) → Keeps shape on m → Keeps shape (moved_on_by_all program shape limits on actors) (moved_by_all program shape limits m actors)
+all_keep : (program : List ClassListing) (shape : HeapShape) (limits : Limits) (on : CellMachine) (m : Machine)
+    (actors : List Actor) → Keeps shape on m → Keeps shape (moved_on_by_all program shape limits on actors)
+    (moved_by_all program shape limits m actors)
 all_keep program shape limits on m [] k = k
 all_keep program shape limits on m (actor ∷ actors) k =
-    all_keep program shape limits (moved_on program shape limits on actor) (moved_by program shape limits m actor) actors (turn_keeps program shape limits on m actor k)
+    all_keep program shape limits (moved_on program shape limits on actor) (moved_by program shape limits m actor)
+        actors (turn_keeps program shape limits on m actor k)
 
-run_keeps : (program : List ClassListing) (shape : HeapShape) (limits : Limits) (actors : List Actor) → ShapeFits shape.small shape.medium shape.large → Keeps shape (cells_after program shape limits actors) (machine_after program shape limits actors)
+run_keeps : (program : List ClassListing) (shape : HeapShape) (limits : Limits) (actors : List Actor)
+    → ShapeFits shape.small shape.medium shape.large
+    → Keeps shape (cells_after program shape limits actors) (machine_after program shape limits actors)
 unfolding cells_after
 run_keeps program shape limits actors fits =
     rw (machine_after-is program shape limits actors)
     (all_keep program shape limits (opening_on program shape) (opening_machine program shape) actors
-    (record { holds = opening_holds program shape fits.0; bound = opening_bounded program; joint = opening_joins program shape fits }))
+    (record { holds = opening_holds program shape fits.0; bound = opening_bounded program;
+        joint = opening_joins program shape fits }))
 
 -- ---- what is promised of every run
 
@@ -54,14 +63,17 @@ pub run_reads_back : EachRun ReadsBack
 unfolding Holds
 run_reads_back program shape limits actors fits =
     let k = run_keeps program shape limits actors fits in
-    reads_back program shape limits (cells_after program shape limits actors) (machine_after program shape limits actors) k.holds k.bound k.joint
+    reads_back program shape limits (cells_after program shape limits actors)
+        (machine_after program shape limits actors) k.holds k.bound k.joint
 
 -- ---- a world's turn
 
--- what is told is told of the journal's machine after the turn
-answer_same : (v : Recorded) (on : CellMachine) (actor : Actor) (worker : ℕ) (o : Option Turn) → on.world.fault ≡ (machine_of (after_turn_by v actor worker)).world.fault → answer_if_on on o ≡ answer_unless_refused (after_turn_by v actor worker) o
+-- what is reported is told of the journal's machine after the turn
+answer_same : (v : Recorded) (on : CellMachine) (actor : Actor) (worker : ℕ) (o : Option Turn) → on.world.fault
+    ≡ (machine_of (after_turn_by v actor worker)).world.fault → answer_if_on on o
+    ≡ answer_unless_refused (after_turn_by v actor worker) o
 answer_same v on actor worker (Some refused) e = refl
-answer_same v on actor worker None e = ap told_of e
+answer_same v on actor worker None e = ap reported_of e
 
 pub turn_is_shown : EachTurnIsShown
 unfolding answer_to
@@ -79,5 +91,6 @@ turn_is_shown v on actor worker i b j =
       row = reads.row actor worker;
       answer =
           ap (answer_if_on (moved_on program shape limits on actor)) (reads.refusals actor)
-          ∙ answer_same v (moved_on program shape limits on actor) actor worker (refusal program limits (machine_of v).world actor) (ap (λ (w : World). w.fault) joint.joined.world);
+          ∙ answer_same v (moved_on program shape limits on actor) actor worker
+              (refusal program limits (machine_of v).world actor) (ap (λ (w : World). w.fault) joint.joined.world);
     }

@@ -27,13 +27,16 @@ use Rattle.model.specs.Worlds.Contents.{Instance}
 use Rattle.model.proofs.TableRows.Listings.{return, ample}
 use Rattle.model.proofs.TableRows.Stages.{class_of, field, small, main_at, world, collector, thread, account}
 use Rattle.join.specs.OnCells.{nobody}
-use Rattle.join.specs.TurnsOnCells.{CellMachine, collected_on, turned_on, moved_on, moved_on_by_all, opening_on, cells_after}
+use Rattle.join.specs.TurnsOnCells.{CellMachine, collected_on, turned_on, moved_on, moved_on_by_all, opening_on}
+use Rattle.join.specs.TurnsOnCells.{cells_after}
 
 abbrev k : List ClassListing
-k = class_of (codes "K") (field (codes "x") (codes "I") ∷ []) 1 0 [] ((3, Class New (codes "K")) ∷ (1, Stack Pop) ∷ (3, Class New (codes "K")) ∷ return ∷ []) ∷ []
+k = class_of (codes "K") (field (codes "x") (codes "I") ∷ []) 1 0 [] ((3, Class New (codes "K")) ∷ (1, Stack Pop)
+    ∷ (3, Class New (codes "K")) ∷ return ∷ []) ∷ []
 
 abbrev object : Object
-object = made_of (Instance (codes "K") (record { class = codes "K"; name = codes "x"; descriptor = codes "I"; value = Int (pos 0) } ∷ []))
+object = made_of (Instance (codes "K") (record { class = codes "K"; name = codes "x"; descriptor = codes "I";
+    value = Int (pos 0) } ∷ []))
 
 abbrev stage : World → Account → ℕ → CellMachine
 stage w a births = record { world = w; account = a; births = births }
@@ -48,7 +51,8 @@ dropped =
     (account (Taken 1 White ∷ Taken 2 White ∷ Taken 3 Grey ∷ []) [] (3 ∷ []) Idle) 4
 
 opening-dropped : moved (opening_on k (small 3)) (thread 2) ≡ dropped
-unfolding moved_on turned_on refusal completion root_at word_at builtin_classes upwards interfaces_from is_within is_subtype_within int_wrap digits
+unfolding moved_on turned_on refusal completion root_at word_at builtin_classes upwards
+    interfaces_from is_within is_subtype_within int_wrap digits
 opening-dropped = refl
 
 -- the first cycle leaves it white
@@ -88,10 +92,12 @@ again =
     (account (Taken 1 White ∷ Taken 2 White ∷ Taken 4 Grey ∷ []) [] (3 ∷ []) Idle) 5
 
 emptied-again : moved emptied (thread 1) ≡ again
-unfolding moved_on turned_on refusal completion root_at word_at builtin_classes upwards interfaces_from is_within is_subtype_within int_wrap digits
+unfolding moved_on turned_on refusal completion root_at word_at builtin_classes upwards
+    interfaces_from is_within is_subtype_within int_wrap digits
 emptied-again = refl
 
-pub same-cell : cells_after k (small 3) ample (thread 2 ++ collector 14 ++ collector 10 ++ collector 2 ++ thread 1) ≡ again
+pub same-cell : cells_after k (small 3) ample (thread 2 ++ collector 14 ++ collector 10 ++ collector 2 ++ thread 1)
+    ≡ again
 unfolding cells_after
 same-cell =
     ap (λ x. moved x (collector 14 ++ collector 10 ++ collector 2 ++ thread 1)) opening-dropped

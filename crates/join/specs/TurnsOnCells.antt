@@ -1,4 +1,5 @@
-use Rattle.std.specs.Prelude.{ℕ, zero, suc, ◌+◌, List, [], ◌∷◌, ◌++◌, length, slice_set, nat_lt, Bool, true, false, Option, Some, None, if◌then◌else◌, Result, Ok, Err}
+use Rattle.std.specs.Prelude.{ℕ, zero, suc, ◌+◌, List, [], ◌∷◌, ◌++◌, length, slice_set, nat_lt, Bool, true, false}
+use Rattle.std.specs.Prelude.{Option, Some, None, if◌then◌else◌, Result, Ok, Err}
 use Rattle.model.specs.declared.colours.Colour.TheVariants.{White, Grey, Black}
 use Rattle.model.specs.declared.colours.Phase.{Phase}
 use Rattle.model.specs.declared.colours.Phase.TheVariants.{Idle, Statics, Frames, Mark, Append}
@@ -22,7 +23,8 @@ use Rattle.model.specs.Accounts.{Account, take_cell, has_room, opening_account}
 use Rattle.model.specs.declared.colours.Cell.{Cell}
 use Rattle.model.specs.declared.colours.Cell.TheVariants.{Free, Taken}
 use Rattle.model.specs.Frames.{Frame, Moved, running, with_running, replaced_if_room}
-use Rattle.model.specs.Worlds.{World, Contents, frames_at, with_thread, with_fault, with_output, with_class_states, counted, plain_object, opening_world}
+use Rattle.model.specs.Worlds.{World, Contents, frames_at, with_thread, with_fault, with_output, with_class_states}
+use Rattle.model.specs.Worlds.{counted, plain_object, opening_world}
 use Rattle.model.specs.Worlds.Thread.{Live}
 use Rattle.model.specs.Objects.{made_of, with_object, words_in}
 use Rattle.model.specs.Results.{Effect}
@@ -31,14 +33,14 @@ use Rattle.model.specs.Completions.{Completion}
 use Rattle.model.specs.Completions.Completion.{Goes, Prints, Creates, Throws, Raises, Denies, Faults, Waits}
 use Rattle.model.specs.Turns.{refusal, is_fault}
 use Rattle.model.specs.Table.Next.{completion, asked}
-use Rattle.model.specs.Machines.{outcome_by, told_of}
+use Rattle.model.specs.Machines.{outcome_by, reported_of}
 use Rattle.model.specs.Collector.Places.{slots_of, entries_at, words_of, root_at, word_at}
 use Rattle.model.specs.Collector.Places.Place.{Slot, FrameEntry, MethodMonitor}
 use Rattle.model.specs.Collector.Table.{cell_at, at_phase, append_step}
 use Rattle.join.specs.OnCells.{nobody, on_cells}
 
--- What turns do on cells. What an instruction comes to is told by the instruction table itself, on the world on cells;
--- what follows looks at a cell, or writes one, where the account's definitions speak of births.
+-- What turns do on cells. What an instruction comes to is reported by the instruction table itself, on the world on
+-- cells; what follows looks at a cell, or writes one, where the account's definitions speak of births.
 
 -- a world whose references are numbers of cells and one more, the account with such references in its grey list, and
 -- the number of the next birth, which the world on cells doesn't tell
@@ -231,7 +233,7 @@ row_on program limits x actor worker = row_if_on program x actor worker (refusal
 -- what an actor's turn answers
 abbrev pub answer_if_on : CellMachine → Option Turn → Turn
 answer_if_on after (Some refused) = refused
-answer_if_on after None = told_of after.world.fault
+answer_if_on after None = reported_of after.world.fault
 
 abbrev pub answer_on : List ClassListing → HeapShape → Limits → CellMachine → Actor → Turn
 answer_on program shape limits x actor =

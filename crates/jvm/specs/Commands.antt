@@ -11,8 +11,8 @@ HasFiles (Replay options) = 0 < length options.files.items
 HasFiles (Upgrade options) = Unit {0}
 HasFiles (Explain code) = Unit {0}
 
--- the numbers that no world tests lie in their ranges: how many turns the collector makes after one of a thread, and how many
--- carriers there are
+-- the numbers that no world tests lie in their ranges: how many turns the collector makes after one of a thread, and
+-- how many carriers there are
 abbrev pub InRange : Command → Type 0
 InRange (Run options) = (options.gc ≤ 1000) × (1 ≤ options.carriers) × (options.carriers ≤ 8)
 InRange (Assemble options) = Unit {0}

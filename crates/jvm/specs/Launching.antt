@@ -7,7 +7,8 @@ use Rattle.classfile.specs.declared.error.ClassError.TheVariants.{Memory as Clas
 use Rattle.loader.specs.Errors.{IsRefusedBy}
 use Rattle.model.specs.Limits.{ShapeFits, LimitsFit}
 use Rattle.scheduler.specs.declared.worlds.WorldError.{WorldError}
-use Rattle.scheduler.specs.declared.worlds.WorldError.TheVariants.{Shape, Limits as OfLimits, Memory as WorldMemory, Frames as OpeningFrames}
+use Rattle.scheduler.specs.declared.worlds.WorldError.TheVariants.{Shape, Limits as OfLimits, Memory as WorldMemory}
+use Rattle.scheduler.specs.declared.worlds.WorldError.TheVariants.{Frames as OpeningFrames}
 use Rattle.jvm.specs.declared.sources.SourceError.{SourceError}
 use Rattle.jvm.specs.declared.sources.SourceError.TheVariants.{Text, Assembly, Class, Memory}
 use Rattle.jvm.specs.declared.launching.LaunchError.{LaunchError}
@@ -42,7 +43,8 @@ IsClassListing bytes listing = (c : ClassPart) × IsClassFile bytes c × (listin
 
 -- the listing of a text that assembles
 abbrev pub IsTextListing : List ℕ → ClassListing → Type 0
-IsTextListing text listing = (t : Tree) × (tree_of text ≡ Some t) × (assembles t ≡ true) × (listing ≡ texts.listing_of t)
+IsTextListing text listing = (t : Tree) × (tree_of text ≡ Some t) × (assembles t ≡ true)
+    × (listing ≡ texts.listing_of t)
 
 abbrev pub IsListingBy : Bool → List ℕ → ClassListing → Type 0
 IsListingBy true source listing = IsClassListing source listing
@@ -67,7 +69,8 @@ pub record AreAccepted (sources : List (List ℕ)) : Type 0 where
 
 -- ---- what a launch gives: the sources have listings that are a program, its opening, the shape and the limits are in
 -- range, and the world is the one that the actors lead to from the opening of that program
-pub record IsLaunched (sources : List (List ℕ)) (shape : HeapShape) (limits : Limits) (actors : List Actor) (world : Recorded) : Type 0 where
+pub record IsLaunched (sources : List (List ℕ)) (shape : HeapShape) (limits : Limits) (actors : List Actor)
+    (world : Recorded) : Type 0 where
   pub program : List ClassListing
   pub listings_are : AreListings sources program
   pub accepted : refusal_of program ≡ None
@@ -104,8 +107,8 @@ pub record OpensTooWide (sources : List (List ℕ)) : Type 0 where
   pub accepted : refusal_of program ≡ None
   pub wide : opening_fits program ≡ false
 
--- where the sources are a program: a shape out of range, else limits out of range, else opening frames that don't fit. Or
--- want of memory
+-- where the sources are a program: a shape out of range, else limits out of range, else opening frames that don't fit.
+-- Or want of memory
 abbrev pub ExcusesWorld : List (List ℕ) → HeapShape → Limits → WorldError → Type 0
 ExcusesWorld sources shape limits Shape = AreAccepted sources × (ShapeFits shape.small shape.medium shape.large → ⊥)
 ExcusesWorld sources shape limits OfLimits =
@@ -113,9 +116,10 @@ ExcusesWorld sources shape limits OfLimits =
 ExcusesWorld sources shape limits WorldMemory = Unit {0}
 ExcusesWorld sources shape limits OpeningFrames = OpensTooWide sources
 
--- but for want of memory a source is refused only where it has no listing and all before it have one; listings, once all
--- sources have one, by their first broken rule; shape, limits and opening once these are accepted
+-- but for want of memory a source is refused only where it has no listing and all before it have one; listings, once
+-- all sources have one, by their first broken rule; shape, limits and opening once these are accepted
 abbrev pub Excuses : List (List ℕ) → HeapShape → Limits → LaunchError → Type 0
 Excuses sources shape limits (Source place e) = IsRefusedAt sources place e
-Excuses sources shape limits (Load e) = (program : List ClassListing) × AreListings sources program × IsRefusedBy program e
+Excuses sources shape limits (Load e) = (program : List ClassListing) × AreListings sources program
+    × IsRefusedBy program e
 Excuses sources shape limits (World e) = ExcusesWorld sources shape limits e

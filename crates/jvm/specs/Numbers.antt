@@ -10,14 +10,14 @@ abbrev pub ReadsAs : List ℕ → Option ℕ → Type 0
 ReadsAs text (Some n) = n ≡ digits_value 10 (without_leading_plus text)
 ReadsAs text None = IsNumeral 10 (without_leading_plus text) → digits_value 10 (without_leading_plus text) < 2 ^ 32 → ⊥
 
--- what the words say behind an option's name, and 0 where that is no number
+-- what the words say after an option's name, and 0 where that is no number
 pub record IsNumber (words : Found) (name : List ℕ) (n : ℕ) : Type 0 where
   pub read : Option ℕ
   pub is : n ≡ unwrap_or read 0
   pub of_text : (text : List ℕ) → one_text words name ≡ Some text → ReadsAs text read
   pub of_none : one_text words name ≡ None → read ≡ None
 
--- each number stands behind its own name
+-- each number stands after its own name
 pub record HasNumbers (words : Found) (options : RunOptions) : Type 0 where
   pub small : IsNumber words (codes "small") options.small
   pub medium : IsNumber words (codes "medium") options.medium

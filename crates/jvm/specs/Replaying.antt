@@ -11,8 +11,8 @@ use Rattle.jvm.specs.declared.replaying.ReplayedError.{ReplayedError}
 use Rattle.jvm.specs.declared.replaying.ReplayedError.TheVariants.{Launch, Replay}
 use Rattle.jvm.specs.Launching.{AreListings, Excuses}
 
--- what a replay gives: the sources have listings that are a program, a run of that program made the journal, and the world
--- is the one of the two
+-- what a replay gives: the sources have listings that are a program, a run of that program made the journal, and the
+-- world is the one of the two
 pub record IsReplayed (sources : List (List ℕ)) (journal : JournalValue) (world : Recorded) : Type 0 where
   pub program : List ClassListing
   pub listings_are : AreListings sources program

@@ -17,13 +17,13 @@ use std::sync::Wait;
 use std::sync::ledger::{Blank, Ledger};
 use std::thread::Threads;
 
-/// How many rounds a carrier makes at most behind its first one, before it looks whether a collection is due.
+/// How many rounds a carrier makes at most after its first one, before it looks whether a collection is due.
 const EXTRA: u32 = 255;
 
 /// How many rounds it makes at most each time it has the lock, and how many turns the collector.
 const ROUNDS: u32 = 16_384;
 
-/// How many rounds a worker makes behind its first one on a heap of this shape: on a small one a carrier looks sooner
+/// How many rounds a worker makes after its first one on a heap of this shape: on a small one a carrier looks sooner
 /// whether a collection is due, so that it isn't full of garbage before.
 fn burst_of(shape: HeapShape) -> Burst {
     let cells = shape
@@ -46,7 +46,7 @@ impl Gate for Open {
     fn before(&self, _worker: usize, _turn: u64) {}
 }
 
-/// The roles of a run: so many carriers, and behind them the collector.
+/// The roles of a run: so many carriers, and after them the collector.
 fn roles_of(alloc: Global, carriers: u8) -> Result<Vec<Role>, AllocError>
     ensures { IfOk result (λ roles. vec_len roles ≡ carriers + 1) }
 {
@@ -125,7 +125,7 @@ fn carried_alone(mut world: World, gc: u32) -> World
 /// Makes the turns of a world that has made none, until it runs no more or its steps or its output are at their limit.
 /// One carrier makes rounds of the thread that is picked and so many turns of the collector; several share the turns of
 /// the threads, and one worker more makes the collector's, each in a thread of the system. The journal tells the worker
-/// of each turn: the carriers by number from 0, the collector behind them. H2 where memory runs out, H3 where a thread
+/// of each turn: the carriers by number from 0, the collector after them. H2 where memory runs out, H3 where a thread
 /// couldn't be started.
 pub fn carried<R: Threads + Wait + Sync>(
     rt: &R,

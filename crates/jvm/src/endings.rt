@@ -42,7 +42,7 @@ impl Exit {
     }
 }
 
-/// An end, and the line that goes to standard error behind `jvm: `; `memory` where an end that isn't good has none.
+/// An end, and the line that goes to standard error after `jvm: `; `memory` where an end that isn't good has none.
 #[derive(Drop)]
 pub struct Ending {
     pub exit: Exit,
@@ -59,7 +59,7 @@ impl Ending {
     }
 
     /// This end and this line; `jvm: memory` where there is no memory for the line.
-    pub fn told(exit: Exit, line: Result<String, AllocError>) -> Ending {
+    pub fn reported(exit: Exit, line: Result<String, AllocError>) -> Ending {
         match line {
             Ok(line) => Ending {
                 exit,

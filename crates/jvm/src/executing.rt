@@ -40,7 +40,7 @@ pub fn read_one<F: Files>(alloc: Global, files: &mut F, name: &String) -> Result
     match files.read(alloc, name.as_str()) {
         Ok(bytes) => Ok(bytes),
         Err(ReadError::Memory) => Err(Ending::memory()),
-        Err(ReadError::Failed) => Err(Ending::told(
+        Err(ReadError::Failed) => Err(Ending::reported(
             Exit::System,
             format!(in alloc; "cannot read {name}"),
         )),
@@ -72,7 +72,7 @@ pub fn write_one<F: Files>(
 ) -> Result<(), Ending> {
     match files.write(name.as_str(), bytes) {
         Ok(()) => Ok(()),
-        Err(_) => Err(Ending::told(Exit::System, format!(in alloc; "cannot write {name}"))),
+        Err(_) => Err(Ending::reported(Exit::System, format!(in alloc; "cannot write {name}"))),
     }
 }
 
@@ -87,7 +87,7 @@ fn source_refused(alloc: Global, name: &String, error: &SourceError) -> Ending {
     if lacks_memory {
         Ending::memory()
     } else {
-        Ending::told(Exit::Refused, format!(in alloc; "{name}: {error}"))
+        Ending::reported(Exit::Refused, format!(in alloc; "{name}: {error}"))
     }
 }
 
@@ -99,18 +99,21 @@ pub fn refused(alloc: Global, names: &[String], error: &LaunchError) -> Ending {
             None => Ending::memory(),
         },
         LaunchError::Load(LoadError::Memory(_)) => Ending::memory(),
-        LaunchError::Load(error) => Ending::told(Exit::Refused, format!(in alloc; "load: {error}")),
+        LaunchError::Load(error) => Ending::reported(
+            Exit::Refused,
+            format!(in alloc; "load: {error}"),
+        ),
         LaunchError::World(WorldError::Memory) => Ending::memory(),
-        LaunchError::World(error) => Ending::told(
+        LaunchError::World(error) => Ending::reported(
             Exit::Refused,
             format!(in alloc; "world: {error}"),
         ),
     }
 }
 
-/// A line for each thread that was ended by an exception, by number, each but the first behind `jvm: `; empty where
+/// A line for each thread that was ended by an exception, by number, each but the first after `jvm: `; empty where
 /// there is none. `AllocError` where memory runs out.
-fn exceptions_told(alloc: Global, world: &World) -> Result<String, AllocError> {
+fn exceptions_reported(alloc: Global, world: &World) -> Result<String, AllocError> {
     let mut lines = String::new(alloc);
     for thread in 0..=u8::MAX {
         let Some(view) = world.thread(thread)? else {
@@ -129,9 +132,9 @@ fn exceptions_told(alloc: Global, world: &World) -> Result<String, AllocError> {
 
 /// How a world ends whose threads have all ended.
 fn finished(alloc: Global, world: &World) -> Ending {
-    match exceptions_told(alloc, world) {
+    match exceptions_reported(alloc, world) {
         Ok(lines) if lines.is_empty() => Ending::good(),
-        lines => Ending::told(Exit::Exception, lines),
+        lines => Ending::reported(Exit::Exception, lines),
     }
 }
 
@@ -139,18 +142,18 @@ fn finished(alloc: Global, world: &World) -> Ending {
 pub fn ended(alloc: Global, world: &World) -> Ending {
     match (world.fault(), world.status()) {
         (Some((fault, thread)), _) => {
-            Ending::told(
+            Ending::reported(
                 Exit::Fault,
                 format!(in alloc; "fault {fault} in thread {thread}"),
             )
         }
         (None, Status::Finished) => finished(alloc, world),
-        (None, Status::Stuck) => Ending::told(Exit::Stuck, format!(in alloc; "stuck")),
+        (None, Status::Stuck) => Ending::reported(Exit::Stuck, format!(in alloc; "stuck")),
         (None, _) => {
             if world.output_full() {
-                Ending::told(Exit::Limit, format!(in alloc; "output limit"))
+                Ending::reported(Exit::Limit, format!(in alloc; "output limit"))
             } else {
-                Ending::told(Exit::Limit, format!(in alloc; "step limit"))
+                Ending::reported(Exit::Limit, format!(in alloc; "step limit"))
             }
         }
     }
@@ -179,7 +182,7 @@ fn launched<F: Files>(alloc: Global, options: &RunOptions, files: &mut F) -> Res
 fn write_text<W: Write>(alloc: Global, bytes: &[u8], output: &mut W) -> Result<Ending, Ending> {
     match output.write_all(bytes) {
         Ok(()) => Ok(Ending::good()),
-        Err(_) => Err(Ending::told(Exit::System, format!(in alloc; "cannot write -"))),
+        Err(_) => Err(Ending::reported(Exit::System, format!(in alloc; "cannot write -"))),
     }
 }
 
@@ -193,8 +196,8 @@ pub fn write_output<W: Write>(alloc: Global, world: &World, output: &mut W) -> R
 fn not_carried(alloc: Global, error: HallError) -> Ending {
     match error {
         HallError::Memory => Ending::memory(),
-        HallError::Thread => Ending::told(Exit::System, format!(in alloc; "no thread")),
-        HallError::Roles | HallError::World => Ending::told(
+        HallError::Thread => Ending::reported(Exit::System, format!(in alloc; "no thread")),
+        HallError::Roles | HallError::World => Ending::reported(
             Exit::System,
             format!(in alloc; "hall"),
         ),
@@ -206,7 +209,7 @@ fn not_carried(alloc: Global, error: HallError) -> Ending {
 fn checked(alloc: Global, world: &World) -> Ending {
     match first_difference(alloc, world) {
         Ok(None) => ended(alloc, world),
-        Ok(Some(row)) => Ending::told(Exit::Differs, format!(in alloc; "row {row} differs")),
+        Ok(Some(row)) => Ending::reported(Exit::Differs, format!(in alloc; "row {row} differs")),
         Err(_) => Ending::memory(),
     }
 }
@@ -304,7 +307,7 @@ fn explain<W: Write>(
     match code {
         Some(code) => match meaning(code.as_str()) {
             Some(text) => write_text(alloc, text.as_bytes(), output),
-            None => Err(Ending::told(Exit::CommandLine, format!(in alloc; "no code {code}"))),
+            None => Err(Ending::reported(Exit::CommandLine, format!(in alloc; "no code {code}"))),
         },
         None => match all_codes(alloc) {
             Ok(lines) => write_text(alloc, lines.as_str().as_bytes(), output),

@@ -76,7 +76,7 @@ fn text_meaning(number: u32) -> Option<&'static str> {
              Use a mnemonic of JVMS 6.5; strings, class constants, `jsr` and `multianewarray` are left out.\n",
         3 => "A statement has the wrong words: too few, too many, or one that is not of its kind.\n\
              Example: `iload x`, `getfield A/f` without a descriptor, a flag twice, `float` as a type.\n\
-             Look at the statement's form; a label behind the last instruction is for `.catch` alone.\n",
+             Look at the statement's form; a label after the last instruction is for `.catch` alone.\n",
         4 => "A number is out of its range.\n\
              Example: `bipush 200`, which holds -128 to 127.\n\
              Take a wider form: `sipush`, `ldc`, `ldc2_w`.\n",
@@ -211,7 +211,7 @@ fn program_meaning(number: u32) -> Option<&'static str> {
              Name another superclass.\n",
         4 => "A superclass is an interface or final, or a superinterface is none.\n\
              Example: `.super Runn` where Runn is an interface.\n\
-             Interfaces stand behind `.implements`, classes that are not final behind `.super`.\n",
+             Interfaces stand after `.implements`, classes that are not final after `.super`.\n",
         5 => "A class has two fields, or two methods, of one name and descriptor.\n\
              Example: a line `.field x I` twice.\n\
              Rename one of the two.\n",

@@ -29,7 +29,7 @@ pub enum LaunchError {
     World(WorldError),
 }
 
-/// The listings of some sources, in order; the first that has none is told with its place.
+/// The listings of some sources, in order; the first that has none is reported with its place.
 fn read_sources(alloc: Global, sources: &[Vec<u8>]) -> Result<Vec<Listing>, LaunchError>
     ensures { MatchResult result (λ listings. AreListings (bytes_of sources.now) listings.items)
         (λ e. (shape : HeapShape) (limits : Limits) → Excuses (bytes_of sources.now) shape limits e) }
@@ -73,7 +73,7 @@ pub fn program_of(alloc: Global, sources: &[Vec<u8>]) -> Result<Program, LaunchE
 /// Reads class files and texts, makes a world of their classes, and lets the actors take their turns in it, one each. A
 /// source that begins with cafebabe is a class file, every other one a text.
 ///
-/// The first of these refusals that is met is told: the first source that is no class file, or isn't in the text
+/// The first of these refusals that is met is reported: the first source that is no class file, or isn't in the text
 /// relation or doesn't assemble, by its place; the first rule that the listings break; P1, P2, and P4 where the frames
 /// that the program opens with pass a thread's limits. Want of memory may come in place of any.
 pub fn launch(

@@ -188,7 +188,7 @@ fn explain_line<'a>(alloc: Global) -> Result<Line<'a>, AllocError> {
         .arg(code)
 }
 
-/// The words that clap reads: the commands and what stands behind them.
+/// The words that clap reads: the commands and what stands after them.
 fn line<'a>(alloc: Global) -> Result<Line<'a>, AllocError> {
     let asm = Line::new(alloc, "asm")
         .about("Writes the class file of a Jasmin text")
@@ -246,7 +246,7 @@ fn number_of(matches: &ArgMatches<'_>, name: &str) -> u32
     matches.get_one::<u32>(name).unwrap_or(0)
 }
 
-/// The options of `run`, each number from the words behind its own name.
+/// The options of `run`, each number from the words after its own name.
 fn run_options(alloc: Global, matches: &ArgMatches<'_>) -> Result<RunOptions, LineError>
     ensures numbers { IfOk result (HasNumbers (found_of matches.now)) }
     ensures files { IfOk result (λ options. 0 < length options.files.items) }
@@ -274,7 +274,7 @@ fn run_options(alloc: Global, matches: &ArgMatches<'_>) -> Result<RunOptions, Li
 }
 
 /// What clap says of words that it doesn't take, or `Memory` where it had none.
-fn told(alloc: Global, error: ClapError) -> Result<LineError, AllocError> {
+fn reported(alloc: Global, error: ClapError) -> Result<LineError, AllocError> {
     if error.kind() == ErrorKind::OutOfMemory {
         return Ok(LineError::Memory);
     }
@@ -310,6 +310,6 @@ pub fn options(alloc: Global, words: &[&str]) -> Result<Command, LineError>
             Some((_, run)) => Ok(Command::Run(run_options(alloc, run)?)),
             None => Err(LineError::Options),
         },
-        Err(error) => Err(told(alloc, error)?),
+        Err(error) => Err(reported(alloc, error)?),
     }
 }

@@ -20,9 +20,9 @@ pub enum ReplayedError {
 
 /// Reads class files and texts as `launch` does, and replays a journal on the program of their classes.
 ///
-/// The first of these refusals that is met is told: the first source that has no listing, by its place; the first rule
-/// that the listings break; P4 where the frames that the program opens with pass a thread's limits; the first row that
-/// isn't the one of its turn. Want of memory may come in place of any.
+/// The first of these refusals that is met is reported: the first source that has no listing, by its place; the first
+/// rule that the listings break; P4 where the frames that the program opens with pass a thread's limits; the first row
+/// that isn't the one of its turn. Want of memory may come in place of any.
 pub fn replayed(
     alloc: Global,
     sources: Vec<Vec<u8>>,

@@ -37,7 +37,7 @@ fn read_stored<F: Files>(
     match read_journal(alloc, text.as_slice()) {
         Ok(journal) => Ok(journal),
         Err(JournalError::Memory) => Err(Ending::memory()),
-        Err(error) => Err(Ending::told(Exit::Refused, format!(in alloc; "journal {error}"))),
+        Err(error) => Err(Ending::reported(Exit::Refused, format!(in alloc; "journal {error}"))),
     }
 }
 
@@ -47,9 +47,9 @@ fn not_replayed(alloc: Global, names: &[String], error: &ReplayedError) -> Endin
         ReplayedError::Launch(error) => refused(alloc, names, error),
         ReplayedError::Replay(ReplayError::Memory) => Ending::memory(),
         ReplayedError::Replay(ReplayError::Frames) => {
-            Ending::told(Exit::Refused, format!(in alloc; "world: P4"))
+            Ending::reported(Exit::Refused, format!(in alloc; "world: P4"))
         }
-        ReplayedError::Replay(error) => Ending::told(
+        ReplayedError::Replay(error) => Ending::reported(
             Exit::Refused,
             format!(in alloc; "journal {error}"),
         ),

@@ -1,5 +1,6 @@
 -- Which classes want initialising: by the names upwards that are those of classes with an initializer.
-use Rattle.std.proofs.Common.{◌≡◌, ℕ, zero, suc, ◌+◌, ◌-◌, ◌<◌, ◌≤◌, List, [], ◌∷◌, Bool, true, false, ◌&&◌, ◌||◌, not, Option, Some, None, refl, arith, ap, sym, ◌∙◌}
+use Rattle.std.proofs.Common.{◌≡◌, ℕ, zero, suc, ◌+◌, ◌-◌, ◌<◌, ◌≤◌, List, [], ◌∷◌, Bool, true, false, ◌&&◌, ◌||◌, not}
+use Rattle.std.proofs.Common.{Option, Some, None, refl, arith, ap, sym, ◌∙◌}
 use Rattle.std.specs.List.{list_any}
 use Rattle.std.specs.Str.{bytes_eq}
 use Rattle.model.specs.ClassListings.{ClassListing}
@@ -15,29 +16,35 @@ module _ (test : List ℕ → Bool) (program : List ClassListing) where
   on : (n : ℕ) (name : List ℕ) (c : ClassListing) → Some c ≡ class_named program name
       → list_any test (upwards (suc n) program name) ≡ (test name || list_any test (upwards n program c.superclass))
   unfolding upwards
-  on n name c found = ap (λ (o : Option ClassListing). list_any test (with_superclasses name (λ above. upwards n program above) o)) (sym found)
+  on n name c found = ap (λ (o : Option ClassListing). list_any test
+      (with_superclasses name (λ above. upwards n program above) o)) (sym found)
 
   missing : (n : ℕ) (name : List ℕ) → None ≡ class_named program name → list_any test (upwards n program name) ≡ false
   unfolding upwards
   missing zero name found = refl
-  missing (suc n) name found = ap (λ (o : Option ClassListing). list_any test (with_superclasses name (λ above. upwards n program above) o)) (sym found)
+  missing (suc n) name found = ap (λ (o : Option ClassListing). list_any test
+      (with_superclasses name (λ above. upwards n program above) o)) (sym found)
 
   over : (n : ℕ) (name : List ℕ) → n ≡ 0 → list_any test (upwards n program name) ≡ false
   unfolding upwards
   over n name e = rw e refl
 
-  module _ (steps passed : ℕ) (name : List ℕ) (whole : Bool) (h : list_any test (upwards (steps - passed) program name) ≡ whole) where
+  module _ (steps passed : ℕ) (name : List ℕ) (whole : Bool) (h : list_any test (upwards (steps - passed) program name)
+      ≡ whole) where
     one : (c : ClassListing) → Some c ≡ class_named program name → passed < steps
         → (test name || list_any test (upwards (steps - (passed + 1)) program c.superclass)) ≡ whole
     one c found inside =
         let next : steps - passed ≡ suc (steps - (passed + 1)) = omega (arith, inside) in
-        sym (on (steps - (passed + 1)) name c found) ∙ ap (λ (n : ℕ). list_any test (upwards n program name)) (sym next) ∙ h
+        sym (on (steps - (passed + 1)) name c found) ∙ ap (λ (n : ℕ). list_any test (upwards n program name)) (sym next)
+            ∙ h
 
-    pub upwards-found : (c : ClassListing) → Some c ≡ class_named program name → passed < steps → true ≡ test name → true ≡ whole
+    pub upwards-found : (c : ClassListing) → Some c ≡ class_named program name → passed < steps → true ≡ test name
+        → true ≡ whole
     upwards-found c found inside passes =
         ap (λ b. b || list_any test (upwards (steps - (passed + 1)) program c.superclass)) passes ∙ one c found inside
 
-    pub upwards-next : (c : ClassListing) (above : List ℕ) → Some c ≡ class_named program name → passed < steps → false ≡ test name → above ≡ c.superclass
+    pub upwards-next : (c : ClassListing) (above : List ℕ) → Some c ≡ class_named program name → passed < steps
+        → false ≡ test name → above ≡ c.superclass
         → list_any test (upwards (steps - (passed + 1)) program above) ≡ whole
     upwards-next c above found inside fails is =
         ap (λ (a : List ℕ). list_any test (upwards (steps - (passed + 1)) program a)) is
@@ -81,7 +88,9 @@ module _ {A B : Type 0} where
       ∙ sym (any-or (λ y. test x && meets x y) (λ y. list_any (λ a. test a && meets a y) xs) ys)
 
 pub wants-upwards : (program : List ClassListing) (c : ClassListing)
-    → (list_any (declares_named program) (superclasses program c.name) && not (is_interface c)) ≡ wants_initialising program c
+    → (list_any (declares_named program) (superclasses program c.name) && not (is_interface c))
+        ≡ wants_initialising program c
 wants-upwards program c =
     ap (λ b. b && not (is_interface c))
-    (sym (any-any declares_initializer (λ (above : ClassListing). bytes_eq above.name) program (superclasses program c.name)))
+    (sym (any-any declares_initializer (λ (above : ClassListing). bytes_eq above.name) program
+        (superclasses program c.name)))

@@ -5,12 +5,14 @@ use Rattle.model.specs.declared.listings.Placed.{Placed}
 use Rattle.loader.specs.StepLists.{offset_from}
 
 -- an offset is above 0 where an instruction begins
-at_one : (n : ℕ) (same : Bool) (rest : ℕ) (begins : Bool) → ltb 0 rest ≡ begins → ltb 0 (if same then suc n else rest) ≡ (same || begins)
-at_one n true rest begins behind = grind arith
-at_one n false rest begins behind = behind
+at_one : (n : ℕ) (same : Bool) (rest : ℕ) (begins : Bool) → ltb 0 rest ≡ begins → ltb 0 (if same then suc n else rest)
+    ≡ (same || begins)
+at_one n true rest begins following = grind arith
+at_one n false rest begins following = following
 
 pub begins-at : (n : ℕ) (instructions : List Placed) (pc : ℕ)
     → ltb 0 (offset_from (suc n) instructions pc) ≡ list_any (λ (i : Placed). i.pc == pc) instructions
 begins-at n [] pc = refl
 begins-at n (i ∷ is) pc =
-    at_one n (i.pc == pc) (offset_from (suc (suc n)) is pc) (list_any (λ (x : Placed). x.pc == pc) is) (begins-at (suc n) is pc)
+    at_one n (i.pc == pc) (offset_from (suc (suc n)) is pc) (list_any (λ (x : Placed). x.pc == pc) is)
+        (begins-at (suc n) is pc)

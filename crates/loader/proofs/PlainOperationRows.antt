@@ -26,7 +26,8 @@ use Rattle.loader.specs.PlainOperations.{plain_operation}
 null : plain_operation (instruction.Constant constant.Null) ≡ Some operation.AconstNull
 null = refl
 
-minus-one : plain_operation (instruction.Constant (constant.SmallInt small.MinusOne)) ≡ Some (operation.Iconst (negsuc 0))
+minus-one : plain_operation (instruction.Constant (constant.SmallInt small.MinusOne))
+    ≡ Some (operation.Iconst (negsuc 0))
 minus-one = refl
 
 zero : plain_operation (instruction.Constant (constant.SmallInt small.Zero)) ≡ Some (operation.Iconst (pos 0))
@@ -59,19 +60,23 @@ byte = refl
 short : plain_operation (instruction.Constant (constant.Short (negsuc 32767))) ≡ Some (operation.Iconst (negsuc 32767))
 short = refl
 
-ldc : plain_operation (instruction.Constant (constant.Int width.Narrow (pos 65536))) ≡ Some (operation.Iconst (pos 65536))
+ldc : plain_operation (instruction.Constant (constant.Int width.Narrow (pos 65536)))
+    ≡ Some (operation.Iconst (pos 65536))
 ldc = refl
 
-ldc_w : plain_operation (instruction.Constant (constant.Int width.Wide (negsuc 65535))) ≡ Some (operation.Iconst (negsuc 65535))
+ldc_w : plain_operation (instruction.Constant (constant.Int width.Wide (negsuc 65535)))
+    ≡ Some (operation.Iconst (negsuc 65535))
 ldc_w = refl
 
-greatest-short-long : plain_operation (instruction.Constant (constant.Long (pos 2147483647))) ≡ Some (operation.Lconst (pos 2147483647))
+greatest-short-long : plain_operation (instruction.Constant (constant.Long (pos 2147483647)))
+    ≡ Some (operation.Lconst (pos 2147483647))
 greatest-short-long = refl
 
 least-wide-long : plain_operation (instruction.Constant (constant.Long (pos 2147483648))) ≡ Some operation.Aside
 least-wide-long = refl
 
-least-short-long : plain_operation (instruction.Constant (constant.Long (negsuc 2147483647))) ≡ Some (operation.Lconst (negsuc 2147483647))
+least-short-long : plain_operation (instruction.Constant (constant.Long (negsuc 2147483647)))
+    ≡ Some (operation.Lconst (negsuc 2147483647))
 least-short-long = refl
 
 greatest-wide-long : plain_operation (instruction.Constant (constant.Long (negsuc 2147483648))) ≡ Some operation.Aside
@@ -79,118 +84,154 @@ greatest-wide-long = refl
 
 -- ---- locals
 
-load-int-0 : plain_operation (instruction.Local (access.Load kind.Int (place.First first.Zero))) ≡ Some (operation.Iload 0)
+load-int-0 : plain_operation (instruction.Local (access.Load kind.Int (place.First first.Zero)))
+    ≡ Some (operation.Iload 0)
 load-int-0 = refl
 
-store-int-0 : plain_operation (instruction.Local (access.Store kind.Int (place.First first.Zero))) ≡ Some (operation.Istore 0)
+store-int-0 : plain_operation (instruction.Local (access.Store kind.Int (place.First first.Zero)))
+    ≡ Some (operation.Istore 0)
 store-int-0 = refl
 
-load-long-0 : plain_operation (instruction.Local (access.Load kind.Long (place.First first.Zero))) ≡ Some (operation.Lload 0)
+load-long-0 : plain_operation (instruction.Local (access.Load kind.Long (place.First first.Zero)))
+    ≡ Some (operation.Lload 0)
 load-long-0 = refl
 
-store-long-0 : plain_operation (instruction.Local (access.Store kind.Long (place.First first.Zero))) ≡ Some (operation.Lstore 0)
+store-long-0 : plain_operation (instruction.Local (access.Store kind.Long (place.First first.Zero)))
+    ≡ Some (operation.Lstore 0)
 store-long-0 = refl
 
-load-ref-0 : plain_operation (instruction.Local (access.Load kind.Ref (place.First first.Zero))) ≡ Some (operation.Aload 0)
+load-ref-0 : plain_operation (instruction.Local (access.Load kind.Ref (place.First first.Zero)))
+    ≡ Some (operation.Aload 0)
 load-ref-0 = refl
 
-store-ref-0 : plain_operation (instruction.Local (access.Store kind.Ref (place.First first.Zero))) ≡ Some (operation.Astore 0)
+store-ref-0 : plain_operation (instruction.Local (access.Store kind.Ref (place.First first.Zero)))
+    ≡ Some (operation.Astore 0)
 store-ref-0 = refl
 
-load-int-1 : plain_operation (instruction.Local (access.Load kind.Int (place.First first.One))) ≡ Some (operation.Iload 1)
+load-int-1 : plain_operation (instruction.Local (access.Load kind.Int (place.First first.One)))
+    ≡ Some (operation.Iload 1)
 load-int-1 = refl
 
-store-int-1 : plain_operation (instruction.Local (access.Store kind.Int (place.First first.One))) ≡ Some (operation.Istore 1)
+store-int-1 : plain_operation (instruction.Local (access.Store kind.Int (place.First first.One)))
+    ≡ Some (operation.Istore 1)
 store-int-1 = refl
 
-load-long-1 : plain_operation (instruction.Local (access.Load kind.Long (place.First first.One))) ≡ Some (operation.Lload 1)
+load-long-1 : plain_operation (instruction.Local (access.Load kind.Long (place.First first.One)))
+    ≡ Some (operation.Lload 1)
 load-long-1 = refl
 
-store-long-1 : plain_operation (instruction.Local (access.Store kind.Long (place.First first.One))) ≡ Some (operation.Lstore 1)
+store-long-1 : plain_operation (instruction.Local (access.Store kind.Long (place.First first.One)))
+    ≡ Some (operation.Lstore 1)
 store-long-1 = refl
 
-load-ref-1 : plain_operation (instruction.Local (access.Load kind.Ref (place.First first.One))) ≡ Some (operation.Aload 1)
+load-ref-1 : plain_operation (instruction.Local (access.Load kind.Ref (place.First first.One)))
+    ≡ Some (operation.Aload 1)
 load-ref-1 = refl
 
-store-ref-1 : plain_operation (instruction.Local (access.Store kind.Ref (place.First first.One))) ≡ Some (operation.Astore 1)
+store-ref-1 : plain_operation (instruction.Local (access.Store kind.Ref (place.First first.One)))
+    ≡ Some (operation.Astore 1)
 store-ref-1 = refl
 
-load-int-2 : plain_operation (instruction.Local (access.Load kind.Int (place.First first.Two))) ≡ Some (operation.Iload 2)
+load-int-2 : plain_operation (instruction.Local (access.Load kind.Int (place.First first.Two)))
+    ≡ Some (operation.Iload 2)
 load-int-2 = refl
 
-store-int-2 : plain_operation (instruction.Local (access.Store kind.Int (place.First first.Two))) ≡ Some (operation.Istore 2)
+store-int-2 : plain_operation (instruction.Local (access.Store kind.Int (place.First first.Two)))
+    ≡ Some (operation.Istore 2)
 store-int-2 = refl
 
-load-long-2 : plain_operation (instruction.Local (access.Load kind.Long (place.First first.Two))) ≡ Some (operation.Lload 2)
+load-long-2 : plain_operation (instruction.Local (access.Load kind.Long (place.First first.Two)))
+    ≡ Some (operation.Lload 2)
 load-long-2 = refl
 
-store-long-2 : plain_operation (instruction.Local (access.Store kind.Long (place.First first.Two))) ≡ Some (operation.Lstore 2)
+store-long-2 : plain_operation (instruction.Local (access.Store kind.Long (place.First first.Two)))
+    ≡ Some (operation.Lstore 2)
 store-long-2 = refl
 
-load-ref-2 : plain_operation (instruction.Local (access.Load kind.Ref (place.First first.Two))) ≡ Some (operation.Aload 2)
+load-ref-2 : plain_operation (instruction.Local (access.Load kind.Ref (place.First first.Two)))
+    ≡ Some (operation.Aload 2)
 load-ref-2 = refl
 
-store-ref-2 : plain_operation (instruction.Local (access.Store kind.Ref (place.First first.Two))) ≡ Some (operation.Astore 2)
+store-ref-2 : plain_operation (instruction.Local (access.Store kind.Ref (place.First first.Two)))
+    ≡ Some (operation.Astore 2)
 store-ref-2 = refl
 
-load-int-3 : plain_operation (instruction.Local (access.Load kind.Int (place.First first.Three))) ≡ Some (operation.Iload 3)
+load-int-3 : plain_operation (instruction.Local (access.Load kind.Int (place.First first.Three)))
+    ≡ Some (operation.Iload 3)
 load-int-3 = refl
 
-store-int-3 : plain_operation (instruction.Local (access.Store kind.Int (place.First first.Three))) ≡ Some (operation.Istore 3)
+store-int-3 : plain_operation (instruction.Local (access.Store kind.Int (place.First first.Three)))
+    ≡ Some (operation.Istore 3)
 store-int-3 = refl
 
-load-long-3 : plain_operation (instruction.Local (access.Load kind.Long (place.First first.Three))) ≡ Some (operation.Lload 3)
+load-long-3 : plain_operation (instruction.Local (access.Load kind.Long (place.First first.Three)))
+    ≡ Some (operation.Lload 3)
 load-long-3 = refl
 
-store-long-3 : plain_operation (instruction.Local (access.Store kind.Long (place.First first.Three))) ≡ Some (operation.Lstore 3)
+store-long-3 : plain_operation (instruction.Local (access.Store kind.Long (place.First first.Three)))
+    ≡ Some (operation.Lstore 3)
 store-long-3 = refl
 
-load-ref-3 : plain_operation (instruction.Local (access.Load kind.Ref (place.First first.Three))) ≡ Some (operation.Aload 3)
+load-ref-3 : plain_operation (instruction.Local (access.Load kind.Ref (place.First first.Three)))
+    ≡ Some (operation.Aload 3)
 load-ref-3 = refl
 
-store-ref-3 : plain_operation (instruction.Local (access.Store kind.Ref (place.First first.Three))) ≡ Some (operation.Astore 3)
+store-ref-3 : plain_operation (instruction.Local (access.Store kind.Ref (place.First first.Three)))
+    ≡ Some (operation.Astore 3)
 store-ref-3 = refl
 
 load-int-byte : plain_operation (instruction.Local (access.Load kind.Int (place.Byte 255))) ≡ Some (operation.Iload 255)
 load-int-byte = refl
 
-store-int-byte : plain_operation (instruction.Local (access.Store kind.Int (place.Byte 255))) ≡ Some (operation.Istore 255)
+store-int-byte : plain_operation (instruction.Local (access.Store kind.Int (place.Byte 255)))
+    ≡ Some (operation.Istore 255)
 store-int-byte = refl
 
-load-long-byte : plain_operation (instruction.Local (access.Load kind.Long (place.Byte 255))) ≡ Some (operation.Lload 255)
+load-long-byte : plain_operation (instruction.Local (access.Load kind.Long (place.Byte 255)))
+    ≡ Some (operation.Lload 255)
 load-long-byte = refl
 
-store-long-byte : plain_operation (instruction.Local (access.Store kind.Long (place.Byte 255))) ≡ Some (operation.Lstore 255)
+store-long-byte : plain_operation (instruction.Local (access.Store kind.Long (place.Byte 255)))
+    ≡ Some (operation.Lstore 255)
 store-long-byte = refl
 
 load-ref-byte : plain_operation (instruction.Local (access.Load kind.Ref (place.Byte 255))) ≡ Some (operation.Aload 255)
 load-ref-byte = refl
 
-store-ref-byte : plain_operation (instruction.Local (access.Store kind.Ref (place.Byte 255))) ≡ Some (operation.Astore 255)
+store-ref-byte : plain_operation (instruction.Local (access.Store kind.Ref (place.Byte 255)))
+    ≡ Some (operation.Astore 255)
 store-ref-byte = refl
 
-load-int-wide : plain_operation (instruction.Local (access.Load kind.Int (place.Wide 65535))) ≡ Some (operation.Iload 65535)
+load-int-wide : plain_operation (instruction.Local (access.Load kind.Int (place.Wide 65535)))
+    ≡ Some (operation.Iload 65535)
 load-int-wide = refl
 
-store-int-wide : plain_operation (instruction.Local (access.Store kind.Int (place.Wide 65535))) ≡ Some (operation.Istore 65535)
+store-int-wide : plain_operation (instruction.Local (access.Store kind.Int (place.Wide 65535)))
+    ≡ Some (operation.Istore 65535)
 store-int-wide = refl
 
-load-long-wide : plain_operation (instruction.Local (access.Load kind.Long (place.Wide 65535))) ≡ Some (operation.Lload 65535)
+load-long-wide : plain_operation (instruction.Local (access.Load kind.Long (place.Wide 65535)))
+    ≡ Some (operation.Lload 65535)
 load-long-wide = refl
 
-store-long-wide : plain_operation (instruction.Local (access.Store kind.Long (place.Wide 65535))) ≡ Some (operation.Lstore 65535)
+store-long-wide : plain_operation (instruction.Local (access.Store kind.Long (place.Wide 65535)))
+    ≡ Some (operation.Lstore 65535)
 store-long-wide = refl
 
-load-ref-wide : plain_operation (instruction.Local (access.Load kind.Ref (place.Wide 65535))) ≡ Some (operation.Aload 65535)
+load-ref-wide : plain_operation (instruction.Local (access.Load kind.Ref (place.Wide 65535)))
+    ≡ Some (operation.Aload 65535)
 load-ref-wide = refl
 
-store-ref-wide : plain_operation (instruction.Local (access.Store kind.Ref (place.Wide 65535))) ≡ Some (operation.Astore 65535)
+store-ref-wide : plain_operation (instruction.Local (access.Store kind.Ref (place.Wide 65535)))
+    ≡ Some (operation.Astore 65535)
 store-ref-wide = refl
 
-iinc : plain_operation (instruction.Local (access.Increment (increment.Byte 255 (negsuc 127)))) ≡ Some (operation.Iinc 255 (negsuc 127))
+iinc : plain_operation (instruction.Local (access.Increment (increment.Byte 255 (negsuc 127))))
+    ≡ Some (operation.Iinc 255 (negsuc 127))
 iinc = refl
 
-iinc-wide : plain_operation (instruction.Local (access.Increment (increment.Wide 256 (pos 32767)))) ≡ Some (operation.Iinc 256 (pos 32767))
+iinc-wide : plain_operation (instruction.Local (access.Increment (increment.Wide 256 (pos 32767))))
+    ≡ Some (operation.Iinc 256 (pos 32767))
 iinc-wide = refl
 
 -- ---- the stack

@@ -1,5 +1,6 @@
 -- Keys of items: what was noted of each tells whether several items have it.
-use Rattle.std.proofs.Common.{◌≡◌, ℕ, zero, suc, ◌+◌, ◌<◌, nat_lt, length, take, get_or, List, Bool, true, false, cond, Option, Some, None, is_some, ◌&&◌, refl, arith, sym, ap, ◌∙◌}
+use Rattle.std.proofs.Common.{◌≡◌, ℕ, zero, suc, ◌+◌, ◌<◌, nat_lt, length, take, get_or, List, Bool, true, false, cond}
+use Rattle.std.proofs.Common.{Option, Some, None, is_some, ◌&&◌, refl, arith, sym, ap, ◌∙◌}
 use Rattle.std.specs.List.{count_by}
 use Rattle.std.specs.Str.{bytes_eq}
 use Rattle.std.proofs.lemmas.Bool.{lt-ltb}
@@ -32,11 +33,13 @@ module _ {K A : Type 0} (eq : K → K → Bool) (is : K → A → Bool) where
   abbrev pub Notes : Repeats K → List A → Type 0
   Notes repeats xs = (key : K) → again eq repeats key ≡ times (count_by (is key) xs)
 
-  pub notes-none : (repeats : Repeats K) (xs : List A) → ((key : K) → again eq repeats key ≡ None) → Notes repeats (take 0 xs)
+  pub notes-none : (repeats : Repeats K) (xs : List A) → ((key : K) → again eq repeats key ≡ None)
+      → Notes repeats (take 0 xs)
   unfolding times
   notes-none repeats xs none key = none key
 
-  pub notes-more : (before after : Repeats K) (xs : List A) (i : ℕ) (x : A) (key : K) → Notes before (take i xs) → i < length xs → x ≡ get_or xs i x
+  pub notes-more : (before after : Repeats K) (xs : List A) (i : ℕ) (x : A) (key : K) → Notes before (take i xs)
+      → i < length xs → x ≡ get_or xs i x
       → ((k : K) → eq key k ≡ is k x) → ((k : K) → is k x ≡ true → (a : A) → is key a ≡ is k a)
       → ((k : K) → again eq after k ≡ with_one_more eq key (again eq before) k)
       → Notes after (take (i + 1) xs)
@@ -69,9 +72,12 @@ module _ {A : Type 0} (name : A → List ℕ) where
   abbrev pub NotesNames : Repeats NameKey → List A → Type 0
   NotesNames = Notes (λ x y. bytes_eq x.bytes.now y.bytes.now) has_name
 
-  pub names-more : (before after : Repeats NameKey) (xs : List A) (i : ℕ) (x : A) (key : NameKey) → NotesNames before (take i xs)
+  pub names-more : (before after : Repeats NameKey) (xs : List A) (i : ℕ) (x : A) (key : NameKey)
+      → NotesNames before (take i xs)
       → i < length xs → x ≡ get_or xs i x → key.bytes.now ≡ name x
-      → ((k : NameKey) → again (λ x y. bytes_eq x.bytes.now y.bytes.now) after k ≡ with_one_more (λ x y. bytes_eq x.bytes.now y.bytes.now) key (again (λ x y. bytes_eq x.bytes.now y.bytes.now) before) k)
+      → ((k : NameKey) → again (λ x y. bytes_eq x.bytes.now y.bytes.now) after k
+          ≡ with_one_more (λ x y. bytes_eq x.bytes.now y.bytes.now) key (again (λ x y. bytes_eq x.bytes.now y.bytes.now)
+          before) k)
       → NotesNames after (take (i + 1) xs)
   names-more before after xs i x key notes within at named noted =
       notes-more (λ x y. bytes_eq x.bytes.now y.bytes.now) has_name before after xs i x key notes within at
@@ -81,7 +87,8 @@ module _ {A : Type 0} (name : A → List ℕ) where
   pub names-all : (repeats : Repeats NameKey) (xs : List A) (n : List ℕ) → NotesNames repeats xs
       → name_again repeats n ≡ nat_lt 1 (count_by (λ a. bytes_eq (name a) n) xs)
   names-all repeats xs n notes =
-      ap is_again (notes (record { bytes = record { ref_ptr = (0, 0); now = n } })) ∙ times-twice (count_by (λ a. bytes_eq (name a) n) xs)
+      ap is_again (notes (record { bytes = record { ref_ptr = (0, 0); now = n } }))
+          ∙ times-twice (count_by (λ a. bytes_eq (name a) n) xs)
 
 -- ---- items with a name and a descriptor
 
@@ -106,9 +113,11 @@ module _ {A : Type 0} (name descriptor : A → List ℕ) where
   abbrev pub NotesSignatures : Repeats Signature → List A → Type 0
   NotesSignatures = Notes same_signature has_signature
 
-  pub signatures-more : (before after : Repeats Signature) (xs : List A) (i : ℕ) (x : A) (key : Signature) → NotesSignatures before (take i xs)
+  pub signatures-more : (before after : Repeats Signature) (xs : List A) (i : ℕ) (x : A) (key : Signature)
+      → NotesSignatures before (take i xs)
       → i < length xs → x ≡ get_or xs i x → key.0.bytes.now ≡ name x → key.1.bytes.now ≡ descriptor x
-      → ((k : Signature) → again same_signature after k ≡ with_one_more same_signature key (again same_signature before) k)
+      → ((k : Signature) → again same_signature after k ≡ with_one_more same_signature key (again same_signature before)
+          k)
       → NotesSignatures after (take (i + 1) xs)
   signatures-more before after xs i x key notes within at named described noted =
       notes-more same_signature has_signature before after xs i x key notes within at
@@ -117,14 +126,17 @@ module _ {A : Type 0} (name descriptor : A → List ℕ) where
     where
       same_name : (k : Signature) → has_signature k x ≡ true → key.0.bytes.now ≡ k.0.bytes.now
       same_name k h =
-          named ∙ (bytes_eq-Decides (name x) k.0.bytes.now).0 (and-left (bytes_eq (name x) k.0.bytes.now) (bytes_eq (descriptor x) k.1.bytes.now) h)
+          named ∙ (bytes_eq-Decides (name x) k.0.bytes.now).0 (and-left (bytes_eq (name x) k.0.bytes.now)
+              (bytes_eq (descriptor x) k.1.bytes.now) h)
 
       same_descriptor : (k : Signature) → has_signature k x ≡ true → key.1.bytes.now ≡ k.1.bytes.now
       same_descriptor k h =
-          described ∙ (bytes_eq-Decides (descriptor x) k.1.bytes.now).0 (and-right (bytes_eq (name x) k.0.bytes.now) (bytes_eq (descriptor x) k.1.bytes.now) h)
+          described ∙ (bytes_eq-Decides (descriptor x) k.1.bytes.now).0 (and-right (bytes_eq (name x) k.0.bytes.now)
+              (bytes_eq (descriptor x) k.1.bytes.now) h)
 
   pub signatures-all : (repeats : Repeats Signature) (xs : List A) (n d : List ℕ) → NotesSignatures repeats xs
       → signature_again repeats n d ≡ nat_lt 1 (count_by (λ a. bytes_eq (name a) n && bytes_eq (descriptor a) d) xs)
   signatures-all repeats xs n d notes =
-      ap is_again (notes (record { bytes = record { ref_ptr = (0, 0); now = n } }, record { bytes = record { ref_ptr = (0, 0); now = d } }))
+      ap is_again (notes (record { bytes = record { ref_ptr = (0, 0); now = n } },
+          record { bytes = record { ref_ptr = (0, 0); now = d } }))
       ∙ times-twice (count_by (λ a. bytes_eq (name a) n && bytes_eq (descriptor a) d) xs)

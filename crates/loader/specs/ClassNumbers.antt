@@ -6,7 +6,7 @@ use Rattle.model.specs.ClassListings.{ClassListing}
 use Rattle.resolve.specs.declared.keys.NameKey.{NameKey}
 use Rattle.resolve.specs.Numbers.{class_names, class_number}
 
--- Classes have numbers: those of a program from 0 on in order, and behind them the machine's own.
+-- Classes have numbers: those of a program from 0 on in order, and after them the machine's own.
 
 -- the number of the class of a name; where none has it, how many classes there are
 abbrev pub class_place : List ClassListing → List ℕ → ℕ
@@ -23,4 +23,5 @@ Entries = List (NameKey × ℕ)
 -- the names of all classes in order, and entries that find the first of each name
 pub record AreNumbers (program : List ClassListing) (names : List NameKey) (entries : Entries) : Type 0 where
   pub names_are : names_now names ≡ class_names program
-  pub found : (name : NameKey) → lookup (λ k. bytes_eq name.bytes.now k.bytes.now) entries ≡ class_number program name.bytes.now
+  pub found : (name : NameKey) → lookup (λ k. bytes_eq name.bytes.now k.bytes.now) entries
+      ≡ class_number program name.bytes.now

@@ -29,7 +29,7 @@ class_facts program c = record {
 abbrev pub class_tables : List ClassListing → List ClassFacts
 class_tables program = map (class_facts program) (all_classes program)
 
--- tables with those of some classes behind them
+-- tables with those of some classes after them
 abbrev pub with_classes : List ClassListing → List ClassFacts → List ClassListing → List ClassFacts
 with_classes program tables classes = tables ++ map (class_facts program) classes
 

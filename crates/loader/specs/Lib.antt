@@ -23,4 +23,4 @@ pub mod StepLists
 pub mod Steps
 pub mod Storages
 pub mod Tables
-pub mod Told
+pub mod Reported

@@ -14,7 +14,8 @@ use Rattle.loader.specs.Steps.{CanRun}
 
 -- main with its limits, the steps of all methods, the tables and the instructions of an empty initializer, in a program
 -- that can run
-pub record IsPrepared (program : List ClassListing) (main : MethodPlace) (max_locals max_stack : ℕ) (steps : List Step) (methods : List (Vec MethodSteps Global)) (tables : Tables) (empty : List Placed) : Type 0 where
+pub record IsPrepared (program : List ClassListing) (main : MethodPlace) (max_locals max_stack : ℕ) (steps : List Step)
+    (methods : List (Vec MethodSteps Global)) (tables : Tables) (empty : List Placed) : Type 0 where
   pub code : CodeListing
   pub main_is : main_in program ≡ Some main
   pub code_is : code_at program main ≡ Some code

@@ -9,7 +9,7 @@ use Rattle.loader.specs.declared.repeats.Repeats.{Repeats}
 abbrev pub again : {K : Type 0} → (K → K → Bool) → Repeats K → K → Option Bool
 again eq r k = get eq r.came_again k
 
--- what is known of a key behind one more
+-- what is known of a key after one more
 abbrev pub with_one_more : {K : Type 0} → (K → K → Bool) → K → (K → Option Bool) → K → Option Bool
 with_one_more eq key known k = cond (eq key k) (Some (is_some (known key))) (known k)
 

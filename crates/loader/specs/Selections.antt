@@ -1,4 +1,5 @@
-use Rattle.std.specs.Prelude.{◌≡◌, ℕ, List, [], ◌∷◌, Bool, ◌&&◌, ◌||◌, not, map, cond, slice_get, suc, Option, Some, None, unwrap_or}
+use Rattle.std.specs.Prelude.{◌≡◌, ℕ, List, [], ◌∷◌, Bool, ◌&&◌, ◌||◌, not, map, cond, slice_get, suc, Option, Some}
+use Rattle.std.specs.Prelude.{None, unwrap_or}
 use Rattle.std.specs.Borrow.{Bor}
 use Rattle.std.specs.BTreeMap.{is_at, IsOrdered}
 use Rattle.std.specs.Cmp.Lexicographic.{slice_cmp}
@@ -62,11 +63,13 @@ is_virtual_of name descriptor m = is_pair name descriptor m.name m.descriptor &&
 abbrev pub row_if : RowOfNumbers → Bool → Option RowOfNumbers
 row_if row b = cond b (Some row) None
 
--- the row of the first of these methods that can be selected for a name and descriptor, the methods being counted from a number
+-- the row of the first of these methods that can be selected for a name and descriptor, the methods being counted from
+-- a number
 abbrev pub first_row : ℕ → ℕ → List ℕ → List ℕ → List Method → Option RowOfNumbers
 first_row class n name descriptor [] = None
 first_row class n name descriptor (m ∷ ms) =
-    or_else (row_if (record { class = class; method = n }) (is_virtual_of name descriptor m)) (first_row class (suc n) name descriptor ms)
+    or_else (row_if (record { class = class; method = n }) (is_virtual_of name descriptor m))
+        (first_row class (suc n) name descriptor ms)
 
 -- names are compared first, then descriptors
 abbrev pub pair_cmp : List ℕ → List ℕ → List ℕ → List ℕ → Ordering
@@ -74,7 +77,8 @@ pair_cmp name descriptor n d = ordering_then (slice_cmp nat_cmp name n) (slice_c
 
 -- the row that was gathered for a name and descriptor
 abbrev pub gathered : ClassRows → List ℕ → List ℕ → Option RowOfNumbers
-gathered rows name descriptor = lookup (is_at (λ (k : Bor (List ℕ) × Bor (List ℕ)). pair_cmp name descriptor k.0.now k.1.now)) rows.rows.entries
+gathered rows name descriptor = lookup
+    (is_at (λ (k : Bor (List ℕ) × Bor (List ℕ)). pair_cmp name descriptor k.0.now k.1.now)) rows.rows.entries
 
 -- the names and descriptors of the rows rise
 abbrev pub AreInOrder : ClassRows → Type 0
@@ -86,7 +90,8 @@ AddsRows old more new = (n d : List ℕ) → gathered new n d ≡ or_else (gathe
 
 -- the rows tell for each name and descriptor what is selected for objects of a class
 abbrev pub TellSelected : List ClassListing → List ℕ → ClassRows → Type 0
-TellSelected program class rows = (n d : List ℕ) → option_map (declared_at program) (gathered rows n d) ≡ option_map Some (selected program class n d)
+TellSelected program class rows = (n d : List ℕ) → option_map (declared_at program) (gathered rows n d)
+    ≡ option_map Some (selected program class n d)
 
 -- ---- tables
 
@@ -97,4 +102,5 @@ pub record IsClassTable (program : List ClassListing) (class : List ℕ) (rows :
 
 -- the row of a name and descriptor
 abbrev pub row_named : List ℕ → List ℕ → List SelectionRow → Option SelectionRow
-row_named name descriptor rows = find (λ (r : SelectionRow). bytes_eq r.name name && bytes_eq r.descriptor descriptor) rows
+row_named name descriptor rows = find (λ (r : SelectionRow). bytes_eq r.name name && bytes_eq r.descriptor descriptor)
+    rows

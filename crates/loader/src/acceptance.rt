@@ -1,7 +1,7 @@
 //! Which lists of listings are programs.
 ghost use Rattle.std.specs.Prelude.{◌≡◌, None, OnOk, IfErr};
 ghost use Rattle.model.specs.Accepted.Refusals.{refusal_of};
-ghost use Rattle.loader.specs.Told.{refusal_value};
+ghost use Rattle.loader.specs.Reported.{refusal_value};
 ghost use Rattle.loader.specs.Errors.{Tells, IsRefusedBy};
 ghost use Rattle.loader.specs.Steps.{CanRun};
 
@@ -10,7 +10,7 @@ use crate::rules::{Refusal, Stop, obeys_rules};
 use model::listings::Listing;
 use std::alloc::Global;
 
-fn told(refusal: Refusal<'_>) -> LoadError
+fn reported(refusal: Refusal<'_>) -> LoadError
     ensures { Tells (refusal_value refusal.entry) result }
 {
     let rule = refusal.rule;
@@ -34,7 +34,7 @@ pub fn accept(alloc: Global, program: &[Listing]) -> Result<(), LoadError>
 {
     match obeys_rules(alloc, program) {
         Ok(()) => Ok(()),
-        Err(Stop::Refused(refusal)) => Err(told(refusal)),
+        Err(Stop::Refused(refusal)) => Err(reported(refusal)),
         Err(Stop::Memory(error)) => Err(LoadError::Memory(error)),
     }
 }

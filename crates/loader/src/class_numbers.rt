@@ -12,7 +12,7 @@ use resolve::keys::NameKey;
 use std::alloc::{AllocError, Global};
 use std::marker::Model;
 
-/// The numbers of a program's classes by their names: those of the program from 0 on in order, and behind them the
+/// The numbers of a program's classes by their names: those of the program from 0 on in order, and after them the
 /// machine's own. A contract sees the program.
 #[derive(Drop)]
 pub struct ClassNumbers<'a> {

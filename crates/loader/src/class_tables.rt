@@ -46,7 +46,7 @@ impl Model for ClassTable {
     ghost invariant = { λ a. a.defaults.items ≡ map opening_word a.words.items };
 }
 
-/// What is known of each class of a program by its number, the machine's own behind those of the program. A contract
+/// What is known of each class of a program by its number, the machine's own after those of the program. A contract
 /// sees the list.
 #[derive(Drop)]
 pub struct ClassTables {

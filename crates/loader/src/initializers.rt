@@ -17,7 +17,7 @@ use resolve::keys::NameKey;
 use std::alloc::{AllocError, Global};
 use std::marker::Model;
 
-/// The initializer of a class by its place there, behind the last method where the class declares none; and whether the
+/// The initializer of a class by its place there, after the last method where the class declares none; and whether the
 /// class wants initialising.
 #[derive(Clone, Copy, PartialEq, Eq)]
 pub struct ClassInitializer {

@@ -13,7 +13,7 @@ ghost use Rattle.model.specs.Accepted.ExceptionRows.{has_bad_row};
 ghost use Rattle.model.specs.Accepted.Refusals.{refused_by, refused_main, refusal_of};
 ghost use Rattle.resolve.specs.Hierarchies.{IsHierarchy};
 ghost use Rattle.loader.specs.declared.rules.Stop.TheVariants.{Refused, Memory};
-ghost use Rattle.loader.specs.Told.{refusal_in, refusal_value, StopsAt, StopsFor, parents_refused};
+ghost use Rattle.loader.specs.Reported.{refusal_in, refusal_value, StopsAt, StopsFor, parents_refused};
 
 use crate::exception_rows::has_bad_row;
 use crate::limits::first_past_limits;
@@ -198,7 +198,7 @@ fn refused_parents(alloc: Global, program: &[Listing]) -> Result<Refusal<'_>, Al
     }
 }
 
-/// The rules behind those on names and parents: `Err` with the first that some class breaks, and the first class that
+/// The rules after those on names and parents: `Err` with the first that some class breaks, and the first class that
 /// does, or where memory runs out.
 #[tactic(auto, unfolding(model::specs::Accepted::Refusals::refusal_of))]
 fn obeys_class_rules<'a>(alloc: Global, classes: &Classes<'a>) -> Result<(), Stop<'a>>

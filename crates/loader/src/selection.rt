@@ -21,7 +21,7 @@ struct ClassTable {
 }
 
 /// The selection tables of a program's classes, the machine's own among them, by their numbers: the program's from 0,
-/// in order, and the machine's own behind them.
+/// in order, and the machine's own after them.
 #[derive(Drop)]
 pub struct Selection {
     tables: Vec<ClassTable>,

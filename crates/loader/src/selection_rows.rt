@@ -12,7 +12,7 @@ use std::alloc::{AllocError, Global};
 use std::collections::BTreeMap;
 
 /// The method that is selected for a name and descriptor: the number of the class that declares it, and its place among
-/// that class's methods. The program's classes are counted from 0, in order, and the machine's own behind them.
+/// that class's methods. The program's classes are counted from 0, in order, and the machine's own after them.
 #[derive(Clone, Copy, PartialEq, Eq)]
 pub struct SelectionRow {
     pub class: usize,

@@ -1,9 +1,12 @@
--- Worked values of arithmetic, as a Java virtual machine gives them. A number below 0 is written by `negsuc`: -7 is `negsuc 6`.
+-- Worked values of arithmetic, as a Java virtual machine gives them. A number below 0 is written by `negsuc`: -7 is
+-- `negsuc 6`.
 use Rattle.std.proofs.Common.{◌≡◌, pos, negsuc, Some, None, true, false, refl}
 use Rattle.std.specs.Int.{w32, w64, int_wrap}
 use Rattle.model.specs.declared.values.IntType.TheVariants.{Int}
-use Rattle.model.specs.declared.instructions.Operator.TheVariants.{Add, Sub, Mul, Div, Rem, Shl, Shr, Ushr, And, Or, Xor}
-use Rattle.model.specs.declared.instructions.Conversion.TheVariants.{IntToLong, LongToInt, IntToByte, IntToChar, IntToShort}
+use Rattle.model.specs.declared.instructions.Operator.TheVariants.{Add, Sub, Mul, Div, Rem, Shl, Shr, Ushr, And, Or}
+use Rattle.model.specs.declared.instructions.Operator.TheVariants.{Xor}
+use Rattle.model.specs.declared.instructions.Conversion.TheVariants.{IntToLong, LongToInt, IntToByte, IntToChar}
+use Rattle.model.specs.declared.instructions.Conversion.TheVariants.{IntToShort}
 use Rattle.model.specs.declared.instructions.Comparison.TheVariants.{Less, GreaterOrEqual, Greater}
 use Rattle.model.specs.Arithmetic.{operator_result, negation, truncation, conversion_result, order_of, comparison_holds}
 
@@ -16,7 +19,8 @@ least_int_by_minus_one = refl
 pub least_int_remainder : operator_result w32 Rem (negsuc 2147483647) (negsuc 0) ≡ Some (pos 0)
 least_int_remainder = refl
 
-pub least_long_by_minus_one : operator_result w64 Div (negsuc 9223372036854775807) (negsuc 0) ≡ Some (negsuc 9223372036854775807)
+pub least_long_by_minus_one : operator_result w64 Div (negsuc 9223372036854775807) (negsuc 0)
+    ≡ Some (negsuc 9223372036854775807)
 unfolding int_wrap
 least_long_by_minus_one = refl
 
@@ -76,7 +80,8 @@ pub product_past_32_bits : operator_result w32 Mul (pos 65536) (pos 65537) ≡ S
 unfolding int_wrap
 product_past_32_bits = refl
 
-pub sum_past_the_greatest_long : operator_result w64 Add (pos 9223372036854775807) (pos 1) ≡ Some (negsuc 9223372036854775807)
+pub sum_past_the_greatest_long : operator_result w64 Add (pos 9223372036854775807) (pos 1)
+    ≡ Some (negsuc 9223372036854775807)
 unfolding int_wrap
 sum_past_the_greatest_long = refl
 

@@ -16,15 +16,19 @@ abbrev interface_text : List ℕ → List ℕ
 interface_text members = codes ".interface E\n.super java/lang/Object\n" ++ members
 
 abbrev tree : ℕ → List (List ℕ) → List Field → Tree
-tree flags interfaces fields = record { flags = record { 0 = flags }; name = codes "E"; superclass = codes "java/lang/Object"; interfaces = interfaces; fields = fields; methods = [] }
+tree flags interfaces fields = record { flags = record { 0 = flags }; name = codes "E";
+    superclass = codes "java/lang/Object"; interfaces = interfaces; fields = fields; methods = [] }
 
 abbrev field : ℕ → List ℕ → List ℕ → Option Constant → Field
-field flags name descriptor constant = record { flags = record { 0 = flags }; name = name; descriptor = descriptor; constant = constant }
+field flags name descriptor constant = record { flags = record { 0 = flags }; name = name; descriptor = descriptor;
+    constant = constant }
 
 -- ---- heads
 
 -- an interface with a method
-pub interface : tree_of (codes ".interface public a/I\n.super java/lang/Object\n.method public abstract m(J)I\n.end method\n") ≡ Some (record {
+pub interface : tree_of
+    (codes ".interface public a/I\n.super java/lang/Object\n.method public abstract m(J)I\n.end method\n")
+    ≡ Some (record {
   flags = record { 0 = 0x0601 };
   name = codes "a/I";
   superclass = codes "java/lang/Object";
@@ -46,19 +50,21 @@ unfolding tree_of
 interface_over_class = refl
 
 -- an interface's method is public and abstract
-pub interface_with_body : tree_of (interface_text (codes ".method public m()V\n.limit stack 0\n.limit locals 0\nreturn\n.end method\n")) ≡ None
+pub interface_with_body : tree_of
+    (interface_text (codes ".method public m()V\n.limit stack 0\n.limit locals 0\nreturn\n.end method\n")) ≡ None
 unfolding tree_of mnemonic_of labels_agree
 interface_with_body = refl
 
 -- ---- interfaces
 
-pub two_interfaces : tree_of (class_text (codes ".implements a/I\n.implements K\n.field x I\n")) ≡ Some (tree 0 (codes "a/I" ∷ codes "K" ∷ []) (field 0 (codes "x") (codes "I") None ∷ []))
+pub two_interfaces : tree_of (class_text (codes ".implements a/I\n.implements K\n.field x I\n"))
+    ≡ Some (tree 0 (codes "a/I" ∷ codes "K" ∷ []) (field 0 (codes "x") (codes "I") None ∷ []))
 unfolding tree_of
 two_interfaces = refl
 
-pub interface_behind_field : tree_of (class_text (codes ".field x I\n.implements a/I\n")) ≡ None
+pub interface_after_field : tree_of (class_text (codes ".field x I\n.implements a/I\n")) ≡ None
 unfolding tree_of
-interface_behind_field = refl
+interface_after_field = refl
 
 pub interface_before_super : tree_of (codes ".class E\n.implements a/I\n.super java/lang/Object\n") ≡ None
 unfolding tree_of
@@ -79,7 +85,8 @@ pub fields : tree_of (class_text (codes ".field public static final least J = -9
 unfolding tree_of
 fields = refl
 
-pub interface_field : tree_of (interface_text (codes ".field public static final x I = 1\n")) ≡ Some (tree 0x0600 [] (field 0x0019 (codes "x") (codes "I") (Some (Int (pos 1))) ∷ []))
+pub interface_field : tree_of (interface_text (codes ".field public static final x I = 1\n"))
+    ≡ Some (tree 0x0600 [] (field 0x0019 (codes "x") (codes "I") (Some (Int (pos 1))) ∷ []))
 unfolding tree_of
 interface_field = refl
 
@@ -96,7 +103,7 @@ pub no_flag : tree_of (class_text (codes ".field abstract x I\n")) ≡ None
 unfolding tree_of
 no_flag = refl
 
--- a value stands behind a static field only, of a type of one letter, and in its range
+-- a value stands after a static field only, of a type of one letter, and in its range
 pub value_of_object : tree_of (class_text (codes ".field x I = 1\n")) ≡ None
 unfolding tree_of
 value_of_object = refl
@@ -113,7 +120,7 @@ pub long_value_over : tree_of (class_text (codes ".field static x J = 9223372036
 unfolding tree_of
 long_value_over = refl
 
--- the sign is a word of its own, with one number behind it
+-- the sign is a word of its own, with one number after it
 pub joined_sign : tree_of (class_text (codes ".field static x I =1\n")) ≡ None
 unfolding tree_of
 joined_sign = refl
@@ -136,6 +143,6 @@ unfolding tree_of
 void_field = refl
 
 -- fields stand before methods
-pub field_behind_method : tree_of (class_text (codes ".method abstract f()V\n.end method\n.field x I\n")) ≡ None
+pub field_after_method : tree_of (class_text (codes ".method abstract f()V\n.end method\n.field x I\n")) ≡ None
 unfolding tree_of mnemonic_of labels_agree
-field_behind_method = refl
+field_after_method = refl

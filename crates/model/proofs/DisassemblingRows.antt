@@ -20,7 +20,10 @@ use Rattle.model.specs.declared.mnemonics.Mnemonic.TheVariants as mnemonic
 use Rattle.model.specs.declared.values.Kind.TheVariants as kind
 use Rattle.model.specs.ClassListings.{ClassListing}
 use Rattle.model.specs.CodeListings.{CodeListing}
-use Rattle.model.specs.Texts.Disassembling.{Listed, text_of, interface_line, table_head, default_text, lookup_head, stack_line, locals_line, method_flag_words, method_line, end_line, instruction_text, stack_name, number_name, return_text, invocation_name, primitive_name}
+use Rattle.model.specs.Texts.Disassembling.{Listed, text_of, interface_line, table_head, default_text, lookup_head}
+use Rattle.model.specs.Texts.Disassembling.{stack_line, locals_line, method_flag_words, method_line, end_line}
+use Rattle.model.specs.Texts.Disassembling.{instruction_text, stack_name, number_name, return_text, invocation_name}
+use Rattle.model.specs.Texts.Disassembling.{primitive_name}
 use Rattle.model.specs.Texts.Mnemonics.{stack_mnemonics, number_mnemonics, call_mnemonics}
 use Rattle.model.specs.Texts.Operands.{primitives}
 
@@ -62,7 +65,8 @@ main_with name code = record {
   superclass = codes "java/lang/Object";
   interfaces = [];
   fields = [];
-  methods = record { flags = record { 0 = 0x0009 }; name = codes "main"; descriptor = codes "()V"; code = Some code } ∷ [];
+  methods = record { flags = record { 0 = 0x0009 }; name = codes "main"; descriptor = codes "()V"; code = Some code }
+      ∷ [];
 }
 
 -- the smallest program
@@ -72,7 +76,8 @@ pub smallest : text_of (main_with (codes "E") (record {
   rows = [];
   instructions = record { pc = 0; next = 1; instruction = instruction.Return None } ∷ [];
 })) ≡ codes ".class public E\n.super java/lang/Object\n.method public static main()V\n.limit stack 0\n.limit locals 0\nreturn\n.end method\n"
-unfolding text_of interface_line table_head default_text lookup_head stack_line locals_line method_flag_words method_line end_line digits
+unfolding text_of interface_line table_head default_text lookup_head stack_line locals_line method_flag_words
+    method_line end_line digits
 smallest = refl
 
 abbrev row : ℕ → ℕ → ℕ → Option (List ℕ) → ExceptionRow
@@ -95,7 +100,8 @@ pub labels : text_of (main_with (codes "A") (record {
       ∷ at 59 60 (instruction.Constant constant.Null)
       ∷ at 60 61 instruction.Throw ∷ [];
 })) ≡ codes ".class public A\n.super java/lang/Object\n.method public static main()V\n.limit stack 1\n.limit locals 2\n.catch java/lang/Exception from L0 to L24 using L60\n.catch all from L4 to L61 using L60\nL0:\niload_0\ntableswitch -1\nL24\nL60\ndefault : L56\nL24:\niload_1\nlookupswitch\n-5 : L0\n7 : L60\ndefault : L59\nL56:\nifnonnull L60\nL59:\naconst_null\nL60:\nathrow\nL61:\n.end method\n"
-unfolding text_of interface_line table_head default_text lookup_head stack_line locals_line method_flag_words method_line end_line digits
+unfolding text_of interface_line table_head default_text lookup_head stack_line locals_line method_flag_words
+    method_line end_line digits
 labels = refl
 
 -- wide forms carry `wide`
@@ -107,7 +113,8 @@ pub narrow_load : instruction_text (instruction.Local (access.Load kind.Ref («l
 unfolding digits
 narrow_load = refl
 
-pub wide_increment : instruction_text (instruction.Local (access.Increment (increment.Wide 256 (negsuc 128)))) ≡ codes "wide iinc 256 -129"
+pub wide_increment : instruction_text (instruction.Local (access.Increment (increment.Wide 256 (negsuc 128))))
+    ≡ codes "wide iinc 256 -129"
 unfolding digits
 wide_increment = refl
 
@@ -115,11 +122,13 @@ pub far : instruction_text (instruction.Branch (test.Always Wide) 70) ≡ codes 
 unfolding digits
 far = refl
 
-pub interface_call : instruction_text (instruction.Invoke (invocation.Interface 3) (record { class = codes "a/I"; name = codes "m"; descriptor = codes "(J)I" })) ≡ codes "invokeinterface a/I/m(J)I 3"
+pub interface_call : instruction_text (instruction.Invoke (invocation.Interface 3) (record { class = codes "a/I";
+    name = codes "m"; descriptor = codes "(J)I" })) ≡ codes "invokeinterface a/I/m(J)I 3"
 unfolding digits
 interface_call = refl
 
-pub a_field : instruction_text (instruction.Static field_access.Put (record { class = codes "a/B"; name = codes "f"; descriptor = codes "[I" })) ≡ codes "putstatic a/B/f [I"
+pub a_field : instruction_text (instruction.Static field_access.Put (record { class = codes "a/B"; name = codes "f";
+    descriptor = codes "[I" })) ≡ codes "putstatic a/B/f [I"
 a_field = refl
 
 -- an interface with values, and a method without code
@@ -129,10 +138,13 @@ pub interface : text_of (record {
   superclass = codes "java/lang/Object";
   interfaces = codes "a/J" ∷ codes "K" ∷ [];
   fields =
-      record { flags = record { 0 = 0x0019 }; name = codes "least"; descriptor = codes "J"; constant = Some (value.Long (negsuc 9223372036854775807)) }
+      record { flags = record { 0 = 0x0019 }; name = codes "least"; descriptor = codes "J";
+          constant = Some (value.Long (negsuc 9223372036854775807)) }
       ∷ record { flags = record { 0 = 0x0099 }; name = codes "none"; descriptor = codes "La/I;"; constant = None }
-      ∷ record { flags = record { 0 = 0x0019 }; name = codes "c"; descriptor = codes "C"; constant = Some (value.Int (pos 65)) } ∷ [];
+      ∷ record { flags = record { 0 = 0x0019 }; name = codes "c"; descriptor = codes "C";
+          constant = Some (value.Int (pos 65)) } ∷ [];
   methods = record { flags = record { 0 = 0x0401 }; name = codes "m"; descriptor = codes "(J)I"; code = None } ∷ [];
 }) ≡ codes ".interface public a/I\n.super java/lang/Object\n.implements a/J\n.implements K\n.field public static final least J = -9223372036854775808\n.field public static final transient none La/I;\n.field public static final c C = 65\n.method public abstract m(J)I\n.end method\n"
-unfolding text_of interface_line table_head default_text lookup_head stack_line locals_line method_flag_words method_line end_line digits
+unfolding text_of interface_line table_head default_text lookup_head stack_line locals_line method_flag_words
+    method_line end_line digits
 interface = refl

@@ -1,4 +1,5 @@
-use Rattle.std.proofs.Common.{rules, refl, sym, ap, subst, ◌∙◌, Option, None, Some, ℕ, ℤ, ◌≡◌, true, Bool, List, [], ◌∷◌}
+use Rattle.std.proofs.Common.{rules, refl, sym, ap, subst, ◌∙◌, Option, None, Some, ℕ, ℤ, ◌≡◌, true, Bool, List, []}
+use Rattle.std.proofs.Common.{◌∷◌}
 use Rattle.std.specs.Cmp.{first_so, second_so}
 use Rattle.std.specs.Cmp.Lexicographic.{pointwise}
 use Rattle.model.specs.declared.instructions.Constant.{Constant as Pushed}
@@ -18,9 +19,14 @@ use Rattle.model.specs.declared.instructions.NumberOperation.TheVariants.{Binary
 use Rattle.std.specs.Option.{option_eq}
 use Rattle.model.specs.Switches.{Table, Lookup}
 use Rattle.model.specs.Table.Next.{Listed}
-use Rattle.model.specs.declared.instructions.Instruction.TheVariants.{Nop, Constant, Local, Stack, Number, Branch, TableSwitch, LookupSwitch, Return, Static, Field, Array, Class, Invoke, Throw, Monitor}
+use Rattle.model.specs.declared.instructions.Instruction.TheVariants.{Nop, Constant, Local, Stack, Number, Branch}
+use Rattle.model.specs.declared.instructions.Instruction.TheVariants.{TableSwitch, LookupSwitch, Return, Static, Field}
+use Rattle.model.specs.declared.instructions.Instruction.TheVariants.{Array, Class, Invoke, Throw, Monitor}
 use Rattle.model.specs.contracts.listings.PlacedPartialEq.TheImpl as placed
-use Rattle.model.proofs.EqualOperands.{same_kind, same_small_int, same_small_long, same_width, same_local_access, same_stack_operation, same_number_operation, same_test, same_access, same_primitive, same_element_kind, same_class_operation, same_invocation, same_monitor_operation, same_member}
+use Rattle.model.proofs.EqualOperands.{same_kind, same_small_int, same_small_long, same_width, same_local_access}
+use Rattle.model.proofs.EqualOperands.{same_stack_operation, same_number_operation, same_test, same_access}
+use Rattle.model.proofs.EqualOperands.{same_primitive, same_element_kind, same_class_operation, same_invocation}
+use Rattle.model.proofs.EqualOperands.{same_monitor_operation, same_member}
 
 -- Instructions that `==` calls equal are one.
 
@@ -29,7 +35,8 @@ module _ {A : Type 0} (eq : A → A → Bool) (same : (a b : A) → eq a b ≡ t
   same_list [] [] h = refl
   same_list [] (y ∷ ys) h = search rules
   same_list (x ∷ xs) [] h = search rules
-  same_list (x ∷ xs) (y ∷ ys) h = rw (same x y (first_so (eq x y) (pointwise eq xs ys) h), same_list xs ys (second_so (eq x y) (pointwise eq xs ys) h)) refl
+  same_list (x ∷ xs) (y ∷ ys) h = rw (same x y (first_so (eq x y) (pointwise eq xs ys) h),
+      same_list xs ys (second_so (eq x y) (pointwise eq xs ys) h)) refl
 
   pub same_option : (a b : Option A) → option_eq eq a b ≡ true → a ≡ b
   same_option None None h = refl
@@ -39,7 +46,8 @@ module _ {A : Type 0} (eq : A → A → Bool) (same : (a b : A) → eq a b ≡ t
 
 -- whether `==` calls two instructions equal, read off instructions that stand at one pc
 abbrev pub is_same : Listed → Listed → Bool
-is_same i j = (placed.ghosts).eq (record { pc = 0; next = 0; instruction = i }) (record { pc = 0; next = 0; instruction = j })
+is_same i j = (placed.ghosts).eq (record { pc = 0; next = 0; instruction = i }) (record { pc = 0; next = 0;
+    instruction = j })
 
 same_constant : (a b : Pushed ℤ ℤ) → is_same (Constant a) (Constant b) ≡ true → a ≡ b
 same_constant Null b h = search rules
@@ -69,7 +77,8 @@ is_constant (Int w x) j h = search rules
 is_constant (Long x) j h = search rules
 
 constant_is : (a : Pushed ℤ ℤ) (j : Listed) → is_same (Constant a) j ≡ true → Constant a ≡ j
-constant_is a j h = let k = is_constant a j h in ap Constant (same_constant a k.0 (shown (Constant a) j (Constant k.0) k.1 h)) ∙ sym k.1
+constant_is a j h = let k = is_constant a j h
+                          in ap Constant (same_constant a k.0 (shown (Constant a) j (Constant k.0) k.1 h)) ∙ sym k.1
 
 is_local : (a : LocalAccess) (j : Listed) → is_same (Local a) j ≡ true → (b : LocalAccess) × (j ≡ Local b)
 is_local a j h = search rules
@@ -81,10 +90,12 @@ is_number (Convert c) j h = search rules
 is_number CompareLongs j h = search rules
 
 local_is : (a : LocalAccess) (j : Listed) → is_same (Local a) j ≡ true → Local a ≡ j
-local_is a j h = let k = is_local a j h in ap Local (same_local_access a k.0 (shown (Local a) j (Local k.0) k.1 h)) ∙ sym k.1
+local_is a j h = let k = is_local a j h in ap Local (same_local_access a k.0 (shown (Local a) j (Local k.0) k.1 h))
+                       ∙ sym k.1
 
 number_is : (a : NumberOperation) (j : Listed) → is_same (Number a) j ≡ true → Number a ≡ j
-number_is a j h = let k = is_number a j h in ap Number (same_number_operation a k.0 (shown (Number a) j (Number k.0) k.1 h)) ∙ sym k.1
+number_is a j h = let k = is_number a j h
+                        in ap Number (same_number_operation a k.0 (shown (Number a) j (Number k.0) k.1 h)) ∙ sym k.1
 
 stack_is : (a : StackOperation) (j : Listed) → is_same (Stack a) j ≡ true → Stack a ≡ j
 stack_is a j h = search (rules, same_stack_operation)

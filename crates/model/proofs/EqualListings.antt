@@ -33,10 +33,12 @@ same_next : (a b : Placed) → (placed.ghosts).eq a b ≡ true → a.next ≡ b.
 same_next a b h = search rules
 
 same_what : (a b : Placed) → (placed.ghosts).eq a b ≡ true → is_same a.instruction b.instruction ≡ true
-same_what a b h = second_so (nat_eq a.next b.next) (is_same a.instruction b.instruction) (second_so (nat_eq a.pc b.pc) (nat_eq a.next b.next && is_same a.instruction b.instruction) h)
+same_what a b h = second_so (nat_eq a.next b.next) (is_same a.instruction b.instruction)
+    (second_so (nat_eq a.pc b.pc) (nat_eq a.next b.next && is_same a.instruction b.instruction) h)
 
 same_placed : (a b : Placed) → (placed.ghosts).eq a b ≡ true → a ≡ b
-same_placed a b h = rw (same_pc a b h, same_next a b h, same_instruction a.instruction b.instruction (same_what a b h)) refl
+same_placed a b h = rw (same_pc a b h, same_next a b h, same_instruction a.instruction b.instruction (same_what a b h))
+    refl
 
 same_rows : (a b : List ExceptionRow) → pointwise (row.ghosts).eq a b ≡ true → a ≡ b
 same_rows = same_list (row.ghosts).eq same_exception_row
@@ -52,9 +54,12 @@ same_code a b h =
     let m : lists ≡ true = second_so limits lists h in
     rw (
       eqb-true a.max_stack b.max_stack (first_so (nat_eq a.max_stack b.max_stack) (nat_eq a.max_locals b.max_locals) l),
-      eqb-true a.max_locals b.max_locals (second_so (nat_eq a.max_stack b.max_stack) (nat_eq a.max_locals b.max_locals) l),
-      same_rows a.rows b.rows (first_so (pointwise (row.ghosts).eq a.rows b.rows) (pointwise (placed.ghosts).eq a.instructions b.instructions) m),
-      same_instructions a.instructions b.instructions (second_so (pointwise (row.ghosts).eq a.rows b.rows) (pointwise (placed.ghosts).eq a.instructions b.instructions) m),
+      eqb-true a.max_locals b.max_locals (second_so (nat_eq a.max_stack b.max_stack) (nat_eq a.max_locals b.max_locals)
+          l),
+      same_rows a.rows b.rows (first_so (pointwise (row.ghosts).eq a.rows b.rows)
+          (pointwise (placed.ghosts).eq a.instructions b.instructions) m),
+      same_instructions a.instructions b.instructions (second_so (pointwise (row.ghosts).eq a.rows b.rows)
+          (pointwise (placed.ghosts).eq a.instructions b.instructions) m),
     ) refl
 
 same_method : (a b : Method) → (method.ghosts).eq a b ≡ true → a ≡ b
@@ -66,7 +71,9 @@ same_method a b h =
     let d = bytes_eq a.descriptor b.descriptor in
     let n = bytes_eq a.name b.name in
     let code : a.code ≡ b.code =
-    same_option (code.ghosts).eq same_code a.code b.code (second_so d body (second_so n (d && body) (second_so ((method_flags.ghosts).eq a.flags b.flags) (n && (d && body)) h))) in
+    same_option (code.ghosts).eq same_code a.code b.code
+        (second_so d body (second_so n (d && body) (second_so ((method_flags.ghosts).eq a.flags b.flags)
+        (n && (d && body)) h))) in
     rw (flags, name, descriptor, code) refl
 
 same_names : (a b : List (List ℕ)) → pointwise bytes_eq a b ≡ true → a ≡ b
@@ -90,10 +97,14 @@ same_listing a b h =
     rw (
       same_text a.name b.name (sym (first_so (bytes_eq a.name b.name) ((flags.ghosts).eq a.flags b.flags) n)),
       same_class_flags a.flags b.flags (second_so (bytes_eq a.name b.name) ((flags.ghosts).eq a.flags b.flags) n),
-      same_text a.superclass b.superclass (sym (first_so (bytes_eq a.superclass b.superclass) (pointwise bytes_eq a.interfaces b.interfaces) p)),
-      same_names a.interfaces b.interfaces (second_so (bytes_eq a.superclass b.superclass) (pointwise bytes_eq a.interfaces b.interfaces) p),
-      same_fields a.fields b.fields (first_so (pointwise (field.ghosts).eq a.fields b.fields) (pointwise (method.ghosts).eq a.methods b.methods) m),
-      same_methods a.methods b.methods (second_so (pointwise (field.ghosts).eq a.fields b.fields) (pointwise (method.ghosts).eq a.methods b.methods) m),
+      same_text a.superclass b.superclass
+          (sym (first_so (bytes_eq a.superclass b.superclass) (pointwise bytes_eq a.interfaces b.interfaces) p)),
+      same_names a.interfaces b.interfaces (second_so (bytes_eq a.superclass b.superclass)
+          (pointwise bytes_eq a.interfaces b.interfaces) p),
+      same_fields a.fields b.fields (first_so (pointwise (field.ghosts).eq a.fields b.fields)
+          (pointwise (method.ghosts).eq a.methods b.methods) m),
+      same_methods a.methods b.methods (second_so (pointwise (field.ghosts).eq a.fields b.fields)
+          (pointwise (method.ghosts).eq a.methods b.methods) m),
     ) refl
 
 -- and lists of listings, both ways

@@ -16,11 +16,13 @@ lawful-rows : (w : World) (object : Option ℕ) (e : Effect) → Lawful w object
 lawful-rows w object e (faults t fault s) = ap (λ (x : Effect). x.after.rows) s
 lawful-rows w object e (moves fault rows m) = rows
 
-pub next-rows : (program : List ClassListing) (w : World) (t : ℕ) (choice : Choice) → (next program w t choice).after.rows ≡ w.rows
+pub next-rows : (program : List ClassListing) (w : World) (t : ℕ) (choice : Choice)
+    → (next program w t choice).after.rows ≡ w.rows
 next-rows program w t choice = lawful-rows w _ (next program w t choice) (next_lawful program w t choice)
 
 -- ---- the choice: a turn that asks for no cell doesn't look at it
 
-pub next-choice : (program : List ClassListing) (w : World) (t : ℕ) (a b : Choice) → asked program w t ≡ None → next program w t a ≡ next program w t b
+pub next-choice : (program : List ClassListing) (w : World) (t : ℕ) (a b : Choice) → asked program w t ≡ None
+    → next program w t a ≡ next program w t b
 unfolding next
 next-choice program w t a b e = effect-choice program w t a b (completion program w t) e

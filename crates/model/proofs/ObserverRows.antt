@@ -1,4 +1,5 @@
--- Worked rows of the heap's observers: main of class S puts an S into a static field, another into a field of the first, and drops a third.
+-- Worked rows of the heap's observers: main of class S puts an S into a static field, another into a field of the
+-- first, and drops a third.
 use Rattle.std.specs.Prelude.{◌≡◌, ℕ, List, [], ◌∷◌, ◌++◌, true, false, Some, None, codes, refl}
 use Rattle.model.specs.declared.colours.Colour.TheVariants.{White, Grey}
 use Rattle.model.specs.declared.colours.Phase.TheVariants.{Idle, Statics, Frames}
@@ -43,15 +44,18 @@ abbrev new : Sized
 new = (3, Class New (codes "S"))
 
 abbrev program : List ClassListing
-program = class_of (codes "S") (static_field (codes "first") (codes "LS;") ∷ field (codes "next") (codes "LS;") ∷ []) 2 0 []
-    (new ∷ (3, Static Put first) ∷ (3, Static Get first) ∷ new ∷ (3, InstanceField Put (member (codes "S") (codes "next") (codes "LS;"))) ∷
+program = class_of (codes "S") (static_field (codes "first") (codes "LS;") ∷ field (codes "next") (codes "LS;") ∷ []) 2
+    0 []
+    (new ∷ (3, Static Put first) ∷ (3, Static Get first) ∷ new
+        ∷ (3, InstanceField Put (member (codes "S") (codes "next") (codes "LS;"))) ∷
     new ∷ (1, Stack Pop) ∷ return ∷ []) ∷ []
 
 abbrev shape : ℕ → ℕ → ℕ → HeapShape
 shape small medium large = record { small = small; medium = medium; large = large }
 
 abbrev recorded : HeapShape → List Row → Recorded
-recorded heap rows = record { program = program; journal = record { shape = heap; limits = ample; workers = 1; rows = rows } }
+recorded heap rows = record { program = program; journal = record { shape = heap; limits = ample; workers = 1;
+    rows = rows } }
 
 abbrev done : Row
 done = record { actor = Thread 0; outcome = Done; worker = 0 }
@@ -110,56 +114,69 @@ abbrev linked : Recorded
 linked = recorded (shape 4 1 1) (made ∷ done ∷ done ∷ made ∷ done ∷ made ∷ done ∷ [])
 
 abbrev object : Value → Object
-object next = made_of (Instance (codes "S") (record { class = codes "S"; name = codes "next"; descriptor = codes "LS;"; value = next } ∷ []))
+object next = made_of (Instance (codes "S") (record { class = codes "S"; name = codes "next"; descriptor = codes "LS;";
+    value = next } ∷ []))
 
 next_of_linked : next_birth_of linked ≡ 6
-unfolding machine_of refusal next completion after_turn shade builtin_classes upwards interfaces_from is_within is_subtype_within
+unfolding machine_of refusal next completion after_turn shade builtin_classes upwards
+    interfaces_from is_within is_subtype_within
 next_of_linked = refl
 
 from_static : object_of linked 3 ≡ Some (object (Ref (Some 4)))
-unfolding machine_of refusal next completion after_turn shade builtin_classes upwards interfaces_from is_within is_subtype_within is_reached leads_within
+unfolding machine_of refusal next completion after_turn shade builtin_classes upwards
+    interfaces_from is_within is_subtype_within is_reached leads_within
 from_static = refl
 
 from_field : object_of linked 4 ≡ Some (object (Ref None))
-unfolding machine_of refusal next completion after_turn shade builtin_classes upwards interfaces_from is_within is_subtype_within is_reached leads_within
+unfolding machine_of refusal next completion after_turn shade builtin_classes upwards
+    interfaces_from is_within is_subtype_within is_reached leads_within
 from_field = refl
 
 -- its cell, which is a medium one as no small one was free, still holds it
 dropped : object_of linked 5 ≡ None
-unfolding machine_of refusal next completion after_turn shade builtin_classes upwards interfaces_from is_within is_subtype_within is_reached leads_within
+unfolding machine_of refusal next completion after_turn shade builtin_classes upwards
+    interfaces_from is_within is_subtype_within is_reached leads_within
 dropped = refl
 
 medium_of_dropped : cell_of linked 4 ≡ Some (record { words = 32; held = Some (5, Grey) })
-unfolding machine_of refusal next completion after_turn shade builtin_classes upwards interfaces_from is_within is_subtype_within
+unfolding machine_of refusal next completion after_turn shade builtin_classes upwards
+    interfaces_from is_within is_subtype_within
 medium_of_dropped = refl
 
 small_new : cell_of linked 3 ≡ Some (record { words = 4; held = Some (4, Grey) })
-unfolding machine_of refusal next completion after_turn shade builtin_classes upwards interfaces_from is_within is_subtype_within
+unfolding machine_of refusal next completion after_turn shade builtin_classes upwards
+    interfaces_from is_within is_subtype_within
 small_new = refl
 
 large_still_free : cell_of linked 5 ≡ Some (record { words = 256; held = None })
-unfolding machine_of refusal next completion after_turn shade builtin_classes upwards interfaces_from is_within is_subtype_within
+unfolding machine_of refusal next completion after_turn shade builtin_classes upwards
+    interfaces_from is_within is_subtype_within
 large_still_free = refl
 
 -- before the third object the medium cell is free
 medium_free : cell_of (recorded (shape 4 1 1) (made ∷ [])) 4 ≡ Some (record { words = 32; held = None })
-unfolding machine_of refusal next completion after_turn shade builtin_classes upwards interfaces_from is_within is_subtype_within
+unfolding machine_of refusal next completion after_turn shade builtin_classes upwards
+    interfaces_from is_within is_subtype_within
 medium_free = refl
 
 small_free : cell_of (recorded (shape 4 1 1) (made ∷ [])) 3 ≡ Some (record { words = 4; held = None })
-unfolding machine_of refusal next completion after_turn shade builtin_classes upwards interfaces_from is_within is_subtype_within
+unfolding machine_of refusal next completion after_turn shade builtin_classes upwards
+    interfaces_from is_within is_subtype_within
 small_free = refl
 
 -- with two medium cells and a large one, the first object comes into the large one
 large_taken : cell_of (recorded (shape 0 2 1) (made ∷ [])) 2 ≡ Some (record { words = 256; held = Some (3, Grey) })
-unfolding machine_of refusal next completion after_turn shade builtin_classes upwards interfaces_from is_within is_subtype_within
+unfolding machine_of refusal next completion after_turn shade builtin_classes upwards
+    interfaces_from is_within is_subtype_within
 large_taken = refl
 
--- ---- worlds that no run makes: two objects that lead to each other, from no root; a static slot of a birth that was never made
+-- ---- worlds that no run makes: two objects that lead to each other, from no root; a static slot of a birth that was
+-- never made
 
 abbrev with_slot : Value → World
 with_slot value = record (opening_world program) {
-  statics = record { fields = record { class = codes "S"; name = codes "first"; descriptor = codes "LS;"; value = value } ∷ []; states = [] };
+  statics = record { fields = record { class = codes "S"; name = codes "first"; descriptor = codes "LS;";
+      value = value } ∷ []; states = [] };
   objects = opening_objects ++ object (Ref (Some 4)) ∷ object (Ref (Some 3)) ∷ [];
 }
 

@@ -1,17 +1,22 @@
 -- Names and descriptors are plain words: characters that print, of which the first is no semicolon.
-use Rattle.std.proofs.Common.{◌≡◌, ℕ, zero, suc, ◌+◌, ◌≤◌, ◌==◌, Bool, true, false, not, ◌&&◌, ◌||◌, List, [], ◌∷◌, ◌++◌, length, take, drop, Option, Some, None, refl, sym, subst, ◌∙◌, inl, inr, arith}
+use Rattle.std.proofs.Common.{◌≡◌, ℕ, zero, suc, ◌+◌, ◌≤◌, ◌==◌, Bool, true, false, not, ◌&&◌, ◌||◌, List, [], ◌∷◌}
+use Rattle.std.proofs.Common.{◌++◌, length, take, drop, Option, Some, None, refl, sym, subst, ◌∙◌, inl, inr, arith}
 use Rattle.std.specs.Prelude.{nat_le, codes, if◌then◌else◌}
 use Rattle.std.specs.List.{list_all, position_or_len, before_first, after_first}
 use Rattle.std.specs.Str.{bytes_eq}
-use Rattle.std.proofs.lemmas.Bool.{and_parts, and_from, or_cases, cases_Bool, false≢true, not_from_false, ne_eqb, eqb-true, leb-true, le-leb}
+use Rattle.std.proofs.lemmas.Bool.{and_parts, and_from, or_cases, cases_Bool, false≢true, not_from_false, ne_eqb}
+use Rattle.std.proofs.lemmas.Bool.{eqb-true, leb-true, le-leb}
 use Rattle.std.proofs.lemmas.List.{drop_all, take-append-drop}
 use Rattle.std.proofs.lemmas.List.Folds.{list_all-append}
 use Rattle.std.proofs.lemmas.Slice.Eq.{bytes_eq-Decides}
 use Rattle.model.specs.ClassFiles.Methods.{units_fit}
 use Rattle.model.specs.ClassFiles.References.{names_class, fits_units}
 use Rattle.model.specs.Signatures.{dimensions, type_length, types_within, argument_types, argument_units, result_type}
-use Rattle.model.specs.Texts.Descriptors.{is_int_type, is_long_type, is_class_type, is_element_type, is_type, is_field_descriptor, is_array_descriptor, is_result, is_method_descriptor, arguments_of}
-use Rattle.model.specs.Texts.Names.{begins_part, continues_part, is_part, joins, are_parts, fits, is_class_name, is_field_name, is_method_name}
+use Rattle.model.specs.Texts.Descriptors.{is_int_type, is_long_type, is_class_type, is_element_type, is_type}
+use Rattle.model.specs.Texts.Descriptors.{is_field_descriptor, is_array_descriptor, is_result, is_method_descriptor}
+use Rattle.model.specs.Texts.Descriptors.{arguments_of}
+use Rattle.model.specs.Texts.Names.{begins_part, continues_part, is_part, joins, are_parts, fits, is_class_name}
+use Rattle.model.specs.Texts.Names.{is_field_name, is_method_name}
 use Rattle.model.specs.Texts.Numbers.{is_digit}
 use Rattle.model.proofs.DescriptorLemmas.{has_byte, shorter}
 
@@ -44,15 +49,18 @@ starts b = not (b == 59) && is_ink b
 
 starts_from : (b : ℕ) → 33 ≤ b → b ≤ 126 → (b ≡ 59 → ⊥) → starts b ≡ true
 starts_from b low high other =
-    and_from (not (b == 59)) (is_ink b) (not_from_false (b == 59) (ne_eqb b 59 other)) (and_from (nat_le 33 b) (nat_le b 126) (le-leb 33 b low) (le-leb b 126 high))
+    and_from (not (b == 59)) (is_ink b) (not_from_false (b == 59) (ne_eqb b 59 other))
+        (and_from (nat_le 33 b) (nat_le b 126) (le-leb 33 b low) (le-leb b 126 high))
 
 -- a test that holds of a byte holds of its equal
 same_byte : (p : ℕ → Bool) (b c : ℕ) → (b == c) ≡ true → p c ≡ true → p b ≡ true
 same_byte p b c same passes = subst (λ (x : ℕ). p x ≡ true) (sym (eqb-true b c same)) passes
 
-pub weaker : (p q : ℕ → Bool) → ((b : ℕ) → p b ≡ true → q b ≡ true) → (bs : List ℕ) → list_all p bs ≡ true → list_all q bs ≡ true
+pub weaker : (p q : ℕ → Bool) → ((b : ℕ) → p b ≡ true → q b ≡ true) → (bs : List ℕ) → list_all p bs ≡ true
+    → list_all q bs ≡ true
 weaker p q f [] all = refl
-weaker p q f (b ∷ bs) all = let h = and_parts (p b) (list_all p bs) all in and_from (q b) (list_all q bs) (f b h.0) (weaker p q f bs h.1)
+weaker p q f (b ∷ bs) all = let h = and_parts (p b) (list_all p bs) all
+                                  in and_from (q b) (list_all q bs) (f b h.0) (weaker p q f bs h.1)
 
 pub start_is_ink : (b : ℕ) → starts b ≡ true → is_ink b ≡ true
 start_is_ink b h = (and_parts (not (b == 59)) (is_ink b) h).1
@@ -104,9 +112,11 @@ begins_starts b h =
     ]
 
 continues_starts : (b : ℕ) → continues_part b ≡ true → starts b ≡ true
-continues_starts b h = elim (or_cases (begins_part b) (is_digit b) h) [ inl part ↦ begins_starts b part | inr digit ↦ digit_starts b digit ]
+continues_starts b h = elim (or_cases (begins_part b) (is_digit b) h) [ inl part ↦ begins_starts b part |
+    inr digit ↦ digit_starts b digit ]
 
-joins_by : (slash begun : Bool) (b : ℕ) → (if slash then begun else (if begun then continues_part b else begins_part b)) ≡ true → (slash ≡ true → starts b ≡ true) → starts b ≡ true
+joins_by : (slash begun : Bool) (b : ℕ) → (if slash then begun else (if begun then continues_part b else begins_part b))
+    ≡ true → (slash ≡ true → starts b ≡ true) → starts b ≡ true
 joins_by true begun b h f = f refl
 joins_by false true b h f = continues_starts b h
 joins_by false false b h f = begins_starts b h
@@ -118,21 +128,25 @@ parts_ink : (begun : Bool) (bs : List ℕ) → are_parts begun bs ≡ true → l
 parts_ink begun [] h = refl
 parts_ink begun (b ∷ bs) h =
     let p = and_parts (joins begun b) (are_parts (not (b == 47)) bs) h in
-    and_from (is_ink b) (list_all is_ink bs) (start_is_ink b (joins_starts begun b p.0)) (parts_ink (not (b == 47)) bs p.1)
+    and_from (is_ink b) (list_all is_ink bs) (start_is_ink b (joins_starts begun b p.0))
+        (parts_ink (not (b == 47)) bs p.1)
 
 parts_plain : (w : List ℕ) → are_parts false w ≡ true → IsPlain w
 parts_plain [] h = absurd (false≢true h)
 parts_plain (b ∷ bs) h =
-    let p = and_parts (joins false b) (are_parts (not (b == 47)) bs) h in plain_word b bs (joins_starts false b p.0) (parts_ink (not (b == 47)) bs p.1)
+    let p = and_parts (joins false b) (are_parts (not (b == 47)) bs) h
+          in plain_word b bs (joins_starts false b p.0) (parts_ink (not (b == 47)) bs p.1)
 
 pub class_name_plain : (w : List ℕ) → is_class_name w ≡ true → IsPlainName w
-class_name_plain w h = let p = and_parts (fits w) (are_parts false w) h in record { plain = parts_plain w p.1; short = p.0 }
+class_name_plain w h = let p = and_parts (fits w) (are_parts false w) h in record { plain = parts_plain w p.1;
+                             short = p.0 }
 
 part_plain : (w : List ℕ) → is_part w ≡ true → IsPlain w
 part_plain [] h = absurd (false≢true h)
 part_plain (b ∷ bs) h =
     let p = and_parts (begins_part b) (list_all continues_part bs) h in
-    plain_word b bs (begins_starts b p.0) (weaker continues_part is_ink (λ c e. start_is_ink c (continues_starts c e)) bs p.1)
+    plain_word b bs (begins_starts b p.0) (weaker continues_part is_ink (λ c e. start_is_ink c (continues_starts c e))
+        bs p.1)
 
 pub field_name_plain : (w : List ℕ) → is_field_name w ≡ true → IsPlainName w
 field_name_plain w h = let p = and_parts (fits w) (is_part w) h in record { plain = part_plain w p.1; short = p.0 }
@@ -152,7 +166,8 @@ method_name_plain w h =
 
 -- ---- types
 
-letter_ink : (w letters : List ℕ) → bytes_eq w letters ≡ true → list_all is_ink letters ≡ true → list_all is_ink w ≡ true
+letter_ink : (w letters : List ℕ) → bytes_eq w letters ≡ true → list_all is_ink letters ≡ true → list_all is_ink w
+    ≡ true
 letter_ink w letters same inks = is_same (λ (v : List ℕ). list_all is_ink v ≡ true) w letters same inks
 
 one_more : (n : ℕ) → 1 + n ≡ suc n
@@ -161,8 +176,9 @@ one_more n = omega arith
 one_past : (n : ℕ) → suc n + 1 ≡ suc (n + 1)
 one_past n = omega arith
 
--- a test on the elements before and behind the first one that another test finds
-both_sides : (p q : ℕ → Bool) → ((b : ℕ) → p b ≡ true → q b ≡ true) → (bs : List ℕ) → list_all q (before_first p bs) ≡ true → list_all q (after_first p bs) ≡ true → list_all q bs ≡ true
+-- a test on the elements before and after the first one that another test finds
+both_sides : (p q : ℕ → Bool) → ((b : ℕ) → p b ≡ true → q b ≡ true) → (bs : List ℕ) → list_all q (before_first p bs)
+    ≡ true → list_all q (after_first p bs) ≡ true → list_all q bs ≡ true
 both_sides p q f [] before after = refl
 both_sides p q f (b ∷ bs) before after =
     elim (cases_Bool (p b)) [
@@ -176,11 +192,13 @@ both_sides p q f (b ∷ bs) before after =
 
 int_ink : (w : List ℕ) → is_int_type w ≡ true → list_all is_ink w ≡ true
 int_ink w h =
-    elim (or_cases ((bytes_eq w (codes "B") || bytes_eq w (codes "C")) || bytes_eq w (codes "S")) (bytes_eq w (codes "I")) h) [
+    elim (or_cases ((bytes_eq w (codes "B") || bytes_eq w (codes "C")) || bytes_eq w (codes "S"))
+        (bytes_eq w (codes "I")) h) [
       | inr e ↦ letter_ink w (codes "I") e refl
       | inl h2 ↦ elim (or_cases (bytes_eq w (codes "B") || bytes_eq w (codes "C")) (bytes_eq w (codes "S")) h2) [
         | inr e ↦ letter_ink w (codes "S") e refl
-        | inl h3 ↦ elim (or_cases (bytes_eq w (codes "B")) (bytes_eq w (codes "C")) h3) [ inl e ↦ letter_ink w (codes "B") e refl | inr e ↦ letter_ink w (codes "C") e refl ]
+        | inl h3 ↦ elim (or_cases (bytes_eq w (codes "B")) (bytes_eq w (codes "C")) h3) [
+            inl e ↦ letter_ink w (codes "B") e refl | inr e ↦ letter_ink w (codes "C") e refl ]
       ]
     ]
 
@@ -188,25 +206,30 @@ class_ink : (w : List ℕ) → is_class_type w ≡ true → list_all is_ink w �
 class_ink [] h = refl
 class_ink (b ∷ bs) h =
     let ends : ℕ → Bool = λ c. c == 59 in
-    let p = and_parts (b == 76 && position_or_len ends bs + 1 == length bs) (are_parts false (before_first ends bs)) h in
+    let p = and_parts (b == 76 && position_or_len ends bs + 1 == length bs) (are_parts false (before_first ends bs)) h
+          in
     let q = and_parts (b == 76) (position_or_len ends bs + 1 == length bs) p.0 in
     let last = eqb-true (position_or_len ends bs + 1) (length bs) q.1 in
     let none : after_first ends bs ≡ [] = drop_all (position_or_len ends bs + 1) bs (omega (arith, last)) in
     and_from (is_ink b) (list_all is_ink bs) (same_byte is_ink b 76 q.0 refl)
-    (both_sides ends is_ink (λ c e. same_byte is_ink c 59 e refl) bs (parts_ink false (before_first ends bs) p.1) (rw none refl))
+    (both_sides ends is_ink (λ c e. same_byte is_ink c 59 e refl) bs (parts_ink false (before_first ends bs) p.1)
+        (rw none refl))
 
 element_ink : (w : List ℕ) → is_element_type w ≡ true → list_all is_ink w ≡ true
 element_ink w h =
     elim (or_cases (is_int_type w || is_long_type w) (is_class_type w) h) [
       | inr class ↦ class_ink w class
-      | inl h2 ↦ elim (or_cases (is_int_type w) (is_long_type w) h2) [ inl int ↦ int_ink w int | inr long ↦ letter_ink w (codes "J") long refl ]
+      | inl h2 ↦ elim (or_cases (is_int_type w) (is_long_type w) h2) [ inl int ↦ int_ink w int |
+          inr long ↦ letter_ink w (codes "J") long refl ]
     ]
 
 array_ink : (w : List ℕ) → is_element_type (drop (dimensions w) w) ≡ true → list_all is_ink w ≡ true
 array_ink [] h = refl
 array_ink (b ∷ bs) h =
     elim (cases_Bool (b == 91)) [
-      | inl bracket ↦ let rest = rw (bracket, one_more) at h in and_from (is_ink b) (list_all is_ink bs) (same_byte is_ink b 91 bracket refl) (array_ink bs rest)
+      | inl bracket ↦ let rest = rw (bracket, one_more) at h
+                            in and_from (is_ink b) (list_all is_ink bs) (same_byte is_ink b 91 bracket refl)
+                            (array_ink bs rest)
       | inr other ↦ let here = rw other at h in element_ink (b ∷ bs) here
     ]
 
@@ -221,9 +244,11 @@ type_plain : (w : List ℕ) → is_type w ≡ true → IsPlain w
 type_plain [] h = absurd (false≢true h)
 type_plain (b ∷ bs) h =
     let p = and_parts (is_ink b) (list_all is_ink bs) (type_ink (b ∷ bs) h) in
-    plain_word b bs (and_from (not (b == 59)) (is_ink b) (not_from_false (b == 59) (ne_eqb b 59 (no_semicolon b bs h))) p.0) p.1
+    plain_word b bs (and_from (not (b == 59)) (is_ink b) (not_from_false (b == 59) (ne_eqb b 59 (no_semicolon b bs h)))
+        p.0) p.1
 
-row_ink : (n : ℕ) (row : List ℕ) → length row ≤ n → list_all is_type (types_within n row) ≡ true → list_all is_ink row ≡ true
+row_ink : (n : ℕ) (row : List ℕ) → length row ≤ n → list_all is_type (types_within n row) ≡ true → list_all is_ink row
+    ≡ true
 row_ink zero [] few h = refl
 row_ink zero (b ∷ bs) few h = absurd (omega (arith, few))
 row_ink (suc n) [] few h = refl
@@ -232,12 +257,14 @@ row_ink (suc n) (b ∷ bs) few h =
     let of = type_length row in
     let p = and_parts (is_type (take of row)) (list_all is_type (types_within n (drop of row))) h in
     let others = row_ink n (drop of row) (shorter n of row few (has_byte b bs)) p.1 in
-    subst (λ (w : List ℕ). list_all is_ink w ≡ true) (take-append-drop of row) (inks_append (take of row) (drop of row) (type_ink (take of row) p.0) others)
+    subst (λ (w : List ℕ). list_all is_ink w ≡ true) (take-append-drop of row) (inks_append (take of row) (drop of row)
+        (type_ink (take of row) p.0) others)
 
 -- ---- descriptors
 
 pub field_descriptor_plain : (w : List ℕ) → is_field_descriptor w ≡ true → IsPlainName w
-field_descriptor_plain w h = let p = and_parts (fits w) (is_type w) h in record { plain = type_plain w p.1; short = p.0 }
+field_descriptor_plain w h = let p = and_parts (fits w) (is_type w) h in record { plain = type_plain w p.1;
+                                   short = p.0 }
 
 array_plain : (w : List ℕ) → is_array_descriptor w ≡ true → IsPlainName w
 array_plain [] h = absurd (false≢true h)
@@ -245,28 +272,33 @@ array_plain (b ∷ bs) h = field_descriptor_plain (b ∷ bs) (and_parts (b == 91
 
 -- what a pool's class entry names
 pub class_word_plain : (w : List ℕ) → names_class w ≡ true → IsPlainName w
-class_word_plain w h = elim (or_cases (is_class_name w) (is_array_descriptor w) h) [ inl name ↦ class_name_plain w name | inr array ↦ array_plain w array ]
+class_word_plain w h = elim (or_cases (is_class_name w) (is_array_descriptor w) h) [ inl name ↦ class_name_plain w name
+    | inr array ↦ array_plain w array ]
 
 result_ink : (w : List ℕ) → is_result w ≡ true → list_all is_ink w ≡ true
-result_ink w h = elim (or_cases (bytes_eq w (codes "V")) (is_type w) h) [ inl void ↦ letter_ink w (codes "V") void refl | inr type ↦ type_ink w type ]
+result_ink w h = elim (or_cases (bytes_eq w (codes "V")) (is_type w) h) [ inl void ↦ letter_ink w (codes "V") void refl
+    | inr type ↦ type_ink w type ]
 
--- the result stands behind the arguments, with the first byte or without it
-result_behind : (b : ℕ) (bs : List ℕ) → (b == 41) ≡ false → result_type (b ∷ bs) ≡ after_first (λ c. c == 41) bs
-result_behind b bs opens = rw (opens, one_more, one_past) refl
+-- the result stands after the arguments, with the first byte or without it
+result_after : (b : ℕ) (bs : List ℕ) → (b == 41) ≡ false → result_type (b ∷ bs) ≡ after_first (λ c. c == 41) bs
+result_after b bs opens = rw (opens, one_more, one_past) refl
 
 method_plain : (w : List ℕ) → is_method_descriptor w ≡ true → IsPlainName w
 method_plain [] h = absurd (false≢true h)
 method_plain (b ∷ bs) h =
     let closes : ℕ → Bool = λ c. c == 41 in
     let word = b ∷ bs in
-    let p = and_parts ((b == 40 && fits word) && list_all is_type (argument_types word)) (is_result (result_type word)) h in
+    let p = and_parts ((b == 40 && fits word) && list_all is_type (argument_types word)) (is_result (result_type word))
+          h in
     let q = and_parts (b == 40 && fits word) (list_all is_type (argument_types word)) p.0 in
     let r = and_parts (b == 40) (fits word) q.0 in
     let other : (b == 41) ≡ false = subst (λ (x : ℕ). (x == 41) ≡ false) (sym (eqb-true b 40 r.0)) refl in
     let before = row_ink (length (before_first closes bs)) (before_first closes bs) (omega arith) q.1 in
-    let result = subst (λ (v : List ℕ). list_all is_ink v ≡ true) (result_behind b bs other) (result_ink (result_type word) p.1) in
+    let result = subst (λ (v : List ℕ). list_all is_ink v ≡ true) (result_after b bs other)
+          (result_ink (result_type word) p.1) in
     record {
-      plain = plain_word b bs (same_byte starts b 40 r.0 refl) (both_sides closes is_ink (λ c e. same_byte is_ink c 41 e refl) bs before result);
+      plain = plain_word b bs (same_byte starts b 40 r.0 refl)
+          (both_sides closes is_ink (λ c e. same_byte is_ink c 41 e refl) bs before result);
       short = r.1;
     }
 
@@ -289,4 +321,5 @@ units_of_own static None h = absurd (false≢true h)
 units_of_own static (Some n) h = (n, refl)
 
 pub own_descriptor_plain : (static : Bool) (w : List ℕ) → units_fit static (arguments_of w) ≡ true → IsPlainName w
-own_descriptor_plain static w h = let some = units_of_own static (arguments_of w) h in method_descriptor_plain w some.0 some.1
+own_descriptor_plain static w h = let some = units_of_own static (arguments_of w) h
+                                        in method_descriptor_plain w some.0 some.1

@@ -23,10 +23,12 @@ abbrev pub object : List ℕ
 object = codes "java/lang/Object"
 
 abbrev method : ℕ → List ℕ → List ℕ → Method
-method flags name descriptor = record { flags = record { 0 = flags }; name = name; descriptor = descriptor; code = None }
+method flags name descriptor = record { flags = record { 0 = flags }; name = name; descriptor = descriptor;
+    code = None }
 
 abbrev field : ℕ → List ℕ → List ℕ → Field
-field flags name descriptor = record { flags = record { 0 = flags }; name = name; descriptor = descriptor; constant = None }
+field flags name descriptor = record { flags = record { 0 = flags }; name = name; descriptor = descriptor;
+    constant = None }
 
 abbrev class_of : ℕ → List ℕ → List ℕ → List (List ℕ) → List Field → List Method → ClassListing
 class_of flags name superclass interfaces fields methods = record {
@@ -61,7 +63,8 @@ unfolding builtin_classes upwards
 selected_above_private = refl
 
 -- and a reference to B's f is resolved to it
-resolved_private : resolved_method private_between (member (codes "C") (codes "f") (codes "()I")) ≡ found (codes "B") (f 2)
+resolved_private : resolved_method private_between (member (codes "C") (codes "f") (codes "()I"))
+    ≡ found (codes "B") (f 2)
 unfolding builtin_classes upwards interfaces_from
 resolved_private = refl
 
@@ -72,7 +75,8 @@ without_f =
     class_of 0x0601 (codes "J") object [] [] (f 0x0401 ∷ []) ∷
     class_of 1 (codes "D") object (codes "J" ∷ []) [] [] ∷ []
 
-resolved_in_interface : resolved_method without_f (member (codes "D") (codes "f") (codes "()I")) ≡ found (codes "J") (f 0x0401)
+resolved_in_interface : resolved_method without_f (member (codes "D") (codes "f") (codes "()I"))
+    ≡ found (codes "J") (f 0x0401)
 unfolding builtin_classes upwards interfaces_from
 resolved_in_interface = refl
 
@@ -90,7 +94,8 @@ unfolding builtin_classes upwards interfaces_from
 interface_call_of_2 = refl
 
 -- a class where an interface is wanted, and an interface where a class is
-interface_call_on_class : resolves without_f (Invoke (Interface 1) (member (codes "D") (codes "f") (codes "()I"))) ≡ false
+interface_call_on_class : resolves without_f (Invoke (Interface 1) (member (codes "D") (codes "f") (codes "()I")))
+    ≡ false
 unfolding builtin_classes upwards interfaces_from
 interface_call_on_class = refl
 
@@ -128,7 +133,8 @@ virtual_on_c : selected f_above_and_below (codes "C") (codes "f") (codes "()I") 
 unfolding builtin_classes upwards
 virtual_on_c = refl
 
--- ---- a field is sought in the superinterfaces before the superclass, a method in the superclass before the superinterfaces
+-- ---- a field is sought in the superinterfaces before the superclass, a method in the superclass before the
+-- superinterfaces
 
 abbrev x : ℕ → Field
 x flags = field flags (codes "x") (codes "I")
@@ -163,7 +169,8 @@ initializer_above : resolves thread (Invoke Special (member (codes "T") (codes "
 unfolding builtin_classes
 initializer_above = refl
 
-initializer_named : resolves thread (Invoke Special (member (codes "java/lang/Thread") (codes "<init>") (codes "()V"))) ≡ true
+initializer_named : resolves thread (Invoke Special (member (codes "java/lang/Thread") (codes "<init>") (codes "()V")))
+    ≡ true
 unfolding builtin_classes
 initializer_named = refl
 
@@ -179,7 +186,8 @@ fields_above =
     class_of 1 (codes "B") (codes "A") [] (x 1 ∷ []) [] ∷ []
 
 layout_of_b : layout fields_above (codes "B")
-    ≡ record { class = codes "A"; member = x 1 } ∷ record { class = codes "A"; member = field 1 (codes "y") (codes "J") } ∷ record { class = codes "B"; member = x 1 } ∷ []
+    ≡ record { class = codes "A"; member = x 1 } ∷ record { class = codes "A";
+        member = field 1 (codes "y") (codes "J") } ∷ record { class = codes "B"; member = x 1 } ∷ []
 unfolding builtin_classes upwards
 layout_of_b = refl
 

@@ -11,7 +11,8 @@ use Rattle.model.specs.declared.instructions.NumberOperation.TheVariants.{Binary
 use Rattle.model.specs.declared.instructions.NumberKind.TheVariants.{Int as Ints}
 use Rattle.model.specs.declared.instructions.Operator.TheVariants.{Add}
 use Rattle.model.specs.declared.instructions.Invocation.TheVariants.{Static}
-use Rattle.model.specs.declared.instructions.Instruction.TheVariants.{Nop, Constant as Push, Number as Compute, Return, Invoke}
+use Rattle.model.specs.declared.instructions.Instruction.TheVariants.{Nop, Constant as Push, Number as Compute, Return}
+use Rattle.model.specs.declared.instructions.Instruction.TheVariants.{Invoke}
 use Rattle.model.specs.declared.journals.Outcome.TheVariants.{Done as D, Fault as F}
 use Rattle.model.specs.declared.journals.Row.{Row}
 use Rattle.model.specs.declared.listings.Placed.{Placed}
@@ -90,7 +91,8 @@ no_room = class_of (codes "A") 0 (iconst_1 ∷ return ∷ []) ∷ []
 -- ---- running them: on two small cells, with these limits, for so many turns of thread 0
 
 abbrev opening : List ClassListing → ℕ → ℕ → Recorded
-opening program steps output = opened program (record { small = 2; medium = 0; large = 0 }) (record { steps = steps; output = output })
+opening program steps output = opened program (record { small = 2; medium = 0; large = 0 })
+    (record { steps = steps; output = output })
 
 abbrev turns : ℕ → List Actor
 turns n = replicate n (Thread 0)
@@ -157,7 +159,8 @@ wrapping_sum-full_again = refl
 
 -- the world after three turns, by its rows
 abbrev three_turns : Recorded
-three_turns = record { program = wrapping_sum; journal = record (opening wrapping_sum 1000000 11).journal { rows = replicate 3 done } }
+three_turns = record { program = wrapping_sum; journal = record (opening wrapping_sum 1000000 11).journal
+    { rows = replicate 3 done } }
 
 wrapping_sum-third : run wrapping_sum 11 3 ≡ three_turns
 unfolding machine_of after_turn_by refusal next completion after_turn upwards builtin_classes int_wrap digits
@@ -168,7 +171,8 @@ unfolding machine_of after_turn_by refusal next completion after_turn upwards bu
 wrapping_sum-refused = refl
 
 wrapping_sum-unchanged : run wrapping_sum 11 5 ≡ run wrapping_sum 11 3
-wrapping_sum-unchanged = ap (λ (v : Recorded). after_turns v (turns 2)) wrapping_sum-third ∙ wrapping_sum-refused ∙ sym wrapping_sum-third
+wrapping_sum-unchanged = ap (λ (v : Recorded). after_turns v (turns 2)) wrapping_sum-third ∙ wrapping_sum-refused
+    ∙ sym wrapping_sum-third
 
 wrapping_sum-output_full : output_full_of (run wrapping_sum 11 5) ≡ true
 unfolding machine_of after_turn_by refusal next completion after_turn upwards builtin_classes int_wrap digits
@@ -197,7 +201,7 @@ missing_operand-stopped : answer_to (run missing_operand 65536 2) (Thread 0) 0 �
 unfolding machine_of after_turn_by answer_to refusal next completion after_turn upwards builtin_classes int_wrap digits
 missing_operand-stopped = refl
 
--- ---- a main without a return: F5 behind its last instruction
+-- ---- a main without a return: F5 after its last instruction
 
 no_return-fault : fault_of (run no_return 65536 2) ≡ Some (NoInstruction, 0)
 unfolding machine_of after_turn_by refusal next completion after_turn upwards builtin_classes int_wrap digits

@@ -1,5 +1,6 @@
 -- The test of subclasses tells the relation: a path upwards need not be longer than there are classes.
-use Rattle.std.proofs.Common.{◌≡◌, ◌⊎◌, ℕ, zero, suc, ◌+◌, ◌≤◌, length, map, List, [], ◌∷◌, ◌++◌, Bool, true, false, cond, ◌||◌, Option, Some, None, refl, arith, ap, subst, inl, inr, length-append}
+use Rattle.std.proofs.Common.{◌≡◌, ◌⊎◌, ℕ, zero, suc, ◌+◌, ◌≤◌, length, map, List, [], ◌∷◌, ◌++◌, Bool, true, false}
+use Rattle.std.proofs.Common.{cond, ◌||◌, Option, Some, None, refl, arith, ap, subst, inl, inr, length-append}
 use Rattle.std.proofs.lemmas.Slice.Eq.{bytes_eq-Decides}
 use Rattle.std.specs.List.{find, list_any}
 use Rattle.std.specs.Str.{bytes_eq}
@@ -9,7 +10,8 @@ use Rattle.model.specs.Classes.Named.{is_named, or_else, listed, builtin, parent
 use Rattle.model.specs.Classes.Subclass.{HasName, Subclass}
 use Rattle.model.specs.Classes.Subclass.Subclass.{same, parent, through}
 use Rattle.model.specs.Classes.Subclasses.{is_within, is_subclass}
-use Rattle.model.proofs.ShortPaths.{or-cases, or-right, IsPath, path-append, Short, shortened, has, has-append_left, has-append_right, Inside}
+use Rattle.model.proofs.ShortPaths.{or-cases, or-right, IsPath, path-append, Short, shortened, has, has-append_left}
+use Rattle.model.proofs.ShortPaths.{has-append_right, Inside}
 
 -- ---- names that are equal
 
@@ -24,7 +26,8 @@ any-found f [] h = cc
 any-found f (x ∷ xs) h =
     elim (or-cases (f x) (list_any f xs) h) [
       | inl here ↦ (x, inl refl, here)
-      | inr there ↦ let found : (y : List ℕ) × HasName xs y × (f y ≡ true) = any-found f xs there in (found.0, inr found.1, found.2)
+      | inr there ↦ let found : (y : List ℕ) × HasName xs y × (f y ≡ true) = any-found f xs there
+                          in (found.0, inr found.1, found.2)
     ]
 
 any-has : (f : List ℕ → Bool) (xs : List (List ℕ)) (x : List ℕ) → HasName xs x → f x ≡ true → list_any f xs ≡ true
@@ -34,7 +37,8 @@ any-has f (y ∷ ys) x (inr h) t = or-right (f y) (list_any f ys) (any-has f ys 
 
 -- ---- what the test finds is so
 
-pub is_within-Subclass : (steps : ℕ) (program : List ClassListing) (name above : List ℕ) → is_within steps program name above ≡ true
+pub is_within-Subclass : (steps : ℕ) (program : List ClassListing) (name above : List ℕ)
+    → is_within steps program name above ≡ true
     → Subclass program name above
 unfolding is_within
 is_within-Subclass zero program name above h = subst (λ (x : List ℕ). Subclass program name x) (equal name above h) same
@@ -55,7 +59,8 @@ IsAbove program name above = HasName (parents_named program name) above
 abbrev SomePath : List ClassListing → List ℕ → List ℕ → Type 0
 SomePath program name above = (xs : List (List ℕ)) × IsPath (IsAbove program) name xs above
 
-path_of : (program : List ClassListing) {name above : List ℕ} → Subclass program name above → SomePath program name above
+path_of : (program : List ClassListing) {name above : List ℕ} → Subclass program name above
+    → SomePath program name above
 path_of program same = ([], refl)
 path_of program (parent {name = name} {above = above} h) = (above ∷ [], (h, refl))
 path_of program (through {name = name} {above = above} middle p q) =
@@ -63,19 +68,22 @@ path_of program (through {name = name} {above = above} middle p q) =
     let second : SomePath program middle above = path_of program q in
     (first.0 ++ second.0, path-append (IsAbove program) name middle above first.0 second.0 first.1 second.1)
 
-here-within : (steps : ℕ) (program : List ClassListing) (name above : List ℕ) → name ≡ above → is_within steps program name above ≡ true
+here-within : (steps : ℕ) (program : List ClassListing) (name above : List ℕ) → name ≡ above
+    → is_within steps program name above ≡ true
 unfolding is_within
 here-within zero program name above e = rw e (itself above)
 here-within (suc n) program name above e = rw (e, itself above)
 
-above-within : (steps : ℕ) (program : List ClassListing) (name above y : List ℕ) → HasName (parents_named program name) y
+above-within : (steps : ℕ) (program : List ClassListing) (name above y : List ℕ)
+    → HasName (parents_named program name) y
     → is_within steps program y above ≡ true → is_within (suc steps) program name above ≡ true
 unfolding is_within
 above-within steps program name above y h below =
     or-right (bytes_eq name above) (list_any (λ p. is_within steps program p above) (parents_named program name))
     (any-has (λ p. is_within steps program p above) (parents_named program name) y h below)
 
-path-within : (steps : ℕ) (program : List ClassListing) (name above : List ℕ) (xs : List (List ℕ)) → IsPath (IsAbove program) name xs above
+path-within : (steps : ℕ) (program : List ClassListing) (name above : List ℕ) (xs : List (List ℕ))
+    → IsPath (IsAbove program) name xs above
     → length xs ≤ steps → is_within steps program name above ≡ true
 path-within steps program name above [] p few = here-within steps program name above p
 path-within zero program name above (x ∷ xs) p few = absurd (omega arith)
@@ -91,28 +99,35 @@ abbrev names_of : List ClassListing → List (List ℕ)
 names_of program = map name_of program ++ map name_of builtin_classes
 
 found-cond : (b : Bool) (c : ClassListing) (rest : Option ClassListing) (others : Bool) (x : List ℕ)
-    → HasName (parents_in (cond b (Some c) rest)) x → (HasName (parents_in rest) x → others ≡ true) → (b || others) ≡ true
+    → HasName (parents_in (cond b (Some c) rest)) x → (HasName (parents_in rest) x → others ≡ true) → (b || others)
+        ≡ true
 found-cond true c rest others x h k = refl
 found-cond false c rest others x h k = k h
 
-found-named : (cs : List ClassListing) (name x : List ℕ) → HasName (parents_in (find (is_named name) cs)) x → has bytes_eq (map name_of cs) name ≡ true
+found-named : (cs : List ClassListing) (name x : List ℕ) → HasName (parents_in (find (is_named name) cs)) x
+    → has bytes_eq (map name_of cs) name ≡ true
 found-named [] name x h = absurd h
 found-named (c ∷ cs) name x h =
-    found-cond (bytes_eq c.name name) c (find (is_named name) cs) (has bytes_eq (map name_of cs) name) x h (λ k. found-named cs name x k)
+    found-cond (bytes_eq c.name name) c (find (is_named name) cs) (has bytes_eq (map name_of cs) name) x h
+        (λ k. found-named cs name x k)
 
 found-either : (first second : Option ClassListing) (x : List ℕ) → HasName (parents_in (or_else first second)) x
     → HasName (parents_in first) x ⊎ HasName (parents_in second) x
 found-either None second x h = inr h
 found-either (Some c) second x h = inl h
 
-parent-named : (program : List ClassListing) (name x : List ℕ) → HasName (parents_named program name) x → has bytes_eq (names_of program) name ≡ true
+parent-named : (program : List ClassListing) (name x : List ℕ) → HasName (parents_named program name) x
+    → has bytes_eq (names_of program) name ≡ true
 parent-named program name x h =
     elim (found-either (listed program name) (builtin name) x h) [
-      | inl one ↦ has-append_left bytes_eq (map name_of program) (map name_of builtin_classes) name (found-named program name x one)
-      | inr other ↦ has-append_right bytes_eq (map name_of program) (map name_of builtin_classes) name (found-named builtin_classes name x other)
+      | inl one ↦ has-append_left bytes_eq (map name_of program) (map name_of builtin_classes) name
+          (found-named program name x one)
+      | inr other ↦ has-append_right bytes_eq (map name_of program) (map name_of builtin_classes) name
+          (found-named builtin_classes name x other)
     ]
 
-path-inside : (program : List ClassListing) (name above : List ℕ) (xs : List (List ℕ)) → IsPath (IsAbove program) name xs above
+path-inside : (program : List ClassListing) (name above : List ℕ) (xs : List (List ℕ))
+    → IsPath (IsAbove program) name xs above
     → Inside bytes_eq (names_of program) name xs
 path-inside program name above [] p = tt
 path-inside program name above (x ∷ xs) p = (parent-named program name x p.0, path-inside program x above xs p.1)
@@ -127,17 +142,21 @@ length-map_name (c ∷ cs) = ap suc (length-map_name cs)
 
 names-length : (program : List ClassListing) → length (names_of program) ≤ length program + 23
 names-length program =
-    omega (arith, length-append (map name_of program) (map name_of builtin_classes), builtin_names, length-map_name program)
+    omega (arith, length-append (map name_of program) (map name_of builtin_classes), builtin_names,
+        length-map_name program)
 
 -- ---- the test and the relation agree
 
-pub Subclass-is_subclass : (program : List ClassListing) (name above : List ℕ) → Subclass program name above → is_subclass program name above ≡ true
+pub Subclass-is_subclass : (program : List ClassListing) (name above : List ℕ) → Subclass program name above
+    → is_subclass program name above ≡ true
 Subclass-is_subclass program name above h =
     let path : SomePath program name above = path_of program h in
     let short : Short bytes_eq bytes_eq-Decides (IsAbove program) (length program + 23) name above =
-    shortened bytes_eq bytes_eq-Decides (IsAbove program) (length program + 23) (names_of program) name above path.0 (names-length program)
+    shortened bytes_eq bytes_eq-Decides (IsAbove program) (length program + 23) (names_of program) name above path.0
+        (names-length program)
     path.1 (path-inside program name above path.0 path.1) in
     path-within (length program + 23) program name above short.0 short.1 short.2
 
-pub is_subclass-Subclass : (program : List ClassListing) (name above : List ℕ) → is_subclass program name above ≡ true → Subclass program name above
+pub is_subclass-Subclass : (program : List ClassListing) (name above : List ℕ) → is_subclass program name above ≡ true
+    → Subclass program name above
 is_subclass-Subclass program name above h = is_within-Subclass (length program + 23) program name above h

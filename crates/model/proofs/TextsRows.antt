@@ -28,7 +28,8 @@ abbrev pub main_text : List ℕ → List ℕ
 main_text body = codes ".class public E\n.super java/lang/Object\n.method public static main()V\n" ++ body
 
 -- the smallest program
-pub smallest : listing_spelled (main_text (codes ".limit stack 0\n.limit locals 0\nreturn\n.end method\n")) ≡ Some (record {
+pub smallest : listing_spelled (main_text (codes ".limit stack 0\n.limit locals 0\nreturn\n.end method\n"))
+    ≡ Some (record {
   name = codes "E";
   flags = record { 0 = 0x0001 };
   superclass = codes "java/lang/Object";
@@ -68,7 +69,9 @@ pub wraps : listing_spelled (codes "; a sum\n.class A\n .super\tjava/lang/Object
           record { pc = 0; next = 2; instruction = instruction.Constant (constant.Int Narrow (pos 2147483647)) }
           ∷ record { pc = 2; next = 3; instruction = instruction.Constant (constant.SmallInt One) }
           ∷ record { pc = 3; next = 4; instruction = instruction.Number (Binary number.Int Add) }
-          ∷ record { pc = 4; next = 7; instruction = instruction.Invoke Static (record { class = codes "vm/Sys"; name = codes "print"; descriptor = codes "(I)V" }) }
+          ∷ record { pc = 4; next = 7; instruction =
+              instruction.Invoke Static (record { class = codes "vm/Sys"; name = codes "print";
+              descriptor = codes "(I)V" }) }
           ∷ record { pc = 7; next = 8; instruction = instruction.Return None } ∷ [];
     });
   } ∷ [];
@@ -81,7 +84,7 @@ pub no_goto : tree_of (main_text (codes ".limit stack 0\n.limit locals 0\ngoto X
 unfolding tree_of mnemonic_of labels_agree
 no_goto = refl
 
--- a branch back, a row that ends behind the last instruction, and a switch: pcs stand for the labels
+-- a branch back, a row that ends after the last instruction, and a switch: pcs stand for the labels
 pub labels : listing_spelled (main_text (codes ".limit stack 1\n.limit locals 0\n.catch all from A to E using A\nA:\niconst_0\ntableswitch 5\nA\nB\ndefault : A\nB:\ngoto A\nE:\n.end method\n")) ≡ Some (record {
   name = codes "E";
   flags = record { 0 = 0x0001 };
@@ -98,7 +101,8 @@ pub labels : listing_spelled (main_text (codes ".limit stack 1\n.limit locals 0\
       rows = record { start = 0; end = 27; handler = 0; class = None } ∷ [];
       instructions =
           record { pc = 0; next = 1; instruction = instruction.Constant (constant.SmallInt Zero) }
-          ∷ record { pc = 1; next = 24; instruction = instruction.TableSwitch (record { low = pos 5; targets = 0 ∷ 24 ∷ []; default = 0 }) }
+          ∷ record { pc = 1; next = 24; instruction =
+              instruction.TableSwitch (record { low = pos 5; targets = 0 ∷ 24 ∷ []; default = 0 }) }
           ∷ record { pc = 24; next = 27; instruction = instruction.Branch (Always Narrow) 0 } ∷ [];
     });
   } ∷ [];
@@ -111,7 +115,7 @@ pub repeated_label : tree_of (main_text (codes ".limit stack 0\n.limit locals 0\
 unfolding tree_of mnemonic_of labels_agree
 repeated_label = refl
 
--- no branch goes behind the last instruction
+-- no branch goes after the last instruction
 pub no_end : tree_of (main_text (codes ".limit stack 0\n.limit locals 0\ngoto E\nE:\n.end method\n")) ≡ None
 unfolding tree_of mnemonic_of labels_agree
 no_end = refl
@@ -121,12 +125,14 @@ unfolding tree_of mnemonic_of labels_agree
 nothing = refl
 
 -- a limit is given once
-pub repeated_limit : tree_of (main_text (codes ".limit stack 0\n.limit stack 0\n.limit locals 0\nreturn\n.end method\n")) ≡ None
+pub repeated_limit : tree_of
+    (main_text (codes ".limit stack 0\n.limit stack 0\n.limit locals 0\nreturn\n.end method\n")) ≡ None
 unfolding tree_of mnemonic_of labels_agree
 repeated_limit = refl
 
 -- a number has no 0 in front
-pub leading_zero : tree_of (main_text (codes ".limit stack 1\n.limit locals 0\nbipush 05\nreturn\n.end method\n")) ≡ None
+pub leading_zero : tree_of (main_text (codes ".limit stack 1\n.limit locals 0\nbipush 05\nreturn\n.end method\n"))
+    ≡ None
 unfolding tree_of mnemonic_of labels_agree
 leading_zero = refl
 
@@ -136,7 +142,8 @@ unfolding tree_of mnemonic_of labels_agree
 repeated_flag = refl
 
 -- a line with a byte past 7F spells nothing, in a comment too
-pub no_text : tree_of (main_text (codes ".limit stack 1\n.limit locals 0\nreturn ;" ++ 0xff ∷ codes "\n.end method\n")) ≡ None
+pub no_text : tree_of (main_text (codes ".limit stack 1\n.limit locals 0\nreturn ;" ++ 0xff ∷ codes "\n.end method\n"))
+    ≡ None
 unfolding tree_of mnemonic_of labels_agree
 no_text = refl
 
@@ -146,14 +153,16 @@ unfolding tree_of mnemonic_of labels_agree
 endless = refl
 
 -- code is not empty
-pub empty_code : option_map assembles (tree_of (main_text (codes ".limit stack 0\n.limit locals 0\n.end method\n"))) ≡ Some false
+pub empty_code : option_map assembles (tree_of (main_text (codes ".limit stack 0\n.limit locals 0\n.end method\n")))
+    ≡ Some false
 unfolding tree_of assembles listing_assembles listing_of pool_size listing_items mnemonic_of labels_agree
 empty_code = refl
 
-pub one_return : option_map assembles (tree_of (main_text (codes ".limit stack 0\n.limit locals 0\nreturn\n.end method\n"))) ≡ Some true
+pub one_return : option_map assembles
+    (tree_of (main_text (codes ".limit stack 0\n.limit locals 0\nreturn\n.end method\n"))) ≡ Some true
 unfolding tree_of assembles listing_assembles listing_of pool_size listing_items mnemonic_of labels_agree
 one_return = refl
 
--- a switch behind `ldc` and 0, 1, 2 or 3 nops
+-- a switch after `ldc` and 0, 1, 2 or 3 nops
 pub pads : map pad_at (2 ∷ 3 ∷ 4 ∷ 5 ∷ []) ≡ 1 ∷ 0 ∷ 3 ∷ 2 ∷ []
 pads = refl

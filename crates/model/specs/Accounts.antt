@@ -1,4 +1,5 @@
-use Rattle.std.specs.Prelude.{ℕ, zero, suc, ◌+◌, List, [], ◌∷◌, ◌++◌, map, replicate, slice_set, nat_le, nat_eq, Bool, true, false, ◌||◌, Option, Some, None, is_some, if◌then◌else◌}
+use Rattle.std.specs.Prelude.{ℕ, zero, suc, ◌+◌, List, [], ◌∷◌, ◌++◌, map, replicate, slice_set, nat_le, nat_eq, Bool}
+use Rattle.std.specs.Prelude.{true, false, ◌||◌, Option, Some, None, is_some, if◌then◌else◌}
 use Rattle.model.specs.declared.colours.Cell.{Cell}
 use Rattle.model.specs.declared.colours.Cell.TheVariants.{Free, Taken}
 use Rattle.model.specs.declared.colours.Colour.{Colour}
@@ -12,7 +13,8 @@ use Rattle.model.specs.declared.journals.Outcome.TheVariants.{Done, Object, NoRo
 -- The account of the heap: which births the cells hold, with their colours, and which cells are free. It knows nothing
 -- of what objects contain (Dijkstra et al., CACM 21(11), 1978; the three sizes are this project's profile).
 
--- the free cells of each size, the next to be given at the front; the grey births, the next to be blackened at the front
+-- the free cells of each size, the next to be given at the front; the grey births, the next to be blackened at the
+-- front
 pub record Account : Type 0 where
   pub cells : List Cell
   pub small : List ℕ

@@ -1,16 +1,21 @@
-use Rattle.std.specs.Prelude.{ℤ, ℕ, pos, negsuc, neg_ℤ, ◌+ℤ◌, ◌-ℤ◌, ◌*ℤ◌, ◌/◌, ◌%◌, ◌^◌, Option, Some, None, Bool, not, int_div, int_rem, int_lt, int_le, if◌then◌else◌}
-use Rattle.std.specs.Int.{Width, w8, w16, w32, w64, int_wrap, int_shl, int_shr, int_bit_and, int_bit_or, int_bit_xor, cast_unsigned, cast_signed}
+use Rattle.std.specs.Prelude.{ℤ, ℕ, pos, negsuc, neg_ℤ, ◌+ℤ◌, ◌-ℤ◌, ◌*ℤ◌, ◌/◌, ◌%◌, ◌^◌, Option, Some, None, Bool, not}
+use Rattle.std.specs.Prelude.{int_div, int_rem, int_lt, int_le, if◌then◌else◌}
+use Rattle.std.specs.Int.{Width, w8, w16, w32, w64, int_wrap, int_shl, int_shr, int_bit_and, int_bit_or, int_bit_xor}
+use Rattle.std.specs.Int.{cast_unsigned, cast_signed}
 use Rattle.std.specs.Ordering.{int_eq, int_cmp, match_ordering}
 use Rattle.model.specs.declared.values.IntType.{IntType}
 use Rattle.model.specs.declared.values.IntType.TheVariants.{Byte, Char, Short, Int as AllBits}
 use Rattle.model.specs.declared.instructions.NumberKind.{NumberKind}
 use Rattle.model.specs.declared.instructions.NumberKind.TheVariants.{Int, Long}
 use Rattle.model.specs.declared.instructions.Operator.{Operator}
-use Rattle.model.specs.declared.instructions.Operator.TheVariants.{Add, Sub, Mul, Div, Rem, Shl, Shr, Ushr, And, Or, Xor}
+use Rattle.model.specs.declared.instructions.Operator.TheVariants.{Add, Sub, Mul, Div, Rem, Shl, Shr, Ushr, And, Or}
+use Rattle.model.specs.declared.instructions.Operator.TheVariants.{Xor}
 use Rattle.model.specs.declared.instructions.Conversion.{Conversion}
-use Rattle.model.specs.declared.instructions.Conversion.TheVariants.{IntToLong, LongToInt, IntToByte, IntToChar, IntToShort}
+use Rattle.model.specs.declared.instructions.Conversion.TheVariants.{IntToLong, LongToInt, IntToByte, IntToChar}
+use Rattle.model.specs.declared.instructions.Conversion.TheVariants.{IntToShort}
 use Rattle.model.specs.declared.instructions.Comparison.{Comparison}
-use Rattle.model.specs.declared.instructions.Comparison.TheVariants.{Equal, NotEqual, Less, GreaterOrEqual, Greater, LessOrEqual}
+use Rattle.model.specs.declared.instructions.Comparison.TheVariants.{Equal, NotEqual, Less, GreaterOrEqual, Greater}
+use Rattle.model.specs.declared.instructions.Comparison.TheVariants.{LessOrEqual}
 use mir.Val.{bits}
 
 -- the arithmetic of ints and longs (JVMS 2.11.3, 2.11.4, 6.5): whole numbers, of which `int_wrap` keeps the low bits
@@ -46,7 +51,8 @@ operator_result w Xor a b = Some (int_bit_xor w a b)
 abbrev pub negation : Width → ℤ → ℤ
 negation w a = int_wrap w (neg_ℤ a)
 
--- what a field, a static or an element of a type keeps of an int: its low 8 or 16 bits with their sign, for a char with zeros
+-- what a field, a static or an element of a type keeps of an int: its low 8 or 16 bits with their sign, for a char with
+-- zeros
 abbrev pub truncation : IntType → ℤ → ℤ
 truncation Byte a = int_wrap w8 a
 truncation Char a = pos (cast_unsigned w32 a % 2 ^ 16)

@@ -1,5 +1,6 @@
--- The collector (Dijkstra, Lamport, Martin, Scholten and Steffens, CACM 21(11), 1978): the places where references stand,
--- the table of its steps, the invariant of three colours, and what is proved of every run of threads and collector.
+-- The collector (Dijkstra, Lamport, Martin, Scholten and Steffens, CACM 21(11), 1978): the places where references
+-- stand, the table of its steps, the invariant of three colours, and what is proved of every run of threads and
+-- collector.
 pub mod Changes
 pub mod Choices
 pub mod Invariant

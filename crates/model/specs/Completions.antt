@@ -2,7 +2,10 @@ use Rattle.std.specs.Prelude.{ℕ, List, Bool, true, false, Option, Some, None, 
 use Rattle.model.specs.declared.turns.ClassState.{ClassState}
 use Rattle.model.specs.declared.turns.Fault.{Fault}
 use Rattle.model.specs.declared.turns.Exception.{Exception}
-use Rattle.model.specs.declared.turns.Exception.TheVariants.{Arithmetic, NullPointer, ClassCast, NegativeArraySize, ArrayStore, IllegalMonitorState, ArrayIndexOutOfBounds, IllegalThreadState, StackOverflow, ExceptionInInitializer, NoClassDefFound}
+use Rattle.model.specs.declared.turns.Exception.TheVariants.{Arithmetic, NullPointer, ClassCast, NegativeArraySize}
+use Rattle.model.specs.declared.turns.Exception.TheVariants.{ArrayStore, IllegalMonitorState, ArrayIndexOutOfBounds}
+use Rattle.model.specs.declared.turns.Exception.TheVariants.{IllegalThreadState, StackOverflow, ExceptionInInitializer}
+use Rattle.model.specs.declared.turns.Exception.TheVariants.{NoClassDefFound}
 use Rattle.model.specs.declared.turns.Abrupt.{Abrupt}
 use Rattle.model.specs.declared.turns.Abrupt.TheVariants.{Fault as Faulted, Throw}
 use Rattle.model.specs.ClassListings.{ClassListing}
@@ -65,7 +68,7 @@ waits Waits = true
 
 -- ---- where an instruction stands
 
--- a thread's turn as it begins: its running frame stands at an instruction, behind which is the next
+-- a thread's turn as it begins: its running frame stands at an instruction, after which is the next
 pub record Site : Type 0 where
   pub program : List ClassListing
   pub world : World

@@ -7,7 +7,8 @@ use Rattle.model.specs.declared.turns.Abrupt.{Abrupt}
 use Rattle.model.specs.ClassListings.{ClassListing}
 use Rattle.model.specs.Classes.Exceptions.{exception_class}
 use Rattle.model.specs.Frames.{Frame, Moved, running, with_running, replaced_if_room}
-use Rattle.model.specs.Worlds.{World, Contents, frames_at, next_birth, with_thread, with_class_states, with_output, plain_object}
+use Rattle.model.specs.Worlds.{World, Contents, frames_at, next_birth, with_thread, with_class_states, with_output}
+use Rattle.model.specs.Worlds.{plain_object}
 use Rattle.model.specs.Worlds.Thread.{Live}
 use Rattle.model.specs.Objects.{made_of, with_new}
 use Rattle.model.specs.Results.{Effect, faulted}
@@ -32,7 +33,8 @@ created_with w t contents (Err abrupt) = faulted w t StackFull
 
 abbrev pub created_on : World → ℕ → ℕ → ℕ → Contents → Option Frame → Effect
 created_on w t next taken contents None = faulted w t NoInstruction
-created_on w t next taken contents (Some f) = created_with w t contents (replaced_if_room next f taken (Ref (Some (next_birth w)) ∷ []))
+created_on w t next taken contents (Some f) = created_with w t contents
+    (replaced_if_room next f taken (Ref (Some (next_birth w)) ∷ []))
 
 abbrev pub created : List ClassListing → World → ℕ → ℕ → ℕ → Contents → Choice → Effect
 created program w t next taken contents NewObject = created_on w t next taken contents (running (frames_at w t))
@@ -47,7 +49,8 @@ raised program before w t exception NoRoom = thrown program before w t 1
 
 abbrev pub effect_of : List ClassListing → World → ℕ → Choice → Completion → Effect
 effect_of program w t choice (Goes after writes) = record { after = after; writes = writes }
-effect_of program w t choice (Prints after bytes) = record { after = with_output after (after.output ++ bytes); writes = [] }
+effect_of program w t choice (Prints after bytes) = record { after = with_output after (after.output ++ bytes);
+    writes = [] }
 effect_of program w t choice (Creates next taken contents) = created program w t next taken contents choice
 effect_of program w t choice (Throws birth) = thrown program w w t birth
 effect_of program w t choice (Raises exception) = raised program w w t exception choice

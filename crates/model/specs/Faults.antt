@@ -1,8 +1,9 @@
 use Rattle.std.specs.Prelude.{ℕ}
 use Rattle.model.specs.declared.turns.Fault.{Fault}
-use Rattle.model.specs.declared.turns.Fault.TheVariants.{StackEmpty, StackFull, WrongKind, WrongLocal, NoInstruction, WrongClass, WrongReturn, ThreadLimit, NoMethod, MonitorLimit}
+use Rattle.model.specs.declared.turns.Fault.TheVariants.{StackEmpty, StackFull, WrongKind, WrongLocal, NoInstruction}
+use Rattle.model.specs.declared.turns.Fault.TheVariants.{WrongClass, WrongReturn, ThreadLimit, NoMethod, MonitorLimit}
 
--- the number behind the F by which users know a fault
+-- the number after the F by which users know a fault
 abbrev pub fault_number : Fault → ℕ
 fault_number StackEmpty = 1
 fault_number StackFull = 2

@@ -1,4 +1,5 @@
-use Rattle.std.specs.Prelude.{◌≡◌, ℕ, ◌+◌, ◌-◌, ℤ, List, [], ◌∷◌, length, drop, take, replicate, slice_get, slice_set, slice_index_or, nat_le, nat_lt, ◌&&◌, Option, None, Result, Ok, Err, Bool, if◌then◌else◌}
+use Rattle.std.specs.Prelude.{◌≡◌, ℕ, ◌+◌, ◌-◌, ℤ, List, [], ◌∷◌, length, drop, take, replicate, slice_get, slice_set}
+use Rattle.std.specs.Prelude.{slice_index_or, nat_le, nat_lt, ◌&&◌, Option, None, Result, Ok, Err, Bool, if◌then◌else◌}
 use Rattle.model.specs.declared.values.Value.{Value}
 use Rattle.model.specs.declared.values.Value.TheVariants.{Int, Long, Ref}
 use Rattle.model.specs.declared.values.Entry.{Entry}
@@ -25,7 +26,8 @@ pub record Frame : Type 0 where
 
 -- the frame of a method at its start, its locals all unset
 abbrev pub opening_frame : MethodPlace → ℕ → ℕ → Frame
-opening_frame method max_locals max_stack = record { method = method; pc = 0; locals = replicate max_locals Unset; stack = []; room = max_stack; monitor = None; mark = Unmarked }
+opening_frame method max_locals max_stack = record { method = method; pc = 0; locals = replicate max_locals Unset;
+    stack = []; room = max_stack; monitor = None; mark = Unmarked }
 
 -- a frame that gives back no monitor when it is left, and neither waits nor fails
 abbrev pub IsPlain : Frame → Type 0
@@ -57,7 +59,8 @@ units_of_frames (f ∷ fs) = length f.locals + f.room + units_of_frames fs
 
 -- a thread has at most 256 frames, of 4,096 units in all: whether there is room for another frame
 abbrev pub has_room_for : List Frame → ℕ → ℕ → Bool
-has_room_for frames max_locals max_stack = nat_lt (length frames) 256 && nat_le (units_of_frames frames + max_locals + max_stack) 4096
+has_room_for frames max_locals max_stack = nat_lt (length frames) 256
+    && nat_le (units_of_frames frames + max_locals + max_stack) 4096
 
 -- the same of all of a thread's frames
 abbrev pub within_limits : List Frame → Bool
@@ -129,8 +132,10 @@ pub record Moved : Type 0 where
 
 -- these values, bottom first, in place of the n at the top, and on to the next instruction
 abbrev pub replaced : ℕ → Frame → ℕ → List Value → Moved
-replaced next f n vs = record { frame = record f { pc = next; stack = push_all vs (drop n f.stack) }; writes = births_of vs }
+replaced next f n vs = record { frame = record f { pc = next; stack = push_all vs (drop n f.stack) };
+    writes = births_of vs }
 
 -- the same where they have room, else F2
 abbrev pub replaced_if_room : ℕ → Frame → ℕ → List Value → Result Moved Abrupt
-replaced_if_room next f n vs = if nat_le (units_of_all (push_all vs (drop n f.stack))) f.room then Ok (replaced next f n vs) else Err (Faulted StackFull)
+replaced_if_room next f n vs = if nat_le (units_of_all (push_all vs (drop n f.stack))) f.room
+    then Ok (replaced next f n vs) else Err (Faulted StackFull)

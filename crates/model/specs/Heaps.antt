@@ -8,8 +8,8 @@ use Rattle.model.specs.Naming.{named_field, named_thread, named_value}
 use Rattle.model.specs.Objects.{object_at}
 use Rattle.model.specs.Shows.{Held, HeapCell, HeapWorld, kind_of_contents, values_in}
 
--- The machine's world that an account stands for: each object of the ideal world that has a cell stands in it, and births
--- are the numbers of their cells.
+-- The machine's world that an account stands for: each object of the ideal world that has a cell stands in it, and
+-- births are the numbers of their cells.
 
 abbrev pub holds : ℕ → Cell → Bool
 holds b Free = false

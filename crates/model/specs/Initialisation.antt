@@ -1,4 +1,5 @@
-use Rattle.std.specs.Prelude.{ℕ, List, [], ◌∷◌, ◌++◌, map, slice_get, slice_set, slice_index_or, position, Option, Some, None, Bool, true, false, ◌&&◌, not}
+use Rattle.std.specs.Prelude.{ℕ, List, [], ◌∷◌, ◌++◌, map, slice_get, slice_set, slice_index_or, position, Option, Some}
+use Rattle.std.specs.Prelude.{None, Bool, true, false, ◌&&◌, not}
 use Rattle.std.specs.List.{flat_map, list_any, position_or_len}
 use Rattle.std.specs.Str.{bytes_eq}
 use Rattle.model.specs.declared.listings.Method.{Method}
@@ -14,8 +15,9 @@ use Rattle.model.specs.Classes.Search.{superclasses}
 use Rattle.model.specs.Frames.{Frame, opening_frame}
 use Rattle.model.specs.Programs.{is_class_initializer, method_at, code_at, main_in}
 
--- Class initialisation (JVMS 5.5) where it needs no world: which classes want it, what states they are in, and the frames
--- of a thread that claims classes. The classes of a program go by their places; the machine's own are initialised.
+-- Class initialisation (JVMS 5.5) where it needs no world: which classes want it, what states they are in, and the
+-- frames of a thread that claims classes. The classes of a program go by their places; the machine's own are
+-- initialised.
 
 -- ---- initializers
 
@@ -53,7 +55,8 @@ declares_initializer c = list_any is_class_initializer c.methods
 -- whether a class, no interface, or one of its superclasses declares an initializer
 abbrev pub wants_initialising : List ClassListing → ClassListing → Bool
 wants_initialising program c =
-    list_any (λ (above : ClassListing). declares_initializer above && list_any (bytes_eq above.name) (superclasses program c.name)) program
+    list_any (λ (above : ClassListing). declares_initializer above
+        && list_any (bytes_eq above.name) (superclasses program c.name)) program
     && not (is_interface c)
 
 abbrev pub state_if : Bool → ClassState
@@ -86,10 +89,12 @@ chain_if states (Some class) further = chain_with class (slice_index_or states c
 
 abbrev pub chain_from : List ClassListing → List ClassState → List (List ℕ) → Chain
 chain_from program states [] = chain_end Done
-chain_from program states (name ∷ names) = chain_if states (position (is_named name) program) (chain_from program states names)
+chain_from program states (name ∷ names) = chain_if states (position (is_named name) program)
+    (chain_from program states names)
 
 abbrev pub chain_of : List ClassListing → List ClassState → List ℕ → Chain
-chain_of program states name = chain_from program states (name ∷ superclasses program (superclass_in (class_named program name)))
+chain_of program states name = chain_from program states
+    (name ∷ superclasses program (superclass_in (class_named program name)))
 
 -- ---- the frames of a claim
 
@@ -125,7 +130,8 @@ first_claim [] = []
 first_claim (c ∷ cs) = (chain_of (c ∷ cs) (opening_states (c ∷ cs)) c.name).unused
 
 abbrev pub opening_frames : List ClassListing → List Frame
-opening_frames program = callers_waiting (main_frames program (main_in program) ++ initializer_frames program (first_claim program))
+opening_frames program = callers_waiting (main_frames program (main_in program) ++
+    initializer_frames program (first_claim program))
 
 abbrev pub claimed_states : List ClassListing → List ClassState
 claimed_states program = with_states (Running 0) (first_claim program) (opening_states program)

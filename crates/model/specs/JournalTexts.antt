@@ -23,14 +23,15 @@ abbrev pub actor_word : Actor → List ℕ
 actor_word (Thread t) = decimal t
 actor_word Collector = 99 ∷ []
 
--- a number and the byte behind it: a space (32) or a newline (10)
+-- a number and the byte after it: a space (32) or a newline (10)
 abbrev pub number_text : ℕ → ℕ → List ℕ
-number_text n behind = decimal n ++ behind ∷ []
+number_text n following = decimal n ++ following ∷ []
 
 -- ---- the head's lines
 
 abbrev pub heap_line : HeapShape → List ℕ
-heap_line shape = codes "heap " ++ number_text shape.small 32 ++ number_text shape.medium 32 ++ number_text shape.large 10
+heap_line shape = codes "heap " ++ number_text shape.small 32 ++ number_text shape.medium 32
+    ++ number_text shape.large 10
 
 abbrev pub limits_line : Limits → List ℕ
 limits_line limits = codes "limits " ++ number_text limits.steps 32 ++ number_text limits.output 10

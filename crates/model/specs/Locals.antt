@@ -1,4 +1,5 @@
-use Rattle.std.specs.Prelude.{ℕ, ◌+◌, ◌-◌, List, [], ◌∷◌, ◌++◌, length, drop, take, reverse, replicate, slice_get, slice_set, nat_le, Option, Some, None, Result, Ok, Err, Bool, true, false}
+use Rattle.std.specs.Prelude.{ℕ, ◌+◌, ◌-◌, List, [], ◌∷◌, ◌++◌, length, drop, take, reverse, replicate, slice_get}
+use Rattle.std.specs.Prelude.{slice_set, nat_le, Option, Some, None, Result, Ok, Err, Bool, true, false}
 use Rattle.model.specs.declared.values.Kind.{Kind}
 use Rattle.model.specs.declared.values.Kind.TheVariants.{Int as IntKind, Long as LongKind, Ref as RefKind}
 use Rattle.model.specs.declared.values.Value.{Value}
@@ -80,12 +81,14 @@ freed locals index = without_half locals index (slice_get locals index)
 -- a value in a local: a long takes two, its value and its upper half
 abbrev pub with_local : List Entry → ℕ → Value → List Entry
 with_local locals index (Int z) = slice_set (freed locals index) index (Holds (Int z))
-with_local locals index (Long z) = slice_set (slice_set (freed (freed locals index) (index + 1)) index (Holds (Long z))) (index + 1) UpperHalf
+with_local locals index (Long z) = slice_set (slice_set (freed (freed locals index) (index + 1)) index (Holds (Long z)))
+    (index + 1) UpperHalf
 with_local locals index (Ref r) = slice_set (freed locals index) index (Holds (Ref r))
 
 -- so many values go from the top, one is put into a local, and on to the next instruction
 abbrev pub stored : ℕ → Frame → ℕ → ℕ → Value → Moved
-stored next f n index v = record { frame = record f { pc = next; locals = with_local f.locals index v; stack = drop n f.stack }; writes = births_of (v ∷ []) }
+stored next f n index v = record { frame = record f { pc = next; locals = with_local f.locals index v;
+    stack = drop n f.stack }; writes = births_of (v ∷ []) }
 
 -- the operand that was found goes into a local, if there is one; else F4
 abbrev pub stored_if_local : ℕ → Frame → ℕ → Bool → Result Value Fault → Result Moved Abrupt
@@ -106,7 +109,8 @@ argument_entries (Long z ∷ vs) = Holds (Long z) ∷ UpperHalf ∷ argument_ent
 argument_entries (Ref r ∷ vs) = Holds (Ref r) ∷ argument_entries vs
 
 abbrev pub called_frame : MethodPlace → ℕ → ℕ → List Value → Frame
-called_frame method max_locals max_stack arguments = record (opening_frame method max_locals max_stack) { locals = argument_entries arguments ++ replicate (max_locals - units_of_all arguments) Unset }
+called_frame method max_locals max_stack arguments = record (opening_frame method max_locals max_stack)
+    { locals = argument_entries arguments ++ replicate (max_locals - units_of_all arguments) Unset }
 
 -- the n values at the top of a stack, the lowest first
 abbrev pub arguments_on : ℕ → List Value → List Value
@@ -114,4 +118,6 @@ arguments_on n stack = reverse (take n stack)
 
 -- the running frame gives so many values from the top of its stack to the frame of a method
 abbrev pub frames_of_call : List Frame → MethodPlace → ℕ → ℕ → ℕ → List Frame
-frames_of_call frames method max_locals max_stack n = with_running frames (record (running_frame frames) { stack = drop n (running_frame frames).stack }) ++ called_frame method max_locals max_stack (arguments_on n (running_frame frames).stack) ∷ []
+frames_of_call frames method max_locals max_stack n = with_running frames
+    (record (running_frame frames) { stack = drop n (running_frame frames).stack })
+    ++ called_frame method max_locals max_stack (arguments_on n (running_frame frames).stack) ∷ []

@@ -33,7 +33,8 @@ pub record Machine : Type 0 where
 
 abbrev pub account_step : List ClassListing → HeapShape → Machine → Actor → Outcome → Account
 account_step program shape m (Thread t) outcome =
-    after_turn m.account outcome (next_birth m.world) (asked program m.world t) (next program m.world t (choice_of program m.world t outcome)).writes
+    after_turn m.account outcome (next_birth m.world) (asked program m.world t)
+        (next program m.world t (choice_of program m.world t outcome)).writes
 account_step program shape m Collector outcome = collected shape m.world m.account
 
 abbrev pub account_unless_refused : List ClassListing → HeapShape → Machine → Actor → Outcome → Option Turn → Account
@@ -52,10 +53,12 @@ opening_machine program shape = record { world = opening_world program; account 
 
 abbrev pub advance_all : List ClassListing → HeapShape → Limits → Machine → List Row → Machine
 advance_all program shape limits m [] = m
-advance_all program shape limits m (row ∷ rows) = advance_all program shape limits (advance program shape limits m row) rows
+advance_all program shape limits m (row ∷ rows) = advance_all program shape limits (advance program shape limits m row)
+    rows
 
 unfoldable pub machine_of : Recorded → Machine
-machine_of v = advance_all v.program v.journal.shape v.journal.limits (opening_machine v.program v.journal.shape) v.journal.rows
+machine_of v = advance_all v.program v.journal.shape v.journal.limits (opening_machine v.program v.journal.shape)
+    v.journal.rows
 
 -- ---- from the machine to the next row
 
@@ -83,7 +86,8 @@ outcome_of program m Collector = Done
 
 abbrev pub row_unless_refused : List ClassListing → Machine → Actor → ℕ → Option Turn → Option Row
 row_unless_refused program m actor worker (Some refused) = None
-row_unless_refused program m actor worker None = Some (record { actor = actor; outcome = outcome_of program m actor; worker = worker })
+row_unless_refused program m actor worker None = Some (record { actor = actor; outcome = outcome_of program m actor;
+    worker = worker })
 
 -- the row that an actor's turn makes, if it makes one
 abbrev pub row_by : List ClassListing → Limits → Machine → Actor → ℕ → Option Row
@@ -105,17 +109,18 @@ with_row v (Some row) = noted v row
 unfoldable pub after_turn_by : Recorded → Actor → ℕ → Recorded
 after_turn_by v actor worker = with_row v (row_for v actor worker)
 
-abbrev pub told_of : Option (FaultKind × ℕ) → Turn
-told_of None = TurnDone
-told_of (Some fault) = TurnFault fault.0
+abbrev pub reported_of : Option (FaultKind × ℕ) → Turn
+reported_of None = TurnDone
+reported_of (Some fault) = TurnFault fault.0
 
 abbrev pub answer_unless_refused : Recorded → Option Turn → Turn
 answer_unless_refused after (Some refused) = refused
-answer_unless_refused after None = told_of (machine_of after).world.fault
+answer_unless_refused after None = reported_of (machine_of after).world.fault
 
 -- what an actor's turn answers
 unfoldable pub answer_to : Recorded → Actor → ℕ → Turn
-answer_to v actor worker = answer_unless_refused (after_turn_by v actor worker) (refusal v.program v.journal.limits (machine_of v).world actor)
+answer_to v actor worker = answer_unless_refused (after_turn_by v actor worker)
+    (refusal v.program v.journal.limits (machine_of v).world actor)
 
 -- one turn for each actor in order, whatever each answers
 abbrev pub after_turns : Recorded → List Actor → Recorded
@@ -130,11 +135,16 @@ opened program shape limits = record { program = program; journal = blank shape 
 
 -- ---- laws
 
-pub advance_all-push : (program : List ClassListing) (shape : HeapShape) (limits : Limits) (m : Machine) (rows : List Row) (row : Row) → advance_all program shape limits m (rows ++ row ∷ []) ≡ advance program shape limits (advance_all program shape limits m rows) row
+pub advance_all-push : (program : List ClassListing) (shape : HeapShape) (limits : Limits) (m : Machine)
+    (rows : List Row) (row : Row) → advance_all program shape limits m (rows ++ row ∷ [])
+    ≡ advance program shape limits (advance_all program shape limits m rows) row
 advance_all-push program shape limits m [] row = refl
-advance_all-push program shape limits m (r ∷ rows) row = advance_all-push program shape limits (advance program shape limits m r) rows row
+advance_all-push program shape limits m (r ∷ rows) row = advance_all-push program shape limits
+    (advance program shape limits m r) rows row
 
 -- one row more is one step more
-pub machine_of-noted : (v : Recorded) (row : Row) → machine_of (noted v row) ≡ advance v.program v.journal.shape v.journal.limits (machine_of v) row
+pub machine_of-noted : (v : Recorded) (row : Row) → machine_of (noted v row)
+    ≡ advance v.program v.journal.shape v.journal.limits (machine_of v) row
 unfolding machine_of
-machine_of-noted v row = advance_all-push v.program v.journal.shape v.journal.limits (opening_machine v.program v.journal.shape) v.journal.rows row
+machine_of-noted v row = advance_all-push v.program v.journal.shape v.journal.limits
+    (opening_machine v.program v.journal.shape) v.journal.rows row

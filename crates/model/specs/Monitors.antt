@@ -1,4 +1,5 @@
-use Rattle.std.specs.Prelude.{ℕ, ◌+◌, ◌-◌, ◌==◌, nat_le, List, [], ◌∷◌, Bool, true, false, Option, Some, None, if◌then◌else◌}
+use Rattle.std.specs.Prelude.{ℕ, ◌+◌, ◌-◌, ◌==◌, nat_le, List, [], ◌∷◌, Bool, true, false, Option, Some, None}
+use Rattle.std.specs.Prelude.{if◌then◌else◌}
 use Rattle.model.specs.Worlds.{World, Object, Monitor, free_monitor}
 use Rattle.model.specs.Objects.{object_at, with_object}
 
@@ -45,7 +46,8 @@ with_monitor_of w birth monitor = with_monitor_if w birth monitor (object_at w b
 
 abbrev pub released : World → ℕ → Option ℕ → World
 released w t None = w
-released w t (Some birth) = if is_owner t (monitor_of w birth).owner then with_monitor_of w birth (exited (monitor_of w birth)) else w
+released w t (Some birth) = if is_owner t (monitor_of w birth).owner
+    then with_monitor_of w birth (exited (monitor_of w birth)) else w
 
 abbrev pub released_all : World → ℕ → List (Option ℕ) → World
 released_all w t [] = w

@@ -1,4 +1,5 @@
-use Rattle.std.specs.Prelude.{ℕ, ◌+◌, List, [], ◌∷◌, ◌++◌, drop, take, slice_get, nat_lt, Bool, true, false, ◌&&◌, if◌then◌else◌, Option, Some, None, is_some, position}
+use Rattle.std.specs.Prelude.{ℕ, ◌+◌, List, [], ◌∷◌, ◌++◌, drop, take, slice_get, nat_lt, Bool, true, false, ◌&&◌}
+use Rattle.std.specs.Prelude.{if◌then◌else◌, Option, Some, None, is_some, position}
 use Rattle.std.specs.List.{find, list_any}
 use Rattle.std.specs.Option.{option_map}
 use Rattle.model.specs.declared.colours.Colour.{Colour}
@@ -88,7 +89,8 @@ is_running Faulted = false
 -- it runs, has steps left, and the output holds some ready thread
 abbrev pub output_full_of : Recorded → Bool
 output_full_of v =
-    is_running (status_of v) && nat_lt (ideal v).rows v.journal.limits.steps && list_any (is_held_by_output v.program v.journal.limits (ideal v)) (thread_numbers (ideal v))
+    is_running (status_of v) && nat_lt (ideal v).rows v.journal.limits.steps
+        && list_any (is_held_by_output v.program v.journal.limits (ideal v)) (thread_numbers (ideal v))
 
 -- ---- class states
 
@@ -97,7 +99,8 @@ state_named program w name = state_at w.statics.states (position (is_named name)
 
 -- the state of a class by its name, None where there is no such class
 abbrev pub class_state_of : Recorded → List ℕ → Option ClassState
-class_state_of v name = option_map (λ (c : ClassListing). state_named v.program (ideal v) name) (class_named v.program name)
+class_state_of v name = option_map (λ (c : ClassListing). state_named v.program (ideal v) name)
+    (class_named v.program name)
 
 -- ---- the heap
 

@@ -1,4 +1,5 @@
-use Rattle.std.specs.Prelude.{ℕ, List, [], ◌∷◌, length, slice_get, Option, Some, None, is_some, Bool, ◌&&◌, ◌==◌, codes, cond, position}
+use Rattle.std.specs.Prelude.{ℕ, List, [], ◌∷◌, length, slice_get, Option, Some, None, is_some, Bool, ◌&&◌, ◌==◌, codes}
+use Rattle.std.specs.Prelude.{cond, position}
 use Rattle.std.specs.Option.{option_map, option_and_then}
 use Rattle.std.specs.Str.{bytes_eq}
 use Rattle.std.specs.List.{find}
@@ -6,7 +7,8 @@ use Rattle.model.specs.declared.listings.Method.{Method}
 use Rattle.model.specs.declared.listings.Placed.{Placed}
 use Rattle.model.specs.declared.names.Member.{Member}
 use Rattle.model.specs.declared.builtins.Builtin.{Builtin}
-use Rattle.model.specs.declared.builtins.Builtin.TheVariants.{PrintInt, PrintLong, PutByte, Initialize, RunThread, StartThread, JoinThread}
+use Rattle.model.specs.declared.builtins.Builtin.TheVariants.{PrintInt, PrintLong, PutByte, Initialize, RunThread}
+use Rattle.model.specs.declared.builtins.Builtin.TheVariants.{StartThread, JoinThread}
 use Rattle.model.specs.CodeListings.{CodeListing}
 use Rattle.model.specs.ClassListings.{ClassListing}
 use Rattle.model.specs.declared.instructions.Instruction.TheVariants.{Return}
@@ -29,7 +31,8 @@ empty_initializer = record {
   flags = record { 0 = 8 };
   name = codes "<clinit>";
   descriptor = codes "()V";
-  code = Some (record { max_stack = 0; max_locals = 0; rows = []; instructions = record { pc = 0; next = 1; instruction = Return None } ∷ [] });
+  code = Some (record { max_stack = 0; max_locals = 0; rows = []; instructions = record { pc = 0; next = 1;
+      instruction = Return None } ∷ [] });
 }
 
 -- past the last method of a class stands its empty initializer
@@ -37,7 +40,8 @@ abbrev pub method_in : ClassListing → ℕ → Option Method
 method_in c n = or_else (slice_get c.methods n) (cond (n == length c.methods) (Some empty_initializer) None)
 
 abbrev pub method_at : List ClassListing → MethodPlace → Option Method
-method_at program place = option_and_then (λ (c : ClassListing). method_in c place.method) (slice_get program place.class)
+method_at program place = option_and_then (λ (c : ClassListing). method_in c place.method)
+    (slice_get program place.class)
 
 abbrev pub code_at : List ClassListing → MethodPlace → Option CodeListing
 code_at program place = option_and_then (λ (m : Method). m.code) (method_at program place)
@@ -68,7 +72,8 @@ is_member m class name descriptor = bytes_eq m.class class && bytes_eq m.name na
 
 -- all of them have an initializer but `vm/Sys`, which declares none
 abbrev pub is_own_initializer : Member → Bool
-is_own_initializer m = is_some (builtin m.class) && bytes_eq m.name (codes "<init>") && bytes_eq m.descriptor (codes "()V")
+is_own_initializer m = is_some (builtin m.class) && bytes_eq m.name (codes "<init>")
+    && bytes_eq m.descriptor (codes "()V")
 
 abbrev pub builtin_of : Member → Option Builtin
 builtin_of m =

@@ -7,8 +7,10 @@ use Rattle.model.specs.declared.turns.Actor.{Actor}
 use Rattle.model.specs.declared.turns.Actor.TheVariants.{Thread, Collector}
 use Rattle.model.specs.declared.row_runs.RowRun.{RowRun}
 use Rattle.model.specs.declared.row_runs.TurnTaken.{TurnTaken}
-use Rattle.model.specs.declared.row_runs.TurnTaken.TheVariants.{CollectorDone, CollectorObject, CollectorNoRoom, CollectorFault}
-use Rattle.model.specs.declared.row_runs.TurnTaken.TheVariants.{Done as DoneBy, Object as ObjectBy, NoRoom as NoRoomBy, Fault as FaultBy}
+use Rattle.model.specs.declared.row_runs.TurnTaken.TheVariants.{CollectorDone, CollectorObject, CollectorNoRoom}
+use Rattle.model.specs.declared.row_runs.TurnTaken.TheVariants.{CollectorFault}
+use Rattle.model.specs.declared.row_runs.TurnTaken.TheVariants.{Done as DoneBy, Object as ObjectBy, NoRoom as NoRoomBy}
+use Rattle.model.specs.declared.row_runs.TurnTaken.TheVariants.{Fault as FaultBy}
 
 abbrev pub taken : Actor → Outcome → TurnTaken
 taken (Thread t) Done = DoneBy t

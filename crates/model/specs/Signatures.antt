@@ -1,4 +1,5 @@
-use Rattle.std.specs.Prelude.{ℕ, zero, suc, ◌+◌, ◌==◌, List, [], ◌∷◌, length, map, take, drop, Option, Some, None, if◌then◌else◌}
+use Rattle.std.specs.Prelude.{ℕ, zero, suc, ◌+◌, ◌==◌, List, [], ◌∷◌, length, map, take, drop, Option, Some, None}
+use Rattle.std.specs.Prelude.{if◌then◌else◌}
 use Rattle.std.specs.List.{sum_by, prefix_len, position_or_len, before_first, after_first}
 use Rattle.model.specs.declared.values.Kind.{Kind}
 use Rattle.model.specs.Stores.{descriptor_kind}
@@ -47,7 +48,7 @@ units_of_types types = sum_by entries_of (map descriptor_kind types)
 abbrev pub argument_units : List ℕ → ℕ
 argument_units descriptor = units_of_types (argument_types descriptor)
 
--- the descriptor of a method's result, or `V`, which stands behind the `)`
+-- the descriptor of a method's result, or `V`, which stands after the `)`
 abbrev pub result_type : List ℕ → List ℕ
 result_type descriptor = after_first (λ b. b == 41) descriptor
 

@@ -69,7 +69,8 @@ abbrev pub pad_at : ℕ → ℕ
 pad_at pc = 3 - pc % 4
 
 -- the size of an instruction at a pc
-abbrev pub size_at : {Target Int Long Field Method Class : Type 0} → ℕ → Instruction Target Int Long Field Method Class → ℕ
+abbrev pub size_at : {Target Int Long Field Method Class : Type 0} → ℕ → Instruction Target Int Long Field Method Class
+    → ℕ
 size_at pc instruction.Nop = 1
 size_at pc (instruction.Constant c) = constant_size c
 size_at pc (instruction.Local l) = local_size l

@@ -1,7 +1,9 @@
-use Rattle.std.specs.Prelude.{ℕ, ◌+◌, List, length, nat_lt, nat_le, Bool, true, false, Option, Some, None, is_some, if◌then◌else◌}
+use Rattle.std.specs.Prelude.{ℕ, ◌+◌, List, length, nat_lt, nat_le, Bool, true, false, Option, Some, None, is_some}
+use Rattle.std.specs.Prelude.{if◌then◌else◌}
 use Rattle.model.specs.declared.journals.Limits.{Limits}
 use Rattle.model.specs.declared.journals.Outcome.{Outcome}
-use Rattle.model.specs.declared.journals.Outcome.TheVariants.{Done as WasDone, Object as GotObject, NoRoom as FoundNoRoom, Fault as WasFault}
+use Rattle.model.specs.declared.journals.Outcome.TheVariants.{Done as WasDone, Object as GotObject}
+use Rattle.model.specs.declared.journals.Outcome.TheVariants.{NoRoom as FoundNoRoom, Fault as WasFault}
 use Rattle.model.specs.declared.turns.Actor.{Actor}
 use Rattle.model.specs.declared.turns.Actor.TheVariants.{Thread, Collector}
 use Rattle.model.specs.declared.turns.Fault.{Fault}

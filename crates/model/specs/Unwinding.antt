@@ -1,4 +1,5 @@
-use Rattle.std.specs.Prelude.{ℕ, List, [], ◌∷◌, ◌++◌, map, filter, reverse, nat_le, nat_lt, codes, Bool, true, false, ◌&&◌, not, Option, Some, None, if◌then◌else◌}
+use Rattle.std.specs.Prelude.{ℕ, List, [], ◌∷◌, ◌++◌, map, filter, reverse, nat_le, nat_lt, codes, Bool, true, false}
+use Rattle.std.specs.Prelude.{◌&&◌, not, Option, Some, None, if◌then◌else◌}
 use Rattle.std.specs.List.{find}
 use Rattle.std.specs.Option.{option_map}
 use Rattle.model.specs.declared.listings.ExceptionRow.{ExceptionRow}
@@ -35,7 +36,8 @@ fits program class pc row = nat_le row.start pc && nat_lt pc row.end && takes pr
 
 abbrev pub handler_in : List ClassListing → List ℕ → ℕ → Option CodeListing → Option ℕ
 handler_in program class pc None = None
-handler_in program class pc (Some code) = option_map (λ (row : ExceptionRow). row.handler) (find (fits program class pc) code.rows)
+handler_in program class pc (Some code) = option_map (λ (row : ExceptionRow). row.handler)
+    (find (fits program class pc) code.rows)
 
 -- the handler of a frame for a class of throwables: that of the first row that fits. The rows of a frame that waits for
 -- an initializer above it, or that fails, aren't tried
@@ -61,7 +63,8 @@ abbrev pub is_error : List ClassListing → List ℕ → Bool
 is_error program class = is_subclass program class (codes "java/lang/Error")
 
 abbrev pub response_of : List ClassListing → List ℕ → Frame → Response
-response_of program class f = responds (handler_of program class f f.mark) (runs_initializer program f && not (is_error program class))
+response_of program class f = responds (handler_of program class f f.mark) (runs_initializer program f
+    && not (is_error program class))
 
 -- ---- where a throwable lands, and the frames that are left on its way; frames stand innermost first
 
@@ -97,10 +100,12 @@ failing f = record f { stack = []; mark = Failing }
 -- F2, as of the world before, where the handler's stack has no room
 abbrev pub landed : World → World → ℕ → ℕ → List ℕ → Landing → Effect
 landed before w t birth class Unhandled = record { after = with_thread w t (Ended (Some class)); writes = [] }
-landed before w t birth class (Stopped f callers) = record { after = with_thread w t (Live (reverse callers ++ failing f ∷ [])); writes = [] }
+landed before w t birth class (Stopped f callers) = record { after = with_thread w t
+    (Live (reverse callers ++ failing f ∷ [])); writes = [] }
 landed before w t birth class (Handled handler f callers) =
     if nat_le 1 f.room
-    then record { after = with_thread w t (Live (reverse callers ++ handling birth handler f ∷ [])); writes = birth ∷ [] }
+    then record { after = with_thread w t (Live (reverse callers ++ handling birth handler f ∷ []));
+        writes = birth ∷ [] }
     else faulted before t StackFull
 
 -- the classes whose initializers are among these frames
@@ -110,7 +115,8 @@ initialised_by program frames = map (λ (f : Frame). f.method.class) (filter (ru
 -- frames are left: their method monitors are released, and the classes that they initialise have failed
 abbrev pub without : List ClassListing → World → ℕ → List Frame → World
 without program w t left =
-    with_class_states (released_all w t (map (λ (f : Frame). f.monitor) left)) (with_states Failed (initialised_by program left) w.statics.states)
+    with_class_states (released_all w t (map (λ (f : Frame). f.monitor) left))
+        (with_states Failed (initialised_by program left) w.statics.states)
 
 abbrev pub unwound : List ClassListing → World → World → ℕ → ℕ → List ℕ → Way → Effect
 unwound program before w t birth class way = landed before (without program w t way.left) t birth class way.landing
@@ -118,4 +124,5 @@ unwound program before w t birth class way = landed before (without program w t 
 -- a thread's turn that ends with a throwable, made in it or not: the world before the turn, and the one with the
 -- throwable
 abbrev pub thrown : List ClassListing → World → World → ℕ → ℕ → Effect
-thrown program before w t birth = unwound program before w t birth (class_at w birth) (way_of program (class_at w birth) (reverse (frames_at w t)))
+thrown program before w t birth = unwound program before w t birth (class_at w birth)
+    (way_of program (class_at w birth) (reverse (frames_at w t)))

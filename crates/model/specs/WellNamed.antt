@@ -4,7 +4,10 @@ use Rattle.model.specs.declared.instructions.ArrayOperation.{ArrayOperation}
 use Rattle.model.specs.declared.instructions.ArrayOperation.TheVariants.{New as NewArray, NewOf, Length, Load, Store}
 use Rattle.model.specs.declared.instructions.ClassOperation.{ClassOperation}
 use Rattle.model.specs.declared.instructions.ClassOperation.TheVariants.{New, CheckCast, InstanceOf}
-use Rattle.model.specs.declared.instructions.Instruction.TheVariants.{Nop, Constant, Local, Stack, Number, Branch, TableSwitch, LookupSwitch, Return, Static as StaticField, Field, Array, Class, Invoke, Throw, Monitor}
+use Rattle.model.specs.declared.instructions.Instruction.TheVariants.{Nop, Constant, Local, Stack, Number, Branch}
+use Rattle.model.specs.declared.instructions.Instruction.TheVariants.{TableSwitch, LookupSwitch, Return}
+use Rattle.model.specs.declared.instructions.Instruction.TheVariants.{Static as StaticField, Field, Array, Class}
+use Rattle.model.specs.declared.instructions.Instruction.TheVariants.{Invoke, Throw, Monitor}
 use Rattle.model.specs.declared.listings.Method.{Method}
 use Rattle.model.specs.declared.listings.Placed.{Placed}
 use Rattle.model.specs.ClassFiles.References.{names_class}
@@ -13,8 +16,8 @@ use Rattle.model.specs.CodeListings.{CodeListing}
 use Rattle.model.specs.Table.Next.{Listed}
 use Rattle.model.specs.Texts.Names.{is_class_name}
 
--- Names that are names (JVMS 4.2.1, 4.4.1): a class's name is no array's descriptor, and a type is named by a class's name or
--- an array's descriptor. So it is in the listing of every text and of every class file.
+-- Names that are names (JVMS 4.2.1, 4.4.1): a class's name is no array's descriptor, and a type is named by a class's
+-- name or an array's descriptor. So it is in the listing of every text and of every class file.
 
 -- the type of which arrays are made
 abbrev pub array_is_named : ArrayOperation (List ℕ) → Bool

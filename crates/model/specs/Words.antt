@@ -1,4 +1,5 @@
-use Rattle.std.specs.Prelude.{ℕ, zero, suc, List, [], ◌∷◌, ◌&&◌, Bool, position, slice_get, slice_set, Option, Some, None}
+use Rattle.std.specs.Prelude.{ℕ, zero, suc, List, [], ◌∷◌, ◌&&◌, Bool, position, slice_get, slice_set, Option, Some}
+use Rattle.std.specs.Prelude.{None}
 use Rattle.std.specs.Str.{bytes_eq}
 use Rattle.model.specs.declared.listings.Field.{Field}
 use Rattle.model.specs.declared.values.Value.{Value}
@@ -53,7 +54,8 @@ abbrev pub slot_at : World → ℕ → Value
 slot_at w slot = value_at w.statics.fields slot
 
 abbrev pub with_slot : World → ℕ → Value → World
-with_slot w slot v = record w { statics = record { fields = with_value_at w.statics.fields slot v; states = w.statics.states } }
+with_slot w slot v = record w { statics = record { fields = with_value_at w.statics.fields slot v;
+    states = w.statics.states } }
 
 -- ---- objects: a word is a field or an element
 

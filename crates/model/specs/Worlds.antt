@@ -1,4 +1,5 @@
-use Rattle.std.specs.Prelude.{ℕ, ◌+◌, List, [], ◌∷◌, length, map, filter, slice_get, slice_set, Option, Some, None, Bool, true, false, codes}
+use Rattle.std.specs.Prelude.{ℕ, ◌+◌, List, [], ◌∷◌, length, map, filter, slice_get, slice_set, Option, Some, None}
+use Rattle.std.specs.Prelude.{Bool, true, false, codes}
 use Rattle.std.specs.List.{flat_map}
 use Rattle.model.specs.declared.listings.Constant.{Constant}
 use Rattle.model.specs.declared.listings.Constant.TheVariants.{Int as IntConstant, Long as LongConstant}
@@ -105,7 +106,8 @@ plain_object class = record { contents = Instance class []; monitor = free_monit
 
 -- birth 1 is thrown where no cell has room, birth 2 where no frame has
 abbrev pub opening_objects : List Object
-opening_objects = plain_object [] ∷ plain_object (codes "java/lang/OutOfMemoryError") ∷ plain_object (codes "java/lang/StackOverflowError") ∷ []
+opening_objects = plain_object [] ∷ plain_object (codes "java/lang/OutOfMemoryError")
+    ∷ plain_object (codes "java/lang/StackOverflowError") ∷ []
 
 -- what a static field holds at first (JVMS 4.7.2, 5.5): its constant, as a store keeps it, or else null or 0
 abbrev pub opening_value : Storage → Option Constant → Value

@@ -6,7 +6,7 @@ use crate::instructions::Instruction;
 /// number there.
 pub type Instr = Instruction<u16, u16, u16, u16, u16, u16>;
 
-/// An instruction at its pc, and the pc behind it.
+/// An instruction at its pc, and the pc after it.
 #[derive(Drop)]
 pub struct Located {
     pub pc: u16,

@@ -124,7 +124,7 @@ fn units_of(kind: Kind) -> usize
     }
 }
 
-/// The types of the arguments in a row: what stands behind the first byte up to the first `)`.
+/// The types of the arguments in a row: what stands after the first byte up to the first `)`.
 fn argument_row(descriptor: &[u8]) -> &[u8]
     ensures { result.now ≡ before_first (λ b. b == 41) (drop 1 descriptor.now) }
 {
@@ -134,7 +134,7 @@ fn argument_row(descriptor: &[u8]) -> &[u8]
     }
 }
 
-/// What stands behind the first `)`.
+/// What stands after the first `)`.
 fn result_type(descriptor: &[u8]) -> &[u8]
     ensures { result.now ≡ result_type descriptor.now }
 {
@@ -161,7 +161,7 @@ fn are_types(row: &[u8]) -> bool
     true
 }
 
-/// The first of the types in a row, and those behind it.
+/// The first of the types in a row, and those after it.
 fn split_type(row: &[u8]) -> (&[u8], &[u8])
     requires { 0 < length row.now }
     ensures types { types_in row.now ≡ result.0.now ∷ types_in result.1.now }

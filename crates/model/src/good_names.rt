@@ -25,7 +25,7 @@ pub fn is_field_name(word: &[u8]) -> bool
     fits(word) && is_part(word)
 }
 
-/// Whether a word is one part: a letter, `_` or `$`, and behind it also digits.
+/// Whether a word is one part: a letter, `_` or `$`, and after it also digits.
 pub fn is_part(word: &[u8]) -> bool
     ensures { result ≡ is_part word.now }
 {
@@ -35,7 +35,7 @@ pub fn is_part(word: &[u8]) -> bool
     }
 }
 
-/// Whether each byte may stand in a part behind the first one.
+/// Whether each byte may stand in a part after the first one.
 fn continue_part(bytes: &[u8]) -> bool
     ensures { result ≡ list_all continues_part bytes.now }
 {

@@ -74,7 +74,7 @@ pub enum Local {
     First(FirstLocal),
     /// in one byte
     Byte(u8),
-    /// in two bytes, behind `wide`
+    /// in two bytes, after `wide`
     Wide(u16),
 }
 

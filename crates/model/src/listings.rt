@@ -30,7 +30,7 @@ pub struct Field {
 /// An instruction of a listing: branches name pcs, and what the constant pool would hold stands in place.
 pub type Listed = Instruction<u16, i32, i64, Member, Member, Name>;
 
-/// An instruction at its pc, and the pc behind it.
+/// An instruction at its pc, and the pc after it.
 #[derive(PartialEq, Eq, Drop)]
 pub struct Placed {
     pub pc: u16,

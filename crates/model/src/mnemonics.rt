@@ -6,7 +6,7 @@ use crate::instructions::{
 };
 use crate::values::Kind;
 
-/// The mnemonics behind which a local stands, and in front of which `wide` may stand.
+/// The mnemonics after which a local stands, and in front of which `wide` may stand.
 #[derive(Clone, Copy, PartialEq, Eq)]
 pub enum LocalMnemonic {
     /// `iload` and its kin
@@ -35,7 +35,7 @@ pub enum Mnemonic {
     Int(Width),
     /// `ldc2_w`: a number of 64 bits
     Long,
-    /// a local behind the mnemonic
+    /// a local after the mnemonic
     Local(LocalMnemonic),
     /// a local that the mnemonic names, as `iload_0`
     FirstLocal(LocalAccess),

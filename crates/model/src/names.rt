@@ -15,8 +15,8 @@ use std::marker::Model;
 use std::sync::ArcSlice;
 
 /// The name of a class, field or method, or a descriptor, as its ASCII bytes (JVMS 4.2, 4.3): `java/lang/Object`,
-/// `main`, `()V`, `[I`. A contract sees the list of the bytes. Which bytes make a good name is told by `good_names`.
-/// The bytes are kept once, however many names share them.
+/// `main`, `()V`, `[I`. A contract sees the list of the bytes. Which bytes make a good name is reported by
+/// `good_names`. The bytes are kept once, however many names share them.
 #[derive(Debug, Drop)]
 pub struct Name {
     bytes: ArcSlice<u8, Global>,

@@ -2,7 +2,7 @@
 
 use std::fmt;
 
-/// What keeps a list of listings from being a program. The number behind the L is what users see.
+/// What keeps a list of listings from being a program. The number after the L is what users see.
 #[derive(Clone, Copy, Debug, PartialEq, Eq)]
 pub enum LoadRule {
     /// L1: two classes with one name.

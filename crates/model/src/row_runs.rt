@@ -323,7 +323,7 @@ impl<'a> Iterator for Rows<'a> {
     ghost remaining = { item_count (λ s. s) };
 
     fn next(&mut self) -> Option<Row> {
-        let [first, behind @ ..] = self.runs else {
+        let [first, following @ ..] = self.runs else {
             return None;
         };
         let (row, times) = (first.row(), first.times());
@@ -331,7 +331,7 @@ impl<'a> Iterator for Rows<'a> {
         if self.passed + 1 < times {
             self.passed += 1;
         } else {
-            self.runs = behind;
+            self.runs = following;
             self.passed = 0;
         }
         Some(row)

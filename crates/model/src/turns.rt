@@ -38,7 +38,7 @@ pub enum Fault {
 impl Fault {
     ghost use Rattle.model.specs.Faults.{fault_number};
 
-    /// The number behind the F by which users know the fault, from 1 to 10.
+    /// The number after the F by which users know the fault, from 1 to 10.
     pub fn number(self) -> u8
         ensures { result ≡ fault_number self }
     {

@@ -17,7 +17,7 @@ pub enum Value {
     Ref(Option<u32>),
 }
 
-/// What stands in one local (JVMS 2.6.1). A long takes two: its value, and the upper half behind it.
+/// What stands in one local (JVMS 2.6.1). A long takes two: its value, and the upper half after it.
 #[derive(Clone, Copy, Debug, PartialEq, Eq)]
 pub enum Entry {
     Unset,

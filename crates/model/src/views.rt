@@ -84,7 +84,7 @@ impl Model for FieldView {
 }
 
 /// What an object holds: an instance of a class its fields, the superclass's first; an array its elements, whose type
-/// is told by its descriptor.
+/// is reported by its descriptor.
 #[derive(Drop)]
 pub enum ContentsView {
     Instance { class: Name, fields: Vec<FieldView> },

@@ -1,6 +1,7 @@
 -- Instructions one after another: what has been read, and what is still to be read.
 use Rattle.std.specs.Prelude.{◌⊎◌, ◌↔◌}
-use Rattle.std.proofs.Common.{◌≡◌, ℕ, zero, suc, ◌+◌, ◌-◌, ◌<◌, ◌≤◌, Bool, true, false, cond, eqb, List, [], ◌∷◌, ◌++◌, length, Ok, refl, eq-eqb, sym, ap, subst, ◌∙◌, append_assoc, arith, inl, inr}
+use Rattle.std.proofs.Common.{◌≡◌, ℕ, zero, suc, ◌+◌, ◌-◌, ◌<◌, ◌≤◌, Bool, true, false, cond, eqb, List, [], ◌∷◌, ◌++◌}
+use Rattle.std.proofs.Common.{length, Ok, refl, eq-eqb, sym, ap, subst, ◌∙◌, append_assoc, arith, inl, inr}
 use Rattle.std.specs.List.{AllByRecursion}
 use Rattle.std.proofs.lemmas.Bool.{eqb-true}
 use Rattle.opcodes.proofs.FieldLaws.{chosen}
@@ -20,11 +21,13 @@ use Rattle.opcodes.proofs.InstructionLaws.{instruction-takes, instruction-again}
 
 -- ---- lists
 
-all-append : {A : Type 0} (P : A → Type 0) (xs ys : List A) → AllByRecursion P (xs ++ ys) → AllByRecursion P xs × AllByRecursion P ys
+all-append : {A : Type 0} (P : A → Type 0) (xs ys : List A) → AllByRecursion P (xs ++ ys) → AllByRecursion P xs
+    × AllByRecursion P ys
 all-append P [] ys all = (tt, all)
 all-append P (x ∷ xs) ys all = let more = all-append P xs ys all.1 in ((all.0, more.0), more.1)
 
-all-both : {A : Type 0} (P : A → Type 0) (xs ys : List A) → AllByRecursion P xs → AllByRecursion P ys → AllByRecursion P (xs ++ ys)
+all-both : {A : Type 0} (P : A → Type 0) (xs ys : List A) → AllByRecursion P xs → AllByRecursion P ys
+    → AllByRecursion P (xs ++ ys)
 all-both P [] ys first second = second
 all-both P (x ∷ xs) ys first second = (first.0, all-both P xs ys first.1 second)
 
@@ -46,7 +49,8 @@ pc-last (y ∷ ys) x = inr (pc-last ys x)
 abbrev pub placed : ℕ → ℕ → Instr → Located
 placed pc next i = record { pc = pc; next = next; instruction = i }
 
-pub located-is : (y : Located) (pc next : ℕ) (i : Instr) → y.pc ≡ pc → y.next ≡ next → y.instruction ≡ i → y ≡ placed pc next i
+pub located-is : (y : Located) (pc next : ℕ) (i : Instr) → y.pc ≡ pc → y.next ≡ next → y.instruction ≡ i
+    → y ≡ placed pc next i
 located-is y pc next i e n s = rw (← e, ← n, ← s) refl
 
 fails-ok : {A : Type 0} (e : OpError) (x : A) → Fails e (Ok x) → e ≡ error.Memory
@@ -70,7 +74,8 @@ pub record First (pc : ℕ) (more : List Located) (rest : List ℕ) : Type 0 whe
   pub real : AreReal tail
   pub read : instruction_at pc rest ≡ Ok (head.instruction, after)
 
-pub first-of : (pc : ℕ) (more : List Located) (rest : List ℕ) → 0 < length rest → AreReal more → StandFrom pc more rest → First pc more rest
+pub first-of : (pc : ℕ) (more : List Located) (rest : List ℕ) → 0 < length rest → AreReal more → StandFrom pc more rest
+    → First pc more rest
 first-of pc [] rest some real stand = let none : length rest ≡ 0 = ap length stand in absurd (omega arith)
 first-of pc (x ∷ xs) rest some real stand =
     let begins = stand.1 in
@@ -92,8 +97,10 @@ pub record IsRead (bytes rest : List ℕ) (items : List Located) (starts : List 
   pub fits : IsBytes rest
   pub within : length rest ≤ length bytes
   pub marked : length starts ≤ length bytes - length rest
-  pub found : AreReal items → (more : List Located) → StandFrom (length bytes - length rest) more rest → StandFrom 0 (items ++ more) bytes
-  pub only : (all : List Located) → AreReal all → StandFrom 0 all bytes → (more : List Located) × (all ≡ items ++ more) × AreReal more × StandFrom (length bytes - length rest) more rest
+  pub found : AreReal items → (more : List Located) → StandFrom (length bytes - length rest) more rest
+      → StandFrom 0 (items ++ more) bytes
+  pub only : (all : List Located) → AreReal all → StandFrom 0 all bytes → (more : List Located) × (all ≡ items ++ more)
+      × AreReal more × StandFrom (length bytes - length rest) more rest
   pub starts_are : (k : ℕ) → (is_start starts k ≡ true) ↔ IsPc items k
 
 begin : (bytes : List ℕ) (starts : List Bool) → IsBytes bytes → starts ≡ [] → IsRead bytes bytes [] starts
@@ -108,8 +115,10 @@ begin bytes starts fits e =
       starts_are = λ k. rw e (λ h. absurd cc, λ p. absurd p);
     }
 
-pub begun : (bytes : List ℕ) (items : List Located) (starts : List Bool) → IsBytes bytes → items ≡ [] → starts ≡ [] → IsRead bytes bytes items starts
-begun bytes items starts fits none e = subst (λ (xs : List Located). IsRead bytes bytes xs starts) (sym none) (begin bytes starts fits e)
+pub begun : (bytes : List ℕ) (items : List Located) (starts : List Bool) → IsBytes bytes → items ≡ [] → starts ≡ []
+    → IsRead bytes bytes items starts
+begun bytes items starts fits none e = subst (λ (xs : List Located). IsRead bytes bytes xs starts) (sym none)
+    (begin bytes starts fits e)
 
 pub or_true : (b s : Bool) → s ≡ true → cond b true s ≡ true
 or_true true s e = refl
@@ -118,10 +127,13 @@ or_true false s e = e
 pub eqb-same : (m n : ℕ) → n ≡ m → eqb m n ≡ true
 eqb-same m n e = eq-eqb m n (sym e)
 
-pub goes_on : (bytes rest after : List ℕ) (items : List Located) (starts marked : List Bool) (i : Instr) → 0 < length rest
+pub goes_on : (bytes rest after : List ℕ) (items : List Located) (starts marked : List Bool) (i : Instr)
+    → 0 < length rest
     → instruction_at (length bytes - length rest) rest ≡ Ok (i, after)
-    → ((k : ℕ) → is_start marked k ≡ cond (eqb k (length bytes - length rest)) true (is_start starts k)) → length marked ≡ length bytes - length rest + 1
-    → IsRead bytes rest items starts → IsRead bytes after (items ++ placed (length bytes - length rest) (length bytes - length after) i ∷ []) marked
+    → ((k : ℕ) → is_start marked k ≡ cond (eqb k (length bytes - length rest)) true (is_start starts k)) → length marked
+        ≡ length bytes - length rest + 1
+    → IsRead bytes rest items starts
+        → IsRead bytes after (items ++ placed (length bytes - length rest) (length bytes - length after) i ∷ []) marked
 goes_on bytes rest after items starts marked i some read marks len was =
     let pc = length bytes - length rest in
     let x = placed pc (length bytes - length after) i in
@@ -135,21 +147,27 @@ goes_on bytes rest after items starts marked i some read marks len was =
       found = λ real more stand.
           let parts = all-append (λ y. Real y.instruction) items (x ∷ []) real in
           let front = taken.front parts.1.0 in
-          let size : length rest ≡ length (spelling pc i) + length after = ap length front.parts ∙ length-append (spelling pc i) after in
+          let size : length rest ≡ length (spelling pc i) + length after = ap length front.parts
+                ∙ length-append (spelling pc i) after in
           let next : length bytes - length after ≡ pc + length (spelling pc i) = omega arith in
-          rw append_assoc (was.found parts.0 (x ∷ more) (after, record { at = refl; fits = front.fits; bytes_are = front.parts; next = next }, stand));
+          rw append_assoc (was.found parts.0 (x ∷ more) (after,
+              record { at = refl; fits = front.fits; bytes_are = front.parts; next = next }, stand));
       only = λ all real stand.
           let m = was.only all real stand in
           let f = first-of pc m.0 rest some m.2 m.3 in
           let same = ok_is (f.head.instruction, f.after) (i, after) (sym f.read ∙ read) in
           let i-is : f.head.instruction ≡ i = ap (λ (p : Instr × List ℕ). p.0) same in
           let after-is : f.after ≡ after = ap (λ (p : Instr × List ℕ). p.1) same in
-          let size : length rest ≡ length (spelling pc f.head.instruction) + length f.after = ap length f.begins.bytes_are ∙ length-append (spelling pc f.head.instruction) f.after in
-          let behind : length f.after ≡ length after = ap length after-is in
+          let size : length rest ≡ length (spelling pc f.head.instruction) + length f.after = ap length
+                f.begins.bytes_are ∙ length-append (spelling pc f.head.instruction) f.after in
+          let following : length f.after ≡ length after = ap length after-is in
           let next-is : f.head.next ≡ length bytes - length after = let n = f.begins.next in omega arith in
           let head-is : f.head ≡ x = located-is f.head pc (length bytes - length after) i f.begins.at next-is i-is in
-          let all-is : all ≡ (items ++ x ∷ []) ++ f.tail = m.1 ∙ ap (λ (xs : List Located). items ++ xs) (f.more_is ∙ ap (λ (y : Located). y ∷ f.tail) head-is) ∙ sym (append_assoc items (x ∷ []) f.tail) in
-          (f.tail, all-is, f.real, subst (λ (p : ℕ). StandFrom p f.tail after) next-is (subst (λ (r : List ℕ). StandFrom f.head.next f.tail r) after-is f.stands));
+          let all-is : all ≡ (items ++ x ∷ []) ++ f.tail = m.1 ∙ ap (λ (xs : List Located). items ++ xs) (f.more_is
+                ∙ ap (λ (y : Located). y ∷ f.tail) head-is) ∙ sym (append_assoc items (x ∷ []) f.tail) in
+          (f.tail, all-is, f.real,
+              subst (λ (p : ℕ). StandFrom p f.tail after) next-is
+              (subst (λ (r : List ℕ). StandFrom f.head.next f.tail r) after-is f.stands));
       starts_are = λ k. (
         λ h. elim (chosen (eqb k pc) true (is_start starts k) true (sym (marks k) ∙ h)) [
           | inl t ↦ let e : k ≡ pc = eqb-true k pc t.0 in rw e (pc-last items x)
@@ -162,7 +180,8 @@ goes_on bytes rest after items starts marked i some read marks len was =
       );
     }
 
-pub read-fails : (e : OpError) (bytes rest : List ℕ) (items : List Located) (starts : List Bool) → 0 < length rest → Fails e (instruction_at (length bytes - length rest) rest) → IsRead bytes rest items starts
+pub read-fails : (e : OpError) (bytes rest : List ℕ) (items : List Located) (starts : List Bool) → 0 < length rest
+    → Fails e (instruction_at (length bytes - length rest) rest) → IsRead bytes rest items starts
     → (all : List Located) → AreReal all → StandFrom 0 all bytes → e ≡ error.Memory
 read-fails e bytes rest items starts some fails was all real stand =
     let m = was.only all real stand in
@@ -173,14 +192,18 @@ read-fails e bytes rest items starts some fails was all real stand =
 
 stands-empty : (pc : ℕ) (more : List Located) (rest : List ℕ) → length rest ≡ 0 → StandFrom pc more rest → more ≡ []
 stands-empty pc [] rest none stand = refl
-stands-empty pc (x ∷ xs) rest none stand = let size : length rest ≡ suc (length (operands pc x.instruction ++ stand.0)) = ap length stand.1.bytes_are in absurd (omega arith)
+stands-empty pc (x ∷ xs) rest none stand = let size : length rest
+                                                 ≡ suc (length (operands pc x.instruction ++ stand.0)) = ap length
+                                                 stand.1.bytes_are in absurd (omega arith)
 
-pub is_all : (bytes rest : List ℕ) (items : List Located) (starts : List Bool) → length rest ≡ 0 → IsRead bytes rest items starts → AreReal items → StandFrom 0 items bytes
+pub is_all : (bytes rest : List ℕ) (items : List Located) (starts : List Bool) → length rest ≡ 0
+    → IsRead bytes rest items starts → AreReal items → StandFrom 0 items bytes
 is_all bytes rest items starts none was real =
     let e : rest ≡ [] = nil_from_length rest none in
     rw append-nil at (was.found real [] e)
 
-pub is_only : (bytes rest : List ℕ) (items : List Located) (starts : List Bool) → length rest ≡ 0 → IsRead bytes rest items starts → (all : List Located) → AreReal all → StandFrom 0 all bytes → all ≡ items
+pub is_only : (bytes rest : List ℕ) (items : List Located) (starts : List Bool) → length rest ≡ 0
+    → IsRead bytes rest items starts → (all : List Located) → AreReal all → StandFrom 0 all bytes → all ≡ items
 is_only bytes rest items starts none was all real stand =
     let m = was.only all real stand in
     let empty : m.0 ≡ [] = stands-empty (length bytes - length rest) m.0 rest none m.3 in

@@ -1,7 +1,9 @@
 -- An opcode that the tables have stands in them for what is spelled with it, and the other way.
 use Rattle.std.proofs.Common.{◌≡◌, ℕ, ltb, eqb, cond, List, [], ◌∷◌, Option, Some, None, refl, inl, inr}
 use Rattle.std.proofs.lemmas.Bool.{eqb-true}
-use Rattle.model.specs.Bytecode.Opcodes.{Instr, opcode, load_opcode, store_opcode, access_opcode, stack_opcode, number_opcode, return_opcode, branch_opcode, small_int_opcode, small_long_opcode, element_load_opcode, element_store_opcode, monitor_opcode}
+use Rattle.model.specs.Bytecode.Opcodes.{Instr, opcode, load_opcode, store_opcode, access_opcode, stack_opcode}
+use Rattle.model.specs.Bytecode.Opcodes.{number_opcode, return_opcode, branch_opcode, small_int_opcode}
+use Rattle.model.specs.Bytecode.Opcodes.{small_long_opcode, element_load_opcode, element_store_opcode, monitor_opcode}
 use Rattle.model.specs.Bytecode.Operands.{operands, primitive_number}
 use Rattle.model.specs.Bytecode.Ranges.{Fits}
 use Rattle.model.specs.declared.values.Kind.{Kind}
@@ -40,7 +42,8 @@ use Rattle.opcodes.specs.declared.layout.Layout.{Layout}
 use Rattle.opcodes.specs.declared.layout.Layout.TheVariants as layout
 use Rattle.opcodes.specs.declared.layout.Named.TheVariants as named
 use Rattle.opcodes.specs.Reading.Steps.{entry_at}
-use Rattle.opcodes.specs.Reading.Tables.{constants_and_loads, stores_and_stack, numbers_and_returns, bare_of, low_layouts, high_layouts, layout_of, primitives}
+use Rattle.opcodes.specs.Reading.Tables.{constants_and_loads, stores_and_stack, numbers_and_returns, bare_of}
+use Rattle.opcodes.specs.Reading.Tables.{low_layouts, high_layouts, layout_of, primitives}
 use Rattle.opcodes.specs.Reading.{by_name}
 use Rattle.opcodes.proofs.FieldLaws.{chosen}
 
@@ -51,7 +54,8 @@ Each P (e ∷ entries) = P e.0 e.1 × Each P entries
 some_is : {A : Type 0} (x y : A) → ◌≡◌ {A = Option A} (Some x) (Some y) → x ≡ y
 some_is x y e = cc
 
-entry : {A : Type 0} (P : ℕ → A → Type 0) (entries : List (ℕ × A)) → Each P entries → (b : ℕ) (x : A) → entry_at entries b ≡ Some x → P b x
+entry : {A : Type 0} (P : ℕ → A → Type 0) (entries : List (ℕ × A)) → Each P entries → (b : ℕ) (x : A)
+    → entry_at entries b ≡ Some x → P b x
 entry P [] all b x e = absurd cc
 entry P (a ∷ entries) all b x e =
     elim (chosen (eqb b a.0) (Some a.1) (entry_at entries b) (Some x) e) [
@@ -122,10 +126,13 @@ constants_and_loads-bare = (
                                                   (
                                                     record { opcode_is = refl; nothing = λ pc. refl; fits = λ pc. tt },
                                                     (
-                                                      record { opcode_is = refl; nothing = λ pc. refl; fits = λ pc. tt },
+                                                      record { opcode_is = refl; nothing = λ pc. refl;
+                                                          fits = λ pc. tt },
                                                       (
-                                                        record { opcode_is = refl; nothing = λ pc. refl; fits = λ pc. tt },
-                                                        (record { opcode_is = refl; nothing = λ pc. refl; fits = λ pc. tt }, tt),
+                                                        record { opcode_is = refl; nothing = λ pc. refl;
+                                                            fits = λ pc. tt },
+                                                        (record { opcode_is = refl; nothing = λ pc. refl;
+                                                            fits = λ pc. tt }, tt),
                                                       ),
                                                     ),
                                                   ),
@@ -208,7 +215,8 @@ stores_and_stack-bare = (
                                                   record { opcode_is = refl; nothing = λ pc. refl; fits = λ pc. tt },
                                                   (
                                                     record { opcode_is = refl; nothing = λ pc. refl; fits = λ pc. tt },
-                                                    (record { opcode_is = refl; nothing = λ pc. refl; fits = λ pc. tt }, tt),
+                                                    (record { opcode_is = refl; nothing = λ pc. refl; fits = λ pc. tt },
+                                                        tt),
                                                   ),
                                                 ),
                                               ),
@@ -290,9 +298,11 @@ numbers_and_returns-bare = (
                                                   (
                                                     record { opcode_is = refl; nothing = λ pc. refl; fits = λ pc. tt },
                                                     (
-                                                      record { opcode_is = refl; nothing = λ pc. refl; fits = λ pc. tt },
+                                                      record { opcode_is = refl; nothing = λ pc. refl;
+                                                          fits = λ pc. tt },
                                                       (
-                                                        record { opcode_is = refl; nothing = λ pc. refl; fits = λ pc. tt },
+                                                        record { opcode_is = refl; nothing = λ pc. refl;
+                                                            fits = λ pc. tt },
                                                         (
                                                           record { opcode_is = refl; nothing = λ pc. refl; fits = λ pc. tt },
                                                           (
@@ -353,7 +363,8 @@ numbers_and_returns-bare = (
 pub bare_of-takes : (b : ℕ) (i : Instr) → bare_of b ≡ Some i → IsBare b i
 unfolding bare_of
 bare_of-takes b i e =
-    elim (chosen (ltb b 54) (entry_at constants_and_loads b) (cond (ltb b 96) (entry_at stores_and_stack b) (entry_at numbers_and_returns b)) (Some i) e) [
+    elim (chosen (ltb b 54) (entry_at constants_and_loads b) (cond (ltb b 96) (entry_at stores_and_stack b)
+        (entry_at numbers_and_returns b)) (Some i) e) [
       | inl h ↦ entry IsBare constants_and_loads constants_and_loads-bare b i h.1
       | inr h ↦ elim (chosen (ltb b 96) (entry_at stores_and_stack b) (entry_at numbers_and_returns b) (Some i) h.1) [
         | inl k ↦ entry IsBare stores_and_stack stores_and_stack-bare b i k.1
@@ -378,10 +389,18 @@ opcode_of layout.LookupSwitch = 171
 opcode_of layout.Wide = 196
 
 low_layouts-opcodes : Each (λ b l. opcode_of l ≡ b) low_layouts
-low_layouts-opcodes = (refl, (refl, (refl, (refl, (refl, (refl, (refl, (refl, (refl, (refl, (refl, (refl, (refl, (refl, (refl, (refl, (refl, (refl, (refl, (refl, (refl, (refl, (refl, (refl, (refl, (refl, (refl, tt)))))))))))))))))))))))))))
+low_layouts-opcodes = (refl,
+    (refl, (refl, (refl, (refl,
+    (refl, (refl, (refl, (refl,
+    (refl, (refl, (refl, (refl,
+    (refl, (refl, (refl, (refl,
+    (refl, (refl, (refl, (refl, (refl, (refl, (refl, (refl, (refl, (refl, tt)))))))))))))))))))))))))))
 
 high_layouts-opcodes : Each (λ b l. opcode_of l ≡ b) high_layouts
-high_layouts-opcodes = (refl, (refl, (refl, (refl, (refl, (refl, (refl, (refl, (refl, (refl, (refl, (refl, (refl, (refl, (refl, (refl, (refl, (refl, (refl, tt)))))))))))))))))))
+high_layouts-opcodes = (refl,
+    (refl, (refl, (refl, (refl,
+    (refl, (refl, (refl, (refl,
+    (refl, (refl, (refl, (refl, (refl, (refl, (refl, (refl, (refl, (refl, tt)))))))))))))))))))
 
 pub layout_of-takes : (b : ℕ) (l : Layout) → layout_of b ≡ Some l → opcode_of l ≡ b
 unfolding layout_of
@@ -392,7 +411,8 @@ layout_of-takes b l e =
     ]
 
 pub primitives-take : (n : ℕ) (p : Primitive) → entry_at primitives n ≡ Some p → primitive_number p ≡ n
-primitives-take n p e = entry (λ m q. primitive_number q ≡ m) primitives (refl, (refl, (refl, (refl, (refl, tt))))) n p e
+primitives-take n p e = entry (λ m q. primitive_number q ≡ m) primitives (refl, (refl, (refl, (refl, (refl, tt))))) n p
+    e
 
 pub primitives-again : (p : Primitive) → entry_at primitives (primitive_number p) ≡ Some p
 primitives-again primitive.Char = refl
@@ -413,12 +433,14 @@ small_int-again small_int.Three = refl
 small_int-again small_int.Four = refl
 small_int-again small_int.Five = refl
 
-pub small_long-again : (n : SmallLong) → bare_of (small_long_opcode n) ≡ Some (instruction.Constant (constant.SmallLong n))
+pub small_long-again : (n : SmallLong) → bare_of (small_long_opcode n)
+    ≡ Some (instruction.Constant (constant.SmallLong n))
 unfolding bare_of
 small_long-again small_long.Zero = refl
 small_long-again small_long.One = refl
 
-pub first_load-again : (k : Kind) (n : FirstLocal) → bare_of (access_opcode (access.Load k (local.First n))) ≡ Some (instruction.Local (access.Load k (local.First n)))
+pub first_load-again : (k : Kind) (n : FirstLocal) → bare_of (access_opcode (access.Load k (local.First n)))
+    ≡ Some (instruction.Local (access.Load k (local.First n)))
 unfolding bare_of
 first_load-again kind.Int first.Zero = refl
 first_load-again kind.Int first.One = refl
@@ -433,7 +455,8 @@ first_load-again kind.Ref first.One = refl
 first_load-again kind.Ref first.Two = refl
 first_load-again kind.Ref first.Three = refl
 
-pub first_store-again : (k : Kind) (n : FirstLocal) → bare_of (access_opcode (access.Store k (local.First n))) ≡ Some (instruction.Local (access.Store k (local.First n)))
+pub first_store-again : (k : Kind) (n : FirstLocal) → bare_of (access_opcode (access.Store k (local.First n)))
+    ≡ Some (instruction.Local (access.Store k (local.First n)))
 unfolding bare_of
 first_store-again kind.Int first.Zero = refl
 first_store-again kind.Int first.One = refl
@@ -509,7 +532,8 @@ element_load-again element.Byte = refl
 element_load-again element.Char = refl
 element_load-again element.Short = refl
 
-pub element_store-again : (k : ElementKind) → bare_of (element_store_opcode k) ≡ Some (instruction.Array (array.Store k))
+pub element_store-again : (k : ElementKind) → bare_of (element_store_opcode k)
+    ≡ Some (instruction.Array (array.Store k))
 unfolding bare_of
 element_store-again element.Int = refl
 element_store-again element.Long = refl

@@ -68,7 +68,7 @@ new_array_at bytes = do
   n ← byte_at bytes
   new_array (entry_at primitives n.0) n.1
 
--- behind wide: two bytes for a local, and for what is added to it
+-- after wide: two bytes for a local, and for what is added to it
 abbrev pub wide_form_at : Option Layout → List ℕ → Result (Instr × List ℕ) OpError
 wide_form_at None bytes = Err error.Opcode
 wide_form_at (Some layout.Byte) bytes = Err error.Opcode
@@ -136,7 +136,7 @@ abbrev pub by_opcode : ℕ → Option Instr → Option Layout → List ℕ → R
 by_opcode pc None l bytes = by_layout pc l bytes
 by_opcode pc (Some i) l bytes = Ok (i, bytes)
 
--- an instruction at this pc, and the bytes behind it
+-- an instruction at this pc, and the bytes after it
 unfoldable pub instruction_at : ℕ → List ℕ → Result (Instr × List ℕ) OpError
 instruction_at pc bytes = do
   b ← byte_at bytes

@@ -1,4 +1,4 @@
-//! What stands behind an opcode that has operands.
+//! What stands after an opcode that has operands.
 
 use model::instructions::{Access, ClassOperation, Test};
 use model::values::Kind;
@@ -20,7 +20,7 @@ pub enum Named {
     Class(ClassOperation),
 }
 
-/// What stands behind an opcode that has operands.
+/// What stands after an opcode that has operands.
 #[derive(Clone, Copy)]
 pub enum Layout {
     /// `bipush`

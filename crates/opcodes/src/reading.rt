@@ -146,7 +146,7 @@ fn operands(alloc: Global, pc: u16, layout: Layout, bytes: &[u8]) -> Result<(Ins
     }
 }
 
-/// The instruction at a pc from the front of the bytes, and the bytes behind it. The first of `Opcode`, `Operand` and
+/// The instruction at a pc from the front of the bytes, and the bytes after it. The first of `Opcode`, `Operand` and
 /// `Switch` that is met, or `Memory`.
 #[tactic(auto, unfolding(crate::specs::Reading::instruction_at))]
 pub fn instruction(alloc: Global, pc: u16, bytes: &[u8]) -> Result<(Instr, &[u8]), OpError>

@@ -22,7 +22,7 @@ fn target(pc: u16, offset: i32) -> u16
     target.unsigned_abs().min(65535) as u16
 }
 
-/// A branch at a pc, from the bytes behind its opcode.
+/// A branch at a pc, from the bytes after its opcode.
 #[tactic(auto, unfolding(crate::specs::Reading::Switches::branch_at))]
 pub fn branch(pc: u16, test: Test, bytes: &[u8]) -> Result<(Instr, &[u8]), OpError>
     ensures { Gives (λ x. (x.0, x.1.now)) result (branch_at pc test bytes.now) }
@@ -41,7 +41,7 @@ pub fn branch(pc: u16, test: Test, bytes: &[u8]) -> Result<(Instr, &[u8]), OpErr
     Ok((Instruction::Branch(test, target(pc, offset)), rest))
 }
 
-/// What stands behind so many zero bytes. `Switch` where one isn't zero, `Operand` where they end before.
+/// What stands after so many zero bytes. `Switch` where one isn't zero, `Operand` where they end before.
 fn padded(count: u16, bytes: &[u8]) -> Result<&[u8], OpError>
     ensures { Gives (λ x. x.now) result (pad_at count bytes.now) }
 {
@@ -75,7 +75,7 @@ fn len_between(low: i32, high: i32) -> u64
     (i64::from(high) - i64::from(low)).unsigned_abs() + 1
 }
 
-/// A tableswitch at a pc, from the bytes behind its opcode.
+/// A tableswitch at a pc, from the bytes after its opcode.
 #[tactic(auto, unfolding(crate::specs::Reading::Switches::table_at))]
 pub fn table(alloc: Global, pc: u16, bytes: &[u8]) -> Result<(Instr, &[u8]), OpError>
     ensures { Gives (λ x. (x.0, x.1.now)) result (table_at pc bytes.now) }
@@ -131,7 +131,7 @@ fn pairs(
     Ok((pairs, rest))
 }
 
-/// A lookupswitch at a pc, from the bytes behind its opcode.
+/// A lookupswitch at a pc, from the bytes after its opcode.
 #[tactic(auto, unfolding(crate::specs::Reading::Switches::lookup_at))]
 pub fn lookup(alloc: Global, pc: u16, bytes: &[u8]) -> Result<(Instr, &[u8]), OpError>
     ensures { Gives (λ x. (x.0, x.1.now)) result (lookup_at pc bytes.now) }

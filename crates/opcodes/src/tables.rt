@@ -208,7 +208,7 @@ fn high_layout(opcode: u8) -> Option<Layout>
     })
 }
 
-/// What stands behind an opcode that has operands.
+/// What stands after an opcode that has operands.
 #[tactic(auto, unfolding(crate::specs::Reading::Tables::layout_of))]
 pub fn layout(opcode: u8) -> Option<Layout>
     ensures { result ≡ layout_of opcode }

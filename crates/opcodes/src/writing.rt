@@ -76,7 +76,7 @@ pub fn put_constant(out: &mut Vec<u8>, constant: Constant<u16, u16>) -> Result<(
     Ok(())
 }
 
-/// Writes what stands behind the opcode of an access to a local.
+/// Writes what stands after the opcode of an access to a local.
 pub fn put_access(out: &mut Vec<u8>, access: LocalAccess) -> Result<(), AllocError>
     ensures { OnOk result (AccessFits access × (out.new.items ≡ out.old.items ++ access_operands access)) }
 {
@@ -139,7 +139,7 @@ fn number_of(primitive: Primitive) -> u8
     }
 }
 
-/// Writes what stands behind the opcode of an instruction on arrays.
+/// Writes what stands after the opcode of an instruction on arrays.
 pub fn put_array(out: &mut Vec<u8>, operation: &ArrayOperation<u16>) -> Result<(), AllocError>
     ensures { OnOk result (ArrayFits operation.now × (out.new.items ≡ out.old.items ++ array_operands operation.now)) }
 {
@@ -151,7 +151,7 @@ pub fn put_array(out: &mut Vec<u8>, operation: &ArrayOperation<u16>) -> Result<(
     Ok(())
 }
 
-/// Writes what stands behind the opcode of a call.
+/// Writes what stands after the opcode of a call.
 pub fn put_invoke(out: &mut Vec<u8>, how: Invocation, n: u16) -> Result<(), AllocError>
     ensures { OnOk result (InvokeFits how n × (out.new.items ≡ out.old.items ++ invoke_operands how n)) }
 {
@@ -166,7 +166,7 @@ pub fn put_invoke(out: &mut Vec<u8>, how: Invocation, n: u16) -> Result<(), Allo
     Ok(())
 }
 
-/// Writes the zero bytes behind the opcode of a switch at a pc.
+/// Writes the zero bytes after the opcode of a switch at a pc.
 pub fn put_pad(out: &mut Vec<u8>, pc: u16) -> Result<(), AllocError>
     ensures { OnOk result (out.new.items ≡ out.old.items ++ pad pc) }
 {

@@ -1,5 +1,6 @@
 -- what a plain step comes to in the instruction table
-use Rattle.std.proofs.Common.{[], ◌≡◌, ◌≢◌, ℕ, ℤ, Bool, true, false, List, Option, Some, None, Result, Ok, Err, refl, ap, sym, subst, ◌∙◌, cond}
+use Rattle.std.proofs.Common.{[], ◌≡◌, ◌≢◌, ℕ, ℤ, Bool, true, false, List, Option, Some, None, Result, Ok, Err, refl}
+use Rattle.std.proofs.Common.{ap, sym, subst, ◌∙◌, cond}
 use Rattle.model.specs.declared.values.Kind.{Kind}
 use Rattle.model.specs.declared.values.Kind.TheVariants as kind
 use Rattle.model.specs.declared.instructions.Comparison.TheVariants as comparison
@@ -33,9 +34,10 @@ use Rattle.plain_steps.specs.Plain.{is_plain}
 use Rattle.model.specs.Table.Next.{Listed, by_family}
 use Rattle.loader.specs.declared.operations.Operation.{Operation}
 use Rattle.loader.specs.declared.operations.Operation.TheVariants.{Aside, AconstNull, Iconst, Lconst, Nop}
-use Rattle.loader.specs.PlainOperations.{plain_operation, is_32_bits, constant_operation, local_operation, stack_operation, number_operation, branch_operation, return_operation}
+use Rattle.loader.specs.PlainOperations.{plain_operation, is_32_bits, constant_operation, local_operation}
+use Rattle.loader.specs.PlainOperations.{stack_operation, number_operation, branch_operation, return_operation}
 use Rattle.plain_steps.specs.PlainMoves.{plain_move, family_move}
-use Rattle.plain_steps.specs.Told.{told_with, moved_with}
+use Rattle.plain_steps.specs.Reported.{reported_with, moved_with}
 
 -- ---- the operation of an instruction moves the running frame as the table's family does
 
@@ -43,12 +45,14 @@ module _ (next : ℕ) (f : Frame) where
   abbrev Moves : Operation → Option (Result Moved Abrupt) → Type 0
   Moves op m = plain_move next op f ≡ m
 
-  long_moves : (z : ℤ) (b : Bool) → cond b (Lconst z) Aside ≢ Aside → Moves (cond b (Lconst z) Aside) (Some (pushed next (constant.Long z) f))
+  long_moves : (z : ℤ) (b : Bool) → cond b (Lconst z) Aside ≢ Aside
+      → Moves (cond b (Lconst z) Aside) (Some (pushed next (constant.Long z) f))
   unfolding plain_move
   long_moves z true direct = refl
   long_moves z false direct = absurd (direct refl)
 
-  constant_moves : (c : Constant ℤ ℤ) → constant_operation c ≢ Aside → Moves (constant_operation c) (Some (pushed next c f))
+  constant_moves : (c : Constant ℤ ℤ) → constant_operation c ≢ Aside
+      → Moves (constant_operation c) (Some (pushed next c f))
   unfolding plain_move
   constant_moves constant.Null direct = refl
   constant_moves (constant.SmallInt n) direct = refl
@@ -140,20 +144,24 @@ module _ (next : ℕ) (f : Frame) where
   return_moves (Some kind.Long) = refl
   return_moves (Some kind.Ref) = refl
 
-  by_its_operation : (o op : Operation) (m : Option (Result Moved Abrupt)) → (o ≢ Aside → Moves o m) → Some o ≡ Some op → op ≢ Aside → Moves op m
+  by_its_operation : (o op : Operation) (m : Option (Result Moved Abrupt)) → (o ≢ Aside → Moves o m) → Some o ≡ Some op
+      → op ≢ Aside → Moves op m
   by_its_operation o op m moves is direct =
       let same : o ≡ op = cc in
       subst (λ x. Moves x m) same (moves (λ e. direct (sym same ∙ e)))
 
-  -- where an instruction has a plain operation that doesn't stand aside, the operation's move is the family's; a return has none
-  pub family_moves : (i : Listed) (op : Operation) → plain_operation i ≡ Some op → op ≢ Aside → plain_move next op f ≡ family_move next i f
+  -- where an instruction has a plain operation that doesn't stand aside, the operation's move is the family's; a return
+  -- has none
+  pub family_moves : (i : Listed) (op : Operation) → plain_operation i ≡ Some op → op ≢ Aside → plain_move next op f
+      ≡ family_move next i f
   unfolding plain_move
   family_moves instruction.Nop op = by_its_operation _ op _ (λ direct. refl)
   family_moves (instruction.Constant c) op = by_its_operation (constant_operation c) op _ (constant_moves c)
   family_moves (instruction.Local a) op = by_its_operation (local_operation a) op _ (λ direct. local_moves a)
   family_moves (instruction.Stack s) op = by_its_operation (stack_operation s) op _ (λ direct. stack_moves s)
   family_moves (instruction.Number n) op = by_its_operation (number_operation n) op _ (λ direct. number_moves n)
-  family_moves (instruction.Branch t target) op = by_its_operation (branch_operation t target) op _ (λ direct. branch_moves t target)
+  family_moves (instruction.Branch t target) op = by_its_operation (branch_operation t target) op _
+      (λ direct. branch_moves t target)
   family_moves (instruction.TableSwitch table) op = by_its_operation Aside op _ (λ direct. absurd (direct refl))
   family_moves (instruction.LookupSwitch lookup) op = by_its_operation Aside op _ (λ direct. absurd (direct refl))
   family_moves (instruction.Return k) op = by_its_operation (return_operation k) op _ (λ direct. return_moves k)
@@ -166,20 +174,41 @@ module _ (next : ℕ) (f : Frame) where
   family_moves (instruction.Monitor m) op = λ is direct. absurd (cc is)
 
   -- a plain instruction's operation stands whole in its step, and moves the frame as its family does
-  pub direct_move : (i : Listed) → is_plain i ≡ true → (op : Operation) × (m : Result Moved Abrupt) × (plain_operation i ≡ Some op) × (plain_move next op f ≡ Some m)
+  pub direct_move : (i : Listed) → is_plain i ≡ true → (op : Operation) × (m : Result Moved Abrupt)
+      × (plain_operation i ≡ Some op) × (plain_move next op f ≡ Some m)
   unfolding plain_move
   direct_move instruction.Nop e = (Nop, Ok (replaced next f 0 []), refl, refl)
   direct_move (instruction.Constant constant.Null) e = (AconstNull, pushed next constant.Null f, refl, refl)
-  direct_move (instruction.Constant (constant.SmallInt n)) e = (constant_operation (constant.SmallInt n), pushed next (constant.SmallInt n) f, refl, refl)
-  direct_move (instruction.Constant (constant.SmallLong n)) e = (constant_operation (constant.SmallLong n), pushed next (constant.SmallLong n) f, refl, refl)
+  direct_move (instruction.Constant (constant.SmallInt n)) e = (
+    constant_operation (constant.SmallInt n),
+    pushed next (constant.SmallInt n) f,
+    refl,
+    refl,
+  )
+  direct_move (instruction.Constant (constant.SmallLong n)) e = (
+    constant_operation (constant.SmallLong n),
+    pushed next (constant.SmallLong n) f,
+    refl,
+    refl,
+  )
   direct_move (instruction.Constant (constant.Byte z)) e = (Iconst z, pushed next (constant.Byte z) f, refl, refl)
   direct_move (instruction.Constant (constant.Short z)) e = (Iconst z, pushed next (constant.Short z) f, refl, refl)
-  direct_move (instruction.Constant (constant.Int width z)) e = (Iconst z, pushed next (constant.Int width z) f, refl, refl)
+  direct_move (instruction.Constant (constant.Int width z)) e = (
+    Iconst z,
+    pushed next (constant.Int width z) f,
+    refl,
+    refl,
+  )
   direct_move (instruction.Constant (constant.Long z)) e = cc
   direct_move (instruction.Local a) e = (local_operation a, accessed next a f, refl, local_moves a)
   direct_move (instruction.Stack s) e = (stack_operation s, rearranged next s f, refl, stack_moves s)
   direct_move (instruction.Number n) e = (number_operation n, computed next n f, refl, number_moves n)
-  direct_move (instruction.Branch t target) e = (branch_operation t target, branched next t target f, refl, branch_moves t target)
+  direct_move (instruction.Branch t target) e = (
+    branch_operation t target,
+    branched next t target f,
+    refl,
+    branch_moves t target,
+  )
   direct_move (instruction.TableSwitch table) e = cc
   direct_move (instruction.LookupSwitch lookup) e = cc
   direct_move (instruction.Return k) e = cc
@@ -194,10 +223,12 @@ module _ (next : ℕ) (f : Frame) where
   -- what has a move here doesn't stand aside
   moves_here : (op : Operation) (m : Result Moved Abrupt) → plain_move next op f ≡ Some m → op ≢ Aside
   unfolding plain_move
-  moves_here op m is e = let aside : plain_move next Aside f ≡ Some m = subst (λ x. plain_move next x f ≡ Some m) e is in absurd (cc aside)
+  moves_here op m is e = let aside : plain_move next Aside f ≡ Some m = subst (λ x. plain_move next x f ≡ Some m) e is
+      in absurd (cc aside)
 
 -- the table's completion of an instruction is its family's move
-pub by_family-moved : (s : Site) (i : Listed) (m : Result Moved Abrupt) → family_move s.next i s.frame ≡ Some m → by_family s i ≡ completes s m
+pub by_family-moved : (s : Site) (i : Listed) (m : Result Moved Abrupt) → family_move s.next i s.frame ≡ Some m
+    → by_family s i ≡ completes s m
 by_family-moved s instruction.Nop m is = cc
 by_family-moved s (instruction.Constant c) m is = cc
 by_family-moved s (instruction.Local a) m is = cc
@@ -224,7 +255,9 @@ by_family-plain s i op m plain is =
 -- ---- what a step tells
 
 -- what a step tells is what its move comes to
-pub completes-done : (s : Site) (after : List Frame) (written : List ℕ) (m : Result Moved Abrupt) → told_with (Ok written) after ≡ moved_with (frames_in s) m → completes s m ≡ Goes (with_thread s.world s.thread (Live after)) written
+pub completes-done : (s : Site) (after : List Frame) (written : List ℕ) (m : Result Moved Abrupt)
+    → reported_with (Ok written) after ≡ moved_with (frames_in s) m → completes s m
+    ≡ Goes (with_thread s.world s.thread (Live after)) written
 completes-done s after written (Ok moved) is =
     let pair : List Frame × List ℕ = (with_running (frames_in s) moved.frame, moved.writes) in
     let same : pair ≡ (after, written) = cc in
@@ -232,8 +265,9 @@ completes-done s after written (Ok moved) is =
     ap going same
 completes-done s after written (Err abrupt) is = cc
 
-pub completes-abrupt : (s : Site) (after : List Frame) (e : Abrupt) (m : Result Moved Abrupt) → told_with (Err e) after ≡ moved_with (frames_in s) m → completes s m ≡ completes_abruptly e
+pub completes-abrupt : (s : Site) (after : List Frame) (e : Abrupt) (m : Result Moved Abrupt)
+    → reported_with (Err e) after ≡ moved_with (frames_in s) m → completes s m ≡ completes_abruptly e
 completes-abrupt s after e (Ok moved) is = cc
 completes-abrupt s after e (Err abrupt) is = ap completes_abruptly (same abrupt e is) where
-  same : (a b : Abrupt) → told_with (Err b) after ≡ moved_with (frames_in s) (Err a) → a ≡ b
+  same : (a b : Abrupt) → reported_with (Err b) after ≡ moved_with (frames_in s) (Err a) → a ≡ b
   same a b is = cc

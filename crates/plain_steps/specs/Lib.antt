@@ -1,5 +1,5 @@
 pub mod Groups
 pub mod Plain
 pub mod PlainMoves
-pub mod Told
+pub mod Reported
 pub mod LongUnits

@@ -3,7 +3,7 @@ ghost use Rattle.std.specs.Prelude.{◌≡◌, ◌<◌, [], length, OnErr, ◌�
 ghost use Rattle.model.specs.Frames.{replaced, running_frame, with_running};
 ghost use Rattle.model.specs.declared.instructions.Test.TheVariants.{Zero, Ints, Refs, Null};
 ghost use Rattle.model.specs.Table.Branches.{identity_holds, same_reference, branch_pc, branched as branch_move};
-ghost use Rattle.plain_steps.specs.Told.{told_with, moved_with};
+ghost use Rattle.plain_steps.specs.Reported.{reported_with, moved_with};
 
 use crate::written::Written;
 use frames::Frames;
@@ -30,7 +30,7 @@ pub(crate) fn if_zero(
     target: u16,
 ) -> Result<Written, Abrupt>
     requires { 0 < length frames.old }
-    ensures step { told_with result frames.new
+    ensures step { reported_with result frames.new
         ≡ moved_with frames.old (branch_move next (Zero comparison) target (running_frame frames.old)) }
     ensures kept { OnErr result (frames.new ≡ frames.old) }
     ensures few { IfOk result (λ written. length written ≤ 1) }
@@ -50,7 +50,7 @@ pub(crate) fn if_ints(
     target: u16,
 ) -> Result<Written, Abrupt>
     requires { 0 < length frames.old }
-    ensures step { told_with result frames.new
+    ensures step { reported_with result frames.new
         ≡ moved_with frames.old (branch_move next (Ints comparison) target (running_frame frames.old)) }
     ensures kept { OnErr result (frames.new ≡ frames.old) }
     ensures few { IfOk result (λ written. length written ≤ 1) }
@@ -70,7 +70,7 @@ pub(crate) fn if_references(
     target: u16,
 ) -> Result<Written, Abrupt>
     requires { 0 < length frames.old }
-    ensures step { told_with result frames.new
+    ensures step { reported_with result frames.new
         ≡ moved_with frames.old (branch_move next (Refs identity) target (running_frame frames.old)) }
     ensures kept { OnErr result (frames.new ≡ frames.old) }
     ensures few { IfOk result (λ written. length written ≤ 1) }
@@ -90,7 +90,7 @@ pub(crate) fn if_null(
     target: u16,
 ) -> Result<Written, Abrupt>
     requires { 0 < length frames.old }
-    ensures step { told_with result frames.new
+    ensures step { reported_with result frames.new
         ≡ moved_with frames.old (branch_move next (Null identity) target (running_frame frames.old)) }
     ensures kept { OnErr result (frames.new ≡ frames.old) }
     ensures few { IfOk result (λ written. length written ≤ 1) }

@@ -2,7 +2,7 @@
 ghost use Rattle.std.specs.Prelude.{◌≡◌, ◌<◌, length, OnErr, ◌≤◌, IfOk};
 ghost use Rattle.model.specs.Frames.{running_frame};
 ghost use Rattle.model.specs.Table.Constants.{constant_value as constant_value_of, constant as constant_move};
-ghost use Rattle.plain_steps.specs.Told.{told_with, moved_with};
+ghost use Rattle.plain_steps.specs.Reported.{reported_with, moved_with};
 
 use crate::written::Written;
 use frames::Frames;
@@ -20,7 +20,7 @@ pub fn constant(
     constant: Constant<i32, i64>,
 ) -> Result<Written, Abrupt>
     requires { 0 < length frames.old }
-    ensures step { told_with result frames.new
+    ensures step { reported_with result frames.new
         ≡ moved_with frames.old (constant_move next constant (running_frame frames.old)) }
     ensures kept { OnErr result (frames.new ≡ frames.old) }
     ensures few { IfOk result (λ written. length written ≤ 1) }

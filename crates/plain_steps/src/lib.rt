@@ -1,15 +1,17 @@
 //! The instructions that change the running frame alone, by families (JVMS 6.5).
 //!
-//! A step takes a thread's frames, of which there is one at least, and the pc behind the instruction. It answers the
+//! A step takes a thread's frames, of which there is one at least, and the pc after the instruction. It answers the
 //! references that it wrote, or why the instruction can't be carried out; the frames are then as they were. No step
 //! takes memory. With f for `running_frame frames.old`:
 //!
 //! | call | what it ensures |
 //! |---|---|
-//! | `constant(frames, next, c)` | `told_with result frames.new ≡ moved_with frames.old (constant next c f)` |
-//! | `table_switched(frames, table)`, `lookup_switched(frames, lookup)` | the same with `table_switched table f`, `lookup_switched lookup f` |
+//! | `constant(frames, next, c)` | `reported_with result frames.new ≡ moved_with frames.old (constant next c f)` |
+//! | `table_switched(frames, table)`, `lookup_switched(frames, lookup)` | the same with `table_switched table f`,
+//! `lookup_switched lookup f` |
 //! | `plain_step(frames, step)` | the same with `plain_move step.next step.operation f`, where that is `Some` |
-//! | `hot_step(frames, step)` | where it answers `Some(written)`, what `plain_step` does, and `written` is the reference written, if any; where it answers `None`, nothing changed |
+//! | `hot_step(frames, step)` | where it answers `Some(written)`, what `plain_step` does, and `written` is the
+//! reference written, if any; where it answers `None`, nothing changed |
 //!
 //! `hot_step` is for a loop of turns over frames that are a variable of the loop: it is inlined whole, and leaves out
 //! what is rare.
@@ -23,7 +25,7 @@ mod branches;
 mod constants;
 mod hot_steps;
 mod locals;
-mod numbers;
+mod number_steps;
 mod stacks;
 mod steps;
 mod switches;

@@ -4,7 +4,8 @@ use Rattle.std.specs.List.{list_all}
 use Rattle.model.specs.ClassFiles.Entries.{is_text_byte}
 use Rattle.model.specs.ClassFiles.References.{first_fault}
 use Rattle.model.specs.declared.class_files.Entry.{Entry}
-use Rattle.model.specs.declared.class_files.Entry.TheVariants.{Utf8, Integer, Long, Class, Fieldref, Methodref, InterfaceMethodref, NameAndType}
+use Rattle.model.specs.declared.class_files.Entry.TheVariants.{Utf8, Integer, Long, Class, Fieldref, Methodref}
+use Rattle.model.specs.declared.class_files.Entry.TheVariants.{InterfaceMethodref, NameAndType}
 use Rattle.model.specs.declared.class_files.FormatFault.{FormatFault}
 use Rattle.model.specs.declared.class_files.FormatFault.TheVariants.{Name}
 
@@ -19,6 +20,6 @@ has_bytes (Methodref class member) = true
 has_bytes (InterfaceMethodref class member) = true
 has_bytes (NameAndType name descriptor) = true
 
--- what is wrong with entries: a text that can't be written is told before what entries name
+-- what is wrong with entries: a text that can't be written is reported before what entries name
 abbrev pub entries_fault : List Entry → Option FormatFault
 entries_fault entries = if list_all has_bytes entries then first_fault entries entries else Some Name

@@ -60,7 +60,7 @@ impl Pool {
         self.slots.as_slice().len() as u16
     }
 
-    /// Reads a pool from the front of the bytes, behind its count, and tests what its entries name. C3, C5, C6 or C7:
+    /// Reads a pool from the front of the bytes, after its count, and tests what its entries name. C3, C5, C6 or C7:
     /// the first fault from left to right, those of what is named after all others.
     pub fn read(alloc: Global, bytes: &[u8]) -> Result<(Pool, &[u8]), ReadError>
         // What is read is spelled so, and its entries name what they should.
@@ -75,7 +75,7 @@ impl Pool {
         sound_pool(alloc, bytes)
     }
 
-    /// Writes the pool at the end, behind its count.
+    /// Writes the pool at the end, after its count.
     pub fn write(&self, out: &mut Vec<u8>) -> Result<(), AllocError>
         ensures { OnOk result (out.new.items ≡ out.old.items ++ pool_bytes self.now) }
     {
@@ -143,7 +143,7 @@ pub(crate) fn is_wide(entry: &Entry) -> bool
     matches!(entry, Entry::Long(_))
 }
 
-/// What stands under the numbers below a count, and the bytes behind the entries.
+/// What stands under the numbers below a count, and the bytes after the entries.
 fn slots_of(
     alloc: Global,
     count: u16,
@@ -173,7 +173,7 @@ fn slots_of(
     Ok((slots, rest))
 }
 
-/// The entries at the front of the bytes, behind their count.
+/// The entries at the front of the bytes, after their count.
 #[tactic(auto, unfolding(crate::specs::Reading::Pools::entries_from))]
 fn entries_of(alloc: Global, bytes: &[u8]) -> Result<(Pool, &[u8]), ReadError>
     ensures { Gives (λ x. (x.0, x.1.now)) result (entries_from bytes.now) }

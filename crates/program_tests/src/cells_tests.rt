@@ -39,8 +39,8 @@ fn keeps_words_apart(rt: HostRuntime) -> Result<(), AllocError> {
     let is_read = (word(&cells, 0, 3) == Some(Value::Int(0)))
         & (word(&cells, 1, 0) == Some(Value::Int(7)))
         & (word(&cells, 1, 3) == None);
-    let is_told = (cells.length(1) == 3) & (cells.kind(0) == Some('a'));
-    assert!(rt; (rooms == (4, 4, 32, 256)) & is_put & is_read & is_told);
+    let is_reported = (cells.length(1) == 3) & (cells.kind(0) == Some('a'));
+    assert!(rt; (rooms == (4, 4, 32, 256)) & is_put & is_read & is_reported);
     Ok(())
 }
 
@@ -89,11 +89,11 @@ fn creates(account: &mut Account) -> bool {
         birth: 4,
         colour: Colour::Grey,
     };
-    let is_told = (account.front() == Some(3))
+    let is_reported = (account.front() == Some(3))
         & (account.colour(1) == Some(Colour::White))
         & (account.colour(4) == None)
         & (account.cell(3) == large);
-    is_new & is_third & is_fourth & is_told
+    is_new & is_third & is_fourth & is_reported
 }
 
 /// Cell 0 is shaded and blackened, so appending keeps birth 1, and gives back cell 1, which birth 3 then finds.

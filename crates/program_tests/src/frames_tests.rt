@@ -90,7 +90,7 @@ fn locals(frames: &Frames) -> Option<(usize, usize, [Option<Entry>; 4])> {
     Some((views.len(), frame.locals.len(), entries))
 }
 
-/// Calls a method with an int and a long behind a null, which stays.
+/// Calls a method with an int and a long after a null, which stays.
 fn call(frames: &mut Frames) -> Result<(), Abrupt> {
     if frames.depth() == 0 {
         return Err(NO_FRAME);
@@ -142,7 +142,7 @@ fn open_callee(frames: &mut Frames) -> Result<(), Abrupt> {
 }
 
 /// What is told of the running frame: its monitor, its mark, and the units that its stack may take and takes.
-fn told(frames: &Frames) -> Option<(Option<u32>, Mark, usize, usize)> {
+fn reported(frames: &Frames) -> Option<(Option<u32>, Mark, usize, usize)> {
     if frames.depth() == 0 {
         return None;
     }
@@ -155,7 +155,7 @@ fn told(frames: &Frames) -> Option<(Option<u32>, Mark, usize, usize)> {
 }
 
 /// The same of a frame by its depth, with its method and pc.
-fn told_at(
+fn reported_at(
     frames: &Frames,
     depth: usize,
 ) -> Option<(MethodPlace, u16, Option<u32>, Mark, usize, usize)> {
@@ -173,9 +173,9 @@ fn told_at(
 fn tells_of_frames(frames: &mut Frames) -> Result<bool, Abrupt> {
     open_callee(frames)?;
     Ok(
-        told(frames) == Some((Some(8), Mark::Waiting, 3, 3))
-            && told_at(frames, 1) == Some((CALLEE, 2, Some(8), Mark::Waiting, 3, 3))
-            && told_at(frames, 2) == None
+        reported(frames) == Some((Some(8), Mark::Waiting, 3, 3))
+            && reported_at(frames, 1) == Some((CALLEE, 2, Some(8), Mark::Waiting, 3, 3))
+            && reported_at(frames, 2) == None
             && locals(frames).is_some_and(|(count, _, _)| count == 2),
     )
 }

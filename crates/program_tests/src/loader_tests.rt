@@ -17,7 +17,7 @@ use std::process::Abort;
 use std::test::Fail;
 
 /// What users are told of these classes.
-fn told(alloc: Global, program: &[Listing]) -> Result<String, AllocError> {
+fn reported(alloc: Global, program: &[Listing]) -> Result<String, AllocError> {
     match accept(alloc, program) {
         Ok(()) => String::from_str(alloc, "accepted"),
         Err(error) => error.to_string(alloc),
@@ -35,12 +35,12 @@ fn rename_last(alloc: Global, program: &mut [Listing]) -> Result<(), AllocError>
 fn refuses_a_name(alloc: Global) -> Result<bool, Fail> {
     let mut program = classes(alloc, "class E|main; class X")?;
     rename_last(alloc, &mut program)?;
-    Ok(told(alloc, &program)?.as_str() == "L10 in class [X")
+    Ok(reported(alloc, &program)?.as_str() == "L10 in class [X")
 }
 
-/// Where the instruction behind the one at a pc stands, by the listing and by the step, and the step's operation.
+/// Where the instruction after the one at a pc stands, by the listing and by the step, and the step's operation.
 fn step_at(program: &Program, place: MethodPlace, pc: u16) -> (u16, u16, &'static str) {
-    let behind = match program.placed(place, pc) {
+    let following = match program.placed(place, pc) {
         Some(placed) => placed.next,
         None => 0,
     };
@@ -51,10 +51,10 @@ fn step_at(program: &Program, place: MethodPlace, pc: u16) -> (u16, u16, &'stati
         Operation::Invalid => "none",
         _ => "another",
     };
-    (behind, step.next, operation)
+    (following, step.next, operation)
 }
 
-/// A class, a method and a pc; where the instruction behind stands, and what the one that is there does.
+/// A class, a method and a pc; where the instruction after stands, and what the one that is there does.
 const PCS: &[(usize, usize, u16, u16, &str)] = &[
     (0, 0, 0, 1, "nop"),
     (0, 0, 1, 2, "return"),
@@ -105,12 +105,12 @@ const PROGRAMS: &[(&str, bool)] = &[
 /// What no text and no command has: no class, and a class whose name is none.
 #[test]
 fn programs_are_refused(rt: HostRuntime) -> Result<(), Fail> {
-    assert!(rt; told(rt.alloc(), &[])?.as_str() == "L9", "no class");
+    assert!(rt; reported(rt.alloc(), &[])?.as_str() == "L9", "no class");
     assert!(rt; refuses_a_name(rt.alloc())?, "a name");
     Ok(())
 }
 
-/// Main's instructions by their pcs, and the initializer behind a class's last method (JVMS 2.9). Programs are equal
+/// Main's instructions by their pcs, and the initializer after a class's last method (JVMS 2.9). Programs are equal
 /// where their listings are, in one order.
 #[test]
 fn programs_have_steps_and_are_compared(rt: HostRuntime) -> Result<(), Fail> {

@@ -31,7 +31,7 @@ enum Asked {
 }
 
 /// JVMS 5.4.3.2, 5.4.3.3 and 6.5, invokevirtual and instanceof; 4.4.1. The program's six classes are counted from 0,
-/// the machine's own behind them.
+/// the machine's own after them.
 const ROWS: &[(Asked, &str, &str, bool)] = &[
     // a superinterface's field comes before the superclass's, the superclass's method before a superinterface's
     (Asked::Field, "D", "J", true),

@@ -1,7 +1,7 @@
 //! Programs in rows of words.
 //!
 //! A row has classes, with `; ` between them, of lines, with `|` between them. A line stands for itself, but for these:
-//! `class A` and `interface A` have Object as superclass, or what is named behind ` < `; `code 3 0 static f(IJ)V` is a
+//! `class A` and `interface A` have Object as superclass, or what is named after ` < `; `code 3 0 static f(IJ)V` is a
 //! method that does nothing, with limits of locals and of stack; `main` is a method main that does nothing; `main:` is
 //! the head of one, whose code and `end` follow.
 
@@ -17,7 +17,7 @@ const MAIN: &str =
 
 const HEAD: &str = ".method public static main()V\n.limit locals 3\n.limit stack 6\n";
 
-/// The first word, and what is behind it.
+/// The first word, and what is after it.
 fn parted(words: &str) -> (&str, &str) {
     match words.split_once(" ") {
         Some(parts) => parts,

@@ -1,5 +1,7 @@
 -- Classes by name: what a map finds in which each class goes whose name wasn't there.
-use Rattle.std.proofs.Common.{◌≡◌, ◌⊎◌, inl, inr, ℕ, ◌+◌, ◌<◌, ◌≤◌, suc, zero, List, [], ◌∷◌, ◌++◌, length, take, get_or, slice_get, Bool, true, false, cond, Option, Some, None, is_some, IfSome, Bor, subst, refl, arith, ap, sym, ◌∙◌}
+use Rattle.std.proofs.Common.{◌≡◌, ◌⊎◌, inl, inr, ℕ, ◌+◌, ◌<◌, ◌≤◌, suc, zero, List, [], ◌∷◌, ◌++◌, length, take}
+use Rattle.std.proofs.Common.{get_or, slice_get, Bool, true, false, cond, Option, Some, None, is_some, IfSome, Bor}
+use Rattle.std.proofs.Common.{subst, refl, arith, ap, sym, ◌∙◌}
 use Rattle.std.specs.List.{find}
 use Rattle.std.specs.Map.{lookup}
 use Rattle.std.specs.Option.{option_map, option_copied}
@@ -35,22 +37,27 @@ or_none (Some x) = refl
 abbrev alone : ClassListing → List ℕ → Option ClassListing
 alone c name = cond (bytes_eq c.name name) (Some c) None
 
-or-cond : {A : Type 0} (b : Bool) (x : A) (y z : Option A) → or_else (cond b (Some x) y) z ≡ cond b (Some x) (or_else y z)
+or-cond : {A : Type 0} (b : Bool) (x : A) (y z : Option A) → or_else (cond b (Some x) y) z
+    ≡ cond b (Some x) (or_else y z)
 or-cond true x y z = refl
 or-cond false x y z = refl
 
-find-last : (cs : List ClassListing) (c : ClassListing) (name : List ℕ) → find (is_named name) (cs ++ c ∷ []) ≡ or_else (find (is_named name) cs) (alone c name)
+find-last : (cs : List ClassListing) (c : ClassListing) (name : List ℕ) → find (is_named name) (cs ++ c ∷ [])
+    ≡ or_else (find (is_named name) cs) (alone c name)
 find-last [] c name = refl
 find-last (x ∷ xs) c name =
-    ap (cond (bytes_eq x.name name) (Some x)) (find-last xs c name) ∙ sym (or-cond (bytes_eq x.name name) x (find (is_named name) xs) (alone c name))
+    ap (cond (bytes_eq x.name name) (Some x)) (find-last xs c name)
+        ∙ sym (or-cond (bytes_eq x.name name) x (find (is_named name) xs) (alone c name))
 
-map-cond : {A B : Type 0} (f : A → B) (b : Bool) (x : A) (y : Option A) → option_map f (cond b (Some x) y) ≡ cond b (Some (f x)) (option_map f y)
+map-cond : {A B : Type 0} (f : A → B) (b : Bool) (x : A) (y : Option A) → option_map f (cond b (Some x) y)
+    ≡ cond b (Some (f x)) (option_map f y)
 map-cond f true x y = refl
 map-cond f false x y = refl
 
 module _ {K C : Type 0} (text : K → List ℕ) (class : C → ClassListing) where
   found-last : (entries : List (K × C)) (k : K) (c : C) (name : List ℕ) → text k ≡ (class c).name
-      → found_in text class (entries ++ (k, c) ∷ []) name ≡ or_else (found_in text class entries name) (alone (class c) name)
+      → found_in text class (entries ++ (k, c) ∷ []) name
+          ≡ or_else (found_in text class entries name) (alone (class c) name)
   found-last [] k c name is =
       map-cond class (bytes_eq name (text k)) c None
       ∙ ap (λ b. cond b (Some (class c)) None) (ap (bytes_eq name) is ∙ turned name (class c).name)
@@ -58,22 +65,26 @@ module _ {K C : Type 0} (text : K → List ℕ) (class : C → ClassListing) whe
       map-cond class (bytes_eq name (text e.0)) e.1 (lookup (λ x. bytes_eq name (text x)) (es ++ (k, c) ∷ []))
       ∙ ap (cond (bytes_eq name (text e.0)) (Some (class e.1))) (found-last es k c name is)
       ∙ sym (or-cond (bytes_eq name (text e.0)) (class e.1) (found_in text class es name) (alone (class c) name))
-      ∙ ap (λ x. or_else x (alone (class c) name)) (sym (map-cond class (bytes_eq name (text e.0)) e.1 (lookup (λ x. bytes_eq name (text x)) es)))
+      ∙ ap (λ x. or_else x (alone (class c) name))
+          (sym (map-cond class (bytes_eq name (text e.0)) e.1 (lookup (λ x. bytes_eq name (text x)) es)))
 
   -- the entries find what a list of classes has
   abbrev pub Finds : List (K × C) → List ClassListing → Type 0
   Finds entries cs = (name : List ℕ) → found_in text class entries name ≡ find (is_named name) cs
 
-  pub finds-new : (entries : List (K × C)) (cs : List ClassListing) (k : K) (c : C) → Finds entries cs → text k ≡ (class c).name
+  pub finds-new : (entries : List (K × C)) (cs : List ClassListing) (k : K) (c : C) → Finds entries cs
+      → text k ≡ (class c).name
       → Finds (entries ++ (k, c) ∷ []) (cs ++ class c ∷ [])
   finds-new entries cs k c so is name =
-      found-last entries k c name is ∙ ap (λ x. or_else x (alone (class c) name)) (so name) ∙ sym (find-last cs (class c) name)
+      found-last entries k c name is ∙ ap (λ x. or_else x (alone (class c) name)) (so name)
+          ∙ sym (find-last cs (class c) name)
 
   or-some : (x : Option ClassListing) (y : Option ClassListing) → (x ≡ None → ⊥) → or_else x y ≡ x
   or-some None y some = absurd (some refl)
   or-some (Some x) y some = refl
 
-  pub finds-known : (entries : List (K × C)) (cs : List ClassListing) (c : ClassListing) → Finds entries cs → (found_in text class entries c.name ≡ None → ⊥)
+  pub finds-known : (entries : List (K × C)) (cs : List ClassListing) (c : ClassListing) → Finds entries cs
+      → (found_in text class entries c.name ≡ None → ⊥)
       → Finds entries (cs ++ c ∷ [])
   finds-known entries cs c so known name =
       so name ∙ sym (find-last cs c name ∙ same (tells (bytes_eq c.name name)))
@@ -81,10 +92,12 @@ module _ {K C : Type 0} (text : K → List ℕ) (class : C → ClassListing) whe
       same : Tells (bytes_eq c.name name) → or_else (find (is_named name) cs) (alone c name) ≡ find (is_named name) cs
       same (inl t) =
           let is : c.name ≡ name = (bytes_eq-Decides c.name name).0 t in
-          or-some (find (is_named name) cs) (alone c name) (λ none. known (ap (found_in text class entries) is ∙ so name ∙ none))
+          or-some (find (is_named name) cs) (alone c name) (λ none. known (ap (found_in text class entries) is ∙ so name
+              ∙ none))
       same (inr f) = rw f (or_none (find (is_named name) cs))
 
-pub take-next : {A : Type 0} (cs : List A) (n : ℕ) (c : A) → c ≡ get_or cs n c → n < length cs → take (n + 1) cs ≡ take n cs ++ c ∷ []
+pub take-next : {A : Type 0} (cs : List A) (n : ℕ) (c : A) → c ≡ get_or cs n c → n < length cs → take (n + 1) cs
+    ≡ take n cs ++ c ∷ []
 take-next {A = A} cs n c is inside = let next : n + 1 ≡ suc n = omega arith in rw next (by cs n is inside)
   where
     by : (cs : List A) (n : ℕ) → c ≡ get_or cs n c → n < length cs → take (suc n) cs ≡ take n cs ++ c ∷ []
@@ -102,7 +115,8 @@ pub no_value : {V : Type 0} (r : Option (Bor V)) → is_some r ≡ false → {x 
 no_value None h e = sym e
 no_value (Some v) h e = cc
 
-pub some_value : {V : Type 0} (class : V → ClassListing) (r : Option (Bor V)) → is_some r ≡ true → {x : Option V} → option_copied r ≡ x
+pub some_value : {V : Type 0} (class : V → ClassListing) (r : Option (Bor V)) → is_some r ≡ true → {x : Option V}
+    → option_copied r ≡ x
     → option_map class x ≡ None → ⊥
 some_value class None h e n = cc
 some_value class (Some v) h e n = differ (ap (option_map class) e ∙ n)
@@ -115,18 +129,22 @@ slice-none [] n over = refl
 slice-none (x ∷ xs) zero over = absurd (omega arith)
 slice-none (x ∷ xs) (suc n) over = slice-none xs n (omega arith)
 
-pub slice-there : {A : Type 0} (cs : List A) (n : ℕ) (c : A) → c ≡ get_or cs n c → n < length cs → slice_get cs n ≡ Some c
+pub slice-there : {A : Type 0} (cs : List A) (n : ℕ) (c : A) → c ≡ get_or cs n c → n < length cs → slice_get cs n
+    ≡ Some c
 slice-there [] n c is inside = absurd (omega arith)
 slice-there (x ∷ xs) zero c is inside = ap (λ y. Some y) (sym is)
 slice-there (x ∷ xs) (suc n) c is inside = slice-there xs n c is (omega arith)
 
 -- the place that an entry has is that of the class of its name
-module _ {K C : Type 0} (text : K → List ℕ) (class : C → ClassListing) (number : C → ℕ) (program : List ClassListing) (entries : List (K × C))
-    (name : List ℕ) (c : C) (index : IsIndex text class number program entries) (found : Some c ≡ lookup (λ k. bytes_eq name (text k)) entries) where
+module _ {K C : Type 0} (text : K → List ℕ) (class : C → ClassListing) (number : C → ℕ) (program : List ClassListing)
+    (entries : List (K × C))
+    (name : List ℕ) (c : C) (index : IsIndex text class number program entries) (found : Some c
+        ≡ lookup (λ k. bytes_eq name (text k)) entries) where
   placed : slice_get program (number c) ≡ Some (class c)
   placed =
       subst (λ (x : Option C). IfSome x (λ c. slice_get program (number c) ≡ Some (class c))) (sym found)
-      (All-lookup (λ c. slice_get program (number c) ≡ Some (class c)) (λ k. bytes_eq name (text k)) entries index.placed)
+      (All-lookup (λ c. slice_get program (number c) ≡ Some (class c)) (λ k. bytes_eq name (text k)) entries
+          index.placed)
 
   pub numbered : slice_get program (number c) ≡ listed program name
   numbered = placed ∙ ap (option_map class) found ∙ index.finds name

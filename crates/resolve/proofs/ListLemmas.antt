@@ -1,5 +1,6 @@
 -- Tests of lists, and how many pass.
-use Rattle.std.proofs.Common.{◌≡◌, ◌⊎◌, inl, inr, ℕ, suc, ◌<◌, ◌≤◌, List, [], ◌∷◌, ◌++◌, Bool, true, false, cond, not, ◌&&◌, ◌||◌, filter, length, Some, None, refl, sym, ap, arith, ◌∙◌}
+use Rattle.std.proofs.Common.{◌≡◌, ◌⊎◌, inl, inr, ℕ, suc, ◌<◌, ◌≤◌, List, [], ◌∷◌, ◌++◌, Bool, true, false, cond, not}
+use Rattle.std.proofs.Common.{◌&&◌, ◌||◌, filter, length, Some, None, refl, sym, ap, arith, ◌∙◌}
 use Rattle.std.specs.List.{find, flat_map, list_all, list_any}
 use Rattle.model.specs.Classes.Subclass.{HasName}
 use Rattle.resolve.proofs.ReachedLemmas.{or-cases}
@@ -41,15 +42,18 @@ module _ {A : Type 0} (f g : A → Bool) (all : (x : A) → f x ≡ true → g x
       by false false more le = le
 
   -- fewer pass, where one passes the other test alone
-  pub count-less : (xs : List A) → list_any (λ x. g x && not (f x)) xs ≡ true → length (filter f xs) < length (filter g xs)
+  pub count-less : (xs : List A) → list_any (λ x. g x && not (f x)) xs ≡ true
+      → length (filter f xs) < length (filter g xs)
   count-less [] h = cc
   count-less (x ∷ xs) h =
-      by (f x) (g x) (all x) (count-le xs) (or-cases (g x && not (f x)) (list_any (λ y. g y && not (f y)) xs) h) (λ there. count-less xs there)
+      by (f x) (g x) (all x) (count-le xs) (or-cases (g x && not (f x)) (list_any (λ y. g y && not (f y)) xs) h)
+          (λ there. count-less xs there)
     where
       differ : false ≡ true → ⊥
       differ e = cc
 
-      by : (b c : Bool) → (b ≡ true → c ≡ true) → count f xs ≤ count g xs → ((c && not b) ≡ true) ⊎ (list_any (λ y. g y && not (f y)) xs ≡ true)
+      by : (b c : Bool) → (b ≡ true → c ≡ true) → count f xs ≤ count g xs
+          → ((c && not b) ≡ true) ⊎ (list_any (λ y. g y && not (f y)) xs ≡ true)
           → (list_any (λ y. g y && not (f y)) xs ≡ true → count f xs < count g xs)
           → length (cond b (x ∷ filter f xs) (filter f xs)) < length (cond c (x ∷ filter g xs) (filter g xs))
       by true true more le (inl here) rest = absurd (differ here)
@@ -63,7 +67,8 @@ pub count-all : {A : Type 0} (f : A → Bool) (xs : List A) → length (filter f
 count-all f [] = omega arith
 count-all f (x ∷ xs) = by (f x) (count-all f xs)
   where
-    by : (b : Bool) → length (filter f xs) ≤ length xs → length (cond b (x ∷ filter f xs) (filter f xs)) ≤ suc (length xs)
+    by : (b : Bool) → length (filter f xs) ≤ length xs
+        → length (cond b (x ∷ filter f xs) (filter f xs)) ≤ suc (length xs)
     by true le = omega (arith, le)
     by false le = omega (arith, le)
 
@@ -93,7 +98,8 @@ module _ {A : Type 0} where
       left true b k = refl
       left false b k = cc
 
-      by : (b : Bool) → cond b (Some x) (find q xs) ≡ Some c → (find q xs ≡ Some c → list_any h xs ≡ true) → (h x || list_any h xs) ≡ true
+      by : (b : Bool) → cond b (Some x) (find q xs) ≡ Some c → (find q xs ≡ Some c → list_any h xs ≡ true)
+          → (h x || list_any h xs) ≡ true
       by true is rest = left (h x) (list_any h xs) (ap h (one-of x c is) ∙ t)
       by false is rest = right (h x) (list_any h xs) (rest is)
 
@@ -125,12 +131,14 @@ all-of f [] x all h = absurd h
 all-of f (y ∷ ys) x all (inl e) = ap f (sym e) ∙ and-left (f y) (list_all f ys) all
 all-of f (y ∷ ys) x all (inr h) = all-of f ys x (and-right (f y) (list_all f ys) all) h
 
-pub not-all : (f : List ℕ → Bool) (xs : List (List ℕ)) → list_all f xs ≡ false → (x : List ℕ) × HasName xs x × (f x ≡ false)
+pub not-all : (f : List ℕ → Bool) (xs : List (List ℕ)) → list_all f xs ≡ false → (x : List ℕ) × HasName xs x
+    × (f x ≡ false)
 not-all f [] h = cc
 not-all f (y ∷ ys) h =
     elim (and-false (f y) (list_all f ys) h) [
       | inl here ↦ (y, inl refl, here)
-      | inr there ↦ let found : (x : List ℕ) × HasName ys x × (f x ≡ false) = not-all f ys there in (found.0, inr found.1, found.2)
+      | inr there ↦ let found : (x : List ℕ) × HasName ys x × (f x ≡ false) = not-all f ys there
+                          in (found.0, inr found.1, found.2)
     ]
 
 pub same-each : (f g : List ℕ → List (List ℕ)) (names : List (List ℕ)) → ((i : List ℕ) → HasName names i → f i ≡ g i)

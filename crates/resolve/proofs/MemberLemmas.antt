@@ -1,5 +1,6 @@
 -- The first member of each name and descriptor, as a map gets members one by one.
-use Rattle.std.proofs.Common.{◌≡◌, ℕ, ◌+◌, ◌<◌, ◌≤◌, List, [], ◌∷◌, ◌++◌, length, take, get_or, Bool, true, false, cond, ◌&&◌, Option, Some, None, is_some, Bor, refl, sym, ap, ◌∙◌}
+use Rattle.std.proofs.Common.{◌≡◌, ℕ, ◌+◌, ◌<◌, ◌≤◌, List, [], ◌∷◌, ◌++◌, length, take, get_or, Bool, true, false, cond}
+use Rattle.std.proofs.Common.{◌&&◌, Option, Some, None, is_some, Bor, refl, sym, ap, ◌∙◌}
 use Rattle.std.specs.List.{find}
 use Rattle.std.specs.Map.{lookup}
 use Rattle.std.specs.Option.{option_copied, option_map}
@@ -32,16 +33,19 @@ module _ {M : Type 0} where
   added false (Some v) m none = refl
 
   -- a member more, of a name and descriptor that weren't there
-  pub added-first : (entries more : Signed M) (name descriptor : List ℕ) (member : Bor M) (r : Option (Bor M)) → is_some r ≡ false
+  pub added-first : (entries more : Signed M) (name descriptor : List ℕ) (member : Bor M) (r : Option (Bor M))
+      → is_some r ≡ false
       → option_copied r ≡ found_under entries name descriptor
       → ((n d : List ℕ) → at more n d ≡ cond (bytes_eq name n && bytes_eq descriptor d) (Some member) (at entries n d))
-      → (n d : List ℕ) → found_under more n d ≡ or_else (found_under entries n d) (cond (bytes_eq name n && bytes_eq descriptor d) (Some member.now) None)
+      → (n d : List ℕ) → found_under more n d
+          ≡ or_else (found_under entries n d) (cond (bytes_eq name n && bytes_eq descriptor d) (Some member.now) None)
   added-first entries more name descriptor member r none got updates n d =
       ap value (updates n d)
       ∙ added (bytes_eq name n && bytes_eq descriptor d) (at entries n d) member
       (λ same.
       let is : name ≡ n = (bytes_eq-Decides name n).0 (and-left (bytes_eq name n) (bytes_eq descriptor d) same) in
-      let says : descriptor ≡ d = (bytes_eq-Decides descriptor d).0 (and-right (bytes_eq name n) (bytes_eq descriptor d) same) in
+      let says : descriptor ≡ d = (bytes_eq-Decides descriptor d).0 (and-right (bytes_eq name n) (bytes_eq descriptor d)
+            same) in
       ap (λ (x : List ℕ). found_under entries x d) (sym is)
       ∙ ap (found_under entries name) (sym says)
       ∙ no-value r (found_under entries name descriptor) none got)
@@ -50,7 +54,8 @@ module _ {M : Type 0} where
   or-cond true x y z = refl
   or-cond false x y z = refl
 
-  find-last : (q : M → Bool) (xs : List M) (x : M) → find q (xs ++ x ∷ []) ≡ or_else (find q xs) (cond (q x) (Some x) None)
+  find-last : (q : M → Bool) (xs : List M) (x : M) → find q (xs ++ x ∷ [])
+      ≡ or_else (find q xs) (cond (q x) (Some x) None)
   find-last q [] x = refl
   find-last q (y ∷ ys) x =
       ap (cond (q y) (Some y)) (find-last q ys x) ∙ sym (or-cond (q y) y (find q ys) (cond (q x) (Some x) None))
@@ -59,9 +64,11 @@ module _ {M : Type 0} where
   abbrev pub Finds : (List ℕ → List ℕ → M → Bool) → Signed M → List M → Type 0
   Finds test entries xs = (n d : List ℕ) → found_under entries n d ≡ find (test n d) xs
 
-  pub found-more : (test : List ℕ → List ℕ → M → Bool) (entries more : Signed M) (xs : List M) (i : ℕ) (x : M) → Finds test entries (take i xs)
+  pub found-more : (test : List ℕ → List ℕ → M → Bool) (entries more : Signed M) (xs : List M) (i : ℕ) (x : M)
+      → Finds test entries (take i xs)
       → x ≡ get_or xs i x → i < length xs
-      → ((n d : List ℕ) → found_under more n d ≡ or_else (found_under entries n d) (cond (test n d x) (Some x) None)) → Finds test more (take (i + 1) xs)
+      → ((n d : List ℕ) → found_under more n d ≡ or_else (found_under entries n d) (cond (test n d x) (Some x) None))
+          → Finds test more (take (i + 1) xs)
   found-more test entries more xs i x finds is inside adds n d =
       adds n d
       ∙ ap (λ o. or_else o (cond (test n d x) (Some x) None)) (finds n d)
@@ -72,23 +79,29 @@ module _ {M : Type 0} where
   or-none None = refl
   or-none (Some x) = refl
 
-  pub found-same : (test : List ℕ → List ℕ → M → Bool) (entries : Signed M) (xs : List M) (i : ℕ) (x : M) → Finds test entries (take i xs)
+  pub found-same : (test : List ℕ → List ℕ → M → Bool) (entries : Signed M) (xs : List M) (i : ℕ) (x : M)
+      → Finds test entries (take i xs)
       → x ≡ get_or xs i x → i < length xs → ((n d : List ℕ) → test n d x ≡ false) → Finds test entries (take (i + 1) xs)
   found-same test entries xs i x finds is inside fails =
       found-more test entries entries xs i x finds is inside
-      (λ n d. or-none (found_under entries n d) ∙ ap (λ b. or_else (found_under entries n d) (cond b (Some x) None)) (sym (fails n d)))
+      (λ n d. or-none (found_under entries n d) ∙ ap (λ b. or_else (found_under entries n d) (cond b (Some x) None))
+          (sym (fails n d)))
 
-  pub found-all : (test : List ℕ → List ℕ → M → Bool) (entries : Signed M) (xs : List M) (i : ℕ) → Finds test entries (take i xs) → length xs ≤ i → Finds test entries xs
+  pub found-all : (test : List ℕ → List ℕ → M → Bool) (entries : Signed M) (xs : List M) (i : ℕ)
+      → Finds test entries (take i xs) → length xs ≤ i → Finds test entries xs
   found-all test entries xs i finds done n d = finds n d ∙ ap (find (test n d)) (take-all xs i done)
 
   -- the same of a member with this name and descriptor
   pub added-named : (entries more : Signed M) (a b name descriptor : List ℕ) (x : M) → a ≡ name → b ≡ descriptor
-      → ((n d : List ℕ) → found_under more n d ≡ or_else (found_under entries n d) (cond (bytes_eq a n && bytes_eq b d) (Some x) None))
-      → (n d : List ℕ) → found_under more n d ≡ or_else (found_under entries n d) (cond (bytes_eq name n && bytes_eq descriptor d) (Some x) None)
+      → ((n d : List ℕ) → found_under more n d
+          ≡ or_else (found_under entries n d) (cond (bytes_eq a n && bytes_eq b d) (Some x) None))
+      → (n d : List ℕ) → found_under more n d
+          ≡ or_else (found_under entries n d) (cond (bytes_eq name n && bytes_eq descriptor d) (Some x) None)
   added-named entries more a b name descriptor x is says adds n d =
       adds n d
       ∙ ap (λ (k : List ℕ). or_else (found_under entries n d) (cond (bytes_eq k n && bytes_eq b d) (Some x) None)) is
-      ∙ ap (λ (k : List ℕ). or_else (found_under entries n d) (cond (bytes_eq name n && bytes_eq k d) (Some x) None)) says
+      ∙ ap (λ (k : List ℕ). or_else (found_under entries n d) (cond (bytes_eq name n && bytes_eq k d) (Some x) None))
+          says
 
 pub and-passes : (b v : Bool) → v ≡ true → b ≡ (b && v)
 and-passes true v e = sym e

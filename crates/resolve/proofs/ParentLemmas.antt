@@ -49,25 +49,30 @@ all_plain : list_all is_plain builtin_classes ≡ true
 unfolding builtin_classes
 all_plain = refl
 
-pub parents_in-builtin : (name : List ℕ) → parents_in (builtin name) ≡ option_to_list (option_map superclass_of (builtin name))
+pub parents_in-builtin : (name : List ℕ) → parents_in (builtin name)
+    ≡ option_to_list (option_map superclass_of (builtin name))
 parents_in-builtin name = parents_in-find builtin_classes name all_plain
 
-no_interfaces-cond : (b : Bool) (c : ClassListing) (rest : Option ClassListing) → c.interfaces ≡ [] → interfaces_in rest ≡ []
+no_interfaces-cond : (b : Bool) (c : ClassListing) (rest : Option ClassListing) → c.interfaces ≡ [] → interfaces_in rest
+    ≡ []
     → interfaces_in (cond b (Some c) rest) ≡ []
 no_interfaces-cond true c rest plain others = plain
 no_interfaces-cond false c rest plain others = others
 
-no_interfaces-find : (cs : List ClassListing) (name : List ℕ) → list_all is_plain cs ≡ true → interfaces_in (find (is_named name) cs) ≡ []
+no_interfaces-find : (cs : List ClassListing) (name : List ℕ) → list_all is_plain cs ≡ true
+    → interfaces_in (find (is_named name) cs) ≡ []
 no_interfaces-find [] name plain = refl
 no_interfaces-find (c ∷ cs) name plain =
     no_interfaces-cond (bytes_eq c.name name) c (find (is_named name) cs)
     (nil-from c.interfaces (and-left (is_plain c) (list_all is_plain cs) plain))
     (no_interfaces-find cs name (and-right (is_plain c) (list_all is_plain cs) plain))
 
-interfaces-either : (name : List ℕ) (first : Option ClassListing) → interfaces_in (or_else first (builtin name)) ≡ interfaces_in first
+interfaces-either : (name : List ℕ) (first : Option ClassListing) → interfaces_in (or_else first (builtin name)) ≡
+    interfaces_in first
 interfaces-either name None = no_interfaces-find builtin_classes name all_plain
 interfaces-either name (Some c) = refl
 
 -- only classes of the program have superinterfaces
-pub interfaces_named-listed : (program : List ClassListing) (name : List ℕ) → interfaces_named program name ≡ interfaces_in (listed program name)
+pub interfaces_named-listed : (program : List ClassListing) (name : List ℕ) → interfaces_named program name ≡
+    interfaces_in (listed program name)
 interfaces_named-listed program name = interfaces-either name (listed program name)

@@ -1,5 +1,7 @@
 -- The names that are reached upwards from some are those of the classes above them.
-use Rattle.std.proofs.Common.{◌≡◌, ◌⊎◌, inl, inr, ℕ, zero, suc, ◌+◌, ◌≤◌, List, [], ◌∷◌, ◌++◌, length, map, take, slice_get, Bool, true, false, ◌||◌, if◌then◌else◌, Some, None, refl, arith, ap, sym, ◌∙◌, subst}
+use Rattle.std.proofs.Common.{◌≡◌, ◌⊎◌, inl, inr, ℕ, zero, suc, ◌+◌, ◌≤◌, List, [], ◌∷◌, ◌++◌, length, map, take}
+use Rattle.std.proofs.Common.{slice_get, Bool, true, false, ◌||◌, if◌then◌else◌, Some, None, refl, arith, ap, sym, ◌∙◌}
+use Rattle.std.proofs.Common.{subst}
 use Rattle.std.specs.List.{list_any}
 use Rattle.std.specs.Option.{option_map}
 use Rattle.std.specs.Str.{bytes_eq}
@@ -15,7 +17,8 @@ use Rattle.resolve.specs.Reached.{has_name, with_name, with_names, is_one_below}
 
 -- ---- keys and their names
 
-pub has-map : {K : Type 0} (now : K → List ℕ) (name : List ℕ) (ks : List K) → list_any (λ k. bytes_eq name (now k)) ks ≡ has_name (map now ks) name
+pub has-map : {K : Type 0} (now : K → List ℕ) (name : List ℕ) (ks : List K) → list_any (λ k. bytes_eq name (now k)) ks
+    ≡ has_name (map now ks) name
 has-map now name [] = refl
 has-map now name (k ∷ ks) = ap (λ b. bytes_eq name (now k) || b) (has-map now name ks)
 
@@ -29,7 +32,8 @@ map-if now true ks k = refl
 map-if now false ks k = map-append now ks k
 
 pub with_name-map : {K : Type 0} (now : K → List ℕ) (ks : List K) (k : K)
-    → map now (if list_any (λ x. bytes_eq (now k) (now x)) ks then ks else ks ++ k ∷ []) ≡ with_name (map now ks) (now k)
+    → map now (if list_any (λ x. bytes_eq (now k) (now x)) ks then ks else ks ++ k ∷ [])
+        ≡ with_name (map now ks) (now k)
 with_name-map now ks k =
     map-if now (list_any (λ x. bytes_eq (now k) (now x)) ks) ks k
     ∙ ap (λ b. if b then map now ks else map now ks ++ now k ∷ []) (has-map now (now k) ks)
@@ -44,12 +48,14 @@ pub or-right : (a b : Bool) → b ≡ true → (a || b) ≡ true
 or-right true b h = refl
 or-right false b h = h
 
-pub any-found : (f : List ℕ → Bool) (xs : List (List ℕ)) → list_any f xs ≡ true → (x : List ℕ) × HasName xs x × (f x ≡ true)
+pub any-found : (f : List ℕ → Bool) (xs : List (List ℕ)) → list_any f xs ≡ true → (x : List ℕ) × HasName xs x
+    × (f x ≡ true)
 any-found f [] h = cc
 any-found f (x ∷ xs) h =
     elim (or-cases (f x) (list_any f xs) h) [
       | inl here ↦ (x, inl refl, here)
-      | inr there ↦ let found : (y : List ℕ) × HasName xs y × (f y ≡ true) = any-found f xs there in (found.0, inr found.1, found.2)
+      | inr there ↦ let found : (y : List ℕ) × HasName xs y × (f y ≡ true) = any-found f xs there
+                          in (found.0, inr found.1, found.2)
     ]
 
 pub any-has : (f : List ℕ → Bool) (xs : List (List ℕ)) (x : List ℕ) → HasName xs x → f x ≡ true → list_any f xs ≡ true
@@ -117,13 +123,15 @@ pub record AddsAll (names more all : List (List ℕ)) : Type 0 where
 in-extension : (names more : List (List ℕ)) → Extension names more → (x : List ℕ) → HasName names x → HasName more x
 in-extension names more e x h = subst (λ (xs : List (List ℕ)). HasName xs x) (sym e.1) (in-left names e.0 x h)
 
-further : (names : List (List ℕ)) (name : List ℕ) (one more all : List (List ℕ)) → Adds names name one → AddsAll one more all
+further : (names : List (List ℕ)) (name : List ℕ) (one more all : List (List ℕ)) → Adds names name one
+    → AddsAll one more all
     → AddsAll names (name ∷ more) all
 further names name one more all first rest =
     record {
       extends = (
         first.extends.0 ++ rest.extends.0,
-        rest.extends.1 ∙ ap (λ xs. xs ++ rest.extends.0) first.extends.1 ∙ append-assoc names first.extends.0 rest.extends.0,
+        rest.extends.1 ∙ ap (λ xs. xs ++ rest.extends.0) first.extends.1
+            ∙ append-assoc names first.extends.0 rest.extends.0,
       );
       holds = λ x h. held x h;
       only = λ x h. known x (rest.only x h);
@@ -146,7 +154,8 @@ adds_all names (name ∷ more) =
 -- ---- the parents of one of the machine's own classes
 
 pub parents_named-builtin : (program : List ClassListing) (name superclass : List ℕ) → None ≡ listed program name
-    → Some superclass ≡ option_map (λ (c : ClassListing). c.superclass) (builtin name) → superclass ∷ [] ≡ parents_named program name
+    → Some superclass ≡ option_map (λ (c : ClassListing). c.superclass) (builtin name) → superclass ∷ []
+        ≡ parents_named program name
 parents_named-builtin program name superclass none found = rw (← none, parents_in-builtin name, ← found)
 
 -- ---- what is reached so far
@@ -164,26 +173,30 @@ pub reached-first : (program : List ClassListing) (start : List (List ℕ)) → 
 reached-first program start =
     record { sound = λ x h. (x, h, same); kept = λ x h. h; closed = λ x y h p. absurd h }
 
-in-take : (names extra : List (List ℕ)) (next : ℕ) (name x : List ℕ) → slice_get names next ≡ Some name → HasName (take (suc next) (names ++ extra)) x
+in-take : (names extra : List (List ℕ)) (next : ℕ) (name x : List ℕ) → slice_get names next ≡ Some name
+    → HasName (take (suc next) (names ++ extra)) x
     → HasName (take next names) x ⊎ (name ≡ x)
 in-take [] extra next name x e h = cc
 in-take (y ∷ ys) extra zero name x e (inl is) = inr cc
 in-take (y ∷ ys) extra zero name x e (inr h) = absurd h
 in-take (y ∷ ys) extra (suc n) name x e (inl is) = inl (inl is)
-in-take (y ∷ ys) extra (suc n) name x e (inr h) = elim (in-take ys extra n name x e h) [ inl there ↦ inl (inr there) | inr is ↦ inr is ]
+in-take (y ∷ ys) extra (suc n) name x e (inr h) = elim (in-take ys extra n name x e h) [ inl there ↦ inl (inr there) |
+    inr is ↦ inr is ]
 
 in-slice : (names : List (List ℕ)) (next : ℕ) (name : List ℕ) → slice_get names next ≡ Some name → HasName names name
 in-slice [] next name e = cc
 in-slice (y ∷ ys) zero name e = inl cc
 in-slice (y ∷ ys) (suc n) name e = inr (in-slice ys n name e)
 
-pub reached-next : (program : List ClassListing) (start names : List (List ℕ)) (next : ℕ) (name : List ℕ) → IsReached program start names next
+pub reached-next : (program : List ClassListing) (start names : List (List ℕ)) (next : ℕ) (name : List ℕ)
+    → IsReached program start names next
     → slice_get names next ≡ Some name
     → IsReached program start (with_names names (parents_named program name)) (next + 1)
 reached-next program start names next name so e =
     let one_more : suc next ≡ next + 1 = omega arith in
     subst (λ (n : ℕ). IsReached program start (with_names names (parents_named program name)) n) one_more
-    (record { sound = λ x h. above x (more.only x h); kept = λ x h. in-extension names all more.extends x (so.kept x h); closed = λ x y h p. parents x y h p })
+    (record { sound = λ x h. above x (more.only x h); kept = λ x h. in-extension names all more.extends x (so.kept x h);
+        closed = λ x y h p. parents x y h p })
   where
     all : List (List ℕ)
     all = with_names names (parents_named program name)
@@ -197,14 +210,16 @@ reached-next program start names next name so e =
         let one : IsAboveOne program start name = so.sound name (in-slice names next name e) in
         (one.0, one.1, through name one.2 (parent h))
 
-    passed : (x y : List ℕ) → HasName (take next names) x ⊎ (name ≡ x) → HasName (parents_named program x) y → HasName all y
+    passed : (x y : List ℕ) → HasName (take next names) x ⊎ (name ≡ x) → HasName (parents_named program x) y
+        → HasName all y
     passed x y (inl h) p = in-extension names all more.extends y (so.closed x y h p)
     passed x y (inr is) p = more.holds y (subst (λ (n : List ℕ). HasName (parents_named program n) y) (sym is) p)
 
     parents : (x y : List ℕ) → HasName (take (suc next) all) x → HasName (parents_named program x) y → HasName all y
     parents x y h p =
         passed x y
-        (in-take names more.extends.0 next name x e (subst (λ (xs : List (List ℕ)). HasName (take (suc next) xs) x) more.extends.1 h)) p
+        (in-take names more.extends.0 next name x e (subst (λ (xs : List (List ℕ)). HasName (take (suc next) xs) x)
+            more.extends.1 h)) p
 
 -- ---- what is reached in the end
 
@@ -234,7 +249,8 @@ same-bool true b to back = sym (to refl)
 same-bool false true to back = back refl
 same-bool false false to back = refl
 
-pub reached-all : (program : List ClassListing) (start names : List (List ℕ)) (next : ℕ) → IsReached program start names next → length names ≤ next
+pub reached-all : (program : List ClassListing) (start names : List (List ℕ)) (next : ℕ)
+    → IsReached program start names next → length names ≤ next
     → (above : List ℕ) → has_name names above ≡ is_one_below program start above
 reached-all program start names next so few above =
     same-bool (has_name names above) (is_one_below program start above) to back
@@ -245,12 +261,15 @@ reached-all program start names next so few above =
     to : has_name names above ≡ true → is_one_below program start above ≡ true
     to h =
         let one : IsAboveOne program start above = so.sound above (has-HasName names above h) in
-        any-has (λ name. is_subclass program name above) start one.0 one.1 (Subclass-is_subclass program one.0 above one.2)
+        any-has (λ name. is_subclass program name above) start one.0 one.1 (Subclass-is_subclass program one.0 above
+            one.2)
 
     back : is_one_below program start above ≡ true → has_name names above ≡ true
     back h =
-        let found : (s : List ℕ) × HasName start s × (is_subclass program s above ≡ true) = any-found (λ name. is_subclass program name above) start h in
-        HasName-has names above (within-reached (length program + 23) program names found.0 above closed (so.kept found.0 found.1) found.2)
+        let found : (s : List ℕ) × HasName start s
+              × (is_subclass program s above ≡ true) = any-found (λ name. is_subclass program name above) start h in
+        HasName-has names above (within-reached (length program + 23) program names found.0 above closed
+            (so.kept found.0 found.1) found.2)
 
 -- ---- what begins with one name, and with the parents of a class
 
@@ -258,7 +277,8 @@ or-false : (b : Bool) → (b || false) ≡ b
 or-false true = refl
 or-false false = refl
 
-pub one_below : (program : List ClassListing) (name above : List ℕ) → is_one_below program (with_name [] name) above ≡ is_subclass program name above
+pub one_below : (program : List ClassListing) (name above : List ℕ) → is_one_below program (with_name [] name) above
+    ≡ is_subclass program name above
 one_below program name above = or-false (is_subclass program name above)
 
 pub parents_below : (program : List ClassListing) (parents : List (List ℕ)) (above : List ℕ)

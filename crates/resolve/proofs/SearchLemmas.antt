@@ -1,5 +1,6 @@
 -- Searching a list of classes, part by part.
-use Rattle.std.proofs.Common.{◌≡◌, ℕ, zero, suc, ◌+◌, ◌-◌, ◌<◌, ◌≤◌, List, [], ◌∷◌, ◌++◌, Bool, true, false, ◌||◌, Option, Some, None, refl, sym, ap, arith, ◌∙◌}
+use Rattle.std.proofs.Common.{◌≡◌, ℕ, zero, suc, ◌+◌, ◌-◌, ◌<◌, ◌≤◌, List, [], ◌∷◌, ◌++◌, Bool, true, false, ◌||◌}
+use Rattle.std.proofs.Common.{Option, Some, None, refl, sym, ap, arith, ◌∙◌}
 use Rattle.std.specs.List.{flat_map}
 use Rattle.std.specs.Str.{bytes_eq}
 use Rattle.std.proofs.lemmas.Slice.Eq.{bytes_eq-Decides}
@@ -34,11 +35,13 @@ module _ {M : Type 0} (program : List ClassListing) (member : ClassListing → O
 
   -- ---- names that stand there once are as good as all of them
 
-  known-again : (names : List (List ℕ)) (name : List ℕ) → has_name names name ≡ true → or_else (first names) (one name) ≡ first names
+  known-again : (names : List (List ℕ)) (name : List ℕ) → has_name names name ≡ true → or_else (first names) (one name)
+      ≡ first names
   known-again [] name h = cc
   known-again (x ∷ xs) name h = by (bytes_eq name x) refl h (λ k. known-again xs name k)
     where
-      by : (b : Bool) → bytes_eq name x ≡ b → (b || has_name xs name) ≡ true → (has_name xs name ≡ true → or_else (first xs) (one name) ≡ first xs)
+      by : (b : Bool) → bytes_eq name x ≡ b → (b || has_name xs name) ≡ true
+          → (has_name xs name ≡ true → or_else (first xs) (one name) ≡ first xs)
           → or_else (first (x ∷ xs)) (one name) ≡ first (x ∷ xs)
       by true e h rest =
           let is : name ≡ x = (bytes_eq-Decides name x).0 e in
@@ -49,7 +52,8 @@ module _ {M : Type 0} (program : List ClassListing) (member : ClassListing → O
   first-with_name : (names : List (List ℕ)) (name : List ℕ) (there : Bool) → has_name names name ≡ there
       → first (with_name names name) ≡ or_else (first names) (one name)
   first-with_name names name true e = rw e (sym (known-again names name e))
-  first-with_name names name false e = rw e (first_append names (name ∷ []) ∙ ap (or_else (first names)) (or_else-none (one name)))
+  first-with_name names name false e = rw e (first_append names (name ∷ [])
+      ∙ ap (or_else (first names)) (or_else-none (one name)))
 
   first-with_names : (names more : List (List ℕ)) → first (with_names names more) ≡ or_else (first names) (first more)
   first-with_names names [] = sym (or_else-none (first names))
@@ -63,7 +67,8 @@ module _ {M : Type 0} (program : List ClassListing) (member : ClassListing → O
 
   -- ---- from a class to its superclass, in each an order of its own
 
-  found-again : (name : List ℕ) (c : ClassListing) → Some c ≡ class_named program name → c.name ≡ name → declared_in member c.name (Some c) ≡ one name
+  found-again : (name : List ℕ) (c : ClassListing) → Some c ≡ class_named program name → c.name ≡ name
+      → declared_in member c.name (Some c) ≡ one name
   found-again name c found is = rw (← found, is) refl
 
   -- one class alone, and with what follows it
@@ -78,10 +83,13 @@ module _ {M : Type 0} (program : List ClassListing) (member : ClassListing → O
   singles [] = refl
   singles (x ∷ xs) = ap (λ (ys : List (List ℕ)). x ∷ ys) (singles xs)
 
-  walk-on : (order : List ℕ → List (List ℕ)) (steps more : ℕ) (name : List ℕ) (c : ClassListing) → Some c ≡ class_named program name → steps ≡ suc more
-      → first (flat_map order (upwards steps program name)) ≡ or_else (first (order name)) (first (flat_map order (upwards more program c.superclass)))
+  walk-on : (order : List ℕ → List (List ℕ)) (steps more : ℕ) (name : List ℕ) (c : ClassListing)
+      → Some c ≡ class_named program name → steps ≡ suc more
+      → first (flat_map order (upwards steps program name))
+          ≡ or_else (first (order name)) (first (flat_map order (upwards more program c.superclass)))
   unfolding upwards
-  walk-on order steps more name c found e = rw (e, ← found) (first_append (order name) (flat_map order (upwards more program c.superclass)))
+  walk-on order steps more name c found e = rw (e,
+      ← found) (first_append (order name) (flat_map order (upwards more program c.superclass)))
 
   walk-missing : (order : List ℕ → List (List ℕ)) (steps : ℕ) (name : List ℕ) → None ≡ class_named program name
       → None ≡ first (flat_map order (upwards steps program name))
@@ -98,15 +106,19 @@ module _ {M : Type 0} (program : List ClassListing) (member : ClassListing → O
   abbrev pub Walks : (List ℕ → List (List ℕ)) → ℕ → ℕ → List ℕ → Option (Declared M) → Type 0
   Walks order steps passed name whole = first (flat_map order (upwards (steps - passed) program name)) ≡ whole
 
-  pub walk-found : (order : List ℕ → List (List ℕ)) (steps passed : ℕ) (name : List ℕ) (c : ClassListing) (x : Declared M) (whole : Option (Declared M))
-      → Walks order steps passed name whole → Some c ≡ class_named program name → passed < steps → Some x ≡ first (order name) → Some x ≡ whole
+  pub walk-found : (order : List ℕ → List (List ℕ)) (steps passed : ℕ) (name : List ℕ) (c : ClassListing)
+      (x : Declared M) (whole : Option (Declared M))
+      → Walks order steps passed name whole → Some c ≡ class_named program name → passed < steps
+          → Some x ≡ first (order name) → Some x ≡ whole
   walk-found order steps passed name c x whole walks found inside here =
       let more : ℕ = steps - (passed + 1) in
       ap (λ (o : Option (Declared M)). or_else o (first (flat_map order (upwards more program c.superclass)))) here
       ∙ sym (walk-on order (steps - passed) more name c found (omega arith)) ∙ walks
 
-  pub walk-next : (order : List ℕ → List (List ℕ)) (steps passed : ℕ) (name above : List ℕ) (c : ClassListing) (whole : Option (Declared M))
-      → Walks order steps passed name whole → Some c ≡ class_named program name → passed < steps → None ≡ first (order name) → above ≡ c.superclass
+  pub walk-next : (order : List ℕ → List (List ℕ)) (steps passed : ℕ) (name above : List ℕ) (c : ClassListing)
+      (whole : Option (Declared M))
+      → Walks order steps passed name whole → Some c ≡ class_named program name → passed < steps
+          → None ≡ first (order name) → above ≡ c.superclass
       → Walks order steps (passed + 1) above whole
   walk-next order steps passed name above c whole walks found inside here is =
       let more : ℕ = steps - (passed + 1) in

@@ -1,5 +1,6 @@
 -- Seeking a class from a class upwards.
-use Rattle.std.proofs.Common.{◌≡◌, ℕ, zero, suc, ◌+◌, ◌-◌, ◌<◌, ◌≤◌, List, [], ◌∷◌, Bool, true, false, ◌||◌, Option, Some, None, refl, sym, ap, arith, ◌∙◌}
+use Rattle.std.proofs.Common.{◌≡◌, ℕ, zero, suc, ◌+◌, ◌-◌, ◌<◌, ◌≤◌, List, [], ◌∷◌, Bool, true, false, ◌||◌, Option}
+use Rattle.std.proofs.Common.{Some, None, refl, sym, ap, arith, ◌∙◌}
 use Rattle.std.specs.List.{list_any}
 use Rattle.std.specs.Str.{bytes_eq}
 use Rattle.model.specs.ClassListings.{ClassListing}
@@ -10,15 +11,19 @@ use Rattle.model.specs.Classes.Search.{upwards, with_superclasses}
 abbrev pub Seeks : List ClassListing → ℕ → ℕ → List ℕ → List ℕ → Bool → Type 0
 Seeks program steps passed name above whole = list_any (bytes_eq above) (upwards (steps - passed) program name) ≡ whole
 
-module _ (program : List ClassListing) (steps passed : ℕ) (name above : List ℕ) (whole : Bool) (h : Seeks program steps passed name above whole) where
-  on : (n : ℕ) (c : ClassListing) → Some c ≡ class_named program name → upwards (suc n) program name ≡ name ∷ upwards n program c.superclass
+module _ (program : List ClassListing) (steps passed : ℕ) (name above : List ℕ) (whole : Bool)
+    (h : Seeks program steps passed name above whole) where
+  on : (n : ℕ) (c : ClassListing) → Some c ≡ class_named program name → upwards (suc n) program name
+      ≡ name ∷ upwards n program c.superclass
   unfolding upwards
-  on n c found = ap (λ (o : Option ClassListing). with_superclasses name (λ superclass. upwards n program superclass) o) (sym found)
+  on n c found = ap (λ (o : Option ClassListing). with_superclasses name (λ superclass. upwards n program superclass) o)
+      (sym found)
 
   missing : (n : ℕ) → None ≡ class_named program name → upwards n program name ≡ []
   unfolding upwards
   missing zero found = refl
-  missing (suc n) found = ap (λ (o : Option ClassListing). with_superclasses name (λ superclass. upwards n program superclass) o) (sym found)
+  missing (suc n) found = ap (λ (o : Option ClassListing). with_superclasses name
+      (λ superclass. upwards n program superclass) o) (sym found)
 
   over : (n : ℕ) → n ≡ 0 → upwards n program name ≡ []
   unfolding upwards
@@ -29,13 +34,17 @@ module _ (program : List ClassListing) (steps passed : ℕ) (name above : List �
   stepped c found inside =
       let n : ℕ = steps - (passed + 1) in
       let one : steps - passed ≡ suc n = omega (arith, inside) in
-      ap (list_any (bytes_eq above)) (sym (on n c found)) ∙ ap (λ (m : ℕ). list_any (bytes_eq above) (upwards m program name)) (sym one) ∙ h
+      ap (list_any (bytes_eq above)) (sym (on n c found))
+          ∙ ap (λ (m : ℕ). list_any (bytes_eq above) (upwards m program name)) (sym one) ∙ h
 
-  pub seek-here : (c : ClassListing) → Some c ≡ class_named program name → passed < steps → bytes_eq above name ≡ true → true ≡ whole
+  pub seek-here : (c : ClassListing) → Some c ≡ class_named program name → passed < steps → bytes_eq above name ≡ true
+      → true ≡ whole
   seek-here c found inside e =
-      ap (λ (b : Bool). b || list_any (bytes_eq above) (upwards (steps - (passed + 1)) program c.superclass)) (sym e) ∙ stepped c found inside
+      ap (λ (b : Bool). b || list_any (bytes_eq above) (upwards (steps - (passed + 1)) program c.superclass)) (sym e)
+          ∙ stepped c found inside
 
-  pub seek-next : (next : List ℕ) (c : ClassListing) → Some c ≡ class_named program name → passed < steps → bytes_eq above name ≡ false
+  pub seek-next : (next : List ℕ) (c : ClassListing) → Some c ≡ class_named program name → passed < steps
+      → bytes_eq above name ≡ false
       → next ≡ c.superclass → Seeks program steps (passed + 1) next above whole
   seek-next next c found inside e is =
       ap (λ (m : List ℕ). list_any (bytes_eq above) (upwards (steps - (passed + 1)) program m)) is

@@ -13,7 +13,8 @@ superclass_among (b ∷ bs) name = cond (bytes_eq b.name.now name) (Some b.super
 
 -- a row of the table as a method's listing
 abbrev pub native_listing : Native → Method
-native_listing n = cond n.is_static (static_method n.name.now n.descriptor.now) (instance_method n.name.now n.descriptor.now)
+native_listing n = cond n.is_static (static_method n.name.now n.descriptor.now)
+    (instance_method n.name.now n.descriptor.now)
 
 -- a row of the table as a class's listing
 abbrev pub own_listing : Builtin → ClassListing

@@ -4,7 +4,7 @@ use Rattle.model.specs.Classes.Types.{Element}
 use Rattle.model.specs.Classes.Types.Element.{Number, Reference}
 use Rattle.resolve.specs.declared.types.Element.{Element as Shown}
 use Rattle.resolve.specs.declared.types.Compared.{Compared}
-use Rattle.resolve.specs.declared.types.Compared.TheVariants.{Told, Elements}
+use Rattle.resolve.specs.declared.types.Compared.TheVariants.{Reported, Elements}
 use Rattle.resolve.specs.declared.types.Element.TheVariants.{Number as ShownNumber, Reference as ShownReference}
 
 abbrev pub element : Shown → Element
@@ -16,6 +16,6 @@ abbrev pub shown : Option Shown → Option Element
 shown = option_map element
 
 -- the answer on two types, where one on their elements is given
-abbrev pub told : (List ℕ → List ℕ → Bool) → Compared → Bool
-told elements (Told answer) = answer
-told elements (Elements element other) = elements element.now other.now
+abbrev pub reported : (List ℕ → List ℕ → Bool) → Compared → Bool
+reported elements (Reported answer) = answer
+reported elements (Elements element other) = elements element.now other.now

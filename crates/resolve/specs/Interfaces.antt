@@ -1,4 +1,5 @@
-use Rattle.std.specs.Prelude.{◌≡◌, ℕ, List, [], ◌∷◌, Bool, true, false, ◌&&◌, ◌||◌, is_none, is_some, filter, length, Option, Some, None}
+use Rattle.std.specs.Prelude.{◌≡◌, ℕ, List, [], ◌∷◌, Bool, true, false, ◌&&◌, ◌||◌, is_none, is_some, filter, length}
+use Rattle.std.specs.Prelude.{Option, Some, None}
 use Rattle.std.specs.List.{find, flat_map, list_all}
 use Rattle.std.specs.Map.{lookup}
 use Rattle.std.specs.Option.{option_map}
@@ -12,7 +13,8 @@ use Rattle.model.specs.Classes.Subclasses.{enough_steps}
 use Rattle.resolve.specs.Reached.{with_names}
 use Rattle.resolve.specs.declared.keys.NameKey.{NameKey}
 
--- the superinterfaces that a class declares and all that they extend, to so many steps: in the order of the search, each once
+-- the superinterfaces that a class declares and all that they extend, to so many steps: in the order of the search,
+-- each once
 abbrev pub interfaces_once : ℕ → List ClassListing → ClassListing → List (List ℕ)
 interfaces_once steps program c = with_names [] (interfaces_from steps program c.interfaces)
 
@@ -24,13 +26,13 @@ Lists = List ℕ → Option (List (List ℕ))
 abbrev pub lists_in : List (NameKey × List (List ℕ)) → Lists
 lists_in entries name = lookup (λ k. bytes_eq name k.bytes.now) entries
 
--- an interface, and behind it what its list has
+-- an interface, and after it what its list has
 abbrev pub with_list : List ℕ → Option (List (List ℕ)) → List (List ℕ)
 with_list name None = name ∷ []
 with_list name (Some list) = name ∷ list
 
-abbrev pub all_behind : Lists → List (List ℕ) → List (List ℕ)
-all_behind lists names = flat_map (λ name. with_list name (lists name)) names
+abbrev pub all_following : Lists → List (List ℕ) → List (List ℕ)
+all_following lists names = flat_map (λ name. with_list name (lists name)) names
 
 -- a name that has a list, or is no class of the program
 abbrev pub is_settled : List ClassListing → Lists → List ℕ → Bool
@@ -50,7 +52,8 @@ missing program lists = length (filter (λ (c : ClassListing). is_none (lists c.
 
 -- going upwards from this name ends, as long as it goes through classes of the program
 pub data Ends (program : List ClassListing) : List ℕ → Type 0 where
-  ends : {name : List ℕ} → ((p : List ℕ) → HasName (parents_named program name) p → is_some (listed program p) ≡ true → Ends program p) → Ends program name
+  ends : {name : List ℕ} → ((p : List ℕ) → HasName (parents_named program name) p → is_some (listed program p) ≡ true
+      → Ends program p) → Ends program name
 
 abbrev pub IsAcyclic : List ClassListing → Type 0
 IsAcyclic program = find (is_on_cycle program) program ≡ None
@@ -58,9 +61,11 @@ IsAcyclic program = find (is_on_cycle program) program ≡ None
 abbrev pub IsEntry : List ClassListing → List ℕ → Option (List (List ℕ)) → Type 0
 IsEntry program name None = Unit {0}
 IsEntry program name (Some list) =
-    Ends program name × (IsAcyclic program → Some list ≡ option_map (interfaces_once (enough_steps program) program) (listed program name))
+    Ends program name × (IsAcyclic program → Some list ≡ option_map (interfaces_once (enough_steps program) program)
+        (listed program name))
 
--- each list was made behind those of the parents; where no class is above itself, it has the superinterfaces in the order of the search
+-- each list was made after those of the parents; where no class is above itself, it has the superinterfaces in the
+-- order of the search
 abbrev pub AreLists : List ClassListing → Lists → Type 0
 AreLists program lists = (name : List ℕ) → IsEntry program name (lists name)
 

@@ -8,7 +8,8 @@ use Rattle.model.specs.Classes.Search.{Declared}
 
 -- those of a class's fields that its objects have
 abbrev pub fields_in : List ℕ → List Field → List (Declared Field)
-fields_in name fields = map (λ (f : Field). record { class = name; member = f }) (filter (λ (f : Field). not (is_static_field f)) fields)
+fields_in name fields = map (λ (f : Field). record { class = name; member = f })
+    (filter (λ (f : Field). not (is_static_field f)) fields)
 
 -- those of the class of a name, the last one first
 abbrev pub fields_last_first : List ClassListing → List ℕ → List (Declared Field)

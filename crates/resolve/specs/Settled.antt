@@ -7,4 +7,5 @@ use Rattle.resolve.specs.Interfaces.{interfaces_once, Lists}
 
 -- each class of a program has its superinterfaces in the order of the search, each once
 abbrev pub AreSettled : List ClassListing → Lists → Type 0
-AreSettled program interfaces = (name : List ℕ) → interfaces name ≡ option_map (interfaces_once (enough_steps program) program) (listed program name)
+AreSettled program interfaces = (name : List ℕ) → interfaces name
+    ≡ option_map (interfaces_once (enough_steps program) program) (listed program name)

@@ -51,7 +51,7 @@ fn is_apart(index: &Index<'_>) -> bool
     are_superclasses_apart(index, &BUILTINS)
 }
 
-/// Whether a class is above itself. Where each has its list of superinterfaces, behind its parents, there is none, as
+/// Whether a class is above itself. Where each has its list of superinterfaces, after its parents, there is none, as
 /// long as no two have one name and none is above the machine's own classes; else all that is above each class is
 /// looked at. `AllocError` where memory runs out.
 pub fn has_cycle<'a>(

@@ -4,7 +4,8 @@ ghost use Rattle.std.specs.List.{find, flat_map, list_all};
 ghost use Rattle.std.specs.Option.{option_copied};
 ghost use Rattle.std.specs.Str.{bytes_eq};
 ghost use Rattle.model.specs.ClassListings.{ClassListing};
-ghost use Rattle.resolve.specs.Interfaces.{AreFull, AreLists, all_behind, first_ready, is_ready, is_settled, lists_in};
+ghost use Rattle.resolve.specs.Interfaces.{AreFull, AreLists, all_following};
+ghost use Rattle.resolve.specs.Interfaces.{first_ready, is_ready, is_settled, lists_in};
 ghost use Rattle.resolve.specs.Interfaces.{missing, with_list};
 ghost use Rattle.resolve.specs.Reached.{with_names};
 
@@ -33,7 +34,7 @@ impl<'a> Interfaces<'a> {
         Some(list)
     }
 
-    /// Adds an interface, and behind it what its list has.
+    /// Adds an interface, and after it what its list has.
     fn add_with_list(&self, name: &'a [u8], found: &mut Reached<'a>) -> Result<(), AllocError>
         ensures { OnOk result (found.new ≡ with_names found.old
             (with_list name.now (lists_in self.now.lists.entries name.now))) }
@@ -45,14 +46,10 @@ impl<'a> Interfaces<'a> {
         }
     }
 
-    /// These interfaces, behind each what its list has, each name once.
-    fn listed_behind(
-        &self,
-        alloc: Global,
-        interfaces: &'a [Name],
-    ) -> Result<Reached<'a>, AllocError>
+    /// These interfaces, after each what its list has, each name once.
+    fn listed_after(&self, alloc: Global, interfaces: &'a [Name]) -> Result<Reached<'a>, AllocError>
         ensures { IfOk result (λ found. found ≡ with_names []
-            (all_behind (lists_in self.now.lists.entries) interfaces.now)) }
+            (all_following (lists_in self.now.lists.entries) interfaces.now)) }
     {
         let mut found = Reached::new(alloc);
         for interface in interfaces {
@@ -109,7 +106,7 @@ impl<'a> Interfaces<'a> {
             < missing index.now (lists_in self.old.lists.entries)) }
     {
         if let Some(class) = index.listed(name) {
-            let list = self.listed_behind(alloc, &class.interfaces)?;
+            let list = self.listed_after(alloc, &class.interfaces)?;
             self.lists.insert(NameKey { bytes: name }, list)?;
         }
         Ok(())
@@ -146,7 +143,7 @@ impl<'a> Interfaces<'a> {
     }
 
     /// Adds the lists of a program's classes, of all where none is above itself. Each is made once, from those of its
-    /// parents, as long as each class stands behind its parents in the order that is tried first.
+    /// parents, as long as each class stands after its parents in the order that is tried first.
     fn add_all(&mut self, alloc: Global, index: &Index<'a>) -> Result<(), AllocError>
         requires { AreLists index.now (lists_in self.old.lists.entries) }
         ensures lists { OnOk result (AreLists index.now (lists_in self.new.lists.entries)) }

@@ -8,7 +8,7 @@ use std::alloc::{AllocError, Global};
 /// Names of classes on the way upwards.
 #[derive(Drop)]
 struct Climb<'a> {
-    /// Those that stand behind their parents already.
+    /// Those that stand after their parents already.
     done: Reached<'a>,
     /// Those whose parents were put before them.
     opened: Reached<'a>,
@@ -64,7 +64,7 @@ impl<'a> Climb<'a> {
     }
 }
 
-/// The names of the classes of a program, each behind its parents in the program where no class is above itself;
+/// The names of the classes of a program, each after its parents in the program where no class is above itself;
 /// nothing but the time that is taken rests on the order. `AllocError` where memory runs out.
 pub fn parents_first<'a>(alloc: Global, index: &Index<'a>) -> Result<Reached<'a>, AllocError> {
     let mut climb = Climb {

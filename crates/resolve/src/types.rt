@@ -3,7 +3,7 @@ ghost use Rattle.std.specs.Prelude.{◌≡◌, ℕ, List, Bool, Some, codes};
 ghost use Rattle.std.specs.Str.{bytes_eq};
 ghost use Rattle.model.specs.Classes.Subclasses.{is_subclass};
 ghost use Rattle.model.specs.Classes.Types.{described, element_of, is_type, is_subtype, types_compare};
-ghost use Rattle.resolve.specs.Elements.{shown, told};
+ghost use Rattle.resolve.specs.Elements.{shown, reported};
 
 use crate::classes::Classes;
 
@@ -41,23 +41,23 @@ fn element_of(name: &[u8]) -> Option<Element<'_>>
 /// What is known of two types before their elements are looked at: the answer, or it is that of their elements.
 #[derive(Clone, Copy)]
 enum Compared<'t> {
-    Told(bool),
+    Reported(bool),
     Elements(&'t [u8], &'t [u8]),
 }
 
 /// Compares what two arrays hold.
 fn compare_elements<'t>(element: Element<'t>, other: Element<'t>) -> Compared<'t>
     ensures { (class object : Bool) (elements : List ℕ → List ℕ → Bool)
-        → told elements result ≡ types_compare class object elements (shown (Some element.entry))
+        → reported elements result ≡ types_compare class object elements (shown (Some element.entry))
         (shown (Some other.entry)) }
 {
     match element {
         Element::Number(letter) => match other {
-            Element::Number(other) => Compared::Told(letter == other),
-            Element::Reference(_) => Compared::Told(false),
+            Element::Number(other) => Compared::Reported(letter == other),
+            Element::Reference(_) => Compared::Reported(false),
         },
         Element::Reference(name) => match other {
-            Element::Number(_) => Compared::Told(false),
+            Element::Number(_) => Compared::Reported(false),
             Element::Reference(other) => Compared::Elements(name, other),
         },
     }
@@ -82,13 +82,13 @@ impl<'a> Classes<'a> {
     /// Compares two types, but for the elements of arrays.
     fn compare_types<'t>(&self, name: &'t [u8], above: &'t [u8]) -> Compared<'t>
         ensures { (elements : List ℕ → List ℕ → Bool)
-            → told elements result ≡ types_compare (is_subclass self.now name.now above.now)
+            → reported elements result ≡ types_compare (is_subclass self.now name.now above.now)
             (bytes_eq above.now (codes "java/lang/Object")) elements (element_of name.now) (element_of above.now) }
     {
         match element_of(name) {
-            None => Compared::Told(self.is_subclass(name, above)),
+            None => Compared::Reported(self.is_subclass(name, above)),
             Some(element) => match element_of(above) {
-                None => Compared::Told(above == b"java/lang/Object".as_slice()),
+                None => Compared::Reported(above == b"java/lang/Object".as_slice()),
                 Some(other) => compare_elements(element, other),
             },
         }
@@ -103,7 +103,7 @@ impl<'a> Classes<'a> {
         let mut upper = above;
         for _ in 0..name.len() + 1 {
             match self.compare_types(lower, upper) {
-                Compared::Told(answer) => return answer,
+                Compared::Reported(answer) => return answer,
                 Compared::Elements(element, other) => {
                     lower = element;
                     upper = other;

@@ -1,11 +1,13 @@
 -- The cells show the worlds that are alike to one that they show, and no others.
 use Rattle.std.proofs.Common.{◌≡◌, ◌↔◌, ℕ, List, [], ◌∷◌, map, slice_get, Option, Some, None, refl, sym, ◌∙◌, ap}
 use Rattle.std.specs.Option.{option_map}
-use Rattle.model.specs.Collector.Places.{Reach, Place, root_at, word_at, ref_of, field_ref, contents_refs, object_refs, ref_at, entries_at, monitor_at}
+use Rattle.model.specs.Collector.Places.{Reach, Place, root_at, word_at, ref_of, field_ref, contents_refs, object_refs}
+use Rattle.model.specs.Collector.Places.{ref_at, entries_at, monitor_at}
 use Rattle.model.specs.Collector.Places.Place.{MemoryError, StackError, Slot, FrameEntry, MethodMonitor}
 use Rattle.model.specs.Collector.Places.Reach.{at_root, by_word}
 use Rattle.model.specs.Objects.{object_at}
-use Rattle.model.specs.Shows.{Held, HeapWorld, HasCell, ShowsObject, Shows, all_read, value_read, birth_in, held_in, kind_of_contents, values_in}
+use Rattle.model.specs.Shows.{Held, HeapWorld, HasCell, ShowsObject, Shows, all_read, value_read, birth_in, held_in}
+use Rattle.model.specs.Shows.{kind_of_contents, values_in}
 use Rattle.model.specs.Worlds.{World, Thread, FieldValue, Contents, Object, frames_of}
 use Rattle.model.specs.Worlds.Contents.{Instance, Array}
 use Rattle.instructions.specs.HeldOnCells.{held_of}
@@ -38,13 +40,16 @@ unfolding word_at
 word_held v w a k e =
     ap (λ rs. ref_at rs k) (object_held a (object_at v a) ∙ ap refs_in e ∙ sym (object_held a (object_at w a)))
 
-root_same : (v w : World) → v.threads ≡ w.threads → v.statics.fields ≡ w.statics.fields → (p : Place) → root_at v p ≡ root_at w p
+root_same : (v w : World) → v.threads ≡ w.threads → v.statics.fields ≡ w.statics.fields → (p : Place) → root_at v p
+    ≡ root_at w p
 unfolding root_at
 root_same v w threads slots MemoryError = refl
 root_same v w threads slots StackError = refl
 root_same v w threads slots (Slot s) = ap (λ (fields : List FieldValue). ref_at (map field_ref fields) s) slots
-root_same v w threads slots (FrameEntry t d j) = ap (λ (ts : List Thread). ref_at (entries_at (frames_of (slice_get ts t)) d) j) threads
-root_same v w threads slots (MethodMonitor t d) = ap (λ (ts : List Thread). monitor_at (frames_of (slice_get ts t)) d) threads
+root_same v w threads slots (FrameEntry t d j) = ap
+    (λ (ts : List Thread). ref_at (entries_at (frames_of (slice_get ts t)) d) j) threads
+root_same v w threads slots (MethodMonitor t d) = ap (λ (ts : List Thread). monitor_at (frames_of (slice_get ts t)) d)
+    threads
 
 -- ---- from one world to another that is alike
 
@@ -55,7 +60,8 @@ module _ (m : HeapWorld) (v w : World) (shown : Shows m v) where
     back b (by_word a k r e) = let s = back a r in by_word a k s (word_held v w a k (alike.objects a s) ∙ e)
 
     -- the object of the other world, in the same cell
-    other : (b : ℕ) (s : HasCell m.cells v b) (o : Option Object) → object_at w b ≡ o → Some (held_of b s.object) ≡ option_map (held_of b) o → HasCell m.cells w b
+    other : (b : ℕ) (s : HasCell m.cells v b) (o : Option Object) → object_at w b ≡ o → Some (held_of b s.object)
+        ≡ option_map (held_of b) o → HasCell m.cells w b
     other b s None is e = absurd (cc)
     other b s (Some o) is e =
         let same : held_of b s.object ≡ held_of b o = some_same (held_of b s.object) (held_of b o) e in
@@ -103,11 +109,14 @@ module _ (m : HeapWorld) (v w : World) (shown : Shows m v) where
     slots_same = some_same v.statics.fields w.statics.fields (sym shown.slots ∙ also.slots)
 
     -- two objects in one cell
-    held_same : (b : ℕ) (p q : Held) (x y : Object) → p ≡ q → ShowsObject m.cells p b x → ShowsObject m.cells q b y → held_of b x ≡ held_of b y
+    held_same : (b : ℕ) (p q : Held) (x y : Object) → p ≡ q → ShowsObject m.cells p b x → ShowsObject m.cells q b y
+        → held_of b x ≡ held_of b y
     held_same b p q x y same s t =
-        let kind : kind_of_contents x.contents ≡ kind_of_contents y.contents = sym s.kind ∙ ap (λ (h : Held). h.kind) same ∙ t.kind in
+        let kind : kind_of_contents x.contents ≡ kind_of_contents y.contents = sym s.kind
+        ∙ ap (λ (h : Held). h.kind) same ∙ t.kind in
         let words : values_in x.contents ≡ values_in y.contents =
-        some_same (values_in x.contents) (values_in y.contents) (sym s.words ∙ ap (λ (h : Held). all_read (value_read m.cells) h.words) same ∙ t.words) in
+        some_same (values_in x.contents) (values_in y.contents) (sym s.words
+        ∙ ap (λ (h : Held). all_read (value_read m.cells) h.words) same ∙ t.words) in
         let monitor : x.monitor ≡ y.monitor = sym s.monitor ∙ ap (λ (h : Held). h.monitor) same ∙ t.monitor in
         let thread : x.thread ≡ y.thread = sym s.thread ∙ ap (λ (h : Held). h.thread) same ∙ t.thread in
         rw (kind, words, monitor, thread) refl
@@ -118,7 +127,8 @@ module _ (m : HeapWorld) (v w : World) (shown : Shows m v) where
     object_same : (b : ℕ) → HasCell m.cells v b → HasCell m.cells w b → held_at v b ≡ held_at w b
     object_same b s t =
         let cell : s.cell ≡ t.cell = also.one s.cell t.cell b (birth_there b v s) (birth_there b w t) in
-        let held : s.held ≡ t.held = some_same s.held t.held (sym s.is_there ∙ ap (held_in m.cells) cell ∙ t.is_there) in
+        let held : s.held ≡ t.held = some_same s.held t.held (sym s.is_there ∙ ap (held_in m.cells) cell ∙ t.is_there)
+        in
         ap (option_map (held_of b)) s.was_made
         ∙ ap (λ (h : Held). Some h) (held_same b s.held t.held s.object t.object held s.shown t.shown)
         ∙ sym (ap (option_map (held_of b)) t.was_made)

@@ -1,5 +1,6 @@
 -- Many rounds in one call: the worlds that they lead to, and what they answer.
-use Rattle.std.proofs.Common.{◌≡◌, ◌≢◌, ◌<◌, ◌≤◌, ◌+◌, ◌-◌, ◌∷◌, ℕ, zero, suc, List, [], length, length-append, Bool, true, false, Option, Some, None, refl, ap, sym, subst, ◌∙◌, arith}
+use Rattle.std.proofs.Common.{◌≡◌, ◌≢◌, ◌<◌, ◌≤◌, ◌+◌, ◌-◌, ◌∷◌, ℕ, zero, suc, List, [], length, length-append, Bool}
+use Rattle.std.proofs.Common.{true, false, Option, Some, None, refl, ap, sym, subst, ◌∙◌, arith}
 use Rattle.std.proofs.lemmas.List.{append-nil, append_assoc, replicate_more}
 use Rattle.std.specs.Prelude.{if◌then◌else◌, replicate}
 use Rattle.model.specs.declared.journals.Limits.{Limits}
@@ -8,12 +9,13 @@ use Rattle.model.specs.declared.journals.Row.{Row}
 use Rattle.model.specs.declared.turns.Actor.{Actor}
 use Rattle.model.specs.declared.turns.Actor.TheVariants.{Thread}
 use Rattle.model.specs.Journals.{JournalValue, with_row, with_rows}
-use Rattle.model.specs.Machines.{Recorded, after_turn_by, row_for, told_of, with_row as recorded_with}
+use Rattle.model.specs.Machines.{Recorded, after_turn_by, row_for, reported_of, with_row as recorded_with}
 use Rattle.model.specs.Observers.{is_running, pick_of, status_of}
 use Rattle.instructions.specs.FirstTurns.{IsFirstTurn}
 use Rattle.instructions.specs.Loaded.{Loaded}
-use Rattle.instructions.specs.PlainRuns.{FirstTurns, start_behind}
-use Rattle.scheduler.specs.Rounds.{LeadsOn, after_round, after_rounds, done_by, is_done, noted_times, picked, picked_answer, rounds_answer, turned_by}
+use Rattle.instructions.specs.PlainRuns.{FirstTurns, start_after}
+use Rattle.scheduler.specs.Rounds.{LeadsOn, after_round, after_rounds, done_by, is_done, noted_times, picked}
+use Rattle.scheduler.specs.Rounds.{picked_answer, rounds_answer, turned_by}
 use Rattle.scheduler.specs.Worlds.{IsOf, recorded}
 use Rattle.scheduler.proofs.FirstTurns.{first_answer, first_fits, first_noted, first_picked}
 use Rattle.scheduler.proofs.Noting.{answer_is}
@@ -24,23 +26,29 @@ use Rattle.scheduler.proofs.Noting.{answer_is}
 pub round-picked : (v : Recorded) (worker : ℕ) → after_round v worker 0 ≡ picked v worker
 round-picked v worker = by (is_done (picked_answer v worker)) (is_running (status_of (picked v worker)))
   where
-    by : (d b : Bool) → (if d then (if b then picked v worker else picked v worker) else picked v worker) ≡ picked v worker
+    by : (d b : Bool) → (if d then (if b then picked v worker else picked v worker) else picked v worker)
+        ≡ picked v worker
     by true true = refl
     by true false = refl
     by false b = refl
 
-module _ (v : Recorded) (worker n m : ℕ) (left : n ≡ suc m) (done : Bool) (is : is_done (picked_answer v worker) ≡ done) where
-  pub world-first : after_rounds v worker 0 n ≡ (if done then after_rounds (picked v worker) worker 0 m else picked v worker)
-  world-first =
-      ap (after_rounds v worker 0) left
-      ∙ ap (λ (x : Recorded). if is_done (picked_answer v worker) then after_rounds x worker 0 m else x) (round-picked v worker)
-      ∙ ap (λ b. if b then after_rounds (picked v worker) worker 0 m else picked v worker) is
+module _ (v : Recorded) (worker n m : ℕ) (left : n ≡ suc m) (done : Bool) (is : is_done (picked_answer v worker) ≡ done)
+  where
+    pub world-first : after_rounds v worker 0 n ≡ (if done then after_rounds (picked v worker) worker 0 m
+        else picked v worker)
+    world-first =
+        ap (after_rounds v worker 0) left
+        ∙ ap (λ (x : Recorded). if is_done (picked_answer v worker) then after_rounds x worker 0 m
+        else x) (round-picked v worker)
+        ∙ ap (λ b. if b then after_rounds (picked v worker) worker 0 m else picked v worker) is
 
-  pub answer-first : rounds_answer v worker 0 n ≡ (if done then rounds_answer (picked v worker) worker 0 m else picked_answer v worker)
-  answer-first =
-      ap (rounds_answer v worker 0) left
-      ∙ ap (λ (x : Recorded). if is_done (picked_answer v worker) then rounds_answer x worker 0 m else picked_answer v worker) (round-picked v worker)
-      ∙ ap (λ b. if b then rounds_answer (picked v worker) worker 0 m else picked_answer v worker) is
+    pub answer-first : rounds_answer v worker 0 n ≡ (if done then rounds_answer (picked v worker) worker 0 m
+        else picked_answer v worker)
+    answer-first =
+        ap (rounds_answer v worker 0) left
+        ∙ ap (λ (x : Recorded). if is_done (picked_answer v worker) then rounds_answer x worker 0 m
+        else picked_answer v worker) (round-picked v worker)
+        ∙ ap (λ b. if b then rounds_answer (picked v worker) worker 0 m else picked_answer v worker) is
 
 -- rounds that lead on leave the others
 module _ (v w : Recorded) (worker gc n left : ℕ) (on : LeadsOn v worker gc n w) (fits : n ≤ left) where
@@ -64,7 +72,8 @@ unfolding after_turn_by
 workers-turned v worker None = refl
 workers-turned v worker (Some t) = workers-added v (row_for v (Thread t) worker)
 
-pub workers-after : (v : Recorded) (actor : Actor) (worker : ℕ) → (after_turn_by v actor worker).journal.workers ≡ v.journal.workers
+pub workers-after : (v : Recorded) (actor : Actor) (worker : ℕ) → (after_turn_by v actor worker).journal.workers
+    ≡ v.journal.workers
 unfolding after_turn_by
 workers-after v actor worker = workers-added v (row_for v actor worker)
 
@@ -98,7 +107,7 @@ module _ (j : JournalValue) (row : Row) where
 
 -- the state after so many turns of a thread, and the journal with their rows
 pub record Leads (s : Loaded) (j : JournalValue) (k worker thread n : ℕ) (after : Loaded) : Type 0 where
-  pub is : IsOf after (noted_times j (done_by thread worker) n) (start_behind k thread n)
+  pub is : IsOf after (noted_times j (done_by thread worker) n) (start_after k thread n)
   pub on : LeadsOn (recorded s j) worker 0 n (recorded after (noted_times j (done_by thread worker) n))
   pub room : 0 < n → length j.rows + n ≤ j.limits.steps
 
@@ -109,16 +118,20 @@ module _ (s : Loaded) (j : JournalValue) (k worker thread : ℕ) (is : IsOf s j 
   abbrev v : Recorded
   v = recorded s j
 
-  one_more : (n : ℕ) (x after : Loaded) → Leads s j k worker thread n x → IsFirstTurn x (start_behind k thread n) after (thread, Done) → after.machine.world.fault ≡ None
+  one_more : (n : ℕ) (x after : Loaded) → Leads s j k worker thread n x
+      → IsFirstTurn x (start_after k thread n) after (thread, Done) → after.machine.world.fault ≡ None
       → Leads s j k worker thread (suc n) after
   one_more n x after leads made faultless =
       let jn = noted_times j row n in
-      let kn = start_behind k thread n in
+      let kn = start_after k thread n in
       let u = recorded x jn in
-      let still : IsOf after (with_row jn row) (thread + 1) = first_noted x jn kn leads.is worker thread Done after made in
-      let same : recorded after (with_row jn row) ≡ picked u worker = first_picked x jn kn leads.is worker thread Done after made in
+      let still : IsOf after (with_row jn row) (thread + 1) = first_noted x jn kn leads.is worker thread Done after made
+      in
+      let same : recorded after (with_row jn row) ≡ picked u worker = first_picked x jn kn leads.is worker thread Done
+      after made in
       let done : is_done (picked_answer u worker) ≡ true =
-      ap is_done (sym (first_answer x jn kn leads.is worker thread Done after made) ∙ sym (answer_is after (with_row jn row) (thread + 1) still) ∙ ap told_of faultless) in
+      ap is_done (sym (first_answer x jn kn leads.is worker thread Done after made)
+      ∙ sym (answer_is after (with_row jn row) (thread + 1) still) ∙ ap reported_of faultless) in
       let fits = first_fits x jn kn leads.is worker thread Done after made in
       let long = times-length j row n in
       let limits = ap (λ (l : Limits). l.steps) (times-limits j row n) in
@@ -126,9 +139,11 @@ module _ (s : Loaded) (j : JournalValue) (k worker thread : ℕ) (is : IsOf s j 
         is = still;
         on = λ more.
             let next : suc n + more ≡ n + suc more = omega arith in (
-              ap (after_rounds v worker 0) next ∙ (leads.on (suc more)).0 ∙ world-first u worker (suc more) more refl true done
+              ap (after_rounds v worker 0) next ∙ (leads.on (suc more)).0 ∙ world-first u worker (suc more) more refl
+                  true done
                   ∙ ap (λ (w : Recorded). after_rounds w worker 0 more) (sym same),
-              ap (rounds_answer v worker 0) next ∙ (leads.on (suc more)).1 ∙ answer-first u worker (suc more) more refl true done
+              ap (rounds_answer v worker 0) next ∙ (leads.on (suc more)).1 ∙ answer-first u worker (suc more) more refl
+                  true done
                   ∙ ap (λ (w : Recorded). rounds_answer w worker 0 more) (sym same),
             );
         room = λ some. omega (arith, fits, long, limits);
@@ -138,21 +153,26 @@ module _ (s : Loaded) (j : JournalValue) (k worker thread : ℕ) (is : IsOf s j 
   leads zero after turns = record {
     is = subst (λ (x : Loaded). IsOf x j k) (sym turns) is;
     on = subst (λ (x : Loaded). LeadsOn v worker 0 0 (recorded x j)) (sym turns)
-        (λ more. let none : 0 + more ≡ more = omega arith in (ap (after_rounds v worker 0) none, ap (rounds_answer v worker 0) none));
+        (λ more. let none : 0 + more ≡ more = omega arith in (
+          ap (after_rounds v worker 0) none,
+          ap (rounds_answer v worker 0) none,
+        ));
     room = λ some. absurd (omega (arith, some));
   }
   leads (suc n) after turns = one_more n turns.0 after (leads n turns.0 turns.1) turns.2 turns.3
 
   -- the same where the next thread to look at and the journal are known by equations
-  pub leads-to : (n : ℕ) (after : Loaded) (next : ℕ) (noted : JournalValue) → FirstTurns s k thread n after → next ≡ start_behind k thread n → noted ≡ noted_times j row n
+  pub leads-to : (n : ℕ) (after : Loaded) (next : ℕ) (noted : JournalValue) → FirstTurns s k thread n after
+      → next ≡ start_after k thread n → noted ≡ noted_times j row n
       → IsOf after noted next × LeadsOn v worker 0 n (recorded after noted)
   leads-to n after next noted turns is_next is_noted =
       let x = leads n after turns in (
-        subst (λ (i : ℕ). IsOf after noted i) (sym is_next) (subst (λ (jn : JournalValue). IsOf after jn (start_behind k thread n)) (sym is_noted) x.is),
+        subst (λ (i : ℕ). IsOf after noted i) (sym is_next)
+            (subst (λ (jn : JournalValue). IsOf after jn (start_after k thread n)) (sym is_noted) x.is),
         subst (λ (jn : JournalValue). LeadsOn v worker 0 n (recorded after jn)) (sym is_noted) x.on,
       )
 
--- the one behind a thread that made turns
-pub behind : (start thread n : ℕ) → n ≢ 0 → thread + 1 ≡ start_behind start thread n
-behind start thread zero some = absurd (some refl)
-behind start thread (suc n) some = refl
+-- the one after a thread that made turns
+pub following : (start thread n : ℕ) → n ≢ 0 → thread + 1 ≡ start_after start thread n
+following start thread zero some = absurd (some refl)
+following start thread (suc n) some = refl

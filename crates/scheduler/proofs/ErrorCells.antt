@@ -28,7 +28,8 @@ unfolding root_at
 stack_root w = refl
 
 -- a birth that is named by the number of the next cell stands there
-stands : (n cell b : ℕ) (a : Account) (colour : Colour) → suc cell ≡ suc n → cell_at a.cells cell ≡ Taken b colour → birth_of (cell_at a.cells n) ≡ b
+stands : (n cell b : ℕ) (a : Account) (colour : Colour) → suc cell ≡ suc n → cell_at a.cells cell ≡ Taken b colour
+    → birth_of (cell_at a.cells n) ≡ b
 stands n cell b a colour same held =
     let at : cell ≡ n = cc in ap (λ c. birth_of (cell_at a.cells c)) (sym at) ∙ ap birth_of held
 

@@ -4,7 +4,7 @@ use Rattle.model.specs.declared.journals.Outcome.{Outcome}
 use Rattle.model.specs.declared.journals.Row.{Row}
 use Rattle.model.specs.declared.turns.Actor.TheVariants.{Thread}
 use Rattle.model.specs.Journals.{JournalValue, with_row}
-use Rattle.model.specs.Machines.{Recorded, after_turn_by, answer_to, answer_unless_refused, noted, told_of}
+use Rattle.model.specs.Machines.{Recorded, after_turn_by, answer_to, answer_unless_refused, noted, reported_of}
 use Rattle.model.specs.Observers.{ideal, pick_of}
 use Rattle.model.specs.Turns.{refusal}
 use Rattle.join.specs.TurnsOnCells.{outcome_on}
@@ -14,7 +14,8 @@ use Rattle.scheduler.specs.Rounds.{answered_by, picked, picked_answer, turned_by
 use Rattle.scheduler.specs.Worlds.{IsOf, recorded}
 use Rattle.scheduler.proofs.Noting.{after_is, noted_is, pick_is, refusal_is, row_fits}
 
-module _ (s : Loaded) (j : JournalValue) (k : ℕ) (is : IsOf s j k) (worker t : ℕ) (outcome : Outcome) (after : Loaded) (made : IsFirstTurn s k after (t, outcome)) where
+module _ (s : Loaded) (j : JournalValue) (k : ℕ) (is : IsOf s j k) (worker t : ℕ) (outcome : Outcome) (after : Loaded)
+    (made : IsFirstTurn s k after (t, outcome)) where
   abbrev v : Recorded
   v = recorded s j
 
@@ -33,7 +34,8 @@ module _ (s : Loaded) (j : JournalValue) (k : ℕ) (is : IsOf s j k) (worker t :
   pub first_noted : IsOf after (with_row j (row outcome)) (t + 1)
   first_noted =
       subst (λ (o : Outcome). IsOf after (with_row j (row o)) (t + 1)) (sym made.outcome)
-      (subst (λ (x : Loaded). IsOf x (with_row j (row (outcome_on s.program s.machine (Thread t)))) (t + 1)) (sym made.turn)
+      (subst (λ (x : Loaded). IsOf x (with_row j (row (outcome_on s.program s.machine (Thread t)))) (t + 1))
+      (sym made.turn)
       (noted_is s j k is (Thread t) worker allowed))
 
   turned : recorded after (with_row j (row outcome)) ≡ after_turn_by v (Thread t) worker
@@ -45,9 +47,10 @@ module _ (s : Loaded) (j : JournalValue) (k : ℕ) (is : IsOf s j k) (worker t :
   pub first_picked : recorded after (with_row j (row outcome)) ≡ picked v worker
   first_picked = turned ∙ sym (ap (turned_by v worker) pick)
 
-  answered : answer_to v (Thread t) worker ≡ told_of (ideal (after_turn_by v (Thread t) worker)).fault
+  answered : answer_to v (Thread t) worker ≡ reported_of (ideal (after_turn_by v (Thread t) worker)).fault
   unfolding answer_to
   answered = ap (answer_unless_refused (after_turn_by v (Thread t) worker)) allowed
 
-  pub first_answer : told_of (ideal (recorded after (with_row j (row outcome)))).fault ≡ picked_answer v worker
-  first_answer = ap (λ (u : Recorded). told_of (ideal u).fault) turned ∙ sym answered ∙ sym (ap (answered_by v worker) pick)
+  pub first_answer : reported_of (ideal (recorded after (with_row j (row outcome)))).fault ≡ picked_answer v worker
+  first_answer = ap (λ (u : Recorded). reported_of (ideal u).fault) turned ∙ sym answered
+      ∙ sym (ap (answered_by v worker) pick)

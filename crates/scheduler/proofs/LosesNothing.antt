@@ -13,7 +13,8 @@ use Rattle.instructions.specs.Loaded.{Loaded}
 use Rattle.scheduler.specs.LosesNothing.{LosesNothing}
 use Rattle.scheduler.specs.Worlds.{IsOf, recorded}
 
-pub nothing_lost : (state : Loaded) (journal : JournalValue) (next : ℕ) → IsOf state journal next → LosesNothing (recorded state journal)
+pub nothing_lost : (state : Loaded) (journal : JournalValue) (next : ℕ) → IsOf state journal next
+    → LosesNothing (recorded state journal)
 unfolding Holds
 nothing_lost state journal next is =
     let m = machine_of (recorded state journal) in

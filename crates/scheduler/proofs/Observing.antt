@@ -19,5 +19,7 @@ module _ (s : Loaded) (j : JournalValue) (k : ℕ) (is : IsOf s j k) where
       sym (length-map s.machine.world.threads (named_thread (birth_read s.machine.account.cells)))
       ∙ ap (λ threads. length threads) (back s j k is).threads
 
-  pub helds_is : helds_from s.machine 0 s.machine.account.cells ≡ map (shown_in (machine_of (recorded s j))) (machine_of (recorded s j)).account.cells
-  helds_is = helds_are s.program j.shape j.limits s.machine (machine_of (recorded s j)) is.holds is.joint (back s j k is)
+  pub helds_is : helds_from s.machine 0 s.machine.account.cells
+      ≡ map (shown_in (machine_of (recorded s j))) (machine_of (recorded s j)).account.cells
+  helds_is = helds_are s.program j.shape j.limits s.machine (machine_of (recorded s j)) is.holds is.joint
+      (back s j k is)

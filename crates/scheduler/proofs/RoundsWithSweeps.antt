@@ -1,5 +1,6 @@
 -- Many rounds with turns of the collector in one call: the worlds that they lead to, and what they answer.
-use Rattle.std.proofs.Common.{◌≡◌, ◌<◌, ◌≤◌, ◌+◌, ◌-◌, ◌∷◌, ℕ, zero, suc, [], length, length-append, Bool, true, false, Option, Some, None, refl, ap, sym, subst, ◌∙◌, arith}
+use Rattle.std.proofs.Common.{◌≡◌, ◌<◌, ◌≤◌, ◌+◌, ◌-◌, ◌∷◌, ℕ, zero, suc, [], length, length-append, Bool, true, false}
+use Rattle.std.proofs.Common.{Option, Some, None, refl, ap, sym, subst, ◌∙◌, arith}
 use Rattle.std.specs.Prelude.{if◌then◌else◌, is_some, nat_le}
 use Rattle.std.proofs.lemmas.Bool.{leb-true}
 use Rattle.model.specs.declared.journals.Limits.{Limits}
@@ -10,15 +11,17 @@ use Rattle.model.specs.declared.turns.Fault.{Fault}
 use Rattle.model.specs.declared.turns.Status.TheVariants.{Running}
 use Rattle.model.specs.declared.turns.Turn.TheVariants.{StepLimit}
 use Rattle.model.specs.Journals.{JournalValue, with_row}
-use Rattle.model.specs.Machines.{Recorded, after_turn_by, told_of}
+use Rattle.model.specs.Machines.{Recorded, after_turn_by, reported_of}
 use Rattle.model.specs.Observers.{ideal, is_running, status_by, status_of}
 use Rattle.model.specs.Ready.{some_is_ready, some_lives}
 use Rattle.model.specs.Turns.{refusal, refusal_after}
 use Rattle.instructions.specs.Loaded.{Loaded}
 use Rattle.instructions.specs.LoneRounds.{FirstRounds, FirstTurnIf, IsFirstRound, LedByRounds, Sweeps, rows_in, rows_of}
 use Rattle.instructions.specs.declared.lone_rounds.Rounds.{Rounds}
-use Rattle.instructions.specs.PlainRuns.{start_behind}
-use Rattle.scheduler.specs.Rounds.{LeadsInto, LeadsOn, PickedIf, after_round, after_rounds, collected_by, collections, done_by, is_done, noted_if, noted_rounds, noted_times, picked, picked_answer, rounds_answer, swept}
+use Rattle.instructions.specs.PlainRuns.{start_after}
+use Rattle.scheduler.specs.Rounds.{LeadsInto, LeadsOn, PickedIf, after_round, after_rounds, collected_by, collections}
+use Rattle.scheduler.specs.Rounds.{done_by, is_done, noted_if, noted_rounds, noted_times, picked, picked_answer}
+use Rattle.scheduler.specs.Rounds.{rounds_answer, swept}
 use Rattle.scheduler.specs.Worlds.{IsOf, recorded}
 use Rattle.scheduler.proofs.Bursts.{answer-left, times-length, times-limits, world-left}
 use Rattle.scheduler.proofs.FirstTurns.{first_answer, first_fits, first_noted, first_picked}
@@ -28,18 +31,21 @@ use Rattle.scheduler.proofs.RoundsLeft.{answer-first, round-swept, rounds-first}
 -- ---- turns of the collector
 
 -- the last of so many
-collections-last : (v : Recorded) (worker n : ℕ) → collections v worker (suc n) ≡ after_turn_by (collections v worker n) Collector worker
+collections-last : (v : Recorded) (worker n : ℕ) → collections v worker (suc n)
+    ≡ after_turn_by (collections v worker n) Collector worker
 collections-last v worker zero = refl
 collections-last v worker (suc n) = collections-last (after_turn_by v Collector worker) worker n
 
 -- nothing refuses one where there was no fault and there are rows
-unrefused : (s : Loaded) → s.machine.world.fault ≡ None → s.machine.world.rows < s.limits.steps → refusal s.program s.limits s.machine.world Collector ≡ None
+unrefused : (s : Loaded) → s.machine.world.fault ≡ None → s.machine.world.rows < s.limits.steps
+    → refusal s.program s.limits s.machine.world Collector ≡ None
 unfolding refusal
 unrefused s faultless less =
     ap (refusal_after s.program s.limits s.machine.world Collector) faultless
     ∙ ap (λ b. if b then Some StepLimit else None) (counted (nat_le s.limits.steps s.machine.world.rows) refl)
   where
-    counted : (b : Bool) → nat_le s.limits.steps s.machine.world.rows ≡ b → nat_le s.limits.steps s.machine.world.rows ≡ false
+    counted : (b : Bool) → nat_le s.limits.steps s.machine.world.rows ≡ b → nat_le s.limits.steps s.machine.world.rows
+        ≡ false
     counted true e = absurd (omega (arith, leb-true s.limits.steps s.machine.world.rows e, less))
     counted false e = e
 
@@ -48,7 +54,8 @@ record AreSwept (s : Loaded) (j : JournalValue) (k worker n : ℕ) (after : Load
   is : IsOf after (noted_times j (collected_by worker) n) k
   swept : recorded after (noted_times j (collected_by worker) n) ≡ collections (recorded s j) worker n
 
-are_swept : (s : Loaded) (j : JournalValue) (k worker : ℕ) → IsOf s j k → (n : ℕ) (after : Loaded) → length j.rows + n ≤ j.limits.steps → Sweeps s n after → AreSwept s j k worker n after
+are_swept : (s : Loaded) (j : JournalValue) (k worker : ℕ) → IsOf s j k → (n : ℕ) (after : Loaded)
+    → length j.rows + n ≤ j.limits.steps → Sweeps s n after → AreSwept s j k worker n after
 are_swept s j k worker is zero after fits sweeps = record {
   is = subst (λ (x : Loaded). IsOf x j k) (sym sweeps) is;
   swept = ap (λ (x : Loaded). recorded x j) sweeps;
@@ -59,11 +66,13 @@ are_swept s j k worker is (suc n) after fits sweeps =
     let jn = noted_times j (collected_by worker) n in
     let long = times-length j (collected_by worker) n in
     let rows = before.is.rows_are in
-    let steps : x.limits.steps ≡ j.limits.steps = ap (λ (l : Limits). l.steps) (before.is.limits_are ∙ times-limits j (collected_by worker) n) in
+    let steps : x.limits.steps ≡ j.limits.steps = ap (λ (l : Limits). l.steps) (before.is.limits_are
+    ∙ times-limits j (collected_by worker) n) in
     let allowed : refusal x.program jn.limits (ideal (recorded x jn)) Collector ≡ None =
     sym (refusal_is x jn k before.is Collector) ∙ unrefused x sweeps.2 (omega (arith, fits, long, rows, steps)) in
     record {
-      is = subst (λ (y : Loaded). IsOf y (with_row jn (collected_by worker)) k) (sym sweeps.3) (noted_is x jn k before.is Collector worker allowed);
+      is = subst (λ (y : Loaded). IsOf y (with_row jn (collected_by worker)) k) (sym sweeps.3)
+          (noted_is x jn k before.is Collector worker allowed);
       swept =
           ap (λ (y : Loaded). recorded y (with_row jn (collected_by worker))) sweeps.3
           ∙ sym (after_is x jn k before.is Collector worker allowed)
@@ -74,13 +83,14 @@ are_swept s j k worker is (suc n) after fits sweeps =
 -- ---- rounds
 
 -- where the world runs there was no fault
-faultless_running : (o : Option (Fault × ℕ)) (lives ready : Bool) → status_by (is_some o) lives ready ≡ Running → o ≡ None
+faultless_running : (o : Option (Fault × ℕ)) (lives ready : Bool) → status_by (is_some o) lives ready ≡ Running
+    → o ≡ None
 faultless_running None lives ready e = refl
 faultless_running (Some fault) lives ready e = cc
 
 -- the state after so many rounds, and the journal with their rows
 pub record Leads (s : Loaded) (j : JournalValue) (k worker gc n : ℕ) (after : Loaded) : Type 0 where
-  pub is : IsOf after (noted_rounds j worker gc n) (start_behind k 0 n)
+  pub is : IsOf after (noted_rounds j worker gc n) (start_after k 0 n)
   pub on : LeadsOn (recorded s j) worker gc n (recorded after (noted_rounds j worker gc n))
   pub room : 0 < rows_of gc n → length j.rows + rows_of gc n ≤ j.limits.steps
 
@@ -93,7 +103,8 @@ rows-up gc (suc m) (suc n) fits = let up = rows-up gc m n (omega (arith, fits)) 
 module _ (j : JournalValue) (worker gc : ℕ) where
   pub rounds-limits : (n : ℕ) → (noted_rounds j worker gc n).limits ≡ j.limits
   rounds-limits zero = refl
-  rounds-limits (suc n) = times-limits (with_row (noted_rounds j worker gc n) (done_by 0 worker)) (collected_by worker) gc ∙ rounds-limits n
+  rounds-limits (suc n) = times-limits (with_row (noted_rounds j worker gc n) (done_by 0 worker)) (collected_by worker)
+      gc ∙ rounds-limits n
 
   pub rounds-length : (n : ℕ) → length (noted_rounds j worker gc n).rows ≡ length j.rows + rows_of gc n
   rounds-length zero = omega arith
@@ -104,19 +115,23 @@ module _ (j : JournalValue) (worker gc : ℕ) where
       omega (arith, before, one, more)
 
 -- while rounds are noted there is room for the rows of one more
-pub round-fits : (j at : JournalValue) (worker gc n : ℕ) (rounds : Rounds) → at ≡ noted_rounds j worker gc n → n < rounds.made
-    → (0 < rows_in gc rounds → length j.rows + rows_in gc rounds ≤ j.limits.steps) → length at.rows + 1 + gc ≤ at.limits.steps
+pub round-fits : (j at : JournalValue) (worker gc n : ℕ) (rounds : Rounds) → at ≡ noted_rounds j worker gc n
+    → n < rounds.made
+    → (0 < rows_in gc rounds → length j.rows + rows_in gc rounds ≤ j.limits.steps)
+    → length at.rows + 1 + gc ≤ at.limits.steps
 round-fits j at worker gc n rounds is less room =
     let next : suc n ≡ n + 1 = omega arith in
     let one : rows_of gc n + 1 + gc ≡ rows_of gc (n + 1) = ap (rows_of gc) next in
     let up = rows-up gc (n + 1) rounds.made (omega (arith, less)) in
     let fits = room (omega (arith, one, up)) in
     let long = ap (λ (j : JournalValue). length j.rows) is ∙ rounds-length j worker gc n in
-    let limits = ap (λ (j : JournalValue). j.limits.steps) is ∙ ap (λ (l : Limits). l.steps) (rounds-limits j worker gc n) in
+    let limits = ap (λ (j : JournalValue). j.limits.steps) is
+    ∙ ap (λ (l : Limits). l.steps) (rounds-limits j worker gc n) in
     omega (arith, one, up, fits, long, limits)
 
 -- one round
-module _ (x : Loaded) (jn : JournalValue) (kn : ℕ) (is : IsOf x jn kn) (worker gc : ℕ) (after : Loaded) (round : IsFirstRound x kn 0 gc after) where
+module _ (x : Loaded) (jn : JournalValue) (kn : ℕ) (is : IsOf x jn kn) (worker gc : ℕ) (after : Loaded)
+    (round : IsFirstRound x kn 0 gc after) where
   abbrev u : Recorded
   u = recorded x jn
 
@@ -131,11 +146,13 @@ module _ (x : Loaded) (jn : JournalValue) (kn : ℕ) (is : IsOf x jn kn) (worker
 
   made_faultless : round.made.machine.world.fault ≡ None
   made_faultless =
-      let w = round.made.machine.world in faultless_running w.fault (some_lives w) (some_is_ready round.made.program w) round.runs
+      let w = round.made.machine.world in faultless_running w.fault (some_lives w) (some_is_ready round.made.program w)
+      round.runs
 
   round_done : is_done (picked_answer u worker) ≡ true
   round_done =
-      ap is_done (sym (first_answer x jn kn is worker 0 Done round.made round.turn) ∙ sym (answer_is round.made j_made 1 made_is) ∙ ap told_of made_faultless)
+      ap is_done (sym (first_answer x jn kn is worker 0 Done round.made round.turn)
+      ∙ sym (answer_is round.made j_made 1 made_is) ∙ ap reported_of made_faultless)
 
   round_running : status_of (picked u worker) ≡ Running
   round_running = ap status_of (sym made_picked) ∙ sym (back round.made j_made 1 made_is).status ∙ round.runs
@@ -164,10 +181,11 @@ module _ (s : Loaded) (j : JournalValue) (k : ℕ) (is : IsOf s j k) (worker gc 
   abbrev v : Recorded
   v = recorded s j
 
-  one_more : (n : ℕ) (x after : Loaded) → Leads s j k worker gc n x → IsFirstRound x (start_behind k 0 n) 0 gc after → Leads s j k worker gc (suc n) after
+  one_more : (n : ℕ) (x after : Loaded) → Leads s j k worker gc n x → IsFirstRound x (start_after k 0 n) 0 gc after
+      → Leads s j k worker gc (suc n) after
   one_more n x after leads round =
       let jn = noted_rounds j worker gc n in
-      let kn = start_behind k 0 n in
+      let kn = start_after k 0 n in
       let u = recorded x jn in
       let w = recorded after (noted_rounds j worker gc (suc n)) in
       let same : w ≡ after_round u worker gc = round_after x jn kn leads.is worker gc after round in
@@ -179,9 +197,11 @@ module _ (s : Loaded) (j : JournalValue) (k : ℕ) (is : IsOf s j k) (worker gc 
         is = (round_swept x jn kn leads.is worker gc after round).is;
         on = λ more.
             let next : suc n + more ≡ n + suc more = omega arith in (
-              ap (after_rounds v worker gc) next ∙ (leads.on (suc more)).0 ∙ rounds-first u worker gc (suc more) more refl true done
+              ap (after_rounds v worker gc) next ∙ (leads.on (suc more)).0 ∙ rounds-first u worker gc (suc more) more
+                  refl true done
                   ∙ ap (λ (w : Recorded). after_rounds w worker gc more) (sym same),
-              ap (rounds_answer v worker gc) next ∙ (leads.on (suc more)).1 ∙ answer-first u worker gc (suc more) more refl true done
+              ap (rounds_answer v worker gc) next ∙ (leads.on (suc more)).1 ∙ answer-first u worker gc (suc more) more
+                  refl true done
                   ∙ ap (λ (w : Recorded). rounds_answer w worker gc more) (sym same),
             );
         room = λ some. omega (arith, fits, long, limits);
@@ -191,36 +211,47 @@ module _ (s : Loaded) (j : JournalValue) (k : ℕ) (is : IsOf s j k) (worker gc 
   leads zero after rounds = record {
     is = subst (λ (x : Loaded). IsOf x j k) (sym rounds) is;
     on = subst (λ (x : Loaded). LeadsOn v worker gc 0 (recorded x j)) (sym rounds)
-        (λ more. let none : 0 + more ≡ more = omega arith in (ap (after_rounds v worker gc) none, ap (rounds_answer v worker gc) none));
+        (λ more. let none : 0 + more ≡ more = omega arith in (
+          ap (after_rounds v worker gc) none,
+          ap (rounds_answer v worker gc) none,
+        ));
     room = λ some. absurd (omega (arith, some));
   }
   leads (suc n) after rounds = one_more n rounds.0 after (leads n rounds.0 rounds.1) rounds.2
 
   -- whole rounds, and the thread's turn of one more, or not
   pub record Enters (rounds : Rounds) (after : Loaded) : Type 0 where
-    pub joined : IsOf after (noted_if (noted_rounds j worker gc rounds.made) worker rounds.begun) (start_behind k 0 (rounds.made + (if rounds.begun then 1 else 0)))
-    pub into : LeadsInto v worker gc rounds (recorded after (noted_if (noted_rounds j worker gc rounds.made) worker rounds.begun))
+    pub joined : IsOf after (noted_if (noted_rounds j worker gc rounds.made) worker rounds.begun)
+        (start_after k 0 (rounds.made + (if rounds.begun then 1 else 0)))
+    pub into : LeadsInto v worker gc rounds
+        (recorded after (noted_if (noted_rounds j worker gc rounds.made) worker rounds.begun))
     pub room : 0 < rows_in gc rounds → length j.rows + rows_in gc rounds ≤ j.limits.steps
 
   record IsBegun (n : ℕ) (x : Loaded) (begun : Bool) (after : Loaded) : Type 0 where
-    joined : IsOf after (noted_if (noted_rounds j worker gc n) worker begun) (start_behind k 0 (n + (if begun then 1 else 0)))
-    into : PickedIf (recorded x (noted_rounds j worker gc n)) worker begun (recorded after (noted_if (noted_rounds j worker gc n) worker begun))
-    room : 0 < rows_of gc n + (if begun then 1 else 0) → length j.rows + (rows_of gc n + (if begun then 1 else 0)) ≤ j.limits.steps
+    joined : IsOf after (noted_if (noted_rounds j worker gc n) worker begun)
+        (start_after k 0 (n + (if begun then 1 else 0)))
+    into : PickedIf (recorded x (noted_rounds j worker gc n)) worker begun
+        (recorded after (noted_if (noted_rounds j worker gc n) worker begun))
+    room : 0 < rows_of gc n + (if begun then 1 else 0)
+        → length j.rows + (rows_of gc n + (if begun then 1 else 0)) ≤ j.limits.steps
 
-  begun_as : (n : ℕ) (x : Loaded) → Leads s j k worker gc n x → (begun : Bool) (after : Loaded) → FirstTurnIf x (start_behind k 0 n) 0 begun after → IsBegun n x begun after
+  begun_as : (n : ℕ) (x : Loaded) → Leads s j k worker gc n x → (begun : Bool) (after : Loaded)
+      → FirstTurnIf x (start_after k 0 n) 0 begun after → IsBegun n x begun after
   begun_as n x leads true after turn =
       let jn = noted_rounds j worker gc n in
-      let kn = start_behind k 0 n in
-      let still : IsOf after (with_row jn (done_by 0 worker)) 1 = first_noted x jn kn leads.is worker 0 Done after turn.0 in
+      let kn = start_after k 0 n in
+      let still : IsOf after (with_row jn (done_by 0 worker)) 1 = first_noted x jn kn leads.is worker 0 Done after
+      turn.0 in
       let fits = first_fits x jn kn leads.is worker 0 Done after turn.0 in
       let long = rounds-length j worker gc n in
       let limits = ap (λ (l : Limits). l.steps) (rounds-limits j worker gc n) in
       let next : suc n ≡ n + 1 = omega arith in
       record {
-        joined = subst (λ (m : ℕ). IsOf after (with_row jn (done_by 0 worker)) (start_behind k 0 m)) next still;
+        joined = subst (λ (m : ℕ). IsOf after (with_row jn (done_by 0 worker)) (start_after k 0 m)) next still;
         into = (
           first_picked x jn kn leads.is worker 0 Done after turn.0,
-          ap is_done (sym (first_answer x jn kn leads.is worker 0 Done after turn.0) ∙ sym (answer_is after (with_row jn (done_by 0 worker)) 1 still) ∙ ap told_of turn.1),
+          ap is_done (sym (first_answer x jn kn leads.is worker 0 Done after turn.0)
+              ∙ sym (answer_is after (with_row jn (done_by 0 worker)) 1 still) ∙ ap reported_of turn.1),
         );
         room = λ some. omega (arith, fits, long, limits);
       }
@@ -228,7 +259,8 @@ module _ (s : Loaded) (j : JournalValue) (k : ℕ) (is : IsOf s j k) (worker gc 
       let jn = noted_rounds j worker gc n in
       let none : n ≡ n + 0 = omega arith in
       record {
-        joined = subst (λ (m : ℕ). IsOf after jn (start_behind k 0 m)) none (subst (λ (y : Loaded). IsOf y jn (start_behind k 0 n)) (sym turn) leads.is);
+        joined = subst (λ (m : ℕ). IsOf after jn (start_after k 0 m)) none
+            (subst (λ (y : Loaded). IsOf y jn (start_after k 0 n)) (sym turn) leads.is);
         into = ap (λ (y : Loaded). recorded y jn) turn;
         room = λ some. let room = leads.room (omega (arith, some)) in omega (arith, room);
       }
@@ -252,25 +284,29 @@ pub all-whole : (begun : Bool) (made most : ℕ) → (begun ≡ true → made < 
 all-whole true made most begun none = let more = begun refl in absurd (omega (arith, more, none))
 all-whole false made most begun none = refl
 
-module _ (v w : Recorded) (worker gc : ℕ) (rounds : Rounds) (left : ℕ) (into : LeadsInto v worker gc rounds w) (fits : rounds.made ≤ left) where
-  -- behind whole ones
+module _ (v w : Recorded) (worker gc : ℕ) (rounds : Rounds) (left : ℕ) (into : LeadsInto v worker gc rounds w)
+    (fits : rounds.made ≤ left) where
+  -- after whole ones
   module _ (whole : rounds.begun ≡ false) where
     same : w ≡ into.0
     same = subst (λ b. PickedIf into.0 worker b w) whole into.2
 
     pub world-whole : after_rounds v worker gc left ≡ after_rounds w worker gc (left - rounds.made)
-    world-whole = world-left v into.0 worker gc rounds.made left into.1 fits ∙ ap (λ (x : Recorded). after_rounds x worker gc (left - rounds.made)) (sym same)
+    world-whole = world-left v into.0 worker gc rounds.made left into.1 fits
+        ∙ ap (λ (x : Recorded). after_rounds x worker gc (left - rounds.made)) (sym same)
 
     pub answer-whole : rounds_answer v worker gc left ≡ rounds_answer w worker gc (left - rounds.made)
-    answer-whole = answer-left v into.0 worker gc rounds.made left into.1 fits ∙ ap (λ (x : Recorded). rounds_answer x worker gc (left - rounds.made)) (sym same)
+    answer-whole = answer-left v into.0 worker gc rounds.made left into.1 fits
+        ∙ ap (λ (x : Recorded). rounds_answer x worker gc (left - rounds.made)) (sym same)
 
-  -- behind one of which the thread's turn was made
+  -- after one of which the thread's turn was made
   module _ (begun : rounds.begun ≡ true) (m : ℕ) (next : left - rounds.made ≡ suc m) where
     turn : PickedIf into.0 worker true w
     turn = subst (λ b. PickedIf into.0 worker b w) begun into.2
 
     round : after_round into.0 worker gc ≡ swept w worker gc
-    round = round-swept into.0 worker gc (suc m) m refl true turn.1 refl ∙ ap (λ (x : Recorded). swept x worker gc) (sym turn.0)
+    round = round-swept into.0 worker gc (suc m) m refl true turn.1 refl ∙ ap (λ (x : Recorded). swept x worker gc)
+        (sym turn.0)
 
     pub world-begun : after_rounds v worker gc left ≡ after_rounds (swept w worker gc) worker gc m
     world-begun =
@@ -292,8 +328,10 @@ workers-times j row (suc n) = workers-times j row n
 
 pub workers-rounds : (j : JournalValue) (worker gc n : ℕ) → (noted_rounds j worker gc n).workers ≡ j.workers
 workers-rounds j worker gc zero = refl
-workers-rounds j worker gc (suc n) = workers-times (with_row (noted_rounds j worker gc n) (done_by 0 worker)) (collected_by worker) gc ∙ workers-rounds j worker gc n
+workers-rounds j worker gc (suc n) = workers-times (with_row (noted_rounds j worker gc n) (done_by 0 worker))
+    (collected_by worker) gc ∙ workers-rounds j worker gc n
 
-pub workers-noted : (j : JournalValue) (worker gc n : ℕ) (begun : Bool) → (noted_if (noted_rounds j worker gc n) worker begun).workers ≡ j.workers
+pub workers-noted : (j : JournalValue) (worker gc n : ℕ) (begun : Bool)
+    → (noted_if (noted_rounds j worker gc n) worker begun).workers ≡ j.workers
 workers-noted j worker gc n true = workers-rounds j worker gc n
 workers-noted j worker gc n false = workers-rounds j worker gc n

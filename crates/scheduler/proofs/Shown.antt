@@ -17,8 +17,10 @@ module _ (v : Recorded) (w : World) (sound : LosesNothing v) where
   alike : Shows cells w → Alike (ideal v) w
   alike = shown_alike cells (ideal v) w sound.shown
 
-  pub shows_decides : (beside threads slots objects : Bool) → Decides beside (SameBeside (ideal v) w) → Decides threads ((ideal v).threads ≡ w.threads)
-      → Decides slots ((ideal v).statics.fields ≡ w.statics.fields) → Decides objects (AreHeld w (map (shown_in (machine_of v)) (machine_of v).account.cells))
+  pub shows_decides : (beside threads slots objects : Bool) → Decides beside (SameBeside (ideal v) w)
+      → Decides threads ((ideal v).threads ≡ w.threads)
+      → Decides slots ((ideal v).statics.fields ≡ w.statics.fields)
+      → Decides objects (AreHeld w (map (shown_in (machine_of v)) (machine_of v).account.cells))
       → Decides (((beside && threads) && slots) && objects) (Shows cells w)
   shows_decides true true true true b t s o =
       let rest = b.0 refl in (
@@ -34,8 +36,14 @@ module _ (v : Recorded) (w : World) (sound : LosesNothing v) where
         }),
         λ e. refl,
       )
-  shows_decides false threads slots objects b t s o = (λ e. absurd (cc), λ e. (let a = alike e in b.1 (a.states, a.output, a.fault, a.rows, a.births)))
+  shows_decides false threads slots objects b t s o = (
+    λ e. absurd (cc),
+    λ e. (let a = alike e in b.1 (a.states, a.output, a.fault, a.rows, a.births)),
+  )
   shows_decides true false slots objects b t s o = (λ e. absurd (cc), λ e. t.1 (alike e).threads)
   shows_decides true true false objects b t s o = (λ e. absurd (cc), λ e. s.1 (alike e).slots)
-  shows_decides true true true false b t s o =
-      (λ e. absurd (cc), λ e. o.1 (objects_held v.journal.shape (machine_of v) w sound.kept sound.shown (alike e).objects))
+  shows_decides true true true false b t s o = (
+    λ e. absurd (cc),
+    λ e. o.1 (objects_held v.journal.shape (machine_of v) w sound.kept sound.shown
+        (alike e).objects),
+  )

@@ -13,11 +13,13 @@ use Rattle.scheduler.specs.Worlds.{recorded, IsOf}
 abbrev of_rows : JournalValue → List Row → ℕ → JournalValue
 of_rows j rows workers = record { shape = j.shape; limits = j.limits; workers = workers; rows = rows }
 
-same_machine : (s : Loaded) (j : JournalValue) (workers : ℕ) → machine_of (recorded s j) ≡ machine_of (recorded s (of_rows j j.rows workers))
+same_machine : (s : Loaded) (j : JournalValue) (workers : ℕ) → machine_of (recorded s j)
+    ≡ machine_of (recorded s (of_rows j j.rows workers))
 unfolding machine_of
 same_machine s j workers = refl
 
-pub workers_set : (s : Loaded) (j : JournalValue) (next workers : ℕ) → IsOf s j next → j.rows ≡ [] → IsOf s (blank j.shape j.limits workers) next
+pub workers_set : (s : Loaded) (j : JournalValue) (next workers : ℕ) → IsOf s j next → j.rows ≡ []
+    → IsOf s (blank j.shape j.limits workers) next
 workers_set s j next workers is empty =
     let same : machine_of (recorded s j) ≡ machine_of (recorded s (blank j.shape j.limits workers)) =
     same_machine s j workers ∙ ap (λ (rows : List Row). machine_of (recorded s (of_rows j rows workers))) empty in

@@ -10,11 +10,11 @@ use Rattle.model.specs.Effects.Choice.{NewObject, NoRoom as NoneHasRoom}
 use Rattle.model.specs.Effects.{Choice}
 
 -- the choice that an outcome tells; a fault tells none
-abbrev pub told_choice : Outcome → Choice
-told_choice Done = NewObject
-told_choice Object = NewObject
-told_choice NoRoom = NoneHasRoom
-told_choice Fault = NewObject
+abbrev pub reported_choice : Outcome → Choice
+reported_choice Done = NewObject
+reported_choice Object = NewObject
+reported_choice NoRoom = NoneHasRoom
+reported_choice Fault = NewObject
 
 -- a row that isn't at fault
 abbrev pub IsNoFault : Row → Type 0

@@ -13,7 +13,8 @@ pub record LosesNothing (v : Recorded) : Type 0 where
   pub kept : KeepsReachable v.journal.shape (machine_of v).world (machine_of v).account
   pub coloured : ThreeColour (machine_of v).world (machine_of v).account
   -- the free lists know of room exactly where a free cell of the heap has it
-  pub room : (words : ℕ) → Room v.journal.shape (machine_of v).account words ↔ IsTrue (has_room (machine_of v).account words)
+  pub room : (words : ℕ) → Room v.journal.shape (machine_of v).account words
+      ↔ IsTrue (has_room (machine_of v).account words)
   -- and by that a thread's next turn finds room or not
   pub chosen : ChoosesByRoom v.program v.journal.shape v.journal.limits (machine_of v)
   -- with each object in its birth's cell, the cells show threads, static fields, output and what paths lead to

@@ -15,7 +15,8 @@ use Rattle.scheduler.specs.declared.replaying.ReplayError.TheVariants.{Row as At
 abbrev pub AreMade : List ClassListing → HeapShape → Limits → Machine → List Row → Type 0
 AreMade program shape limits m [] = Unit {0}
 AreMade program shape limits m (row ∷ rows) =
-    (row_by program limits m row.actor row.worker ≡ Some row) × AreMade program shape limits (advance program shape limits m row) rows
+    (row_by program limits m row.actor row.worker ≡ Some row)
+    × AreMade program shape limits (advance program shape limits m row) rows
 
 -- the rows are those that a run of the program makes, from its opening on
 abbrev pub AreRun : List ClassListing → JournalValue → List Row → Type 0
@@ -44,8 +45,8 @@ pub record DiffersFirst (v : Recorded) (number : ℕ) : Type 0 where
   pub made : AreRun v.program v.journal (take before v.journal.rows)
   pub differs : row_for (front v before) row.actor row.worker ≢ Some row
 
--- why a program and a journal give no world: a row differs, or the program's opening frames don't fit a thread. Or want of
--- memory
+-- why a program and a journal give no world: a row differs, or the program's opening frames don't fit a thread. Or want
+-- of memory
 abbrev pub Excuses : Recorded → ReplayError → Type 0
 Excuses v (AtRow number) = DiffersFirst v number
 Excuses v Frames = (opening_fits v.program ≡ false) × (refusal_of v.program ≡ None)

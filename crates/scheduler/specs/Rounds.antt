@@ -49,19 +49,22 @@ is_done StepLimit = false
 
 -- one round
 abbrev pub after_round : Recorded → ℕ → ℕ → Recorded
-after_round v worker gc = if is_done (picked_answer v worker) then swept (picked v worker) worker gc else picked v worker
+after_round v worker gc = if is_done (picked_answer v worker) then swept (picked v worker) worker gc
+    else picked v worker
 
 -- so many rounds, the first of which whose thread's turn isn't done being the last
 abbrev pub after_rounds : Recorded → ℕ → ℕ → ℕ → Recorded
 after_rounds v worker gc zero = v
 after_rounds v worker gc (suc n) =
-    if is_done (picked_answer v worker) then after_rounds (after_round v worker gc) worker gc n else after_round v worker gc
+    if is_done (picked_answer v worker) then after_rounds (after_round v worker gc) worker gc n
+    else after_round v worker gc
 
 -- what the last thread's turn answers, Done where no round was asked for
 abbrev pub rounds_answer : Recorded → ℕ → ℕ → ℕ → Turn
 rounds_answer v worker gc zero = Done
 rounds_answer v worker gc (suc n) =
-    if is_done (picked_answer v worker) then rounds_answer (after_round v worker gc) worker gc n else picked_answer v worker
+    if is_done (picked_answer v worker) then rounds_answer (after_round v worker gc) worker gc n
+    else picked_answer v worker
 
 -- ---- many rounds in one call
 
@@ -74,8 +77,8 @@ abbrev pub noted_times : JournalValue → Row → ℕ → JournalValue
 noted_times journal row zero = journal
 noted_times journal row (suc n) = with_row (noted_times journal row n) row
 
--- so many rounds by a worker lead from one world to another, and each thread's turn is done: with any rounds more, both lead to
--- the same world and answer the same
+-- so many rounds by a worker lead from one world to another, and each thread's turn is done: with any rounds more, both
+-- lead to the same world and answer the same
 abbrev pub LeadsOn : Recorded → ℕ → ℕ → ℕ → Recorded → Type 0
 LeadsOn v worker gc n w =
     (more : ℕ) → (after_rounds v worker gc (n + more) ≡ after_rounds w worker gc more)

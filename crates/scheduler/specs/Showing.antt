@@ -38,4 +38,5 @@ AreHeld w helds = (k : ℕ) (held : Held) → slice_get helds k ≡ Some (Some h
 -- what is no thread, static field or object
 abbrev pub SameBeside : World → World → Type 0
 SameBeside v w =
-    (v.statics.states ≡ w.statics.states) × (v.output ≡ w.output) × (v.fault ≡ w.fault) × (v.rows ≡ w.rows) × (next_birth v ≡ next_birth w)
+    (v.statics.states ≡ w.statics.states) × (v.output ≡ w.output) × (v.fault ≡ w.fault) × (v.rows ≡ w.rows)
+    × (next_birth v ≡ next_birth w)

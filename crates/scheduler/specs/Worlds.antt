@@ -11,9 +11,9 @@ use Rattle.scheduler.specs.Replaying.{IsMade}
 abbrev pub recorded : Loaded → JournalValue → Recorded
 recorded state journal = record { program = state.program; journal = journal }
 
--- the state's machine on cells is joined to the ideal machine for which its program and the journal stand, which meets the
--- invariant of three colours, and the thread to look at first is the one behind the last; a run of the program made the
--- journal
+-- the state's machine on cells is joined to the ideal machine for which its program and the journal stand, which meets
+-- the invariant of three colours, and the thread to look at first is the one after the last; a run of the program made
+-- the journal
 pub record IsOf (state : Loaded) (journal : JournalValue) (next : ℕ) : Type 0 where
   pub limits_are : state.limits ≡ journal.limits
   pub shape_is : state.shape ≡ journal.shape

@@ -7,7 +7,7 @@ ghost use Rattle.model.specs.Journals.{AreOfWorkers};
 ghost use Rattle.model.specs.Machines.{noted, row_for};
 ghost use Rattle.ideal_run.specs.Effected.{choice_in};
 ghost use Rattle.ideal_run.specs.Runs.{opening_run};
-ghost use Rattle.scheduler.specs.Checking.{IsNoFault, reference_of, told_choice};
+ghost use Rattle.scheduler.specs.Checking.{IsNoFault, reference_of, reported_choice};
 ghost use Rattle.scheduler.specs.Replaying.{IsMade, with_all};
 
 use crate::replaying::SoundJournal;
@@ -20,8 +20,8 @@ use model::row_runs::Rows;
 use std::alloc::{AllocError, Global};
 
 /// The choice that an outcome tells: room, where the turn asked for no cell or was at fault.
-fn told_choice(outcome: Outcome) -> Choice
-    ensures { choice_in result ≡ told_choice outcome }
+fn reported_choice(outcome: Outcome) -> Choice
+    ensures { choice_in result ≡ reported_choice outcome }
 {
     match outcome {
         Outcome::NoRoom => Choice::NoRoom,
@@ -64,12 +64,12 @@ fn made_again<'a>(
     let journal = world.journal();
     let mut run = reference(alloc, program, journal.limits())?;
     for row in journal.rows() {
-        run.turn(row.actor, told_choice(row.outcome))?;
+        run.turn(row.actor, reported_choice(row.outcome))?;
     }
     Ok(run)
 }
 
-/// Makes the turn of a row at fault behind the rows of a world. Such a row doesn't tell whether there was room: there
+/// Makes the turn of a row at fault after the rows of a world. Such a row doesn't tell whether there was room: there
 /// was, if the turn comes to a fault with room.
 fn follow_fault<'a>(
     run: &mut Ideal<'a>,
@@ -96,7 +96,7 @@ fn follow_fault<'a>(
     }
 }
 
-/// Makes the turn of a row behind the rows of a world.
+/// Makes the turn of a row after the rows of a world.
 fn follow<'a>(
     run: &mut Ideal<'a>,
     alloc: Global,
@@ -111,7 +111,7 @@ fn follow<'a>(
     if is_at_fault(row) {
         return follow_fault(run, alloc, program, world, row);
     }
-    run.turn(row.actor, told_choice(row.outcome))?;
+    run.turn(row.actor, reported_choice(row.outcome))?;
     Ok(())
 }
 
@@ -124,7 +124,7 @@ fn agrees(world: &World, run: &Ideal<'_>) -> Result<bool, AllocError>
     shows(world, run)
 }
 
-/// Makes the turn of a row that a run made, in a world and behind its rows in the ideal run. Whether the world's cells
+/// Makes the turn of a row that a run made, in a world and after its rows in the ideal run. Whether the world's cells
 /// show the ideal run then.
 fn agrees_after<'a>(
     world: &mut World,

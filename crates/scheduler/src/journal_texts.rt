@@ -3,6 +3,6 @@
 pub mod errors;
 mod heads;
 pub mod reading;
-mod rows;
+mod row_lines;
 mod words;
 pub mod writing;

@@ -52,8 +52,8 @@ impl SoundJournal for StoredJournal {
     }
 }
 
-/// The row behind so many, if there is one: the last.
-fn row_behind(rows: Rows<'_>, before: usize) -> Option<Row>
+/// The row after so many, if there is one: the last.
+fn row_after(rows: Rows<'_>, before: usize) -> Option<Row>
     requires { length rows ≤ before + 1 }
     ensures { result ≡ slice_get rows.entry before }
 {
@@ -74,7 +74,7 @@ fn turn_row(world: &mut World, actor: Actor, worker: u8) -> Option<Row>
     world.is_made();
     let before = world.journal().rows().len();
     let _ = world.turn_by(actor, worker);
-    row_behind(world.journal().rows(), before)
+    row_after(world.journal().rows(), before)
 }
 
 /// Whether a turn made this row.

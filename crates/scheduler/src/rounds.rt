@@ -57,8 +57,8 @@ impl World {
         }
     }
 
-    /// The same behind so many turns in one call: where there were any, the next step is none of those.
-    fn turn_behind(&mut self, worker: u8, made: u32) -> Turn
+    /// The same after so many turns in one call: where there were any, the next step is none of those.
+    fn turn_after(&mut self, worker: u8, made: u32) -> Turn
         requires { worker < self.old.journal.workers }
         ensures world { self.new ≡ picked self.old worker }
         ensures answer { result ≡ picked_answer self.old worker }
@@ -93,14 +93,14 @@ impl World {
         }
     }
 
-    /// One round, behind so many in one call; what its thread's turn answers.
-    fn round_behind(&mut self, worker: u8, gc: u32, made: u32) -> Turn
+    /// One round, after so many in one call; what its thread's turn answers.
+    fn another_round(&mut self, worker: u8, gc: u32, made: u32) -> Turn
         requires { worker < self.old.journal.workers }
         ensures world { self.new ≡ after_round self.old worker gc }
         ensures answer { result ≡ picked_answer self.old worker }
         ensures workers { self.new.journal.workers ≡ self.old.journal.workers }
     {
-        let answer = self.turn_behind(worker, made);
+        let answer = self.turn_after(worker, made);
         if is_done(answer) {
             self.sweep(worker, gc);
         }
@@ -121,7 +121,7 @@ impl World {
             if left == 0 {
                 return Turn::Done;
             }
-            let answer = self.turn_behind(worker, made);
+            let answer = self.turn_after(worker, made);
             if !is_done(answer) {
                 return answer;
             }
@@ -148,7 +148,7 @@ impl World {
                 left -= 1;
                 continue;
             }
-            let answer = self.round_behind(worker, gc, rounds.made);
+            let answer = self.another_round(worker, gc, rounds.made);
             if !is_done(answer) {
                 return answer;
             }

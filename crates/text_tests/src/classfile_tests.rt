@@ -13,7 +13,7 @@ fn e(alloc: Global) -> Result<Vec<u8>, AllocError> {
     hex(alloc, E)
 }
 
-/// How many bytes stand behind the head of these, and the head as it is written again.
+/// How many bytes stand after the head of these, and the head as it is written again.
 fn head_again(alloc: Global, digits: &str) -> Result<(usize, Vec<u8>), ReadError> {
     let bytes = hex(alloc, digits)?;
     let (head, rest) = ClassHead::read(alloc, &bytes)?;
@@ -24,8 +24,8 @@ fn head_again(alloc: Global, digits: &str) -> Result<(usize, Vec<u8>), ReadError
 
 /// Whether the head of E ends where it does, and is written as it is.
 fn is_head_of_e(alloc: Global) -> Result<bool, ReadError> {
-    let (behind, written) = head_again(alloc, E)?;
-    Ok(behind == 31 && e(alloc)?.get(..69) == Some(written.as_slice()))
+    let (following, written) = head_again(alloc, E)?;
+    Ok(following == 31 && e(alloc)?.get(..69) == Some(written.as_slice()))
 }
 
 /// A class A over O with the static field `x I`, which is deprecated and has a value.
@@ -35,8 +35,8 @@ const A: &str = "cafebabe 0000 0031 000a 01000141 070001 0100014f 070003 0100017
 
 /// Whether the head is written so: the attribute Deprecated is left out, and the count of attributes is one less.
 fn is_shorter(alloc: Global) -> Result<bool, ReadError> {
-    let (behind, written) = head_again(alloc, A)?;
-    Ok(behind == 4 && written.len() == 92 && written.get(83) == Some(&1))
+    let (following, written) = head_again(alloc, A)?;
+    Ok(following == 4 && written.len() == 92 && written.get(83) == Some(&1))
 }
 
 #[test]

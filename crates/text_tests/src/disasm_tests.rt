@@ -42,7 +42,7 @@ fn has_tree(alloc: Global, digits: &str) -> Result<bool, Fail> {
     Ok(is_of_e(&tree(alloc, &file)?))
 }
 
-/// Where the instructions of a listing's first method stand, each with that behind it.
+/// Where the instructions of a listing's first method stand, each with that after it.
 fn has_pcs(listing: &Listing, pcs: &[(u16, u16)]) -> bool {
     let Some(code) = listing
         .methods

@@ -135,11 +135,11 @@ const METHOD_DESCRIPTORS: &[(&str, Option<usize>, Option<Kind>)] = &[
 ];
 
 fn describes_method(word: &[u8], units: Option<usize>, kind: Option<Kind>) -> bool {
-    let is_told = match units {
+    let is_reported = match units {
         Some(units) => argument_units(word) == units && result_kind(word) == kind,
         None => true,
     };
-    is_told && arguments_of(word) == units
+    is_reported && arguments_of(word) == units
 }
 
 fn names_are_kept(alloc: Global) -> Result<bool, AllocError> {

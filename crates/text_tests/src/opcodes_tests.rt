@@ -8,7 +8,7 @@ use model::values::Kind;
 use opcodes::{Code, Instr, OpError, decode, encode, one_spelling};
 use std::alloc::{AllocError, Global};
 
-/// The code of a method with each opcode once, and each form behind `wide`: constants first, then locals and so on, as
+/// The code of a method with each opcode once, and each form after `wide`: constants first, then locals and so on, as
 /// `javap -c` lists it.
 const CODE: &str = "
     00 01 02 03 04 05 06 07 08 09 0a 1a 1b 1c 1d 1e 1f 20 21 2a 2b 2c 2d 2e 2f 32 33 34 35 3b 3c 3d 3e 3f 40
@@ -131,11 +131,11 @@ const FAULTY: &[(&str, OpError)] = &[
 ];
 
 /// Whether these errors, one after another, are told so.
-fn codes_are_told(alloc: Global) -> Result<bool, AllocError> {
+fn codes_are_reported(alloc: Global) -> Result<bool, AllocError> {
     let (opcode, operand, branch) = (OpError::Opcode, OpError::Operand, OpError::Branch);
     let (switch, length, memory) = (OpError::Switch, OpError::Length, OpError::Memory);
-    let told = format!(in alloc; "{opcode} {operand} {branch} {switch} {length} {memory}")?;
-    Ok(told.as_str() == "O1 O2 O3 O4 O5 O6")
+    let reported = format!(in alloc; "{opcode} {operand} {branch} {switch} {length} {memory}")?;
+    Ok(reported.as_str() == "O1 O2 O3 O4 O5 O6")
 }
 
 /// Whether each opcode is read where `javap` sees it, and written again.
@@ -163,5 +163,5 @@ fn instructions_are_refused(rt: HostRuntime) {
         encode(rt.alloc(), &[]).err() == Some(OpError::Length),
         "nothing"
     );
-    assert!(rt; codes_are_told(rt.alloc()) == Ok(true), "codes");
+    assert!(rt; codes_are_reported(rt.alloc()) == Ok(true), "codes");
 }

@@ -8,7 +8,7 @@ use model::names::{Member, Name};
 use pool::{AddError, Pool, PoolBuilder, ReadError};
 use std::alloc::{AllocError, Global};
 
-/// The pool of a class E over java/lang/Object with a method `main()V` with code, and four bytes behind it.
+/// The pool of a class E over java/lang/Object with a method `main()V` with code, and four bytes after it.
 const BYTES: [u8; 60] = [
     0, 9, 1, 0, 1, b'E', 7, 0, 1, 1, 0, 16, b'j', b'a', b'v', b'a', b'/', b'l', b'a', b'n', b'g',
     b'/', b'O', b'b', b'j', b'e', b'c', b't', 7, 0, 3, 1, 0, 4, b'm', b'a', b'i', b'n', 1, 0, 3,
@@ -33,7 +33,7 @@ fn has_bytes(alloc: Global, pool: &Pool, wanted: &[u8]) -> Result<bool, AllocErr
     Ok(pool.check().is_ok() && bytes.as_slice() == wanted)
 }
 
-/// Whether E's pool is read, up to the bytes behind it, and written again.
+/// Whether E's pool is read, up to the bytes after it, and written again.
 fn comes_back(alloc: Global) -> Result<bool, ReadError> {
     let (pool, rest) = Pool::read(alloc, &BYTES)?;
     let is_whole = rest == [0, 33, 0, 2].as_slice() && is_of_e(&pool);
@@ -137,7 +137,7 @@ const NO_NAME: &[(Word, u16)] = &[(Word::Class(2), 1), (Word::Text("E/"), 2)];
 
 const ITSELF: &[(Word, u16)] = &[(Word::Field(1, 1), 1)];
 
-/// A byte past 7F is told before the class that names nothing.
+/// A byte past 7F is reported before the class that names nothing.
 const PAST_7F: &[(Word, u16)] = &[(Word::Class(9), 1), (Word::Text("\u{80}"), 2)];
 
 const TEXT: &[(Word, u16)] = &[(Word::Text("E/"), 1)];

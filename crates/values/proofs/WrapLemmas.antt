@@ -8,7 +8,8 @@ use Rattle.std.specs.Int.RustNames.{FitsSigned, bit_and, int_div, unsigned_abs}
 use mir.Val.{bits, hbits}
 
 -- the bits of a number of less than 2 to the width are what is left of it
-pub int_wrap-small : (w : Width) (z : ℤ) → unsigned_abs z < 2 ^ bits w → cast_signed w (cast_unsigned w z) ≡ int_wrap w z
+pub int_wrap-small : (w : Width) (z : ℤ) → unsigned_abs z < 2 ^ bits w → cast_signed w (cast_unsigned w z) ≡
+    int_wrap w z
 unfolding int_wrap
 int_wrap-small w (pos n) small = sym (ap (cast_signed w) (mod-eq_of_lt small))
 int_wrap-small w (negsuc n) small =
@@ -46,7 +47,8 @@ wrapping_div_is w a b fits =
     int_wrap-small w (int_div a b) (omega arith)
 
 -- what is left of a long at 32 bits
-pub int_wrap-long : (a : ℤ) → FitsSigned w64 a → cast_signed w32 (bit_and (cast_unsigned w64 a) 4294967295) ≡ int_wrap w32 a
+pub int_wrap-long : (a : ℤ) → FitsSigned w64 a → cast_signed w32 (bit_and (cast_unsigned w64 a) 4294967295) ≡
+    int_wrap w32 a
 unfolding int_wrap
 int_wrap-long (pos n) fits = ap (cast_signed w32) (and_mask n 32)
 int_wrap-long (negsuc n) fits = ap (cast_signed w32) (and_mask (2 ^ 64 - suc n) 32 ∙ omega arith)

@@ -28,9 +28,9 @@ abbrev pub value_of : Slot → Value
 value_of slot = value_in (entry_of slot)
 
 -- the same of a slot that was looked for
-abbrev pub value_told : Result Slot Fault → Result Value Fault
-value_told (Ok slot) = Ok (value_of slot)
-value_told (Err e) = Err e
+abbrev pub value_reported : Result Slot Fault → Result Value Fault
+value_reported (Ok slot) = Ok (value_of slot)
+value_reported (Err e) = Err e
 
 -- why a local's entry isn't of the kind that is wanted
 abbrev pub wrong_entry : Entry → Fault

@@ -154,13 +154,13 @@ fn goes_so<L: Ledger, R: Wait>(
     requires empty { world.journal.rows ≡ [] }
 {
     let (hall, mut shares) = Hall::<L>::new(alloc, blank, world, day.roles)?;
-    let is_told = are_answered(rt, &hall, &mut shares, day.turns);
+    let is_reported = are_answered(rt, &hall, &mut shares, day.turns);
     let is_counted = counts(&shares) == Some(day.made);
     if shares.len() != day.roles.len() {
         return Ok(false);
     }
     let world = hall.close(shares)?;
-    Ok(is_told & is_counted & has_journal(&world, day.roles.len(), day.rows))
+    Ok(is_reported & is_counted & has_journal(&world, day.roles.len(), day.rows))
 }
 
 /// The world in which a day begins.
@@ -222,7 +222,7 @@ fn codes(alloc: Global) -> Result<String, AllocError> {
 
 #[test]
 fn one_to_nine_roles_have_a_hall(rt: HostRuntime) -> Result<(), Fail> {
-    for (roles, told) in [(0usize, "H1"), (1, ""), (9, ""), (10, "H1")] {
+    for (roles, reported) in [(0usize, "H1"), (1, ""), (9, ""), (10, "H1")] {
         let world = world_of_nops(rt.alloc(), 1, 1)?;
         let all = [Role::Carrier; 10];
         let roles = &all[..roles];
@@ -235,7 +235,7 @@ fn one_to_nine_roles_have_a_hall(rt: HostRuntime) -> Result<(), Fail> {
             Err(HallError::Roles) => "H1",
             Err(_) => "another",
         };
-        assert_eq!(rt; answer, told);
+        assert_eq!(rt; answer, reported);
     }
     assert!(rt; codes(rt.alloc())?.as_str() == "H1 H2 H3 H4");
     Ok(())

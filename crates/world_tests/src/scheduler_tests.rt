@@ -46,7 +46,7 @@ fn answers(world: &mut World, turns: &[(Actor, Turn)]) -> bool {
 }
 
 /// The status, the thread that is picked, whether the output is full, and the fault with its thread.
-fn told(world: &World) -> (Status, Option<u8>, bool, Option<(Fault, u8)>) {
+fn reported(world: &World) -> (Status, Option<u8>, bool, Option<(Fault, u8)>) {
     (
         world.status(),
         world.pick(),
@@ -99,13 +99,13 @@ fn has_ended(world: &World, by: Option<&str>) -> bool {
 fn a_sum_wraps(world: &mut World) -> bool {
     world.run(&[MAIN; 3]);
     stands_at(world, 4, &[Value::Int(-2_147_483_648)])
-        && told(world) == (Status::Running, Some(0), false, None)
+        && reported(world) == (Status::Running, Some(0), false, None)
 }
 
 fn twelve_bytes_take_the_sum(world: &mut World) -> bool {
     world.run(&[MAIN; 5]);
     has(world, &[row(MAIN, Outcome::Done); 5], b"-2147483648\n")
-        && told(world) == (Status::Finished, None, false, None)
+        && reported(world) == (Status::Finished, None, false, None)
         && has_ended(world, None)
 }
 
@@ -120,7 +120,7 @@ fn eleven_bytes_do_not_take_the_sum(world: &mut World) -> bool {
     world.run(&[MAIN; 4]);
     answers(world, &[(MAIN, Turn::OutputFull)])
         && has(world, &[row(MAIN, Outcome::Done); 3], b"")
-        && told(world) == (Status::Running, Some(0), true, None)
+        && reported(world) == (Status::Running, Some(0), true, None)
 }
 
 fn a_missing_operand_is_a_fault(world: &mut World) -> bool {
@@ -133,7 +133,7 @@ fn a_missing_operand_is_a_fault(world: &mut World) -> bool {
     let fault = Some((Fault::StackEmpty, 0));
     answers(world, &turns)
         && has(world, &rows, b"")
-        && told(world) == (Status::Faulted, None, false, fault)
+        && reported(world) == (Status::Faulted, None, false, fault)
         && stands_at(world, 1, &[Value::Int(1)])
 }
 
@@ -169,7 +169,7 @@ fn only_main_was_started(world: &mut World) -> bool {
         && (world.journal().shape(), world.journal().workers()) == (TWO_CELLS, 1)
 }
 
-/// The collector's turn is done and has its row; the thread that is picked is the one behind the last thread's row.
+/// The collector's turn is done and has its row; the thread that is picked is the one after the last thread's row.
 fn the_collector_has_a_row(world: &mut World) -> bool {
     world.run(&[Actor::Collector, MAIN, Actor::Collector]);
     let collected = row(Actor::Collector, Outcome::Done);
@@ -262,12 +262,12 @@ fn stories_go_well(rt: HostRuntime) -> Result<(), Fail> {
 }
 
 /// Whether users are told these errors, one after another, by their codes.
-fn is_told(alloc: Global) -> Result<bool, AllocError> {
+fn is_reported(alloc: Global) -> Result<bool, AllocError> {
     let (shape, limits, memory) = (WorldError::Shape, WorldError::Limits, WorldError::Memory);
     Ok(format!(in alloc; "{shape} {limits} {memory}")?.as_str() == "P1 P2 P3")
 }
 
 #[test]
 fn refusals_have_codes(rt: HostRuntime) {
-    assert!(rt; is_told(rt.alloc()) == Ok(true));
+    assert!(rt; is_reported(rt.alloc()) == Ok(true));
 }

@@ -22,7 +22,7 @@ abbrev pub Answers : {X Y : Type 0} → (X → Y) → Result X ClassError → Re
 Answers view (Ok x) reading = reading ≡ Ok (view x)
 Answers view (Err e) reading = Fails (shown e) reading
 
--- a fault of code is told with its method; want of memory may be told in its place, and is told alone
+-- a fault of code is reported with its method; want of memory may be reported in its place, and is reported alone
 abbrev pub Tells : OpError → ClassError → Type 0
 Tells fault (error.Format f) = ⊥
 Tells fault (error.Code name descriptor f) = fault ≡ op.Memory → ⊥

@@ -11,7 +11,7 @@ use Rattle.pool.specs.Reading.Steps.{◌>>=◌, number_at, taken}
 abbrev pub Reads : Type 0 → Type 0
 Reads A = Result (A × List ℕ) FormatFault
 
--- bytes behind their number
+-- bytes after their number
 unfoldable pub sized_from : List ℕ → Reads (List ℕ)
 sized_from bytes = number_at w32 bytes >>= λ len. taken len.0 len.1
 
@@ -35,13 +35,17 @@ tested_from pool test bytes = text_from pool bytes >>= λ t. if test t.0.1 then 
 abbrev pub skipped : {S : Type 0} → S → List ℕ → Reads S
 skipped s bytes = sized_from bytes >>= λ info. Ok (s, info.1)
 
--- what is done with the attributes under a wanted name, behind the name
-unfoldable pub attribute_from : {S : Type 0} → List Entry → (List ℕ → Bool) → (S → ℕ → List ℕ → Reads S) → S → List ℕ → Reads S
-attribute_from pool wanted step s bytes = text_from pool bytes >>= λ name. if wanted name.0.1 then step s name.0.0 name.1 else skipped s name.1
+-- what is done with the attributes under a wanted name, after the name
+unfoldable pub attribute_from : {S : Type 0} → List Entry → (List ℕ → Bool) → (S → ℕ → List ℕ → Reads S) → S → List ℕ
+    → Reads S
+attribute_from pool wanted step s bytes = text_from pool bytes >>= λ name. if wanted name.0.1
+    then step s name.0.0 name.1 else skipped s name.1
 
-unfoldable pub attributes_from : {S : Type 0} → List Entry → (List ℕ → Bool) → (S → ℕ → List ℕ → Reads S) → ℕ → S → List ℕ → Reads S
+unfoldable pub attributes_from : {S : Type 0} → List Entry → (List ℕ → Bool) → (S → ℕ → List ℕ → Reads S) → ℕ → S
+    → List ℕ → Reads S
 attributes_from pool wanted step zero s bytes = Ok (s, bytes)
-attributes_from pool wanted step (suc n) s bytes = attribute_from pool wanted step s bytes >>= λ first. attributes_from pool wanted step n first.0 first.1
+attributes_from pool wanted step (suc n) s bytes = attribute_from pool wanted step s bytes
+    >>= λ first. attributes_from pool wanted step n first.0 first.1
 
 -- no attribute is wanted
 abbrev pub none_wanted : List ℕ → Bool
@@ -50,6 +54,6 @@ none_wanted text = false
 abbrev pub no_step : ℕ → ℕ → List ℕ → Reads ℕ
 no_step s name bytes = Err Name
 
--- attributes that don't count, behind their count
+-- attributes that don't count, after their count
 unfoldable pub skipped_from : List Entry → List ℕ → Reads ℕ
 skipped_from pool bytes = number_at w16 bytes >>= λ count. attributes_from pool none_wanted no_step count.0 0 count.1

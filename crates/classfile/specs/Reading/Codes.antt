@@ -6,7 +6,8 @@ use Rattle.model.specs.ClassFiles.Codes.{CodeRow, CodePart, has_tag, is_sound}
 use Rattle.model.specs.declared.bytecode.Located.{Located}
 use Rattle.model.specs.declared.class_files.Entry.{Entry}
 use Rattle.model.specs.declared.class_files.FormatFault.{FormatFault}
-use Rattle.model.specs.declared.class_files.FormatFault.TheVariants.{Magic, Version, Short, Trailing, Tag, Index, Name, Attribute, Flags}
+use Rattle.model.specs.declared.class_files.FormatFault.TheVariants.{Magic, Version, Short, Trailing, Tag, Index, Name}
+use Rattle.model.specs.declared.class_files.FormatFault.TheVariants.{Attribute, Flags}
 use Rattle.pool.specs.Reading.Steps.{◌>>=◌, number_at}
 use Rattle.classfile.specs.Reading.Attributes.{Reads, sized_from, skipped_from}
 use Rattle.classfile.specs.Reading.Instructions.{decoded, as_format}
@@ -26,7 +27,8 @@ row_from pool bytes = do
   end ← number_at w16 start.1
   handler ← number_at w16 end.1
   class ← number_at w16 handler.1
-  if class.0 == 0 || has_tag pool 7 class.0 then Ok (record { start = start.0; end = end.0; handler = handler.0; class = class.0 }, class.1) else Err Index
+  if class.0 == 0 || has_tag pool 7 class.0
+      then Ok (record { start = start.0; end = end.0; handler = handler.0; class = class.0 }, class.1) else Err Index
 
 -- the limits, and the bytes of the code
 unfoldable pub limits_from : List ℕ → Reads ((ℕ × ℕ) × List ℕ)

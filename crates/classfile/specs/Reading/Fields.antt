@@ -21,7 +21,7 @@ value_of pool type info =
     then (if is_value_of type (entry_at pool (from_be_bytes w16 info)) then Ok (from_be_bytes w16 info) else Err Index)
     else Err Attribute
 
--- a ConstantValue behind its name; a second one is C8
+-- a ConstantValue after its name; a second one is C8
 unfoldable pub constant_from : List Entry → List ℕ → Option ConstantValue → ℕ → List ℕ → Reads (Option ConstantValue)
 constant_from pool type (Some c) name bytes = Err Attribute
 constant_from pool type None name bytes = do
@@ -30,10 +30,12 @@ constant_from pool type None name bytes = do
   Ok (Some (record { name = name; value = value }), info.1)
 
 unfoldable pub constants_from : List Entry → Bool → List ℕ → List ℕ → Reads (Option ConstantValue)
-constants_from pool static type bytes = number_at w16 bytes >>= λ count. attributes_from pool (is_constant_value static) (constant_from pool type) count.0 None count.1
+constants_from pool static type bytes = number_at w16 bytes >>= λ count. attributes_from pool (is_constant_value static)
+    (constant_from pool type) count.0 None count.1
 
 unfoldable pub field_flags_from : ℕ → List ℕ → Reads ℕ
-field_flags_from class bytes = number_at w16 bytes >>= λ flags. if are_field_flags class flags.0 then Ok flags else Err Flags
+field_flags_from class bytes = number_at w16 bytes >>= λ flags. if are_field_flags class flags.0 then Ok flags
+    else Err Flags
 
 -- a field in a class of these flags
 unfoldable pub field_from : List Entry → ℕ → List ℕ → Reads FieldEntry
@@ -42,4 +44,5 @@ field_from pool class bytes = do
   name ← tested_from pool is_field_name flags.1
   type ← tested_from pool is_field_descriptor name.1
   constant ← constants_from pool (has flags.0 0x0008) type.0.1 type.1
-  Ok (record { flags = record { 0 = flags.0 }; name = name.0.0; descriptor = type.0.0; constant = constant.0 }, constant.1)
+  Ok (record { flags = record { 0 = flags.0 }; name = name.0.0; descriptor = type.0.0; constant = constant.0 },
+      constant.1)

@@ -24,18 +24,19 @@ class_flags_from bytes = number_at w16 bytes >>= λ flags. if are_class_flags fl
 unfoldable pub class_from : List Entry → List ℕ → Reads ℕ
 class_from pool bytes = number_at w16 bytes >>= λ n. if is_class pool n.0 then Ok n else Err Index
 
--- what stands behind the pool
-unfoldable pub behind_from : List Entry → List ℕ → Reads HeadPart
-behind_from pool bytes = do
+-- what stands after the pool
+unfoldable pub after_from : List Entry → List ℕ → Reads HeadPart
+after_from pool bytes = do
   flags ← class_flags_from bytes
   class ← class_from pool flags.1
   superclass ← class_from pool class.1
   interfaces ← list_from (class_from pool) superclass.1
   fields ← list_from (field_from pool flags.0) interfaces.1
-  Ok (record { pool = pool; flags = record { 0 = flags.0 }; class = class.0; superclass = superclass.0; interfaces = interfaces.0; fields = fields.0 }, fields.1)
+  Ok (record { pool = pool; flags = record { 0 = flags.0 }; class = class.0; superclass = superclass.0; interfaces =
+      interfaces.0; fields = fields.0 }, fields.1)
 
 unfoldable pub head_from : List ℕ → Reads HeadPart
 head_from bytes = do
   opening ← opening_from bytes
   pool ← pool_from opening.1
-  behind_from pool.0 pool.1
+  after_from pool.0 pool.1

@@ -1,5 +1,6 @@
 -- Reading the instructions of a method, one after another.
-use Rattle.std.specs.Prelude.{ℕ, zero, suc, ◌+◌, ◌-◌, Bool, false, ◌&&◌, ◌||◌, ◌==◌, nat_le, List, [], ◌∷◌, length, Result, Ok, Err, if◌then◌else◌}
+use Rattle.std.specs.Prelude.{ℕ, zero, suc, ◌+◌, ◌-◌, Bool, false, ◌&&◌, ◌||◌, ◌==◌, nat_le, List, [], ◌∷◌, length}
+use Rattle.std.specs.Prelude.{Result, Ok, Err, if◌then◌else◌}
 use Rattle.std.specs.List.{list_all}
 use Rattle.model.specs.Bytecode.{targets}
 use Rattle.model.specs.declared.bytecode.Located.{Located}
@@ -32,7 +33,8 @@ lands_among items x = list_all (is_pc items) (targets x.instruction)
 unfoldable pub decoded : List ℕ → Result (List Located) OpError
 decoded bytes =
     if nat_le 1 (length bytes) && nat_le (length bytes) 65535
-    then (items_from (length bytes) 0 bytes >>= λ items. if list_all (lands_among items) items then Ok items else Err error.Branch)
+    then (items_from (length bytes) 0 bytes >>= λ items. if list_all (lands_among items) items then Ok items
+        else Err error.Branch)
     else Err error.Length
 
 -- faulty code as a faulty attribute

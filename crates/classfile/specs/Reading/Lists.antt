@@ -11,6 +11,6 @@ repeated read (suc n) bytes = do
   others ← repeated read n first.1
   Ok (first.0 ∷ others.0, others.1)
 
--- behind their count
+-- after their count
 unfoldable pub list_from : {A : Type 0} → (List ℕ → Reads A) → List ℕ → Reads (List A)
 list_from read bytes = number_at w16 bytes >>= λ count. repeated read count.0 count.1

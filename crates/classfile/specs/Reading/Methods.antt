@@ -14,7 +14,8 @@ use Rattle.classfile.specs.Reading.Attributes.{Reads, sized_from, tested_from, a
 use Rattle.classfile.specs.Reading.Codes.{code_from}
 
 unfoldable pub method_flags_from : ℕ → List ℕ → Reads ℕ
-method_flags_from class bytes = number_at w16 bytes >>= λ flags. if are_method_flags class flags.0 then Ok flags else Err Flags
+method_flags_from class bytes = number_at w16 bytes >>= λ flags. if are_method_flags class flags.0 then Ok flags
+    else Err Flags
 
 -- a method's descriptor whose arguments are not too many
 abbrev pub method_type_test : Bool → List ℕ → Bool
@@ -23,7 +24,7 @@ method_type_test static text = units_fit static (arguments_of text)
 abbrev pub is_code_name : List ℕ → Bool
 is_code_name text = bytes_eq text (codes "Code")
 
--- a Code attribute behind its name, where one is wanted; a second one is C8
+-- a Code attribute after its name, where one is wanted; a second one is C8
 unfoldable pub found_code_from : List Entry → Bool → Option CodePart → ℕ → List ℕ → Reads (Option CodePart)
 found_code_from pool wanted (Some c) name bytes = Err Attribute
 found_code_from pool false None name bytes = Err Attribute

@@ -256,7 +256,7 @@ impl PlainHeap {
         }
     }
 
-    /// A word of what has been grey the longest; behind its last word it turns black. Where nothing is grey, the
+    /// A word of what has been grey the longest; after its last word it turns black. Where nothing is grey, the
     /// appending.
     fn mark(&mut self, word: u32) {
         let Some(birth) = self.front() else {
@@ -277,7 +277,7 @@ impl PlainHeap {
         }
     }
 
-    /// A cell: what is white in it is given back, what is black turns white. Behind the last cell the cycle ends.
+    /// A cell: what is white in it is given back, what is black turns white. After the last cell the cycle ends.
     fn append(&mut self, cell: u32) -> Result<(), AllocError> {
         if cell >= self.cells() {
             self.phase = Phase::Idle;

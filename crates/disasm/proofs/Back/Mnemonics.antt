@@ -38,7 +38,10 @@ use Rattle.model.specs.declared.mnemonics.Mnemonic.{Mnemonic}
 use Rattle.model.specs.declared.mnemonics.Mnemonic.TheVariants as mnemonic
 use Rattle.model.specs.declared.values.Kind.{Kind}
 use Rattle.model.specs.declared.values.Kind.TheVariants as kind
-use Rattle.model.specs.Texts.Disassembling.{small_int_name, small_long_name, first_name, kind_letter, element_letter, number_letter, operator_name, conversion_name, number_name, stack_name, comparison_name, test_name, access_name, class_name, monitor_name, return_text}
+use Rattle.model.specs.Texts.Disassembling.{small_int_name, small_long_name, first_name, kind_letter, element_letter}
+use Rattle.model.specs.Texts.Disassembling.{number_letter, operator_name, conversion_name, number_name, stack_name}
+use Rattle.model.specs.Texts.Disassembling.{comparison_name, test_name, access_name, class_name, monitor_name}
+use Rattle.model.specs.Texts.Disassembling.{return_text}
 use Rattle.model.specs.Texts.Methods.{label_of}
 use Rattle.model.specs.Texts.Mnemonics.{mnemonic_of}
 use Rattle.jasmin.specs.Words.{word_of}
@@ -46,7 +49,8 @@ use Rattle.jasmin.specs.Words.{word_of}
 -- no word of a body but a mnemonic
 abbrev pub is_other : List ℕ → Bool
 is_other word =
-    bytes_eq word (codes ".limit") || bytes_eq word (codes ".catch") || bytes_eq word (codes "tableswitch") || bytes_eq word (codes "lookupswitch") || bytes_eq word (codes "wide")
+    bytes_eq word (codes ".limit") || bytes_eq word (codes ".catch") || bytes_eq word (codes "tableswitch")
+        || bytes_eq word (codes "lookupswitch") || bytes_eq word (codes "wide")
 
 -- a word that begins an instruction, by its mnemonic
 pub record Begins (word : List ℕ) (m : Mnemonic) : Type 0 where
@@ -104,7 +108,8 @@ load_begins kind.Int = record { plain = refl; unlabelled = refl; means = refl; s
 load_begins kind.Long = record { plain = refl; unlabelled = refl; means = refl; says = refl }
 load_begins kind.Ref = record { plain = refl; unlabelled = refl; means = refl; says = refl }
 
-pub first_load_begins : (k : Kind) (n : FirstLocal) → Begins ((kind_letter k ++ codes "load") ++ first_name n) (mnemonic.FirstLocal (access.Load k («local».First n)))
+pub first_load_begins : (k : Kind) (n : FirstLocal) → Begins ((kind_letter k ++ codes "load") ++ first_name n)
+    (mnemonic.FirstLocal (access.Load k («local».First n)))
 unfolding mnemonic_of word_of
 first_load_begins kind.Int first.Zero = record { plain = refl; unlabelled = refl; means = refl; says = refl }
 first_load_begins kind.Int first.One = record { plain = refl; unlabelled = refl; means = refl; says = refl }
@@ -125,7 +130,8 @@ store_begins kind.Int = record { plain = refl; unlabelled = refl; means = refl; 
 store_begins kind.Long = record { plain = refl; unlabelled = refl; means = refl; says = refl }
 store_begins kind.Ref = record { plain = refl; unlabelled = refl; means = refl; says = refl }
 
-pub first_store_begins : (k : Kind) (n : FirstLocal) → Begins ((kind_letter k ++ codes "store") ++ first_name n) (mnemonic.FirstLocal (access.Store k («local».First n)))
+pub first_store_begins : (k : Kind) (n : FirstLocal) → Begins ((kind_letter k ++ codes "store") ++ first_name n)
+    (mnemonic.FirstLocal (access.Store k («local».First n)))
 unfolding mnemonic_of word_of
 first_store_begins kind.Int first.Zero = record { plain = refl; unlabelled = refl; means = refl; says = refl }
 first_store_begins kind.Int first.One = record { plain = refl; unlabelled = refl; means = refl; says = refl }
@@ -156,7 +162,8 @@ stack_begins stack.Dup2X1 = record { plain = refl; unlabelled = refl; means = re
 stack_begins stack.Dup2X2 = record { plain = refl; unlabelled = refl; means = refl; says = refl }
 stack_begins stack.Swap = record { plain = refl; unlabelled = refl; means = refl; says = refl }
 
-pub binary_begins : (k : NumberKind) (o : Operator) → Begins (number_letter k ++ operator_name o) (mnemonic.Number (number.Binary k o))
+pub binary_begins : (k : NumberKind) (o : Operator)
+    → Begins (number_letter k ++ operator_name o) (mnemonic.Number (number.Binary k o))
 unfolding mnemonic_of word_of
 binary_begins number_kind.Int operator.Add = record { plain = refl; unlabelled = refl; means = refl; says = refl }
 binary_begins number_kind.Int operator.Sub = record { plain = refl; unlabelled = refl; means = refl; says = refl }
@@ -343,13 +350,15 @@ long_said = long_begins.says
 pub load_said : (k : Kind) → word_of (mnemonic.Local (accessed.Load k)) ≡ kind_letter k ++ codes "load"
 load_said k = (load_begins k).says
 
-pub first_load_said : (k : Kind) (n : FirstLocal) → word_of (mnemonic.FirstLocal (access.Load k («local».First n))) ≡ (kind_letter k ++ codes "load") ++ first_name n
+pub first_load_said : (k : Kind) (n : FirstLocal) → word_of (mnemonic.FirstLocal (access.Load k («local».First n)))
+    ≡ (kind_letter k ++ codes "load") ++ first_name n
 first_load_said k n = (first_load_begins k n).says
 
 pub store_said : (k : Kind) → word_of (mnemonic.Local (accessed.Store k)) ≡ kind_letter k ++ codes "store"
 store_said k = (store_begins k).says
 
-pub first_store_said : (k : Kind) (n : FirstLocal) → word_of (mnemonic.FirstLocal (access.Store k («local».First n))) ≡ (kind_letter k ++ codes "store") ++ first_name n
+pub first_store_said : (k : Kind) (n : FirstLocal) → word_of (mnemonic.FirstLocal (access.Store k («local».First n)))
+    ≡ (kind_letter k ++ codes "store") ++ first_name n
 first_store_said k n = (first_store_begins k n).says
 
 pub increment_said : word_of (mnemonic.Local accessed.Increment) ≡ codes "iinc"
@@ -409,4 +418,8 @@ throw_said = throw_begins.says
 pub monitor_said : (o : MonitorOperation) → word_of (mnemonic.Monitor o) ≡ monitor_name o
 monitor_said o = (monitor_begins o).says
 
-pub ruleset said = (nop_said, null_said, small_int_said, small_long_said, byte_said, short_said, narrow_said, wide_said, long_said, load_said, first_load_said, store_said, first_store_said, increment_said, stack_said, number_said, test_said, return_said, static_said, field_said, new_array_said, new_array_of_said, array_length_said, array_load_said, array_store_said, class_said, virtual_said, special_said, static_call_said, interface_said, throw_said, monitor_said)
+pub ruleset said = (nop_said, null_said, small_int_said, small_long_said, byte_said, short_said, narrow_said, wide_said,
+    long_said, load_said, first_load_said, store_said, first_store_said, increment_said, stack_said, number_said,
+    test_said, return_said, static_said, field_said, new_array_said, new_array_of_said, array_length_said,
+    array_load_said, array_store_said, class_said, virtual_said, special_said, static_call_said, interface_said,
+    throw_said, monitor_said)

@@ -1,5 +1,6 @@
 -- The numbers that `ldc` uses in a listing go with `ldc` in its text.
-use Rattle.std.proofs.Common.{◌≡◌, ℕ, ℤ, Bool, true, false, not, ◌||◌, cond, List, [], ◌∷◌, ◌++◌, map, filter, flat_map, Option, Some, None, refl, sym, ap, ap₂, ◌∙◌, inl, inr}
+use Rattle.std.proofs.Common.{◌≡◌, ℕ, ℤ, Bool, true, false, not, ◌||◌, cond, List, [], ◌∷◌, ◌++◌, map, filter, flat_map}
+use Rattle.std.proofs.Common.{Option, Some, None, refl, sym, ap, ap₂, ◌∙◌, inl, inr}
 use Rattle.std.specs.List.{list_all}
 use Rattle.std.specs.Option.{option_map}
 use Rattle.std.specs.Ordering.{int_eq}
@@ -19,7 +20,8 @@ use Rattle.model.specs.Texts.Disassembling.{label, is_named}
 use Rattle.model.specs.Texts.Instructions.{Written}
 use Rattle.model.specs.Texts.Labels.{with_targets}
 use Rattle.model.specs.Texts.Spelled.{narrow_constant, narrow_number, numbers_of_code, ldc_numbers}
-use Rattle.model.specs.Texts.Widths.{ldc_before, used_before, used_in, used_in_body, used_in_methods, is_among, different, widened_constant, widened, widened_line}
+use Rattle.model.specs.Texts.Widths.{ldc_before, used_before, used_in, used_in_body, used_in_methods, is_among}
+use Rattle.model.specs.Texts.Widths.{different, widened_constant, widened, widened_line}
 use Rattle.disasm.specs.Back.{label_back, lines_back, body_back, method_back}
 
 -- ---- the numbers that are used
@@ -60,11 +62,13 @@ used_end : (b : Bool) (pc : ℕ) → used_in (label_back b pc) ≡ []
 used_end true pc = refl
 used_end false pc = refl
 
-used_back : (pcs : List ℕ) (pc : ℕ) (ps : List Placed) → used_in (lines_back pcs pc ps) ≡ flat_map (λ p. narrow_number p.instruction) ps
+used_back : (pcs : List ℕ) (pc : ℕ) (ps : List Placed) → used_in (lines_back pcs pc ps)
+    ≡ flat_map (λ p. narrow_number p.instruction) ps
 used_back pcs pc [] = used_end (is_named pcs pc) pc
 used_back pcs pc (p ∷ ps) =
     let rest = lines_back pcs p.next ps in
-    used_label (is_named pcs p.pc) p.pc (Instruction (with_targets label p.instruction) ∷ rest) ∙ used_instruction p.instruction (used_in rest)
+    used_label (is_named pcs p.pc) p.pc (Instruction (with_targets label p.instruction) ∷ rest)
+        ∙ used_instruction p.instruction (used_in rest)
     ∙ ap (λ zs. narrow_number p.instruction ++ zs) (used_back pcs p.next ps)
 
 pub used_code : (o : Option CodeListing) → used_in_body (option_map body_back o) ≡ numbers_of_code o
@@ -80,12 +84,15 @@ used_methods (m ∷ ms) = ap₂ (λ xs ys. xs ++ ys) (used_code m.code) (used_me
 
 -- ---- numbers among the different ones
 
-pub among_kept : (x z : ℤ) (ds : List ℤ) → int_eq x z ≡ false → is_among (filter (λ y. not (int_eq x y)) ds) z ≡ is_among ds z
+pub among_kept : (x z : ℤ) (ds : List ℤ) → int_eq x z ≡ false → is_among (filter (λ y. not (int_eq x y)) ds) z
+    ≡ is_among ds z
 among_kept x z [] other = refl
 among_kept x z (d ∷ ds) other = elim (cases_Bool (int_eq x d)) [
-  | inl same ↦ ap (λ b. is_among (cond (not b) (d ∷ filter (λ y. not (int_eq x y)) ds) (filter (λ y. not (int_eq x y)) ds)) z) same ∙ among_kept x z ds other
+  | inl same ↦ ap (λ b. is_among (cond (not b) (d ∷ filter (λ y. not (int_eq x y)) ds)
+      (filter (λ y. not (int_eq x y)) ds)) z) same ∙ among_kept x z ds other
       ∙ ap (λ b. b || is_among ds z) (sym (ap (λ y. int_eq y z) (sym ((Decides-int_eq x d).0 same)) ∙ other))
-  | inr apart ↦ ap (λ b. is_among (cond (not b) (d ∷ filter (λ y. not (int_eq x y)) ds) (filter (λ y. not (int_eq x y)) ds)) z) apart
+  | inr apart ↦ ap (λ b. is_among (cond (not b) (d ∷ filter (λ y. not (int_eq x y)) ds)
+      (filter (λ y. not (int_eq x y)) ds)) z) apart
       ∙ ap (λ b. int_eq d z || b) (among_kept x z ds other)
 ]
 
@@ -95,13 +102,16 @@ among_different (x ∷ zs) z e =
     let others = filter (λ y. not (int_eq x y)) (different zs) in
     elim (cases_Bool (int_eq x z)) [
       | inl same ↦ or_left (int_eq x z) (is_among others z) same
-      | inr apart ↦ or_right (int_eq x z) (is_among others z) (among_kept x z (different zs) apart ∙ among_different zs z (ap (λ b. b || is_among zs z) (sym apart) ∙ e))
+      | inr apart ↦ or_right (int_eq x z) (is_among others z) (among_kept x z (different zs) apart
+          ∙ among_different zs z (ap (λ b. b || is_among zs z) (sym apart) ∙ e))
     ]
 
-among_each : (all zs : List ℤ) → ((z : ℤ) → is_among zs z ≡ true → is_among all z ≡ true) → list_all (is_among all) zs ≡ true
+among_each : (all zs : List ℤ) → ((z : ℤ) → is_among zs z ≡ true → is_among all z ≡ true) → list_all (is_among all) zs
+    ≡ true
 among_each all [] f = refl
 among_each all (x ∷ zs) f =
-    and_from (is_among all x) (list_all (is_among all) zs) (f x (or_left (int_eq x x) (is_among zs x) ((Decides-int_eq x x).1 refl)))
+    and_from (is_among all x) (list_all (is_among all) zs)
+        (f x (or_left (int_eq x x) (is_among zs x) ((Decides-int_eq x x).1 refl)))
     (among_each all zs (λ z e. f z (or_right (int_eq x z) (is_among zs z) e)))
 
 pub all_among : (zs : List ℤ) → list_all (is_among (different zs)) zs ≡ true
@@ -110,19 +120,24 @@ all_among zs = among_each (different zs) zs (among_different zs)
 -- ---- what is not widened
 
 module _ (narrow : List ℤ) where
-  unwidened_constant : (c : Constant ℤ ℤ) (zs : List ℤ) → list_all (is_among narrow) (ldc_before c zs) ≡ true → (widened_constant narrow c ≡ c) × (list_all (is_among narrow) zs ≡ true)
+  unwidened_constant : (c : Constant ℤ ℤ) (zs : List ℤ) → list_all (is_among narrow) (ldc_before c zs) ≡ true
+      → (widened_constant narrow c ≡ c) × (list_all (is_among narrow) zs ≡ true)
   unwidened_constant constant.Null zs e = (refl, e)
   unwidened_constant (constant.SmallInt n) zs e = (refl, e)
   unwidened_constant (constant.SmallLong n) zs e = (refl, e)
   unwidened_constant (constant.Byte n) zs e = (refl, e)
   unwidened_constant (constant.Short n) zs e = (refl, e)
-  unwidened_constant (constant.Int Narrow n) zs e = let parts = and_parts (is_among narrow n) (list_all (is_among narrow) zs) e in (rw (parts.0) refl, parts.1)
+  unwidened_constant (constant.Int Narrow n) zs e = let parts = and_parts (is_among narrow n)
+                                                          (list_all (is_among narrow) zs) e
+                                                          in (rw (parts.0) refl, parts.1)
   unwidened_constant (constant.Int Wide n) zs e = (refl, e)
   unwidened_constant (constant.Long n) zs e = (refl, e)
 
-  unwidened : (i : Written) (zs : List ℤ) → list_all (is_among narrow) (used_before i zs) ≡ true → (widened narrow i ≡ i) × (list_all (is_among narrow) zs ≡ true)
+  unwidened : (i : Written) (zs : List ℤ) → list_all (is_among narrow) (used_before i zs) ≡ true
+      → (widened narrow i ≡ i) × (list_all (is_among narrow) zs ≡ true)
   unwidened instruction.Nop zs e = (refl, e)
-  unwidened (instruction.Constant c) zs e = let both = unwidened_constant c zs e in (ap (λ x. instruction.Constant x) both.0, both.1)
+  unwidened (instruction.Constant c) zs e = let both = unwidened_constant c zs e
+                                                  in (ap (λ x. instruction.Constant x) both.0, both.1)
   unwidened (instruction.Local a) zs e = (refl, e)
   unwidened (instruction.Stack o) zs e = (refl, e)
   unwidened (instruction.Number o) zs e = (refl, e)
@@ -138,7 +153,8 @@ module _ (narrow : List ℤ) where
   unwidened instruction.Throw zs e = (refl, e)
   unwidened (instruction.Monitor o) zs e = (refl, e)
 
-  pub unwidened_lines : (lines : List TextLine) → list_all (is_among narrow) (used_in lines) ≡ true → map (widened_line narrow) lines ≡ lines
+  pub unwidened_lines : (lines : List TextLine) → list_all (is_among narrow) (used_in lines) ≡ true
+      → map (widened_line narrow) lines ≡ lines
   unwidened_lines [] e = refl
   unwidened_lines (Label l ∷ lines) e = ap (λ xs. Label l ∷ xs) (unwidened_lines lines e)
   unwidened_lines (Instruction i ∷ lines) e =

@@ -10,7 +10,10 @@ use Rattle.model.specs.declared.trees.TextLine.{TextLine}
 use Rattle.model.specs.declared.trees.TextLine.TheVariants.{Label, Instruction}
 use Rattle.model.specs.Texts.Bodies.{Body}
 use Rattle.model.specs.Texts.Instructions.{instruction_of}
-use Rattle.model.specs.Texts.Methods.{Part, stack_limit, locals_limit, catch_row, code_line, Saying, part, opens, limit_of, catch_class, row_with, catch_of, label_of, line_of, said_by, said_in, saying_of, parts_by, parts_from, stack_limits, locals_limits, catch_rows, code_lines, body_with, body_of_parts, agreeing, body_of}
+use Rattle.model.specs.Texts.Methods.{Part, stack_limit, locals_limit, catch_row, code_line, Saying, part, opens}
+use Rattle.model.specs.Texts.Methods.{limit_of, catch_class, row_with, catch_of, label_of, line_of, said_by, said_in}
+use Rattle.model.specs.Texts.Methods.{saying_of, parts_by, parts_from, stack_limits, locals_limits, catch_rows}
+use Rattle.model.specs.Texts.Methods.{code_lines, body_with, body_of_parts, agreeing, body_of}
 use Rattle.model.specs.Texts.Names.{is_part, is_class_name}
 use Rattle.model.specs.Texts.Numbers.{natural_to}
 use Rattle.model.specs.Texts.Operands.{only, class_named}
@@ -20,7 +23,8 @@ use Rattle.model.specs.Texts.Switches.{Switch, SwitchLine, goes_on, ends, table_
 use Rattle.model.specs.Texts.Uses.{labels_agree}
 use Rattle.jasmin.proofs.Spelled.Instructions.{Fits, words_fit}
 use Rattle.jasmin.proofs.Spelled.Operands.{natural_fits}
-use Rattle.jasmin.proofs.Spelled.Switches.{SwitchFits, LineFits as SwitchLineFits, table_fits, lookup_fits, line_fits as switch_line_fits}
+use Rattle.jasmin.proofs.Spelled.Switches.{SwitchFits, LineFits as SwitchLineFits, table_fits, lookup_fits}
+use Rattle.jasmin.proofs.Spelled.Switches.{line_fits as switch_line_fits}
 use Rattle.jasmin.proofs.Spelled.Partial.{of_map, of_then, of_any, of_if, of_test, and_true}
 
 abbrev pub LineFits : TextLine → Type 0
@@ -45,30 +49,39 @@ SayingFits (opens s) = SwitchFits s
 limit_fits : (words : List (List ℕ)) → IfSome (limit_of words) PartFits
 limit_fits [] = tt
 limit_fits (word ∷ words) =
-    of_test PartFits (bytes_eq word (codes "stack")) (option_map stack_limit (option_and_then (natural_to 65535) (only words)))
-    (if bytes_eq word (codes "locals") then option_map locals_limit (option_and_then (natural_to 65535) (only words)) else None)
-    (λ t. of_map PartFits stack_limit (option_and_then (natural_to 65535) (only words)) (of_any (λ n. is_u2 n ≡ true) (natural_to 65535) (only words) (natural_fits 65535)))
-    (λ f. of_test PartFits (bytes_eq word (codes "locals")) (option_map locals_limit (option_and_then (natural_to 65535) (only words))) None
-    (λ t. of_map PartFits locals_limit (option_and_then (natural_to 65535) (only words)) (of_any (λ n. is_u2 n ≡ true) (natural_to 65535) (only words) (natural_fits 65535)))
+    of_test PartFits (bytes_eq word (codes "stack"))
+        (option_map stack_limit (option_and_then (natural_to 65535) (only words)))
+    (if bytes_eq word (codes "locals") then option_map locals_limit (option_and_then (natural_to 65535) (only words))
+        else None)
+    (λ t. of_map PartFits stack_limit (option_and_then (natural_to 65535) (only words))
+        (of_any (λ n. is_u2 n ≡ true) (natural_to 65535) (only words) (natural_fits 65535)))
+    (λ f. of_test PartFits (bytes_eq word (codes "locals"))
+        (option_map locals_limit (option_and_then (natural_to 65535) (only words))) None
+    (λ t. of_map PartFits locals_limit (option_and_then (natural_to 65535) (only words))
+        (of_any (λ n. is_u2 n ≡ true) (natural_to 65535) (only words) (natural_fits 65535)))
     (λ g. tt))
 
 catch_class_fits : (word : List ℕ) → IfSome (catch_class word) (λ c. catch_is_spelled c ≡ true)
 catch_class_fits word =
-    of_test (λ c. catch_is_spelled c ≡ true) (bytes_eq word (codes "all")) (Some None) (option_map Some (class_named word))
+    of_test (λ c. catch_is_spelled c ≡ true) (bytes_eq word (codes "all")) (Some None)
+        (option_map Some (class_named word))
     (λ t. refl)
     (λ f. of_map (λ c. catch_is_spelled c ≡ true) Some (class_named word)
-    (of_if (λ c. catch_is_spelled (Some c) ≡ true) (is_class_name word) word (λ t. and_true (is_class_name word) (not (bytes_eq word (codes "all"))) t (rw f refl))))
+    (of_if (λ c. catch_is_spelled (Some c) ≡ true) (is_class_name word) word
+        (λ t. and_true (is_class_name word) (not (bytes_eq word (codes "all"))) t (rw f refl))))
 
 catch_fits : (words : List (List ℕ)) → IfSome (catch_of words) RowFits
 catch_fits (class ∷ from ∷ start ∷ to ∷ end ∷ using ∷ handler ∷ []) =
     of_test RowFits
-    (bytes_eq from (codes "from") && bytes_eq to (codes "to") && bytes_eq using (codes "using") && is_part start && is_part end && is_part handler)
+    (bytes_eq from (codes "from") && bytes_eq to (codes "to") && bytes_eq using (codes "using") && is_part start
+        && is_part end && is_part handler)
     (option_map (row_with start end handler) (catch_class class)) None
     (λ t. of_map RowFits (row_with start end handler) (catch_class class) (catch_class_fits class))
     (λ f. tt)
 catch_fits words = tt
 
-text_line_fits : (label : Option (List ℕ)) (word : List ℕ) (words : List (List ℕ)) → IfSome (line_of label word words) LineFits
+text_line_fits : (label : Option (List ℕ)) (word : List ℕ) (words : List (List ℕ))
+    → IfSome (line_of label word words) LineFits
 text_line_fits None word words = of_map LineFits Instruction (instruction_of (word ∷ words)) (words_fit (word ∷ words))
 text_line_fits (Some label) word [] = tt
 text_line_fits (Some label) word (next ∷ words) = tt
@@ -78,19 +91,22 @@ said_fits [] = tt
 said_fits (word ∷ words) =
     of_test SayingFits (bytes_eq word (codes ".limit")) (option_map part (limit_of words)) _
     (λ t. of_map SayingFits part (limit_of words) (limit_fits words))
-    (λ f. of_test SayingFits (bytes_eq word (codes ".catch")) (option_map (λ row. part (catch_row row)) (catch_of words)) _
+    (λ f. of_test SayingFits (bytes_eq word (codes ".catch")) (option_map (λ row. part (catch_row row))
+        (catch_of words)) _
     (λ t. of_map SayingFits (λ row. part (catch_row row)) (catch_of words) (catch_fits words))
     (λ f. of_test SayingFits (bytes_eq word (codes "tableswitch")) (option_map opens (table_begins words)) _
     (λ t. of_map SayingFits opens (table_begins words) (table_fits words))
     (λ f. of_test SayingFits (bytes_eq word (codes "lookupswitch")) (option_map opens (lookup_begins words)) _
     (λ t. of_map SayingFits opens (lookup_begins words) (lookup_fits words))
-    (λ f. of_map SayingFits (λ line. part (code_line line)) (line_of (label_of word) word words) (text_line_fits (label_of word) word words)))))
+    (λ f. of_map SayingFits (λ line. part (code_line line)) (line_of (label_of word) word words)
+        (text_line_fits (label_of word) word words)))))
 
 said_in_fits : (line : SwitchLine) → SwitchLineFits line → SayingFits (said_in line)
 said_in_fits (goes_on s) h = h
 said_in_fits (ends i) h = h
 
-saying_fits : (current : Option Switch) (s : Statement) → IfSome current SwitchFits → IfSome (saying_of current s) SayingFits
+saying_fits : (current : Option Switch) (s : Statement) → IfSome current SwitchFits
+    → IfSome (saying_of current s) SayingFits
 saying_fits None s h = of_any SayingFits said_by s said_fits
 saying_fits (Some switch) s h =
     of_map SayingFits said_in (option_and_then (switch_line switch) s)
@@ -100,25 +116,30 @@ saying_fits (Some switch) s h =
 -- ---- parts
 
 by_fits : (said : Option Saying) (rest : Option Switch → Option (List Part)) → IfSome said SayingFits
-    → ((current : Option Switch) → IfSome current SwitchFits → IfSome (rest current) (AllByRecursion PartFits)) → IfSome (parts_by said rest) (AllByRecursion PartFits)
+    → ((current : Option Switch) → IfSome current SwitchFits → IfSome (rest current) (AllByRecursion PartFits))
+        → IfSome (parts_by said rest) (AllByRecursion PartFits)
 by_fits None rest h k = tt
 by_fits (Some (part p)) rest h k =
-    of_map (AllByRecursion PartFits) (λ parts. p ∷ parts) (rest None) (IfSome_then (rest None) (k None tt) (λ parts all. (h, all)))
+    of_map (AllByRecursion PartFits) (λ parts. p ∷ parts) (rest None)
+        (IfSome_then (rest None) (k None tt) (λ parts all. (h, all)))
 by_fits (Some (opens s)) rest h k = k (Some s) h
 
-parts_fit : (ss : List Statement) (current : Option Switch) → IfSome current SwitchFits → IfSome (parts_from ss current) (AllByRecursion PartFits)
+parts_fit : (ss : List Statement) (current : Option Switch) → IfSome current SwitchFits
+    → IfSome (parts_from ss current) (AllByRecursion PartFits)
 parts_fit [] None h = tt
 parts_fit [] (Some switch) h = tt
 parts_fit (s ∷ ss) current h = by_fits (saying_of current s) (parts_from ss) (saying_fits current s h) (parts_fit ss)
 
-stack_fits : (parts : List Part) → AllByRecursion PartFits parts → AllByRecursion (λ n. is_u2 n ≡ true) (stack_limits parts)
+stack_fits : (parts : List Part) → AllByRecursion PartFits parts
+    → AllByRecursion (λ n. is_u2 n ≡ true) (stack_limits parts)
 stack_fits [] all = tt
 stack_fits (stack_limit n ∷ parts) all = (all.0, stack_fits parts all.1)
 stack_fits (locals_limit n ∷ parts) all = stack_fits parts all.1
 stack_fits (catch_row row ∷ parts) all = stack_fits parts all.1
 stack_fits (code_line line ∷ parts) all = stack_fits parts all.1
 
-locals_fit : (parts : List Part) → AllByRecursion PartFits parts → AllByRecursion (λ n. is_u2 n ≡ true) (locals_limits parts)
+locals_fit : (parts : List Part) → AllByRecursion PartFits parts
+    → AllByRecursion (λ n. is_u2 n ≡ true) (locals_limits parts)
 locals_fit [] all = tt
 locals_fit (stack_limit n ∷ parts) all = locals_fit parts all.1
 locals_fit (locals_limit n ∷ parts) all = (all.0, locals_fit parts all.1)
@@ -152,7 +173,8 @@ pub record BodyFits (body : Body) : Type 0 where
   pub parts : PartsFit body
   pub agree : labels_agree body.rows body.lines ≡ true
 
-with_fits : (stack locals : List ℕ) (rows : List CatchRow) (lines : List TextLine) → AllByRecursion (λ n. is_u2 n ≡ true) stack → AllByRecursion (λ n. is_u2 n ≡ true) locals
+with_fits : (stack locals : List ℕ) (rows : List CatchRow) (lines : List TextLine)
+    → AllByRecursion (λ n. is_u2 n ≡ true) stack → AllByRecursion (λ n. is_u2 n ≡ true) locals
     → AllByRecursion RowFits rows → AllByRecursion LineFits lines → IfSome (body_with stack locals rows lines) PartsFit
 with_fits [] locals rows lines s l r c = tt
 with_fits (stack ∷ []) [] rows lines s l r c = tt
@@ -172,5 +194,6 @@ pub body_fits : (ss : List Statement) → IfSome (body_of ss) BodyFits
 body_fits ss =
     of_then BodyFits agreeing (option_and_then body_of_parts (parts_from ss None))
     (IfSome_then (option_and_then body_of_parts (parts_from ss None))
-    (of_then PartsFit body_of_parts (parts_from ss None) (IfSome_then (parts_from ss None) (parts_fit ss None tt) of_parts_fits))
+    (of_then PartsFit body_of_parts (parts_from ss None) (IfSome_then (parts_from ss None) (parts_fit ss None tt)
+        of_parts_fits))
     agreeing_fits)

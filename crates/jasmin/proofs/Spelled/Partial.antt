@@ -34,11 +34,13 @@ module _ {B : Type 0} (P : B → Type 0) where
   of_map g None h = tt
   of_map g (Some x) h = h
 
-  pub of_then : {A : Type 0} (g : A → Option B) (o : Option A) → IfSome o (λ x. IfSome (g x) P) → IfSome (option_and_then g o) P
+  pub of_then : {A : Type 0} (g : A → Option B) (o : Option A) → IfSome o (λ x. IfSome (g x) P)
+      → IfSome (option_and_then g o) P
   of_then g None h = tt
   of_then g (Some x) h = h
 
-  pub of_any : {A : Type 0} (g : A → Option B) (o : Option A) → ((x : A) → IfSome (g x) P) → IfSome (option_and_then g o) P
+  pub of_any : {A : Type 0} (g : A → Option B) (o : Option A) → ((x : A) → IfSome (g x) P)
+      → IfSome (option_and_then g o) P
   of_any g None h = tt
   of_any g (Some x) h = h x
 
@@ -46,7 +48,8 @@ module _ {B : Type 0} (P : B → Type 0) where
   of_if true y h = h refl
   of_if false y h = tt
 
-  pub of_test : (b : Bool) (o other : Option B) → (b ≡ true → IfSome o P) → (b ≡ false → IfSome other P) → IfSome (if b then o else other) P
+  pub of_test : (b : Bool) (o other : Option B) → (b ≡ true → IfSome o P) → (b ≡ false → IfSome other P)
+      → IfSome (if b then o else other) P
   of_test true o other h k = h refl
   of_test false o other h k = k refl
 
@@ -55,18 +58,22 @@ module _ {B : Type 0} (P : B → Type 0) where
   given (Some x) y e h = subst P (cc) h
 
 -- what a table has under a word
-pub in_table : {A : Type 0} (p : A → Bool) (rows : List (List ℕ × A)) (word : List ℕ) → list_all (λ row. p row.1) rows ≡ true → IfSome (named rows word) (λ a. p a ≡ true)
+pub in_table : {A : Type 0} (p : A → Bool) (rows : List (List ℕ × A)) (word : List ℕ) → list_all (λ row. p row.1) rows
+    ≡ true → IfSome (named rows word) (λ a. p a ≡ true)
 in_table p [] word h = tt
 in_table p (row ∷ rows) word h =
     let parts = both_true (p row.1) (list_all (λ row. p row.1) rows) h in
-    of_test (λ a. p a ≡ true) (bytes_eq word row.0) (Some row.1) (named rows word) (λ t. parts.0) (λ f. in_table p rows word parts.1)
+    of_test (λ a. p a ≡ true) (bytes_eq word row.0) (Some row.1) (named rows word) (λ t. parts.0) (λ f.
+        in_table p rows word parts.1)
 
 -- what each of a list says
-pub of_all : {A B : Type 0} (P : B → Type 0) (said : A → Option B) (xs : List A) → ((x : A) → IfSome (said x) P) → IfSome (each said xs) (AllByRecursion P)
+pub of_all : {A B : Type 0} (P : B → Type 0) (said : A → Option B) (xs : List A) → ((x : A) → IfSome (said x) P)
+    → IfSome (each said xs) (AllByRecursion P)
 of_all {A} {B} P said [] h = tt
 of_all {A} {B} P said (x ∷ xs) h = by (said x) (each said xs) (h x) (of_all P said xs h)
   where
-    by : (o : Option B) (rest : Option (List B)) → IfSome o P → IfSome rest (AllByRecursion P) → IfSome (said_before o rest) (AllByRecursion P)
+    by : (o : Option B) (rest : Option (List B)) → IfSome o P → IfSome rest (AllByRecursion P)
+        → IfSome (said_before o rest) (AllByRecursion P)
     by None rest h k = tt
     by (Some y) None h k = tt
     by (Some y) (Some ys) h k = (h, k)

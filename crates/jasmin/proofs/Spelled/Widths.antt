@@ -1,5 +1,6 @@
 -- Lines whose widths are settled keep what their instructions have, and few numbers stay with `ldc`.
-use Rattle.std.proofs.Common.{◌≡◌, ℕ, ℤ, ◌+◌, ◌≤◌, Bool, true, false, not, ◌||◌, List, [], ◌∷◌, ◌++◌, length, map, filter, take, refl, sym, ap, subst, ◌∙◌, arith, inl, inr, Some, None, Option}
+use Rattle.std.proofs.Common.{◌≡◌, ℕ, ℤ, ◌+◌, ◌≤◌, Bool, true, false, not, ◌||◌, List, [], ◌∷◌, ◌++◌, length, map}
+use Rattle.std.proofs.Common.{filter, take, refl, sym, ap, subst, ◌∙◌, arith, inl, inr, Some, None, Option}
 use Rattle.std.specs.List.{AllByRecursion, list_all, flat_map}
 use Rattle.std.specs.Option.{option_map}
 use Rattle.std.specs.Ordering.{int_eq}
@@ -8,7 +9,9 @@ use Rattle.std.proofs.lemmas.List.{length-take}
 use Rattle.std.proofs.lemmas.List.Folds.{list_all-append}
 use Rattle.model.specs.declared.instructions.Constant.{Constant}
 use Rattle.model.specs.declared.instructions.Constant.TheVariants as constant
-use Rattle.model.specs.declared.instructions.Instruction.TheVariants.{Nop, Constant as ConstantOf, Local, Stack, Number, Branch, TableSwitch, LookupSwitch, Return, Static, Field, Array, Class, Invoke, Throw, Monitor}
+use Rattle.model.specs.declared.instructions.Instruction.TheVariants.{Nop, Constant as ConstantOf, Local, Stack, Number}
+use Rattle.model.specs.declared.instructions.Instruction.TheVariants.{Branch, TableSwitch, LookupSwitch, Return, Static}
+use Rattle.model.specs.declared.instructions.Instruction.TheVariants.{Field, Array, Class, Invoke, Throw, Monitor}
 use Rattle.model.specs.declared.instructions.Width.TheVariants.{Narrow, Wide}
 use Rattle.model.specs.declared.listings.Placed.{Placed}
 use Rattle.model.specs.declared.trees.CatchRow.{CatchRow}
@@ -22,7 +25,8 @@ use Rattle.model.specs.Texts.Labels.{pc_of, with_targets}
 use Rattle.model.specs.Texts.ListingOfTree.{placed_from, code_listing, method_listing}
 use Rattle.model.specs.Texts.Spelled.{narrow_number, narrow_constant, numbers_of_code, ldc_numbers}
 use Rattle.model.specs.Texts.Uses.{labels_from, count_from, labels_in, count_in, targets_of, line_agrees, labels_agree}
-use Rattle.model.specs.Texts.Widths.{is_among, different, widened_constant, widened, widened_line, narrow_numbers, used_in_methods}
+use Rattle.model.specs.Texts.Widths.{is_among, different, widened_constant, widened, widened_line, narrow_numbers}
+use Rattle.model.specs.Texts.Widths.{used_in_methods}
 use Rattle.jasmin_words.proofs.Places.{bool_tells}
 use Rattle.jasmin.proofs.Spelled.Bodies.{LineFits}
 use Rattle.jasmin.proofs.Spelled.Instructions.{Fits}
@@ -59,7 +63,8 @@ module _ (narrow : List ℤ) where
   instruction_kept Throw h = h
   instruction_kept (Monitor m) h = h
 
-  pub lines_kept : (lines : List TextLine) → AllByRecursion LineFits lines → AllByRecursion LineFits (map (widened_line narrow) lines)
+  pub lines_kept : (lines : List TextLine) → AllByRecursion LineFits lines
+      → AllByRecursion LineFits (map (widened_line narrow) lines)
   lines_kept [] all = tt
   lines_kept (line.Label l ∷ lines) all = (tt, lines_kept lines all.1)
   lines_kept (line.Instruction i ∷ lines) all = (instruction_kept i all.0, lines_kept lines all.1)
@@ -92,14 +97,18 @@ module _ (narrow : List ℤ) where
   count_kept n (line.Label l ∷ lines) = count_kept n lines
   count_kept n (line.Instruction i ∷ lines) = count_kept (n + 1) lines
 
-  all_agree_kept : (labels : List (List ℕ × ℕ)) (count : ℕ) (lines : List TextLine) → list_all (line_agrees labels count) (map (widened_line narrow) lines) ≡ list_all (line_agrees labels count) lines
+  all_agree_kept : (labels : List (List ℕ × ℕ)) (count : ℕ) (lines : List TextLine)
+      → list_all (line_agrees labels count) (map (widened_line narrow) lines)
+      ≡ list_all (line_agrees labels count) lines
   all_agree_kept labels count [] = refl
   all_agree_kept labels count (line.Label l ∷ lines) = all_agree_kept labels count lines
   all_agree_kept labels count (line.Instruction i ∷ lines) = rw (targets_kept i, all_agree_kept labels count lines) refl
 
-  pub agree_kept : (rows : List CatchRow) (lines : List TextLine) → labels_agree rows (map (widened_line narrow) lines) ≡ labels_agree rows lines
+  pub agree_kept : (rows : List CatchRow) (lines : List TextLine) → labels_agree rows (map (widened_line narrow) lines)
+      ≡ labels_agree rows lines
   unfolding labels_agree
-  agree_kept rows lines = rw (labels_kept 0 lines, count_kept 0 lines, all_agree_kept (labels_in lines) (count_in lines) lines) refl
+  agree_kept rows lines = rw (labels_kept 0 lines, count_kept 0 lines,
+      all_agree_kept (labels_in lines) (count_in lines) lines) refl
 
   -- ---- the numbers that stay with `ldc`
 
@@ -109,11 +118,13 @@ module _ (narrow : List ℤ) where
   constant_among (constant.SmallLong n) = refl
   constant_among (constant.Byte n) = refl
   constant_among (constant.Short n) = refl
-  constant_among (constant.Int Narrow n) = elim (bool_tells (is_among narrow n)) [ inl t ↦ rw t (and_true (is_among narrow n) true t refl) | inr f ↦ rw f refl ]
+  constant_among (constant.Int Narrow n) = elim (bool_tells (is_among narrow n)) [
+      inl t ↦ rw t (and_true (is_among narrow n) true t refl) | inr f ↦ rw f refl ]
   constant_among (constant.Int Wide n) = refl
   constant_among (constant.Long n) = refl
 
-  instruction_among : (f : List ℕ → ℕ) (i : Written) → list_all (is_among narrow) (narrow_number (with_targets f (widened narrow i))) ≡ true
+  instruction_among : (f : List ℕ → ℕ) (i : Written)
+      → list_all (is_among narrow) (narrow_number (with_targets f (widened narrow i))) ≡ true
   instruction_among f Nop = refl
   instruction_among f (ConstantOf c) = constant_among c
   instruction_among f (Local l) = refl
@@ -131,26 +142,33 @@ module _ (narrow : List ℤ) where
   instruction_among f Throw = refl
   instruction_among f (Monitor m) = refl
 
-  both_among : (xs ys : List ℤ) → list_all (is_among narrow) xs ≡ true → list_all (is_among narrow) ys ≡ true → list_all (is_among narrow) (xs ++ ys) ≡ true
-  both_among xs ys h k = list_all-append (is_among narrow) xs ys ∙ and_true (list_all (is_among narrow) xs) (list_all (is_among narrow) ys) h k
+  both_among : (xs ys : List ℤ) → list_all (is_among narrow) xs ≡ true → list_all (is_among narrow) ys ≡ true
+      → list_all (is_among narrow) (xs ++ ys) ≡ true
+  both_among xs ys h k = list_all-append (is_among narrow) xs ys ∙ and_true (list_all (is_among narrow) xs)
+      (list_all (is_among narrow) ys) h k
 
   lines_among : (f : List ℕ → ℕ) (pc : ℕ) (lines : List TextLine)
-      → list_all (is_among narrow) (flat_map (λ (p : Placed). narrow_number p.instruction) (placed_from f pc (map (widened_line narrow) lines))) ≡ true
+      → list_all (is_among narrow) (flat_map (λ (p : Placed). narrow_number p.instruction)
+          (placed_from f pc (map (widened_line narrow) lines))) ≡ true
   lines_among f pc [] = refl
   lines_among f pc (line.Label l ∷ lines) = lines_among f pc lines
   lines_among f pc (line.Instruction i ∷ lines) =
       both_among (narrow_number (with_targets f (widened narrow i)))
-      (flat_map (λ (p : Placed). narrow_number p.instruction) (placed_from f (pc + size_at pc (widened narrow i)) (map (widened_line narrow) lines)))
+      (flat_map (λ (p : Placed). narrow_number p.instruction) (placed_from f (pc + size_at pc (widened narrow i))
+          (map (widened_line narrow) lines)))
       (instruction_among f i) (lines_among f (pc + size_at pc (widened narrow i)) lines)
 
-  body_among : (body : Option Body) → list_all (is_among narrow) (numbers_of_code (option_map (code_listing narrow) body)) ≡ true
+  body_among : (body : Option Body)
+      → list_all (is_among narrow) (numbers_of_code (option_map (code_listing narrow) body)) ≡ true
   body_among None = refl
   body_among (Some body) = lines_among (pc_of 0 (map (widened_line narrow) body.lines)) 0 body.lines
 
-  methods_among : (ms : List MethodTree) → list_all (is_among narrow) (ldc_numbers (map (method_listing narrow) ms)) ≡ true
+  methods_among : (ms : List MethodTree) → list_all (is_among narrow) (ldc_numbers (map (method_listing narrow) ms))
+      ≡ true
   methods_among [] = refl
   methods_among (m ∷ ms) =
-      both_among (numbers_of_code (option_map (code_listing narrow) m.body)) (ldc_numbers (map (method_listing narrow) ms)) (body_among m.body) (methods_among ms)
+      both_among (numbers_of_code (option_map (code_listing narrow) m.body))
+          (ldc_numbers (map (method_listing narrow) ms)) (body_among m.body) (methods_among ms)
 
 -- ---- different numbers among others are no more than those
 
@@ -194,20 +212,23 @@ still_apart p (z ∷ zs) h =
     ]
 
 unequal : (z y : ℤ) → int_eq z y ≡ false → int_eq y z ≡ false
-unequal z y h = elim (bool_tells (int_eq y z)) [ inl t ↦ (let k = (Decides-int_eq z y).1 (sym ((Decides-int_eq y z).0 t)) in cc) | inr f ↦ f ]
+unequal z y h = elim (bool_tells (int_eq y z)) [
+    inl t ↦ (let k = (Decides-int_eq z y).1 (sym ((Decides-int_eq y z).0 t)) in cc) | inr f ↦ f ]
 
 gone : (z : ℤ) (zs : List ℤ) → is_among (filter (λ y. not (int_eq z y)) zs) z ≡ false
 gone z [] = refl
 gone z (y ∷ zs) =
     elim (bool_tells (int_eq z y)) [
       | inl t ↦ rw t (gone z zs)
-      | inr f ↦ rw f (or_false (int_eq y z) (is_among (filter (λ y. not (int_eq z y)) zs) z) (unequal z y f) (gone z zs))
+      | inr f ↦ rw f (or_false (int_eq y z) (is_among (filter (λ y. not (int_eq z y)) zs) z) (unequal z y f)
+          (gone z zs))
     ]
 
 different_apart : (zs : List ℤ) → Apart (different zs)
 unfolding Apart
 different_apart [] = tt
-different_apart (z ∷ zs) = (gone z (different zs), still_apart (λ y. not (int_eq z y)) (different zs) (different_apart zs))
+different_apart (z ∷ zs) = (gone z (different zs),
+    still_apart (λ y. not (int_eq z y)) (different zs) (different_apart zs))
 
 all_kept : (p q : ℤ → Bool) (zs : List ℤ) → list_all p zs ≡ true → list_all p (filter q zs) ≡ true
 all_kept p q [] h = refl
@@ -222,7 +243,8 @@ all_different : (p : ℤ → Bool) (zs : List ℤ) → list_all p zs ≡ true �
 all_different p [] h = refl
 all_different p (z ∷ zs) h =
     let parts = both_true (p z) (list_all p zs) h in
-    and_true (p z) (list_all p (filter (λ y. not (int_eq z y)) (different zs))) parts.0 (all_kept p (λ y. not (int_eq z y)) (different zs) (all_different p zs parts.1))
+    and_true (p z) (list_all p (filter (λ y. not (int_eq z y)) (different zs))) parts.0
+        (all_kept p (λ y. not (int_eq z y)) (different zs) (all_different p zs parts.1))
 
 -- without one number
 nothing_lost : (k : ℤ) (zs : List ℤ) → is_among zs k ≡ false → length zs ≤ length (filter (but k) zs)
@@ -244,28 +266,33 @@ one_lost k (z ∷ zs) h =
       | inr f ↦ rw f (omega (arith, one_lost k zs h.1))
     ]
 
-others_among : (k : ℤ) (ks zs : List ℤ) → list_all (is_among (k ∷ ks)) zs ≡ true → list_all (is_among ks) (filter (but k) zs) ≡ true
+others_among : (k : ℤ) (ks zs : List ℤ) → list_all (is_among (k ∷ ks)) zs ≡ true
+    → list_all (is_among ks) (filter (but k) zs) ≡ true
 unfolding but
 others_among k ks [] h = refl
 others_among k ks (z ∷ zs) h =
     let parts = both_true (is_among (k ∷ ks) z) (list_all (is_among (k ∷ ks)) zs) h in
     elim (bool_tells (int_eq k z)) [
       | inl t ↦ rw t (others_among k ks zs parts.1)
-      | inr f ↦ rw f (and_true (is_among ks z) (list_all (is_among ks) (filter (but k) zs)) (rw f at parts.0) (others_among k ks zs parts.1))
+      | inr f ↦ rw f (and_true (is_among ks z) (list_all (is_among ks) (filter (but k) zs)) (rw f at parts.0)
+          (others_among k ks zs parts.1))
     ]
 
 no_more : (ks zs : List ℤ) → Apart zs → list_all (is_among ks) zs ≡ true → length zs ≤ length ks
 no_more [] [] apart h = omega arith
 no_more [] (z ∷ zs) apart h = absurd cc
-no_more (k ∷ ks) zs apart h = omega (arith, one_lost k zs apart, no_more ks (filter (but k) zs) (still_apart (but k) zs apart) (others_among k ks zs h))
+no_more (k ∷ ks) zs apart h = omega (arith, one_lost k zs apart,
+    no_more ks (filter (but k) zs) (still_apart (but k) zs apart) (others_among k ks zs h))
 
 few : (xs : List ℤ) → length (take 255 xs) ≤ 255
 few xs = omega (arith, length-take 255 xs)
 
-pub few_numbers : (ms : List MethodTree) → length (different (ldc_numbers (map (method_listing (narrow_numbers ms)) ms))) ≤ 255
+pub few_numbers : (ms : List MethodTree)
+    → length (different (ldc_numbers (map (method_listing (narrow_numbers ms)) ms))) ≤ 255
 few_numbers ms =
     let numbers = ldc_numbers (map (method_listing (narrow_numbers ms)) ms) in
     let most : length (different numbers) ≤ length (narrow_numbers ms) =
-    no_more (narrow_numbers ms) (different numbers) (different_apart numbers) (all_different (is_among (narrow_numbers ms)) numbers (methods_among (narrow_numbers ms) ms)) in
+    no_more (narrow_numbers ms) (different numbers) (different_apart numbers)
+        (all_different (is_among (narrow_numbers ms)) numbers (methods_among (narrow_numbers ms) ms)) in
     let least : length (narrow_numbers ms) ≤ 255 = few (different (used_in_methods ms)) in
     omega arith

@@ -1,4 +1,5 @@
-use Rattle.std.proofs.Common.{◌≡◌, ◌⊎◌, inl, inr, ℕ, zero, suc, ◌<◌, Bool, true, false, ◌||◌, if◌then◌else◌, List, [], ◌∷◌, length, map, set, nat_eq, refl, sym, ◌∙◌, ap, arith, eqb-true, eq-eqb}
+use Rattle.std.proofs.Common.{◌≡◌, ◌⊎◌, inl, inr, ℕ, zero, suc, ◌<◌, Bool, true, false, ◌||◌, if◌then◌else◌, List, []}
+use Rattle.std.proofs.Common.{◌∷◌, length, map, set, nat_eq, refl, sym, ◌∙◌, ap, arith, eqb-true, eq-eqb}
 use Rattle.model.specs.declared.colours.Colour.{Colour}
 use Rattle.model.specs.declared.colours.Colour.TheVariants.{White, Grey, Black}
 use Rattle.model.specs.declared.colours.Phase.{Phase}
@@ -15,7 +16,8 @@ pub length-cells : (f : Cell → Cell) (cells : List Cell) → length (map f cel
 length-cells f [] = refl
 length-cells f (x ∷ xs) = ap suc (length-cells f xs)
 
-pub cell_at-map : (f : Cell → Cell) → f Free ≡ Free → (cells : List Cell) (c : ℕ) → cell_at (map f cells) c ≡ f (cell_at cells c)
+pub cell_at-map : (f : Cell → Cell) → f Free ≡ Free → (cells : List Cell) (c : ℕ) → cell_at (map f cells) c
+    ≡ f (cell_at cells c)
 cell_at-map f e [] c = sym e
 cell_at-map f e (x ∷ xs) zero = refl
 cell_at-map f e (x ∷ xs) (suc c) = cell_at-map f e xs c
@@ -25,7 +27,8 @@ cell_at-set_same [] c x h = absurd (omega arith)
 cell_at-set_same (y ∷ ys) zero x h = refl
 cell_at-set_same (y ∷ ys) (suc c) x h = cell_at-set_same ys c x (omega arith)
 
-pub cell_at-set_other : (cells : List Cell) (c d : ℕ) (x : Cell) → (d ≡ c → ⊥) → cell_at (set cells c x) d ≡ cell_at cells d
+pub cell_at-set_other : (cells : List Cell) (c d : ℕ) (x : Cell) → (d ≡ c → ⊥) → cell_at (set cells c x) d
+    ≡ cell_at cells d
 cell_at-set_other [] c d x h = refl
 cell_at-set_other (y ∷ ys) zero zero x h = absurd (h refl)
 cell_at-set_other (y ∷ ys) zero (suc d) x h = refl
@@ -40,7 +43,8 @@ same_or_not c d = go (nat_eq d c) refl
     go false e = inr (λ h. let k = eq-eqb d c h in cc)
 
 -- a write at c, and each cell after it
-pub cell_at-set_cases : (cells : List Cell) (c d : ℕ) (x : Cell) → c < length cells → ((d ≡ c) × (cell_at (set cells c x) d ≡ x)) ⊎ ((d ≡ c → ⊥) × (cell_at (set cells c x) d ≡ cell_at cells d))
+pub cell_at-set_cases : (cells : List Cell) (c d : ℕ) (x : Cell) → c < length cells
+    → ((d ≡ c) × (cell_at (set cells c x) d ≡ x)) ⊎ ((d ≡ c → ⊥) × (cell_at (set cells c x) d ≡ cell_at cells d))
 cell_at-set_cases cells c d x h =
     elim (same_or_not c d) [
       | inl e ↦ let k = cell_at-set_same cells c x h in inl (e, rw e k)
@@ -54,7 +58,8 @@ taken_within (y ∷ ys) (suc c) b x e = let h = taken_within ys c b x e in omega
 
 -- ---- a birth is shaded
 
-tint_by : (a b : ℕ) (t : Bool) → nat_eq a b ≡ t → ((if t then Taken a Grey else Taken a White) ≡ Taken a White) ⊎ ((Taken a White ≡ Taken b White) × ((if t then Taken a Grey else Taken a White) ≡ Taken b Grey))
+tint_by : (a b : ℕ) (t : Bool) → nat_eq a b ≡ t → ((if t then Taken a Grey else Taken a White) ≡ Taken a White) ⊎
+    ((Taken a White ≡ Taken b White) × ((if t then Taken a Grey else Taken a White) ≡ Taken b Grey))
 tint_by a b true e = let h = eqb-true a b e in inr (cc, cc)
 tint_by a b false e = inl refl
 
@@ -75,22 +80,27 @@ untint b (Taken a Grey) h = cc
 untint b (Taken a Black) h = cc
 
 pub tinted_not_white : (b : ℕ) (cells : List Cell) → NotWhite (map (tint b) cells) b
-tinted_not_white b cells = record { never = λ c h. untint b (cell_at cells c) (sym (cell_at-map (tint b) refl cells c) ∙ h) }
+tinted_not_white b cells = record { never = λ c h. untint b (cell_at cells c) (sym (cell_at-map (tint b) refl cells c)
+    ∙ h) }
 
 -- each cell is as before, or held the birth white and now holds it grey
 pub record Darker (b : ℕ) (old new : List Cell) : Type 0 where
-  pub at : (c : ℕ) → (cell_at new c ≡ cell_at old c) ⊎ ((cell_at old c ≡ Taken b White) × (cell_at new c ≡ Taken b Grey))
+  pub at : (c : ℕ) → (cell_at new c ≡ cell_at old c) ⊎ ((cell_at old c ≡ Taken b White)
+      × (cell_at new c ≡ Taken b Grey))
 
 pub tinted_darker : (b : ℕ) (cells : List Cell) → Darker b cells (map (tint b) cells)
 tinted_darker b cells = record { at = λ c. rw (cell_at-map (tint b) refl cells c) (tint_cases b (cell_at cells c)) }
 
-pub before : {b : ℕ} {old new : List Cell} → Darker b old new → (c a : ℕ) (x : Colour) → cell_at new c ≡ Taken a x → (cell_at old c ≡ Taken a x) ⊎ ((a ≡ b) × (x ≡ Grey) × (cell_at old c ≡ Taken b White))
+pub before : {b : ℕ} {old new : List Cell} → Darker b old new → (c a : ℕ) (x : Colour) → cell_at new c ≡ Taken a x
+    → (cell_at old c ≡ Taken a x) ⊎ ((a ≡ b) × (x ≡ Grey) × (cell_at old c ≡ Taken b White))
 before h c a x e = elim (h.at c) [ inl s ↦ inl cc | inr p ↦ inr (cc, cc, p.0) ]
 
-pub after : {b : ℕ} {old new : List Cell} → Darker b old new → (c a : ℕ) (x : Colour) → cell_at old c ≡ Taken a x → (cell_at new c ≡ Taken a x) ⊎ ((x ≡ White) × (cell_at new c ≡ Taken a Grey))
+pub after : {b : ℕ} {old new : List Cell} → Darker b old new → (c a : ℕ) (x : Colour) → cell_at old c ≡ Taken a x
+    → (cell_at new c ≡ Taken a x) ⊎ ((x ≡ White) × (cell_at new c ≡ Taken a Grey))
 after h c a x e = elim (h.at c) [ inl s ↦ inl cc | inr p ↦ inr (cc, cc) ]
 
-pub held_before : {b : ℕ} {old new : List Cell} → Darker b old new → (c a : ℕ) (x : Colour) → cell_at new c ≡ Taken a x → (y : Colour) × (cell_at old c ≡ Taken a y)
+pub held_before : {b : ℕ} {old new : List Cell} → Darker b old new → (c a : ℕ) (x : Colour) → cell_at new c ≡ Taken a x
+    → (y : Colour) × (cell_at old c ≡ Taken a y)
 held_before d c a x k = elim (before d c a x k) [ inl s ↦ (x, s) | inr s ↦ (White, cc) ]
 
 pub kept-grey : (phase : Phase) (c : ℕ) → Kept phase c Grey
@@ -100,7 +110,8 @@ kept-grey (Frames t d j) c = tt
 kept-grey (Mark q) c = tt
 kept-grey (Append p) c = tt
 
-pub darker_kept : {b : ℕ} {old new : List Cell} → Darker b old new → (phase : Phase) (a : ℕ) → HasKept phase old a → HasKept phase new a
+pub darker_kept : {b : ℕ} {old new : List Cell} → Darker b old new → (phase : Phase) (a : ℕ) → HasKept phase old a
+    → HasKept phase new a
 darker_kept h phase a k =
     elim (after h k.cell a k.colour k.held) [
       | inl e ↦ record { cell = k.cell; colour = k.colour; held = e; kept = k.kept }
@@ -135,7 +146,8 @@ or_false false t e = (refl, e)
 pub white_where : (b : ℕ) (cells : List Cell) → has_white b cells ≡ true → (c : ℕ) × (cell_at cells c ≡ Taken b White)
 white_where b [] e = absurd (cc)
 white_where b (x ∷ xs) e =
-    elim (or_true (is_white b x) (has_white b xs) e) [ inl h ↦ (0, white_by b x h) | inr h ↦ (let r = white_where b xs h in (suc r.0, r.1)) ]
+    elim (or_true (is_white b x) (has_white b xs) e) [ inl h ↦ (0, white_by b x h) |
+        inr h ↦ (let r = white_where b xs h in (suc r.0, r.1)) ]
 
 nowhere : (b : ℕ) (cells : List Cell) → has_white b cells ≡ false → (c : ℕ) → cell_at cells c ≡ Taken b White → ⊥
 nowhere b [] e c h = cc

@@ -1,4 +1,5 @@
-use Rattle.std.proofs.Common.{◌≡◌, ◌⊎◌, inl, inr, ℕ, zero, suc, ◌+◌, ◌<◌, ◌≤◌, List, [], ◌++◌, length, set, replicate, Some, refl, ap, arith}
+use Rattle.std.proofs.Common.{◌≡◌, ◌⊎◌, inl, inr, ℕ, zero, suc, ◌+◌, ◌<◌, ◌≤◌, List, [], ◌++◌, length, set, replicate}
+use Rattle.std.proofs.Common.{Some, refl, ap, arith}
 use Rattle.model.specs.declared.colours.Colour.{Colour}
 use Rattle.model.specs.declared.colours.Colour.TheVariants.{White, Grey, Black}
 use Rattle.model.specs.declared.colours.Phase.TheVariants.{Idle}
@@ -20,7 +21,8 @@ use Rattle.model.specs.Collector.Table.{cell_at}
 use Rattle.model.specs.Collector.Invariant.{In, Distinct, Spare, Tidy, Invariant}
 use Rattle.model.proofs.CollectorLemmas.Cells.{same_or_not}
 use Rattle.model.proofs.CollectorLemmas.Words.{nowhere_at, opening_nowhere}
-use Rattle.model.proofs.CollectorLemmas.Taking.{relisted, Takes, takes, came_before, came_after, came_here, placed_is, room_for_none}
+use Rattle.model.proofs.CollectorLemmas.Taking.{relisted, Takes, takes, came_before, came_after, came_here, placed_is}
+use Rattle.model.proofs.CollectorLemmas.Taking.{room_for_none}
 
 -- the opening meets the invariant
 
@@ -47,17 +49,20 @@ numbers-within (suc n) first c (inr h) = let k = numbers-within n (first + 1) c 
 
 numbers-all : (n first c : ℕ) → first ≤ c → c < first + n → In c (numbers_up first n)
 numbers-all zero first c l u = absurd (omega arith)
-numbers-all (suc n) first c l u = elim (same_or_not first c) [ inl e ↦ inl e | inr ne ↦ inr (numbers-all n (first + 1) c (grind arith) (omega arith)) ]
+numbers-all (suc n) first c l u = elim (same_or_not first c) [ inl e ↦ inl e | inr ne ↦
+    inr (numbers-all n (first + 1) c (grind arith) (omega arith)) ]
 
 numbers-distinct : (n first : ℕ) → Distinct (numbers_up first n)
 numbers-distinct zero first = tt
-numbers-distinct (suc n) first = (λ h. let k = numbers-within n (first + 1) first h in omega arith, numbers-distinct n (first + 1))
+numbers-distinct (suc n) first = (λ h. let k = numbers-within n (first + 1) first h in omega arith,
+                                             numbers-distinct n (first + 1))
 
 length-numbers : (n first : ℕ) → length (numbers_up first n) ≡ n
 length-numbers zero first = refl
 length-numbers (suc n) first = ap suc (length-numbers n (first + 1))
 
-spare-opening : (cells first past n : ℕ) → past ≡ first + n → Spare (replicate cells Free) first past (numbers_up first n)
+spare-opening : (cells first past n : ℕ) → past ≡ first + n
+    → Spare (replicate cells Free) first past (numbers_up first n)
 spare-opening cells first past n e = record {
   unused = λ c h. all_free cells c;
   fits = λ c h. (let k = numbers-within n first c h in (k.0, (let u = k.1 in omega arith)));
@@ -78,7 +83,8 @@ tidy-empty shape =
       once = tt;
       small = spare-opening cells 0 shape.small shape.small (omega arith);
       medium = spare-opening cells shape.small (shape.small + shape.medium) shape.medium refl;
-      large = spare-opening cells (shape.small + shape.medium) (shape.small + shape.medium + shape.large) shape.large refl;
+      large = spare-opening cells (shape.small + shape.medium) (shape.small + shape.medium + shape.large) shape.large
+          refl;
     }
 
 -- ---- births 1 and 2 come
@@ -107,7 +113,8 @@ record Begins (shape : HeapShape) (o : Account) : Type 0 where
   white : (c b : ℕ) (x : Colour) → cell_at cells c ≡ Taken b x → x ≡ White
   left : 1 ≤ length small + length medium + length large
 
-begins : (shape : HeapShape) → 2 ≤ shape.small + shape.medium + shape.large → Begins shape (placed (empty_account shape) 1 0 White)
+begins : (shape : HeapShape) → 2 ≤ shape.small + shape.medium + shape.large
+    → Begins shape (placed (empty_account shape) 1 0 White)
 begins shape two =
     let o = empty_account shape in
     let a = length-numbers shape.small 0 in
@@ -125,18 +132,22 @@ begins shape two =
       is = placed_is shape 1 o 0 White room.0 t room.1;
       tidy = t.tidy White (omega arith);
       memory = (c, came.here);
-      white = λ e y x k. elim (came_before 1 c White _ _ came e y x k) [ inl s ↦ s.2 | inr s ↦ absurd (no_birth _ e y x s) ];
+      white = λ e y x k. elim (came_before 1 c White _ _ came e y x k) [ inl s ↦ s.2 |
+          inr s ↦ absurd (no_birth _ e y x s) ];
       left = (let l = t.left in omega arith);
     }
 
 -- birth 2 comes into an account that is known
-second_is : (shape : HeapShape) (a b : Account) (r : ℕ × Account) (t : Takes shape 2 b r.0 r.1) → a ≡ b → take_cell b 0 ≡ Some r → placed a 2 0 White ≡ record (relisted b t.small t.medium t.large) { cells = set b.cells r.0 (Taken 2 White) }
+second_is : (shape : HeapShape) (a b : Account) (r : ℕ × Account) (t : Takes shape 2 b r.0 r.1) → a ≡ b → take_cell b 0
+    ≡ Some r → placed a 2 0 White ≡ record (relisted b t.small t.medium t.large)
+    { cells = set b.cells r.0 (Taken 2 White) }
 second_is shape a b r t e f = rw e (placed_is shape 2 b 0 White r t f)
 
 opens : (shape : HeapShape) → 2 ≤ shape.small + shape.medium + shape.large → Opens shape (opening_account shape)
 opens shape two =
     let f = begins shape two in
-    let o : Account = record { cells = f.cells; small = f.small; medium = f.medium; large = f.large; grey = []; phase = Idle } in
+    let o : Account = record { cells = f.cells; small = f.small; medium = f.medium; large = f.large; grey = [];
+          phase = Idle } in
     let room = room_for_none o f.small f.medium f.large f.left in
     let t = takes shape 2 o 0 room.0 room.1 f.tidy in
     let c = room.0.0 in
@@ -164,22 +175,28 @@ opening_nowhere_led program =
     let main = main_frames program (main_in program) in
     let initializers = initializer_frames program (first_claim program) in
     waiting_move Nowhere (main ++ initializers)
-    (both_move Nowhere main initializers (main_moves Nowhere program (main_in program)) (initializers_move Nowhere program (first_claim program)))
+    (both_move Nowhere main initializers (main_moves Nowhere program (main_in program))
+        (initializers_move Nowhere program (first_claim program)))
 
-no_entry : (frames : List Frame) (d j b : ℕ) → FramesMove Nowhere [] frames → ref_at (entries_at frames d) j ≡ Some b → ⊥
-no_entry frames d j b h e = elim (refs-at Nowhere [] (entries_at frames d) j b (entries-at Nowhere [] frames d h) e) [ inl l ↦ cc | inr n ↦ n ]
+no_entry : (frames : List Frame) (d j b : ℕ) → FramesMove Nowhere [] frames → ref_at (entries_at frames d) j ≡ Some b
+    → ⊥
+no_entry frames d j b h e = elim (refs-at Nowhere [] (entries_at frames d) j b (entries-at Nowhere [] frames d h) e) [
+    inl l ↦ cc | inr n ↦ n ]
 
 no_monitor : (frames : List Frame) (d b : ℕ) → FramesMove Nowhere [] frames → monitor_at frames d ≡ Some b → ⊥
 no_monitor frames d b h e = elim (monitor-at Nowhere [] frames d h b e) [ inl l ↦ cc | inr n ↦ n ]
 
-opening_roots : (program : List ClassListing) (p : Place) (b : ℕ) → root_at (opening_world program) p ≡ Some b → (b ≡ 1) ⊎ (b ≡ 2)
+opening_roots : (program : List ClassListing) (p : Place) (b : ℕ) → root_at (opening_world program) p ≡ Some b
+    → (b ≡ 1) ⊎ (b ≡ 2)
 unfolding root_at
 opening_roots program MemoryError b e = inl cc
 opening_roots program StackError b e = inr cc
 opening_roots program (Slot s) b e = absurd (nowhere_at _ s b (opening_nowhere program) e)
-opening_roots program (FrameEntry zero d j) b e = absurd (no_entry (opening_frames program) d j b (opening_nowhere_led program) e)
+opening_roots program (FrameEntry zero d j) b e = absurd (no_entry (opening_frames program) d j b
+    (opening_nowhere_led program) e)
 opening_roots program (FrameEntry (suc t) d j) b e = absurd (no_entry [] d j b tt e)
-opening_roots program (MethodMonitor zero d) b e = absurd (no_monitor (opening_frames program) d b (opening_nowhere_led program) e)
+opening_roots program (MethodMonitor zero d) b e = absurd (no_monitor (opening_frames program) d b
+    (opening_nowhere_led program) e)
 opening_roots program (MethodMonitor (suc t) d) b e = absurd (no_monitor [] d b tt e)
 
 no_word : (x k b : ℕ) → ref_at (words_of opening_objects x) k ≡ Some b → ⊥
@@ -192,7 +209,8 @@ opening_words : (program : List ClassListing) (x k b : ℕ) → word_at (opening
 unfolding word_at
 opening_words program x k b e = no_word x k b e
 
-pub opening_keeps : (program : List ClassListing) (shape : HeapShape) → 2 ≤ shape.small + shape.medium + shape.large → Invariant shape (opening_world program) 3 (opening_account shape)
+pub opening_keeps : (program : List ClassListing) (shape : HeapShape) → 2 ≤ shape.small + shape.medium + shape.large
+    → Invariant shape (opening_world program) 3 (opening_account shape)
 opening_keeps program shape two =
     let o = opens shape two in
     rw o.is (record {

@@ -1,10 +1,12 @@
-use Rattle.std.proofs.Common.{◌≡◌, ◌⊎◌, inl, inr, ◌↔◌, ℕ, zero, suc, ◌<◌, ◌≤◌, length, List, [], ◌∷◌, ◌++◌, slice_get, Bool, true, false, IsTrue, nat_eq, Option, Some, None, refl, ap, subst, arith}
+use Rattle.std.proofs.Common.{◌≡◌, ◌⊎◌, inl, inr, ◌↔◌, ℕ, zero, suc, ◌<◌, ◌≤◌, length, List, [], ◌∷◌, ◌++◌, slice_get}
+use Rattle.std.proofs.Common.{Bool, true, false, IsTrue, nat_eq, Option, Some, None, refl, ap, subst, arith}
 use Rattle.std.proofs.lemmas.Bool.{cases_lt}
 use Rattle.std.proofs.lemmas.Bool.Decides.{Decides-eqb}
 use Rattle.std.specs.List.{flat_map, list_any}
 use Rattle.model.specs.Frames.{Frame}
 use Rattle.model.specs.Worlds.{World, Thread, frames_of, frames_at, next_birth}
-use Rattle.model.specs.Collector.Places.{Place, frame_refs, ref_at, entries_at, monitor_at, words_of, slots_of, root_at, word_at, Reach}
+use Rattle.model.specs.Collector.Places.{Place, frame_refs, ref_at, entries_at, monitor_at, words_of, slots_of, root_at}
+use Rattle.model.specs.Collector.Places.{word_at, Reach}
 use Rattle.model.specs.Collector.Places.Place.{MemoryError, StackError, Slot, FrameEntry, MethodMonitor}
 use Rattle.model.specs.Collector.Places.Reach.{at_root, by_word}
 use Rattle.model.specs.Collector.Reached.{roots_of_frame, roots_of_thread, roots_of, leads_within, is_reached}
@@ -44,19 +46,22 @@ among-cases (x ∷ xs) ys b (inl e) = inl (inl e)
 among-cases (x ∷ xs) ys b (inr h) = elim (among-cases xs ys b h) [ inl one ↦ inl (inr one) | inr other ↦ inr other ]
 
 -- a test that null doesn't pass, at some reference
-some-passes : (f : Option ℕ → Bool) → f None ≡ false → (rs : List (Option ℕ)) → list_any f rs ≡ true → (b : ℕ) × Among rs b × (f (Some b) ≡ true)
+some-passes : (f : Option ℕ → Bool) → f None ≡ false → (rs : List (Option ℕ)) → list_any f rs ≡ true → (b : ℕ)
+    × Among rs b × (f (Some b) ≡ true)
 some-passes f n [] h = cc
 some-passes f n (r ∷ rs) h =
     elim (or-cases (f r) (list_any f rs) h) [
       | inl here ↦ first r here
-      | inr there ↦ let found : (b : ℕ) × Among rs b × (f (Some b) ≡ true) = some-passes f n rs there in (found.0, inr found.1, found.2)
+      | inr there ↦ let found : (b : ℕ) × Among rs b × (f (Some b) ≡ true) = some-passes f n rs there
+                          in (found.0, inr found.1, found.2)
     ]
   where
     first : (r : Option ℕ) → f r ≡ true → (b : ℕ) × Among (r ∷ rs) b × (f (Some b) ≡ true)
     first None e = cc
     first (Some b) e = (b, inl refl, e)
 
-passes-some : (f : Option ℕ → Bool) (rs : List (Option ℕ)) (b : ℕ) → Among rs b → f (Some b) ≡ true → list_any f rs ≡ true
+passes-some : (f : Option ℕ → Bool) (rs : List (Option ℕ)) (b : ℕ) → Among rs b → f (Some b) ≡ true → list_any f rs
+    ≡ true
 passes-some f [] b h t = absurd h
 passes-some f (r ∷ rs) b (inl e) t = rw (e, t)
 passes-some f (r ∷ rs) b (inr h) t = or-right (f r) (list_any f rs) (passes-some f rs b h t)
@@ -67,12 +72,16 @@ passes-some f (r ∷ rs) b (inr h) t = or-right (f r) (list_any f rs) (passes-so
 abbrev AtFrame : List Frame → ℕ → Type 0
 AtFrame fs b = (d : ℕ) × ((monitor_at fs d ≡ Some b) ⊎ ((j : ℕ) × (ref_at (entries_at fs d) j ≡ Some b)))
 
-frame-listed : (fs : List Frame) (d b : ℕ) → (monitor_at fs d ≡ Some b) ⊎ ((j : ℕ) × (ref_at (entries_at fs d) j ≡ Some b)) → Among (flat_map roots_of_frame fs) b
+frame-listed : (fs : List Frame) (d b : ℕ)
+    → (monitor_at fs d ≡ Some b) ⊎ ((j : ℕ) × (ref_at (entries_at fs d) j ≡ Some b))
+    → Among (flat_map roots_of_frame fs) b
 frame-listed [] d b (inl e) = cc
 frame-listed [] d b (inr e) = absurd (among-at [] e.0 b e.1)
 frame-listed (f ∷ fs) zero b (inl e) = inl e
-frame-listed (f ∷ fs) zero b (inr e) = inr (among-left (frame_refs f) (flat_map roots_of_frame fs) b (among-at (frame_refs f) e.0 b e.1))
-frame-listed (f ∷ fs) (suc d) b h = among-right (roots_of_frame f) (flat_map roots_of_frame fs) b (frame-listed fs d b h)
+frame-listed (f ∷ fs) zero b (inr e) =
+    inr (among-left (frame_refs f) (flat_map roots_of_frame fs) b (among-at (frame_refs f) e.0 b e.1))
+frame-listed (f ∷ fs) (suc d) b h = among-right (roots_of_frame f) (flat_map roots_of_frame fs) b
+    (frame-listed fs d b h)
 
 listed-frame : (fs : List Frame) (b : ℕ) → Among (flat_map roots_of_frame fs) b → AtFrame fs b
 listed-frame [] b h = absurd h
@@ -83,27 +92,33 @@ listed-frame (f ∷ fs) b (inr h) =
       | inr there ↦ let rest : AtFrame fs b = listed-frame fs b there in (suc rest.0, rest.1)
     ]
 
-thread-listed : (ts : List Thread) (t b : ℕ) → AtFrame (frames_of (slice_get ts t)) b → Among (flat_map roots_of_thread ts) b
+thread-listed : (ts : List Thread) (t b : ℕ) → AtFrame (frames_of (slice_get ts t)) b
+    → Among (flat_map roots_of_thread ts) b
 thread-listed [] t b h = absurd (frame-listed [] h.0 b h.1)
 thread-listed (x ∷ ts) zero b h =
     among-left (roots_of_thread x) (flat_map roots_of_thread ts) b (frame-listed (frames_of (Some x)) h.0 b h.1)
-thread-listed (x ∷ ts) (suc t) b h = among-right (roots_of_thread x) (flat_map roots_of_thread ts) b (thread-listed ts t b h)
+thread-listed (x ∷ ts) (suc t) b h = among-right (roots_of_thread x) (flat_map roots_of_thread ts) b
+    (thread-listed ts t b h)
 
-listed-thread : (ts : List Thread) (b : ℕ) → Among (flat_map roots_of_thread ts) b → (t : ℕ) × AtFrame (frames_of (slice_get ts t)) b
+listed-thread : (ts : List Thread) (b : ℕ) → Among (flat_map roots_of_thread ts) b → (t : ℕ)
+    × AtFrame (frames_of (slice_get ts t)) b
 listed-thread [] b h = absurd h
 listed-thread (x ∷ ts) b h =
     elim (among-cases (roots_of_thread x) (flat_map roots_of_thread ts) b h) [
       | inl here ↦ (0, listed-frame (frames_of (Some x)) b here)
-      | inr there ↦ let rest : (t : ℕ) × AtFrame (frames_of (slice_get ts t)) b = listed-thread ts b there in (suc rest.0, rest.1)
+      | inr there ↦ let rest : (t : ℕ) × AtFrame (frames_of (slice_get ts t)) b = listed-thread ts b there
+                          in (suc rest.0, rest.1)
     ]
 
 root-listed : (w : World) (p : Place) (b : ℕ) → root_at w p ≡ Some b → Among (roots_of w) b
 unfolding root_at
 root-listed w MemoryError b e = inl e
 root-listed w StackError b e = inr (inl e)
-root-listed w (Slot s) b e = inr (inr (among-left (slots_of w) (flat_map roots_of_thread w.threads) b (among-at (slots_of w) s b e)))
+root-listed w (Slot s) b e =
+    inr (inr (among-left (slots_of w) (flat_map roots_of_thread w.threads) b (among-at (slots_of w) s b e)))
 root-listed w (FrameEntry t d j) b e =
-    inr (inr (among-right (slots_of w) (flat_map roots_of_thread w.threads) b (thread-listed w.threads t b (d, inr (j, e)))))
+    inr (inr (among-right (slots_of w) (flat_map roots_of_thread w.threads) b (thread-listed w.threads t b (d,
+        inr (j, e)))))
 root-listed w (MethodMonitor t d) b e =
     inr (inr (among-right (slots_of w) (flat_map roots_of_thread w.threads) b (thread-listed w.threads t b (d, inl e))))
 
@@ -116,11 +131,14 @@ listed-root w b (inl e) = (MemoryError, e)
 listed-root w b (inr (inl e)) = (StackError, e)
 listed-root w b (inr (inr h)) =
     elim (among-cases (slots_of w) (flat_map roots_of_thread w.threads) b h) [
-      | inl slot ↦ let found : (s : ℕ) × (ref_at (slots_of w) s ≡ Some b) = at-among (slots_of w) b slot in (Slot found.0, found.1)
-      | inr frame ↦ let found : (t : ℕ) × AtFrame (frames_at w t) b = listed-thread w.threads b frame in in_frame found.0 found.1.0 found.1.1
+      | inl slot ↦ let found : (s : ℕ) × (ref_at (slots_of w) s ≡ Some b) = at-among (slots_of w) b slot
+                         in (Slot found.0, found.1)
+      | inr frame ↦ let found : (t : ℕ) × AtFrame (frames_at w t) b = listed-thread w.threads b frame in
+                          in_frame found.0 found.1.0 found.1.1
     ]
   where
-    in_frame : (t d : ℕ) → (monitor_at (frames_at w t) d ≡ Some b) ⊎ ((j : ℕ) × (ref_at (entries_at (frames_at w t) d) j ≡ Some b)) → IsRoot w b
+    in_frame : (t d : ℕ) → (monitor_at (frames_at w t) d ≡ Some b) ⊎ ((j : ℕ)
+        × (ref_at (entries_at (frames_at w t) d) j ≡ Some b)) → IsRoot w b
     in_frame t d (inl e) = (MethodMonitor t d, e)
     in_frame t d (inr e) = (FrameEntry t d e.0, e.1)
 
@@ -140,7 +158,8 @@ leads-Reach (suc n) w b a h r =
       | inr there ↦
           let found : (c : ℕ) × Among (words_of w.objects a) c × (leads_within n w b (Some c) ≡ true) =
           some-passes (leads_within n w b) (at_null n w b) (words_of w.objects a) there in
-          let word : (k : ℕ) × (ref_at (words_of w.objects a) k ≡ Some found.0) = at-among (words_of w.objects a) found.0 found.1 in
+          let word : (k : ℕ) × (ref_at (words_of w.objects a) k ≡ Some found.0) = at-among (words_of w.objects a)
+                found.0 found.1 in
           leads-Reach n w b found.0 found.2 (by_word a word.0 r word.1)
     ]
 
@@ -156,7 +175,8 @@ path_of : (w : World) {b : ℕ} → Reach w b → FromRoot w b
 path_of w (at_root {b = b} p e) = (b, (p, e), ([], refl))
 path_of w (by_word {b = b} a k r e) =
     let before : FromRoot w a = path_of w r in
-    (before.0, before.1, (before.2.0 ++ b ∷ [], path-append (Leads w) before.0 a b before.2.0 (b ∷ []) before.2.1 ((k, e), refl)))
+    (before.0, before.1, (before.2.0 ++ b ∷ [], path-append (Leads w) before.0 a b before.2.0 (b ∷ []) before.2.1
+        ((k, e), refl)))
 
 -- the births before a number
 abbrev births_below : ℕ → List ℕ
@@ -175,18 +195,21 @@ has-birth (suc n) b h =
       | inr from ↦ let e : n ≡ b = omega arith in rw ((Decides-eqb n b).1 e) refl
     ]
 
-path-inside : (w : World) (a b : ℕ) (xs : List ℕ) → IsPath (Leads w) a xs b → Inside nat_eq (births_below (next_birth w)) a xs
+path-inside : (w : World) (a b : ℕ) (xs : List ℕ) → IsPath (Leads w) a xs b
+    → Inside nat_eq (births_below (next_birth w)) a xs
 path-inside w a b [] p = tt
 path-inside w a b (x ∷ xs) p = (has-birth (next_birth w) a (words_made w a p.0.0 x p.0.1), path-inside w x b xs p.1)
 
-path-leads : (steps : ℕ) (w : World) (a b : ℕ) (xs : List ℕ) → IsPath (Leads w) a xs b → length xs ≤ steps → leads_within steps w b (Some a) ≡ true
+path-leads : (steps : ℕ) (w : World) (a b : ℕ) (xs : List ℕ) → IsPath (Leads w) a xs b → length xs ≤ steps
+    → leads_within steps w b (Some a) ≡ true
 unfolding leads_within word_at
 path-leads zero w a b [] p few = (Decides-eqb a b).1 p
 path-leads (suc n) w a b [] p few = rw ((Decides-eqb a b).1 p) refl
 path-leads zero w a b (x ∷ xs) p few = absurd (omega arith)
 path-leads (suc n) w a b (x ∷ xs) p few =
     or-right (nat_eq a b) (list_any (leads_within n w b) (words_of w.objects a))
-    (passes-some (leads_within n w b) (words_of w.objects a) x (among-at (words_of w.objects a) p.0.0 x p.0.1) (path-leads n w x b xs p.1 (omega arith)))
+    (passes-some (leads_within n w b) (words_of w.objects a) x (among-at (words_of w.objects a) p.0.0 x p.0.1)
+        (path-leads n w x b xs p.1 (omega arith)))
 
 -- ---- the test and the relation agree
 
@@ -204,8 +227,10 @@ Reach-is_reached w b r =
     let path : FromRoot w b = path_of w r in
     let few : length (births_below (next_birth w)) ≤ next_birth w = omega (arith, length-births (next_birth w)) in
     let short : Short nat_eq Decides-eqb (Leads w) (next_birth w) path.0 b =
-    shortened nat_eq Decides-eqb (Leads w) (next_birth w) (births_below (next_birth w)) path.0 b path.2.0 few path.2.1 (path-inside w path.0 b path.2.0 path.2.1) in
-    passes-some (leads_within (next_birth w) w b) (roots_of w) path.0 (root-listed w path.1.0 path.0 path.1.1) (path-leads (next_birth w) w path.0 b short.0 short.1 short.2)
+    shortened nat_eq Decides-eqb (Leads w) (next_birth w) (births_below (next_birth w)) path.0 b path.2.0 few path.2.1
+        (path-inside w path.0 b path.2.0 path.2.1) in
+    passes-some (leads_within (next_birth w) w b) (roots_of w) path.0 (root-listed w path.1.0 path.0 path.1.1)
+        (path-leads (next_birth w) w path.0 b short.0 short.1 short.2)
 
 pub reached_agrees : (w : World) (b : ℕ) → Reach w b ↔ IsTrue (is_reached w b)
 reached_agrees w b = (Reach-is_reached w b, is_reached-Reach w b)

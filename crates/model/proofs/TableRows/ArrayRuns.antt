@@ -41,7 +41,8 @@ newarray_int = (2, Array (New AllInts))
 
 abbrev bytes : List ClassListing
 bytes = class_of (codes "A") [] 4 0 []
-    ((1, Constant (SmallInt Two)) ∷ (2, Array (New Bytes)) ∷ (1, Stack Dup) ∷ iconst_0 ∷ (3, Constant (Short (pos 200))) ∷
+    ((1, Constant (SmallInt Two)) ∷ (2, Array (New Bytes)) ∷ (1, Stack Dup) ∷ iconst_0 ∷ (3, Constant (Short (pos 200)))
+        ∷
     (1, Array (Store ByteElement)) ∷ iconst_0 ∷ (1, Array (Load ByteElement)) ∷ print ∷ return ∷ []) ∷ []
 
 abbrev bytes_run : Machine
@@ -63,7 +64,8 @@ five = class_of (codes "A") [] 1 0 [] ((2, Constant (Byte (pos 5))) ∷ newarray
 abbrev five_run : Recorded
 five_run = after_turns (opened five (small 64) ample) (thread 2)
 
-five-rows : five_run.journal.rows ≡ record { actor = Thread 0; outcome = Done; worker = 0 } ∷ record { actor = Thread 0; outcome = NoRoom; worker = 0 } ∷ []
+five-rows : five_run.journal.rows ≡ record { actor = Thread 0; outcome = Done; worker = 0 } ∷ record { actor = Thread 0;
+    outcome = NoRoom; worker = 0 } ∷ []
 unfolding machine_of after_turn_by refusal next completion after_turn shade
 five-rows = refl
 
@@ -71,8 +73,8 @@ five-end : thread_of five_run 0 ≡ Some (Ended (Some (codes "java/lang/OutOfMem
 unfolding machine_of after_turn_by refusal next completion after_turn shade
 five-end = refl
 
--- ---- whatever a division by 0 throws is caught and tested: where no cell is left for the exception, it is OutOfMemoryError;
--- a medium cell serves too. The rows' pcs: A is 0, B 3, H 5
+-- ---- whatever a division by 0 throws is caught and tested: where no cell is left for the exception, it is
+-- OutOfMemoryError; a medium cell serves too. The rows' pcs: A is 0, B 3, H 5
 
 abbrev caught : List ClassListing
 caught = class_of (codes "A") [] 2 0 (record { start = 0; end = 3; handler = 5; class = None } ∷ [])

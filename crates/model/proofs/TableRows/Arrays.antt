@@ -3,9 +3,13 @@ use Rattle.std.specs.Prelude.{◌≡◌, ℕ, pos, negsuc, List, [], ◌∷◌, 
 use Rattle.std.specs.Int.{int_wrap}
 use Rattle.model.specs.declared.instructions.ArrayOperation.{ArrayOperation}
 use Rattle.model.specs.declared.instructions.ArrayOperation.TheVariants.{New, NewOf, Length, Load, Store}
-use Rattle.model.specs.declared.instructions.ElementKind.TheVariants.{Int as IntElement, Long as LongElement, Ref as RefElement, Byte as ByteElement, Char as CharElement, Short as ShortElement}
-use Rattle.model.specs.declared.instructions.Primitive.TheVariants.{Char as Chars, Byte as Bytes, Short as Shorts, Int as AllInts, Long as AllLongs}
-use Rattle.model.specs.declared.turns.Exception.TheVariants.{NullPointer, NegativeArraySize, ArrayStore, ArrayIndexOutOfBounds}
+use Rattle.model.specs.declared.instructions.ElementKind.TheVariants.{Int as IntElement, Long as LongElement}
+use Rattle.model.specs.declared.instructions.ElementKind.TheVariants.{Ref as RefElement, Byte as ByteElement}
+use Rattle.model.specs.declared.instructions.ElementKind.TheVariants.{Char as CharElement, Short as ShortElement}
+use Rattle.model.specs.declared.instructions.Primitive.TheVariants.{Char as Chars, Byte as Bytes, Short as Shorts}
+use Rattle.model.specs.declared.instructions.Primitive.TheVariants.{Int as AllInts, Long as AllLongs}
+use Rattle.model.specs.declared.turns.Exception.TheVariants.{NullPointer, NegativeArraySize, ArrayStore}
+use Rattle.model.specs.declared.turns.Exception.TheVariants.{ArrayIndexOutOfBounds}
 use Rattle.model.specs.declared.turns.Fault.TheVariants.{StackEmpty, WrongKind, WrongClass}
 use Rattle.model.specs.declared.values.Value.{Value}
 use Rattle.model.specs.declared.values.Value.TheVariants.{Int, Long, Ref}
@@ -28,7 +32,8 @@ a birth = Ref (Some birth)
 
 -- ---- newarray and anewarray: one operand goes, and the elements are 0 or null
 
-made-bytes : does (New Bytes) (Int (pos 2) ∷ null ∷ []) ≡ Creates 9 1 (Array (codes "B") (Int (pos 0) ∷ Int (pos 0) ∷ []))
+made-bytes : does (New Bytes) (Int (pos 2) ∷ null ∷ [])
+    ≡ Creates 9 1 (Array (codes "B") (Int (pos 0) ∷ Int (pos 0) ∷ []))
 made-bytes = refl
 
 made-chars : does (New Chars) (Int (pos 1) ∷ []) ≡ Creates 9 1 (Array (codes "C") (Int (pos 0) ∷ []))
@@ -147,7 +152,8 @@ abbrev array_after : ℕ → Completion → Contents
 array_after birth c = contents_at (after_of c) birth
 
 -- 200 in a byte is -56, and all operands are gone
-stored-byte : array_after 5 (does (Store ByteElement) (Int (pos 200) ∷ Int (pos 1) ∷ a 5 ∷ null ∷ [])) ≡ Array (codes "B") (Int (pos 1) ∷ Int (negsuc 55) ∷ [])
+stored-byte : array_after 5 (does (Store ByteElement) (Int (pos 200) ∷ Int (pos 1) ∷ a 5 ∷ null ∷ []))
+    ≡ Array (codes "B") (Int (pos 1) ∷ Int (negsuc 55) ∷ [])
 unfolding int_wrap
 stored-byte = refl
 
@@ -155,11 +161,13 @@ stored-stack : stack_after (does (Store ByteElement) (Int (pos 200) ∷ Int (pos
 unfolding int_wrap
 stored-stack = refl
 
-stored-long : array_after 6 (does (Store LongElement) (Long (negsuc 0) ∷ Int (pos 0) ∷ a 6 ∷ [])) ≡ Array (codes "J") (Long (negsuc 0) ∷ [])
+stored-long : array_after 6 (does (Store LongElement) (Long (negsuc 0) ∷ Int (pos 0) ∷ a 6 ∷ []))
+    ≡ Array (codes "J") (Long (negsuc 0) ∷ [])
 stored-long = refl
 
 -- a reference that is stored is written; null goes into every array of references
-stored-reference : array_after 7 (does (Store RefElement) (a 3 ∷ Int (pos 1) ∷ a 7 ∷ [])) ≡ Array (codes "LK;") (a 3 ∷ a 3 ∷ [])
+stored-reference : array_after 7 (does (Store RefElement) (a 3 ∷ Int (pos 1) ∷ a 7 ∷ []))
+    ≡ Array (codes "LK;") (a 3 ∷ a 3 ∷ [])
 unfolding builtin_classes is_within is_subtype_within
 stored-reference = refl
 
@@ -167,7 +175,8 @@ stored-writes : writes_of (does (Store RefElement) (a 3 ∷ Int (pos 1) ∷ a 7 
 unfolding builtin_classes is_within is_subtype_within
 stored-writes = refl
 
-stored-null : array_after 7 (does (Store RefElement) (null ∷ Int (pos 0) ∷ a 7 ∷ [])) ≡ Array (codes "LK;") (null ∷ null ∷ [])
+stored-null : array_after 7 (does (Store RefElement) (null ∷ Int (pos 0) ∷ a 7 ∷ []))
+    ≡ Array (codes "LK;") (null ∷ null ∷ [])
 stored-null = refl
 
 -- the value's F3, the index's, the array's

@@ -1,11 +1,13 @@
--- Worked branches: from pc 3 to 40 where they are taken, else to the next instruction, at 6. Stacks are written top first.
+-- Worked branches: from pc 3 to 40 where they are taken, else to the next instruction, at 6. Stacks are written top
+-- first.
 use Rattle.std.specs.Prelude.{◌≡◌, pos, negsuc, List, [], ◌∷◌, Result, Some, None, refl}
 use Rattle.model.specs.declared.values.Value.{Value}
 use Rattle.model.specs.declared.values.Value.TheVariants.{Int, Long, Ref}
 use Rattle.model.specs.declared.turns.Fault.TheVariants.{StackEmpty, WrongKind}
 use Rattle.model.specs.declared.turns.Abrupt.{Abrupt}
 use Rattle.model.specs.declared.instructions.Width.TheVariants.{Narrow, Wide}
-use Rattle.model.specs.declared.instructions.Comparison.TheVariants.{Equal, NotEqual, Less, GreaterOrEqual, Greater, LessOrEqual}
+use Rattle.model.specs.declared.instructions.Comparison.TheVariants.{Equal, NotEqual, Less, GreaterOrEqual, Greater}
+use Rattle.model.specs.declared.instructions.Comparison.TheVariants.{LessOrEqual}
 use Rattle.model.specs.declared.instructions.Identity.TheVariants.{Same, Different}
 use Rattle.model.specs.declared.instructions.Test.{Test}
 use Rattle.model.specs.declared.instructions.Test.TheVariants.{Always, Zero, Ints, Refs, Null}

@@ -32,13 +32,15 @@ abbrev standing : ℕ → List Value → World
 standing pc stack = world (Live (at pc stack ∷ []) ∷ []) (object (codes "java/lang/Thread") None 0 None ∷ [])
 
 abbrev calls : Invocation → List Value → List ℕ → List ℕ → List ℕ → Completion
-calls how stack class name descriptor = invoked (site program (standing 6 stack) (at 6 stack) 9) how (member class name descriptor)
+calls how stack class name descriptor = invoked (site program (standing 6 stack) (at 6 stack) 9) how
+    (member class name descriptor)
 
--- the operand goes; the bytes come behind the output
+-- the operand goes; the bytes come after the output
 abbrev prints : List Value → List ℕ → Completion
 prints stack bytes = Prints (standing 9 stack) bytes
 
-print_least : calls Static (Int (negsuc 2147483647) ∷ Int (pos 1) ∷ []) (codes "vm/Sys") (codes "print") (codes "(I)V") ≡ prints (Int (pos 1) ∷ []) (codes "-2147483648\n")
+print_least : calls Static (Int (negsuc 2147483647) ∷ Int (pos 1) ∷ []) (codes "vm/Sys") (codes "print") (codes "(I)V")
+    ≡ prints (Int (pos 1) ∷ []) (codes "-2147483648\n")
 unfolding upwards interfaces_from is_within is_subtype_within builtin_classes digits
 print_least = refl
 
@@ -46,7 +48,8 @@ print_zero : calls Static (Int (pos 0) ∷ []) (codes "E") (codes "print") (code
 unfolding upwards interfaces_from is_within is_subtype_within builtin_classes digits
 print_zero = refl
 
-printl_greatest : calls Static (Long (pos 9223372036854775807) ∷ Int (pos 1) ∷ []) (codes "vm/Sys") (codes "printl") (codes "(J)V") ≡ prints (Int (pos 1) ∷ []) (codes "9223372036854775807\n")
+printl_greatest : calls Static (Long (pos 9223372036854775807) ∷ Int (pos 1) ∷ []) (codes "vm/Sys") (codes "printl")
+    (codes "(J)V") ≡ prints (Int (pos 1) ∷ []) (codes "9223372036854775807\n")
 unfolding upwards interfaces_from is_within is_subtype_within builtin_classes digits
 printl_greatest = refl
 
@@ -55,7 +58,8 @@ putc_low : calls Static (Int (pos 321) ∷ []) (codes "vm/Sys") (codes "putc") (
 unfolding upwards interfaces_from is_within is_subtype_within builtin_classes int_wrap
 putc_low = refl
 
-putc_minus_one : calls Static (Int (negsuc 0) ∷ []) (codes "vm/Sys") (codes "putc") (codes "(I)V") ≡ prints [] (255 ∷ [])
+putc_minus_one : calls Static (Int (negsuc 0) ∷ []) (codes "vm/Sys") (codes "putc") (codes "(I)V")
+    ≡ prints [] (255 ∷ [])
 unfolding upwards interfaces_from is_within is_subtype_within builtin_classes int_wrap
 putc_minus_one = refl
 
@@ -72,6 +76,7 @@ putc_ref : calls Static (Ref None ∷ []) (codes "vm/Sys") (codes "putc") (codes
 putc_ref = refl
 
 -- the object goes, and nothing else changes
-run_own : calls Virtual (Ref (Some 3) ∷ Int (pos 1) ∷ []) (codes "java/lang/Thread") (codes "run") (codes "()V") ≡ Goes (standing 9 (Int (pos 1) ∷ [])) []
+run_own : calls Virtual (Ref (Some 3) ∷ Int (pos 1) ∷ []) (codes "java/lang/Thread") (codes "run") (codes "()V")
+    ≡ Goes (standing 9 (Int (pos 1) ∷ [])) []
 unfolding upwards interfaces_from is_within is_subtype_within builtin_classes
 run_own = refl

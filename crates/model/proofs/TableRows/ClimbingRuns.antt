@@ -1,5 +1,5 @@
--- A synchronized method that calls itself until 256 frames are there. The StackOverflowError leaves the monitor as often as it
--- was entered, so that main, which handles it, no longer owns the monitor.
+-- A synchronized method that calls itself until 256 frames are there. The StackOverflowError leaves the monitor as
+-- often as it was entered, so that main, which handles it, no longer owns the monitor.
 use Rattle.std.specs.Prelude.{◌≡◌, ℕ, ◌+◌, List, [], ◌∷◌, ◌++◌, replicate, Some, None, codes, refl}
 use Rattle.std.specs.Int.{int_wrap}
 use Rattle.std.specs.Fmt.{digits}
@@ -48,7 +48,8 @@ climbing = class (codes "R") (codes "java/lang/Object") [] (
       code = Some (record {
         max_stack = 1;
         max_locals = 1;
-        rows = handles 4 8 9 (codes "java/lang/StackOverflowError") ∷ handles 11 12 13 (codes "java/lang/IllegalMonitorStateException") ∷ [];
+        rows = handles 4 8 9 (codes "java/lang/StackOverflowError")
+            ∷ handles 11 12 13 (codes "java/lang/IllegalMonitorStateException") ∷ [];
         instructions = placed_from 0 (
             (3, Class New (codes "R")) ∷ (1, Local (Store RefKind (First FirstZero))) ∷ aload_0 ∷ f ∷ return ∷
             (1, Stack Pop) ∷ aload_0 ∷ (1, Monitor Exit) ∷ return ∷
@@ -162,14 +163,15 @@ overflowed = refl
 abbrev climbed_all : World
 climbed_all = record caught {
   threads = Ended None ∷ [];
-  objects = opening_objects ++ object (codes "R") None 0 None ∷ object (codes "java/lang/IllegalMonitorStateException") None 0 None ∷ [];
+  objects = opening_objects ++ object (codes "R") None 0 None ∷ object (codes "java/lang/IllegalMonitorStateException")
+      None 0 None ∷ [];
   output = codes "1\n";
   rows = 520;
 }
 
-told : after 6 climbing caught ≡ climbed_all
+reported : after 6 climbing caught ≡ climbed_all
 unfolding refusal next completion builtin_classes upwards interfaces_from is_within is_subtype_within int_wrap digits
-told = refl
+reported = refl
 
 climbed-run : run 520 climbing ≡ climbed_all
 climbed-run =
@@ -192,4 +194,4 @@ climbed-run =
     let to_240 = more 452 30 climbing w (climbing_on 224 452) (climbing_on 239 482) to_225 climbed_240 in
     let to_255 = more 482 30 climbing w (climbing_on 239 482) (climbing_on 254 512) to_240 climbed_255 in
     let to_caught = more 512 2 climbing w (climbing_on 254 512) caught to_255 overflowed in
-    more 514 6 climbing w caught climbed_all to_caught told
+    more 514 6 climbing w caught climbed_all to_caught reported

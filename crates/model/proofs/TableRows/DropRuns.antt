@@ -1,11 +1,13 @@
--- An object that is dropped at once: the first cycle leaves it, grey as it was made, and the second gives its cell back.
+-- An object that is dropped at once: the first cycle leaves it, grey as it was made, and the second gives its cell
+-- back.
 use Rattle.std.specs.Prelude.{◌≡◌, pos, List, [], ◌∷◌, ◌++◌, codes, refl}
 use Rattle.std.specs.Int.{int_wrap}
 use Rattle.std.specs.Fmt.{digits}
 use Rattle.model.specs.declared.colours.Colour.TheVariants.{White, Grey}
 use Rattle.model.specs.declared.colours.Phase.TheVariants.{Idle, Append}
 use Rattle.model.proofs.TableRows.Listings.{return, ample}
-use Rattle.model.proofs.TableRows.Stages.{class_of, field, small, main_at, world, collector, thread, account, stage, then}
+use Rattle.model.proofs.TableRows.Stages.{class_of, field, small, main_at, world, collector, thread, account, stage}
+use Rattle.model.proofs.TableRows.Stages.{then}
 use Rattle.model.specs.declared.colours.Cell.TheVariants.{Free, Taken}
 use Rattle.model.specs.Accounts.{after_turn, shade}
 use Rattle.model.specs.ClassListings.{ClassListing}
@@ -30,16 +32,18 @@ use Rattle.model.specs.declared.values.Value.TheVariants.{Int}
 use Rattle.model.specs.declared.values.Value.{Value}
 
 abbrev k : List ClassListing
-k = class_of (codes "K") (field (codes "x") (codes "I") ∷ []) 1 0 [] ((3, Class New (codes "K")) ∷ (1, Stack Pop) ∷ return ∷ []) ∷ []
+k = class_of (codes "K") (field (codes "x") (codes "I") ∷ []) 1 0 [] ((3, Class New (codes "K")) ∷ (1, Stack Pop)
+    ∷ return ∷ []) ∷ []
 
 abbrev object : Value → Object
-object value = made_of (Instance (codes "K") (record { class = codes "K"; name = codes "x"; descriptor = codes "I"; value = value } ∷ []))
+object value = made_of (Instance (codes "K") (record { class = codes "K"; name = codes "x"; descriptor = codes "I";
+    value = value } ∷ []))
 
 abbrev moved : Machine → List Actor → Machine
 moved = moved_by_all k (small 3) ample
 
--- ---- two turns of the thread; after the collector's fourteenth the phase is Idle, after its twenty-fifth cell 2 is free, and
--- its twenty-sixth ends the second cycle
+-- ---- two turns of the thread; after the collector's fourteenth the phase is Idle, after its twenty-fifth cell 2 is
+-- free, and its twenty-sixth ends the second cycle
 
 abbrev drop0 : Machine
 drop0 = opening_machine k (small 3)
@@ -50,7 +54,8 @@ drop1 =
     (account (Taken 1 White ∷ Taken 2 White ∷ Taken 3 Grey ∷ []) [] (3 ∷ []) Idle)
 
 drop0-drop1 : moved drop0 (thread 2) ≡ drop1
-unfolding moved_by refusal next completion after_turn shade collected root_at word_at builtin_classes upwards interfaces_from is_within is_subtype_within int_wrap digits
+unfolding moved_by refusal next completion after_turn shade collected root_at word_at builtin_classes upwards
+    interfaces_from is_within is_subtype_within int_wrap digits
 drop0-drop1 = refl
 
 abbrev drop2 : Machine
@@ -59,7 +64,8 @@ drop2 =
     (account (Taken 1 White ∷ Taken 2 White ∷ Taken 3 White ∷ []) [] [] Idle)
 
 drop1-drop2 : moved drop1 (collector 14) ≡ drop2
-unfolding moved_by refusal next completion after_turn shade collected root_at word_at builtin_classes upwards interfaces_from is_within is_subtype_within int_wrap digits
+unfolding moved_by refusal next completion after_turn shade collected root_at word_at builtin_classes upwards
+    interfaces_from is_within is_subtype_within int_wrap digits
 drop1-drop2 = refl
 
 abbrev drop3 : Machine
@@ -68,7 +74,8 @@ drop3 =
     (account (Taken 1 White ∷ Taken 2 White ∷ Taken 3 White ∷ []) [] [] (Append 2))
 
 drop2-drop3 : moved drop2 (collector 10) ≡ drop3
-unfolding moved_by refusal next completion after_turn shade collected root_at word_at builtin_classes upwards interfaces_from is_within is_subtype_within int_wrap digits
+unfolding moved_by refusal next completion after_turn shade collected root_at word_at builtin_classes upwards
+    interfaces_from is_within is_subtype_within int_wrap digits
 drop2-drop3 = refl
 
 abbrev drop4 : Machine
@@ -77,7 +84,8 @@ drop4 =
     (account (Taken 1 White ∷ Taken 2 White ∷ Free ∷ []) (2 ∷ []) [] (Append 3))
 
 drop3-drop4 : moved drop3 (collector 1) ≡ drop4
-unfolding moved_by refusal next completion after_turn shade collected root_at word_at builtin_classes upwards interfaces_from is_within is_subtype_within int_wrap digits
+unfolding moved_by refusal next completion after_turn shade collected root_at word_at builtin_classes upwards
+    interfaces_from is_within is_subtype_within int_wrap digits
 drop3-drop4 = refl
 
 abbrev drop5 : Machine
@@ -86,12 +94,14 @@ drop5 =
     (account (Taken 1 White ∷ Taken 2 White ∷ Free ∷ []) (2 ∷ []) [] Idle)
 
 drop4-drop5 : moved drop4 (collector 1) ≡ drop5
-unfolding moved_by refusal next completion after_turn shade collected root_at word_at builtin_classes upwards interfaces_from is_within is_subtype_within int_wrap digits
+unfolding moved_by refusal next completion after_turn shade collected root_at word_at builtin_classes upwards
+    interfaces_from is_within is_subtype_within int_wrap digits
 drop4-drop5 = refl
 
 pub drop-run : moved drop0 (thread 2 ++ collector 14 ++ collector 10 ++ collector 1 ++ collector 1) ≡ drop5
 drop-run =
-    then k (small 3) ample drop0 drop1 drop5 (thread 2) (collector 14 ++ collector 10 ++ collector 1 ++ collector 1) drop0-drop1
+    then k (small 3) ample drop0 drop1 drop5 (thread 2) (collector 14 ++ collector 10 ++ collector 1 ++ collector 1)
+        drop0-drop1
     (then k (small 3) ample drop1 drop2 drop5 (collector 14) (collector 10 ++ collector 1 ++ collector 1) drop1-drop2
     (then k (small 3) ample drop2 drop3 drop5 (collector 10) (collector 1 ++ collector 1) drop2-drop3
     (then k (small 3) ample drop3 drop4 drop5 (collector 1) (collector 1) drop3-drop4

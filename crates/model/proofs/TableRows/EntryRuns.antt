@@ -1,8 +1,9 @@
--- Main enters the monitor of an Object again and again: the 65,536th entry is F10, in row 196,609. It begins with the object in
--- local 0; from then on each third turn enters.
+-- Main enters the monitor of an Object again and again: the 65,536th entry is F10, in row 196,609. It begins with the
+-- object in local 0; from then on each third turn enters.
 use Rattle.std.proofs.Common.{◌≤◌, ◌<◌, ◌*◌, arith, ap, ◌∙◌}
 use Rattle.std.proofs.lemmas.Bool.{lt-leb}
-use Rattle.std.specs.Prelude.{◌≡◌, ℕ, zero, suc, ◌+◌, List, [], ◌∷◌, ◌++◌, Bool, true, false, nat_le, ◌&&◌, not, is_none, if◌then◌else◌, Option, Some, None, codes, refl}
+use Rattle.std.specs.Prelude.{◌≡◌, ℕ, zero, suc, ◌+◌, List, [], ◌∷◌, ◌++◌, Bool, true, false, nat_le, ◌&&◌, not}
+use Rattle.std.specs.Prelude.{is_none, if◌then◌else◌, Option, Some, None, codes, refl}
 use Rattle.std.specs.Int.{int_wrap}
 use Rattle.std.specs.Fmt.{digits}
 use Rattle.model.specs.declared.instructions.FirstLocal.TheVariants.{Zero as FirstZero}
@@ -40,7 +41,8 @@ use Rattle.model.proofs.TableRows.Listings.{ample, main_of, after, run, more}
 use Rattle.model.proofs.TableRows.Sites.{place, frame, object}
 
 abbrev entries : List ClassListing
-entries = main_of 1 1 ((3, Class New (codes "java/lang/Object")) ∷ (1, Local (Store RefKind (First FirstZero))) ∷ (1, Local (Load RefKind (First FirstZero))) ∷ (1, Monitor Enter) ∷ (3, Branch (Always Narrow) 4) ∷ [])
+entries = main_of 1 1 ((3, Class New (codes "java/lang/Object")) ∷ (1, Local (Store RefKind (First FirstZero)))
+    ∷ (1, Local (Load RefKind (First FirstZero))) ∷ (1, Monitor Enter) ∷ (3, Branch (Always Narrow) 4) ∷ [])
 
 -- main at a pc with this stack, when the monitor was entered so often, in so many rows
 abbrev entered : ℕ → List Value → Option ℕ → ℕ → ℕ → World
@@ -59,19 +61,24 @@ first_entry = refl
 
 -- ---- the three turns of a loop, below the limits
 
-loads : (n r : ℕ) → nat_le 1000000 r ≡ false → after 1 entries (top n r) ≡ entered 5 (Ref (Some 3) ∷ []) (Some 0) n (r + 1)
+loads : (n r : ℕ) → nat_le 1000000 r ≡ false → after 1 entries (top n r)
+    ≡ entered 5 (Ref (Some 3) ∷ []) (Some 0) n (r + 1)
 unfolding refusal next completion builtin_classes upwards interfaces_from is_within is_subtype_within int_wrap digits
 loads n r e = rw e refl
 
 -- a turn of thread 0 that goes on
-goes_on : (program : List ClassListing) (w v : World) (writes : List ℕ) → completion program w 0 ≡ Goes v writes → w.fault ≡ None → is_live w 0 ≡ true → nat_le 1000000 w.rows ≡ false → ideal_step program ample w (Thread 0) NewObject ≡ counted v
+goes_on : (program : List ClassListing) (w v : World) (writes : List ℕ) → completion program w 0 ≡ Goes v writes
+    → w.fault ≡ None → is_live w 0 ≡ true → nat_le 1000000 w.rows ≡ false
+    → ideal_step program ample w (Thread 0) NewObject ≡ counted v
 unfolding refusal next
 goes_on program w v writes c f l r =
     let ready : is_ready program w 0 ≡ true =
     ap (λ (o : Option (Fault × ℕ)). is_none o && is_live w 0 && not (waits (completion program w 0))) f
-    ∙ ap (λ (b : Bool). true && b && not (waits (completion program w 0))) l ∙ ap (λ (x : Completion). not (waits x)) c in
+    ∙ ap (λ (b : Bool). true && b && not (waits (completion program w 0))) l ∙ ap (λ (x : Completion). not (waits x)) c
+        in
     let free : thread_refusal program ample w 0 ≡ None =
-    ap (λ (b : Bool). if b then (if overflows program ample w 0 then Some OutputFull else None) else Some NotReady) ready
+    ap (λ (b : Bool). if b then (if overflows program ample w 0 then Some OutputFull else None) else Some NotReady)
+        ready
     ∙ ap (λ (x : Completion). if passes ample.output w.output (prints x) then Some OutputFull else None) c in
     let unrefused : refusal program ample w (Thread 0) ≡ None =
     ap (λ (o : Option (Fault × ℕ)). refusal_after program ample w (Thread 0) o) f
@@ -79,7 +86,8 @@ goes_on program w v writes c f l r =
     ap (λ (o : Option Turn). unless_refused program w (Thread 0) NewObject o) unrefused
     ∙ ap (λ (x : Completion). counted (effect_of program w 0 NewObject x).after) c
 
-enters : (n r : ℕ) → nat_le 65535 n ≡ false → completion entries (entered 5 (Ref (Some 3) ∷ []) (Some 0) n r) 0 ≡ Goes (entered 6 [] (Some 0) (n + 1) r) []
+enters : (n r : ℕ) → nat_le 65535 n ≡ false → completion entries (entered 5 (Ref (Some 3) ∷ []) (Some 0) n r) 0
+    ≡ Goes (entered 6 [] (Some 0) (n + 1) r) []
 unfolding completion builtin_classes upwards interfaces_from is_within is_subtype_within int_wrap digits
 enters n r f = rw f refl
 
@@ -90,9 +98,12 @@ goes_back n r e = rw e refl
 loop : (n r : ℕ) → r < 999998 → n < 65535 → after 3 entries (top n r) ≡ top (n + 1) (r + 1 + 1 + 1)
 loop n r h k =
     let one = loads n r (lt-leb 1000000 r (omega (arith, h))) in
-    let two = goes_on entries (entered 5 (Ref (Some 3) ∷ []) (Some 0) n (r + 1)) (entered 6 [] (Some 0) (n + 1) (r + 1)) [] (enters n (r + 1) (lt-leb 65535 n k)) refl refl (lt-leb 1000000 (r + 1) (omega (arith, h))) in
+    let two = goes_on entries (entered 5 (Ref (Some 3) ∷ []) (Some 0) n (r + 1)) (entered 6 [] (Some 0) (n + 1) (r + 1))
+          [] (enters n (r + 1) (lt-leb 65535 n k)) refl refl (lt-leb 1000000 (r + 1) (omega (arith, h))) in
     let three = goes_back (n + 1) (r + 1 + 1) (lt-leb 1000000 (r + 1 + 1) (omega (arith, h))) in
-    more 1 2 entries (top n r) (entered 5 (Ref (Some 3) ∷ []) (Some 0) n (r + 1)) (top (n + 1) (r + 1 + 1 + 1)) one (more 1 1 entries (entered 5 (Ref (Some 3) ∷ []) (Some 0) n (r + 1)) (entered 6 [] (Some 0) (n + 1) (r + 1 + 1)) (top (n + 1) (r + 1 + 1 + 1)) two three)
+    more 1 2 entries (top n r) (entered 5 (Ref (Some 3) ∷ []) (Some 0) n (r + 1)) (top (n + 1) (r + 1 + 1 + 1)) one
+        (more 1 1 entries (entered 5 (Ref (Some 3) ∷ []) (Some 0) n (r + 1)) (entered 6 [] (Some 0) (n + 1) (r + 1 + 1))
+        (top (n + 1) (r + 1 + 1 + 1)) two three)
 
 -- ---- so many loops
 
@@ -106,7 +117,9 @@ loops (suc k) n r h g =
     let a : suc k * 3 ≡ 3 + k * 3 = omega arith in
     let b : n + suc k ≡ n + 1 + k = omega arith in
     let c : r + suc k * 3 ≡ r + 1 + 1 + 1 + k * 3 = omega arith in
-    rw (b, c, a) (more 3 (k * 3) entries (top n r) (top (n + 1) (r + 1 + 1 + 1)) (top (n + 1 + k) (r + 1 + 1 + 1 + k * 3)) (loop n r (omega (arith, h, g)) (omega (arith, h, g))) (loops k (n + 1) (r + 1 + 1 + 1) (omega (arith, h)) (omega (arith, g))))
+    rw (b, c, a) (more 3 (k * 3) entries (top n r) (top (n + 1) (r + 1 + 1 + 1))
+        (top (n + 1 + k) (r + 1 + 1 + 1 + k * 3)) (loop n r (omega (arith, h, g)) (omega (arith, h, g)))
+        (loops k (n + 1) (r + 1 + 1 + 1) (omega (arith, h)) (omega (arith, g))))
 
 -- ---- all rows
 

@@ -28,7 +28,9 @@ use Rattle.model.specs.Worlds.Thread.{Live}
 use Rattle.model.proofs.TableRows.Listings.{Sized, ample, print, return}
 use Rattle.model.proofs.TableRows.Sites.{class, interface, member, method}
 use Rattle.model.proofs.TableRows.Stages.{small}
-use Rattle.model.proofs.TableRows.Outcomes.{plays, opens, and_then, played, iconst_0, iconst_1, idiv, pop, athrow, new, invokestatic, object_class, catching, row, main, initializer, plain, x, at, world, cells, done, error}
+use Rattle.model.proofs.TableRows.Outcomes.{plays, opens, and_then, played, iconst_0, iconst_1, idiv, pop, athrow, new}
+use Rattle.model.proofs.TableRows.Outcomes.{invokestatic, object_class, catching, row, main, initializer, plain, x, at}
+use Rattle.model.proofs.TableRows.Outcomes.{world, cells, done, error}
 
 -- ---- no cell has room, and the handler's stack has none for the OutOfMemoryError: F2. Births 1 and 2 fill the heap
 
@@ -45,7 +47,8 @@ stopped w = counted (with_fault w 0 StackFull)
 -- main has no stack; its handler is at pc 4, and takes what comes from pc 0
 abbrev main_over : List Sized → List Sized → ClassListing
 main_over code callee =
-    plain (codes "E") (catching (row 0 3 4 None ∷ []) (main 0 code) ∷ method 9 (codes "f") (codes "()V") 2 0 callee ∷ [])
+    plain (codes "E") (catching (row 0 3 4 None ∷ []) (main 0 code) ∷ method 9 (codes "f") (codes "()V") 2 0 callee
+        ∷ [])
 
 abbrev standing : List Frame → ℕ → World
 standing frames rows = world (Live frames ∷ []) [] (Initialised ∷ []) [] [] rows
@@ -53,8 +56,10 @@ standing frames rows = world (Live frames ∷ []) [] (Initialised ∷ []) [] [] 
 abbrev in_main : List ClassListing
 in_main = main_over (new object_class ∷ return ∷ return ∷ []) [] ∷ []
 
-in_main-run : plays in_main (small 2) (opens in_main (small 2)) (0 ∷ []) ≡ played (stopped (standing (at 0 0 0 [] 0 ∷ []) 0)) filled (Some Fault ∷ [])
-unfolding refusal next completion after_turn shade builtin_classes upwards interfaces_from is_within is_subtype_within int_wrap digits
+in_main-run : plays in_main (small 2) (opens in_main (small 2)) (0 ∷ [])
+    ≡ played (stopped (standing (at 0 0 0 [] 0 ∷ []) 0)) filled (Some Fault ∷ [])
+unfolding refusal next completion after_turn shade builtin_classes upwards interfaces_from is_within is_subtype_within
+    int_wrap digits
 in_main-run = refl
 
 -- the next turn is refused
@@ -73,20 +78,28 @@ abbrev called : World
 called = standing (at 0 0 0 [] 0 ∷ at 0 1 0 [] 2 ∷ []) 1
 
 in_callee-called : plays in_callee (small 2) (opens in_callee (small 2)) (0 ∷ []) ≡ played called filled (done 1)
-unfolding refusal next completion after_turn shade builtin_classes upwards interfaces_from is_within is_subtype_within int_wrap digits
+unfolding refusal next completion after_turn shade builtin_classes upwards interfaces_from is_within is_subtype_within
+    int_wrap digits
 in_callee-called = refl
 
-in_callee-faults : plays in_callee (small 2) (played called filled (done 1)) (0 ∷ []) ≡ played (stopped called) filled (done 1 ++ Some Fault ∷ [])
-unfolding refusal next completion after_turn shade builtin_classes upwards interfaces_from is_within is_subtype_within int_wrap digits
+in_callee-faults : plays in_callee (small 2) (played called filled (done 1)) (0 ∷ [])
+    ≡ played (stopped called) filled (done 1 ++ Some Fault ∷ [])
+unfolding refusal next completion after_turn shade builtin_classes upwards interfaces_from is_within is_subtype_within
+    int_wrap digits
 in_callee-faults = refl
 
-in_callee-run : plays in_callee (small 2) (opens in_callee (small 2)) (0 ∷ 0 ∷ []) ≡ played (stopped called) filled (done 1 ++ Some Fault ∷ [])
+in_callee-run : plays in_callee (small 2) (opens in_callee (small 2)) (0 ∷ 0 ∷ [])
+    ≡ played (stopped called) filled (done 1 ++ Some Fault ∷ [])
 in_callee-run =
-    and_then in_callee (small 2) (opens in_callee (small 2)) (played called filled (done 1)) _ (0 ∷ []) (0 ∷ []) in_callee-called in_callee-faults
+    and_then in_callee (small 2) (opens in_callee (small 2)) (played called filled (done 1)) _ (0 ∷ []) (0 ∷ [])
+        in_callee-called in_callee-faults
 
 -- with a third cell the object is made
-in_callee-made : plays in_callee (small 3) (played called (cells (Free ∷ []) (2 ∷ []) []) (done 1)) (0 ∷ []) ≡ played (world (Live (at 0 0 0 [] 0 ∷ at 0 1 3 (Ref (Some 3) ∷ []) 2 ∷ []) ∷ []) [] (Initialised ∷ []) [] (plain_object object_class ∷ []) 2) (cells (Taken 3 Grey ∷ []) [] (3 ∷ [])) (done 1 ++ Some GotObject ∷ [])
-unfolding refusal next completion after_turn shade builtin_classes upwards interfaces_from is_within is_subtype_within int_wrap digits
+in_callee-made : plays in_callee (small 3) (played called (cells (Free ∷ []) (2 ∷ []) []) (done 1)) (0 ∷ [])
+    ≡ played (world (Live (at 0 0 0 [] 0 ∷ at 0 1 3 (Ref (Some 3) ∷ []) 2 ∷ []) ∷ []) [] (Initialised ∷ []) []
+    (plain_object object_class ∷ []) 2) (cells (Taken 3 Grey ∷ []) [] (3 ∷ [])) (done 1 ++ Some GotObject ∷ [])
+unfolding refusal next completion after_turn shade builtin_classes upwards interfaces_from is_within is_subtype_within
+    int_wrap digits
 in_callee-made = refl
 
 -- and where f divides by zero
@@ -97,20 +110,27 @@ abbrev divides : World
 divides = standing (at 0 0 0 [] 0 ∷ at 0 1 2 (Int (pos 0) ∷ Int (pos 1) ∷ []) 2 ∷ []) 3
 
 dividing-called : plays dividing (small 2) (opens dividing (small 2)) (0 ∷ 0 ∷ 0 ∷ []) ≡ played divides filled (done 3)
-unfolding refusal next completion after_turn shade builtin_classes upwards interfaces_from is_within is_subtype_within int_wrap digits
+unfolding refusal next completion after_turn shade builtin_classes upwards interfaces_from is_within is_subtype_within
+    int_wrap digits
 dividing-called = refl
 
-dividing-faults : plays dividing (small 2) (played divides filled (done 3)) (0 ∷ []) ≡ played (stopped divides) filled (done 3 ++ Some Fault ∷ [])
-unfolding refusal next completion after_turn shade builtin_classes upwards interfaces_from is_within is_subtype_within int_wrap digits
+dividing-faults : plays dividing (small 2) (played divides filled (done 3)) (0 ∷ [])
+    ≡ played (stopped divides) filled (done 3 ++ Some Fault ∷ [])
+unfolding refusal next completion after_turn shade builtin_classes upwards interfaces_from is_within is_subtype_within
+    int_wrap digits
 dividing-faults = refl
 
-dividing-run : plays dividing (small 2) (opens dividing (small 2)) (0 ∷ 0 ∷ 0 ∷ 0 ∷ []) ≡ played (stopped divides) filled (done 3 ++ Some Fault ∷ [])
+dividing-run : plays dividing (small 2) (opens dividing (small 2)) (0 ∷ 0 ∷ 0 ∷ 0 ∷ [])
+    ≡ played (stopped divides) filled (done 3 ++ Some Fault ∷ [])
 dividing-run =
-    and_then dividing (small 2) (opens dividing (small 2)) (played divides filled (done 3)) _ (0 ∷ 0 ∷ 0 ∷ []) (0 ∷ []) dividing-called dividing-faults
+    and_then dividing (small 2) (opens dividing (small 2)) (played divides filled (done 3)) _ (0 ∷ 0 ∷ 0 ∷ []) (0 ∷ [])
+        dividing-called dividing-faults
 
 -- with a third cell too, the exception comes to no handler: no cell is taken
-dividing-room : plays dividing (small 3) (played divides (cells (Free ∷ []) (2 ∷ []) []) (done 3)) (0 ∷ []) ≡ played (stopped divides) (cells (Free ∷ []) (2 ∷ []) []) (done 3 ++ Some Fault ∷ [])
-unfolding refusal next completion after_turn shade builtin_classes upwards interfaces_from is_within is_subtype_within int_wrap digits
+dividing-room : plays dividing (small 3) (played divides (cells (Free ∷ []) (2 ∷ []) []) (done 3)) (0 ∷ [])
+    ≡ played (stopped divides) (cells (Free ∷ []) (2 ∷ []) []) (done 3 ++ Some Fault ∷ [])
+unfolding refusal next completion after_turn shade builtin_classes upwards interfaces_from is_within is_subtype_within
+    int_wrap digits
 dividing-room = refl
 
 -- ---- so it is where a class can't be used, and where an initializer fails: no class changes its state
@@ -125,22 +145,29 @@ failing =
 abbrev denied : World
 denied = world (Live (at 0 0 0 [] 0 ∷ []) ∷ []) [] (Initialised ∷ Failed ∷ Unused ∷ []) [] [] 0
 
-denied-run : plays failing (small 2) (played denied filled []) (0 ∷ []) ≡ played (stopped denied) filled (Some Fault ∷ [])
-unfolding refusal next completion after_turn shade builtin_classes upwards interfaces_from is_within is_subtype_within int_wrap digits
+denied-run : plays failing (small 2) (played denied filled []) (0 ∷ [])
+    ≡ played (stopped denied) filled (Some Fault ∷ [])
+unfolding refusal next completion after_turn shade builtin_classes upwards interfaces_from is_within is_subtype_within
+    int_wrap digits
 denied-run = refl
 
-denied-room : plays failing (small 3) (played denied (cells (Free ∷ []) (2 ∷ []) []) []) (0 ∷ []) ≡ played (stopped denied) (cells (Free ∷ []) (2 ∷ []) []) (Some Fault ∷ [])
-unfolding refusal next completion after_turn shade builtin_classes upwards interfaces_from is_within is_subtype_within int_wrap digits
+denied-room : plays failing (small 3) (played denied (cells (Free ∷ []) (2 ∷ []) []) []) (0 ∷ [])
+    ≡ played (stopped denied) (cells (Free ∷ []) (2 ∷ []) []) (Some Fault ∷ [])
+unfolding refusal next completion after_turn shade builtin_classes upwards interfaces_from is_within is_subtype_within
+    int_wrap digits
 denied-room = refl
 
 -- P throws an Error, above Q, which waits
 abbrev erring : World
 erring = world
-    (Live (at 0 0 0 [] 0 ∷ waiting (at 2 0 0 [] 0) ∷ at 1 0 3 (Ref (Some 3) ∷ []) 1 ∷ []) ∷ []) [] (Initialised ∷ Running 0 ∷ Running 0 ∷ []) []
+    (Live (at 0 0 0 [] 0 ∷ waiting (at 2 0 0 [] 0) ∷ at 1 0 3 (Ref (Some 3) ∷ []) 1 ∷ []) ∷ []) [] (Initialised
+        ∷ Running 0 ∷ Running 0 ∷ []) []
     (plain_object error ∷ []) 2
 
-erring-run : plays failing (small 3) (played erring one_taken []) (0 ∷ []) ≡ played (stopped erring) one_taken (Some Fault ∷ [])
-unfolding refusal next completion after_turn shade builtin_classes upwards interfaces_from is_within is_subtype_within int_wrap digits
+erring-run : plays failing (small 3) (played erring one_taken []) (0 ∷ [])
+    ≡ played (stopped erring) one_taken (Some Fault ∷ [])
+unfolding refusal next completion after_turn shade builtin_classes upwards interfaces_from is_within is_subtype_within
+    int_wrap digits
 erring-run = refl
 
 -- ---- a D is an A by an interface whose superclass is A, and has none of A's fields: F6
@@ -162,18 +189,25 @@ got-subclass = refl
 -- a D has no words
 abbrev odd_world : ℕ → List Value → ℕ → ℕ → World
 odd_world pc stack room rows =
-    world (Live (at 0 0 pc stack room ∷ []) ∷ []) [] (Initialised ∷ Initialised ∷ Initialised ∷ Initialised ∷ []) [] (plain_object (codes "D") ∷ []) rows
+    world (Live (at 0 0 pc stack room ∷ []) ∷ []) [] (Initialised ∷ Initialised ∷ Initialised ∷ Initialised ∷ []) []
+        (plain_object (codes "D") ∷ []) rows
 
 abbrev wrong_class : World → World
 wrong_class w = counted (with_fault w 0 WrongClass)
 
-got-run : plays got (small 3) (opens got (small 3)) (0 ∷ 0 ∷ []) ≡ played (wrong_class (odd_world 3 (Ref (Some 3) ∷ []) 1 1)) one_taken (Some GotObject ∷ Some Fault ∷ [])
-unfolding refusal next completion after_turn shade builtin_classes upwards interfaces_from is_within is_subtype_within int_wrap digits
+got-run : plays got (small 3) (opens got (small 3)) (0 ∷ 0 ∷ [])
+    ≡ played (wrong_class (odd_world 3 (Ref (Some 3) ∷ []) 1 1)) one_taken (Some GotObject ∷ Some Fault ∷ [])
+unfolding refusal next completion after_turn shade builtin_classes upwards interfaces_from is_within is_subtype_within
+    int_wrap digits
 got-run = refl
 
 abbrev put : List ClassListing
-put = odd_with 2 (new (codes "D") ∷ iconst_1 ∷ (3, Field Put (member (codes "A") (codes "x") (codes "I"))) ∷ return ∷ [])
+put = odd_with 2 (new (codes "D") ∷ iconst_1 ∷ (3, Field Put (member (codes "A") (codes "x") (codes "I"))) ∷ return
+    ∷ [])
 
-put-run : plays put (small 3) (opens put (small 3)) (0 ∷ 0 ∷ 0 ∷ []) ≡ played (wrong_class (odd_world 4 (Int (pos 1) ∷ Ref (Some 3) ∷ []) 2 2)) one_taken (Some GotObject ∷ Some Done ∷ Some Fault ∷ [])
-unfolding refusal next completion after_turn shade builtin_classes upwards interfaces_from is_within is_subtype_within int_wrap digits
+put-run : plays put (small 3) (opens put (small 3)) (0 ∷ 0 ∷ 0 ∷ [])
+    ≡ played (wrong_class (odd_world 4 (Int (pos 1) ∷ Ref (Some 3) ∷ []) 2 2)) one_taken (Some GotObject ∷ Some Done
+    ∷ Some Fault ∷ [])
+unfolding refusal next completion after_turn shade builtin_classes upwards interfaces_from is_within is_subtype_within
+    int_wrap digits
 put-run = refl

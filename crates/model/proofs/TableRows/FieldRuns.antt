@@ -1,12 +1,13 @@
--- An object that comes while the collector marks, and one that comes while it appends: class K makes an object with an int,
--- puts 5 into it and prints what it gets back, on three small cells.
+-- An object that comes while the collector marks, and one that comes while it appends: class K makes an object with an
+-- int, puts 5 into it and prints what it gets back, on three small cells.
 use Rattle.std.specs.Prelude.{◌≡◌, pos, List, [], ◌∷◌, ◌++◌, Some, None, codes, refl}
 use Rattle.std.specs.Int.{int_wrap}
 use Rattle.std.specs.Fmt.{digits}
 use Rattle.model.specs.declared.colours.Colour.TheVariants.{White, Grey, Black}
 use Rattle.model.specs.declared.colours.Phase.TheVariants.{Idle, Mark, Append}
 use Rattle.model.proofs.TableRows.Listings.{Sized, print, return, ample}
-use Rattle.model.proofs.TableRows.Stages.{class_of, field, member, small, main_at, world, collector, thread, account, stage, then}
+use Rattle.model.proofs.TableRows.Stages.{class_of, field, member, small, main_at, world, collector, thread, account}
+use Rattle.model.proofs.TableRows.Stages.{stage, then}
 use Rattle.model.specs.declared.colours.Cell.TheVariants.{Free, Taken}
 use Rattle.model.specs.Accounts.{after_turn, shade}
 use Rattle.model.specs.ClassListings.{ClassListing}
@@ -45,17 +46,19 @@ aload_0 = (1, Local (Load RefKind (First Zero)))
 abbrev k : List ClassListing
 k = class_of (codes "K") (field (codes "x") (codes "I") ∷ []) 2 1 []
     ((3, Class New (codes "K")) ∷ (1, Local (Store RefKind (First Zero))) ∷ aload_0 ∷ (2, Constant (Byte (pos 5))) ∷
-    (3, Field Put (member (codes "K") (codes "x") (codes "I"))) ∷ aload_0 ∷ (3, Field Get (member (codes "K") (codes "x") (codes "I"))) ∷
+    (3, Field Put (member (codes "K") (codes "x") (codes "I"))) ∷ aload_0
+        ∷ (3, Field Get (member (codes "K") (codes "x") (codes "I"))) ∷
     print ∷ return ∷ []) ∷ []
 
 abbrev object : Value → Object
-object value = made_of (Instance (codes "K") (record { class = codes "K"; name = codes "x"; descriptor = codes "I"; value = value } ∷ []))
+object value = made_of (Instance (codes "K") (record { class = codes "K"; name = codes "x"; descriptor = codes "I";
+    value = value } ∷ []))
 
 abbrev moved : Machine → List Actor → Machine
 moved = moved_by_all k (small 3) ample
 
--- ---- the collector has 8 turns, the thread 1, the collector 7, the thread 8. After the tenth turn of the collector cell 2 is
--- black; after the fifteenth the cycle has ended and it is white
+-- ---- the collector has 8 turns, the thread 1, the collector 7, the thread 8. After the tenth turn of the collector
+-- cell 2 is black; after the fifteenth the cycle has ended and it is white
 
 abbrev first0 : Machine
 first0 = opening_machine k (small 3)
@@ -66,7 +69,8 @@ first1 =
     (account (Taken 1 Black ∷ Taken 2 Black ∷ Free ∷ []) (2 ∷ []) [] (Mark 0))
 
 first0-first1 : moved first0 (collector 8) ≡ first1
-unfolding moved_by refusal next completion after_turn shade collected root_at word_at builtin_classes upwards interfaces_from is_within is_subtype_within int_wrap digits
+unfolding moved_by refusal next completion after_turn shade collected root_at word_at builtin_classes upwards
+    interfaces_from is_within is_subtype_within int_wrap digits
 first0-first1 = refl
 
 abbrev first2 : Machine
@@ -75,7 +79,8 @@ first2 =
     (account (Taken 1 Black ∷ Taken 2 Black ∷ Taken 3 Grey ∷ []) [] (3 ∷ []) (Mark 0))
 
 first1-first2 : moved first1 (thread 1) ≡ first2
-unfolding moved_by refusal next completion after_turn shade collected root_at word_at builtin_classes upwards interfaces_from is_within is_subtype_within int_wrap digits
+unfolding moved_by refusal next completion after_turn shade collected root_at word_at builtin_classes upwards
+    interfaces_from is_within is_subtype_within int_wrap digits
 first1-first2 = refl
 
 abbrev first3 : Machine
@@ -84,7 +89,8 @@ first3 =
     (account (Taken 1 Black ∷ Taken 2 Black ∷ Taken 3 Black ∷ []) [] [] (Mark 0))
 
 first2-first3 : moved first2 (collector 2) ≡ first3
-unfolding moved_by refusal next completion after_turn shade collected root_at word_at builtin_classes upwards interfaces_from is_within is_subtype_within int_wrap digits
+unfolding moved_by refusal next completion after_turn shade collected root_at word_at builtin_classes upwards
+    interfaces_from is_within is_subtype_within int_wrap digits
 first2-first3 = refl
 
 abbrev first4 : Machine
@@ -93,7 +99,8 @@ first4 =
     (account (Taken 1 White ∷ Taken 2 White ∷ Taken 3 White ∷ []) [] [] Idle)
 
 first3-first4 : moved first3 (collector 5) ≡ first4
-unfolding moved_by refusal next completion after_turn shade collected root_at word_at builtin_classes upwards interfaces_from is_within is_subtype_within int_wrap digits
+unfolding moved_by refusal next completion after_turn shade collected root_at word_at builtin_classes upwards
+    interfaces_from is_within is_subtype_within int_wrap digits
 first3-first4 = refl
 
 abbrev first5 : Machine
@@ -102,7 +109,8 @@ first5 =
     (account (Taken 1 White ∷ Taken 2 White ∷ Taken 3 Grey ∷ []) [] (3 ∷ []) Idle)
 
 first4-first5 : moved first4 (thread 4) ≡ first5
-unfolding moved_by refusal next completion after_turn shade collected root_at word_at builtin_classes upwards interfaces_from is_within is_subtype_within int_wrap digits
+unfolding moved_by refusal next completion after_turn shade collected root_at word_at builtin_classes upwards
+    interfaces_from is_within is_subtype_within int_wrap digits
 first4-first5 = refl
 
 abbrev first6 : Machine
@@ -111,13 +119,16 @@ first6 =
     (account (Taken 1 White ∷ Taken 2 White ∷ Taken 3 Grey ∷ []) [] (3 ∷ []) Idle)
 
 first5-first6 : moved first5 (thread 4) ≡ first6
-unfolding moved_by refusal next completion after_turn shade collected root_at word_at builtin_classes upwards interfaces_from is_within is_subtype_within int_wrap digits
+unfolding moved_by refusal next completion after_turn shade collected root_at word_at builtin_classes upwards
+    interfaces_from is_within is_subtype_within int_wrap digits
 first5-first6 = refl
 
 pub first-run : moved first0 (collector 8 ++ thread 1 ++ collector 2 ++ collector 5 ++ thread 4 ++ thread 4) ≡ first6
 first-run =
-    then k (small 3) ample first0 first1 first6 (collector 8) (thread 1 ++ collector 2 ++ collector 5 ++ thread 4 ++ thread 4) first0-first1
-    (then k (small 3) ample first1 first2 first6 (thread 1) (collector 2 ++ collector 5 ++ thread 4 ++ thread 4) first1-first2
+    then k (small 3) ample first0 first1 first6 (collector 8) (thread 1 ++ collector 2 ++ collector 5 ++ thread 4
+        ++ thread 4) first0-first1
+    (then k (small 3) ample first1 first2 first6 (thread 1) (collector 2 ++ collector 5 ++ thread 4 ++ thread 4)
+        first1-first2
     (then k (small 3) ample first2 first3 first6 (collector 2) (collector 5 ++ thread 4 ++ thread 4) first2-first3
     (then k (small 3) ample first3 first4 first6 (collector 5) (thread 4 ++ thread 4) first3-first4
     (then k (small 3) ample first4 first5 first6 (thread 4) (thread 4) first4-first5
@@ -128,8 +139,8 @@ first-row : row_by k ample first1 (Thread 0) 0 ≡ Some (record { actor = Thread
 unfolding refusal next completion builtin_classes upwards
 first-row = refl
 
--- ---- the collector has 9 turns, the thread 1, the collector 4, the thread 8. After the thirteenth turn of the collector the
--- cycle has ended and cell 2 is grey
+-- ---- the collector has 9 turns, the thread 1, the collector 4, the thread 8. After the thirteenth turn of the
+-- collector the cycle has ended and cell 2 is grey
 
 abbrev second0 : Machine
 second0 = opening_machine k (small 3)
@@ -140,7 +151,8 @@ second1 =
     (account (Taken 1 Black ∷ Taken 2 Black ∷ Taken 3 Grey ∷ []) [] (3 ∷ []) (Append 0))
 
 second0-second1 : moved second0 (collector 9 ++ thread 1) ≡ second1
-unfolding moved_by refusal next completion after_turn shade collected root_at word_at builtin_classes upwards interfaces_from is_within is_subtype_within int_wrap digits
+unfolding moved_by refusal next completion after_turn shade collected root_at word_at builtin_classes upwards
+    interfaces_from is_within is_subtype_within int_wrap digits
 second0-second1 = refl
 
 abbrev second2 : Machine
@@ -149,7 +161,8 @@ second2 =
     (account (Taken 1 White ∷ Taken 2 White ∷ Taken 3 Grey ∷ []) [] (3 ∷ []) Idle)
 
 second1-second2 : moved second1 (collector 4) ≡ second2
-unfolding moved_by refusal next completion after_turn shade collected root_at word_at builtin_classes upwards interfaces_from is_within is_subtype_within int_wrap digits
+unfolding moved_by refusal next completion after_turn shade collected root_at word_at builtin_classes upwards
+    interfaces_from is_within is_subtype_within int_wrap digits
 second1-second2 = refl
 
 abbrev second3 : Machine
@@ -158,7 +171,8 @@ second3 =
     (account (Taken 1 White ∷ Taken 2 White ∷ Taken 3 Grey ∷ []) [] (3 ∷ []) Idle)
 
 second2-second3 : moved second2 (thread 4) ≡ second3
-unfolding moved_by refusal next completion after_turn shade collected root_at word_at builtin_classes upwards interfaces_from is_within is_subtype_within int_wrap digits
+unfolding moved_by refusal next completion after_turn shade collected root_at word_at builtin_classes upwards
+    interfaces_from is_within is_subtype_within int_wrap digits
 second2-second3 = refl
 
 abbrev second4 : Machine
@@ -167,12 +181,14 @@ second4 =
     (account (Taken 1 White ∷ Taken 2 White ∷ Taken 3 Grey ∷ []) [] (3 ∷ []) Idle)
 
 second3-second4 : moved second3 (thread 4) ≡ second4
-unfolding moved_by refusal next completion after_turn shade collected root_at word_at builtin_classes upwards interfaces_from is_within is_subtype_within int_wrap digits
+unfolding moved_by refusal next completion after_turn shade collected root_at word_at builtin_classes upwards
+    interfaces_from is_within is_subtype_within int_wrap digits
 second3-second4 = refl
 
 pub second-run : moved second0 ((collector 9 ++ thread 1) ++ collector 4 ++ thread 4 ++ thread 4) ≡ second4
 second-run =
-    then k (small 3) ample second0 second1 second4 (collector 9 ++ thread 1) (collector 4 ++ thread 4 ++ thread 4) second0-second1
+    then k (small 3) ample second0 second1 second4 (collector 9 ++ thread 1) (collector 4 ++ thread 4 ++ thread 4)
+        second0-second1
     (then k (small 3) ample second1 second2 second4 (collector 4) (thread 4 ++ thread 4) second1-second2
     (then k (small 3) ample second2 second3 second4 (thread 4) (thread 4) second2-second3
     second3-second4))

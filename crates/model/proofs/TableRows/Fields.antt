@@ -94,7 +94,8 @@ abbrev third_after : Completion → Contents
 third_after c = contents_at (after_of c) 3
 
 -- 200 in a byte is -56, and both operands are gone
-put-byte : third_after (puts y (Int (pos 200) ∷ Ref (Some 3) ∷ null ∷ [])) ≡ Instance (codes "K") (k_fields (Int (pos 7)) (Int (negsuc 55)) (Long (pos 9)) (Ref (Some 3)))
+put-byte : third_after (puts y (Int (pos 200) ∷ Ref (Some 3) ∷ null ∷ []))
+    ≡ Instance (codes "K") (k_fields (Int (pos 7)) (Int (negsuc 55)) (Long (pos 9)) (Ref (Some 3)))
 unfolding builtin_classes upwards interfaces_from is_within is_subtype_within int_wrap
 put-byte = refl
 
@@ -103,7 +104,8 @@ unfolding builtin_classes upwards interfaces_from is_within is_subtype_within
 put-stack = refl
 
 -- a reference that is put is written; its class isn't tested
-put-reference : third_after (puts n (Ref (Some 4) ∷ Ref (Some 3) ∷ [])) ≡ Instance (codes "K") (k_fields (Int (pos 7)) (Int (negsuc 0)) (Long (pos 9)) (Ref (Some 4)))
+put-reference : third_after (puts n (Ref (Some 4) ∷ Ref (Some 3) ∷ []))
+    ≡ Instance (codes "K") (k_fields (Int (pos 7)) (Int (negsuc 0)) (Long (pos 9)) (Ref (Some 4)))
 unfolding builtin_classes upwards interfaces_from is_within is_subtype_within
 put-reference = refl
 

@@ -1,4 +1,5 @@
--- Where the rows of statics, fields, arrays and objects stand: two classes, an interface, and an object or two of each kind.
+-- Where the rows of statics, fields, arrays and objects stand: two classes, an interface, and an object or two of each
+-- kind.
 use Rattle.std.specs.Prelude.{ℕ, pos, negsuc, List, [], ◌∷◌, Option, Some, None, codes}
 use Rattle.model.specs.declared.listings.Constant.{Constant}
 use Rattle.model.specs.declared.listings.Constant.TheVariants.{Int as IntConstant, Long as LongConstant}
@@ -19,10 +20,12 @@ use Rattle.model.specs.Completions.Completion.{Goes, Prints, Creates, Throws, Ra
 -- ---- the classes: K over P, and K implements I
 
 abbrev static_field : List ℕ → List ℕ → Option Constant → Field
-static_field name descriptor constant = record { flags = record { 0 = 8 }; name = name; descriptor = descriptor; constant = constant }
+static_field name descriptor constant = record { flags = record { 0 = 8 }; name = name; descriptor = descriptor;
+    constant = constant }
 
 abbrev instance_field : List ℕ → List ℕ → Field
-instance_field name descriptor = record { flags = record { 0 = 0 }; name = name; descriptor = descriptor; constant = None }
+instance_field name descriptor = record { flags = record { 0 = 0 }; name = name; descriptor = descriptor;
+    constant = None }
 
 abbrev class_with : List ℕ → List ℕ → List (List ℕ) → List Field → ClassListing
 class_with name superclass interfaces fields = record {
@@ -37,9 +40,11 @@ class_with name superclass interfaces fields = record {
 abbrev pub classes : List ClassListing
 classes =
     class_with (codes "P") (codes "java/lang/Object") []
-    (static_field (codes "s") (codes "S") (Some (IntConstant (pos 40000))) ∷ instance_field (codes "x") (codes "I") ∷ []) ∷
+    (static_field (codes "s") (codes "S") (Some (IntConstant (pos 40000))) ∷ instance_field (codes "x") (codes "I")
+        ∷ []) ∷
     class_with (codes "K") (codes "P") (codes "I" ∷ [])
-    (static_field (codes "b") (codes "B") (Some (IntConstant (pos 200))) ∷ static_field (codes "c") (codes "C") (Some (IntConstant (negsuc 0))) ∷
+    (static_field (codes "b") (codes "B") (Some (IntConstant (pos 200))) ∷ static_field (codes "c") (codes "C")
+        (Some (IntConstant (negsuc 0))) ∷
     instance_field (codes "y") (codes "B") ∷ static_field (codes "j") (codes "J") (Some (LongConstant (pos 5))) ∷
     static_field (codes "r") (codes "LK;") None ∷ static_field (codes "i") (codes "I") None ∷
     instance_field (codes "l") (codes "J") ∷ instance_field (codes "n") (codes "LK;") ∷ []) ∷
@@ -81,12 +86,14 @@ objects_of (c ∷ cs) = made_of c ∷ objects_of cs
 
 abbrev before_all : List Object → List Object
 before_all objects = record { contents = Instance [] []; monitor = free_monitor; thread = None } ∷
-    made_of (Instance (codes "java/lang/OutOfMemoryError") []) ∷ made_of (Instance (codes "java/lang/StackOverflowError") []) ∷ objects
+    made_of (Instance (codes "java/lang/OutOfMemoryError") [])
+        ∷ made_of (Instance (codes "java/lang/StackOverflowError") []) ∷ objects
 
 -- ---- the site: a stack, top first, with so much room
 
 abbrev frame : ℕ → List Value → Frame
-frame room stack = record { method = record { class = 0; method = 0 }; pc = 0; locals = []; stack = stack; room = room; monitor = None; mark = Unmarked }
+frame room stack = record { method = record { class = 0; method = 0 }; pc = 0; locals = []; stack = stack; room = room;
+    monitor = None; mark = Unmarked }
 
 abbrev pub world : ℕ → List Value → World
 world room stack = record {

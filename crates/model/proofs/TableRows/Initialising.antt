@@ -1,5 +1,5 @@
--- Worked rows of class initialisation (JVMS 5.5): states at first, limits of a claim and of the opening, and which initializers
--- a program may have.
+-- Worked rows of class initialisation (JVMS 5.5): states at first, limits of a claim and of the opening, and which
+-- initializers a program may have.
 use Rattle.std.specs.Prelude.{◌≡◌, ℕ, pos, List, [], ◌∷◌, ◌++◌, replicate, Bool, true, false, Some, None, codes, refl}
 use Rattle.std.specs.Int.{int_wrap}
 use Rattle.model.specs.declared.instructions.ClassOperation.TheVariants.{InstanceOf}
@@ -27,7 +27,8 @@ use Rattle.model.specs.Worlds.{World, opening_fits}
 use Rattle.model.specs.Worlds.Thread.{Live, Ended}
 use Rattle.model.proofs.TableRows.Listings.{Sized, return}
 use Rattle.model.proofs.TableRows.Sites.{class, interface, member, method}
-use Rattle.model.proofs.TableRows.Outcomes.{pop, new, getstatic, putstatic, invokestatic, catching, row, main, initializer, plain, with_x, holding, at, world, stack_overflow}
+use Rattle.model.proofs.TableRows.Outcomes.{pop, new, getstatic, putstatic, invokestatic, catching, row, main}
+use Rattle.model.proofs.TableRows.Outcomes.{initializer, plain, with_x, holding, at, world, stack_overflow}
 
 abbrev empty : ℕ → Method
 empty stack = initializer stack (return ∷ [])
@@ -103,7 +104,8 @@ unused = standing (at 0 0 0 [] 2 ∷ []) Unused Unused
 abbrev claims_p : Effect
 claims_p = then (standing (at 0 0 0 [] 2 ∷ at 1 0 0 [] 0 ∷ []) (Running 0) Unused) []
 
-uses-new : turn (uses (new (codes "Q"))) unused ≡ then (standing (at 0 0 0 [] 2 ∷ waiting (at 2 0 0 [] 0) ∷ at 1 0 0 [] 0 ∷ []) (Running 0) (Running 0)) []
+uses-new : turn (uses (new (codes "Q"))) unused ≡
+    then (standing (at 0 0 0 [] 2 ∷ waiting (at 2 0 0 [] 0) ∷ at 1 0 0 [] 0 ∷ []) (Running 0) (Running 0)) []
 unfolding next completion builtin_classes upwards
 uses-new = refl
 
@@ -122,17 +124,20 @@ unfolding next completion builtin_classes upwards interfaces_from
 uses-put = refl
 
 -- instanceof uses none
-uses-none : turn (uses (3, Class InstanceOf (codes "Q"))) (standing (at 0 0 0 (Ref None ∷ []) 2 ∷ []) Unused Unused) ≡ then (standing (at 0 0 3 (Int (pos 0) ∷ []) 2 ∷ []) Unused Unused) []
+uses-none : turn (uses (3, Class InstanceOf (codes "Q"))) (standing (at 0 0 0 (Ref None ∷ []) 2 ∷ []) Unused Unused) ≡
+    then (standing (at 0 0 3 (Int (pos 0) ∷ []) 2 ∷ []) Unused Unused) []
 unfolding next completion builtin_classes upwards int_wrap
 uses-none = refl
 
 -- ---- the first class upwards that was used runs its initializer: by this thread, or by another
 
-uses-own : completion (uses (new (codes "P"))) (standing (at 0 0 0 [] 2 ∷ []) (Running 0) Unused) 0 ≡ Creates 3 0 (Instance (codes "P") [])
+uses-own : completion (uses (new (codes "P"))) (standing (at 0 0 0 [] 2 ∷ []) (Running 0) Unused) 0
+    ≡ Creates 3 0 (Instance (codes "P") [])
 unfolding completion builtin_classes upwards
 uses-own = refl
 
-uses-below_own : turn (uses (new (codes "Q"))) (standing (at 0 0 0 [] 2 ∷ []) (Running 0) Unused) ≡ then (standing (at 0 0 0 [] 2 ∷ at 2 0 0 [] 0 ∷ []) (Running 0) (Running 0)) []
+uses-below_own : turn (uses (new (codes "Q"))) (standing (at 0 0 0 [] 2 ∷ []) (Running 0) Unused) ≡
+    then (standing (at 0 0 0 [] 2 ∷ at 2 0 0 [] 0 ∷ []) (Running 0) (Running 0)) []
 unfolding next completion builtin_classes upwards
 uses-below_own = refl
 
@@ -145,12 +150,14 @@ unfolding completion builtin_classes upwards
 uses-below_others = refl
 
 -- what is initialised is used at once, whatever is above it
-uses-done : completion (uses (new (codes "Q"))) (standing (at 0 0 0 [] 2 ∷ []) (Running 1) Initialised) 0 ≡ Creates 3 0 (Instance (codes "Q") [])
+uses-done : completion (uses (new (codes "Q"))) (standing (at 0 0 0 [] 2 ∷ []) (Running 1) Initialised) 0
+    ≡ Creates 3 0 (Instance (codes "Q") [])
 unfolding completion builtin_classes upwards
 uses-done = refl
 
 -- Q fails with P
-uses-failed : completion (uses (new (codes "Q"))) (standing (at 0 0 0 [] 2 ∷ []) Failed Unused) 0 ≡ Denies (Initialised ∷ Failed ∷ Failed ∷ [])
+uses-failed : completion (uses (new (codes "Q"))) (standing (at 0 0 0 [] 2 ∷ []) Failed Unused) 0
+    ≡ Denies (Initialised ∷ Failed ∷ Failed ∷ [])
 unfolding completion builtin_classes upwards
 uses-failed = refl
 
@@ -161,44 +168,52 @@ abbrev deep : List ℕ → List ClassListing
 deep used =
     plain (codes "M") (
     main 0 (invokestatic (codes "M") (codes "f") ∷ return ∷ []) ∷
-    catching (row 3 6 6 None ∷ []) (method 9 (codes "f") (codes "()V") 1 0 (invokestatic (codes "M") (codes "f") ∷ getstatic used ∷ pop ∷ return ∷ [])) ∷ []) ∷
+    catching (row 3 6 6 None ∷ []) (method 9 (codes "f") (codes "()V") 1 0 (invokestatic (codes "M") (codes "f")
+        ∷ getstatic used ∷ pop ∷ return ∷ [])) ∷ []) ∷
     with_x (plain (codes "K") (empty 0 ∷ [])) ∷
     with_x (class (codes "L") (codes "K") [] (empty 0 ∷ [])) ∷ []
 
 -- main and so many frames of f, and these inside of them
 abbrev depth : ℕ → List Frame → ClassState → World
-depth n inside state = world (Live (at 0 0 0 [] 0 ∷ replicate n (at 0 1 0 [] 1) ++ inside) ∷ []) (holding (codes "K") 0 ∷ holding (codes "L") 0 ∷ []) (Initialised ∷ state ∷ Unused ∷ []) [] [] 0
+depth n inside state = world (Live (at 0 0 0 [] 0 ∷ replicate n (at 0 1 0 [] 1) ++ inside) ∷ []) (holding (codes "K") 0
+    ∷ holding (codes "L") 0 ∷ []) (Initialised ∷ state ∷ Unused ∷ []) [] [] 0
 
 abbrev using : Frame
 using = at 0 1 3 [] 1
 
 -- the 256th frame is the initializer's
-deep-claims : turn (deep (codes "K")) (depth 253 (using ∷ []) Unused) ≡ then (depth 253 (using ∷ at 1 0 0 [] 0 ∷ []) (Running 0)) []
+deep-claims : turn (deep (codes "K")) (depth 253 (using ∷ []) Unused) ≡
+    then (depth 253 (using ∷ at 1 0 0 [] 0 ∷ []) (Running 0)) []
 unfolding next completion builtin_classes upwards interfaces_from
 deep-claims = refl
 
 -- it would be the 257th
-deep-overflows : turn (deep (codes "K")) (depth 254 (using ∷ []) Unused) ≡ then (depth 254 (at 0 1 6 (Ref (Some 2) ∷ []) 1 ∷ []) Unused) (2 ∷ [])
+deep-overflows : turn (deep (codes "K")) (depth 254 (using ∷ []) Unused) ≡
+    then (depth 254 (at 0 1 6 (Ref (Some 2) ∷ []) 1 ∷ []) Unused) (2 ∷ [])
 unfolding next completion builtin_classes upwards interfaces_from is_within
 deep-overflows = refl
 
 -- of two, neither is claimed
-deep-neither : turn (deep (codes "L")) (depth 253 (using ∷ []) Unused) ≡ then (depth 253 (at 0 1 6 (Ref (Some 2) ∷ []) 1 ∷ []) Unused) (2 ∷ [])
+deep-neither : turn (deep (codes "L")) (depth 253 (using ∷ []) Unused) ≡
+    then (depth 253 (at 0 1 6 (Ref (Some 2) ∷ []) 1 ∷ []) Unused) (2 ∷ [])
 unfolding next completion builtin_classes upwards interfaces_from is_within
 deep-neither = refl
 
 -- main has a stack of 4,000 units, and the initializer one of so many
 abbrev wide : ℕ → List ClassListing
-wide units = plain (codes "M") (main 4000 (getstatic (codes "K") ∷ pop ∷ return ∷ []) ∷ []) ∷ with_x (plain (codes "K") (empty units ∷ [])) ∷ []
+wide units = plain (codes "M") (main 4000 (getstatic (codes "K") ∷ pop ∷ return ∷ []) ∷ [])
+    ∷ with_x (plain (codes "K") (empty units ∷ [])) ∷ []
 
 abbrev width : List Frame → ClassState → World
-width inside state = world (Live (at 0 0 0 [] 4000 ∷ inside) ∷ []) (holding (codes "K") 0 ∷ []) (Initialised ∷ state ∷ []) [] [] 0
+width inside state = world (Live (at 0 0 0 [] 4000 ∷ inside) ∷ []) (holding (codes "K") 0 ∷ []) (Initialised ∷ state
+    ∷ []) [] [] 0
 
 wide-claims : turn (wide 96) (width [] Unused) ≡ then (width (at 1 0 0 [] 96 ∷ []) (Running 0)) []
 unfolding next completion builtin_classes upwards interfaces_from
 wide-claims = refl
 
-wide-overflows : turn (wide 97) (width [] Unused) ≡ then (record (width [] Unused) { threads = Ended (Some stack_overflow) ∷ [] }) []
+wide-overflows : turn (wide 97) (width [] Unused) ≡
+    then (record (width [] Unused) { threads = Ended (Some stack_overflow) ∷ [] }) []
 unfolding next completion builtin_classes upwards interfaces_from is_within
 wide-overflows = refl
 
@@ -206,7 +221,8 @@ wide-overflows = refl
 
 -- I over H, with initializers of these units, and a main of some
 abbrev opening : ℕ → ℕ → ℕ → List ClassListing
-opening of_main of_i of_h = class (codes "I") (codes "H") [] (main of_main (return ∷ []) ∷ empty of_i ∷ []) ∷ plain (codes "H") (empty of_h ∷ []) ∷ []
+opening of_main of_i of_h = class (codes "I") (codes "H") [] (main of_main (return ∷ []) ∷ empty of_i ∷ [])
+    ∷ plain (codes "H") (empty of_h ∷ []) ∷ []
 
 opening-plain : opening_fits (plain (codes "M") (main 0 (return ∷ []) ∷ []) ∷ []) ≡ true
 unfolding upwards builtin_classes
@@ -251,7 +267,8 @@ not-codeless = refl
 -- ---- no instruction calls it
 
 abbrev called_as : List ℕ → Invocation → Bool
-called_as name how = resolves (plain (codes "K") (method 8 name (codes "()V") 0 0 (return ∷ []) ∷ []) ∷ []) (Invoke how (member (codes "K") name (codes "()V")))
+called_as name how = resolves (plain (codes "K") (method 8 name (codes "()V") 0 0 (return ∷ []) ∷ []) ∷ [])
+    (Invoke how (member (codes "K") name (codes "()V")))
 
 abbrev called : Invocation → Bool
 called how = called_as (codes "<clinit>") how

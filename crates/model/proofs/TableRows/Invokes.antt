@@ -1,5 +1,5 @@
--- Worked rows of the invokes (JVMS 6.5). A declares f()I, B over A a private f()I of its own, C over B none; births 3 and 4
--- are a C and an A.
+-- Worked rows of the invokes (JVMS 6.5). A declares f()I, B over A a private f()I of its own, C over B none; births 3
+-- and 4 are a C and an A.
 use Rattle.std.specs.Prelude.{◌≡◌, ℕ, pos, [], ◌∷◌, ◌++◌, List, replicate, codes, Option, Some, None, refl}
 use Rattle.model.specs.declared.places.MethodPlace.{MethodPlace}
 use Rattle.model.specs.declared.values.Value.{Value}
@@ -21,7 +21,8 @@ use Rattle.model.specs.Worlds.Thread.{Live}
 use Rattle.model.specs.Completions.{Completion}
 use Rattle.model.specs.Completions.Completion.{Goes, Throws, Raises, Faults, Waits}
 use Rattle.model.specs.Table.Invokes.{invoked}
-use Rattle.model.proofs.TableRows.Sites.{class, interface, method, abstract_method, member, place, frame, object, world, site}
+use Rattle.model.proofs.TableRows.Sites.{class, interface, method, abstract_method, member, place, frame, object, world}
+use Rattle.model.proofs.TableRows.Sites.{site}
 
 -- ---- the classes
 
@@ -72,14 +73,16 @@ standing frames owner count = world (Live frames ∷ []) (object c owner count N
 
 abbrev called_in : List Frame → List Value → Option ℕ → ℕ → Invocation → List ℕ → List ℕ → List ℕ → Completion
 called_in below stack owner count how class name descriptor =
-    invoked (site program (standing (below ++ at stack ∷ []) owner count) (at stack) 9) how (member class name descriptor)
+    invoked (site program (standing (below ++ at stack ∷ []) owner count) (at stack) 9) how
+        (member class name descriptor)
 
 abbrev calls : List Value → Invocation → List ℕ → List ℕ → List ℕ → Completion
 calls stack = called_in [] stack None 0
 
 -- the caller stays at its invoke with what is left of its stack, and the callee begins
 abbrev enters : List Value → MethodPlace → List Entry → ℕ → List ℕ → Completion
-enters left method locals room writes = Goes (standing (at left ∷ frame method 0 locals [] room None ∷ []) None 0) writes
+enters left method locals room writes = Goes (standing (at left ∷ frame method 0 locals [] room None ∷ []) None 0)
+    writes
 
 abbrev one : Value
 one = Int (pos 1)
@@ -92,12 +95,16 @@ null = Ref None
 
 -- ---- static: the arguments go into the first locals, a long into two; what is written is written by rising index
 
-static_call : calls (Ref (Some 4) ∷ Long (pos 9) ∷ Int (pos 5) ∷ one ∷ []) Static a (codes "s") (codes "(IJLA;)V") ≡ enters (one ∷ []) (place 0 1) (Holds (Int (pos 5)) ∷ Holds (Long (pos 9)) ∷ UpperHalf ∷ Holds (Ref (Some 4)) ∷ Unset ∷ Unset ∷ []) 1 (4 ∷ [])
+static_call : calls (Ref (Some 4) ∷ Long (pos 9) ∷ Int (pos 5) ∷ one ∷ []) Static a (codes "s") (codes "(IJLA;)V")
+    ≡ enters (one ∷ []) (place 0 1) (Holds (Int (pos 5)) ∷ Holds (Long (pos 9)) ∷ UpperHalf ∷ Holds (Ref (Some 4))
+    ∷ Unset ∷ Unset ∷ []) 1 (4 ∷ [])
 unfolding upwards interfaces_from is_within is_subtype_within builtin_classes
 static_call = refl
 
 -- found in a superclass
-static_inherited : calls (null ∷ Long (pos 9) ∷ Int (pos 5) ∷ []) Static c (codes "s") (codes "(IJLA;)V") ≡ enters [] (place 0 1) (Holds (Int (pos 5)) ∷ Holds (Long (pos 9)) ∷ UpperHalf ∷ Holds null ∷ Unset ∷ Unset ∷ []) 1 []
+static_inherited : calls (null ∷ Long (pos 9) ∷ Int (pos 5) ∷ []) Static c (codes "s") (codes "(IJLA;)V")
+    ≡ enters [] (place 0 1) (Holds (Int (pos 5)) ∷ Holds (Long (pos 9)) ∷ UpperHalf ∷ Holds null ∷ Unset ∷ Unset ∷ []) 1
+    []
 unfolding upwards interfaces_from is_within is_subtype_within builtin_classes
 static_inherited = refl
 
@@ -116,15 +123,18 @@ static_first_missing = refl
 
 -- ---- virtual: from the object's class upwards, past private methods
 
-virtual_past_private : calls (three ∷ one ∷ []) Virtual a (codes "f") (codes "()I") ≡ enters (one ∷ []) (place 0 0) (Holds three ∷ []) 1 (3 ∷ [])
+virtual_past_private : calls (three ∷ one ∷ []) Virtual a (codes "f") (codes "()I")
+    ≡ enters (one ∷ []) (place 0 0) (Holds three ∷ []) 1 (3 ∷ [])
 unfolding upwards interfaces_from is_within is_subtype_within builtin_classes
 virtual_past_private = refl
 
-virtual_nearest : calls (Long (pos 2) ∷ three ∷ one ∷ []) Virtual a (codes "h") (codes "(J)V") ≡ enters (one ∷ []) (place 2 0) (Holds three ∷ Holds (Long (pos 2)) ∷ UpperHalf ∷ []) 0 (3 ∷ [])
+virtual_nearest : calls (Long (pos 2) ∷ three ∷ one ∷ []) Virtual a (codes "h") (codes "(J)V")
+    ≡ enters (one ∷ []) (place 2 0) (Holds three ∷ Holds (Long (pos 2)) ∷ UpperHalf ∷ []) 0 (3 ∷ [])
 unfolding upwards interfaces_from is_within is_subtype_within builtin_classes
 virtual_nearest = refl
 
-virtual_of_a : calls (Long (pos 2) ∷ Ref (Some 4) ∷ []) Virtual a (codes "h") (codes "(J)V") ≡ enters [] (place 0 2) (Holds (Ref (Some 4)) ∷ Holds (Long (pos 2)) ∷ UpperHalf ∷ Unset ∷ []) 0 (4 ∷ [])
+virtual_of_a : calls (Long (pos 2) ∷ Ref (Some 4) ∷ []) Virtual a (codes "h") (codes "(J)V")
+    ≡ enters [] (place 0 2) (Holds (Ref (Some 4)) ∷ Holds (Long (pos 2)) ∷ UpperHalf ∷ Unset ∷ []) 0 (4 ∷ [])
 unfolding upwards interfaces_from is_within is_subtype_within builtin_classes
 virtual_of_a = refl
 
@@ -155,7 +165,8 @@ virtual_private = refl
 
 -- ---- interface
 
-interface_call : calls (three ∷ []) (Interface 1) i (codes "f") (codes "()I") ≡ enters [] (place 0 0) (Holds three ∷ []) 1 (3 ∷ [])
+interface_call : calls (three ∷ []) (Interface 1) i (codes "f") (codes "()I")
+    ≡ enters [] (place 0 0) (Holds three ∷ []) 1 (3 ∷ [])
 unfolding upwards interfaces_from is_within is_subtype_within builtin_classes
 interface_call = refl
 
@@ -172,12 +183,14 @@ interface_none = refl
 
 -- ---- special: C's code calls A's method, and gets the one that C's superclass B has
 
-special_from_superclass : calls (Long (pos 2) ∷ three ∷ []) Special a (codes "h") (codes "(J)V") ≡ enters [] (place 1 1) (Holds three ∷ Holds (Long (pos 2)) ∷ UpperHalf ∷ []) 0 (3 ∷ [])
+special_from_superclass : calls (Long (pos 2) ∷ three ∷ []) Special a (codes "h") (codes "(J)V")
+    ≡ enters [] (place 1 1) (Holds three ∷ Holds (Long (pos 2)) ∷ UpperHalf ∷ []) 0 (3 ∷ [])
 unfolding upwards interfaces_from is_within is_subtype_within builtin_classes
 special_from_superclass = refl
 
 -- past B's private f
-special_past_private : calls (three ∷ []) Special a (codes "f") (codes "()I") ≡ enters [] (place 0 0) (Holds three ∷ []) 1 (3 ∷ [])
+special_past_private : calls (three ∷ []) Special a (codes "f") (codes "()I")
+    ≡ enters [] (place 0 0) (Holds three ∷ []) 1 (3 ∷ [])
 unfolding upwards interfaces_from is_within is_subtype_within builtin_classes
 special_past_private = refl
 
@@ -187,12 +200,14 @@ unfolding upwards interfaces_from is_within is_subtype_within builtin_classes
 special_private_above = refl
 
 -- its own is taken as it was resolved
-special_own : calls (Long (pos 2) ∷ three ∷ []) Special c (codes "h") (codes "(J)V") ≡ enters [] (place 2 0) (Holds three ∷ Holds (Long (pos 2)) ∷ UpperHalf ∷ []) 0 (3 ∷ [])
+special_own : calls (Long (pos 2) ∷ three ∷ []) Special c (codes "h") (codes "(J)V")
+    ≡ enters [] (place 2 0) (Holds three ∷ Holds (Long (pos 2)) ∷ UpperHalf ∷ []) 0 (3 ∷ [])
 unfolding upwards interfaces_from is_within is_subtype_within builtin_classes
 special_own = refl
 
 -- an initializer too
-special_initializer : calls (three ∷ []) Special a (codes "<init>") (codes "()V") ≡ enters [] (place 0 5) (Holds three ∷ []) 1 (3 ∷ [])
+special_initializer : calls (three ∷ []) Special a (codes "<init>") (codes "()V")
+    ≡ enters [] (place 0 5) (Holds three ∷ []) 1 (3 ∷ [])
 unfolding upwards interfaces_from is_within is_subtype_within builtin_classes
 special_initializer = refl
 
@@ -202,25 +217,29 @@ unfolding upwards interfaces_from is_within is_subtype_within builtin_classes
 special_interface = refl
 
 -- the machine's own initializer does nothing
-special_own_class : calls (three ∷ one ∷ []) Special (codes "java/lang/Object") (codes "<init>") (codes "()V") ≡ Goes (standing (frame (place 2 0) 9 [] (one ∷ []) 4 None ∷ []) None 0) []
+special_own_class : calls (three ∷ one ∷ []) Special (codes "java/lang/Object") (codes "<init>") (codes "()V")
+    ≡ Goes (standing (frame (place 2 0) 9 [] (one ∷ []) 4 None ∷ []) None 0) []
 unfolding upwards interfaces_from is_within is_subtype_within builtin_classes
 special_own_class = refl
 
 special_null : calls (null ∷ []) Special (codes "java/lang/Object") (codes "<init>") (codes "()V") ≡ Raises NullPointer
 special_null = refl
 
-special_wrong_class : calls (Ref (Some 4) ∷ []) Special (codes "java/lang/Thread") (codes "<init>") (codes "()V") ≡ Faults WrongClass
+special_wrong_class : calls (Ref (Some 4) ∷ []) Special (codes "java/lang/Thread") (codes "<init>") (codes "()V")
+    ≡ Faults WrongClass
 unfolding upwards interfaces_from is_within is_subtype_within builtin_classes
 special_wrong_class = refl
 
 -- ---- synchronized: the object's monitor is entered, and is the method monitor
 
 abbrev synchronized_call : List Frame → Option ℕ → ℕ → Completion
-synchronized_call below owner count = called_in below (Ref (Some 4) ∷ three ∷ []) owner count Virtual a (codes "y") (codes "(LA;)V")
+synchronized_call below owner count = called_in below (Ref (Some 4) ∷ three ∷ []) owner count Virtual a (codes "y")
+    (codes "(LA;)V")
 
 -- the locals are written, and then the monitor
 abbrev enters_monitor : ℕ → Completion
-enters_monitor count = Goes (standing (at [] ∷ frame (place 0 4) 0 (Holds three ∷ Holds (Ref (Some 4)) ∷ []) [] 2 (Some 3) ∷ []) (Some 0) count) (3 ∷ 4 ∷ 3 ∷ [])
+enters_monitor count = Goes (standing (at [] ∷ frame (place 0 4) 0 (Holds three ∷ Holds (Ref (Some 4)) ∷ []) [] 2
+    (Some 3) ∷ []) (Some 0) count) (3 ∷ 4 ∷ 3 ∷ [])
 
 synchronized_free : synchronized_call [] None 0 ≡ enters_monitor 1
 unfolding upwards interfaces_from is_within is_subtype_within builtin_classes
@@ -238,7 +257,7 @@ synchronized_waits : synchronized_call [] (Some 1) 1 ≡ Waits
 unfolding upwards interfaces_from is_within is_subtype_within builtin_classes
 synchronized_waits = refl
 
--- ---- room for the frame: 256 frames of 4,096 units in all; it comes behind the wait, and before F10
+-- ---- room for the frame: 256 frames of 4,096 units in all; it comes after the wait, and before F10
 
 abbrev below : ℕ → List Frame
 below n = replicate n (frame (place 2 0) 6 [] [] 0 None)

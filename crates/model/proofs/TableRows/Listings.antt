@@ -65,8 +65,10 @@ abbrev pub run : ℕ → List ClassListing → World
 run n program = after n program (opening_world program)
 
 -- some turns, and then some more
-pub more : (m n : ℕ) (program : List ClassListing) (w v u : World) → after m program w ≡ v → after n program v ≡ u → after (m + n) program w ≡ u
+pub more : (m n : ℕ) (program : List ClassListing) (w v u : World) → after m program w ≡ v → after n program v ≡ u
+    → after (m + n) program w ≡ u
 more zero n program w v u h k =
     let e : zero + n ≡ n = omega arith in rw e (ap (after n program) h ∙ k)
 more (suc m) n program w v u h k =
-    let e : suc m + n ≡ suc (m + n) = omega arith in rw e (more m n program (ideal_step program ample w (Thread 0) NewObject) v u h k)
+    let e : suc m + n ≡ suc (m + n) = omega arith
+          in rw e (more m n program (ideal_step program ample w (Thread 0) NewObject) v u h k)

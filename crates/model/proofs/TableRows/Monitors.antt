@@ -25,7 +25,8 @@ abbrev owned : Frame → Option ℕ → ℕ → World
 owned f owner count = world (Live (f ∷ []) ∷ Live [] ∷ []) (object (codes "java/lang/Object") owner count None ∷ [])
 
 abbrev operated : MonitorOperation → List Value → Option ℕ → ℕ → Completion
-operated operation stack owner count = monitor_operated (site [] (owned (at 5 stack) owner count) (at 5 stack) 6) operation
+operated operation stack owner count = monitor_operated (site [] (owned (at 5 stack) owner count) (at 5 stack) 6)
+    operation
 
 abbrev object_on_one : List Value
 object_on_one = Ref (Some 3) ∷ Int (pos 1) ∷ []

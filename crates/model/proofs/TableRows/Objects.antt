@@ -17,12 +17,14 @@ use Rattle.model.proofs.TableRows.HeapSites.{k_fields, null, site, stack_after, 
 
 -- ---- new: the superclass's fields first, each class's in file order, none of them static, all 0 or null
 
-made : class_operated (site 1 []) New (codes "K") ≡ Creates 9 0 (Instance (codes "K") (k_fields (Int (pos 0)) (Int (pos 0)) (Long (pos 0)) null))
+made : class_operated (site 1 []) New (codes "K")
+    ≡ Creates 9 0 (Instance (codes "K") (k_fields (Int (pos 0)) (Int (pos 0)) (Long (pos 0)) null))
 unfolding builtin_classes upwards
 made = refl
 
 -- a class of the machine's own has no field
-made-object : class_operated (site 1 []) New (codes "java/lang/Object") ≡ Creates 9 0 (Instance (codes "java/lang/Object") [])
+made-object : class_operated (site 1 []) New (codes "java/lang/Object")
+    ≡ Creates 9 0 (Instance (codes "java/lang/Object") [])
 unfolding builtin_classes upwards
 made-object = refl
 

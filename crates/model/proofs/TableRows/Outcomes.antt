@@ -6,7 +6,8 @@ use Rattle.model.specs.declared.colours.Phase.TheVariants.{Idle}
 use Rattle.model.specs.declared.instructions.Access.TheVariants.{Get, Put}
 use Rattle.model.specs.declared.instructions.ClassOperation.TheVariants.{New}
 use Rattle.model.specs.declared.instructions.Constant.TheVariants.{SmallInt, Byte}
-use Rattle.model.specs.declared.instructions.Instruction.TheVariants.{Class, Constant, Invoke, Number, Stack, Static as StaticField, Throw}
+use Rattle.model.specs.declared.instructions.Instruction.TheVariants.{Class, Constant, Invoke, Number, Stack}
+use Rattle.model.specs.declared.instructions.Instruction.TheVariants.{Static as StaticField, Throw}
 use Rattle.model.specs.declared.instructions.Invocation.TheVariants.{Static}
 use Rattle.model.specs.declared.instructions.NumberKind.TheVariants.{Int as Ints}
 use Rattle.model.specs.declared.instructions.NumberOperation.TheVariants.{Binary}
@@ -47,18 +48,21 @@ pub record Played : Type 0 where
 
 abbrev pub turned : List ClassListing → HeapShape → Played → Option Row → Played
 turned program shape p None = record { machine = p.machine; outcomes = p.outcomes ++ None ∷ [] }
-turned program shape p (Some row) = record { machine = advance program shape ample p.machine row; outcomes = p.outcomes ++ Some row.outcome ∷ [] }
+turned program shape p (Some row) = record { machine = advance program shape ample p.machine row; outcomes = p.outcomes
+    ++ Some row.outcome ∷ [] }
 
 -- turns of these threads
 abbrev pub plays : List ClassListing → HeapShape → Played → List ℕ → Played
 plays program shape p [] = p
-plays program shape p (t ∷ ts) = plays program shape (turned program shape p (row_by program ample p.machine (ByThread t) 0)) ts
+plays program shape p (t ∷ ts) = plays program shape
+    (turned program shape p (row_by program ample p.machine (ByThread t) 0)) ts
 
 abbrev pub opens : List ClassListing → HeapShape → Played
 opens program shape = record { machine = opening_machine program shape; outcomes = [] }
 
 -- some turns, and then some more
-pub and_then : (program : List ClassListing) (shape : HeapShape) (p q r : Played) (first later : List ℕ) → plays program shape p first ≡ q → plays program shape q later ≡ r → plays program shape p (first ++ later) ≡ r
+pub and_then : (program : List ClassListing) (shape : HeapShape) (p q r : Played) (first later : List ℕ)
+    → plays program shape p first ≡ q → plays program shape q later ≡ r → plays program shape p (first ++ later) ≡ r
 and_then program shape p q r [] later h k = ap (λ x. plays program shape x later) h ∙ k
 and_then program shape p q r (t ∷ first) later h k =
     and_then program shape (turned program shape p (row_by program ample p.machine (ByThread t) 0)) q r first later h k
@@ -66,12 +70,14 @@ and_then program shape p q r (t ∷ first) later h k =
 abbrev pub played : World → Account → List (Option Outcome) → Played
 played w a outcomes = record { machine = record { world = w; account = a }; outcomes = outcomes }
 
-pub turned-moves : (program : List ClassListing) (shape : HeapShape) (p : Played) (row : Option Row) → (turned program shape p row).machine ≡ advance_if program shape ample p.machine row
+pub turned-moves : (program : List ClassListing) (shape : HeapShape) (p : Played) (row : Option Row)
+    → (turned program shape p row).machine ≡ advance_if program shape ample p.machine row
 turned-moves program shape p None = refl
 turned-moves program shape p (Some row) = refl
 
 -- the machine is that of the same turns without their outcomes
-pub plays-moves : (program : List ClassListing) (shape : HeapShape) (p : Played) (ts : List ℕ) → (plays program shape p ts).machine ≡ moved_by_all program shape ample p.machine (map ByThread ts)
+pub plays-moves : (program : List ClassListing) (shape : HeapShape) (p : Played) (ts : List ℕ)
+    → (plays program shape p ts).machine ≡ moved_by_all program shape ample p.machine (map ByThread ts)
 unfolding moved_by
 plays-moves program shape p [] = refl
 plays-moves program shape p (t ∷ ts) =

@@ -16,7 +16,8 @@ use Rattle.model.specs.declared.instructions.Local.TheVariants.{First}
 use Rattle.model.specs.declared.instructions.Increment.TheVariants.{Byte as ByByte}
 use Rattle.model.specs.declared.instructions.LocalAccess.TheVariants.{Load, Store, Increment}
 use Rattle.model.specs.declared.instructions.StackOperation.TheVariants.{Dup, Dup2X2}
-use Rattle.model.specs.declared.instructions.Instruction.TheVariants.{Nop, Constant, Local, Stack, Number, Branch, TableSwitch, LookupSwitch}
+use Rattle.model.specs.declared.instructions.Instruction.TheVariants.{Nop, Constant, Local, Stack, Number, Branch}
+use Rattle.model.specs.declared.instructions.Instruction.TheVariants.{TableSwitch, LookupSwitch}
 use Rattle.model.specs.declared.values.Kind.TheVariants.{Int as IntKind}
 use Rattle.model.specs.declared.turns.Fault.TheVariants.{WrongKind, WrongLocal, NoInstruction}
 use Rattle.model.specs.ClassListings.{ClassListing}
@@ -55,7 +56,8 @@ long op = (1, Number (Binary Longs op))
 -- ---- divisions and remainders: the least int by -1, and the sign of a remainder
 
 abbrev divisions : List ClassListing
-divisions = main_of 2 0 (ldc (negsuc 2147483647) ∷ iconst_m1 ∷ int Div ∷ print ∷ ldc (negsuc 2147483647) ∷ iconst_m1 ∷ int Rem ∷ print ∷ bipush (negsuc 6) ∷ iconst_3 ∷ int Rem ∷ print ∷ return ∷ [])
+divisions = main_of 2 0 (ldc (negsuc 2147483647) ∷ iconst_m1 ∷ int Div ∷ print ∷ ldc (negsuc 2147483647) ∷ iconst_m1 ∷
+    int Rem ∷ print ∷ bipush (negsuc 6) ∷ iconst_3 ∷ int Rem ∷ print ∷ return ∷ [])
 
 divisions-output : (run 13 divisions).output ≡ codes "-2147483648\n0\n-1\n"
 unfolding refusal next completion upwards builtin_classes int_wrap digits
@@ -80,7 +82,9 @@ by_zero-birth = refl
 -- ---- shifts: by the low 5 bits of an int's count, by the low 6 of a long's
 
 abbrev shifts : List ClassListing
-shifts = main_of 3 0 (iconst_1 ∷ bipush (pos 33) ∷ int Shl ∷ print ∷ lconst_1 ∷ bipush (pos 65) ∷ long Shl ∷ printl ∷ iconst_m1 ∷ bipush (pos 33) ∷ int Ushr ∷ print ∷ ldc2_w (negsuc 0) ∷ bipush (pos 65) ∷ long Ushr ∷ printl ∷ return ∷ [])
+shifts = main_of 3 0 (iconst_1 ∷ bipush (pos 33) ∷ int Shl ∷ print ∷ lconst_1 ∷ bipush (pos 65) ∷ long Shl ∷ printl
+    ∷ iconst_m1 ∷ bipush (pos 33) ∷ int Ushr ∷ print ∷ ldc2_w (negsuc 0) ∷ bipush (pos 65) ∷ long Ushr ∷ printl ∷ return
+    ∷ [])
 
 shifts-output : (run 17 shifts).output ≡ codes "2\n2\n2147483647\n9223372036854775807\n"
 unfolding refusal next completion upwards builtin_classes int_wrap digits
@@ -93,7 +97,8 @@ shifts-end = refl
 -- ---- a long below another one
 
 abbrev copied_below : List ClassListing
-copied_below = main_of 6 0 (ldc2_w (pos 7) ∷ ldc2_w (pos 9) ∷ (1, Stack Dup2X2) ∷ printl ∷ printl ∷ printl ∷ return ∷ [])
+copied_below = main_of 6 0 (ldc2_w (pos 7) ∷ ldc2_w (pos 9) ∷ (1, Stack Dup2X2) ∷ printl ∷ printl ∷ printl ∷ return
+    ∷ [])
 
 copied_below-output : (run 7 copied_below).output ≡ codes "9\n7\n9\n"
 unfolding refusal next completion upwards builtin_classes int_wrap digits
@@ -140,7 +145,9 @@ no_end-stops = refl
 -- ---- a loop that counts to 3: its top is at pc 2
 
 abbrev loop : List ClassListing
-loop = main_of 2 1 (iconst_0 ∷ (1, Local (Store IntKind (First FirstZero))) ∷ (3, Local (Increment (ByByte 0 (pos 1)))) ∷ (1, Local (Load IntKind (First FirstZero))) ∷ iconst_3 ∷ (3, Branch (TwoInts Less) 2) ∷ (1, Local (Load IntKind (First FirstZero))) ∷ print ∷ return ∷ [])
+loop = main_of 2 1 (iconst_0 ∷ (1, Local (Store IntKind (First FirstZero))) ∷ (3, Local (Increment (ByByte 0 (pos 1))))
+    ∷ (1, Local (Load IntKind (First FirstZero))) ∷ iconst_3 ∷ (3, Branch (TwoInts Less) 2)
+    ∷ (1, Local (Load IntKind (First FirstZero))) ∷ print ∷ return ∷ [])
 
 loop-output : (run 17 loop).output ≡ codes "3\n"
 unfolding refusal next completion upwards builtin_classes int_wrap digits
@@ -157,7 +164,8 @@ cases = iconst_1 ∷ print ∷ return ∷ iconst_3 ∷ print ∷ return ∷ icon
 
 -- tableswitch of the two greatest ints, at pc 2, with a pad of one byte
 abbrev by_table : ℤ → List ClassListing
-by_table z = main_of 1 0 (ldc z ∷ (22, TableSwitch (record { low = pos 2147483646; targets = 24 ∷ 29 ∷ []; default = 34 })) ∷ cases)
+by_table z = main_of 1 0
+    (ldc z ∷ (22, TableSwitch (record { low = pos 2147483646; targets = 24 ∷ 29 ∷ []; default = 34 })) ∷ cases)
 
 by_table-first : (run 5 (by_table (pos 2147483646))).output ≡ codes "1\n"
 unfolding refusal next completion upwards builtin_classes int_wrap digits
@@ -173,7 +181,8 @@ by_table-default = refl
 
 -- lookupswitch of -5 and 7, at pc 2, with a pad of one byte
 abbrev by_keys : ℤ → List ClassListing
-by_keys z = main_of 1 0 (ldc z ∷ (26, LookupSwitch (record { pairs = (negsuc 4, 28) ∷ (pos 7, 33) ∷ []; default = 38 })) ∷ cases)
+by_keys z = main_of 1 0 (ldc z ∷ (26, LookupSwitch (record { pairs = (negsuc 4, 28) ∷ (pos 7, 33) ∷ []; default = 38 }))
+    ∷ cases)
 
 by_keys-first : (run 5 (by_keys (negsuc 4))).output ≡ codes "1\n"
 unfolding refusal next completion upwards builtin_classes int_wrap digits

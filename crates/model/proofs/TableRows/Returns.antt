@@ -1,5 +1,5 @@
--- Worked rows of the returns (JVMS 6.5): a method of this descriptor runs on thread 0, called at pc 6 of main, which has
--- an operand left.
+-- Worked rows of the returns (JVMS 6.5): a method of this descriptor runs on thread 0, called at pc 6 of main, which
+-- has an operand left.
 use Rattle.std.specs.Prelude.{◌≡◌, ℕ, pos, [], ◌∷◌, List, codes, Option, Some, None, refl}
 use Rattle.model.specs.declared.values.Kind.{Kind}
 use Rattle.model.specs.declared.values.Kind.TheVariants.{Int as IntKind, Long as LongKind, Ref as RefKind}
@@ -22,7 +22,8 @@ abbrev nops : List Sized
 nops = (6, Nop) ∷ (3, Invoke Static (member (codes "A") (codes "m") (codes "()V"))) ∷ (1, Nop) ∷ []
 
 abbrev program : List ℕ → List ClassListing
-program descriptor = class (codes "A") (codes "java/lang/Object") [] (method 9 (codes "main") (codes "()V") 2 0 nops ∷ method 9 (codes "m") descriptor 3 1 nops ∷ []) ∷ []
+program descriptor = class (codes "A") (codes "java/lang/Object") [] (method 9 (codes "main") (codes "()V") 2 0 nops
+    ∷ method 9 (codes "m") descriptor 3 1 nops ∷ []) ∷ []
 
 abbrev main_at : ℕ → List Value → ℕ → Frame
 main_at pc stack room = frame (place 0 0) pc [] stack room None
@@ -37,9 +38,10 @@ standing thread owner count = world (thread ∷ Ended None ∷ []) (object (code
 -- m returns with this stack to a main with so much room
 abbrev back : List ℕ → Option Kind → List Value → ℕ → Completion
 back descriptor kind stack room =
-    returned (site (program descriptor) (standing (Live (main_at 6 (Int (pos 1) ∷ []) room ∷ m_with stack None ∷ [])) (Some 0) 1) (m_with stack None) 1) kind
+    returned (site (program descriptor) (standing (Live (main_at 6 (Int (pos 1) ∷ []) room ∷ m_with stack None ∷ []))
+        (Some 0) 1) (m_with stack None) 1) kind
 
--- main goes on behind its invoke; birth 3's monitor is left as it was
+-- main goes on after its invoke; birth 3's monitor is left as it was
 abbrev goes_on : List Value → ℕ → List ℕ → Completion
 goes_on stack room writes = Goes (standing (Live (main_at 9 stack room ∷ [])) (Some 0) 1) writes
 
@@ -52,17 +54,20 @@ return_none = refl
 return_left : back (codes "()V") None (Int (pos 8) ∷ Ref (Some 3) ∷ []) 1 ≡ goes_on (Int (pos 1) ∷ []) 1 []
 return_left = refl
 
-return_int : back (codes "(J)I") (Some IntKind) (Int (pos 300) ∷ Int (pos 8) ∷ []) 2 ≡ goes_on (Int (pos 300) ∷ Int (pos 1) ∷ []) 2 []
+return_int : back (codes "(J)I") (Some IntKind) (Int (pos 300) ∷ Int (pos 8) ∷ []) 2
+    ≡ goes_on (Int (pos 300) ∷ Int (pos 1) ∷ []) 2 []
 return_int = refl
 
 -- a result isn't truncated
 return_byte : back (codes "()B") (Some IntKind) (Int (pos 300) ∷ []) 2 ≡ goes_on (Int (pos 300) ∷ Int (pos 1) ∷ []) 2 []
 return_byte = refl
 
-return_long : back (codes "(Ljava/lang/Object;)J") (Some LongKind) (Long (pos 7) ∷ []) 3 ≡ goes_on (Long (pos 7) ∷ Int (pos 1) ∷ []) 3 []
+return_long : back (codes "(Ljava/lang/Object;)J") (Some LongKind) (Long (pos 7) ∷ []) 3
+    ≡ goes_on (Long (pos 7) ∷ Int (pos 1) ∷ []) 3 []
 return_long = refl
 
-return_ref : back (codes "()LA;") (Some RefKind) (Ref (Some 3) ∷ []) 2 ≡ goes_on (Ref (Some 3) ∷ Int (pos 1) ∷ []) 2 (3 ∷ [])
+return_ref : back (codes "()LA;") (Some RefKind) (Ref (Some 3) ∷ []) 2 ≡ goes_on (Ref (Some 3) ∷ Int (pos 1) ∷ []) 2
+    (3 ∷ [])
 return_ref = refl
 
 return_array : back (codes "()[J") (Some RefKind) (Ref None ∷ []) 2 ≡ goes_on (Ref None ∷ Int (pos 1) ∷ []) 2 []
@@ -103,14 +108,16 @@ return_wrong = refl
 
 -- ---- the outermost frame's return ends its thread
 
-return_from_main : returned (site (program (codes "()V")) (standing (Live (main_at 9 (Ref (Some 3) ∷ []) 2 ∷ [])) (Some 0) 1) (main_at 9 (Ref (Some 3) ∷ []) 2) 10) None ≡ Goes (standing (Ended None) (Some 0) 1) []
+return_from_main : returned (site (program (codes "()V")) (standing (Live (main_at 9 (Ref (Some 3) ∷ []) 2 ∷ []))
+    (Some 0) 1) (main_at 9 (Ref (Some 3) ∷ []) 2) 10) None ≡ Goes (standing (Ended None) (Some 0) 1) []
 return_from_main = refl
 
 -- ---- the method monitor is released where the thread owns it
 
 abbrev held : Option ℕ → ℕ → Completion
 held owner count =
-    returned (site (program (codes "()V")) (standing (Live (main_at 6 [] 2 ∷ m_with [] (Some 3) ∷ [])) owner count) (m_with [] (Some 3)) 1) None
+    returned (site (program (codes "()V")) (standing (Live (main_at 6 [] 2 ∷ m_with [] (Some 3) ∷ [])) owner count)
+        (m_with [] (Some 3)) 1) None
 
 abbrev let_go : Option ℕ → ℕ → Completion
 let_go owner count = Goes (standing (Live (main_at 9 [] 2 ∷ [])) owner count) []

@@ -1,4 +1,5 @@
--- What worked rows of calls, monitors and threads are written with: classes with methods, and a world in which a frame stands.
+-- What worked rows of calls, monitors and threads are written with: classes with methods, and a world in which a frame
+-- stands.
 use Rattle.std.specs.Prelude.{ℕ, List, [], ◌∷◌, codes, Option, Some, None}
 use Rattle.model.specs.declared.names.Member.{Member}
 use Rattle.model.specs.declared.places.MethodPlace.{MethodPlace}
@@ -24,7 +25,8 @@ method flags name descriptor stack locals code = record {
 }
 
 abbrev pub abstract_method : List ℕ → List ℕ → Method
-abstract_method name descriptor = record { flags = record { 0 = 0x0401 }; name = name; descriptor = descriptor; code = None }
+abstract_method name descriptor = record { flags = record { 0 = 0x0401 }; name = name; descriptor = descriptor;
+    code = None }
 
 abbrev pub class : List ℕ → List ℕ → List (List ℕ) → List Method → ClassListing
 class name superclass interfaces methods = record {
@@ -68,14 +70,16 @@ frame method pc locals stack room monitor = record {
 -- ---- worlds: births 1 and 2 are the errors that were made before the run
 
 abbrev pub object : List ℕ → Option ℕ → ℕ → Option ℕ → Object
-object class owner count thread = record { contents = Instance class []; monitor = record { owner = owner; count = count }; thread = thread }
+object class owner count thread = record { contents = Instance class [];
+    monitor = record { owner = owner; count = count }; thread = thread }
 
 abbrev pub world : List Thread → List Object → World
 world threads objects = record {
   threads = threads;
   statics = record { fields = []; states = [] };
   output = codes "o";
-  objects = plain_object [] ∷ plain_object (codes "java/lang/OutOfMemoryError") ∷ plain_object (codes "java/lang/StackOverflowError") ∷ objects;
+  objects = plain_object [] ∷ plain_object (codes "java/lang/OutOfMemoryError")
+      ∷ plain_object (codes "java/lang/StackOverflowError") ∷ objects;
   fault = None;
   rows = 7;
 }

@@ -1,5 +1,5 @@
--- Cells of three sizes: an object of one word takes the large one, the only one that is left. Where it is dropped, its cell goes
--- back to the large ones; where a static field holds it, it stays.
+-- Cells of three sizes: an object of one word takes the large one, the only one that is left. Where it is dropped, its
+-- cell goes back to the large ones; where a static field holds it, it stays.
 use Rattle.std.specs.Prelude.{◌≡◌, ℕ, pos, List, [], ◌∷◌, Option, Some, None, codes, refl}
 use Rattle.model.specs.declared.colours.Colour.TheVariants.{White, Grey}
 use Rattle.model.specs.declared.colours.Phase.TheVariants.{Idle}
@@ -37,11 +37,13 @@ abbrev new_k : Sized
 new_k = (3, Class New (codes "K"))
 
 abbrev object : Object
-object = made_of (Instance (codes "K") (record { class = codes "K"; name = codes "x"; descriptor = codes "I"; value = Int (pos 0) } ∷ []))
+object = made_of (Instance (codes "K") (record { class = codes "K"; name = codes "x"; descriptor = codes "I";
+    value = Int (pos 0) } ∷ []))
 
 -- the object has the large cell
 abbrev taken : Account
-taken = record { cells = Taken 1 White ∷ Taken 2 White ∷ Taken 3 Grey ∷ []; small = []; medium = []; large = []; grey = 3 ∷ []; phase = Idle }
+taken = record { cells = Taken 1 White ∷ Taken 2 White ∷ Taken 3 Grey ∷ []; small = []; medium = []; large = [];
+    grey = 3 ∷ []; phase = Idle }
 
 -- ---- it is dropped, and the second cycle gives its cell back
 
@@ -55,18 +57,22 @@ dropped-first : moved_by_all dropping one_each ample (opening_machine dropping o
 unfolding moved_by refusal next completion after_turn shade builtin_classes upwards
 dropped-first = refl
 
-dropped-given_back : (moved_by_all dropping one_each ample dropped (collector 26)).account ≡ record { cells = Taken 1 White ∷ Taken 2 White ∷ Free ∷ []; small = []; medium = []; large = 2 ∷ []; grey = []; phase = Idle }
+dropped-given_back : (moved_by_all dropping one_each ample dropped (collector 26)).account
+    ≡ record { cells = Taken 1 White ∷ Taken 2 White ∷ Free ∷ []; small = []; medium = []; large = 2 ∷ []; grey = [];
+    phase = Idle }
 unfolding moved_by refusal next completion after_turn shade collected root_at word_at builtin_classes upwards
 dropped-given_back = refl
 
--- ---- it goes into a static field behind one that begins with a constant. Each slot is a step of the collector, and two cycles
--- of 16 leave it
+-- ---- it goes into a static field after one that begins with a constant. Each slot is a step of the collector, and two
+-- cycles of 16 leave it
 
 abbrev static_field : List ℕ → List ℕ → Option Constant → Field
-static_field name descriptor constant = record { flags = record { 0 = 8 }; name = name; descriptor = descriptor; constant = constant }
+static_field name descriptor constant = record { flags = record { 0 = 8 }; name = name; descriptor = descriptor;
+    constant = constant }
 
 abbrev keeping : List ClassListing
-keeping = class_of (codes "K") (static_field (codes "i") (codes "I") (Some (IntConstant (pos 1))) ∷ field (codes "x") (codes "I") ∷ static_field (codes "r") (codes "LK;") None ∷ []) 1 0 []
+keeping = class_of (codes "K") (static_field (codes "i") (codes "I") (Some (IntConstant (pos 1)))
+    ∷ field (codes "x") (codes "I") ∷ static_field (codes "r") (codes "LK;") None ∷ []) 1 0 []
     (new_k ∷ (3, Static Put (member (codes "K") (codes "r") (codes "LK;"))) ∷ return ∷ []) ∷ []
 
 abbrev slot : List ℕ → List ℕ → Value → FieldValue
@@ -74,11 +80,13 @@ slot name descriptor value = record { class = codes "K"; name = name; descriptor
 
 abbrev in_slot : ℕ → World
 in_slot rows = let w : World = world (main_at 1 6 [] []) [] (object ∷ []) rows in record w {
-  statics = record { fields = slot (codes "i") (codes "I") (Int (pos 1)) ∷ slot (codes "r") (codes "LK;") (Ref (Some 3)) ∷ []; states = w.statics.states };
+  statics = record { fields = slot (codes "i") (codes "I") (Int (pos 1)) ∷ slot (codes "r") (codes "LK;") (Ref (Some 3))
+      ∷ []; states = w.statics.states };
 }
 
 abbrev all_white : Account
-all_white = record { cells = Taken 1 White ∷ Taken 2 White ∷ Taken 3 White ∷ []; small = []; medium = []; large = []; grey = []; phase = Idle }
+all_white = record { cells = Taken 1 White ∷ Taken 2 White ∷ Taken 3 White ∷ []; small = []; medium = []; large = [];
+    grey = []; phase = Idle }
 
 kept-first : moved_by_all keeping one_each ample (opening_machine keeping one_each) (thread 2) ≡ stage (in_slot 2) taken
 unfolding moved_by refusal next completion after_turn shade builtin_classes upwards interfaces_from
@@ -88,6 +96,7 @@ kept-cycle : moved_by_all keeping one_each ample (stage (in_slot 2) taken) (coll
 unfolding moved_by refusal next completion after_turn shade collected root_at word_at builtin_classes upwards
 kept-cycle = refl
 
-kept-second : moved_by_all keeping one_each ample (stage (in_slot 18) all_white) (collector 16) ≡ stage (in_slot 34) all_white
+kept-second : moved_by_all keeping one_each ample (stage (in_slot 18) all_white) (collector 16)
+    ≡ stage (in_slot 34) all_white
 unfolding moved_by refusal next completion after_turn shade collected root_at word_at builtin_classes upwards
 kept-second = refl

@@ -1,12 +1,13 @@
--- Worked pops, copies and swaps, each in every form that JVMS 6.5 gives it. Stacks are written top first; the frame stands at
--- pc 3, and the next instruction at pc 4.
+-- Worked pops, copies and swaps, each in every form that JVMS 6.5 gives it. Stacks are written top first; the frame
+-- stands at pc 3, and the next instruction at pc 4.
 use Rattle.std.specs.Prelude.{◌≡◌, ℕ, pos, List, [], ◌∷◌, Result, Some, refl}
 use Rattle.model.specs.declared.values.Value.{Value}
 use Rattle.model.specs.declared.values.Value.TheVariants.{Int, Long, Ref}
 use Rattle.model.specs.declared.turns.Fault.TheVariants.{StackEmpty, StackFull, WrongKind}
 use Rattle.model.specs.declared.turns.Abrupt.{Abrupt}
 use Rattle.model.specs.declared.instructions.StackOperation.{StackOperation}
-use Rattle.model.specs.declared.instructions.StackOperation.TheVariants.{Pop, Pop2, Dup, DupX1, DupX2, Dup2, Dup2X1, Dup2X2, Swap}
+use Rattle.model.specs.declared.instructions.StackOperation.TheVariants.{Pop, Pop2, Dup, DupX1, DupX2, Dup2, Dup2X1}
+use Rattle.model.specs.declared.instructions.StackOperation.TheVariants.{Dup2X2, Swap}
 use Rattle.model.specs.Frames.{Moved}
 use Rattle.model.specs.Table.Stacks.{rearranged}
 use Rattle.model.proofs.TableRows.Worked.{frame, goes, fails}
@@ -179,10 +180,12 @@ dup2_x1_without_room = refl
 pub dup2_x2_of_two_over_two : on Dup2X2 (a ∷ b ∷ c ∷ d ∷ []) 8 ≡ gives (a ∷ b ∷ c ∷ d ∷ a ∷ b ∷ []) 8 (5 ∷ 6 ∷ 5 ∷ [])
 dup2_x2_of_two_over_two = refl
 
-pub dup2_x2_of_a_long_over_two : on Dup2X2 (seven ∷ b ∷ c ∷ d ∷ []) 8 ≡ gives (seven ∷ b ∷ c ∷ seven ∷ d ∷ []) 8 (6 ∷ 5 ∷ [])
+pub dup2_x2_of_a_long_over_two : on Dup2X2 (seven ∷ b ∷ c ∷ d ∷ []) 8
+    ≡ gives (seven ∷ b ∷ c ∷ seven ∷ d ∷ []) 8 (6 ∷ 5 ∷ [])
 dup2_x2_of_a_long_over_two = refl
 
-pub dup2_x2_of_two_over_a_long : on Dup2X2 (b ∷ c ∷ seven ∷ d ∷ []) 8 ≡ gives (b ∷ c ∷ seven ∷ b ∷ c ∷ d ∷ []) 8 (6 ∷ 5 ∷ 6 ∷ 5 ∷ [])
+pub dup2_x2_of_two_over_a_long : on Dup2X2 (b ∷ c ∷ seven ∷ d ∷ []) 8
+    ≡ gives (b ∷ c ∷ seven ∷ b ∷ c ∷ d ∷ []) 8 (6 ∷ 5 ∷ 6 ∷ 5 ∷ [])
 dup2_x2_of_two_over_a_long = refl
 
 pub dup2_x2_of_longs : on Dup2X2 (nine ∷ seven ∷ []) 6 ≡ gives (nine ∷ seven ∷ nine ∷ []) 6 []

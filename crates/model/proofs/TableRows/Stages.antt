@@ -1,4 +1,5 @@
--- Runs are computed in stages: the machine is written out between turns, each stage is an equation, and the equations chain.
+-- Runs are computed in stages: the machine is written out between turns, each stage is an equation, and the equations
+-- chain.
 use Rattle.std.proofs.Common.{◌≡◌, ℕ, List, [], ◌∷◌, ◌++◌, replicate, Some, None, ◌∙◌, ap}
 use Rattle.std.specs.Prelude.{codes}
 use Rattle.model.specs.declared.colours.Phase.{Phase}
@@ -53,7 +54,8 @@ small n = record { small = n; medium = 0; large = 0 }
 
 -- main's frame
 abbrev pub main_at : ℕ → ℕ → List Entry → List Value → Thread
-main_at room pc locals stack = Live (record { method = record { class = 0; method = 0 }; pc = pc; locals = locals; stack = stack; room = room; monitor = None; mark = Unmarked } ∷ [])
+main_at room pc locals stack = Live (record { method = record { class = 0; method = 0 }; pc = pc; locals = locals;
+    stack = stack; room = room; monitor = None; mark = Unmarked } ∷ [])
 
 -- with the objects from birth 3 on, and so many rows
 abbrev pub world : Thread → List ℕ → List Object → ℕ → World
@@ -73,13 +75,17 @@ abbrev pub thread : ℕ → List Actor
 thread n = replicate n (ByThread 0)
 
 abbrev pub account : List Cell → List ℕ → List ℕ → Phase → Account
-account cells free grey phase = record { cells = cells; small = free; medium = []; large = []; grey = grey; phase = phase }
+account cells free grey phase = record { cells = cells; small = free; medium = []; large = []; grey = grey;
+    phase = phase }
 
 abbrev pub stage : World → Account → Machine
 stage w a = record { world = w; account = a }
 
 -- ---- the chain
 
-pub then : (program : List ClassListing) (shape : HeapShape) (l : Limits) (m n p : Machine) (first later : List Actor) → moved_by_all program shape l m first ≡ n → moved_by_all program shape l n later ≡ p → moved_by_all program shape l m (first ++ later) ≡ p
+pub then : (program : List ClassListing) (shape : HeapShape) (l : Limits) (m n p : Machine) (first later : List Actor)
+    → moved_by_all program shape l m first ≡ n → moved_by_all program shape l n later ≡ p
+    → moved_by_all program shape l m (first ++ later) ≡ p
 then program shape l m n p [] later h k = ap (λ x. moved_by_all program shape l x later) h ∙ k
-then program shape l m n p (a ∷ first) later h k = then program shape l (moved_by program shape l m a) n p first later h k
+then program shape l m n p (a ∷ first) later h k = then program shape l (moved_by program shape l m a) n p first later h
+    k

@@ -12,12 +12,17 @@ use Rattle.model.specs.Worlds.{FieldValue, opening_slots}
 use Rattle.model.specs.Completions.{Completion}
 use Rattle.model.specs.Completions.Completion.{Faults}
 use Rattle.model.specs.Table.Statics.{static_accessed}
-use Rattle.model.proofs.TableRows.HeapSites.{classes, member, field_value, null, site, after_of, stack_after, pc_after, writes_of}
+use Rattle.model.proofs.TableRows.HeapSites.{classes, member, field_value, null, site, after_of, stack_after, pc_after}
+use Rattle.model.proofs.TableRows.HeapSites.{writes_of}
 
--- ---- the slots at first: by class and field order, constants as a store keeps them (40000 in a short, 200 in a byte and -1 in
--- a char are -25536, -56 and 65535), the others null or 0
+-- ---- the slots at first: by class and field order, constants as a store keeps them (40000 in a short, 200 in a byte
+-- and -1 in a char are -25536, -56 and 65535), the others null or 0
 
-slots_at_first : opening_slots classes ≡ field_value (codes "P") (codes "s") (codes "S") (Int (negsuc 25535)) ∷ field_value (codes "K") (codes "b") (codes "B") (Int (negsuc 55)) ∷ field_value (codes "K") (codes "c") (codes "C") (Int (pos 65535)) ∷ field_value (codes "K") (codes "j") (codes "J") (Long (pos 5)) ∷ field_value (codes "K") (codes "r") (codes "LK;") null ∷ field_value (codes "K") (codes "i") (codes "I") (Int (pos 0)) ∷ []
+slots_at_first : opening_slots classes ≡ field_value (codes "P") (codes "s") (codes "S") (Int (negsuc 25535))
+    ∷ field_value (codes "K") (codes "b") (codes "B") (Int (negsuc 55)) ∷ field_value (codes "K") (codes "c")
+    (codes "C") (Int (pos 65535)) ∷ field_value (codes "K") (codes "j") (codes "J") (Long (pos 5))
+    ∷ field_value (codes "K") (codes "r") (codes "LK;") null ∷ field_value (codes "K") (codes "i") (codes "I")
+    (Int (pos 0)) ∷ []
 unfolding int_wrap
 slots_at_first = refl
 
@@ -64,7 +69,8 @@ abbrev slots_after : Completion → List Value
 slots_after c = map (λ (f : FieldValue). f.value) (after_of c).statics.fields
 
 -- 384 in a byte is -128, and the operand is gone
-put-byte : slots_after (puts_b (Int (pos 384) ∷ null ∷ [])) ≡ Int (negsuc 25535) ∷ Int (negsuc 127) ∷ Int (pos 65535) ∷ Long (pos 5) ∷ null ∷ Int (pos 0) ∷ []
+put-byte : slots_after (puts_b (Int (pos 384) ∷ null ∷ [])) ≡ Int (negsuc 25535) ∷ Int (negsuc 127) ∷ Int (pos 65535)
+    ∷ Long (pos 5) ∷ null ∷ Int (pos 0) ∷ []
 unfolding builtin_classes upwards interfaces_from int_wrap
 put-byte = refl
 
@@ -73,7 +79,8 @@ unfolding builtin_classes upwards interfaces_from int_wrap
 put-stack = refl
 
 -- a reference that is put is written
-put-reference : slots_after (puts_r (Ref (Some 3) ∷ [])) ≡ Int (negsuc 25535) ∷ Int (negsuc 55) ∷ Int (pos 65535) ∷ Long (pos 5) ∷ Ref (Some 3) ∷ Int (pos 0) ∷ []
+put-reference : slots_after (puts_r (Ref (Some 3) ∷ [])) ≡ Int (negsuc 25535) ∷ Int (negsuc 55) ∷ Int (pos 65535)
+    ∷ Long (pos 5) ∷ Ref (Some 3) ∷ Int (pos 0) ∷ []
 unfolding builtin_classes upwards interfaces_from int_wrap
 put-reference = refl
 

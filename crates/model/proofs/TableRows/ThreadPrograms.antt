@@ -1,5 +1,5 @@
--- Programs of several threads: two monitors that two threads enter in opposite orders, a thread that is started twice, and a
--- 65th thread.
+-- Programs of several threads: two monitors that two threads enter in opposite orders, a thread that is started twice,
+-- and a 65th thread.
 use Rattle.std.specs.Prelude.{◌≡◌, ℕ, zero, suc, ◌+◌, List, [], ◌∷◌, ◌++◌, replicate, Option, Some, None, codes, refl}
 use Rattle.std.specs.List.{find}
 use Rattle.std.specs.Int.{int_wrap}
@@ -11,7 +11,8 @@ use Rattle.model.specs.declared.instructions.Width.TheVariants.{Narrow}
 use Rattle.model.specs.declared.instructions.Invocation.TheVariants.{Virtual}
 use Rattle.model.specs.declared.instructions.MonitorOperation.TheVariants.{Enter, Exit}
 use Rattle.model.specs.declared.instructions.StackOperation.TheVariants.{Dup}
-use Rattle.model.specs.declared.instructions.Instruction.TheVariants.{Branch, Class, Invoke, Stack, Static as StaticField, Monitor}
+use Rattle.model.specs.declared.instructions.Instruction.TheVariants.{Branch, Class, Invoke, Stack}
+use Rattle.model.specs.declared.instructions.Instruction.TheVariants.{Static as StaticField, Monitor}
 use Rattle.model.specs.declared.values.Value.{Value}
 use Rattle.model.specs.declared.values.Value.TheVariants.{Ref}
 use Rattle.model.specs.declared.turns.ClassState.TheVariants.{Done as Initialised}
@@ -50,7 +51,8 @@ start name = (3, Invoke Virtual (member name (codes "start") (codes "()V")))
 -- ---- D's main enters a, then b; its run enters b, then a
 
 abbrev static_field : List ℕ → Field
-static_field name = record { flags = record { 0 = 8 }; name = name; descriptor = codes "Ljava/lang/Object;"; constant = None }
+static_field name = record { flags = record { 0 = 8 }; name = name; descriptor = codes "Ljava/lang/Object;";
+    constant = None }
 
 abbrev get : List ℕ → Sized
 get name = (3, StaticField Get (member (codes "D") name (codes "Ljava/lang/Object;")))
@@ -76,8 +78,10 @@ b = codes "b"
 
 abbrev crossings : List ClassListing
 crossings = record (class (codes "D") thread_class [] (
-    method 9 (codes "main") (codes "()V") 1 0 (new object_class ∷ put a ∷ new object_class ∷ put b ∷ new (codes "D") ∷ start (codes "D") ∷ crossing a b) ∷
-    method 1 (codes "run") (codes "()V") 1 1 (crossing b a) ∷ [])) { fields = static_field a ∷ static_field b ∷ [] } ∷ []
+    method 9 (codes "main") (codes "()V") 1 0 (new object_class ∷ put a ∷ new object_class ∷ put b ∷ new (codes "D")
+        ∷ start (codes "D") ∷ crossing a b) ∷
+    method 1 (codes "run") (codes "()V") 1 1 (crossing b a) ∷ [])) { fields = static_field a ∷ static_field b ∷ [] }
+        ∷ []
 
 -- the first ready thread in cyclic order from a number on
 abbrev picked : List ClassListing → World → ℕ → Option ℕ
@@ -91,14 +95,16 @@ acted program (t ∷ ts) w = acted program ts (ideal_step program ample w (ByThr
 -- which threads are picked when these have their turns, the last one for the turn after them
 abbrev picks : List ClassListing → List ℕ → ℕ → World → List (Option ℕ)
 picks program [] first w = picked program w first ∷ []
-picks program (t ∷ ts) first w = picked program w first ∷ picks program ts (t + 1) (ideal_step program ample w (ByThread t) NewObject)
+picks program (t ∷ ts) first w = picked program w first
+    ∷ picks program ts (t + 1) (ideal_step program ample w (ByThread t) NewObject)
 
 -- twelve rows: six of main, and then the threads take turns
 abbrev opening : World
 opening = opening_world crossings
 
 abbrev holding : List ℕ → ℕ → FieldValue
-holding name birth = record { class = codes "D"; name = name; descriptor = codes "Ljava/lang/Object;"; value = Ref (Some birth) }
+holding name birth = record { class = codes "D"; name = name; descriptor = codes "Ljava/lang/Object;";
+    value = Ref (Some birth) }
 
 -- entered once, by its owner
 abbrev monitored : Option ℕ → Object
@@ -168,18 +174,21 @@ crossings-main : acted crossings (replicate 9 0) begun ≡ crossed (Ended None �
 unfolding refusal next completion builtin_classes upwards interfaces_from is_within is_subtype_within int_wrap digits
 crossings-main = refl
 
-crossings-run : acted crossings (replicate 9 1) (crossed (Ended None ∷ run_at 0 [] ∷ []) None None 15) ≡ crossed (Ended None ∷ Ended None ∷ []) None None 24
+crossings-run : acted crossings (replicate 9 1) (crossed (Ended None ∷ run_at 0 [] ∷ []) None None 15)
+    ≡ crossed (Ended None ∷ Ended None ∷ []) None None 24
 unfolding refusal next completion builtin_classes upwards interfaces_from is_within is_subtype_within int_wrap digits
 crossings-run = refl
 
 -- ---- a thread that is started twice: the second start's turn makes an exception
 
 abbrev twice : List ClassListing
-twice = class (codes "T") thread_class [] (method 9 (codes "main") (codes "()V") 2 0 (new (codes "T") ∷ (1, Stack Dup) ∷ start (codes "T") ∷ start (codes "T") ∷ return ∷ []) ∷ []) ∷ []
+twice = class (codes "T") thread_class [] (method 9 (codes "main") (codes "()V") 2 0 (new (codes "T") ∷ (1, Stack Dup)
+    ∷ start (codes "T") ∷ start (codes "T") ∷ return ∷ []) ∷ []) ∷ []
 
 twice-end : run 4 twice ≡ record (opening_world twice) {
   threads = Ended (Some (codes "java/lang/IllegalThreadStateException")) ∷ Ended None ∷ [];
-  objects = opening_objects ++ object (codes "T") None 0 (Some 1) ∷ object (codes "java/lang/IllegalThreadStateException") None 0 None ∷ [];
+  objects = opening_objects ++ object (codes "T") None 0 (Some 1)
+      ∷ object (codes "java/lang/IllegalThreadStateException") None 0 None ∷ [];
   rows = 4;
 }
 unfolding refusal next completion builtin_classes upwards interfaces_from is_within is_subtype_within int_wrap digits
@@ -188,7 +197,8 @@ twice-end = refl
 -- ---- T's main starts one thread after another, each of which ends at once: the 64th start is F8, in row 191
 
 abbrev starts : List ClassListing
-starts = class (codes "T") thread_class [] (method 9 (codes "main") (codes "()V") 1 0 (new (codes "T") ∷ start (codes "T") ∷ (3, Branch (Always Narrow) 0) ∷ []) ∷ []) ∷ []
+starts = class (codes "T") thread_class [] (method 9 (codes "main") (codes "()V") 1 0 (new (codes "T")
+    ∷ start (codes "T") ∷ (3, Branch (Always Narrow) 0) ∷ []) ∷ []) ∷ []
 
 abbrev started_from : ℕ → ℕ → List Object
 started_from first zero = []

@@ -33,12 +33,14 @@ at pc stack = frame (place 0 0) pc [] stack 2 None
 abbrev object_on_one : List Value
 object_on_one = Ref (Some 3) ∷ Int (pos 1) ∷ []
 
--- thread 0 stands there, with other threads behind it
+-- thread 0 stands there, with other threads after it
 abbrev standing : Frame → List Thread → Object → World
 standing f others o = world (Live (f ∷ []) ∷ others) (o ∷ [])
 
 abbrev calls : List ℕ → List Value → List Thread → List ℕ → Option ℕ → Completion
-calls name stack others of thread = invoked (site program (standing (at 6 stack) others (object of None 0 thread)) (at 6 stack) 9) Virtual (member (codes "java/lang/Thread") name (codes "()V"))
+calls name stack others of thread =
+    invoked (site program (standing (at 6 stack) others (object of None 0 thread)) (at 6 stack) 9) Virtual
+    (member (codes "java/lang/Thread") name (codes "()V"))
 
 -- ---- start
 
@@ -49,11 +51,15 @@ abbrev goes_on : List Thread → List ℕ → Option ℕ → List ℕ → Comple
 goes_on others of thread writes = Goes (standing (at 9 (Int (pos 1) ∷ [])) others (object of None 0 thread)) writes
 
 -- the new thread has the object in local 0, and the object its thread's number
-start_first : starts [] (codes "D") None ≡ goes_on (Live (frame (place 0 0) 0 (Holds (Ref (Some 3)) ∷ Unset ∷ Unset ∷ []) [] 2 None ∷ []) ∷ []) (codes "D") (Some 1) (3 ∷ [])
+start_first : starts [] (codes "D") None
+    ≡ goes_on (Live (frame (place 0 0) 0 (Holds (Ref (Some 3)) ∷ Unset ∷ Unset ∷ []) [] 2 None ∷ []) ∷ []) (codes "D")
+    (Some 1) (3 ∷ [])
 unfolding upwards interfaces_from is_within is_subtype_within builtin_classes
 start_first = refl
 
-start_third : starts (Ended None ∷ Live [] ∷ []) (codes "D") None ≡ goes_on (Ended None ∷ Live [] ∷ Live (frame (place 0 0) 0 (Holds (Ref (Some 3)) ∷ Unset ∷ Unset ∷ []) [] 2 None ∷ []) ∷ []) (codes "D") (Some 3) (3 ∷ [])
+start_third : starts (Ended None ∷ Live [] ∷ []) (codes "D") None
+    ≡ goes_on (Ended None ∷ Live [] ∷ Live (frame (place 0 0) 0 (Holds (Ref (Some 3)) ∷ Unset ∷ Unset ∷ []) [] 2 None
+    ∷ []) ∷ []) (codes "D") (Some 3) (3 ∷ [])
 unfolding upwards interfaces_from is_within is_subtype_within builtin_classes
 start_third = refl
 
@@ -88,7 +94,8 @@ join_itself : joins [] (Some 0) ≡ Waits
 unfolding upwards interfaces_from is_within is_subtype_within builtin_classes
 join_itself = refl
 
-join_ended : joins (Ended (Some (codes "X")) ∷ []) (Some 1) ≡ goes_on (Ended (Some (codes "X")) ∷ []) (codes "D") (Some 1) []
+join_ended : joins (Ended (Some (codes "X")) ∷ []) (Some 1) ≡ goes_on (Ended (Some (codes "X")) ∷ []) (codes "D")
+    (Some 1) []
 unfolding upwards interfaces_from is_within is_subtype_within builtin_classes
 join_ended = refl
 

@@ -110,7 +110,8 @@ throws outer inner w birth = effect_of (program outer inner) w 0 NewObject (Thro
 
 -- the handler finds the throwable alone on the stack; locals and monitor stay
 abbrev in_m : ℕ → Effect
-in_m handler = then (world (Live (main_at 6 (Int (pos 1) ∷ []) ∷ m_at handler (Ref (Some 4) ∷ []) 2 ∷ [])) (objects (Some 0) 1)) (4 ∷ [])
+in_m handler = then (world (Live (main_at 6 (Int (pos 1) ∷ []) ∷ m_at handler (Ref (Some 4) ∷ []) 2 ∷ []))
+    (objects (Some 0) 1)) (4 ∷ [])
 
 -- m is left, and its monitor with it
 abbrev in_main : ℕ → Effect
@@ -162,15 +163,18 @@ unfolding is_within builtin_classes
 none_takes = refl
 
 -- entered twice, it is still owned; another thread's stays as it is
-entered_twice : throws [] [] (world (standing 3 2) (objects (Some 0) 2)) 4 ≡ then (world (Ended (Some arithmetic)) (objects (Some 0) 1)) []
+entered_twice : throws [] [] (world (standing 3 2) (objects (Some 0) 2)) 4 ≡
+    then (world (Ended (Some arithmetic)) (objects (Some 0) 1)) []
 unfolding is_within builtin_classes
 entered_twice = refl
 
-of_another : throws [] [] (world (standing 3 2) (objects (Some 1) 2)) 4 ≡ then (world (Ended (Some arithmetic)) (objects (Some 1) 2)) []
+of_another : throws [] [] (world (standing 3 2) (objects (Some 1) 2)) 4 ≡
+    then (world (Ended (Some arithmetic)) (objects (Some 1) 2)) []
 unfolding is_within builtin_classes
 of_another = refl
 
-of_nobody : throws [] [] (world (standing 3 2) (objects None 0)) 4 ≡ then (world (Ended (Some arithmetic)) (objects None 0)) []
+of_nobody : throws [] [] (world (standing 3 2) (objects None 0)) 4 ≡
+    then (world (Ended (Some arithmetic)) (objects None 0)) []
 unfolding is_within builtin_classes
 of_nobody = refl
 
@@ -193,13 +197,18 @@ no_room_in_caller = refl
 -- ---- the machine makes an exception: it asks for a cell of no words, but for StackOverflowError
 
 abbrev raise : Choice → World → Effect
-raise choice w = effect_of (program [] (row 3 5 20 (Some arithmetic) ∷ row 3 5 30 (Some out_of_memory) ∷ [])) w 0 choice (raises Arithmetic)
+raise choice w = effect_of (program [] (row 3 5 20 (Some arithmetic) ∷ row 3 5 30 (Some out_of_memory) ∷ [])) w 0 choice
+    (raises Arithmetic)
 
-made : raise NewObject (before 3) ≡ then (world (Live (main_at 6 (Int (pos 1) ∷ []) ∷ m_at 20 (Ref (Some 5) ∷ []) 2 ∷ [])) (objects (Some 0) 1 ++ plain_object arithmetic ∷ [])) (5 ∷ [])
+made : raise NewObject (before 3) ≡
+    then (world (Live (main_at 6 (Int (pos 1) ∷ []) ∷ m_at 20 (Ref (Some 5) ∷ []) 2 ∷ [])) (objects (Some 0) 1
+    ++ plain_object arithmetic ∷ [])) (5 ∷ [])
 unfolding is_within builtin_classes
 made = refl
 
-not_made : raise NoRoom (before 3) ≡ then (world (Live (main_at 6 (Int (pos 1) ∷ []) ∷ m_at 30 (Ref (Some 1) ∷ []) 2 ∷ [])) (objects (Some 0) 1)) (1 ∷ [])
+not_made : raise NoRoom (before 3) ≡
+    then (world (Live (main_at 6 (Int (pos 1) ∷ []) ∷ m_at 30 (Ref (Some 1) ∷ []) 2 ∷ [])) (objects (Some 0) 1))
+    (1 ∷ [])
 unfolding is_within builtin_classes
 not_made = refl
 
@@ -227,7 +236,8 @@ abbrev two_ints : Contents
 two_ints = Array (codes "I") (Int (pos 0) ∷ Int (pos 0) ∷ [])
 
 abbrev create : Choice → World → ℕ → Effect
-create choice w taken = effect_of (program [] (row 3 5 30 (Some out_of_memory) ∷ [])) w 0 choice (Creates 4 taken two_ints)
+create choice w taken = effect_of (program [] (row 3 5 30 (Some out_of_memory) ∷ [])) w 0 choice
+    (Creates 4 taken two_ints)
 
 abbrev new_array : Object
 new_array = record { contents = two_ints; monitor = free_monitor; thread = None }
@@ -235,14 +245,18 @@ new_array = record { contents = two_ints; monitor = free_monitor; thread = None 
 create_asks : asks (Creates 4 1 two_ints) ≡ Some 2
 create_asks = refl
 
-created : create NewObject (before 3) 1 ≡ then (world (Live (main_at 6 (Int (pos 1) ∷ []) ∷ m_at 4 (Ref (Some 5) ∷ Int (pos 3) ∷ []) 2 ∷ [])) (objects (Some 0) 1 ++ new_array ∷ [])) (5 ∷ [])
+created : create NewObject (before 3) 1 ≡
+    then (world (Live (main_at 6 (Int (pos 1) ∷ []) ∷ m_at 4 (Ref (Some 5) ∷ Int (pos 3) ∷ []) 2 ∷ []))
+    (objects (Some 0) 1 ++ new_array ∷ [])) (5 ∷ [])
 created = refl
 
 -- on a full stack: F2 where a cell has room, else OutOfMemoryError
 created_on_full : create NewObject (before 3) 0 ≡ faulted (before 3) 0 StackFull
 created_on_full = refl
 
-not_created : create NoRoom (before 3) 0 ≡ then (world (Live (main_at 6 (Int (pos 1) ∷ []) ∷ m_at 30 (Ref (Some 1) ∷ []) 2 ∷ [])) (objects (Some 0) 1)) (1 ∷ [])
+not_created : create NoRoom (before 3) 0 ≡
+    then (world (Live (main_at 6 (Int (pos 1) ∷ []) ∷ m_at 30 (Ref (Some 1) ∷ []) 2 ∷ [])) (objects (Some 0) 1))
+    (1 ∷ [])
 unfolding is_within builtin_classes
 not_created = refl
 
@@ -254,8 +268,8 @@ ready c = effect_of (program [] []) (before 3) 0 NewObject c
 printed : ready (Prints (before 4) (66 ∷ 10 ∷ [])) ≡ then (record (before 4) { output = 65 ∷ 66 ∷ 10 ∷ [] }) []
 printed = refl
 
-print_told : prints (Prints (before 4) (66 ∷ 10 ∷ [])) ≡ Some (66 ∷ 10 ∷ [])
-print_told = refl
+print_reported : prints (Prints (before 4) (66 ∷ 10 ∷ [])) ≡ Some (66 ∷ 10 ∷ [])
+print_reported = refl
 
 went_on : ready (Goes (before 4) (4 ∷ 3 ∷ [])) ≡ then (before 4) (4 ∷ 3 ∷ [])
 went_on = refl

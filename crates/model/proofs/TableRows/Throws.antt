@@ -19,10 +19,12 @@ use Rattle.model.proofs.TableRows.Sites.{class, place, frame, object, world, sit
 
 -- a class of exceptions, and one that is none
 abbrev program : List ClassListing
-program = class (codes "X") (codes "java/lang/ArithmeticException") [] [] ∷ class (codes "A") (codes "java/lang/Object") [] [] ∷ []
+program = class (codes "X") (codes "java/lang/ArithmeticException") [] [] ∷ class (codes "A") (codes "java/lang/Object")
+    [] [] ∷ []
 
 abbrev thrown_from : List Value → Object → Completion
-thrown_from stack o = threw (site program (world (Live (frame (place 0 0) 5 [] stack 2 None ∷ []) ∷ []) (o ∷ [])) (frame (place 0 0) 5 [] stack 2 None) 6)
+thrown_from stack o = threw (site program (world (Live (frame (place 0 0) 5 [] stack 2 None ∷ []) ∷ []) (o ∷ []))
+    (frame (place 0 0) 5 [] stack 2 None) 6)
 
 abbrev of : List ℕ → Object
 of name = object name None 0 None

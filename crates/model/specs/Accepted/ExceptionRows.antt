@@ -1,4 +1,5 @@
-use Rattle.std.specs.Prelude.{ℕ, ◌-◌, List, length, slice_get, Bool, false, ◌&&◌, ◌||◌, not, ◌==◌, nat_lt, codes, Option, Some, None}
+use Rattle.std.specs.Prelude.{ℕ, ◌-◌, List, length, slice_get, Bool, false, ◌&&◌, ◌||◌, not, ◌==◌, nat_lt, codes}
+use Rattle.std.specs.Prelude.{Option, Some, None}
 use Rattle.std.specs.List.{list_any}
 use Rattle.model.specs.declared.listings.ExceptionRow.{ExceptionRow}
 use Rattle.model.specs.declared.listings.Method.{Method}
@@ -15,7 +16,7 @@ abbrev pub end_of : Option Placed → ℕ
 end_of None = 0
 end_of (Some i) = i.next
 
--- the code's length in bytes: the pc behind its last instruction
+-- the code's length in bytes: the pc after its last instruction
 abbrev pub code_length : CodeListing → ℕ
 code_length code = end_of (slice_get code.instructions (length code.instructions - 1))
 

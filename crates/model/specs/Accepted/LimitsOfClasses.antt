@@ -1,4 +1,5 @@
-use Rattle.std.specs.Prelude.{ℕ, zero, suc, ◌+◌, List, length, take, slice_get, Bool, false, ◌||◌, not, nat_lt, count_by, Option, Some, None, if◌then◌else◌}
+use Rattle.std.specs.Prelude.{ℕ, zero, suc, ◌+◌, List, length, take, slice_get, Bool, false, ◌||◌, not, nat_lt}
+use Rattle.std.specs.Prelude.{count_by, Option, Some, None, if◌then◌else◌}
 use Rattle.std.specs.List.{find, list_any}
 use Rattle.model.specs.declared.listings.Field.{Field}
 use Rattle.model.specs.declared.listings.Method.{Method}
@@ -27,7 +28,8 @@ units_to_begin m = argument_units m.descriptor + (if is_static m then 0 else 1)
 
 abbrev pub passes_limits : Method → Option CodeListing → Bool
 passes_limits m None = false
-passes_limits m (Some code) = nat_lt code.max_locals (units_to_begin m) || nat_lt 4096 (code.max_locals + code.max_stack)
+passes_limits m (Some code) = nat_lt code.max_locals (units_to_begin m)
+    || nat_lt 4096 (code.max_locals + code.max_stack)
 
 -- an object of the class has more than 256 fields, the locals of a method don't hold its arguments, or a frame of it
 -- takes more than 4,096 units

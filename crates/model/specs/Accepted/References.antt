@@ -12,7 +12,10 @@ use Rattle.model.specs.declared.instructions.ClassOperation.{ClassOperation}
 use Rattle.model.specs.declared.instructions.ClassOperation.TheVariants.{New, CheckCast, InstanceOf}
 use Rattle.model.specs.declared.instructions.Invocation.{Invocation}
 use Rattle.model.specs.declared.instructions.Invocation.TheVariants.{Virtual, Special, Static, Interface}
-use Rattle.model.specs.declared.instructions.Instruction.TheVariants.{Nop, Constant, Local, Stack, Number, Branch, TableSwitch, LookupSwitch, Return, Static as StaticField, Field, Array, Class, Invoke, Throw, Monitor}
+use Rattle.model.specs.declared.instructions.Instruction.TheVariants.{Nop, Constant, Local, Stack, Number, Branch}
+use Rattle.model.specs.declared.instructions.Instruction.TheVariants.{TableSwitch, LookupSwitch, Return}
+use Rattle.model.specs.declared.instructions.Instruction.TheVariants.{Static as StaticField, Field, Array, Class}
+use Rattle.model.specs.declared.instructions.Instruction.TheVariants.{Invoke, Throw, Monitor}
 use Rattle.model.specs.CodeListings.{CodeListing}
 use Rattle.model.specs.ClassListings.{ClassListing}
 use Rattle.model.specs.Table.Next.{Listed}
@@ -62,16 +65,18 @@ abbrev pub names_class : List ClassListing → Member → Bool
 names_class program m = is_class_found (class_named program m.class)
 
 abbrev pub finds_static : List ClassListing → Member → Bool
-finds_static program m = names_class program m && not (is_initializer m.name) && is_static_method_found (resolved_method program m)
+finds_static program m = names_class program m && not (is_initializer m.name)
+    && is_static_method_found (resolved_method program m)
 
 abbrev pub finds_instance : List ClassListing → Member → Bool
 finds_instance program m = is_instance_method_found (resolved_method program m)
 
--- an instance initializer is called by invokespecial alone, a class initializer by no instruction; the count of invokeinterface
--- is that of the arguments' units and the object's
+-- an instance initializer is called by invokespecial alone, a class initializer by no instruction; the count of
+-- invokeinterface is that of the arguments' units and the object's
 abbrev pub invocation_resolves : List ClassListing → Invocation → Member → Bool
 invocation_resolves program Virtual m = names_class program m && not (is_initializer m.name) && finds_instance program m
-invocation_resolves program Special m = names_class program m && not (bytes_eq m.name (codes "<clinit>")) && finds_instance program m
+invocation_resolves program Special m = names_class program m && not (bytes_eq m.name (codes "<clinit>"))
+    && finds_instance program m
 invocation_resolves program Static m = finds_static program m
 invocation_resolves program (Interface count) m =
     is_interface_found (class_named program m.class) && not (is_initializer m.name) && finds_instance program m

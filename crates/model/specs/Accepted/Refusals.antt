@@ -2,7 +2,9 @@ use Rattle.std.specs.Prelude.{ℕ, List, [], ◌∷◌, Option, Some, None, if�
 use Rattle.std.specs.List.{find, list_any}
 use Rattle.std.specs.Option.{option_map}
 use Rattle.model.specs.declared.refusals.LoadRule.{LoadRule}
-use Rattle.model.specs.declared.refusals.LoadRule.TheVariants.{ClassTwice, MissingSuperclass, Cycle, WrongSuperclass, MemberTwice, UnresolvedReference, BadExceptionRow, LimitPassed, NoMain, RefusedMember, BuiltinName}
+use Rattle.model.specs.declared.refusals.LoadRule.TheVariants.{ClassTwice, MissingSuperclass, Cycle, WrongSuperclass}
+use Rattle.model.specs.declared.refusals.LoadRule.TheVariants.{MemberTwice, UnresolvedReference, BadExceptionRow}
+use Rattle.model.specs.declared.refusals.LoadRule.TheVariants.{LimitPassed, NoMain, RefusedMember, BuiltinName}
 use Rattle.model.specs.ClassListings.{ClassListing}
 use Rattle.model.specs.Programs.{is_main}
 use Rattle.model.specs.Classes.Named.{or_else}

@@ -10,7 +10,8 @@ use Rattle.model.specs.WellNamed.{is_well_named}
 
 -- a class initializer that isn't static and without arguments, result or code
 abbrev pub is_wrong_initializer : Method → Bool
-is_wrong_initializer m = is_class_initializer m && not (is_static m && bytes_eq m.descriptor (codes "()V") && is_some m.code)
+is_wrong_initializer m = is_class_initializer m && not (is_static m && bytes_eq m.descriptor (codes "()V")
+    && is_some m.code)
 
 -- what a thread runs
 abbrev pub is_run : Method → Bool
@@ -23,7 +24,8 @@ is_thread program name = is_subclass program name (codes "java/lang/Thread")
 -- synchronized `run()V`
 abbrev pub is_refused : List ClassListing → List ℕ → Method → Bool
 is_refused program name m =
-    is_wrong_initializer m || is_native m || (is_synchronized m && (is_static m || (is_run m && is_thread program name)))
+    is_wrong_initializer m || is_native m
+        || (is_synchronized m && (is_static m || (is_run m && is_thread program name)))
 
 -- L10: a member of the class is refused. So is a class with names that the listing of no text and of no class file has
 unfoldable pub has_refused_member : List ClassListing → ClassListing → Bool

@@ -1,4 +1,4 @@
--- The numbers behind an opcode, highest byte first (JVMS 6.1).
+-- The numbers after an opcode, highest byte first (JVMS 6.1).
 use Rattle.std.specs.Prelude.{ℕ, ℤ, pos, ◌-ℤ◌, ◌-◌, ◌%◌, List, replicate}
 use Rattle.std.specs.Int.{Width, w16, cast_unsigned, to_be_bytes}
 
@@ -14,6 +14,6 @@ signed w z = to_be_bytes w (cast_unsigned w z)
 abbrev pub offset : ℕ → ℕ → ℤ
 offset pc target = pos target -ℤ pos pc
 
--- zero bytes behind the opcode of a switch at this pc, up to a multiple of four from the method's start
+-- zero bytes after the opcode of a switch at this pc, up to a multiple of four from the method's start
 abbrev pub pad : ℕ → List ℕ
 pad pc = replicate (3 - pc % 4) 0

@@ -1,4 +1,4 @@
--- The opcode of each instruction (JVMS 6.5, 7). Where it is behind wide, 196 stands in its place.
+-- The opcode of each instruction (JVMS 6.5, 7). Where it is after wide, 196 stands in its place.
 use Rattle.std.specs.Prelude.{ℕ, ◌+◌, Option, Some, None}
 use Rattle.model.specs.declared.values.Kind.{Kind}
 use Rattle.model.specs.declared.values.Kind.TheVariants as kind
@@ -16,15 +16,19 @@ use Rattle.model.specs.declared.instructions.Increment.TheVariants as increment
 use Rattle.model.specs.declared.instructions.LocalAccess.{LocalAccess}
 use Rattle.model.specs.declared.instructions.LocalAccess.TheVariants as access
 use Rattle.model.specs.declared.instructions.StackOperation.{StackOperation}
-use Rattle.model.specs.declared.instructions.StackOperation.TheVariants.{Pop, Pop2, Dup, DupX1, DupX2, Dup2, Dup2X1, Dup2X2, Swap}
+use Rattle.model.specs.declared.instructions.StackOperation.TheVariants.{Pop, Pop2, Dup, DupX1, DupX2, Dup2, Dup2X1}
+use Rattle.model.specs.declared.instructions.StackOperation.TheVariants.{Dup2X2, Swap}
 use Rattle.model.specs.declared.instructions.NumberKind.TheVariants as number_kind
 use Rattle.model.specs.declared.instructions.Operator.{Operator}
-use Rattle.model.specs.declared.instructions.Operator.TheVariants.{Add, Sub, Mul, Div, Rem, Shl, Shr, Ushr, And, Or, Xor}
-use Rattle.model.specs.declared.instructions.Conversion.TheVariants.{IntToLong, LongToInt, IntToByte, IntToChar, IntToShort}
+use Rattle.model.specs.declared.instructions.Operator.TheVariants.{Add, Sub, Mul, Div, Rem, Shl, Shr, Ushr, And, Or}
+use Rattle.model.specs.declared.instructions.Operator.TheVariants.{Xor}
+use Rattle.model.specs.declared.instructions.Conversion.TheVariants.{IntToLong, LongToInt, IntToByte, IntToChar}
+use Rattle.model.specs.declared.instructions.Conversion.TheVariants.{IntToShort}
 use Rattle.model.specs.declared.instructions.NumberOperation.{NumberOperation}
 use Rattle.model.specs.declared.instructions.NumberOperation.TheVariants.{Binary, Negate, Convert, CompareLongs}
 use Rattle.model.specs.declared.instructions.Comparison.{Comparison}
-use Rattle.model.specs.declared.instructions.Comparison.TheVariants.{Equal, NotEqual, Less, GreaterOrEqual, Greater, LessOrEqual}
+use Rattle.model.specs.declared.instructions.Comparison.TheVariants.{Equal, NotEqual, Less, GreaterOrEqual, Greater}
+use Rattle.model.specs.declared.instructions.Comparison.TheVariants.{LessOrEqual}
 use Rattle.model.specs.declared.instructions.Identity.TheVariants.{Same, Different}
 use Rattle.model.specs.declared.instructions.Test.{Test}
 use Rattle.model.specs.declared.instructions.Test.TheVariants as test

@@ -1,4 +1,4 @@
--- What stands behind the opcode of each instruction (JVMS 6.5, 4.9.1).
+-- What stands after the opcode of each instruction (JVMS 6.5, 4.9.1).
 use Rattle.std.specs.Prelude.{ℕ, ℤ, pos, ◌+ℤ◌, ◌-ℤ◌, List, [], ◌∷◌, ◌++◌, length}
 use Rattle.std.specs.Int as int
 use Rattle.std.specs.Int.{w8, w16, w32}
@@ -34,7 +34,7 @@ constant_operands (constant.Int Narrow n) = n ∷ []
 constant_operands (constant.Int Wide n) = u2 n
 constant_operands (constant.Long n) = u2 n
 
--- behind wide stands the opcode of the short form
+-- after wide stands the opcode of the short form
 abbrev pub access_operands : LocalAccess → List ℕ
 access_operands (access.Load k (local.First n)) = []
 access_operands (access.Load k (local.Byte n)) = n ∷ []
@@ -60,11 +60,15 @@ table_high s = s.low +ℤ pos (length s.targets) -ℤ pos 1
 
 -- pad, default, low, high, and the targets (JVMS 6.5, tableswitch)
 abbrev pub table_operands : ℕ → Table ℕ → List ℕ
-table_operands pc s = pad pc ++ (signed w32 (offset pc s.default) ++ (signed w32 s.low ++ (signed w32 (table_high s) ++ flat_map (λ t. signed w32 (offset pc t)) s.targets)))
+table_operands pc s = pad pc
+    ++ (signed w32 (offset pc s.default)
+    ++ (signed w32 s.low ++ (signed w32 (table_high s) ++ flat_map (λ t. signed w32 (offset pc t)) s.targets)))
 
 -- pad, default, count, and pairs of a key and a target (JVMS 6.5, lookupswitch)
 abbrev pub lookup_operands : ℕ → Lookup ℕ → List ℕ
-lookup_operands pc s = pad pc ++ (signed w32 (offset pc s.default) ++ (signed w32 (pos (length s.pairs)) ++ flat_map (λ p. signed w32 p.0 ++ signed w32 (offset pc p.1)) s.pairs))
+lookup_operands pc s = pad pc
+    ++ (signed w32 (offset pc s.default)
+    ++ (signed w32 (pos (length s.pairs)) ++ flat_map (λ p. signed w32 p.0 ++ signed w32 (offset pc p.1)) s.pairs))
 
 -- the types of newarray (JVMS 6.5, table 6.5.newarray-A)
 abbrev pub primitive_number : Primitive → ℕ
@@ -89,7 +93,7 @@ invoke_operands invoke.Special n = u2 n
 invoke_operands invoke.Static n = u2 n
 invoke_operands (invoke.Interface count) n = u2 n ++ count ∷ 0 ∷ []
 
--- the bytes behind the opcode of an instruction at this pc
+-- the bytes after the opcode of an instruction at this pc
 abbrev pub operands : ℕ → Instr → List ℕ
 operands pc instruction.Nop = []
 operands pc (instruction.Constant c) = constant_operands c

@@ -31,7 +31,7 @@ ConstantFits (constant.Int Narrow n) = n < 2 ^ 8
 ConstantFits (constant.Int Wide n) = n < 2 ^ 16
 ConstantFits (constant.Long n) = n < 2 ^ 16
 
--- a local in one byte or, behind wide, in two
+-- a local in one byte or, after wide, in two
 abbrev pub AccessFits : LocalAccess → Type 0
 AccessFits (access.Load k (local.First n)) = Unit {0}
 AccessFits (access.Load k (local.Byte n)) = n < 2 ^ 8

@@ -10,7 +10,7 @@ pub record ClassPart : Type 0 where
   pub head : HeadPart
   pub methods : List MethodPart
 
--- the bytes are those of the class file; its own attributes don't count, and nothing stands behind them
+-- the bytes are those of the class file; its own attributes don't count, and nothing stands after them
 pub record IsClassFile (bytes : List ℕ) (c : ClassPart) : Type 0 where
   pub head_bytes : List ℕ
   pub head_spells : SpellsHead head_bytes c.head

@@ -9,7 +9,8 @@ use Rattle.model.specs.ClassFiles.Attributes.{Attribute, sized_bytes, attributes
 use Rattle.model.specs.ClassFiles.Heads.{is_class, list_bytes}
 use Rattle.model.specs.declared.bytecode.Located.{Located}
 use Rattle.model.specs.declared.class_files.Entry.{Entry}
-use Rattle.model.specs.declared.class_files.Entry.TheVariants.{Utf8, Integer, Long, Class, Fieldref, Methodref, InterfaceMethodref, NameAndType}
+use Rattle.model.specs.declared.class_files.Entry.TheVariants.{Utf8, Integer, Long, Class, Fieldref, Methodref}
+use Rattle.model.specs.declared.class_files.Entry.TheVariants.{InterfaceMethodref, NameAndType}
 use Rattle.model.specs.declared.instructions.Constant.{Constant}
 use Rattle.model.specs.declared.instructions.Constant.TheVariants as constant
 use Rattle.model.specs.declared.instructions.ArrayOperation.{ArrayOperation}
@@ -120,4 +121,5 @@ pub record SpellsCode (pool : List Entry) (info : List ℕ) (c : CodePart) : Typ
   pub attributes : List Attribute
   pub attributes_few : length attributes < 2 ^ 16
   pub attributes_fit : AllByRecursion (AttributeFits pool) attributes
-  pub info_is : info ≡ u2 c.max_stack ++ (u2 c.max_locals ++ (sized_bytes code ++ (list_bytes row_bytes c.rows ++ attributes_bytes attributes)))
+  pub info_is : info ≡ u2 c.max_stack
+      ++ (u2 c.max_locals ++ (sized_bytes code ++ (list_bytes row_bytes c.rows ++ attributes_bytes attributes)))

@@ -5,7 +5,8 @@ use Rattle.std.specs.Int.{w32, w64}
 use Rattle.std.specs.Prelude.{FitsSigned}
 use Rattle.model.specs.ClassFiles.Numbers.{u2, s4, s8}
 use Rattle.model.specs.declared.class_files.Entry.{Entry}
-use Rattle.model.specs.declared.class_files.Entry.TheVariants.{Utf8, Integer, Long, Class, Fieldref, Methodref, InterfaceMethodref, NameAndType}
+use Rattle.model.specs.declared.class_files.Entry.TheVariants.{Utf8, Integer, Long, Class, Fieldref, Methodref}
+use Rattle.model.specs.declared.class_files.Entry.TheVariants.{InterfaceMethodref, NameAndType}
 
 -- an entry begins with its tag
 abbrev pub entry_bytes : Entry → List ℕ

@@ -1,5 +1,6 @@
 -- Fields of a class file (JVMS 4.5, 4.7.2).
-use Rattle.std.specs.Prelude.{◌≡◌, ℕ, ◌^◌, ◌<◌, Bool, true, false, ◌&&◌, ◌==◌, bit_and, List, [], ◌∷◌, ◌++◌, filter, length, codes, Option, Some, None}
+use Rattle.std.specs.Prelude.{◌≡◌, ℕ, ◌^◌, ◌<◌, Bool, true, false, ◌&&◌, ◌==◌, bit_and, List, [], ◌∷◌, ◌++◌, filter}
+use Rattle.std.specs.Prelude.{length, codes, Option, Some, None}
 use Rattle.std.specs.List.{AllByRecursion}
 use Rattle.std.specs.Str.{bytes_eq}
 use Rattle.model.specs.Texts.Names.{is_field_name}
@@ -10,7 +11,8 @@ use Rattle.model.specs.ClassFiles.Pools.{entry_at}
 use Rattle.model.specs.ClassFiles.References.{text_at}
 use Rattle.model.specs.ClassFiles.Attributes.{Attribute, attributes_bytes, AttributeFits, passes}
 use Rattle.model.specs.declared.class_files.Entry.{Entry}
-use Rattle.model.specs.declared.class_files.Entry.TheVariants.{Utf8, Integer, Long, Class, Fieldref, Methodref, InterfaceMethodref, NameAndType}
+use Rattle.model.specs.declared.class_files.Entry.TheVariants.{Utf8, Integer, Long, Class, Fieldref, Methodref}
+use Rattle.model.specs.declared.class_files.Entry.TheVariants.{InterfaceMethodref, NameAndType}
 use Rattle.model.specs.declared.class_files.ConstantValue.{ConstantValue}
 use Rattle.model.specs.declared.class_files.FieldEntry.{FieldEntry}
 

@@ -29,7 +29,8 @@ opening = 0xca ∷ 0xfe ∷ 0xba ∷ 0xbe ∷ 0 ∷ 0 ∷ 0 ∷ 49 ∷ []
 
 -- no other bit than those of class flags; an interface is abstract (JVMS 4.1)
 abbrev pub are_class_flags : ℕ → Bool
-are_class_flags flags = bit_and flags 0xf9ce == 0 && (not (has flags 0x0200) || has flags 0x0400) && class_flags_agree flags
+are_class_flags flags = bit_and flags 0xf9ce == 0 && (not (has flags 0x0200) || has flags 0x0400)
+    && class_flags_agree flags
 
 -- a number is of a class that is no array
 abbrev pub is_class : List Entry → ℕ → Bool
@@ -39,15 +40,15 @@ is_class pool n = passes is_class_name (option_and_then (text_at pool) (class_of
 abbrev pub SpellsClass : List Entry → List ℕ → ℕ → Type 0
 SpellsClass pool bytes n = (bytes ≡ u2 n) × (n < 2 ^ 16) × (is_class pool n ≡ true)
 
--- a list behind its count
+-- a list after its count
 pub record SpellsList {A : Type 0} (Spells : List ℕ → A → Type 0) (bytes : List ℕ) (xs : List A) : Type 0 where
   pub few : length xs < 2 ^ 16
   pub body : List ℕ
   pub bytes_are : bytes ≡ u2 (length xs) ++ body
   pub all : SpellsAll Spells body xs
 
--- what stands behind the pool
-pub record SpellsBehindPool (bytes : List ℕ) (h : HeadPart) : Type 0 where
+-- what stands after the pool
+pub record SpellsAfterPool (bytes : List ℕ) (h : HeadPart) : Type 0 where
   pub flags_fit : h.flags.0 < 2 ^ 16
   pub flags_agree : are_class_flags h.flags.0 ≡ true
   pub class_bytes : List ℕ
@@ -64,9 +65,9 @@ pub record SpellsBehindPool (bytes : List ℕ) (h : HeadPart) : Type 0 where
 pub record SpellsHead (bytes : List ℕ) (h : HeadPart) : Type 0 where
   pub pool_fits : PoolFits h.pool
   pub pool_is_sound : AreSound h.pool
-  pub behind_pool : List ℕ
-  pub behind : SpellsBehindPool behind_pool h
-  pub bytes_are : bytes ≡ opening ++ (pool_bytes h.pool ++ behind_pool)
+  pub after_pool : List ℕ
+  pub following : SpellsAfterPool after_pool h
+  pub bytes_are : bytes ≡ opening ++ (pool_bytes h.pool ++ after_pool)
 
 -- the parts of some class file
 abbrev pub IsHead : HeadPart → Type 0
@@ -77,8 +78,9 @@ IsHead h = (bytes : List ℕ) × SpellsHead bytes h
 abbrev pub list_bytes : {A : Type 0} → (A → List ℕ) → List A → List ℕ
 list_bytes spelling xs = u2 (length xs) ++ flat_map spelling xs
 
-abbrev pub behind_bytes : HeadPart → List ℕ
-behind_bytes h = u2 h.flags.0 ++ (u2 h.class ++ (u2 h.superclass ++ (list_bytes u2 h.interfaces ++ list_bytes field_bytes h.fields)))
+abbrev pub after_bytes : HeadPart → List ℕ
+after_bytes h = u2 h.flags.0
+    ++ (u2 h.class ++ (u2 h.superclass ++ (list_bytes u2 h.interfaces ++ list_bytes field_bytes h.fields)))
 
 abbrev pub head_bytes : HeadPart → List ℕ
-head_bytes h = opening ++ (pool_bytes h.pool ++ behind_bytes h)
+head_bytes h = opening ++ (pool_bytes h.pool ++ after_bytes h)

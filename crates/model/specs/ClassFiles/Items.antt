@@ -1,5 +1,6 @@
 -- What a class file of a listing has in its constant pool (JVMS 4.4), told by what it says and not by numbers.
-use Rattle.std.specs.Prelude.{ℕ, ◌+◌, ℤ, Bool, false, ◌&&◌, ◌||◌, List, [], ◌∷◌, ◌++◌, codes, sum_by, Option, Some, None, if◌then◌else◌}
+use Rattle.std.specs.Prelude.{ℕ, ◌+◌, ℤ, Bool, false, ◌&&◌, ◌||◌, List, [], ◌∷◌, ◌++◌, codes, sum_by, Option, Some}
+use Rattle.std.specs.Prelude.{None, if◌then◌else◌}
 use Rattle.std.specs.List.{flat_map}
 use Rattle.std.specs.Ordering.{int_eq}
 use Rattle.std.specs.Str.{bytes_eq}
@@ -106,7 +107,7 @@ numbers_taken (interface_item m) = 1
 abbrev pub items_count : List Item → ℕ
 items_count items = 1 + sum_by numbers_taken items
 
--- ---- an entry behind those that it names, in the order of its own numbers
+-- ---- an entry after those that it names, in the order of its own numbers
 
 abbrev pub class_items : List ℕ → List Item
 class_items name = text_item name ∷ class_item name ∷ []

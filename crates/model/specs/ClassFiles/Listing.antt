@@ -49,7 +49,8 @@ abbrev pub member_of : List Entry → List ℕ → ℕ × ℕ → Member
 member_of pool class names = record { class = class; name = name_at pool names.0; descriptor = name_at pool names.1 }
 
 abbrev pub referred : List Entry → ℕ × ℕ → Member
-referred pool reference = member_of pool (class_at pool reference.0) (unwrap_or (name_and_type_of (entry_at pool reference.1)) (0, 0))
+referred pool reference = member_of pool (class_at pool reference.0)
+    (unwrap_or (name_and_type_of (entry_at pool reference.1)) (0, 0))
 
 -- the member that the reference under a number names
 abbrev pub member_at : List Entry → ℕ → Member
@@ -106,7 +107,8 @@ placed pool x = record { pc = x.pc; next = x.next; instruction = listed pool x.i
 
 -- the number 0 takes anything
 abbrev pub listed_row : List Entry → CodeRow → ExceptionRow
-listed_row pool r = record { start = r.start; end = r.end; handler = r.handler; class = if r.class == 0 then None else Some (class_at pool r.class) }
+listed_row pool r = record { start = r.start; end = r.end; handler = r.handler; class = if r.class == 0 then None
+    else Some (class_at pool r.class) }
 
 abbrev pub listed_code : List Entry → CodePart → CodeListing
 listed_code pool c = record {

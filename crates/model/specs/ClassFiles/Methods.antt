@@ -1,5 +1,6 @@
 -- Methods of a class file (JVMS 4.6).
-use Rattle.std.specs.Prelude.{◌≡◌, ℕ, ◌+◌, ◌^◌, ◌<◌, Bool, true, false, not, ◌&&◌, ◌==◌, nat_le, bit_and, List, [], ◌∷◌, ◌++◌, filter, length, codes, Option, Some, None, if◌then◌else◌}
+use Rattle.std.specs.Prelude.{◌≡◌, ℕ, ◌+◌, ◌^◌, ◌<◌, Bool, true, false, not, ◌&&◌, ◌==◌, nat_le, bit_and, List, [], ◌∷◌}
+use Rattle.std.specs.Prelude.{◌++◌, filter, length, codes, Option, Some, None, if◌then◌else◌}
 use Rattle.std.specs.List.{AllByRecursion}
 use Rattle.std.specs.Str.{bytes_eq}
 use Rattle.model.specs.Texts.Names.{is_method_name}
@@ -38,7 +39,8 @@ is_code pool a = passes (λ text. bytes_eq text (codes "Code")) (text_at pool a.
 -- a method with code has one Code attribute, and one without has none (JVMS 4.7.3)
 abbrev pub SpellCode : List Entry → Bool → List Attribute → Option CodePart → Type 0
 SpellCode pool wanted attributes None = (wanted ≡ false) × (attributes ≡ [])
-SpellCode pool wanted attributes (Some c) = (wanted ≡ true) × (info : List ℕ) × (attributes ≡ record { name = c.name; info = info } ∷ []) × SpellsCode pool info c
+SpellCode pool wanted attributes (Some c) = (wanted ≡ true) × (info : List ℕ)
+    × (attributes ≡ record { name = c.name; info = info } ∷ []) × SpellsCode pool info c
 
 -- the bytes are the method's in a class of these flags
 pub record SpellsMethod (pool : List Entry) (class : ℕ) (bytes : List ℕ) (m : MethodPart) : Type 0 where
@@ -47,7 +49,8 @@ pub record SpellsMethod (pool : List Entry) (class : ℕ) (bytes : List ℕ) (m 
   pub name_fits : m.name < 2 ^ 16
   pub name_is : passes is_method_name (text_at pool m.name) ≡ true
   pub descriptor_fits : m.descriptor < 2 ^ 16
-  pub descriptor_is : passes (λ text. units_fit (has m.flags.0 0x0008) (arguments_of text)) (text_at pool m.descriptor) ≡ true
+  pub descriptor_is : passes (λ text. units_fit (has m.flags.0 0x0008) (arguments_of text)) (text_at pool m.descriptor)
+      ≡ true
   pub attributes : List Attribute
   pub few : length attributes < 2 ^ 16
   pub fit : AllByRecursion (AttributeFits pool) attributes

@@ -4,7 +4,8 @@ use Rattle.std.specs.List.{flat_map, AllByRecursion}
 use Rattle.model.specs.ClassFiles.Numbers.{u2}
 use Rattle.model.specs.ClassFiles.Entries.{entry_bytes, numbers_of, EntryFits}
 use Rattle.model.specs.declared.class_files.Entry.{Entry}
-use Rattle.model.specs.declared.class_files.Entry.TheVariants.{Utf8, Integer, Long, Class, Fieldref, Methodref, InterfaceMethodref, NameAndType}
+use Rattle.model.specs.declared.class_files.Entry.TheVariants.{Utf8, Integer, Long, Class, Fieldref, Methodref}
+use Rattle.model.specs.declared.class_files.Entry.TheVariants.{InterfaceMethodref, NameAndType}
 
 -- what stands under the numbers that an entry takes: of a Long the first has the entry
 abbrev pub under : Entry → List (Option Entry) → List (Option Entry)

@@ -7,7 +7,8 @@ use Rattle.model.specs.ClassFiles.Pools.{entry_at}
 use Rattle.model.specs.declared.class_files.FormatFault.{FormatFault}
 use Rattle.model.specs.declared.class_files.FormatFault.TheVariants.{Index, Name}
 use Rattle.model.specs.declared.class_files.Entry.{Entry}
-use Rattle.model.specs.declared.class_files.Entry.TheVariants.{Utf8, Integer, Long, Class, Fieldref, Methodref, InterfaceMethodref, NameAndType}
+use Rattle.model.specs.declared.class_files.Entry.TheVariants.{Utf8, Integer, Long, Class, Fieldref, Methodref}
+use Rattle.model.specs.declared.class_files.Entry.TheVariants.{InterfaceMethodref, NameAndType}
 
 abbrev pub text_of : Option Entry → Option (List ℕ)
 text_of None = None
@@ -94,9 +95,12 @@ entry_fault pool (Utf8 text) = None
 entry_fault pool (Integer z) = None
 entry_fault pool (Long z) = None
 entry_fault pool (Class name) = class_fault (text_at pool name)
-entry_fault pool (Fieldref class member) = member_fault pool is_field (class_of (entry_at pool class)) (name_and_type_of (entry_at pool member))
-entry_fault pool (Methodref class member) = member_fault pool is_method (class_of (entry_at pool class)) (name_and_type_of (entry_at pool member))
-entry_fault pool (InterfaceMethodref class member) = member_fault pool is_method (class_of (entry_at pool class)) (name_and_type_of (entry_at pool member))
+entry_fault pool (Fieldref class member) = member_fault pool is_field (class_of (entry_at pool class))
+    (name_and_type_of (entry_at pool member))
+entry_fault pool (Methodref class member) = member_fault pool is_method (class_of (entry_at pool class))
+    (name_and_type_of (entry_at pool member))
+entry_fault pool (InterfaceMethodref class member) = member_fault pool is_method (class_of (entry_at pool class))
+    (name_and_type_of (entry_at pool member))
 entry_fault pool (NameAndType name descriptor) = pair_fault (text_at pool name) (text_at pool descriptor)
 
 -- each entry names what it should

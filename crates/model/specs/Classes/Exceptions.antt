@@ -1,6 +1,9 @@
 use Rattle.std.specs.Prelude.{ℕ, List, codes}
 use Rattle.model.specs.declared.turns.Exception.{Exception}
-use Rattle.model.specs.declared.turns.Exception.TheVariants.{Arithmetic, NullPointer, ClassCast, NegativeArraySize, ArrayStore, IllegalMonitorState, ArrayIndexOutOfBounds, IllegalThreadState, StackOverflow, ExceptionInInitializer, NoClassDefFound}
+use Rattle.model.specs.declared.turns.Exception.TheVariants.{Arithmetic, NullPointer, ClassCast, NegativeArraySize}
+use Rattle.model.specs.declared.turns.Exception.TheVariants.{ArrayStore, IllegalMonitorState, ArrayIndexOutOfBounds}
+use Rattle.model.specs.declared.turns.Exception.TheVariants.{IllegalThreadState, StackOverflow, ExceptionInInitializer}
+use Rattle.model.specs.declared.turns.Exception.TheVariants.{NoClassDefFound}
 
 -- the class of an exception that the machine makes
 abbrev pub exception_class : Exception → List ℕ

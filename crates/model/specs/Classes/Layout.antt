@@ -13,4 +13,5 @@ instance_fields_in name (Some c) =
 
 -- the fields of an object of a class, in the order of its words: the superclass's first, each class's in file order
 abbrev pub layout : List ClassListing → List ℕ → List (Declared Field)
-layout program class = flat_map (λ name. instance_fields_in name (class_named program name)) (reverse (superclasses program class))
+layout program class = flat_map (λ name. instance_fields_in name (class_named program name))
+    (reverse (superclasses program class))

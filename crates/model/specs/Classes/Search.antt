@@ -22,7 +22,8 @@ with_superclasses name above (Some c) = name ∷ above c.superclass
 -- the name of a class, and those of its superclasses from the nearest on
 unfoldable pub upwards : ℕ → List ClassListing → List ℕ → List (List ℕ)
 upwards zero program name = []
-upwards (suc steps) program name = with_superclasses name (λ superclass. upwards steps program superclass) (class_named program name)
+upwards (suc steps) program name = with_superclasses name (λ superclass. upwards steps program superclass)
+    (class_named program name)
 
 abbrev pub superclasses : List ClassListing → List ℕ → List (List ℕ)
 superclasses program name = upwards (enough_steps program) program name
@@ -37,7 +38,8 @@ interfaces_from (suc steps) program names =
 abbrev pub superinterfaces : List ClassListing → List ℕ → List (List ℕ)
 superinterfaces program name = interfaces_from (enough_steps program) program (interfaces_named program name)
 
--- where a field is sought (JVMS 5.4.3.2): in the class, its superinterfaces, and then in the same way from the superclass on
+-- where a field is sought (JVMS 5.4.3.2): in the class, its superinterfaces, and then in the same way from the
+-- superclass on
 abbrev pub field_order : List ClassListing → List ℕ → List (List ℕ)
 field_order program name = flat_map (λ class. class ∷ superinterfaces program class) (superclasses program name)
 
@@ -50,12 +52,14 @@ pub record Declared (Member : Type 0) : Type 0 where
   pub class : List ℕ
   pub member : Member
 
-abbrev pub declared_in : {Member : Type 0} → (ClassListing → Option Member) → List ℕ → Option ClassListing → Option (Declared Member)
+abbrev pub declared_in : {Member : Type 0} → (ClassListing → Option Member) → List ℕ → Option ClassListing
+    → Option (Declared Member)
 declared_in member name None = None
 declared_in member name (Some c) = option_map (λ m. record { class = name; member = m }) (member c)
 
 -- the first of these classes that has such a member
-abbrev pub first_declared : {Member : Type 0} → List ClassListing → (ClassListing → Option Member) → List (List ℕ) → Option (Declared Member)
+abbrev pub first_declared : {Member : Type 0} → List ClassListing → (ClassListing → Option Member) → List (List ℕ)
+    → Option (Declared Member)
 first_declared program member [] = None
 first_declared program member (name ∷ names) =
     or_else (declared_in member name (class_named program name)) (first_declared program member names)

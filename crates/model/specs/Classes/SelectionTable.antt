@@ -22,8 +22,8 @@ compared r s = ordering_then (slice_cmp nat_cmp r.name s.name) (slice_cmp nat_cm
 abbrev pub IsSelected : List ClassListing → List ℕ → SelectionRow → Type 0
 IsSelected program class row = selected program class row.name row.descriptor ≡ Some row.method
 
--- the selection table of a class: the rows rise, each gives the method that is selected for objects of the class (JVMS 6.5,
--- invokevirtual), and each selected method has its row
+-- the selection table of a class: the rows rise, each gives the method that is selected for objects of the class (JVMS
+-- 6.5, invokevirtual), and each selected method has its row
 pub record IsSelectionTable (program : List ClassListing) (class : List ℕ) (rows : List SelectionRow) : Type 0 where
   pub rising : IsStrictlySortedBy compared rows
   pub given : All (IsSelected program class) rows

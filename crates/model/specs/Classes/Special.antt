@@ -15,8 +15,8 @@ use Rattle.model.specs.Classes.Selection.{selected}
 abbrev pub superclass_at : List ClassListing → ℕ → List ℕ
 superclass_at program class = option_map_or (λ (c : ClassListing). c.superclass) (slice_get program class) []
 
--- in code of a class that has this superclass, a method of a proper superclass is looked up from the direct superclass on;
--- any other, and an initializer, is taken as it was resolved
+-- in code of a class that has this superclass, a method of a proper superclass is looked up from the direct superclass
+-- on; any other, and an initializer, is taken as it was resolved
 abbrev pub specially : List ClassListing → List ℕ → Member → Declared Method → Option (Declared Method)
 specially program superclass m d =
     if not (is_initializer m.name) && list_any (bytes_eq d.class) (superclasses program superclass)

@@ -14,6 +14,7 @@ is_within (suc steps) program name above =
 abbrev pub enough_steps : List ClassListing → ℕ
 enough_steps program = length program + 23
 
--- whether a class is another's subclass (JVMS 5.4.3, 6.5): the same, or below it through superclasses and superinterfaces
+-- whether a class is another's subclass (JVMS 5.4.3, 6.5): the same, or below it through superclasses and
+-- superinterfaces
 abbrev pub is_subclass : List ClassListing → List ℕ → List ℕ → Bool
 is_subclass program name above = is_within (enough_steps program) program name above

@@ -1,4 +1,5 @@
-use Rattle.std.specs.Prelude.{ℕ, zero, suc, ◌+◌, ◌-◌, ◌==◌, List, [], ◌∷◌, length, take, Bool, true, false, codes, is_some, Option, Some, None, if◌then◌else◌}
+use Rattle.std.specs.Prelude.{ℕ, zero, suc, ◌+◌, ◌-◌, ◌==◌, List, [], ◌∷◌, length, take, Bool, true, false, codes}
+use Rattle.std.specs.Prelude.{is_some, Option, Some, None, if◌then◌else◌}
 use Rattle.std.specs.Str.{bytes_eq}
 use Rattle.model.specs.ClassListings.{ClassListing}
 use Rattle.model.specs.Classes.Named.{class_named}
@@ -15,7 +16,8 @@ pub data Element : Type 0 where
 abbrev pub described : List ℕ → Option Element
 described [] = None
 described (b ∷ bs) =
-    if b == 76 then Some (Reference (take (length bs - 1) bs)) else if b == 91 then Some (Reference (b ∷ bs)) else Some (Number b)
+    if b == 76 then Some (Reference (take (length bs - 1) bs)) else if b == 91 then Some (Reference (b ∷ bs))
+        else Some (Number b)
 
 -- what an array of a type holds; a class is no array
 abbrev pub element_of : List ℕ → Option Element
@@ -36,7 +38,8 @@ type_is_there class element (Some (Reference name)) = element name
 unfoldable pub is_there_within : ℕ → List ClassListing → List ℕ → Bool
 is_there_within zero program name = false
 is_there_within (suc steps) program name =
-    type_is_there (is_some (class_named program name)) (λ element. is_there_within steps program element) (element_of name)
+    type_is_there (is_some (class_named program name)) (λ element. is_there_within steps program element)
+        (element_of name)
 
 -- an array has fewer dimensions than its descriptor has bytes
 abbrev pub is_type : List ClassListing → List ℕ → Bool
@@ -50,8 +53,8 @@ types_compare classes object elements (Some (Number n)) (Some (Reference m)) = f
 types_compare classes object elements (Some (Reference n)) (Some (Number m)) = false
 types_compare classes object elements (Some (Reference n)) (Some (Reference m)) = elements n m
 
--- whether a type is another's subclass (JVMS 6.5, instanceof): an array is one of Object, of arrays of the same numbers,
--- and of arrays of what its elements are subclasses of
+-- whether a type is another's subclass (JVMS 6.5, instanceof): an array is one of Object, of arrays of the same
+-- numbers, and of arrays of what its elements are subclasses of
 unfoldable pub is_subtype_within : ℕ → List ClassListing → List ℕ → List ℕ → Bool
 is_subtype_within zero program name above = false
 is_subtype_within (suc steps) program name above =

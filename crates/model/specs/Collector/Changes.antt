@@ -1,6 +1,7 @@
 use Rattle.std.specs.Prelude.{◌≡◌, ◌⊎◌, ℕ, ◌+◌, List, [], Option, Some, None, IsTrue}
 use Rattle.model.specs.declared.journals.Outcome.{Outcome}
-use Rattle.model.specs.declared.journals.Outcome.TheVariants.{Done as WasDone, Object as GotObject, NoRoom as FoundNoRoom, Fault as WasFault}
+use Rattle.model.specs.declared.journals.Outcome.TheVariants.{Done as WasDone, Object as GotObject}
+use Rattle.model.specs.declared.journals.Outcome.TheVariants.{NoRoom as FoundNoRoom, Fault as WasFault}
 use Rattle.model.specs.Accounts.{Account, has_room, new_object, shade_all}
 use Rattle.model.specs.Worlds.{World, next_birth}
 use Rattle.model.specs.Collector.Places.{Place, root_at, word_at, Reach}
@@ -27,8 +28,8 @@ births_after None n = n
 abbrev pub Fresh : World → Change → ℕ → Type 0
 Fresh w c b = IsNew c.object (next_birth w) b ⊎ In b c.writes
 
--- what every turn of a thread has: at each place stands what stood there before, or nothing, or the new birth, or one that
--- was written; and what was written was reachable before, or is the new birth
+-- what every turn of a thread has: at each place stands what stood there before, or nothing, or the new birth, or one
+-- that was written; and what was written was reachable before, or is the new birth
 pub record Allowed (w : World) (c : Change) : Type 0 where
   pub counted : next_birth c.after ≡ births_after c.object (next_birth w)
   pub roots : (p : Place) (b : ℕ) → root_at c.after p ≡ Some b → (root_at w p ≡ Some b) ⊎ Fresh w c b

@@ -12,8 +12,8 @@ use Rattle.model.specs.Collector.Places.{Place, root_at, word_at}
 use Rattle.model.specs.Collector.Places.Place.{MemoryError, StackError, Slot, FrameEntry, MethodMonitor}
 use Rattle.model.specs.Collector.Table.{cell_at}
 
--- The invariant of three colours (CACM 21(11), 1978), with no path in it: it speaks of cells that are kept, garbage too, and
--- of single edges. What holds of reachable births follows.
+-- The invariant of three colours (CACM 21(11), 1978), with no path in it: it speaks of cells that are kept, garbage
+-- too, and of single edges. What holds of reachable births follows.
 
 abbrev pub In : ℕ → List ℕ → Type 0
 In b [] = ⊥
@@ -100,8 +100,8 @@ pub record Spare (cells : List Cell) (first past : ℕ) (free : List ℕ) : Type
   pub listed : (c : ℕ) → first ≤ c → c < past → cell_at cells c ≡ Free → In c free
   pub once : Distinct free
 
--- what holds of an account without colours and phase, n being the next birth: a birth has one cell, and was made; the grey
--- births are listed, each once; the free lists hold the free cells of their size
+-- what holds of an account without colours and phase, n being the next birth: a birth has one cell, and was made; the
+-- grey births are listed, each once; the free lists hold the free cells of their size
 pub record Tidy (shape : HeapShape) (n : ℕ) (a : Account) : Type 0 where
   pub sized : length a.cells ≡ shape.small + shape.medium + shape.large
   pub one : (c d b : ℕ) (x y : Colour) → cell_at a.cells c ≡ Taken b x → cell_at a.cells d ≡ Taken b y → c ≡ d
@@ -119,9 +119,11 @@ pub record Tidy (shape : HeapShape) (n : ℕ) (a : Account) : Type 0 where
 pub record Invariant (shape : HeapShape) (w : World) (n : ℕ) (a : Account) : Type 0 where
   pub tidy : Tidy shape n a
   pub roots : (p : Place) (b : ℕ) → root_at w p ≡ Some b → HasKept a.phase a.cells b
-  pub words : (c b : ℕ) (x : Colour) (k b' : ℕ) → cell_at a.cells c ≡ Taken b x → Kept a.phase c x → word_at w b k ≡ Some b' → HasKept a.phase a.cells b'
+  pub words : (c b : ℕ) (x : Colour) (k b' : ℕ) → cell_at a.cells c ≡ Taken b x → Kept a.phase c x → word_at w b k
+      ≡ Some b' → HasKept a.phase a.cells b'
   pub scanned : (p : Place) (b : ℕ) → Scanned a.phase p → root_at w p ≡ Some b → NotWhite a.cells b
   pub unblack : (c b : ℕ) → cell_at a.cells c ≡ Taken b Black → Unblack a.phase c → ⊥
-  pub marked : (c b k b' : ℕ) → IsMark a.phase → cell_at a.cells c ≡ Taken b Black → word_at w b k ≡ Some b' → NotWhite a.cells b'
+  pub marked : (c b k b' : ℕ) → IsMark a.phase → cell_at a.cells c ≡ Taken b Black → word_at w b k ≡ Some b'
+      → NotWhite a.cells b'
   pub front : (b k b' : ℕ) → Fronted a.phase a.grey b k → word_at w b k ≡ Some b' → NotWhite a.cells b'
   pub begun : Begun a.phase a.grey

@@ -12,8 +12,8 @@ use Rattle.model.specs.Collector.Places.{frame_refs, contents_refs, slots_of, Re
 use Rattle.model.specs.Collector.Invariant.{In}
 use Rattle.model.specs.Collector.Changes.{Change, IsNew, births_after, Fresh}
 
--- How a turn may change a world, by recursion on its lists: what each instruction of the table is shown to do. P holds of
--- the births to which a place may lead where it didn't before.
+-- How a turn may change a world, by recursion on its lists: what each instruction of the table is shown to do. P holds
+-- of the births to which a place may lead where it didn't before.
 
 abbrev pub RefMoves : (ℕ → Type 0) → Option ℕ → Option ℕ → Type 0
 RefMoves P r s = (b : ℕ) → s ≡ Some b → (r ≡ Some b) ⊎ P b
@@ -30,7 +30,8 @@ FrameMoves P f g = RefsMove P (frame_refs f) (frame_refs g) × RefMoves P f.moni
 abbrev pub FramesMove : (ℕ → Type 0) → List Frame → List Frame → Type 0
 FramesMove P fs [] = Unit {0}
 FramesMove P [] (g ∷ gs) = RefsMove P [] (frame_refs g) × RefMoves P None g.monitor × FramesMove P [] gs
-FramesMove P (f ∷ fs) (g ∷ gs) = RefsMove P (frame_refs f) (frame_refs g) × RefMoves P f.monitor g.monitor × FramesMove P fs gs
+FramesMove P (f ∷ fs) (g ∷ gs) = RefsMove P (frame_refs f) (frame_refs g) × RefMoves P f.monitor g.monitor
+    × FramesMove P fs gs
 
 abbrev pub ThreadsMove : (ℕ → Type 0) → List Thread → List Thread → Type 0
 ThreadsMove P ts [] = Unit {0}
@@ -56,13 +57,14 @@ pub record Moves (w : World) (c : Change) : Type 0 where
 abbrev pub change_of : Option ℕ → Effect → Change
 change_of object e = record { after = e.after; object = object; writes = e.writes }
 
--- how many words the new object has, by what was chosen and asked for: there is none where none was asked for, and otherwise
--- unless none had room
+-- how many words the new object has, by what was chosen and asked for: there is none where none was asked for, and
+-- otherwise unless none had room
 abbrev pub object_of : Choice → Option ℕ → Option ℕ
 object_of NewObject words = words
 object_of NoRoom words = None
 
--- a fault, which changes nothing but the recorded fault, or a move of the world, which records none; neither counts a row
+-- a fault, which changes nothing but the recorded fault, or a move of the world, which records none; neither counts a
+-- row
 pub data Lawful (w : World) (object : Option ℕ) (e : Effect) : Type 0 where
   faults : (t : ℕ) (fault : Fault) → e ≡ faulted w t fault → Lawful w object e
   moves : e.after.fault ≡ w.fault → e.after.rows ≡ w.rows → Moves w (change_of object e) → Lawful w object e

@@ -43,14 +43,14 @@ pub data Traced (w : World) (a : Account) : ℕ → Type 0 where
 
 -- the three colours:
 -- before marking no cell is black, and what was scanned isn't white;
--- in Mark no root is white, no black cell leads to a white one, nor does a word of the front that was looked at, and either
--- the grey list isn't empty or no reachable birth is white;
--- in Append no reachable cell from p on is white, and no cell before p is black;
--- in every phase the births on paths have cells, which in Append from p on aren't white
+-- in Mark no root is white, no black cell leads to a white one, nor does a word of the front that was looked at, and
+-- either the grey list isn't empty or no reachable birth is white; in Append no reachable cell from p on is white, and
+-- no cell before p is black; in every phase the births on paths have cells, which in Append from p on aren't white
 pub record ThreeColour (w : World) (a : Account) : Type 0 where
   pub scanned : (p : Place) (b : ℕ) → Scanned a.phase p → root_at w p ≡ Some b → NotWhite a.cells b
   pub unblack : (c b : ℕ) → cell_at a.cells c ≡ Taken b Black → Unblack a.phase c → ⊥
-  pub marked : (c b k b' : ℕ) → IsMark a.phase → cell_at a.cells c ≡ Taken b Black → word_at w b k ≡ Some b' → NotWhite a.cells b'
+  pub marked : (c b k b' : ℕ) → IsMark a.phase → cell_at a.cells c ≡ Taken b Black → word_at w b k ≡ Some b'
+      → NotWhite a.cells b'
   pub front : (b k b' : ℕ) → Fronted a.phase a.grey b k → word_at w b k ≡ Some b' → NotWhite a.cells b'
   pub either : IsMark a.phase → NotEmpty a.grey ⊎ ((b : ℕ) → Reach w b → NotWhite a.cells b)
   pub late : (p c b : ℕ) → a.phase ≡ Append p → Reach w b → cell_at a.cells c ≡ Taken b White → c < p
@@ -62,4 +62,5 @@ pub record KeepsReachable (shape : HeapShape) (w : World) (a : Account) : Type 0
   pub has_cell : (b : ℕ) → Reach w b → (c : ℕ) × (x : Colour) × (cell_at a.cells c ≡ Taken b x)
   pub one_cell : (c d b : ℕ) (x y : Colour) → cell_at a.cells c ≡ Taken b x → cell_at a.cells d ≡ Taken b y → c ≡ d
   -- what the collector's next step gives back, no path reaches
-  pub given_back : (c b : ℕ) (x : Colour) → cell_at a.cells c ≡ Taken b x → cell_at (collected shape w a).cells c ≡ Free → Reach w b → ⊥
+  pub given_back : (c b : ℕ) (x : Colour) → cell_at a.cells c ≡ Taken b x → cell_at (collected shape w a).cells c ≡ Free
+      → Reach w b → ⊥

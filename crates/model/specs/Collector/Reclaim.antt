@@ -1,4 +1,5 @@
-use Rattle.std.specs.Prelude.{◌≡◌, ℕ, ◌+◌, ◌<◌, ◌≤◌, List, [], ◌∷◌, length, Bool, true, false, Option, Some, None, nat_lt}
+use Rattle.std.specs.Prelude.{◌≡◌, ℕ, ◌+◌, ◌<◌, ◌≤◌, List, [], ◌∷◌, length, Bool, true, false, Option, Some, None}
+use Rattle.std.specs.Prelude.{nat_lt}
 use Rattle.model.specs.declared.colours.Colour.{Colour}
 use Rattle.model.specs.declared.colours.Phase.{Phase}
 use Rattle.model.specs.declared.colours.Phase.TheVariants.{Idle, Statics, Frames, Mark, Append}
@@ -42,7 +43,8 @@ ended_if s m Collector None = ended_in s m.account.phase (length m.account.cells
 abbrev pub ended : List ClassListing → HeapShape → Limits → ℕ → Machine → List Actor → ℕ
 ended program shape limits s m [] = s
 ended program shape limits s m (actor ∷ actors) =
-    ended program shape limits (ended_if s m actor (refusal program limits m.world actor)) (moved_by program shape limits m actor) actors
+    ended program shape limits (ended_if s m actor (refusal program limits m.world actor))
+        (moved_by program shape limits m actor) actors
 
 -- ---- what is reclaimed
 
@@ -58,12 +60,16 @@ pub record Lost (w : World) (b : ℕ) : Type 0 where
   pub made : b < next_birth w
   pub unreached : Reach w b → ⊥
 
--- a birth that no path reaches outside Append, as when the collector leaves Idle, has no cell once two cycles have ended
+-- a birth that no path reaches outside Append, as when the collector leaves Idle, has no cell once two cycles have
+-- ended
 abbrev pub ReclaimsInTwo : List ClassListing → HeapShape → Limits → Machine → List Actor → Type 0
 ReclaimsInTwo program shape limits m later =
-    (b c : ℕ) (x : Colour) → (IsAppend m.account.phase → ⊥) → Lost m.world b → 2 ≤ ended program shape limits 0 m later → cell_at (moved_by_all program shape limits m later).account.cells c ≡ Taken b x → ⊥
+    (b c : ℕ) (x : Colour) → (IsAppend m.account.phase → ⊥) → Lost m.world b → 2 ≤ ended program shape limits 0 m later
+        → cell_at (moved_by_all program shape limits m later).account.cells c ≡ Taken b x → ⊥
 
 -- from every moment of every run
 abbrev pub AlwaysReclaims : Type 0
 AlwaysReclaims =
-    (program : List ClassListing) (shape : HeapShape) (limits : Limits) (first later : List Actor) → ShapeFits shape.small shape.medium shape.large → ReclaimsInTwo program shape limits (machine_after program shape limits first) later
+    (program : List ClassListing) (shape : HeapShape) (limits : Limits) (first later : List Actor)
+        → ShapeFits shape.small shape.medium shape.large
+        → ReclaimsInTwo program shape limits (machine_after program shape limits first) later

@@ -27,13 +27,15 @@ moved_by program shape limits m actor = advance_if program shape limits m (row_b
 
 abbrev pub moved_by_all : List ClassListing → HeapShape → Limits → Machine → List Actor → Machine
 moved_by_all program shape limits m [] = m
-moved_by_all program shape limits m (actor ∷ actors) = moved_by_all program shape limits (moved_by program shape limits m actor) actors
+moved_by_all program shape limits m (actor ∷ actors) = moved_by_all program shape limits
+    (moved_by program shape limits m actor) actors
 
 -- the machine meets the invariant
 unfoldable pub Holds : HeapShape → Machine → Type 0
 Holds shape m = Invariant shape m.world (next_birth m.world) m.account
 
--- what holds of the machine after every list of turns, for every program, accepted or not, every heap shape that fits and
--- all limits
+-- what holds of the machine after every list of turns, for every program, accepted or not, every heap shape that fits
+-- and all limits
 abbrev pub Always : (HeapShape → Machine → Type 0) → Type 0
-Always P = (program : List ClassListing) (shape : HeapShape) (limits : Limits) (actors : List Actor) → ShapeFits shape.small shape.medium shape.large → P shape (machine_after program shape limits actors)
+Always P = (program : List ClassListing) (shape : HeapShape) (limits : Limits) (actors : List Actor)
+    → ShapeFits shape.small shape.medium shape.large → P shape (machine_after program shape limits actors)

@@ -1,4 +1,5 @@
-use Rattle.std.specs.Prelude.{ℕ, ◌+◌, Bool, true, false, if◌then◌else◌, List, [], ◌∷◌, ◌++◌, length, map, slice_set, slice_index_or, Option, Some, None, nat_lt, nat_eq}
+use Rattle.std.specs.Prelude.{ℕ, ◌+◌, Bool, true, false, if◌then◌else◌, List, [], ◌∷◌, ◌++◌, length, map, slice_set}
+use Rattle.std.specs.Prelude.{slice_index_or, Option, Some, None, nat_lt, nat_eq}
 use Rattle.model.specs.declared.colours.Colour.TheVariants.{White, Grey, Black}
 use Rattle.model.specs.declared.colours.Phase.{Phase}
 use Rattle.model.specs.declared.colours.Phase.TheVariants.{Idle, Statics, Frames, Mark, Append}
@@ -10,9 +11,9 @@ use Rattle.model.specs.Worlds.{World, frames_at}
 use Rattle.model.specs.Collector.Places.{root_at, word_at, words_of, slots_of, entries_at}
 use Rattle.model.specs.Collector.Places.Place.{Slot, FrameEntry, MethodMonitor}
 
--- What one step of the collector does to the account (CACM 21(11), 1978; the phases are this project's profile): a step for
--- each root, then one for each word of the front grey birth, then one for each cell. Roots and words are those of the ideal
--- world.
+-- What one step of the collector does to the account (CACM 21(11), 1978; the phases are this project's profile): a step
+-- for each root, then one for each word of the front grey birth, then one for each cell. Roots and words are those of
+-- the ideal world.
 
 -- what a cell holds, nothing past the last cell
 abbrev pub cell_at : List Cell → ℕ → Cell
@@ -82,7 +83,8 @@ append_step shape a p false = at_phase a Idle
 abbrev pub step_in : HeapShape → World → Account → Phase → Account
 step_in shape w a Idle = at_phase (shade (shade a 1) 2) (Statics 0)
 step_in shape w a (Statics s) = statics_step w a s (nat_lt s (length (slots_of w)))
-step_in shape w a (Frames t d j) = frames_step w a t d j (nat_lt t (length w.threads)) (nat_lt d (length (frames_at w t))) (nat_lt j (length (entries_at (frames_at w t) d)))
+step_in shape w a (Frames t d j) = frames_step w a t d j (nat_lt t (length w.threads))
+    (nat_lt d (length (frames_at w t))) (nat_lt j (length (entries_at (frames_at w t) d)))
 step_in shape w a (Mark q) = mark_step w a q a.grey
 step_in shape w a (Append p) = append_step shape a p (nat_lt p (length a.cells))
 

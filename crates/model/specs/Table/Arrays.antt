@@ -1,14 +1,19 @@
-use Rattle.std.specs.Prelude.{ℕ, ℤ, pos, negsuc, ◌==◌, List, [], ◌∷◌, ◌++◌, length, drop, replicate, nat_lt, codes, Bool, true, false, Option, Some, None, Result, Ok, Err, if◌then◌else◌}
+use Rattle.std.specs.Prelude.{ℕ, ℤ, pos, negsuc, ◌==◌, List, [], ◌∷◌, ◌++◌, length, drop, replicate, nat_lt, codes}
+use Rattle.std.specs.Prelude.{Bool, true, false, Option, Some, None, Result, Ok, Err, if◌then◌else◌}
 use Rattle.std.specs.Str.{bytes_eq}
 use Rattle.model.specs.declared.instructions.ArrayOperation.{ArrayOperation}
 use Rattle.model.specs.declared.instructions.ArrayOperation.TheVariants.{New, NewOf, Length, Load, Store}
 use Rattle.model.specs.declared.instructions.ElementKind.{ElementKind}
-use Rattle.model.specs.declared.instructions.ElementKind.TheVariants.{Int as IntElement, Long as LongElement, Ref as RefElement, Byte as ByteElement, Char as CharElement, Short as ShortElement}
+use Rattle.model.specs.declared.instructions.ElementKind.TheVariants.{Int as IntElement, Long as LongElement}
+use Rattle.model.specs.declared.instructions.ElementKind.TheVariants.{Ref as RefElement, Byte as ByteElement}
+use Rattle.model.specs.declared.instructions.ElementKind.TheVariants.{Char as CharElement, Short as ShortElement}
 use Rattle.model.specs.declared.instructions.Primitive.{Primitive}
-use Rattle.model.specs.declared.instructions.Primitive.TheVariants.{Char as Chars, Byte as Bytes, Short as Shorts, Int as AllInts, Long as AllLongs}
+use Rattle.model.specs.declared.instructions.Primitive.TheVariants.{Char as Chars, Byte as Bytes, Short as Shorts}
+use Rattle.model.specs.declared.instructions.Primitive.TheVariants.{Int as AllInts, Long as AllLongs}
 use Rattle.model.specs.declared.turns.Abrupt.{Abrupt}
 use Rattle.model.specs.declared.turns.Abrupt.TheVariants.{Fault as Faulted, Throw}
-use Rattle.model.specs.declared.turns.Exception.TheVariants.{NullPointer, NegativeArraySize, ArrayStore, ArrayIndexOutOfBounds}
+use Rattle.model.specs.declared.turns.Exception.TheVariants.{NullPointer, NegativeArraySize, ArrayStore}
+use Rattle.model.specs.declared.turns.Exception.TheVariants.{ArrayIndexOutOfBounds}
 use Rattle.model.specs.declared.turns.Fault.{Fault}
 use Rattle.model.specs.declared.turns.Fault.TheVariants.{WrongClass}
 use Rattle.model.specs.declared.values.Value.{Value}
@@ -26,7 +31,7 @@ use Rattle.model.specs.Completions.{Completion, Site, moves_in, completes_abrupt
 use Rattle.model.specs.Completions.Completion.{Creates, Faults}
 use Rattle.model.specs.Words.{contents_at, word_of, with_word, puts}
 
--- ---- newarray and anewarray: a negative size is told before a cell is asked for
+-- ---- newarray and anewarray: a negative size is reported before a cell is asked for
 
 abbrev pub letter_of : Primitive → List ℕ
 letter_of Chars = codes "C"
@@ -110,7 +115,8 @@ element_place w kind z (Some birth) =
 
 abbrev pub element_got : Site → Result (ℕ × ℕ) Abrupt → Completion
 element_got s (Err abrupt) = completes_abruptly abrupt
-element_got s (Ok place) = moves_in s.world s (replaced s.next s.frame 2 (word_of (contents_at s.world place.0) place.1 ∷ []))
+element_got s (Ok place) = moves_in s.world s (replaced s.next s.frame 2 (word_of (contents_at s.world place.0) place.1
+    ∷ []))
 
 abbrev pub loaded : Site → ElementKind → Result (ℤ × Option ℕ) Fault → Completion
 loaded s kind (Err fault) = Faults fault
@@ -158,4 +164,5 @@ array_operated s Length = measured s (ref_on s.frame.stack)
 array_operated s (Load kind) = loaded s kind (both (int_on s.frame.stack) (ref_on (drop 1 s.frame.stack)))
 array_operated s (Store kind) =
     array_stored s kind
-    (both (value_on (storage_kind (storage_in kind)) s.frame.stack) (both (int_on (drop 1 s.frame.stack)) (ref_on (drop 2 s.frame.stack))))
+    (both (value_on (storage_kind (storage_in kind)) s.frame.stack)
+        (both (int_on (drop 1 s.frame.stack)) (ref_on (drop 2 s.frame.stack))))

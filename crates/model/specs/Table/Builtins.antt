@@ -1,7 +1,8 @@
 use Rattle.std.specs.Prelude.{ℕ, ℤ, List, [], Result, Ok, Err}
 use Rattle.model.specs.declared.turns.Fault.{Fault}
 use Rattle.model.specs.declared.builtins.Builtin.{Builtin}
-use Rattle.model.specs.declared.builtins.Builtin.TheVariants.{PrintInt, PrintLong, PutByte, Initialize, RunThread, StartThread, JoinThread}
+use Rattle.model.specs.declared.builtins.Builtin.TheVariants.{PrintInt, PrintLong, PutByte, Initialize, RunThread}
+use Rattle.model.specs.declared.builtins.Builtin.TheVariants.{StartThread, JoinThread}
 use Rattle.model.specs.Frames.{int_on, long_on, ref_on, replaced}
 use Rattle.model.specs.Completions.{Completion, Site, with_frame, moves_in}
 use Rattle.model.specs.Completions.Completion.{Prints, Faults}

@@ -1,6 +1,8 @@
 use Rattle.std.specs.Prelude.{ℕ, ℤ, pos, negsuc, [], ◌∷◌, None, Result}
 use Rattle.model.specs.declared.instructions.Constant.{Constant}
-use Rattle.model.specs.declared.instructions.Constant.TheVariants.{Null, SmallInt as SmallIntOf, SmallLong as SmallLongOf, Byte, Short, Int as IntOf, Long as LongOf}
+use Rattle.model.specs.declared.instructions.Constant.TheVariants.{Null, SmallInt as SmallIntOf}
+use Rattle.model.specs.declared.instructions.Constant.TheVariants.{SmallLong as SmallLongOf, Byte, Short, Int as IntOf}
+use Rattle.model.specs.declared.instructions.Constant.TheVariants.{Long as LongOf}
 use Rattle.model.specs.declared.instructions.SmallInt.{SmallInt}
 use Rattle.model.specs.declared.instructions.SmallInt.TheVariants.{MinusOne, Zero, One, Two, Three, Four, Five}
 use Rattle.model.specs.declared.instructions.SmallLong.{SmallLong}

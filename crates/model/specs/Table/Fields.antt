@@ -29,7 +29,8 @@ fields_in (Array element values) = []
 
 abbrev pub word_place : Site → Member → ℕ → Option ℕ
 word_place s member birth =
-    option_and_then (λ (field : Declared Field). field_index (fields_in (contents_at s.world birth)) field) (resolved_field s.program member)
+    option_and_then (λ (field : Declared Field). field_index (fields_in (contents_at s.world birth)) field)
+        (resolved_field s.program member)
 
 abbrev pub if_subclass : Bool → Option ℕ → Option ℕ
 if_subclass true place = place
@@ -37,7 +38,8 @@ if_subclass false place = None
 
 -- none where the object is of no subclass of the class named
 abbrev pub field_place : Site → Member → ℕ → Option ℕ
-field_place s member birth = if_subclass (is_subtype s.program (class_at s.world birth) member.class) (word_place s member birth)
+field_place s member birth = if_subclass (is_subtype s.program (class_at s.world birth) member.class)
+    (word_place s member birth)
 
 -- ---- getfield
 
@@ -70,4 +72,5 @@ field_put s member (Ok operands) = field_put_in s member operands.0 operands.1
 abbrev pub field_accessed : Site → Access → Member → Completion
 field_accessed s Get member = field_got s member (ref_on s.frame.stack)
 field_accessed s Put member =
-    field_put s member (both (value_on (descriptor_kind member.descriptor) s.frame.stack) (ref_on (drop 1 s.frame.stack)))
+    field_put s member (both (value_on (descriptor_kind member.descriptor) s.frame.stack)
+        (ref_on (drop 1 s.frame.stack)))

@@ -48,7 +48,8 @@ incremented_on next f index amount (Err e) = Err (Faulted e)
 incremented_on next f index amount (Ok z) = Ok (stored next f 0 index (Int (int_wrap w32 (z +ℤ amount))))
 
 abbrev pub incremented : ℕ → Increment → Frame → Result Moved Abrupt
-incremented next i f = incremented_on next f (increment_index i) (increment_amount i) (as_int (local_at IntKind f.locals (increment_index i)))
+incremented next i f = incremented_on next f (increment_index i) (increment_amount i)
+    (as_int (local_at IntKind f.locals (increment_index i)))
 
 -- loads, stores and iinc (JVMS 6.5): faults of the operand first, then of the local, then F2
 abbrev pub local : ℕ → LocalAccess → Frame → Result Moved Abrupt

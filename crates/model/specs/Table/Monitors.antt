@@ -22,10 +22,12 @@ enter_if entry true true = Faults MonitorLimit
 enter_if entry true false = entry
 
 abbrev pub enters : Site → ℕ → Monitor → Completion
-enters s birth m = enter_if (moved_with s (with_monitor_of s.world birth (entered s.thread m))) (may_enter s.thread m.owner) (is_full m)
+enters s birth m = enter_if (moved_with s (with_monitor_of s.world birth (entered s.thread m)))
+    (may_enter s.thread m.owner) (is_full m)
 
 abbrev pub exits : Site → ℕ → Monitor → Completion
-exits s birth m = if is_owner s.thread m.owner then moved_with s (with_monitor_of s.world birth (exited m)) else raises IllegalMonitorState
+exits s birth m = if is_owner s.thread m.owner then moved_with s (with_monitor_of s.world birth (exited m))
+    else raises IllegalMonitorState
 
 abbrev pub operates : Site → MonitorOperation → ℕ → Completion
 operates s Enter birth = enters s birth (monitor_of s.world birth)
@@ -38,7 +40,8 @@ operates_if s operation birth there = if there then operates s operation birth e
 abbrev pub operates_on : Site → MonitorOperation → Result (Option ℕ) Fault → Completion
 operates_on s operation (Err fault) = Faults fault
 operates_on s operation (Ok None) = raises NullPointer
-operates_on s operation (Ok (Some birth)) = operates_if s operation birth (is_instance s (codes "java/lang/Object") birth)
+operates_on s operation (Ok (Some birth)) = operates_if s operation birth (is_instance s (codes "java/lang/Object")
+    birth)
 
 -- monitorenter and monitorexit (JVMS 6.5): a null, then F6 where there is no object, a monitor of another thread, F10
 abbrev pub monitor_operated : Site → MonitorOperation → Completion

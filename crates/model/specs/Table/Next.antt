@@ -2,7 +2,10 @@ use Rattle.std.specs.Prelude.{ℕ, ℤ, List, [], Option, Some, None, Ok}
 use Rattle.model.specs.declared.names.Member.{Member}
 use Rattle.model.specs.declared.listings.Placed.{Placed}
 use Rattle.model.specs.declared.instructions.Instruction.{Instruction}
-use Rattle.model.specs.declared.instructions.Instruction.TheVariants.{Nop, Constant, Local, Stack, Number, Branch, TableSwitch, LookupSwitch, Return, Static as StaticField, Field, Array, Class, Invoke, Throw, Monitor}
+use Rattle.model.specs.declared.instructions.Instruction.TheVariants.{Nop, Constant, Local, Stack, Number, Branch}
+use Rattle.model.specs.declared.instructions.Instruction.TheVariants.{TableSwitch, LookupSwitch, Return}
+use Rattle.model.specs.declared.instructions.Instruction.TheVariants.{Static as StaticField, Field, Array, Class}
+use Rattle.model.specs.declared.instructions.Instruction.TheVariants.{Invoke, Throw, Monitor}
 use Rattle.model.specs.declared.instructions.ClassOperation.{ClassOperation}
 use Rattle.model.specs.declared.instructions.ClassOperation.TheVariants.{New, CheckCast, InstanceOf}
 use Rattle.model.specs.declared.instructions.Invocation.{Invocation}
@@ -96,7 +99,8 @@ at_site s i = after_initialising s (class_used s.program i) (by_family s i)
 -- past the last instruction: F5
 abbrev pub at_instruction : List ClassListing → World → ℕ → Frame → Option Placed → Completion
 at_instruction program w t f None = Faults NoInstruction
-at_instruction program w t f (Some i) = at_site (record { program = program; world = w; thread = t; frame = f; next = i.next }) i.instruction
+at_instruction program w t f (Some i) = at_site (record { program = program; world = w; thread = t; frame = f;
+    next = i.next }) i.instruction
 
 -- an initializer that failed gives up with an error of its own
 abbrev pub at_mark : List ClassListing → World → ℕ → Frame → Mark → Completion

@@ -2,9 +2,11 @@ use Rattle.std.specs.Prelude.{ℕ, ℤ, [], ◌∷◌, List, Option, Some, None,
 use Rattle.model.specs.declared.instructions.NumberKind.{NumberKind}
 use Rattle.model.specs.declared.instructions.NumberKind.TheVariants.{Int as Ints, Long as Longs}
 use Rattle.model.specs.declared.instructions.Operator.{Operator}
-use Rattle.model.specs.declared.instructions.Operator.TheVariants.{Add, Sub, Mul, Div, Rem, Shl, Shr, Ushr, And, Or, Xor}
+use Rattle.model.specs.declared.instructions.Operator.TheVariants.{Add, Sub, Mul, Div, Rem, Shl, Shr, Ushr, And, Or}
+use Rattle.model.specs.declared.instructions.Operator.TheVariants.{Xor}
 use Rattle.model.specs.declared.instructions.Conversion.{Conversion}
-use Rattle.model.specs.declared.instructions.Conversion.TheVariants.{IntToLong, LongToInt, IntToByte, IntToChar, IntToShort}
+use Rattle.model.specs.declared.instructions.Conversion.TheVariants.{IntToLong, LongToInt, IntToByte, IntToChar}
+use Rattle.model.specs.declared.instructions.Conversion.TheVariants.{IntToShort}
 use Rattle.model.specs.declared.instructions.NumberOperation.{NumberOperation}
 use Rattle.model.specs.declared.instructions.NumberOperation.TheVariants.{Binary, Negate, Convert, CompareLongs}
 use Rattle.model.specs.declared.values.Value.{Value}
@@ -14,7 +16,8 @@ use Rattle.model.specs.declared.turns.Exception.TheVariants.{Arithmetic}
 use Rattle.model.specs.declared.turns.Abrupt.{Abrupt}
 use Rattle.model.specs.declared.turns.Abrupt.TheVariants.{Fault as Faulted, Throw}
 use Rattle.model.specs.Arithmetic.{width_of, operator_result, negation, conversion_result, order_of}
-use Rattle.model.specs.Frames.{Frame, Moved, int_on, long_on, two_ints_on, two_longs_on, count_and_long_on, replaced, replaced_if_room}
+use Rattle.model.specs.Frames.{Frame, Moved, int_on, long_on, two_ints_on, two_longs_on, count_and_long_on, replaced}
+use Rattle.model.specs.Frames.{replaced_if_room}
 
 -- a number as a value of its kind
 abbrev pub number_value : NumberKind → ℤ → Value

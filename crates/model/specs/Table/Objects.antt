@@ -36,14 +36,14 @@ cast s name (Ok (Some birth)) = cast_if s birth (is_instance s name birth)
 
 -- ---- instanceof: null is no instance
 
-abbrev pub told_if : Site → Bool → Completion
-told_if s true = moves_in s.world s (replaced s.next s.frame 1 (Int (pos 1) ∷ []))
-told_if s false = moves_in s.world s (replaced s.next s.frame 1 (Int (pos 0) ∷ []))
+abbrev pub reported_if : Site → Bool → Completion
+reported_if s true = moves_in s.world s (replaced s.next s.frame 1 (Int (pos 1) ∷ []))
+reported_if s false = moves_in s.world s (replaced s.next s.frame 1 (Int (pos 0) ∷ []))
 
 abbrev pub tested : Site → List ℕ → Result (Option ℕ) Fault → Completion
 tested s name (Err fault) = Faults fault
-tested s name (Ok None) = told_if s false
-tested s name (Ok (Some birth)) = told_if s (is_instance s name birth)
+tested s name (Ok None) = reported_if s false
+tested s name (Ok (Some birth)) = reported_if s (is_instance s name birth)
 
 -- new, checkcast and instanceof (JVMS 6.5)
 abbrev pub class_operated : Site → ClassOperation → List ℕ → Completion

@@ -46,7 +46,7 @@ gives kind (Some method) = same_result kind (result_kind method.descriptor)
 
 -- ---- the frame is left
 
--- a caller stays at its invoke instruction until the return, and then goes on behind it with the result, if there is one
+-- a caller stays at its invoke instruction until the return, and then goes on after it with the result, if there is one
 abbrev pub past_invoke : Frame → Option Value → Option Placed → Result Moved Abrupt
 past_invoke f result None = Err (Faulted NoInstruction)
 past_invoke f None (Some invoke) = Ok (replaced invoke.next f 0 [])
@@ -59,7 +59,8 @@ initialised_if w class false = w
 
 -- the world without the frame's hold on its method monitor
 abbrev pub left_world : Site → World
-left_world s = initialised_if (released s.world s.thread s.frame.monitor) s.frame.method.class (runs_initializer s.program s.frame)
+left_world s = initialised_if (released s.world s.thread s.frame.monitor) s.frame.method.class
+    (runs_initializer s.program s.frame)
 
 -- what waits below an initializer goes on, and any other frame tries its instruction again
 abbrev pub awake : Frame → Frame
@@ -71,7 +72,8 @@ resumed s caller result false = past_invoke caller result (instruction_of s.prog
 
 abbrev pub resumes : Site → Result Moved Abrupt → Completion
 resumes s (Err abrupt) = completes_abruptly abrupt
-resumes s (Ok m) = Goes (with_thread (left_world s) s.thread (Live (with_running (callers (frames_in s)) m.frame))) m.writes
+resumes s (Ok m) = Goes (with_thread (left_world s) s.thread (Live (with_running (callers (frames_in s)) m.frame)))
+    m.writes
 
 -- the thread of the outermost frame ends
 abbrev pub leaves_to : Site → Option Value → Option Frame → Completion

@@ -6,12 +6,13 @@ use Rattle.model.specs.declared.turns.Fault.TheVariants.{WrongKind}
 use Rattle.model.specs.declared.turns.Abrupt.{Abrupt}
 use Rattle.model.specs.declared.turns.Abrupt.TheVariants.{Fault as Faulted}
 use Rattle.model.specs.declared.instructions.StackOperation.{StackOperation}
-use Rattle.model.specs.declared.instructions.StackOperation.TheVariants.{Pop, Pop2, Dup, DupX1, DupX2, Dup2, Dup2X1, Dup2X2, Swap}
+use Rattle.model.specs.declared.instructions.StackOperation.TheVariants.{Pop, Pop2, Dup, DupX1, DupX2, Dup2, Dup2X1}
+use Rattle.model.specs.declared.instructions.StackOperation.TheVariants.{Dup2X2, Swap}
 use Rattle.model.specs.Frames.{Frame, Moved, top_of, both, replaced, replaced_if_room}
 
--- The forms that JVMS 6.5 gives each of these instructions differ in the categories of the values alone: what moves is one
--- unit or two, and two units are two values of category 1, or a long. So an instruction finds a group of values at the top,
--- and perhaps another group below it. A group stands bottom first.
+-- The forms that JVMS 6.5 gives each of these instructions differ in the categories of the values alone: what moves is
+-- one unit or two, and two units are two values of category 1, or a long. So an instruction finds a group of values at
+-- the top, and perhaps another group below it. A group stands bottom first.
 
 -- ---- what they find
 
@@ -72,14 +73,15 @@ doubled_on next f (Ok group) = replaced_if_room next f (length group) (group ++ 
 -- the upper group below the lower one too
 abbrev pub inserted_on : ℕ → Frame → Result (List Value × List Value) Fault → Result Moved Abrupt
 inserted_on next f (Err e) = Err (Faulted e)
-inserted_on next f (Ok groups) = replaced_if_room next f (length groups.0 + length groups.1) (groups.0 ++ groups.1 ++ groups.0)
+inserted_on next f (Ok groups) = replaced_if_room next f (length groups.0 + length groups.1) (groups.0 ++ groups.1
+    ++ groups.0)
 
 abbrev pub swapped_on : ℕ → Frame → Result (List Value × List Value) Fault → Result Moved Abrupt
 swapped_on next f (Err e) = Err (Faulted e)
 swapped_on next f (Ok groups) = Ok (replaced next f (length groups.0 + length groups.1) (groups.0 ++ groups.1))
 
--- pop, dup, swap and their kin (JVMS 6.5): faults of the values from the top, F1 and F3, then F2; each value that is put
--- back is written
+-- pop, dup, swap and their kin (JVMS 6.5): faults of the values from the top, F1 and F3, then F2; each value that is
+-- put back is written
 abbrev pub rearranged : ℕ → StackOperation → Frame → Result Moved Abrupt
 rearranged next Pop f = popped_on next f (group_on One f.stack)
 rearranged next Pop2 f = popped_on next f (group_on Two f.stack)

@@ -18,7 +18,8 @@ use Rattle.model.specs.Words.{field_index, slot_at, with_slot, puts}
 
 -- the slot of the field to which a reference is resolved
 abbrev pub slot_of : Site → Member → Option ℕ
-slot_of s member = option_and_then (λ (field : Declared Field). field_index s.world.statics.fields field) (resolved_field s.program member)
+slot_of s member = option_and_then (λ (field : Declared Field). field_index s.world.statics.fields field)
+    (resolved_field s.program member)
 
 -- no reference of a loaded program is without a slot
 abbrev pub static_got : Site → Option ℕ → Completion

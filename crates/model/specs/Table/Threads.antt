@@ -1,4 +1,5 @@
-use Rattle.std.specs.Prelude.{ℕ, List, [], ◌∷◌, ◌++◌, length, nat_le, codes, Bool, true, false, Option, Some, None, is_some, Result, Ok, Err, if◌then◌else◌}
+use Rattle.std.specs.Prelude.{ℕ, List, [], ◌∷◌, ◌++◌, length, nat_le, codes, Bool, true, false, Option, Some, None}
+use Rattle.std.specs.Prelude.{is_some, Result, Ok, Err, if◌then◌else◌}
 use Rattle.model.specs.declared.values.Value.TheVariants.{Ref}
 use Rattle.model.specs.declared.turns.Fault.{Fault}
 use Rattle.model.specs.declared.turns.Fault.TheVariants.{ThreadLimit, NoMethod, WrongClass}
@@ -27,13 +28,15 @@ numbered w birth object = with_object w birth (record object { thread = Some (le
 
 -- one thread more, the last
 abbrev pub thread_added : Site → ℕ → Object → Thread → List ℕ → Completion
-thread_added s birth object thread writes = Goes (with_more (with_frame (numbered s.world birth object) s (replaced s.next s.frame 1 []).frame) thread) writes
+thread_added s birth object thread writes = Goes
+    (with_more (with_frame (numbered s.world birth object) s (replaced s.next s.frame 1 []).frame) thread) writes
 
 -- the thread begins with the object in local 0; that of the machine's own method has ended at once
 abbrev pub begins : Site → ℕ → Object → Callee → Completion
 begins s birth object NoCode = Faults NoMethod
 begins s birth object (Own builtin) = thread_added s birth object (Ended None) []
-begins s birth object (Coded m) = thread_added s birth object (Live (called_frame m.place m.code.max_locals m.code.max_stack (Ref (Some birth) ∷ []) ∷ [])) (birth ∷ [])
+begins s birth object (Coded m) = thread_added s birth object
+    (Live (called_frame m.place m.code.max_locals m.code.max_stack (Ref (Some birth) ∷ []) ∷ [])) (birth ∷ [])
 
 -- whether the object was started, and whether 64 threads were
 abbrev pub start_if : Completion → Bool → Bool → Completion
@@ -44,7 +47,8 @@ start_if start false false = start
 abbrev pub starts : Site → ℕ → Option Object → Completion
 starts s birth None = Faults WrongClass
 starts s birth (Some object) =
-    start_if (begins s birth object (callee_of s.program (selected s.program (class_of object.contents) (codes "run") (codes "()V"))))
+    start_if (begins s birth object (callee_of s.program (selected s.program (class_of object.contents) (codes "run")
+        (codes "()V"))))
     (is_some object.thread) (nat_le 64 (length s.world.threads))
 
 abbrev pub started : Site → Result (Option ℕ) Fault → Completion
@@ -67,4 +71,5 @@ abbrev pub joined : Site → Result (Option ℕ) Fault → Completion
 joined s (Err fault) = Faults fault
 joined s (Ok None) = raises NullPointer
 joined s (Ok (Some birth)) =
-    if has_live_thread s.world (thread_if (object_at s.world birth)) then Waits else moves_in s.world s (replaced s.next s.frame 1 [])
+    if has_live_thread s.world (thread_if (object_at s.world birth)) then Waits
+        else moves_in s.world s (replaced s.next s.frame 1 [])

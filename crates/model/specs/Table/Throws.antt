@@ -11,7 +11,8 @@ use Rattle.model.specs.Completions.Completion.{Throws, Faults}
 abbrev pub throws : Site → Result (Option ℕ) Fault → Completion
 throws s (Err fault) = Faults fault
 throws s (Ok None) = raises NullPointer
-throws s (Ok (Some birth)) = if is_subtype s.program (class_at s.world birth) (codes "java/lang/Throwable") then Throws birth else Faults WrongClass
+throws s (Ok (Some birth)) = if is_subtype s.program (class_at s.world birth) (codes "java/lang/Throwable")
+    then Throws birth else Faults WrongClass
 
 -- athrow (JVMS 6.5): a null, then F6
 abbrev pub threw : Site → Completion

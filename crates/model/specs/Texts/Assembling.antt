@@ -1,5 +1,6 @@
 -- Which listings have a class file, by the sizes of their parts and by what they name.
-use Rattle.std.specs.Prelude.{ℕ, ℤ, pos, negsuc, Bool, true, ◌&&◌, nat_le, int_le, List, [], ◌∷◌, length, Option, Some, None}
+use Rattle.std.specs.Prelude.{ℕ, ℤ, pos, negsuc, Bool, true, ◌&&◌, nat_le, int_le, List, [], ◌∷◌, length, Option, Some}
+use Rattle.std.specs.Prelude.{None}
 use Rattle.std.specs.Int.Signed.{lt_z}
 use Rattle.std.specs.List.{list_all}
 use Rattle.model.specs.declared.instructions.Instruction.TheVariants as instruction
@@ -78,7 +79,7 @@ reaches pc (instruction.Invoke how m) = true
 reaches pc instruction.Throw = true
 reaches pc (instruction.Monitor op) = true
 
--- the pc behind the last instruction, behind a pc
+-- the pc after the last instruction, after a pc
 abbrev pub end_from : ℕ → List Placed → ℕ
 end_from pc [] = pc
 end_from pc (p ∷ ps) = end_from p.next ps

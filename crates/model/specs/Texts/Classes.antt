@@ -23,7 +23,7 @@ abbrev pub is_end : Statement → Bool
 is_end None = false
 is_end (Some words) = is_end_spelled words
 
--- a statement belongs to the block that ends behind it
+-- a statement belongs to the block that ends after it
 abbrev pub in_first_block : Statement → Option (List (List Statement)) → Option (List (List Statement))
 in_first_block s None = None
 in_first_block s (Some []) = None
@@ -63,9 +63,9 @@ abbrev pub led_by : List ℕ → List Statement → List Statement
 led_by word [] = []
 led_by word (s ∷ ss) = if begins_otherwise word s then [] else s ∷ led_by word ss
 
-abbrev pub behind_led : List ℕ → List Statement → List Statement
-behind_led word [] = []
-behind_led word (s ∷ ss) = if begins_otherwise word s then s ∷ ss else behind_led word ss
+abbrev pub after_led : List ℕ → List Statement → List Statement
+after_led word [] = []
+after_led word (s ∷ ss) = if begins_otherwise word s then s ∷ ss else after_led word ss
 
 -- the interfaces that statements begin with
 abbrev pub interfaces_of : List Statement → Option (List (List ℕ))
@@ -75,21 +75,23 @@ interfaces_of ss = each interface_of (led_by (codes ".implements") ss)
 abbrev pub fields_of : ClassFlags → List Statement → Option (List Field)
 fields_of class ss = each (field_of class) (led_by (codes ".field") ss)
 
-abbrev pub tree_with : ClassHead → List ℕ → Option (List (List ℕ)) → Option (List Field) → Option (List MethodTree) → Option Tree
+abbrev pub tree_with : ClassHead → List ℕ → Option (List (List ℕ)) → Option (List Field) → Option (List MethodTree)
+    → Option Tree
 tree_with head super None fields methods = None
 tree_with head super (Some is) None methods = None
 tree_with head super (Some is) (Some fs) None = None
 tree_with head super (Some is) (Some fs) (Some ms) =
-    Some (record { flags = head.flags; name = head.name; superclass = super; interfaces = is; fields = fs; methods = ms })
+    Some (record { flags = head.flags; name = head.name; superclass = super; interfaces = is; fields = fs;
+        methods = ms })
 
--- a class by its head, its superclass, and the statements of its fields and methods behind those of its interfaces
-abbrev pub members_behind : ClassHead → List ℕ → Option (List (List ℕ)) → List Statement → Option Tree
-members_behind head super interfaces ss =
-    tree_with head super interfaces (fields_of head.flags ss) (methods_of head.flags (behind_led (codes ".field") ss))
+-- a class by its head, its superclass, and the statements of its fields and methods after those of its interfaces
+abbrev pub members_after : ClassHead → List ℕ → Option (List (List ℕ)) → List Statement → Option Tree
+members_after head super interfaces ss =
+    tree_with head super interfaces (fields_of head.flags ss) (methods_of head.flags (after_led (codes ".field") ss))
 
 abbrev pub members_under : ClassHead → Option (List ℕ) → List Statement → Option Tree
 members_under head None ss = None
-members_under head (Some super) ss = members_behind head super (interfaces_of ss) (behind_led (codes ".implements") ss)
+members_under head (Some super) ss = members_after head super (interfaces_of ss) (after_led (codes ".implements") ss)
 
 abbrev pub super_under : Option ClassHead → List Statement → Option Tree
 super_under None ss = None

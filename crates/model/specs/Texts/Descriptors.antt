@@ -1,4 +1,5 @@
-use Rattle.std.specs.Prelude.{ℕ, ◌+◌, Bool, false, ◌&&◌, ◌||◌, ◌==◌, nat_le, List, [], ◌∷◌, length, drop, codes, Option, Some, None, if◌then◌else◌}
+use Rattle.std.specs.Prelude.{ℕ, ◌+◌, Bool, false, ◌&&◌, ◌||◌, ◌==◌, nat_le, List, [], ◌∷◌, length, drop, codes, Option}
+use Rattle.std.specs.Prelude.{Some, None, if◌then◌else◌}
 use Rattle.std.specs.List.{list_all, position_or_len, before_first}
 use Rattle.std.specs.Str.{bytes_eq}
 use Rattle.model.specs.Signatures.{dimensions, argument_types, argument_units, result_type}
@@ -8,7 +9,8 @@ use Rattle.model.specs.Texts.Names.{are_parts, fits}
 
 -- the descriptors of the types that an int holds, and that of a long (JVMS 4.3.2)
 abbrev pub is_int_type : List ℕ → Bool
-is_int_type word = bytes_eq word (codes "B") || bytes_eq word (codes "C") || bytes_eq word (codes "S") || bytes_eq word (codes "I")
+is_int_type word = bytes_eq word (codes "B") || bytes_eq word (codes "C") || bytes_eq word (codes "S")
+    || bytes_eq word (codes "I")
 
 abbrev pub is_long_type : List ℕ → Bool
 is_long_type word = bytes_eq word (codes "J")

@@ -1,5 +1,6 @@
 -- The text of a listing: the statements in the order of the grammar, words separated by one space.
-use Rattle.std.specs.Prelude.{ℕ, ℤ, Bool, true, false, ◌==◌, List, [], ◌∷◌, ◌++◌, map, codes, decimal, Option, Some, None, if◌then◌else◌}
+use Rattle.std.specs.Prelude.{ℕ, ℤ, Bool, true, false, ◌==◌, List, [], ◌∷◌, ◌++◌, map, codes, decimal, Option, Some}
+use Rattle.std.specs.Prelude.{None, if◌then◌else◌}
 use Rattle.std.specs.Fmt.{signed_decimal}
 use Rattle.std.specs.List.{flat_map, list_any}
 use Rattle.model.specs.declared.instructions.Access.{Access}
@@ -23,7 +24,10 @@ use Rattle.model.specs.declared.instructions.Identity.TheVariants as identity
 use Rattle.model.specs.declared.instructions.Increment.{Increment}
 use Rattle.model.specs.declared.instructions.Increment.TheVariants as increment
 use Rattle.model.specs.declared.instructions.Instruction.{Instruction}
-use Rattle.model.specs.declared.instructions.Instruction.TheVariants.{Nop, Constant as ConstantOf, Local as LocalOf, Stack, Number, Branch, TableSwitch, LookupSwitch, Return, Static, Field, Array, Class, Invoke, Throw, Monitor}
+use Rattle.model.specs.declared.instructions.Instruction.TheVariants.{Nop, Constant as ConstantOf, Local as LocalOf}
+use Rattle.model.specs.declared.instructions.Instruction.TheVariants.{Stack, Number, Branch, TableSwitch, LookupSwitch}
+use Rattle.model.specs.declared.instructions.Instruction.TheVariants.{Return, Static, Field, Array, Class, Invoke}
+use Rattle.model.specs.declared.instructions.Instruction.TheVariants.{Throw, Monitor}
 use Rattle.model.specs.declared.instructions.Invocation.{Invocation}
 use Rattle.model.specs.declared.instructions.Invocation.TheVariants as invocation
 use Rattle.model.specs.declared.instructions.Local.{Local}
@@ -210,7 +214,7 @@ constant_text (constant.Int Narrow z) = codes "ldc " ++ signed_decimal z
 constant_text (constant.Int Wide z) = codes "ldc_w " ++ signed_decimal z
 constant_text (constant.Long z) = codes "ldc2_w " ++ signed_decimal z
 
--- a mnemonic with its local: in one word, behind a space, or in the wide form
+-- a mnemonic with its local: in one word, after a space, or in the wide form
 abbrev pub with_local : List ℕ → Local → List ℕ
 with_local name («local».First n) = name ++ first_name n
 with_local name («local».Byte n) = name ++ (codes " " ++ decimal n)
@@ -265,7 +269,7 @@ array_text array.Length = codes "arraylength"
 array_text (array.Load k) = element_letter k ++ codes "aload"
 array_text (array.Store k) = element_letter k ++ codes "astore"
 
--- the count of units behind the method of an interface
+-- the count of units after the method of an interface
 abbrev pub count_text : Invocation → List ℕ
 count_text invocation.Virtual = []
 count_text invocation.Special = []
@@ -336,11 +340,11 @@ abbrev pub label_line : Bool → ℕ → List ℕ
 label_line false pc = []
 label_line true pc = label pc ++ codes ":\n"
 
--- an instruction behind its label
+-- an instruction after its label
 abbrev pub placed_text : List ℕ → Placed → List ℕ
 placed_text pcs p = label_line (is_named pcs p.pc) p.pc ++ (instruction_text p.instruction ++ newline)
 
--- instructions behind a pc, each behind its label; the last label may stand at the end
+-- instructions after a pc, each after its label; the last label may stand at the end
 abbrev pub lines_from : List ℕ → ℕ → List Placed → List ℕ
 lines_from pcs end [] = label_line (is_named pcs end) end
 lines_from pcs end (p ∷ ps) = placed_text pcs p ++ lines_from pcs p.next ps
@@ -359,7 +363,8 @@ abbrev pub using_text : ℕ → List ℕ
 using_text pc = codes " using " ++ label pc
 
 abbrev pub row_text : ExceptionRow → List ℕ
-row_text r = codes ".catch " ++ (catch_name r.class ++ (from_text r.start ++ (to_text r.end ++ (using_text r.handler ++ newline))))
+row_text r = codes ".catch "
+    ++ (catch_name r.class ++ (from_text r.start ++ (to_text r.end ++ (using_text r.handler ++ newline))))
 
 unfoldable pub stack_line : ℕ → List ℕ
 stack_line n = codes ".limit stack " ++ (decimal n ++ newline)
@@ -375,7 +380,7 @@ code_text c = limits_text c ++ (flat_map row_text c.rows ++ lines_from (named_pc
 
 -- ---- a class
 
--- the words of the flags that are set, in the order of the table, each with a space behind it
+-- the words of the flags that are set, in the order of the table, each with a space after it
 abbrev pub flag_word : ℕ → List ℕ × ℕ → List ℕ
 flag_word flags row = if has flags row.1 then row.0 ++ codes " " else []
 
@@ -403,7 +408,8 @@ value_text (Some v) = codes " = " ++ signed_decimal (number_of_value v)
 
 abbrev pub field_line : FieldOf → List ℕ
 field_line f =
-    codes ".field " ++ (flags_text field_flags f.flags.0 ++ (f.name ++ (codes " " ++ (f.descriptor ++ (value_text f.constant ++ codes "\n")))))
+    codes ".field " ++ (flags_text field_flags f.flags.0
+        ++ (f.name ++ (codes " " ++ (f.descriptor ++ (value_text f.constant ++ codes "\n")))))
 
 abbrev pub body_text : Option CodeListing → List ℕ
 body_text None = []
@@ -428,4 +434,5 @@ method_text m = method_line m ++ (body_text m.code ++ end_line)
 unfoldable pub text_of : ClassListing → List ℕ
 text_of l =
     class_line (has l.flags.0 0x0200) l.flags.0 l.name ++
-    (super_line l.superclass ++ (flat_map interface_line l.interfaces ++ (flat_map field_line l.fields ++ flat_map method_text l.methods)))
+    (super_line l.superclass ++ (flat_map interface_line l.interfaces
+        ++ (flat_map field_line l.fields ++ flat_map method_text l.methods)))

@@ -1,4 +1,5 @@
-use Rattle.std.specs.Prelude.{ℕ, Bool, not, ◌&&◌, ◌||◌, ◌==◌, bit_and, bit_or, List, [], ◌∷◌, codes, Option, Some, None, if◌then◌else◌}
+use Rattle.std.specs.Prelude.{ℕ, Bool, not, ◌&&◌, ◌||◌, ◌==◌, bit_and, bit_or, List, [], ◌∷◌, codes, Option, Some, None}
+use Rattle.std.specs.Prelude.{if◌then◌else◌}
 use Rattle.model.specs.Texts.Tables.{named}
 
 -- the flags that a class may have (JVMS 4.1)
@@ -19,7 +20,8 @@ field_flags =
 abbrev pub method_flags : List (List ℕ × ℕ)
 method_flags =
     (codes "public", 0x0001) ∷ (codes "private", 0x0002) ∷ (codes "protected", 0x0004) ∷ (codes "static", 0x0008) ∷
-    (codes "final", 0x0010) ∷ (codes "synchronized", 0x0020) ∷ (codes "native", 0x0100) ∷ (codes "abstract", 0x0400) ∷ []
+    (codes "final", 0x0010) ∷ (codes "synchronized", 0x0020) ∷ (codes "native", 0x0100) ∷ (codes "abstract", 0x0400)
+        ∷ []
 
 -- whether a flag is among flags
 abbrev pub has : ℕ → ℕ → Bool
@@ -36,7 +38,7 @@ flagged table None word words = None
 flagged table (Some flags) word [] = Some (flags, word)
 flagged table (Some flags) word (next ∷ words) = flagged table (with_flag flags (named table word)) next words
 
--- words of a statement behind its directive: flags, and one word more
+-- words of a statement after its directive: flags, and one word more
 abbrev pub flags_and_word : List (List ℕ × ℕ) → List (List ℕ) → Option (ℕ × List ℕ)
 flags_and_word table [] = None
 flags_and_word table (word ∷ words) = flagged table (Some 0) word words
@@ -52,4 +54,5 @@ field_flags_agree class flags = not (has class 0x0200) || bit_and flags 0x0019 =
 -- an abstract method is neither private, static, final, synchronized nor native, and an interface's method is public
 -- and abstract (JVMS 4.6)
 abbrev pub method_flags_agree : ℕ → ℕ → Bool
-method_flags_agree class flags = not (has flags 0x0400 && has flags 0x013a) && (not (has class 0x0200) || (has flags 0x0001 && has flags 0x0400))
+method_flags_agree class flags = not (has flags 0x0400 && has flags 0x013a)
+    && (not (has class 0x0200) || (has flags 0x0001 && has flags 0x0400))

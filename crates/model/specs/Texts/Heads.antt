@@ -1,4 +1,5 @@
-use Rattle.std.specs.Prelude.{ℕ, ◌+◌, pos, negsuc, Bool, not, ◌&&◌, ◌||◌, nat_le, bit_or, List, [], ◌∷◌, Option, Some, None, codes, if◌then◌else◌}
+use Rattle.std.specs.Prelude.{ℕ, ◌+◌, pos, negsuc, Bool, not, ◌&&◌, ◌||◌, nat_le, bit_or, List, [], ◌∷◌, Option, Some}
+use Rattle.std.specs.Prelude.{None, codes, if◌then◌else◌}
 use Rattle.std.specs.Option.{option_map, option_and_then}
 use Rattle.std.specs.Str.{bytes_eq}
 use Rattle.model.specs.declared.flags.ClassFlags.{ClassFlags}
@@ -7,17 +8,18 @@ use Rattle.model.specs.declared.listings.Constant.{Constant as FieldValue}
 use Rattle.model.specs.declared.listings.Constant.TheVariants as value
 use Rattle.model.specs.declared.listings.Field.{Field}
 use Rattle.model.specs.Texts.Descriptors.{arguments_of, is_field_descriptor, is_int_type, is_long_type}
-use Rattle.model.specs.Texts.Flags.{class_flags, interface_flags, field_flags, method_flags, with_flag, flags_and_word, class_flags_agree, field_flags_agree, method_flags_agree, has}
+use Rattle.model.specs.Texts.Flags.{class_flags, interface_flags, field_flags, method_flags, with_flag, flags_and_word}
+use Rattle.model.specs.Texts.Flags.{class_flags_agree, field_flags_agree, method_flags_agree, has}
 use Rattle.model.specs.Texts.Names.{is_class_name, is_field_name, is_method_name}
 use Rattle.model.specs.Texts.Operands.{class_named, before_parenthesis, from_parenthesis, only, only_number}
 use Rattle.model.specs.Texts.Statements.{Statement}
 use Rattle.model.specs.Texts.Tables.{named}
 
--- the words behind a directive
-abbrev pub behind : List ℕ → Statement → Option (List (List ℕ))
-behind directive None = None
-behind directive (Some []) = None
-behind directive (Some (word ∷ words)) = if bytes_eq word directive then Some words else None
+-- the words after a directive
+abbrev pub following : List ℕ → Statement → Option (List (List ℕ))
+following directive None = None
+following directive (Some []) = None
+following directive (Some (word ∷ words)) = if bytes_eq word directive then Some words else None
 
 -- what a `.class` or an `.interface` says
 pub record ClassHead : Type 0 where
@@ -27,7 +29,8 @@ pub record ClassHead : Type 0 where
 abbrev pub class_head : Option (ℕ × List ℕ) → Option ClassHead
 class_head None = None
 class_head (Some (flags, name)) =
-    if is_class_name name && class_flags_agree flags then Some (record { flags = record { 0 = flags }; name = name }) else None
+    if is_class_name name && class_flags_agree flags then Some (record { flags = record { 0 = flags }; name = name })
+        else None
 
 -- INTERFACE and ABSTRACT are added
 abbrev pub interface_head : Option (ℕ × List ℕ) → Option ClassHead
@@ -49,16 +52,18 @@ class_of (Some (word ∷ words)) = head_by word words
 -- an interface's superclass is Object (JVMS 4.1)
 abbrev pub superclass_named : ℕ → List ℕ → Option (List ℕ)
 superclass_named class name =
-    if is_class_name name && (not (has class 0x0200) || bytes_eq name (codes "java/lang/Object")) then Some name else None
+    if is_class_name name && (not (has class 0x0200) || bytes_eq name (codes "java/lang/Object")) then Some name
+        else None
 
 -- the superclass of a class with these flags
 abbrev pub super_of : ClassFlags → Statement → Option (List ℕ)
-super_of class s = option_and_then (λ words. option_and_then (superclass_named class.0) (only words)) (behind (codes ".super") s)
+super_of class s = option_and_then (λ words. option_and_then (superclass_named class.0) (only words))
+    (following (codes ".super") s)
 
 abbrev pub interface_of : Statement → Option (List ℕ)
-interface_of s = option_and_then (λ words. option_and_then class_named (only words)) (behind (codes ".implements") s)
+interface_of s = option_and_then (λ words. option_and_then class_named (only words)) (following (codes ".implements") s)
 
--- the words of a `.field`; those of its value stand behind a `=`
+-- the words of a `.field`; those of its value stand after a `=`
 pub record FieldWords : Type 0 where
   pub flags : ℕ
   pub name : List ℕ
@@ -68,9 +73,11 @@ pub record FieldWords : Type 0 where
 -- words of which the last two are a name and a descriptor and the others flags: the flags, with those given before
 abbrev pub declared : Option ℕ → List ℕ → List ℕ → List (List ℕ) → Option FieldWords
 declared None name descriptor words = None
-declared (Some flags) name descriptor [] = Some (record { flags = flags; name = name; descriptor = descriptor; value = None })
+declared (Some flags) name descriptor [] = Some (record { flags = flags; name = name; descriptor = descriptor;
+    value = None })
 declared (Some flags) name descriptor (next ∷ words) =
-    if bytes_eq next (codes "=") then Some (record { flags = flags; name = name; descriptor = descriptor; value = Some words })
+    if bytes_eq next (codes "=")
+        then Some (record { flags = flags; name = name; descriptor = descriptor; value = Some words })
     else declared (with_flag flags (named field_flags name)) descriptor next words
 
 abbrev pub field_words : List (List ℕ) → Option FieldWords
@@ -81,12 +88,15 @@ field_words (name ∷ descriptor ∷ words) = declared (Some 0) name descriptor 
 -- a static field of a type of one letter may begin with a number (JVMS 4.7.2)
 abbrev pub value_of : Bool → List ℕ → List (List ℕ) → Option FieldValue
 value_of static descriptor words =
-    if static && is_int_type descriptor then option_map value.Int (only_number (negsuc 2147483647) (pos 2147483647) words)
-    else if static && is_long_type descriptor then option_map value.Long (only_number (negsuc 9223372036854775807) (pos 9223372036854775807) words)
+    if static && is_int_type descriptor
+        then option_map value.Int (only_number (negsuc 2147483647) (pos 2147483647) words)
+    else if static && is_long_type descriptor
+        then option_map value.Long (only_number (negsuc 9223372036854775807) (pos 9223372036854775807) words)
     else None
 
 abbrev pub field_with : FieldWords → Option FieldValue → Field
-field_with f constant = record { flags = record { 0 = f.flags }; name = f.name; descriptor = f.descriptor; constant = constant }
+field_with f constant = record { flags = record { 0 = f.flags }; name = f.name; descriptor = f.descriptor;
+    constant = constant }
 
 -- the value that a field has, if it has one
 abbrev pub constant_of : Bool → List ℕ → Option (List (List ℕ)) → Option (Option FieldValue)
@@ -100,7 +110,8 @@ field_spelled class f =
 
 -- a field of a class with these flags
 abbrev pub field_of : ClassFlags → Statement → Option Field
-field_of class s = option_and_then (λ words. option_and_then (field_spelled class.0) (field_words words)) (behind (codes ".field") s)
+field_of class s = option_and_then (λ words. option_and_then (field_spelled class.0) (field_words words))
+    (following (codes ".field") s)
 
 -- what a `.method` says
 pub record MethodHead : Type 0 where
@@ -121,8 +132,10 @@ method_spelled class flags name descriptor (Some units) =
 abbrev pub method_head : ℕ → Option (ℕ × List ℕ) → Option MethodHead
 method_head class None = None
 method_head class (Some (flags, word)) =
-    let descriptor = from_parenthesis word in method_spelled class flags (before_parenthesis word) descriptor (arguments_of descriptor)
+    let descriptor = from_parenthesis word in method_spelled class flags (before_parenthesis word) descriptor
+          (arguments_of descriptor)
 
 -- a method's head, in a class with these flags
 abbrev pub method_of : ClassFlags → Statement → Option MethodHead
-method_of class s = option_and_then (λ words. method_head class.0 (flags_and_word method_flags words)) (behind (codes ".method") s)
+method_of class s = option_and_then (λ words. method_head class.0 (flags_and_word method_flags words))
+    (following (codes ".method") s)

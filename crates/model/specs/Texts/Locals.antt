@@ -20,7 +20,8 @@ local_form Wide n = «local».Wide n
 
 -- a local and what is added to it, as above where one of both asks for the wide form
 abbrev pub increment_form : Width → ℕ → ℤ → Increment
-increment_form Narrow n z = if nat_le n 255 && int_le (negsuc 127) z && int_le z (pos 127) then increment.Byte n z else increment.Wide n z
+increment_form Narrow n z = if nat_le n 255 && int_le (negsuc 127) z && int_le z (pos 127) then increment.Byte n z else
+    increment.Wide n z
 increment_form Wide n z = increment.Wide n z
 
 abbrev pub increment_with : Width → Option ℕ → Option ℤ → Option Increment
@@ -29,7 +30,8 @@ increment_with width (Some n) None = None
 increment_with width (Some n) (Some z) = Some (increment_form width n z)
 
 abbrev pub increment_of : Width → List ℕ × List ℕ → Option Increment
-increment_of width words = increment_with width (natural_to 65535 words.0) (number_in (negsuc 32767) (pos 32767) words.1)
+increment_of width words =
+    increment_with width (natural_to 65535 words.0) (number_in (negsuc 32767) (pos 32767) words.1)
 
 -- what is done to a local, by the mnemonic and its operands
 abbrev pub local_by : Width → LocalMnemonic → List (List ℕ) → Option LocalAccess

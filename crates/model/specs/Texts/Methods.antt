@@ -34,7 +34,8 @@ abbrev pub limit_of : List (List ℕ) → Option Part
 limit_of [] = None
 limit_of (word ∷ words) =
     if bytes_eq word (codes "stack") then option_map stack_limit (option_and_then (natural_to 65535) (only words))
-    else if bytes_eq word (codes "locals") then option_map locals_limit (option_and_then (natural_to 65535) (only words)) else None
+    else if bytes_eq word (codes "locals")
+        then option_map locals_limit (option_and_then (natural_to 65535) (only words)) else None
 
 -- what a row takes: a class, or anything
 abbrev pub catch_class : List ℕ → Option (Option (List ℕ))
@@ -46,13 +47,15 @@ row_with start end handler class = record { class = class; start = start; end = 
 -- a row: a class, and `from`, `to` and `using` with a label each
 abbrev pub catch_of : List (List ℕ) → Option CatchRow
 catch_of (class ∷ from ∷ start ∷ to ∷ end ∷ using ∷ handler ∷ []) =
-    if bytes_eq from (codes "from") && bytes_eq to (codes "to") && bytes_eq using (codes "using") && is_part start && is_part end && is_part handler
+    if bytes_eq from (codes "from") && bytes_eq to (codes "to") && bytes_eq using (codes "using") && is_part start
+        && is_part end && is_part handler
     then option_map (row_with start end handler) (catch_class class) else None
 catch_of words = None
 
--- a label is given by its name and a colon behind it
+-- a label is given by its name and a colon after it
 abbrev pub label_of : List ℕ → Option (List ℕ)
-label_of word = if bytes_eq (drop (length word - 1) word) (codes ":") then label_named (take (length word - 1) word) else None
+label_of word = if bytes_eq (drop (length word - 1) word) (codes ":") then label_named (take (length word - 1) word)
+    else None
 
 -- a label alone, or an instruction
 abbrev pub line_of : Option (List ℕ) → List ℕ → List (List ℕ) → Option TextLine
@@ -131,7 +134,8 @@ code_lines (code_line line ∷ parts) = line ∷ code_lines parts
 abbrev pub body_with : List ℕ → List ℕ → List CatchRow → List TextLine → Option Body
 body_with [] locals rows lines = None
 body_with (stack ∷ []) [] rows lines = None
-body_with (stack ∷ []) (max ∷ []) rows lines = Some (record { max_stack = stack; max_locals = max; rows = rows; lines = lines })
+body_with (stack ∷ []) (max ∷ []) rows lines = Some (record { max_stack = stack; max_locals = max; rows = rows;
+    lines = lines })
 body_with (stack ∷ []) (max ∷ other ∷ more) rows lines = None
 body_with (stack ∷ other ∷ more) locals rows lines = None
 
@@ -148,7 +152,8 @@ body_of ss = option_and_then agreeing (option_and_then body_of_parts (parts_of s
 
 -- an abstract or native method has no statements
 abbrev pub method_without : MethodHead → List Statement → Option MethodTree
-method_without head [] = Some (record { flags = head.flags; name = head.name; descriptor = head.descriptor; body = None })
+method_without head [] = Some (record { flags = head.flags; name = head.name; descriptor = head.descriptor;
+    body = None })
 method_without head (s ∷ ss) = None
 
 abbrev pub method_with : MethodHead → Body → MethodTree
@@ -157,7 +162,8 @@ method_with head body = record { flags = head.flags; name = head.name; descripto
 -- a method by its head and the statements up to its `.end method`
 abbrev pub method_under : Option MethodHead → List Statement → Option MethodTree
 method_under None ss = None
-method_under (Some head) ss = if has head.flags.0 0x0500 then method_without head ss else option_map (method_with head) (body_of ss)
+method_under (Some head) ss = if has head.flags.0 0x0500 then method_without head ss
+    else option_map (method_with head) (body_of ss)
 
 abbrev pub method_tree : ClassFlags → List Statement → Option MethodTree
 method_tree class [] = None

@@ -1,4 +1,5 @@
-use Rattle.std.specs.Prelude.{ℕ, ◌+◌, ◌-◌, ◌*◌, ℤ, pos, neg_ℤ, int_le, Bool, false, not, ◌&&◌, ◌||◌, ◌==◌, nat_le, List, [], ◌∷◌, Option, Some, None, codes, if◌then◌else◌}
+use Rattle.std.specs.Prelude.{ℕ, ◌+◌, ◌-◌, ◌*◌, ℤ, pos, neg_ℤ, int_le, Bool, false, not, ◌&&◌, ◌||◌, ◌==◌, nat_le, List}
+use Rattle.std.specs.Prelude.{[], ◌∷◌, Option, Some, None, codes, if◌then◌else◌}
 use Rattle.std.specs.List.{list_all}
 use Rattle.std.specs.Option.{option_and_then}
 use Rattle.std.specs.Str.{bytes_eq}
@@ -11,7 +12,7 @@ abbrev pub is_positive_numeral : List ℕ → Bool
 is_positive_numeral [] = false
 is_positive_numeral (d ∷ ds) = is_digit d && not (d == 48) && list_all is_digit ds
 
--- the number that digits spell in the decimal system, behind digits that spell n
+-- the number that digits spell in the decimal system, after digits that spell n
 abbrev pub decimal_from : ℕ → List ℕ → ℕ
 decimal_from n [] = n
 decimal_from n (d ∷ ds) = decimal_from (10 * n + (d - 48)) ds

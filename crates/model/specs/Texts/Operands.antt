@@ -1,4 +1,5 @@
-use Rattle.std.specs.Prelude.{ℕ, ℤ, ◌&&◌, ◌||◌, ◌==◌, nat_le, List, [], ◌∷◌, drop, Option, Some, None, codes, if◌then◌else◌}
+use Rattle.std.specs.Prelude.{ℕ, ℤ, ◌&&◌, ◌||◌, ◌==◌, nat_le, List, [], ◌∷◌, drop, Option, Some, None, codes}
+use Rattle.std.specs.Prelude.{if◌then◌else◌}
 use Rattle.std.specs.List.{before_first, before_last, after_last, position_or_len}
 use Rattle.std.specs.Option.{option_and_then}
 use Rattle.model.specs.declared.instructions.Primitive.{Primitive}
@@ -36,7 +37,7 @@ before_parenthesis word = before_first (λ b. b == 40) word
 abbrev pub from_parenthesis : List ℕ → List ℕ
 from_parenthesis word = drop (position_or_len (λ b. b == 40) word) word
 
--- a path of a class and a member, whose name stands behind the last slash
+-- a path of a class and a member, whose name stands after the last slash
 abbrev pub class_in : List ℕ → List ℕ
 class_in path = before_last (λ b. b == 47) path
 

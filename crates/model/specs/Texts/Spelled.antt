@@ -1,5 +1,6 @@
 -- Which listings are those of texts: what a text can spell, told of the listing alone.
-use Rattle.std.specs.Prelude.{ℕ, ◌+◌, ℤ, pos, negsuc, Bool, true, not, ◌&&◌, ◌||◌, ◌==◌, nat_le, int_le, List, [], ◌∷◌, length, codes, Option, Some, None}
+use Rattle.std.specs.Prelude.{ℕ, ◌+◌, ℤ, pos, negsuc, Bool, true, not, ◌&&◌, ◌||◌, ◌==◌, nat_le, int_le, List, [], ◌∷◌}
+use Rattle.std.specs.Prelude.{length, codes, Option, Some, None}
 use Rattle.std.specs.List.{flat_map, list_all, list_any}
 use Rattle.std.specs.Str.{bytes_eq}
 use Rattle.model.specs.declared.instructions.ArrayOperation.{ArrayOperation}
@@ -140,7 +141,7 @@ operands_are_spelled (instruction.Monitor op) = true
 
 -- ---- code
 
--- instructions stand one behind the other from a pc on
+-- instructions stand one after the other from a pc on
 abbrev pub stand_from : ℕ → List Placed → Bool
 stand_from pc [] = true
 stand_from pc (p ∷ ps) = p.pc == pc && p.next == pc + size_at pc p.instruction && stand_from p.next ps
@@ -149,7 +150,7 @@ stand_from pc (p ∷ ps) = p.pc == pc && p.next == pc + size_at pc p.instruction
 abbrev pub is_pc : List Placed → ℕ → Bool
 is_pc ps n = list_any (λ p. p.pc == n) ps
 
--- the pc of an instruction, or the one behind the last
+-- the pc of an instruction, or the one after the last
 abbrev pub is_bound : List Placed → ℕ → Bool
 is_bound ps n = is_pc ps n || end_from 0 ps == n
 
@@ -167,7 +168,8 @@ row_is_spelled ps r = is_bound ps r.start && is_bound ps r.end && is_pc ps r.han
 abbrev pub code_is_spelled : CodeListing → Bool
 code_is_spelled c =
     is_u2 c.max_stack && is_u2 c.max_locals && stand_from 0 c.instructions
-    && list_all (instruction_is_spelled c.instructions) c.instructions && list_all (row_is_spelled c.instructions) c.rows
+    && list_all (instruction_is_spelled c.instructions) c.instructions && list_all (row_is_spelled c.instructions)
+        c.rows
 
 -- ---- members
 
@@ -236,11 +238,13 @@ ldc_numbers ms = flat_map (λ m. numbers_of_code m.code) ms
 -- a class's flags without SUPER, and an interface's superclass
 abbrev pub head_is_spelled : ℕ → List ℕ → Bool
 head_is_spelled flags superclass =
-    is_u2 flags && are_class_flags flags && not (has flags 0x0020) && (not (has flags 0x0200) || bytes_eq superclass (codes "java/lang/Object"))
+    is_u2 flags && are_class_flags flags && not (has flags 0x0020)
+        && (not (has flags 0x0200) || bytes_eq superclass (codes "java/lang/Object"))
 
 -- whether the listing is that of some text
 unfoldable pub is_spelled : ClassListing → Bool
 is_spelled l =
-    head_is_spelled l.flags.0 l.superclass && is_class_name l.name && is_class_name l.superclass && list_all is_class_name l.interfaces
+    head_is_spelled l.flags.0 l.superclass && is_class_name l.name && is_class_name l.superclass
+        && list_all is_class_name l.interfaces
     && list_all (field_is_spelled l.flags.0) l.fields && list_all (method_is_spelled l.flags.0) l.methods
     && nat_le (length (different (ldc_numbers l.methods))) 255

@@ -30,7 +30,8 @@ lookup_begins (word ∷ words) = None
 -- a switch with its default; a table has a label at least
 abbrev pub with_default : Switch → List ℕ → Option Written
 with_default (table low []) label = None
-with_default (table low (target ∷ targets)) label = Some (instruction.TableSwitch (record { low = low; targets = target ∷ targets; default = label }))
+with_default (table low (target ∷ targets)) label = Some
+    (instruction.TableSwitch (record { low = low; targets = target ∷ targets; default = label }))
 with_default (lookup pairs) label = Some (instruction.LookupSwitch (record { pairs = pairs; default = label }))
 
 -- a label of a table
@@ -46,12 +47,14 @@ with_pair (lookup pairs) (Some key) label = Some (lookup (pairs ++ (key, label) 
 
 abbrev pub line_before : Switch → List ℕ → List ℕ → Option SwitchLine
 line_before switch word label =
-    if bytes_eq word (codes "default") then option_map ends (with_default switch label) else option_map goes_on (with_pair switch (is_int word) label)
+    if bytes_eq word (codes "default") then option_map ends (with_default switch label)
+        else option_map goes_on (with_pair switch (is_int word) label)
 
--- a line of a switch: a label of a table, or behind a key or `default` and a colon a label
+-- a line of a switch: a label of a table, or after a key or `default` and a colon a label
 abbrev pub switch_line : Switch → List (List ℕ) → Option SwitchLine
 switch_line switch [] = None
 switch_line switch (word ∷ []) = option_map goes_on (option_and_then (with_target switch) (label_named word))
 switch_line switch (word ∷ colon ∷ []) = None
-switch_line switch (word ∷ colon ∷ label ∷ []) = if bytes_eq colon (codes ":") then option_and_then (line_before switch word) (label_named label) else None
+switch_line switch (word ∷ colon ∷ label ∷ []) = if bytes_eq colon (codes ":")
+    then option_and_then (line_before switch word) (label_named label) else None
 switch_line switch (word ∷ colon ∷ label ∷ other ∷ words) = None

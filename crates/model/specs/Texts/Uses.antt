@@ -1,4 +1,5 @@
-use Rattle.std.specs.Prelude.{ℕ, ◌+◌, nat_lt, Bool, true, false, not, ◌&&◌, List, [], ◌∷◌, map, is_some, Option, Some, None}
+use Rattle.std.specs.Prelude.{ℕ, ◌+◌, nat_lt, Bool, true, false, not, ◌&&◌, List, [], ◌∷◌, map, is_some, Option, Some}
+use Rattle.std.specs.Prelude.{None}
 use Rattle.std.specs.List.{list_all}
 use Rattle.model.specs.declared.instructions.Instruction.TheVariants as instruction
 use Rattle.model.specs.declared.trees.CatchRow.{CatchRow}
@@ -16,7 +17,7 @@ labels_from n (Instruction i ∷ lines) = labels_from (n + 1) lines
 abbrev pub labels_in : List TextLine → List (List ℕ × ℕ)
 labels_in lines = labels_from 0 lines
 
--- how many instructions stand among lines, behind n others
+-- how many instructions stand among lines, after n others
 abbrev pub count_from : ℕ → List TextLine → ℕ
 count_from n [] = n
 count_from n (Label l ∷ lines) = count_from n lines

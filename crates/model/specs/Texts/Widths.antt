@@ -3,7 +3,9 @@ use Rattle.std.specs.List.{list_any}
 use Rattle.std.specs.Ordering.{int_eq}
 use Rattle.model.specs.declared.instructions.Constant.{Constant}
 use Rattle.model.specs.declared.instructions.Constant.TheVariants as constant
-use Rattle.model.specs.declared.instructions.Instruction.TheVariants.{Nop, Constant as ConstantOf, Local, Stack, Number, Branch, TableSwitch, LookupSwitch, Return, Static, Field, Array, Class, Invoke, Throw, Monitor}
+use Rattle.model.specs.declared.instructions.Instruction.TheVariants.{Nop, Constant as ConstantOf, Local, Stack, Number}
+use Rattle.model.specs.declared.instructions.Instruction.TheVariants.{Branch, TableSwitch, LookupSwitch, Return, Static}
+use Rattle.model.specs.declared.instructions.Instruction.TheVariants.{Field, Array, Class, Invoke, Throw, Monitor}
 use Rattle.model.specs.declared.instructions.Width.TheVariants.{Narrow, Wide}
 use Rattle.model.specs.declared.trees.MethodTree.{MethodTree}
 use Rattle.model.specs.declared.trees.TextLine.{TextLine}
@@ -14,7 +16,7 @@ use Rattle.model.specs.Texts.Instructions.{Written}
 -- `ldc` names its number by one byte, so that only the first 255 different numbers that it uses in a text go with it;
 -- with any other it counts as `ldc_w`
 
--- a number behind those that an `ldc` has used
+-- a number after those that an `ldc` has used
 abbrev pub ldc_before : Constant ℤ ℤ → List ℤ → List ℤ
 ldc_before constant.Null zs = zs
 ldc_before (constant.SmallInt n) zs = zs

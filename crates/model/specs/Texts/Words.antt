@@ -19,7 +19,7 @@ abbrev pub runs_of : List ℕ → List (List ℕ)
 runs_of [] = []
 runs_of (b ∷ bs) = word_byte b (ends_word bs) (runs_of bs)
 
--- a semicolon at a line's start or behind a blank begins a comment
+-- a semicolon at a line's start or after a blank begins a comment
 abbrev pub begins_comment : List ℕ → Bool
 begins_comment [] = false
 begins_comment (b ∷ bs) = b == 59

@@ -1,5 +1,6 @@
 -- Reading from left to right, with the first fault that is met.
-use Rattle.std.specs.Prelude.{◌≡◌, ℕ, ℤ, List, [], ◌∷◌, length, take, drop, Option, Some, None, Result, Ok, Err, nat_lt, ◌==◌, if◌then◌else◌}
+use Rattle.std.specs.Prelude.{◌≡◌, ℕ, ℤ, List, [], ◌∷◌, length, take, drop, Option, Some, None, Result, Ok, Err, nat_lt}
+use Rattle.std.specs.Prelude.{◌==◌, if◌then◌else◌}
 use Rattle.std.specs.Int.{Width, byte_len, from_be_bytes, cast_signed}
 use Rattle.opcodes.specs.declared.error.OpError.{OpError}
 use Rattle.opcodes.specs.declared.error.OpError.TheVariants as error
@@ -36,7 +37,8 @@ byte_at (b ∷ rest) = Ok (b, rest)
 
 -- an unsigned number, and the bytes after it
 abbrev pub number_at : Width → List ℕ → Result (ℕ × List ℕ) OpError
-number_at w bytes = if nat_lt (length bytes) (byte_len w) then Err error.Operand else Ok (from_be_bytes w (take (byte_len w) bytes), drop (byte_len w) bytes)
+number_at w bytes = if nat_lt (length bytes) (byte_len w) then Err error.Operand
+    else Ok (from_be_bytes w (take (byte_len w) bytes), drop (byte_len w) bytes)
 
 -- a signed number, and the bytes after it
 abbrev pub signed_at : Width → List ℕ → Result (ℤ × List ℕ) OpError

@@ -1,5 +1,6 @@
 -- Reading branches and switches, with the first fault that is met.
-use Rattle.std.specs.Prelude.{ℕ, zero, suc, ◌+◌, ◌-◌, ◌%◌, ℤ, pos, negsuc, ◌+ℤ◌, ◌-ℤ◌, int_lt, min, Bool, true, List, [], ◌∷◌, Option, Some, None, Result, Ok, Err, if◌then◌else◌}
+use Rattle.std.specs.Prelude.{ℕ, zero, suc, ◌+◌, ◌-◌, ◌%◌, ℤ, pos, negsuc, ◌+ℤ◌, ◌-ℤ◌, int_lt, min, Bool, true, List}
+use Rattle.std.specs.Prelude.{[], ◌∷◌, Option, Some, None, Result, Ok, Err, if◌then◌else◌}
 use Rattle.std.specs.Int.{w32}
 use Rattle.std.specs.Int.RustNames.{unsigned_abs}
 use Rattle.model.specs.Bytecode.Opcodes.{Instr}
@@ -51,7 +52,9 @@ table_at pc bytes = do
   default ← signed_at w32 rest
   low ← signed_at w32 default.1
   high ← signed_at w32 low.1
-  if int_lt high.0 low.0 then Err error.Switch else (targets_at pc (table_len low.0 high.0) high.1 >>= λ targets. Ok (instruction.TableSwitch (record { low = low.0; targets = targets.0; default = landing pc default.0 }), targets.1))
+  if int_lt high.0 low.0 then Err error.Switch else (targets_at pc (table_len low.0 high.0) high.1
+      >>= λ targets. Ok (instruction.TableSwitch (record { low = low.0; targets = targets.0;
+      default = landing pc default.0 }), targets.1))
 
 -- a key may follow another
 abbrev pub rises : Option ℤ → ℤ → Bool
@@ -63,7 +66,8 @@ unfoldable pub pairs_at : ℕ → Option ℤ → ℕ → List ℕ → Result (Li
 pairs_at pc before zero bytes = Ok ([], bytes)
 pairs_at pc before (suc n) bytes = do
   key ← signed_at w32 bytes
-  if rises before key.0 then (signed_at w32 key.1 >>= λ z. pairs_at pc (Some key.0) n z.1 >>= λ others. Ok ((key.0, landing pc z.0) ∷ others.0, others.1)) else Err error.Switch
+  if rises before key.0 then (signed_at w32 key.1 >>= λ z. pairs_at pc (Some key.0) n z.1
+      >>= λ others. Ok ((key.0, landing pc z.0) ∷ others.0, others.1)) else Err error.Switch
 
 -- pad, default, a count that isn't negative, and as many pairs
 unfoldable pub lookup_at : ℕ → List ℕ → Result (Instr × List ℕ) OpError
@@ -71,4 +75,5 @@ lookup_at pc bytes = do
   rest ← pad_at (3 - pc % 4) bytes
   default ← signed_at w32 rest
   count ← signed_at w32 default.1
-  if int_lt count.0 (pos 0) then Err error.Switch else (pairs_at pc None (unsigned_abs count.0) count.1 >>= λ pairs. Ok (instruction.LookupSwitch (record { pairs = pairs.0; default = landing pc default.0 }), pairs.1))
+  if int_lt count.0 (pos 0) then Err error.Switch else (pairs_at pc None (unsigned_abs count.0) count.1
+      >>= λ pairs. Ok (instruction.LookupSwitch (record { pairs = pairs.0; default = landing pc default.0 }), pairs.1))

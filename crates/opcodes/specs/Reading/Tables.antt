@@ -141,7 +141,8 @@ numbers_and_returns =
 
 -- the instruction of an opcode that has no operands
 unfoldable pub bare_of : ℕ → Option Instr
-bare_of b = if nat_lt b 54 then entry_at constants_and_loads b else (if nat_lt b 96 then entry_at stores_and_stack b else entry_at numbers_and_returns b)
+bare_of b = if nat_lt b 54 then entry_at constants_and_loads b else (if nat_lt b 96 then entry_at stores_and_stack b
+    else entry_at numbers_and_returns b)
 
 -- opcodes below 170 that have operands
 abbrev pub low_layouts : List (ℕ × Layout)
@@ -199,7 +200,7 @@ high_layouts =
     (200, layout.Branch (test.Always width.Wide)) ∷
     []
 
--- what stands behind an opcode that has operands
+-- what stands after an opcode that has operands
 unfoldable pub layout_of : ℕ → Option Layout
 layout_of b = if nat_lt b 170 then entry_at low_layouts b else entry_at high_layouts b
 

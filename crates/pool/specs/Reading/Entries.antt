@@ -4,7 +4,8 @@ use Rattle.std.specs.List.{list_all}
 use Rattle.std.specs.Int.{w16, w32, w64}
 use Rattle.model.specs.ClassFiles.Entries.{is_text_byte}
 use Rattle.model.specs.declared.class_files.Entry.{Entry}
-use Rattle.model.specs.declared.class_files.Entry.TheVariants.{Utf8, Integer, Long, Class, Fieldref, Methodref, InterfaceMethodref, NameAndType}
+use Rattle.model.specs.declared.class_files.Entry.TheVariants.{Utf8, Integer, Long, Class, Fieldref, Methodref}
+use Rattle.model.specs.declared.class_files.Entry.TheVariants.{InterfaceMethodref, NameAndType}
 use Rattle.model.specs.declared.class_files.FormatFault.{FormatFault}
 use Rattle.model.specs.declared.class_files.FormatFault.TheVariants.{Index, Name, Tag}
 use Rattle.pool.specs.Reading.Steps.{◌>>=◌, byte_at, number_at, signed_at, taken}
@@ -35,7 +36,7 @@ pair_from bytes = do
 abbrev pub paired : (ℕ → ℕ → Entry) → List ℕ → Result (Entry × List ℕ) FormatFault
 paired make bytes = pair_from bytes >>= λ p. Ok (make p.0.0 p.0.1, p.1)
 
--- an entry behind its tag
+-- an entry after its tag
 abbrev pub tagged : ℕ → ℕ → List ℕ → Result (Entry × List ℕ) FormatFault
 tagged tag left bytes =
     if tag == 1 then utf8_from bytes

@@ -1,8 +1,10 @@
 -- Reading a pool.
-use Rattle.std.specs.Prelude.{ℕ, zero, suc, ◌-◌, Bool, true, false, List, [], ◌∷◌, Option, Some, None, Result, Ok, Err, ◌==◌, if◌then◌else◌}
+use Rattle.std.specs.Prelude.{ℕ, zero, suc, ◌-◌, Bool, true, false, List, [], ◌∷◌, Option, Some, None, Result, Ok, Err}
+use Rattle.std.specs.Prelude.{◌==◌, if◌then◌else◌}
 use Rattle.std.specs.Int.{w16}
 use Rattle.model.specs.declared.class_files.Entry.{Entry}
-use Rattle.model.specs.declared.class_files.Entry.TheVariants.{Utf8, Integer, Long, Class, Fieldref, Methodref, InterfaceMethodref, NameAndType}
+use Rattle.model.specs.declared.class_files.Entry.TheVariants.{Utf8, Integer, Long, Class, Fieldref, Methodref}
+use Rattle.model.specs.declared.class_files.Entry.TheVariants.{InterfaceMethodref, NameAndType}
 use Rattle.model.specs.declared.class_files.FormatFault.{FormatFault}
 use Rattle.model.specs.declared.class_files.FormatFault.TheVariants.{Index}
 use Rattle.model.specs.ClassFiles.References.{first_fault}
@@ -32,10 +34,11 @@ slots_from false (suc n) bytes = do
   Ok (Some first.0 ∷ others.0, others.1)
 
 -- a slot before those that are read
-abbrev pub slots_after : Option Entry → Result (List (Option Entry) × List ℕ) FormatFault → Result (List (Option Entry) × List ℕ) FormatFault
+abbrev pub slots_after : Option Entry → Result (List (Option Entry) × List ℕ) FormatFault
+    → Result (List (Option Entry) × List ℕ) FormatFault
 slots_after slot read = read >>= λ x. Ok (slot ∷ x.0, x.1)
 
--- the entries behind their count
+-- the entries after their count
 unfoldable pub entries_from : List ℕ → Result (List Entry × List ℕ) FormatFault
 entries_from bytes = do
   count ← number_at w16 bytes

@@ -26,7 +26,8 @@ byte_at [] = Err Short
 byte_at (b ∷ rest) = Ok (b, rest)
 
 abbrev pub number_at : Width → List ℕ → Result (ℕ × List ℕ) FormatFault
-number_at w bytes = if nat_lt (length bytes) (byte_len w) then Err Short else Ok (from_be_bytes w (take (byte_len w) bytes), drop (byte_len w) bytes)
+number_at w bytes = if nat_lt (length bytes) (byte_len w) then Err Short
+    else Ok (from_be_bytes w (take (byte_len w) bytes), drop (byte_len w) bytes)
 
 abbrev pub signed_at : Width → List ℕ → Result (ℤ × List ℕ) FormatFault
 signed_at w bytes = number_at w bytes >>= λ n. Ok (cast_signed w n.0, n.1)

@@ -23,7 +23,7 @@ fn operation_of(alloc: Global, words: &str) -> Result<Operation, Fail> {
 }
 
 /// The mnemonic of some operations, and what they carry.
-fn told(operation: Operation) -> (&'static str, u32, u16, u16) {
+fn reported(operation: Operation) -> (&'static str, u32, u16, u16) {
     match operation {
         Operation::Getstatic(slot) => ("getstatic", slot, 0, 0),
         Operation::Putfield(class, word, storage) => ("putfield", u32::from(class), word, storage),
@@ -49,7 +49,7 @@ const OPERATIONS: &[(&str, (&str, u32, u16, u16))] = &[
 fn names_become_numbers(rt: HostRuntime) -> Result<(), Fail> {
     for (words, wanted) in OPERATIONS {
         assert!(rt;
-            told(operation_of(rt.alloc(), words)?) == *wanted,
+            reported(operation_of(rt.alloc(), words)?) == *wanted,
             "{words}"
         );
     }

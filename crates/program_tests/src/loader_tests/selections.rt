@@ -17,7 +17,7 @@ const CLASSES: &str =
     "class A|code 1 1 public f()I|code 1 0 private g()V|code 0 0 public static s()V|code 2 0 public h(I)V|code 1 0 public h()V|main:|invokevirtual A/f()I|invokestatic A/s()V|invokeinterface J/k()V 1|invokevirtual B/f()I|invokespecial A/g()V|invokevirtual B/h(I)V|return|end; class B < A|.implements J|code 1 1 public f()I|code 1 0 public g()V; class T < java/lang/Thread|code 1 0 public run()V; interface J|.method public abstract k()V|end";
 
 /// The rows of the classes of some numbers: the class and the place of each method. Object has the number 4, Thread 25
-/// and vm/Sys 26, behind the program's four. The order is of names, then of descriptors.
+/// and vm/Sys 26, after the program's four. The order is of names, then of descriptors.
 const TABLES: &[(usize, &str)] = &[
     (0, "4.0 0.0 0.4 0.3 "),
     (1, "4.0 1.0 1.1 0.4 0.3 "),

@@ -98,17 +98,17 @@ fn has_words_and_slots(tables: &Tables) -> bool {
 }
 
 /// The units that the arguments of a method take, and its body.
-fn told(tables: &MethodTables, class: usize, method: usize) -> Option<(usize, Body)> {
+fn reported(tables: &MethodTables, class: usize, method: usize) -> Option<(usize, Body)> {
     let info = tables.method(MethodPlace { class, method })?;
     Some((info.argument_units(), info.body()))
 }
 
-/// Units: `IJ[[I` takes four; the empty initializer behind a class's methods has none.
+/// Units: `IJ[[I` takes four; the empty initializer after a class's methods has none.
 const UNITS: &[(usize, usize, usize)] = &[(0, 1, 4), (0, 3, 0), (3, 0, 0)];
 
 fn has_units(tables: &MethodTables) -> bool {
     for (class, method, units) in UNITS {
-        match told(tables, *class, *method) {
+        match reported(tables, *class, *method) {
             Some((found, _)) if found == *units => {}
             _ => return false,
         }
@@ -117,9 +117,9 @@ fn has_units(tables: &MethodTables) -> bool {
 }
 
 fn has_bodies(tables: &MethodTables) -> bool {
-    told(tables, 1, 0) == Some((0, Body::NoCode))
-        && told(tables, 25, 1) == Some((2, Body::Own(Builtin::PrintLong)))
-        && told(tables, 26, 0) == None
+    reported(tables, 1, 0) == Some((0, Body::NoCode))
+        && reported(tables, 25, 1) == Some((2, Body::Own(Builtin::PrintLong)))
+        && reported(tables, 26, 0) == None
 }
 
 /// Whether this is `static public f(IJ[[I)J` with three exception rows, of which the last catches all.

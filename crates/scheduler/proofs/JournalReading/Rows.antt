@@ -1,5 +1,7 @@
 -- The rows of a journal's text are read back, and no others.
-use Rattle.std.proofs.Common.{◌≡◌, ◌≢◌, ℕ, suc, ◌<◌, ◌^◌, ◌==◌, Bool, true, false, nat_lt, List, [], ◌∷◌, ◌++◌, length, length-append, drop, All, codes, Option, Some, None, option_map, IfSome, decimal, refl, sym, ap, ◌∙◌, subst, arith, lt-ltb, ltb-true, eqb-true, if◌then◌else◌}
+use Rattle.std.proofs.Common.{◌≡◌, ◌≢◌, ℕ, suc, ◌<◌, ◌^◌, ◌==◌, Bool, true, false, nat_lt, List, [], ◌∷◌, ◌++◌, length}
+use Rattle.std.proofs.Common.{length-append, drop, All, codes, Option, Some, None, option_map, IfSome, decimal, refl}
+use Rattle.std.proofs.Common.{sym, ap, ◌∙◌, subst, arith, lt-ltb, ltb-true, eqb-true, if◌then◌else◌}
 use Rattle.std.proofs.lemmas.Fmt.{decimal_is_IsNumeral}
 use Rattle.std.proofs.lemmas.List.{append_assoc, append-nil}
 use Rattle.std.proofs.lemmas.Str.Parse.{digit_from_value}
@@ -14,13 +16,17 @@ use Rattle.model.specs.declared.turns.Actor.TheVariants.{Thread, Collector}
 use Rattle.model.specs.JournalTexts.{outcome_letter, actor_word, number_text, lines_of_rows, end_line}
 use Rattle.scheduler.specs.declared.journal_texts.heads.Version.{Version}
 use Rattle.scheduler.specs.declared.journal_texts.heads.Version.TheVariants.{One, Two}
-use Rattle.scheduler.specs.JournalReading.{Read, FitsActor, FitsRow, FitsVersion, HasRows, kept, shaped, behind, number_at, actor_else, actor_at, outcome_at, worker_at, row_of, row_at, is_over, line_by}
-use Rattle.scheduler.proofs.JournalReading.Readers.{IsRead, Reads, reads_both, reads_kept, reads_shaped, reads_same, reads_led, reads_number, behind_back, behind_says}
+use Rattle.scheduler.specs.JournalReading.{Read, FitsActor, FitsRow, FitsVersion, HasRows, kept, shaped, following}
+use Rattle.scheduler.specs.JournalReading.{number_at, actor_else, actor_at, outcome_at, worker_at, row_of, row_at}
+use Rattle.scheduler.specs.JournalReading.{is_over, line_by}
+use Rattle.scheduler.proofs.JournalReading.Readers.{IsRead, Reads, reads_both, reads_kept, reads_shaped, reads_same}
+use Rattle.scheduler.proofs.JournalReading.Readers.{reads_led, reads_number, after_back, after_says}
 
 -- ---- actors
 
 reads_thread : Reads (λ t. number_text t 32) (λ t. (t < 2 ^ 32) × (t < 256)) (kept (λ n. nat_lt n 256) (number_at 32))
-reads_thread = reads_kept (reads_number 32 (omega arith)) (λ n. nat_lt n 256) (λ n. n < 256) (λ n h. lt-ltb n 256 h) (λ n e. ltb-true n 256 e)
+reads_thread = reads_kept (reads_number 32 (omega arith)) (λ n. nat_lt n 256) (λ n. n < 256) (λ n h. lt-ltb n 256 h)
+    (λ n e. ltb-true n 256 e)
 
 abbrev pub actor_text : Actor → List ℕ
 actor_text actor = actor_word actor ++ 32 ∷ []
@@ -31,32 +37,49 @@ digit_first (d ∷ ds) x more c some digits e = let same : d ≡ c = cc in omega
 
 -- a thread's number begins with a digit
 digit_begins : (t : ℕ) (x more : List ℕ) (c : ℕ) → t < 256 → decimal t ++ x ≡ c ∷ more → c < 58
-digit_begins t x more c small e = let numeral = (decimal_is_IsNumeral t (omega (arith, small))).0 in digit_first (decimal t) x more c numeral.0 numeral.1 e
+digit_begins t x more c small e = let numeral = (decimal_is_IsNumeral t (omega (arith, small))).0
+    in digit_first (decimal t) x more c numeral.0 numeral.1 e
 
 module _ (t : ℕ) (rest : List ℕ) (fits : t < 256) where
-  thread_back : shaped Thread (kept (λ n. nat_lt n 256) (number_at 32)) (number_text t 32 ++ rest) ≡ Some (Thread t, rest)
+  thread_back : shaped Thread (kept (λ n. nat_lt n 256) (number_at 32)) (number_text t 32 ++ rest)
+      ≡ Some (Thread t, rest)
   thread_back = ap (λ o. option_map (λ a. (Thread a.0, a.1)) o) (reads_thread.back t rest (omega (arith, fits), fits))
 
-  no_collector : (o : Option (List ℕ)) → IfSome o (λ more. number_text t 32 ++ rest ≡ codes "c " ++ more) → actor_else o (shaped Thread (kept (λ n. nat_lt n 256) (number_at 32)) (number_text t 32 ++ rest)) ≡ Some (Thread t, rest)
+  no_collector : (o : Option (List ℕ)) → IfSome o (λ more. number_text t 32 ++ rest ≡ codes "c " ++ more)
+      → actor_else o (shaped Thread (kept (λ n. nat_lt n 256) (number_at 32)) (number_text t 32 ++ rest))
+      ≡ Some (Thread t, rest)
   no_collector None h = thread_back
-  no_collector (Some more) h = absurd (omega (arith, digit_begins t (32 ∷ rest) (32 ∷ more) 99 fits (sym (append_assoc (decimal t) (32 ∷ []) rest) ∙ h)))
+  no_collector (Some more) h = absurd
+      (omega (
+        arith,
+        digit_begins t (32 ∷ rest) (32 ∷ more) 99 fits (sym (append_assoc (decimal t) (32 ∷ []) rest)
+            ∙ h),
+      ))
 
-actor_back : (actor : Actor) (rest : List ℕ) → FitsActor actor → actor_at (actor_text actor ++ rest) ≡ Some (actor, rest)
-actor_back Collector rest fits = ap (λ o. actor_else o (shaped Thread (kept (λ n. nat_lt n 256) (number_at 32)) (actor_text Collector ++ rest))) (behind_back (codes "c ") rest)
-actor_back (Thread t) rest fits = no_collector t rest fits (behind (codes "c ") (number_text t 32 ++ rest)) (behind_says (codes "c ") (number_text t 32 ++ rest))
+actor_back : (actor : Actor) (rest : List ℕ) → FitsActor actor → actor_at (actor_text actor ++ rest)
+    ≡ Some (actor, rest)
+actor_back Collector rest fits = ap
+    (λ o. actor_else o (shaped Thread (kept (λ n. nat_lt n 256) (number_at 32)) (actor_text Collector ++ rest)))
+    (after_back (codes "c ") rest)
+actor_back (Thread t) rest fits = no_collector t rest fits (following (codes "c ") (number_text t 32 ++ rest))
+    (after_says (codes "c ") (number_text t 32 ++ rest))
 
-thread_says : (text : List ℕ) (o : Read ℕ) → IfSome o (IsRead (λ t. number_text t 32) (λ t. (t < 2 ^ 32) × (t < 256)) text) → IfSome (option_map (λ a. (Thread a.0, a.1)) o) (IsRead actor_text FitsActor text)
+thread_says : (text : List ℕ) (o : Read ℕ)
+    → IfSome o (IsRead (λ t. number_text t 32) (λ t. (t < 2 ^ 32) × (t < 256)) text)
+    → IfSome (option_map (λ a. (Thread a.0, a.1)) o) (IsRead actor_text FitsActor text)
 thread_says text None h = tt
 thread_says text (Some a) h = (h.0, h.1.1)
 
-actor_says : (text : List ℕ) (o : Option (List ℕ)) → IfSome o (λ rest. text ≡ codes "c " ++ rest) → IfSome (actor_else o (shaped Thread (kept (λ n. nat_lt n 256) (number_at 32)) text)) (IsRead actor_text FitsActor text)
+actor_says : (text : List ℕ) (o : Option (List ℕ)) → IfSome o (λ rest. text ≡ codes "c " ++ rest)
+    → IfSome (actor_else o (shaped Thread (kept (λ n. nat_lt n 256) (number_at 32)) text))
+    (IsRead actor_text FitsActor text)
 actor_says text None h = thread_says text (kept (λ n. nat_lt n 256) (number_at 32) text) (reads_thread.says text)
 actor_says text (Some rest) h = (h, tt)
 
 reads_actor : Reads actor_text FitsActor actor_at
 reads_actor = record {
   back = actor_back;
-  says = λ text. actor_says text (behind (codes "c ") text) (behind_says (codes "c ") text);
+  says = λ text. actor_says text (following (codes "c ") text) (after_says (codes "c ") text);
 }
 
 -- ---- outcomes
@@ -73,8 +96,10 @@ outcome_back Object rest = refl
 outcome_back NoRoom rest = refl
 outcome_back Fault rest = refl
 
-letter_says : (b : ℕ) (rest : List ℕ) (d o n f : Bool) → (b == 100) ≡ d → (b == 111) ≡ o → (b == 110) ≡ n → (b == 102) ≡ f
-    → IfSome (option_map (λ o. (o, rest)) (if d then Some Done else if o then Some Object else if n then Some NoRoom else if f then Some Fault else None)) (IsRead outcome_text Any (b ∷ rest))
+letter_says : (b : ℕ) (rest : List ℕ) (d o n f : Bool) → (b == 100) ≡ d → (b == 111) ≡ o → (b == 110) ≡ n → (b == 102)
+    ≡ f
+    → IfSome (option_map (λ o. (o, rest)) (if d then Some Done else if o then Some Object else if n then Some NoRoom
+    else if f then Some Fault else None)) (IsRead outcome_text Any (b ∷ rest))
 letter_says b rest true o n f p q r s = (ap (λ c. c ∷ rest) (eqb-true b 100 p), tt)
 letter_says b rest false true n f p q r s = (ap (λ c. c ∷ rest) (eqb-true b 111 q), tt)
 letter_says b rest false false true f p q r s = (ap (λ c. c ∷ rest) (eqb-true b 110 r), tt)
@@ -94,27 +119,32 @@ abbrev pub worker_text : Version → ℕ → List ℕ
 worker_text One worker = 10 ∷ []
 worker_text Two worker = 32 ∷ number_text worker 10
 
-first_says : (workers : ℕ) (text : List ℕ) (o : Option (List ℕ)) → workers ≡ 1 → IfSome o (λ rest. text ≡ 10 ∷ rest) → IfSome (option_map (λ rest. (0, rest)) o) (IsRead (worker_text One) (λ w. w < workers) text)
+first_says : (workers : ℕ) (text : List ℕ) (o : Option (List ℕ)) → workers ≡ 1 → IfSome o (λ rest. text ≡ 10 ∷ rest)
+    → IfSome (option_map (λ rest. (0, rest)) o) (IsRead (worker_text One) (λ w. w < workers) text)
 first_says workers text None one h = tt
 first_says workers text (Some rest) one h = (h, omega (arith, one))
 
-reads_worker : (version : Version) (workers : ℕ) → FitsVersion version workers → Reads (worker_text version) (λ w. w < workers) (worker_at version workers)
+reads_worker : (version : Version) (workers : ℕ) → FitsVersion version workers
+    → Reads (worker_text version) (λ w. w < workers) (worker_at version workers)
 reads_worker One workers one = record {
   back = λ w rest below.
       let first : 0 ≡ w = omega (arith, one, below) in
-      ap (λ o. option_map (λ rest. (0, rest)) o) (behind_back (10 ∷ []) rest) ∙ ap (λ n. Some (n, rest)) first;
-  says = λ text. first_says workers text (behind (10 ∷ []) text) one (behind_says (10 ∷ []) text);
+      ap (λ o. option_map (λ rest. (0, rest)) o) (after_back (10 ∷ []) rest) ∙ ap (λ n. Some (n, rest)) first;
+  says = λ text. first_says workers text (following (10 ∷ []) text) one (after_says (10 ∷ []) text);
 }
 reads_worker Two workers nine =
-    let number = reads_kept (reads_number 10 (omega arith)) (λ n. nat_lt n workers) (λ n. n < workers) (λ n h. lt-ltb n workers h) (λ n e. ltb-true n workers e) in
-    reads_same (reads_led (32 ∷ []) number) (worker_text Two) (λ w. w < workers) (λ w. refl) (λ w below. (omega (arith, nine, below), below)) (λ w h. h.1)
+    let number = reads_kept (reads_number 10 (omega arith)) (λ n. nat_lt n workers) (λ n. n < workers)
+    (λ n h. lt-ltb n workers h) (λ n e. ltb-true n workers e) in
+    reads_same (reads_led (32 ∷ []) number) (worker_text Two) (λ w. w < workers) (λ w. refl)
+    (λ w below. (omega (arith, nine, below), below)) (λ w h. h.1)
 
 -- ---- rows
 
 abbrev parts : Row → Actor × (Outcome × ℕ)
 parts row = (row.actor, (row.outcome, row.worker))
 
-same_line : (version : Version) (row : Row) → line_by version row ≡ actor_text row.actor ++ (outcome_text row.outcome ++ worker_text version row.worker)
+same_line : (version : Version) (row : Row) → line_by version row ≡ actor_text row.actor
+    ++ (outcome_text row.outcome ++ worker_text version row.worker)
 same_line One row =
     append_assoc (actor_word row.actor) (32 ∷ outcome_letter row.outcome ∷ []) (10 ∷ [])
     ∙ sym (append_assoc (actor_word row.actor) (32 ∷ []) (outcome_letter row.outcome ∷ 10 ∷ []))
@@ -125,11 +155,14 @@ same_line Two row =
 module _ (version : Version) (workers : ℕ) (fitting : FitsVersion version workers) where
   reads_row : Reads (line_by version) (FitsRow workers) (row_at version workers)
   reads_row =
-      let row = reads_shaped (reads_both reads_actor (reads_both reads_outcome (reads_worker version workers fitting))) row_of parts (λ r. refl) (λ p. refl) in
-      reads_same row (line_by version) (FitsRow workers) (same_line version) (λ r h. (h.1, (tt, h.0))) (λ r h. (h.1.1, h.0))
+      let row = reads_shaped (reads_both reads_actor (reads_both reads_outcome (reads_worker version workers fitting)))
+      row_of parts (λ r. refl) (λ p. refl) in
+      reads_same row (line_by version) (FitsRow workers) (same_line version) (λ r h. (h.1, (tt, h.0)))
+      (λ r h. (h.1.1, h.0))
 
   pair_parts : (r s : Row) (x y : List ℕ) → ◌≡◌ {A = Read Row} (Some (r, x)) (Some (s, y)) → (r ≡ s) × (x ≡ y)
-  pair_parts r s x y e = let pair : ◌≡◌ {A = Row × List ℕ} (r, x) (s, y) = cc in (ap (λ p. p.0) pair, ap (λ p. p.1) pair)
+  pair_parts r s x y e = let pair : ◌≡◌ {A = Row × List ℕ} (r, x) (s, y) = cc
+      in (ap (λ p. p.0) pair, ap (λ p. p.1) pair)
 
   first_fits : (r : Row) (rows : List Row) → All (FitsRow workers) (r ∷ rows) → FitsRow workers r
   first_fits r rows h = h 0 r (omega arith)
@@ -148,30 +181,40 @@ module _ (version : Version) (workers : ℕ) (fitting : FitsVersion version work
   no_e : (row : Row) (x more : List ℕ) → FitsRow workers row → line_by version row ++ x ≢ 101 ∷ more
   no_e row x more fits e =
       let turn = outcome_text row.outcome ++ worker_text version row.worker in
-      let line = ap (λ l. l ++ x) (same_line version row) ∙ append_assoc (actor_text row.actor) turn x ∙ append_assoc (actor_word row.actor) (32 ∷ []) (turn ++ x) in
+      let line = ap (λ l. l ++ x) (same_line version row) ∙ append_assoc (actor_text row.actor) turn x
+      ∙ append_assoc (actor_word row.actor) (32 ∷ []) (turn ++ x) in
       actor_begins row.actor (32 ∷ turn ++ x) more fits.1 (sym line ∙ e)
 
-  same_row : (r s : Row) (x y : List ℕ) → FitsRow workers r → FitsRow workers s → line_by version r ++ x ≡ line_by version s ++ y → (r ≡ s) × (x ≡ y)
-  same_row r s x y f g e = let same = sym (reads_row.back r x f) ∙ ap (row_at version workers) e ∙ reads_row.back s y g in pair_parts r s x y same
+  same_row : (r s : Row) (x y : List ℕ) → FitsRow workers r → FitsRow workers s → line_by version r ++ x
+      ≡ line_by version s ++ y → (r ≡ s) × (x ≡ y)
+  same_row r s x y f g e = let same = sym (reads_row.back r x f) ∙ ap (row_at version workers) e ∙ reads_row.back s y g
+      in pair_parts r s x y same
 
   abbrev lines : List Row → List ℕ
   lines rows = lines_of_rows (line_by version) rows
 
   -- what follows the rows that were read
   abbrev Left : List Row → List Row → ℕ → List ℕ → Type 0
-  Left got rows n rest = (more : List Row) × (rows ≡ got ++ more) × (rest ≡ lines more ++ end_line n) × All (FitsRow workers) more
+  Left got rows n rest = (more : List Row) × (rows ≡ got ++ more) × (rest ≡ lines more ++ end_line n)
+      × All (FitsRow workers) more
 
-  left : (got rows : List Row) (n : ℕ) (rest : List ℕ) → All (FitsRow workers) got → All (FitsRow workers) rows → lines got ++ rest ≡ lines rows ++ end_line n → Left got rows n rest
+  left : (got rows : List Row) (n : ℕ) (rest : List ℕ) → All (FitsRow workers) got → All (FitsRow workers) rows
+      → lines got ++ rest ≡ lines rows ++ end_line n → Left got rows n rest
   left [] rows n rest f g e = (rows, refl, e, g)
-  left (r ∷ got) [] n rest f g e = absurd (no_e r (lines got ++ rest) (110 ∷ 100 ∷ 32 ∷ number_text n 10) (first_fits r got f) (sym (append_assoc (line_by version r) (lines got) rest) ∙ e))
+  left (r ∷ got) [] n rest f g e = absurd (no_e r (lines got ++ rest) (110 ∷ 100 ∷ 32 ∷ number_text n 10)
+      (first_fits r got f) (sym (append_assoc (line_by version r) (lines got) rest) ∙ e))
   left (r ∷ got) (s ∷ rows) n rest f g e =
-      let same = same_row r s (lines got ++ rest) (lines rows ++ end_line n) (first_fits r got f) (first_fits s rows g) (sym (append_assoc (line_by version r) (lines got) rest) ∙ e ∙ append_assoc (line_by version s) (lines rows) (end_line n)) in
-      let (more, is, behind, fits) = left got rows n rest (others_fit r got f) (others_fit s rows g) same.1 in
-      (more, (λ i. sym same.0 i ∷ is i), behind, fits)
+      let same = same_row r s (lines got ++ rest) (lines rows ++ end_line n) (first_fits r got f) (first_fits s rows g)
+      (sym (append_assoc (line_by version r) (lines got) rest) ∙ e ∙ append_assoc (line_by version s) (lines rows)
+      (end_line n)) in
+      let (more, is, following, fits) = left got rows n rest (others_fit r got f) (others_fit s rows g) same.1 in
+      (more, (λ i. sym same.0 i ∷ is i), following, fits)
 
   -- where the rows are over there is no row
-  over_begins : (text : List ℕ) (r : Row) (x : List ℕ) → FitsRow workers r → is_over text ≡ true → text ≢ line_by version r ++ x
-  over_begins [] r x fits over e = let none = ap (row_at version workers) e ∙ reads_row.back r x fits in no_row version none
+  over_begins : (text : List ℕ) (r : Row) (x : List ℕ) → FitsRow workers r → is_over text ≡ true
+      → text ≢ line_by version r ++ x
+  over_begins [] r x fits over e = let none = ap (row_at version workers) e ∙ reads_row.back r x fits
+      in no_row version none
     where
       no_row : (v : Version) → row_at v workers [] ≡ Some (r, x) → ⊥
       no_row One e = cc
@@ -180,7 +223,8 @@ module _ (version : Version) (workers : ℕ) (fitting : FitsVersion version work
       let word = (starts_is Decides-eqb (b ∷ bs) (codes "end") (is_over (b ∷ bs)) refl).0 over in
       no_e r x (110 ∷ 100 ∷ drop 3 (b ∷ bs)) fits (sym e ∙ word)
 
-  module _ (text : List ℕ) (got : List Row) (rest : List ℕ) (fits : All (FitsRow workers) got) (cut : text ≡ lines got ++ rest) where
+  module _ (text : List ℕ) (got : List Row) (rest : List ℕ) (fits : All (FitsRow workers) got) (cut : text ≡ lines got
+      ++ rest) where
     -- a faulty row
     pub faulty : is_over rest ≡ false → row_at version workers rest ≡ None → ¬ HasRows version workers text
     faulty goes_on none (rows, n, fit, is) = by (left got rows n rest fits fit (sym cut ∙ is))
@@ -188,23 +232,27 @@ module _ (version : Version) (workers : ℕ) (fitting : FitsVersion version work
         by : Left got rows n rest → ⊥
         by ([], same, after, more) = let over = ap is_over after in cc
         by (r ∷ rows, same, after, more) =
-            let row = sym none ∙ ap (row_at version workers) (after ∙ append_assoc (line_by version r) (lines rows) (end_line n)) ∙ reads_row.back r (lines rows ++ end_line n) (first_fits r rows more) in
+            let row = sym none ∙ ap (row_at version workers) (after ∙ append_assoc (line_by version r) (lines rows)
+            (end_line n)) ∙ reads_row.back r (lines rows ++ end_line n) (first_fits r rows more) in
             cc
 
     -- where the rows are over, their number stands in the end line
-    pub counted : is_over rest ≡ true → (rows : List Row) → All (FitsRow workers) rows → text ≡ lines rows ++ end_line (length rows) → rest ≡ end_line (length got)
+    pub counted : is_over rest ≡ true → (rows : List Row) → All (FitsRow workers) rows
+        → text ≡ lines rows ++ end_line (length rows) → rest ≡ end_line (length got)
     counted over rows fit is = by (left got rows (length rows) rest fits fit (sym cut ∙ is))
       where
         by : Left got rows (length rows) rest → rest ≡ end_line (length got)
         by ([], same, after, more) = after ∙ ap (λ l. end_line (length l)) (same ∙ append-nil got)
         by (r ∷ others, same, after, more) =
-            absurd (over_begins rest r (lines others ++ end_line (length rows)) (first_fits r others more) over (after ∙ append_assoc (line_by version r) (lines others) (end_line (length rows))))
+            absurd (over_begins rest r (lines others ++ end_line (length rows)) (first_fits r others more) over (after
+            ∙ append_assoc (line_by version r) (lines others) (end_line (length rows))))
 
   -- ---- one row more
 
   lines_push : (got : List Row) (r : Row) → lines (got ++ r ∷ []) ≡ lines got ++ line_by version r
   lines_push [] r = append-nil (line_by version r)
-  lines_push (g ∷ got) r = ap (λ l. line_by version g ++ l) (lines_push got r) ∙ sym (append_assoc (line_by version g) (lines got) (line_by version r))
+  lines_push (g ∷ got) r = ap (λ l. line_by version g ++ l) (lines_push got r)
+      ∙ sym (append_assoc (line_by version g) (lines got) (line_by version r))
 
   module _ (text : List ℕ) (row : Row) (rest : List ℕ) (read : row_at version workers text ≡ Some (row, rest)) where
     is_read : IsRead (line_by version) (FitsRow workers) text (row, rest)
@@ -213,7 +261,7 @@ module _ (version : Version) (workers : ℕ) (fitting : FitsVersion version work
     pub row_fits : FitsRow workers row
     row_fits = is_read.1
 
-    -- there is less text behind it
+    -- there is less text after it
     pub row_ends : length rest < length text
     row_ends =
         let turn = outcome_text row.outcome ++ worker_text version row.worker in
@@ -222,6 +270,8 @@ module _ (version : Version) (workers : ℕ) (fitting : FitsVersion version work
         let begins = length-append (actor_word row.actor) (32 ∷ []) in
         omega (arith, ap length is_read.0, size, line, begins)
 
-    pub row_behind : (whole : List ℕ) (got : List Row) → whole ≡ lines got ++ text → whole ≡ lines (got ++ row ∷ []) ++ rest
-    row_behind whole got e =
-        e ∙ ap (λ l. lines got ++ l) is_read.0 ∙ sym (append_assoc (lines got) (line_by version row) rest) ∙ ap (λ l. l ++ rest) (sym (lines_push got row))
+    pub row_after : (whole : List ℕ) (got : List Row) → whole ≡ lines got ++ text → whole ≡ lines (got ++ row ∷ [])
+        ++ rest
+    row_after whole got e =
+        e ∙ ap (λ l. lines got ++ l) is_read.0 ∙ sym (append_assoc (lines got) (line_by version row) rest)
+        ∙ ap (λ l. l ++ rest) (sym (lines_push got row))

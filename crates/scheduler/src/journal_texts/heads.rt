@@ -3,7 +3,7 @@ ghost use Rattle.std.specs.Prelude.{◌≡◌, Some, codes, IfSome, MatchResult}
 ghost use Rattle.scheduler.specs.JournalReading.{Tells, version_at, heap_at, limits_at, workers_at, head_at, Fits};
 
 use crate::journal_texts::errors::JournalError;
-use crate::journal_texts::words::{behind, number};
+use crate::journal_texts::words::{following, number};
 use model::journals::{HeapShape, Limits};
 
 /// The versions of a journal's text: in the first there is one worker, and no word of it.
@@ -22,7 +22,7 @@ pub struct Head {
     pub workers: u8,
 }
 
-/// What stands before the rows, and the text behind it. N1, N2 and N7 for the first line that is faulty.
+/// What stands before the rows, and the text after it. N1, N2 and N7 for the first line that is faulty.
 pub fn read_head(text: &[u8]) -> Result<(Head, &[u8]), JournalError>
     ensures { MatchResult result (λ r. (head_at text.now ≡ Some (r.0, r.1.now))
         × Fits r.0) (λ _. IfSome (head_at text.now) (λ r. ¬ Fits r.0)) }
@@ -50,10 +50,10 @@ pub fn read_head(text: &[u8]) -> Result<(Head, &[u8]), JournalError>
 fn first_line(text: &[u8]) -> Option<(Version, &[u8])>
     ensures { Tells result (version_at text.now) }
 {
-    if let Some(rest) = behind(b"JVMJ 1\n", text) {
+    if let Some(rest) = following(b"JVMJ 1\n", text) {
         return Some((Version::One, rest));
     }
-    let rest = behind(b"JVMJ 2\n", text)?;
+    let rest = following(b"JVMJ 2\n", text)?;
     Some((Version::Two, rest))
 }
 
@@ -61,7 +61,7 @@ fn first_line(text: &[u8]) -> Option<(Version, &[u8])>
 fn heap(text: &[u8]) -> Option<(HeapShape, &[u8])>
     ensures { Tells result (heap_at text.now) }
 {
-    let rest = behind(b"heap ", text)?;
+    let rest = following(b"heap ", text)?;
     let (small, rest) = number(rest, b' ')?;
     let (medium, rest) = number(rest, b' ')?;
     let (large, rest) = number(rest, b'\n')?;
@@ -77,7 +77,7 @@ fn heap(text: &[u8]) -> Option<(HeapShape, &[u8])>
 fn limits(text: &[u8]) -> Option<(Limits, &[u8])>
     ensures { Tells result (limits_at text.now) }
 {
-    let rest = behind(b"limits ", text)?;
+    let rest = following(b"limits ", text)?;
     let (steps, rest) = number(rest, b' ')?;
     let (output, rest) = number(rest, b'\n')?;
     Some((Limits { steps, output }, rest))
@@ -89,6 +89,6 @@ fn workers(version: Version, text: &[u8]) -> Option<(u32, &[u8])>
 {
     match version {
         Version::One => Some((1, text)),
-        Version::Two => number(behind(b"workers ", text)?, b'\n'),
+        Version::Two => number(following(b"workers ", text)?, b'\n'),
     }
 }

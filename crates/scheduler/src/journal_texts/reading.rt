@@ -6,8 +6,8 @@ ghost use Rattle.scheduler.specs.declared.journal_texts.errors.JournalError.{Jou
 
 use crate::journal_texts::errors::JournalError;
 use crate::journal_texts::heads::read_head;
-use crate::journal_texts::rows::rows;
-use crate::journal_texts::words::behind;
+use crate::journal_texts::row_lines::rows;
+use crate::journal_texts::words::following;
 use itoa::Buffer;
 use model::stored_journals::StoredJournal;
 use std::alloc::Global;
@@ -27,15 +27,15 @@ pub fn read_journal(alloc: Global, text: &[u8]) -> Result<StoredJournal, Journal
     Ok(StoredJournal::new(head.shape, head.limits, head.workers, rows))
 }
 
-/// Whether a text is the end line behind so many rows, and nothing else.
+/// Whether a text is the end line after so many rows, and nothing else.
 fn is_end_line(text: &[u8], rows: usize) -> bool
     ensures { IsTrue result ↔ (text.now ≡ end_line rows) }
 {
     let mut buffer = Buffer::new();
-    let Some(rest) = behind(b"end ", text) else {
+    let Some(rest) = following(b"end ", text) else {
         return false;
     };
-    let Some(rest) = behind(buffer.format(rows).as_bytes(), rest) else {
+    let Some(rest) = following(buffer.format(rows).as_bytes(), rest) else {
         return false;
     };
     rest == b"\n".as_slice()

@@ -1,19 +1,20 @@
 //! What stands at the beginning of a text: a given word, or a number.
 ghost use Rattle.std.specs.Prelude.{◌≡◌, ◌≤◌, ◌==◌, None, Some, MatchOption, length};
 ghost use Rattle.std.specs.List.{position_or_len};
-ghost use Rattle.scheduler.specs.JournalReading.{behind, number_of, number_at, Tells};
+ghost use Rattle.scheduler.specs.JournalReading.{following, number_of, number_at, Tells};
 
 use itoa::Buffer;
 use std::str;
 
-/// What stands behind a word with which the text begins.
-pub fn behind<'a>(word: &[u8], text: &'a [u8]) -> Option<&'a [u8]>
-    ensures { MatchOption result (behind word.now text.now ≡ None) (λ rest. behind word.now text.now ≡ Some rest.now) }
+/// What stands after a word with which the text begins.
+pub fn following<'a>(word: &[u8], text: &'a [u8]) -> Option<&'a [u8]>
+    ensures { MatchOption result (following word.now text.now ≡ None)
+        (λ rest. following word.now text.now ≡ Some rest.now) }
 {
     text.strip_prefix(word)
 }
 
-/// The number with which the text begins, and what stands behind it and the byte `end`. It is written as it prints:
+/// The number with which the text begins, and what stands after it and the byte `end`. It is written as it prints:
 /// without a sign, a leading zero or anything else.
 pub fn number(text: &[u8], end: u8) -> Option<(u32, &[u8])>
     ensures { Tells result (number_at end text.now) }

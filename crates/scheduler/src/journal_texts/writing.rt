@@ -95,12 +95,12 @@ fn write_end(text: &mut Vec<u8>, rows: usize) -> Result<(), AllocError>
     Ok(())
 }
 
-/// A number and the byte behind it.
-fn write_number(text: &mut Vec<u8>, number: u32, behind: u8) -> Result<(), AllocError>
-    ensures { IfOk result (λ _. text.new.items ≡ text.old.items ++ number_text number behind) }
+/// A number and the byte after it.
+fn write_number(text: &mut Vec<u8>, number: u32, following: u8) -> Result<(), AllocError>
+    ensures { IfOk result (λ _. text.new.items ≡ text.old.items ++ number_text number following) }
 {
     let mut buffer = Buffer::new();
     text.extend_from_slice(buffer.format(number).as_bytes())?;
-    text.push(behind)?;
+    text.push(following)?;
     Ok(())
 }

@@ -85,7 +85,7 @@ fn are_written(
 }
 
 /// Whether these errors, one after another, are told so.
-fn codes_are_told(alloc: Global) -> Result<bool, AllocError> {
+fn codes_are_reported(alloc: Global) -> Result<bool, AllocError> {
     let (full, memory) = (ClassError::PoolFull, ClassError::Memory);
     let short = ClassError::Format(FormatFault::Short);
     let flags = ClassError::Format(FormatFault::Flags);
@@ -100,6 +100,6 @@ fn class_files_are_written(rt: HostRuntime) {
             "{digits}"
         );
     }
-    assert!(rt; codes_are_told(rt.alloc()) == Ok(true), "codes");
+    assert!(rt; codes_are_reported(rt.alloc()) == Ok(true), "codes");
     one_class_file();
 }

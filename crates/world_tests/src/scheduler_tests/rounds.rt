@@ -1,4 +1,4 @@
-//! Rounds of a small main. The rows are counted by hand: each turn of the thread with one of the collector behind it,
+//! Rounds of a small main. The rows are counted by hand: each turn of the thread with one of the collector after it,
 //! but for the last, after which the world runs no more.
 
 use model::journals::{Outcome, Row};

@@ -13,5 +13,6 @@ returns-in_err-listing-clause-only c =
     given_on c.from_residual.result c.in_err-listing.field-0.0 (λ e. all → e ≡ error.Memory) c.from_residual.ensures.1
     (λ whole.
     let rest = c.loop-method.invariant.assemble whole in
-    let first : method_assembles (method_listing c.args.narrow.now c.method-item.result) ≡ true = grind (arith, common_steps) in
+    let first : method_assembles (method_listing c.args.narrow.now c.method-item.result)
+          ≡ true = grind (arith, common_steps) in
     c.in_err-listing.ensures.only first)

@@ -8,7 +8,10 @@ use Rattle.assembler.proofs.listings.method_listings.Given as goal
 -- the listings so far, and those that follow
 abbrev pub invariant-loop-method : goal.invariant-loop-method
 invariant-loop-method l = record {
-  listed : l.listings.items ++ map (method_listing l.narrow) (drop l.method-index l.methods) ≡ map (method_listing l.narrow) l.methods;
-  right : list_all method_is_right (map (method_listing l.narrow) (drop l.method-index l.methods)) ≡ list_all method_is_right (map (method_listing l.narrow) l.methods);
-  assemble : list_all method_assembles (map (method_listing l.narrow) l.methods) ≡ true → list_all method_assembles (map (method_listing l.narrow) (drop l.method-index l.methods)) ≡ true;
+  listed : l.listings.items ++ map (method_listing l.narrow) (drop l.method-index l.methods)
+      ≡ map (method_listing l.narrow) l.methods;
+  right : list_all method_is_right (map (method_listing l.narrow) (drop l.method-index l.methods))
+      ≡ list_all method_is_right (map (method_listing l.narrow) l.methods);
+  assemble : list_all method_assembles (map (method_listing l.narrow) l.methods) ≡ true
+      → list_all method_assembles (map (method_listing l.narrow) (drop l.method-index l.methods)) ≡ true;
 }

@@ -6,4 +6,5 @@ use Rattle.assembler.proofs.numbered_class.fields.Given as goal
 
 -- what was made so far stays
 abbrev pub invariant-loop-field : goal.invariant-loop-field
-invariant-loop-field l = IsMade field_items numbered_field l.initial.numbers l.numbers l.all.items (drop l.field-index l.fields) l.fields
+invariant-loop-field l = IsMade field_items numbered_field l.initial.numbers l.numbers l.all.items
+    (drop l.field-index l.fields) l.fields

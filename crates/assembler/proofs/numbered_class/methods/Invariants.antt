@@ -6,4 +6,5 @@ use Rattle.assembler.proofs.numbered_class.methods.Given as goal
 
 -- what was made so far stays
 abbrev pub invariant-loop-method : goal.invariant-loop-method
-invariant-loop-method l = IsMade method_items assembled_method l.initial.numbers l.numbers l.all.items (drop l.method-index l.methods) l.methods
+invariant-loop-method l = IsMade method_items assembled_method l.initial.numbers l.numbers l.all.items
+    (drop l.method-index l.methods) l.methods

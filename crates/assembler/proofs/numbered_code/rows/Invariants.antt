@@ -6,4 +6,5 @@ use Rattle.assembler.proofs.numbered_code.rows.Given as goal
 
 -- what was made so far stays
 abbrev pub invariant-loop-row : goal.invariant-loop-row
-invariant-loop-row l = IsMade row_items numbered_row l.initial.numbers l.numbers l.all.items (drop l.row-index l.rows) l.rows
+invariant-loop-row l = IsMade row_items numbered_row l.initial.numbers l.numbers l.all.items (drop l.row-index l.rows)
+    l.rows

@@ -13,9 +13,11 @@ loop-number-preserved c =
     let length = one_more.0 in
     let count = c.loop-number.invariant.count in
     let left : end - c.loop-number.number ≡ suc (end - (c.loop-number.number + 1)) = omega (arith, l) in
-    let items = ap (λ (q : Buffer ℕ). q.items ++ numbers_up (c.loop-number.number + 1) (end - (c.loop-number.number + 1))) c.push.ensures in
+    let items = ap (λ (q : Buffer ℕ). q.items ++ numbers_up (c.loop-number.number + 1)
+          (end - (c.loop-number.number + 1))) c.push.ensures in
     record {
       room = one_more.1 ∙ c.loop-number.invariant.room;
       count = omega (arith, length, count);
-      items = items ∙ number_pushed c.loop-number.list.items c.loop-number.number _ _ left ∙ c.loop-number.invariant.items;
+      items = items ∙ number_pushed c.loop-number.list.items c.loop-number.number _ _ left
+          ∙ c.loop-number.invariant.items;
     }

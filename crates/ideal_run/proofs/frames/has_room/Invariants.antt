@@ -4,4 +4,5 @@ use Rattle.ideal_run.proofs.frames.has_room.Given as goal
 
 -- what is left takes the room that is left
 abbrev pub invariant-loop-value : goal.invariant-loop-value
-invariant-loop-value l = nat_le (units_of_all l.stack) l.room ≡ nat_le (units_of_all (drop l.value-index l.stack)) l.left
+invariant-loop-value l = nat_le (units_of_all l.stack) l.room ≡ nat_le (units_of_all (drop l.value-index l.stack))
+    l.left

@@ -7,4 +7,5 @@ use Rattle.ideal_run.proofs.initialisation.callers_waiting.Goals as goal
 pub returns-in_ok-push-in-Some : goal.returns-in_ok-push-in-Some
 returns-in_ok-push-in-Some c =
     waits-some c.args.frames.items c.pop.new.self.items c.in-Some.last _ c.in-Some.ensures.items
-    (c.in_ok-push-in-Some.ensures.items ∙ ap (λ (l : List Frame). l ++ c.in-Some.last ∷ []) (c.in_ok-after-in-Some.ensures ∙ ap (map waiting) c.deref.ensures.value))
+    (c.in_ok-push-in-Some.ensures.items ∙ ap (λ (l : List Frame). l ++ c.in-Some.last ∷ [])
+    (c.in_ok-after-in-Some.ensures ∙ ap (map waiting) c.deref.ensures.value))

@@ -7,4 +7,5 @@ use Rattle.ideal_run.proofs.initialisation.is_upwards.Given as goal
 
 abbrev pub invariant-loop : goal.invariant-loop
 invariant-loop l =
-    Seeks l.classes (enough_steps l.classes) l.counter l.next l.above (list_any (bytes_eq l.above) (superclasses l.classes l.name))
+    Seeks l.classes (enough_steps l.classes) l.counter l.next l.above
+    (list_any (bytes_eq l.above) (superclasses l.classes l.name))

@@ -4,4 +4,5 @@ use Rattle.ideal_run.specs.Completed.{plainly}
 use Rattle.ideal_run.proofs.monitors.operates_at.Goals as goal
 
 pub returns-in-Ok : goal.returns-in-Ok
-returns-in-Ok c = c.in-Ok.ensures ∙ ap (λ (b : Bool). plainly (operates_if c.args.site.now c.args.operation c.args.birth b)) c.requires
+returns-in-Ok c = c.in-Ok.ensures
+    ∙ ap (λ (b : Bool). plainly (operates_if c.args.site.now c.args.operation c.args.birth b)) c.requires

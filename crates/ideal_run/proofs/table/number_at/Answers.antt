@@ -2,7 +2,7 @@ use Rattle.std.proofs.Common.{◌∙◌, ℕ, ap}
 use Rattle.model.specs.Frames.{Frame}
 use Rattle.model.specs.Table.Numbers.{number}
 use Rattle.ideal_run.specs.Completed.{completes_with}
-use Rattle.ideal_run.specs.Told.{frame_in}
+use Rattle.ideal_run.specs.Reported.{frame_in}
 use Rattle.ideal_run.proofs.PlainLemmas.{plain-completes}
 use Rattle.ideal_run.proofs.table.number_at.Goals as goal
 

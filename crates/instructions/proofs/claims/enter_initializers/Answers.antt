@@ -1,9 +1,11 @@
 use Rattle.std.proofs.Common.{◌≡◌, ◌∙◌, List, ap, refl}
 use Rattle.loader.specs.ClassFacts.{ClassFacts}
 use Rattle.loader.specs.ClassTables.{class_tables, superclass_in}
-use Rattle.instructions.proofs.ClaimFrames.{enters-last, enters-more, has-room, left-class, left-further, left-none, placed-at}
+use Rattle.instructions.proofs.ClaimFrames.{enters-last, enters-more, has-room, left-class, left-further, left-none}
+use Rattle.instructions.proofs.ClaimFrames.{placed-at}
 use Rattle.instructions.proofs.claims.enter_initializers.Goals as goal
-use Rattle.instructions.proofs.claims.enter_initializers.Goals.{in-Some, then-passed-count, else-passed-count, in_default}
+use Rattle.instructions.proofs.claims.enter_initializers.Goals.{in-Some, then-passed-count, else-passed-count}
+use Rattle.instructions.proofs.claims.enter_initializers.Goals.{in_default}
 
 pub initializer_limits-max_locals-requires-clause-listed : goal.initializer_limits-max_locals-requires-clause-listed
 initializer_limits-max_locals-requires-clause-listed c =
@@ -54,6 +56,7 @@ loop-passed-preserved c =
             )
           ]
       | in_default w ↦
-          absurd (left-none c.args.program.now c.loop-passed.passed c.args.count c.loop-passed.next c.loop-passed-test.true
+          absurd (left-none c.args.program.now c.loop-passed.passed c.args.count c.loop-passed.next
+              c.loop-passed-test.true
           c.loop-passed.invariant.0 w.in_default.is)
     ]

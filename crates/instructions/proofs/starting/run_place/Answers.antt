@@ -12,7 +12,8 @@ returns-then-class-listings c =
     let accepted = c.requires.accepted in
     let count = ap length c.listings.ensures.listings in
     let past = c.if-class-listings.true in
-    past-none program (accepted_hierarchy program accepted) (none_hides program accepted) c.args.class (omega (arith, count, past))
+    past-none program (accepted_hierarchy program accepted) (none_hides program accepted) c.args.class
+        (omega (arith, count, past))
 
 pub table-requires : goal.table-requires
 table-requires c =
@@ -28,7 +29,8 @@ returns-in-Some c =
     let count = ap length c.listings.ensures.listings in
     let less = c.if-class-listings.false in
     sym (ap (λ o. place_of_row program free hides (option_copied o)) c.in-Some.is)
-    ∙ row-run program free hides c.args.class c.table.result.now (option_copied c.run_row.result) (inside program c.args.class (omega (arith, count, less)))
+    ∙ row-run program free hides c.args.class c.table.result.now (option_copied c.run_row.result)
+        (inside program c.args.class (omega (arith, count, less)))
     c.table.ensures c.run_row.ensures
 
 pub returns-in-None : goal.returns-in-None
@@ -39,5 +41,6 @@ returns-in-None c =
     let count = ap length c.listings.ensures.listings in
     let less = c.if-class-listings.false in
     sym (ap (λ o. place_of_row program free hides (option_copied o)) c.in-None.is)
-    ∙ row-run program free hides c.args.class c.table.result.now (option_copied c.run_row.result) (inside program c.args.class (omega (arith, count, less)))
+    ∙ row-run program free hides c.args.class c.table.result.now (option_copied c.run_row.result)
+        (inside program c.args.class (omega (arith, count, less)))
     c.table.ensures c.run_row.ensures

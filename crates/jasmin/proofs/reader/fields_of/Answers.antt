@@ -8,5 +8,7 @@ pub returns-in_err-next : goal.returns-in_err-next
 returns-in_err-next c =
     let p = err_from_is_err_and c.from_residual-in_err-next.result c.from_residual-in_err-next.ensures.1 in
     let begun = rw c.in-Some.is at c.rows.invariant.said in
-    let step = said_step (codes ".field") (field_of c.args.class) c.rows.fields.items _ _ _ (sym c.if-begins_otherwise.ensures) c.in_ok-field.ensures in
-    rw p.1 (λ _. sym begun ∙ step ∙ said_unread (codes ".field") (field_of c.args.class) _ _ _ refl c.in_err-next.ensures)
+    let step = said_step (codes ".field") (field_of c.args.class) c.rows.fields.items _ _ _
+          (sym c.if-begins_otherwise.ensures) c.in_ok-field.ensures in
+    rw p.1 (λ _. sym begun ∙ step ∙ said_unread (codes ".field") (field_of c.args.class) _ _ _ refl
+        c.in_err-next.ensures)

@@ -7,4 +7,4 @@ returns-in-Ok c = rw (← c.new-statements.ensures) c.in-Ok.ensures
 
 pub returns : goal.returns
 unfolding tree_of
-returns c = λ h. rw (← c.new-statements.ensures) (c.in-Err.ensures (λ e. h (c.told.ensures e)))
+returns c = λ h. rw (← c.new-statements.ensures) (c.in-Err.ensures (λ e. h (c.reported.ensures e)))

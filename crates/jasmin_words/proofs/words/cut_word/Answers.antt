@@ -7,4 +7,5 @@ pub returns-in-Some : goal.returns-in-Some
 returns-in-Some c = rw take_rest (cut_at_blank c.args.line.now c.in-Some.end c.requires c.in-Some.ensures)
 
 pub returns-in-None : goal.returns-in-None
-returns-in-None c = rw (take_rest, drop-length c.args.line.now) (cut_at_end c.args.line.now c.requires c.in-None.ensures)
+returns-in-None c = rw (take_rest, drop-length c.args.line.now)
+    (cut_at_end c.args.line.now c.requires c.in-None.ensures)

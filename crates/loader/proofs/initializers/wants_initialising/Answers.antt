@@ -16,7 +16,8 @@ same-upwards program other name named declared e same is =
     e ∙ ap (λ (p : List ClassListing). list_any (declares_named p) (superclasses program name)) same
     ∙ ap (λ (n : List ℕ). list_any (declares_named program) (superclasses program n)) is
 
-wanted : (program : List ClassListing) (c : ClassListing) (declared : Bool) → declared ≡ list_any (declares_named program) (superclasses program c.name)
+wanted : (program : List ClassListing) (c : ClassListing) (declared : Bool)
+    → declared ≡ list_any (declares_named program) (superclasses program c.name)
     → (declared && not (is_interface c)) ≡ wants_initialising program c
 wanted program c declared e = ap (λ b. b && not (is_interface c)) e ∙ wants-upwards program c
 
@@ -24,12 +25,14 @@ pub returns-then-declared : goal.returns-then-declared
 returns-then-declared c = λ same.
     ap not (c.contains.ensures tt ∙ ap is_interface c.class.view_is)
     ∙ wanted c.args.classes.now c.args.class.now true
-    (same-upwards c.args.classes.now c.args.declarers.now c.as_bytes.result.now c.args.class.now.name true c.if-declared.ensures same
+    (same-upwards c.args.classes.now c.args.declarers.now c.as_bytes.result.now c.args.class.now.name true
+        c.if-declared.ensures same
     (c.as_bytes.ensures ∙ ap (λ (x : ClassListing). x.name) c.class.view_is))
 
 pub returns-else-declared : goal.returns-else-declared
 returns-else-declared c = λ same.
     c.if-declared.false
     ∙ wanted c.args.classes.now c.args.class.now false
-    (same-upwards c.args.classes.now c.args.declarers.now c.as_bytes.result.now c.args.class.now.name false c.if-declared.ensures same
+    (same-upwards c.args.classes.now c.args.declarers.now c.as_bytes.result.now c.args.class.now.name false
+        c.if-declared.ensures same
     (c.as_bytes.ensures ∙ ap (λ (x : ClassListing). x.name) c.class.view_is))

@@ -4,4 +4,5 @@ use Rattle.loader.proofs.RepeatLemmas.{NotesSignatures}
 use Rattle.loader.proofs.members.has_method_twice.Given as goal
 
 abbrev pub invariant-loop-method : goal.invariant-loop-method
-invariant-loop-method l = NotesSignatures (λ (m : Method). m.name) (λ (m : Method). m.descriptor) l.repeats (take l.method-index l.methods)
+invariant-loop-method l = NotesSignatures (λ (m : Method). m.name) (λ (m : Method). m.descriptor) l.repeats
+    (take l.method-index l.methods)

@@ -6,7 +6,8 @@ use Rattle.loader.proofs.SelectorLemmas.{Key}
 use Rattle.loader.proofs.selection.rows_of.Goals as goal
 
 abbrev none : Key
-none = (record { bytes = record { ref_ptr = (0, 0); now = [] } }, record { bytes = record { ref_ptr = (0, 0); now = [] } })
+none = (record { bytes = record { ref_ptr = (0, 0); now = [] } },
+    record { bytes = record { ref_ptr = (0, 0); now = [] } })
 
 pub loop-signature-preserved : goal.loop-signature-preserved
 loop-signature-preserved c =
@@ -15,4 +16,5 @@ loop-signature-preserved c =
     let signature : Key = get_or signatures i none in
     rows-next (λ (s : Key). gathered c.args.rows.now s.0.bytes.now s.1.bytes.now) signatures i
     signature c.row.result c.loop-signature.found.items c.push.new.self.items _
-    (get_or_default signatures i none signature (omega arith)) (omega arith) c.loop-signature.invariant c.row.ensures c.in_ok-push.ensures.items
+    (get_or_default signatures i none signature (omega arith)) (omega arith) c.loop-signature.invariant c.row.ensures
+        c.in_ok-push.ensures.items

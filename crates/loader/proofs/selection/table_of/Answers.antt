@@ -14,6 +14,7 @@ returns c =
     record {
       rows_are = subst (IsClassTable program class) (sym c.in_ok-rows.ensures.rows)
           (class-table program class c.in_ok-gathered.gathered.rows.entries c.in_ok-rows.ensures.ordered tells);
-      by_selector_are = by-selector program class (gathered c.in_ok-gathered.gathered) c.as_slice.result.now c.in_ok-by_selector.by_selector.items (selectors program) tells
+      by_selector_are = by-selector program class (gathered c.in_ok-gathered.gathered) c.as_slice.result.now
+          c.in_ok-by_selector.by_selector.items (selectors program) tells
           c.in_ok-by_selector.ensures (c.as_slice.ensures ∙ ap selectors same);
     }

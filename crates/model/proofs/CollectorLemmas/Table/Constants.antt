@@ -19,4 +19,5 @@ constant_ref (Int width z) = refl
 constant_ref (Long z) = refl
 
 pub constant_lawful : (w : World) (next : ℕ) (c : Constant ℤ ℤ) (f : Frame) → ResultMoves w f (constant next c f)
-constant_lawful w next c f = if_room_lawful w next f 0 (constant_value c ∷ []) (λ b e. (let k = constant_ref c in absurd (cc)), tt)
+constant_lawful w next c f = if_room_lawful w next f 0 (constant_value c ∷ [])
+    (λ b e. (let k = constant_ref c in absurd (cc)), tt)

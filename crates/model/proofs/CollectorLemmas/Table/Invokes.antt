@@ -1,4 +1,6 @@
-use Rattle.std.proofs.Common.{◌≡◌, ◌⊎◌, inl, inr, ℕ, zero, suc, ◌-◌, Bool, true, false, List, [], ◌∷◌, ◌++◌, length, drop, map, reverse, slice_get, slice_index_or, Option, Some, None, Result, Ok, Err, if◌then◌else◌, refl}
+use Rattle.std.proofs.Common.{◌≡◌, ◌⊎◌, inl, inr, ℕ, zero, suc, ◌-◌, Bool, true, false, List, [], ◌∷◌, ◌++◌, length}
+use Rattle.std.proofs.Common.{drop, map, reverse, slice_get, slice_index_or, Option, Some, None, Result, Ok, Err}
+use Rattle.std.proofs.Common.{if◌then◌else◌, refl}
 use Rattle.std.specs.Prelude.{not}
 use Rattle.std.specs.Option.{option_map_or, option_to_list}
 use Rattle.model.specs.declared.names.Member.{Member}
@@ -24,7 +26,9 @@ use Rattle.model.specs.Objects.{class_at}
 use Rattle.model.specs.Monitors.{may_enter, is_full, entered, monitor_of}
 use Rattle.model.specs.Completions.{Completion, Site, frames_in, raises}
 use Rattle.model.specs.Completions.Completion.{Faults, Waits}
-use Rattle.model.specs.Table.Invokes.{Call, fault_in_pops, arguments_in, operands_in, method_monitor, monitor_for, world_entered, guarded, enters_frame, enters_method, called, called_on, on_object, selected_for, special_for, invoked}
+use Rattle.model.specs.Table.Invokes.{Call, fault_in_pops, arguments_in, operands_in, method_monitor, monitor_for}
+use Rattle.model.specs.Table.Invokes.{world_entered, guarded, enters_frame, enters_method, called, called_on, on_object}
+use Rattle.model.specs.Table.Invokes.{selected_for, special_for, invoked}
 use Rattle.model.specs.Collector.Places.{ref_of, frame_refs, Reach}
 use Rattle.model.specs.Collector.Invariant.{In}
 use Rattle.model.specs.Collector.Moves.{FramesMove, CompletionMoves}
@@ -58,20 +62,25 @@ monitor_written : (xs : List ℕ) (monitor : Option ℕ) (b : ℕ) → monitor �
 monitor_written xs None b e = absurd (cc)
 monitor_written xs (Some m) b e = (let s : b ≡ m = cc in rw s (In-last xs m))
 
-if_known : (Q : ℕ → Type 0) (monitor : Option ℕ) (b : ℕ) → ((b : ℕ) → monitor ≡ Some b → Q b) → In b (option_to_list monitor) → Q b
+if_known : (Q : ℕ → Type 0) (monitor : Option ℕ) (b : ℕ) → ((b : ℕ) → monitor ≡ Some b → Q b)
+    → In b (option_to_list monitor) → Q b
 if_known Q None b h k = absurd k
 if_known Q (Some m) b h (inl e) = rw e (h m refl)
 if_known Q (Some m) b h (inr n) = absurd n
 
-entered_keeps : (P : ℕ → Type 0) (s : Site) (monitor : Option ℕ) → Kept P s.world (next_birth s.world) (world_entered s monitor)
+entered_keeps : (P : ℕ → Type 0) (s : Site) (monitor : Option ℕ)
+    → Kept P s.world (next_birth s.world) (world_entered s monitor)
 entered_keeps P s None = kept_same P s.world
 entered_keeps P s (Some birth) = monitor_keeps P s.world birth (entered s.thread (monitor_of s.world birth))
 
-guarded_moves : (P : ℕ → Type 0) (monitor : Option ℕ) (fs : List Frame) → ((b : ℕ) → monitor ≡ Some b → P b) → FramesMove P fs (guarded monitor fs)
+guarded_moves : (P : ℕ → Type 0) (monitor : Option ℕ) (fs : List Frame) → ((b : ℕ) → monitor ≡ Some b → P b)
+    → FramesMove P fs (guarded monitor fs)
 guarded_moves P monitor fs h =
-    frames_set_or P fs (length fs - 1) no_frame (record (running_frame fs) { monitor = monitor }) (refs_same P (frame_refs (running_frame fs)), λ b e. inr (h b e))
+    frames_set_or P fs (length fs - 1) no_frame (record (running_frame fs) { monitor = monitor })
+        (refs_same P (frame_refs (running_frame fs)), λ b e. inr (h b e))
 
-enters_frame_moves : (c : Call) → running (frames_in c.site) ≡ Some c.site.frame → (m : CodedMethod) → ((b : ℕ) → method_monitor c m ≡ Some b → Reach c.site.world b) → CompletionMoves c.site.world (enters_frame c m)
+enters_frame_moves : (c : Call) → running (frames_in c.site) ≡ Some c.site.frame → (m : CodedMethod)
+    → ((b : ℕ) → method_monitor c m ≡ Some b → Reach c.site.world b) → CompletionMoves c.site.world (enters_frame c m)
 enters_frame_moves c e m h =
     let s = c.site in
     let n = operands_in c in
@@ -81,9 +90,12 @@ enters_frame_moves c e m h =
     let writes = births_of vs ++ option_to_list monitor in
     let P : ℕ → Type 0 = λ b. ⊥ ⊎ In b writes in
     let gs = frames_of_call fs m.place m.code.max_locals m.code.max_stack n in
-    let given : AllMay P (map ref_of vs) = may_births vs P (λ b k. inr (In-left (births_of vs) (option_to_list monitor) b k)) in
+    let given : AllMay P (map ref_of vs) = may_births vs P (λ b k.
+          inr (In-left (births_of vs) (option_to_list monitor) b k)) in
     let may : AllMay P (map ref_of (arguments_on n (running_frame fs).stack)) = rw (running_is fs s.frame e) given in
-    let moves : FramesMove P fs (guarded monitor gs) = frames_trans P fs gs (guarded monitor gs) (call_moves P fs m.place m.code.max_locals m.code.max_stack n may) (guarded_moves P monitor gs (λ b k. inr (monitor_written (births_of vs) monitor b k))) in
+    let moves : FramesMove P fs (guarded monitor gs) = frames_trans P fs gs (guarded monitor gs)
+          (call_moves P fs m.place m.code.max_locals m.code.max_stack n may) (guarded_moves P monitor gs (λ b k.
+          inr (monitor_written (births_of vs) monitor b k))) in
     site_kept s (world_entered s monitor) (Live (guarded monitor gs)) writes (entered_keeps P s monitor) moves
     (λ b k. elim (In-either (births_of vs) (option_to_list monitor) b k) [
       | inl l ↦ in_births vs (Reach s.world) (arguments_known s.world s.thread n s.frame e) b l
@@ -92,7 +104,8 @@ enters_frame_moves c e m h =
 
 -- ---- the tests
 
-enters_method_moves : (c : Call) → running (frames_in c.site) ≡ Some c.site.frame → (m : CodedMethod) → ((b : ℕ) → method_monitor c m ≡ Some b → Reach c.site.world b) → CompletionMoves c.site.world (enters_method c m)
+enters_method_moves : (c : Call) → running (frames_in c.site) ≡ Some c.site.frame → (m : CodedMethod)
+    → ((b : ℕ) → method_monitor c m ≡ Some b → Reach c.site.world b) → CompletionMoves c.site.world (enters_method c m)
 enters_method_moves c e m h =
     let w = c.site.world in
     let free = may_enter c.site.thread (monitor_for c m).owner in
@@ -106,31 +119,42 @@ monitor_is : (x : Bool) (object : Option ℕ) (b : ℕ) → (if x then object el
 monitor_is true object b e = e
 monitor_is false object b e = absurd (cc)
 
-called_moves : (c : Call) → running (frames_in c.site) ≡ Some c.site.frame → (callee : Callee) → ((b : ℕ) → c.object ≡ Some b → Reach c.site.world b) → CompletionMoves c.site.world (called c callee)
+called_moves : (c : Call) → running (frames_in c.site) ≡ Some c.site.frame → (callee : Callee)
+    → ((b : ℕ) → c.object ≡ Some b → Reach c.site.world b) → CompletionMoves c.site.world (called c callee)
 called_moves c e NoCode h = tt
 called_moves c e (Own builtin) h = builtin_moves c.site e builtin
-called_moves c e (Coded m) h = enters_method_moves c e m (λ b k. h b (monitor_is (is_synchronized m.method) c.object b k))
+called_moves c e (Coded m) h = enters_method_moves c e m
+    (λ b k. h b (monitor_is (is_synchronized m.method) c.object b k))
 
-fault_or_moves : (w : World) (fault : Option Fault) (further : Completion) → CompletionMoves w further → CompletionMoves w (option_map_or Faults fault further)
+fault_or_moves : (w : World) (fault : Option Fault) (further : Completion) → CompletionMoves w further
+    → CompletionMoves w (option_map_or Faults fault further)
 fault_or_moves w (Some fault) further h = tt
 fault_or_moves w None further h = h
 
-called_on_moves : (s : Site) → running (frames_in s) ≡ Some s.frame → (m : Member) (method : ℕ → Option (Declared Method)) (r : Result (Option ℕ) Fault) → ((b : ℕ) → r ≡ Ok (Some b) → Reach s.world b) → CompletionMoves s.world (called_on s m method r)
+called_on_moves : (s : Site) → running (frames_in s) ≡ Some s.frame
+    → (m : Member) (method : ℕ → Option (Declared Method)) (r : Result (Option ℕ) Fault)
+    → ((b : ℕ) → r ≡ Ok (Some b) → Reach s.world b) → CompletionMoves s.world (called_on s m method r)
 called_on_moves s e m method (Err fault) h = tt
 called_on_moves s e m method (Ok None) h = tt
 called_on_moves s e m method (Ok (Some birth)) h =
     if_moves s.world (not (is_subtype s.program (class_at s.world birth) m.class)) _ _ tt
-    (called_moves (record { site = s; member = m; object = Some birth }) e (callee_of s.program (method birth)) (λ b k. h b (let r : birth ≡ b = cc in rw r refl)))
+    (called_moves (record { site = s; member = m; object = Some birth }) e (callee_of s.program (method birth))
+        (λ b k. h b (let r : birth ≡ b = cc in rw r refl)))
 
-on_object_moves : (s : Site) → running (frames_in s) ≡ Some s.frame → (m : Member) (method : ℕ → Option (Declared Method)) → CompletionMoves s.world (on_object s m method)
+on_object_moves : (s : Site) → running (frames_in s) ≡ Some s.frame
+    → (m : Member) (method : ℕ → Option (Declared Method)) → CompletionMoves s.world (on_object s m method)
 on_object_moves s e m method =
     fault_or_moves s.world (fault_in_pops (reverse (argument_kinds m.descriptor)) s.frame.stack) _
-    (called_on_moves s e m method (ref_on (drop (arguments_in m) s.frame.stack)) (λ b h. reference_may (Reach s.world) (drop (arguments_in m) s.frame.stack) b (below_known s.world s.thread (arguments_in m) s.frame e) h))
+    (called_on_moves s e m method (ref_on (drop (arguments_in m) s.frame.stack))
+        (λ b h. reference_may (Reach s.world) (drop (arguments_in m) s.frame.stack) b
+        (below_known s.world s.thread (arguments_in m) s.frame e) h))
 
-pub invoked_moves : (s : Site) → running (frames_in s) ≡ Some s.frame → (invocation : Invocation) (m : Member) → CompletionMoves s.world (invoked s invocation m)
+pub invoked_moves : (s : Site) → running (frames_in s) ≡ Some s.frame → (invocation : Invocation) (m : Member)
+    → CompletionMoves s.world (invoked s invocation m)
 invoked_moves s e Static m =
     fault_or_moves s.world (fault_in_pops (reverse (argument_kinds m.descriptor)) s.frame.stack) _
-    (called_moves (record { site = s; member = m; object = None }) e (callee_of s.program (resolved_method s.program m)) (λ b k. absurd (cc)))
+    (called_moves (record { site = s; member = m; object = None }) e (callee_of s.program (resolved_method s.program m))
+        (λ b k. absurd (cc)))
 invoked_moves s e Virtual m = on_object_moves s e m (selected_for s m)
 invoked_moves s e Special m = on_object_moves s e m (λ birth. special_for s m)
 invoked_moves s e (Interface count) m = on_object_moves s e m (selected_for s m)

@@ -3,16 +3,19 @@ use Rattle.model.specs.declared.turns.Fault.{Fault}
 use Rattle.model.specs.Switches.{Table, Lookup}
 use Rattle.model.specs.Frames.{Frame, int_on}
 use Rattle.model.specs.Worlds.{World}
-use Rattle.model.specs.Table.Switches.{table_target, lookup_target, table_switched_on, lookup_switched_on, table_switched, lookup_switched}
+use Rattle.model.specs.Table.Switches.{table_target, lookup_target, table_switched_on, lookup_switched_on}
+use Rattle.model.specs.Table.Switches.{table_switched, lookup_switched}
 use Rattle.model.specs.Collector.Moves.{ResultMoves}
 use Rattle.model.proofs.CollectorLemmas.Stepping.{replaced_lawful}
 
 -- the key goes, and nothing is pushed
-table_on_lawful : (w : World) (table : Table ℕ) (f : Frame) (r : Result ℤ Fault) → ResultMoves w f (table_switched_on table f r)
+table_on_lawful : (w : World) (table : Table ℕ) (f : Frame) (r : Result ℤ Fault)
+    → ResultMoves w f (table_switched_on table f r)
 table_on_lawful w table f (Err e) = tt
 table_on_lawful w table f (Ok z) = replaced_lawful w (table_target table z) f 1 [] tt
 
-lookup_on_lawful : (w : World) (lookup : Lookup ℕ) (f : Frame) (r : Result ℤ Fault) → ResultMoves w f (lookup_switched_on lookup f r)
+lookup_on_lawful : (w : World) (lookup : Lookup ℕ) (f : Frame) (r : Result ℤ Fault)
+    → ResultMoves w f (lookup_switched_on lookup f r)
 lookup_on_lawful w lookup f (Err e) = tt
 lookup_on_lawful w lookup f (Ok z) = replaced_lawful w (lookup_target lookup z) f 1 [] tt
 

@@ -1,6 +1,7 @@
 use Rattle.model.proofs.CollectorLemmas.Collecting.{collected_keeps}
 use Rattle.model.proofs.CollectorLemmas.Turning.{changed_keeps}
-use Rattle.model.proofs.CollectorLemmas.Promising.{always_holds, always_kept, always_coloured, always_room, always_chosen, always_shown}
+use Rattle.model.proofs.CollectorLemmas.Promising.{always_holds, always_kept, always_coloured, always_room}
+use Rattle.model.proofs.CollectorLemmas.Promising.{always_chosen, always_shown}
 use Rattle.model.proofs.CollectorLemmas.Reclaiming.{always_reclaims}
 use Rattle.model.proofs.collector.no_reachable_object_is_lost.Goals as goal
 

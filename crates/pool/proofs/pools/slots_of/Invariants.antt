@@ -4,4 +4,5 @@ use Rattle.pool.proofs.SlotLoops.{with_front}
 use Rattle.pool.proofs.pools.slots_of.Given as goal
 
 abbrev pub invariant-loop-number : goal.invariant-loop-number
-invariant-loop-number l = with_front l.slots.items (slots_from l.second (l.count - l.number) l.rest) ≡ slots_after None (slots_from false (l.count - 1) l.bytes)
+invariant-loop-number l = with_front l.slots.items (slots_from l.second (l.count - l.number) l.rest)
+    ≡ slots_after None (slots_from false (l.count - 1) l.bytes)

@@ -6,4 +6,5 @@ use Rattle.resolve.proofs.builtins.place_among.Given as goal
 
 abbrev pub invariant-loop-place : goal.invariant-loop-place
 invariant-loop-place l =
-    IsLeft (λ b. bytes_eq l.name b.name.now) l.classes l.place (position (bytes_eq l.name) (map (λ b. b.name.now) l.classes))
+    IsLeft (λ b. bytes_eq l.name b.name.now) l.classes l.place
+        (position (bytes_eq l.name) (map (λ b. b.name.now) l.classes))

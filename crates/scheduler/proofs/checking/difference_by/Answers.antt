@@ -16,7 +16,8 @@ compare-requires-clause-empty c = ap (λ (v : Recorded). v.journal.rows) c.requi
 pub compare-requires-clause-made : goal.compare-requires-clause-made
 compare-requires-clause-made c =
     subst IsMade
-    (sym (whole_again c.args.world.now c.args.again.now c.rows.result c.requires.again (c.rows.ensures.value ∙ ap (λ (j : JournalValue). j.rows) c.journal-journal.ensures)))
+    (sym (whole_again c.args.world.now c.args.again.now c.rows.result c.requires.again (c.rows.ensures.value
+    ∙ ap (λ (j : JournalValue). j.rows) c.journal-journal.ensures)))
     c.is_made.ensures
 
 pub compare-requires-clause-workers : goal.compare-requires-clause-workers
@@ -27,13 +28,15 @@ compare-requires-clause-workers c =
     (subst (λ (j : JournalValue). AreOfWorkers j.workers j.rows) c.journal-journal.ensures c.is_sound.ensures.rows))
 
 pub compare-requires-clause-beside : goal.compare-requires-clause-beside
-compare-requires-clause-beside c = c.requires.run ∙ sym (reference_opened c.args.world.now) ∙ ap reference_of (sym c.requires.again)
+compare-requires-clause-beside c = c.requires.run ∙ sym (reference_opened c.args.world.now)
+    ∙ ap reference_of (sym c.requires.again)
 
 pub last_difference-requires : goal.last_difference-requires
 last_difference-requires c =
     c.in_ok-row.ensures.run
     ∙ ap reference_of
-    (whole_again c.args.world.now c.args.again.now c.rows.result c.requires.again (c.rows.ensures.value ∙ ap (λ (j : JournalValue). j.rows) c.journal-journal.ensures))
+    (whole_again c.args.world.now c.args.again.now c.rows.result c.requires.again (c.rows.ensures.value
+    ∙ ap (λ (j : JournalValue). j.rows) c.journal-journal.ensures))
 
 pub returns-in-Some : goal.returns-in-Some
 returns-in-Some c = sym c.in-Some.is ∙ c.in_ok-row.ensures.none

@@ -5,4 +5,5 @@ use Rattle.scheduler.specs.Replaying.{with_all}
 use Rattle.scheduler.proofs.checking.made_again.Given as goal
 
 abbrev pub invariant-loop-row : goal.invariant-loop-row
-invariant-loop-row l = (l.world.journal.rows ≡ l.yielded ++ l.row-iterator) × (l.run ≡ reference_of (with_all l.world l.yielded))
+invariant-loop-row l = (l.world.journal.rows ≡ l.yielded ++ l.row-iterator)
+    × (l.run ≡ reference_of (with_all l.world l.yielded))

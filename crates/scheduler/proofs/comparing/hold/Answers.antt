@@ -10,4 +10,5 @@ returns c =
     let count : length values ≡ length c.args.fields.now = length-map c.args.fields.now (λ (f : FieldValue). f.value) in
     let same = c.if-fields-words.false in
     let past = c.loop-n-test.false in
-    agreed values c.args.words.now c.loop-n.n (omega (arith, count, same)) (omega (arith, count, same, past)) c.loop-n.invariant
+    agreed values c.args.words.now c.loop-n.n (omega (arith, count, same)) (omega (arith, count, same, past))
+    c.loop-n.invariant

@@ -9,10 +9,12 @@ pub note-requires-clause-room : goal.note-requires-clause-room
 note-requires-clause-room c = omega (arith, c.requires.room, c.if-turns-eq1.true)
 
 pub note-requires-clause-worker : goal.note-requires-clause-worker
-note-requires-clause-worker c = let by = ap (λ (row : Row). row.worker) c.collected_by.ensures in omega (arith, by, c.requires.worker)
+note-requires-clause-worker c = let by = ap (λ (row : Row). row.worker) c.collected_by.ensures
+    in omega (arith, by, c.requires.worker)
 
 pub note_times-requires-clause-worker : goal.note_times-requires-clause-worker
-note_times-requires-clause-worker c = let by = ap (λ (row : Row). row.worker) c.collected_by-else-turns-eq1.ensures in omega (arith, by, c.requires.worker)
+note_times-requires-clause-worker c = let by = ap (λ (row : Row). row.worker) c.collected_by-else-turns-eq1.ensures
+    in omega (arith, by, c.requires.worker)
 
 pub returns-then-turns-eq1 : goal.returns-then-turns-eq1
 returns-then-turns-eq1 c =

@@ -23,5 +23,6 @@ loop-worker-preserved c =
       table = c.load.ensures.0 ∙ before.table;
       all = look_gathers 0 c.args.seats.items w _ _ _ before.all look;
       long = length-set counts w c.load.result ∙ before.long;
-      counted = one_counted c.args.seats.items counts w c.load.result _ _ (let l = before.long in omega arith) before.all look before.counted;
+      counted = one_counted c.args.seats.items counts w c.load.result _ _
+          (let l = before.long in omega arith) before.all look before.counted;
     }

@@ -14,15 +14,16 @@ load-requires-in-loop-worker c =
     let words = c.args.self.now.words_are in
     let inside = c.loop-worker-test.true in
     let seat = c.loop-worker.seat in
-    (c.loop-worker.invariant.table ∙ c.requires, omega arith, look_allowed _ _ seat.id seat.me.0 seat.me.1 c.loop-worker.worker)
+    (c.loop-worker.invariant.table ∙ c.requires, omega arith,
+        look_allowed _ _ seat.id seat.me.0 seat.me.1 c.loop-worker.worker)
 
 pub loop-worker-preserved : goal.loop-worker-preserved
 loop-worker-preserved c =
-    let told = c.load-in-loop-worker.ensures in
+    let reported = c.load-in-loop-worker.ensures in
     let before = c.loop-worker.invariant in
     let w = c.loop-worker.worker in
     record {
-      table = told.0 ∙ before.table;
-      slots = look_keeps_slots 0 w _ _ _ told.2 ∙ before.slots;
-      view = round_goes_on w _ _ _ _ before.view (looked 0 w _ _ _ told.2);
+      table = reported.0 ∙ before.table;
+      slots = look_keeps_slots 0 w _ _ _ reported.2 ∙ before.slots;
+      view = round_goes_on w _ _ _ _ before.view (looked 0 w _ _ _ reported.2);
     }

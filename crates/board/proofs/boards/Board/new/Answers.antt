@@ -10,6 +10,8 @@ loop-worker-preserved c =
       table = seat.ensures.table.0 ∙ before.table;
       no_slot = seat.ensures.table.1;
       rights = seat.ensures.rights;
-      long = ap length c.in_ok-push.ensures.items ∙ (longer c.loop-worker.seats.items seat.result ∙ ap (λ (n : ℕ). n + 1) before.long);
-      new = one_more c.in_ok-board.board c.loop-worker.seats.items c.push.new.self.items seat.result c.loop-worker.worker c.in_ok-push.ensures.items before.long before.new seat.ensures.seat;
+      long = ap length c.in_ok-push.ensures.items ∙ (longer c.loop-worker.seats.items seat.result
+          ∙ ap (λ (n : ℕ). n + 1) before.long);
+      new = one_more c.in_ok-board.board c.loop-worker.seats.items c.push.new.self.items seat.result
+          c.loop-worker.worker c.in_ok-push.ensures.items before.long before.new seat.ensures.seat;
     }

@@ -7,12 +7,14 @@ pub load-requires : goal.load-requires
 load-requires c =
     let inside = c.requires.worker in
     let words = c.args.self.now.words_are in
-    (c.requires.mine.0, omega arith, look_allowed _ _ c.args.seat.now.seat.id c.args.seat.now.seat.me.0 c.args.seat.now.seat.me.1 c.args.worker)
+    (c.requires.mine.0, omega arith, look_allowed _ _ c.args.seat.now.seat.id c.args.seat.now.seat.me.0
+        c.args.seat.now.seat.me.1 c.args.worker)
 
 pub invariant_of-seat : goal.invariant_of-seat
 invariant_of-seat c =
     let look = looked 0 c.args.worker _ _ _ c.load.ensures.2 in
-    let h = still_holds _ _ _ _ _ _ (holds c.args.seat.now) look (look_keeps_slots 0 c.args.worker _ _ _ c.load.ensures.2) in
+    let h = still_holds _ _ _ _ _ _ (holds c.args.seat.now) look
+          (look_keeps_slots 0 c.args.worker _ _ _ c.load.ensures.2) in
     record { no_slot = h.no_slot; worker_is = h.worker_is; own = h.own; no_other = h.no_other }
 
 pub returns-clause-kept : goal.returns-clause-kept
@@ -27,4 +29,5 @@ pub returns-clause-seen : goal.returns-clause-seen
 returns-clause-seen c = (looked 0 c.args.worker _ _ _ c.load.ensures.2).now
 
 pub returns-clause-own : goal.returns-clause-own
-returns-clause-own c = own_found _ _ _ c.args.worker _ _ (holds c.args.seat.now) (looked 0 c.args.worker _ _ _ c.load.ensures.2)
+returns-clause-own c = own_found _ _ _ c.args.worker _ _ (holds c.args.seat.now)
+    (looked 0 c.args.worker _ _ _ c.load.ensures.2)

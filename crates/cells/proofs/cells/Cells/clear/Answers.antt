@@ -11,10 +11,12 @@ invariant_of-self g c =
     let base_is = ap (λ (h : Header _). h.base) vacant in
     let room_is = ap (λ (h : Header _). h.room) vacant in
     let unused = ap (λ (h : Header _). h.length) vacant in
-    laid_out-set _ _ _ _ _ _ _ c.vacant.result c.self.invariant found base_is room_is (omega (arith, unused)) (λ _. unused)
+    laid_out-set _ _ _ _ _ _ _ c.vacant.result c.self.invariant found base_is room_is (omega (arith, unused))
+        (λ _. unused)
 
 pub returns-in-Some : goal.returns-in-Some
-returns-in-Some g c = rw (← c.self.view_is) (cleared _ _ _ _ c.vacant.result (ap (λ (h : Header _). h.kind) c.vacant.ensures))
+returns-in-Some g c = rw (← c.self.view_is)
+    (cleared _ _ _ _ c.vacant.result (ap (λ (h : Header _). h.kind) c.vacant.ensures))
 
 pub returns-in_default : goal.returns-in_default
 returns-in_default g c =

@@ -9,7 +9,8 @@ use Rattle.cells.proofs.cells.Cells.new.Goals as goal
 pub loop-cell-preserved : goal.loop-cell-preserved
 loop-cell-preserved g c =
     let vacant = c.vacant.ensures in
-    let wide : c.from-end.result ≡ words_of_cell c.args.shape c.loop-cell.cell = c.from-end.ensures ∙ c.room_of-room.ensures in
+    let wide : c.from-end.result ≡ words_of_cell c.args.shape c.loop-cell.cell = c.from-end.ensures
+          ∙ c.room_of-room.ensures in
     let headers = c.in_ok-push.ensures.items in
     let most = words_of_cell_up_to c.args.shape c.loop-cell.cell in
     let base_is = ap (λ (h : Header _). h.base) vacant in
@@ -17,10 +18,12 @@ loop-cell-preserved g c =
     let unused = ap (λ (h : Header _). h.length) vacant in
     let kind_is = ap (λ (h : Header _). h.kind) vacant in
     record {
-      laid_out = rw headers (laid_out-more _ _ _ c.loop-cell.cell _ c.vacant.result c.loop-cell.invariant.laid_out c.loop-cell.invariant.count wide base_is room_is unused);
+      laid_out = rw headers (laid_out-more _ _ _ c.loop-cell.cell _ c.vacant.result c.loop-cell.invariant.laid_out
+          c.loop-cell.invariant.count wide base_is room_is unused);
       count = one_longer _ _ _ _ headers c.loop-cell.invariant.count;
       bound = omega (arith, wide, most);
-      nobody = λ words. rw headers (nobody-push words _ c.loop-cell.cell c.vacant.result (c.loop-cell.invariant.nobody words) kind_is);
+      nobody = λ words. rw headers (nobody-push words _ c.loop-cell.cell c.vacant.result
+          (c.loop-cell.invariant.nobody words) kind_is);
     }
 
 pub returns : goal.returns

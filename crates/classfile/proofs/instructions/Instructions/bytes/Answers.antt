@@ -4,4 +4,5 @@ use Rattle.classfile.proofs.InstructionLaws.{code_bytes_are}
 use Rattle.classfile.proofs.instructions.Instructions.bytes.Goals as goal
 
 pub returns : goal.returns
-returns c = c.as_slice.ensures.value ∙ code_bytes_are c.self.inside.bytes.items c.self.inside.code c.self.invariant ∙ ap code_bytes c.self.view_is
+returns c = c.as_slice.ensures.value ∙ code_bytes_are c.self.inside.bytes.items c.self.inside.code c.self.invariant
+    ∙ ap code_bytes c.self.view_is

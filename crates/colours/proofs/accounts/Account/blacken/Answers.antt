@@ -11,4 +11,6 @@ invariant_of-self-in-Taken c =
     let p = popped _ _ c.in-Some.reference (sym c.in-Some.is ∙ c.pop_front.ensures.value) c.pop_front.ensures.items in
     let less = p.0 in
     let one = grey_in_one (Taken c.in-Taken.birth c.in-Taken.colour) in
-    (coloured _ c.in-Some-checked_sub.cell c.in-Taken.birth c.in-Taken.birth c.in-Taken.colour Black _ c.self.invariant.0 (rw c.deref.ensures.value at held) (omega (arith, less, one)), room_kept _ _ _ _ _ _ (length-set _ _ _) refl p.1 c.self.invariant.1)
+    (coloured _ c.in-Some-checked_sub.cell c.in-Taken.birth c.in-Taken.birth c.in-Taken.colour Black _
+        c.self.invariant.0 (rw c.deref.ensures.value at held) (omega (arith, less, one)),
+        room_kept _ _ _ _ _ _ (length-set _ _ _) refl p.1 c.self.invariant.1)

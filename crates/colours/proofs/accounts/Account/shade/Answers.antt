@@ -6,7 +6,8 @@ use Rattle.model.proofs.CollectorLemmas.Cells.{taken_within}
 use Rattle.colours.proofs.Keeping.{room_for_grey, pushed, coloured, room_kept}
 use Rattle.colours.proofs.accounts.Account.shade.Goals as goal
 
-white : (c : goal.After-push) → cell_at c.self.inside.cells.items c.in-Some.cell ≡ Taken c.in-Taken-default-White.birth White
+white : (c : goal.After-push) → cell_at c.self.inside.cells.items c.in-Some.cell
+    ≡ Taken c.in-Taken-default-White.birth White
 white c =
     let held = c.cell.ensures in
     let is = c.in-Taken-default-White.is in
@@ -29,6 +30,7 @@ pub invariant_of-self : goal.invariant_of-self
 invariant_of-self c =
     let one_more = pushed c.self.inside.grey c.push.new.list c.args.reference c.push.ensures in
     let length = one_more.0 in (
-      coloured _ c.in-Some.cell c.in-Taken-default-White.birth c.in-Taken-default-White.birth White Grey _ c.self.invariant.0 (white c) (omega (arith, length)),
+      coloured _ c.in-Some.cell c.in-Taken-default-White.birth c.in-Taken-default-White.birth White Grey _
+          c.self.invariant.0 (white c) (omega (arith, length)),
       room_kept _ _ _ _ _ _ (length-set _ _ _) refl one_more.1 c.self.invariant.1,
     )

@@ -9,4 +9,5 @@ returns-then-frame-len c =
     sym (head-some _ _ _ _ _ _ c.self.invariant c.self.view_is found)
 
 pub returns-else-frame-len : goal.returns-else-frame-len
-returns-else-frame-len c = sym (head-none _ _ _ _ c.self.view_is (slice_get_past c.self.inside.activations c.args.frame (omega arith)))
+returns-else-frame-len c = sym (head-none _ _ _ _ c.self.view_is (slice_get_past c.self.inside.activations c.args.frame
+    (omega arith)))

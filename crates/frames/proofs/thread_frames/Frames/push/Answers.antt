@@ -3,7 +3,8 @@ use Rattle.std.proofs.lemmas.List.{take-set-le}
 use Rattle.values.specs.Slots.{entry_of}
 use Rattle.frames.specs.declared.activations.Activation.{Activation}
 use Rattle.frames.specs.Activations.{Fits}
-use Rattle.frames.proofs.LayoutLemmas.{fits_in_units, fits_with, opened, sound_put, pushes, view_push_value, region_fits}
+use Rattle.frames.proofs.LayoutLemmas.{fits_in_units, fits_with, opened, sound_put, pushes, view_push_value}
+use Rattle.frames.proofs.LayoutLemmas.{region_fits}
 use Rattle.frames.proofs.thread_frames.Frames.push.Goals as goal
 
 pub set_stack-requires-clause-fits : goal.set_stack-requires-clause-fits
@@ -13,7 +14,8 @@ set_stack-requires-clause-fits c =
     let p = pushes o (entry_of c.args.slot) c.requires.room in
     let values = running.values + 1 in
     let taken = running.taken + c.units_in.result in
-    subst (λ (last : Activation). Fits (record last { pc = running.pc; values = values; taken = taken })) c.running-running.ensures
+    subst (λ (last : Activation). Fits (record last { pc = running.pc; values = values; taken = taken }))
+        c.running-running.ensures
     (rw c.units_in.ensures (fits_with _ running running.pc values _ p.3 (fits_in_units o)))
 
 pub overflow_add-top : goal.overflow_add-top
@@ -51,10 +53,12 @@ pub invariant_of-self : goal.invariant_of-self
 invariant_of-self c =
     let o = opened _ _ _ _ _ c.self.invariant c.self.view_is c.requires.some c.running-running.ensures in
     let p = pushes o (entry_of c.args.slot) c.requires.room in
-    rw (c.put.ensures, c.set_stack.ensures, c.units_in.ensures, ← c.running-running.ensures) (sound_put o _ _ (length-set _ _ _) (sym (take-set-le _ _ _ _ (omega arith))) p.3 refl)
+    rw (c.put.ensures, c.set_stack.ensures, c.units_in.ensures, ← c.running-running.ensures)
+        (sound_put o _ _ (length-set _ _ _) (sym (take-set-le _ _ _ _ (omega arith))) p.3 refl)
 
 pub returns : goal.returns
 returns c =
     let o = opened _ _ _ _ _ c.self.invariant c.self.view_is c.requires.some c.running-running.ensures in
     let p = pushes o (entry_of c.args.slot) c.requires.room in
-    rw (c.put.ensures, c.set_stack.ensures, c.units_in.ensures, ← c.running-running.ensures) (view_push_value o (entry_of c.args.slot) p.1)
+    rw (c.put.ensures, c.set_stack.ensures, c.units_in.ensures, ← c.running-running.ensures)
+        (view_push_value o (entry_of c.args.slot) p.1)

@@ -9,4 +9,5 @@ returns-in-Some-Long c =
     puts_over_long c.args.self.now _ c.args.index _ (entry_of c.args.slot) (sym there) c.set_two.ensures
 
 pub returns-in-Some-Int : goal.returns-in-Some-Int
-returns-in-Some-Int c = puts_two _ _ _ _ _ _ c.requires.some c.free.ensures c.free-in-Some-Int.ensures c.set_two-in-Some-Int.ensures
+returns-in-Some-Int c = puts_two _ _ _ _ _ _ c.requires.some c.free.ensures c.free-in-Some-Int.ensures
+    c.set_two-in-Some-Int.ensures

@@ -9,4 +9,5 @@ view_of-requires c =
     record { fits = omega arith; few = omega arith }
 
 pub loop-depth-preserved : goal.loop-depth-preserved
-loop-depth-preserved c = views_more _ _ _ _ _ _ _ (sym c.at.ensures) c.loop-depth.invariant c.in_ok-view_of.ensures c.in_ok-push.ensures.items
+loop-depth-preserved c = views_more _ _ _ _ _ _ _ (sym c.at.ensures) c.loop-depth.invariant c.in_ok-view_of.ensures
+    c.in_ok-push.ensures.items

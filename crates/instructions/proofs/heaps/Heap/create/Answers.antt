@@ -20,7 +20,9 @@ pub invariant_of-self-2 : goal.invariant_of-self-2
 invariant_of-self-2 c =
     rw (c.place_all.ensures, c.create.ensures.account)
     (record {
-      agree = came_agree _ _ _ (length c.args.words.now) c.self.inside.births c.in_ok-cell.cell _ c.self.invariant.agree c.in_ok-cell.ensures.cell;
-      errors = came_errors _ _ _ _ c.self.inside.births c.in_ok-cell.cell (length c.args.words.now) _ c.in_ok-cell.ensures.cell c.self.invariant.errors;
+      agree = came_agree _ _ _ (length c.args.words.now) c.self.inside.births c.in_ok-cell.cell _ c.self.invariant.agree
+          c.in_ok-cell.ensures.cell;
+      errors = came_errors _ _ _ _ c.self.inside.births c.in_ok-cell.cell (length c.args.words.now) _
+          c.in_ok-cell.ensures.cell c.self.invariant.errors;
       few = c.self.invariant.few;
     })

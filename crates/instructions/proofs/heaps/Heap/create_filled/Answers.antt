@@ -13,8 +13,10 @@ place-requires-clause-nobody c =
 
 pub place-requires-clause-room : goal.place-requires-clause-room
 place-requires-clause-room c =
-    let t = one_taken c.self.inside.account c.self.inside.births c.in_ok-cell.cell (take_cell c.self.inside.account c.args.count) c.in_ok-cell.ensures.cell in
-    taken_fits c.self.inside.cells.shape c.self.inside.account c.self.inside.cells.objects c.args.count (c.in_ok-cell.cell, t.0) c.self.invariant.agree t.1
+    let t = one_taken c.self.inside.account c.self.inside.births c.in_ok-cell.cell
+          (take_cell c.self.inside.account c.args.count) c.in_ok-cell.ensures.cell in
+    taken_fits c.self.inside.cells.shape c.self.inside.account c.self.inside.cells.objects c.args.count
+        (c.in_ok-cell.cell, t.0) c.self.invariant.agree t.1
 
 pub overflow_add-result : goal.overflow_add-result
 overflow_add-result c =
@@ -27,7 +29,9 @@ pub invariant_of-self-2 : goal.invariant_of-self-2
 invariant_of-self-2 c =
     rw (c.place.ensures, c.create.ensures.account)
     (record {
-      agree = came_agree _ _ _ c.args.count c.self.inside.births c.in_ok-cell.cell _ c.self.invariant.agree c.in_ok-cell.ensures.cell;
-      errors = came_errors _ _ _ _ c.self.inside.births c.in_ok-cell.cell c.args.count _ c.in_ok-cell.ensures.cell c.self.invariant.errors;
+      agree = came_agree _ _ _ c.args.count c.self.inside.births c.in_ok-cell.cell _ c.self.invariant.agree
+          c.in_ok-cell.ensures.cell;
+      errors = came_errors _ _ _ _ c.self.inside.births c.in_ok-cell.cell c.args.count _ c.in_ok-cell.ensures.cell
+          c.self.invariant.errors;
       few = c.self.invariant.few;
     })

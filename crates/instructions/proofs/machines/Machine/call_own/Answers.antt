@@ -4,7 +4,7 @@ use Rattle.model.specs.Completions.Completion.{Faults}
 use Rattle.instructions.specs.declared.kinds.Course.TheVariants.{Live}
 use Rattle.instructions.specs.Acting.{shown, site_at, turned}
 use Rattle.instructions.specs.OwnCalls.{own_call}
-use Rattle.instructions.proofs.ActingLemmas.{fault_told}
+use Rattle.instructions.proofs.ActingLemmas.{fault_reported}
 use Rattle.instructions.proofs.machines.Machine.call_own.Goals as goal
 
 pub returns-in-PrintInt-clause-step : goal.returns-in-PrintInt-clause-step
@@ -21,4 +21,4 @@ returns-in-PrintInt-clause-step c = λ scene here lives.
         | inr e ↦ ap (own_call m.heap s) e
       ]
     ] in
-    fault_told program scene m m here NoInstruction ∙ sym (ap (turned program x m.thread) none)
+    fault_reported program scene m m here NoInstruction ∙ sym (ap (turned program x m.thread) none)

@@ -1,6 +1,6 @@
 use Rattle.std.proofs.Common.{◌∙◌, refl, sym}
 use Rattle.instructions.specs.declared.machines.Machine.{Machine}
-use Rattle.instructions.proofs.InitialisingLemmas.{claim_told}
+use Rattle.instructions.proofs.InitialisingLemmas.{claim_reported}
 use Rattle.instructions.proofs.machines.Machine.claim.Goals as goal
 
 pub returns-then-has_room_for_claim-clause-step : goal.returns-then-has_room_for_claim-clause-step
@@ -15,6 +15,6 @@ returns-then-has_room_for_claim-clause-step c = λ scene here.
       output = m.output;
     } in
     rw c.to.ensures
-    (claim_told c.args.program.now scene m after here c.args.next c.args.class c.args.count
+    (claim_reported c.args.program.now scene m after here c.args.next c.args.class c.args.count
     (sym c.has_room_for_claim.ensures ∙ c.if-has_room_for_claim.true) c.enter_initializers.ensures refl
     c.set_states.ensures.states refl refl)

@@ -6,7 +6,7 @@ use Rattle.instructions.specs.declared.kinds.Course.TheVariants.{Live}
 use Rattle.instructions.specs.Acting.{shown, site_at, turned}
 use Rattle.instructions.specs.Heaps.{kind_held}
 use Rattle.instructions.specs.MonitorsByNumbers.{is_object, operates_by}
-use Rattle.instructions.proofs.ActingLemmas.{fault_told}
+use Rattle.instructions.proofs.ActingLemmas.{fault_reported}
 use Rattle.instructions.proofs.machines.Machine.exit_monitor.Goals as goal
 
 pub returns-else-is_object-clause-step : goal.returns-else-is_object-clause-step
@@ -17,9 +17,10 @@ returns-else-is_object-clause-step c = λ scene here.
     let s = site_at program m x.world c.args.next in
     let r = c.in-Ok-Some.reference in
     let none : is_object program (kind_held m.heap r) ≡ false = search rules in
-    fault_told program scene m m here WrongClass
+    fault_reported program scene m m here WrongClass
     ∙ sym (ap (λ b. turned program x m.thread (operates_if s Exit r b)) none)
-    ∙ ap (λ o. turned program x m.thread (operates_by s m.heap Exit o)) (sym (ap Ok c.in-Ok-Some.field-0-is) ∙ c.in-Ok-Some.ensures.value)
+    ∙ ap (λ o. turned program x m.thread (operates_by s m.heap Exit o)) (sym (ap Ok c.in-Ok-Some.field-0-is)
+        ∙ c.in-Ok-Some.ensures.value)
 
 pub returns-in-Err-clause-step : goal.returns-in-Err-clause-step
 returns-in-Err-clause-step c = λ scene here.
@@ -27,5 +28,5 @@ returns-in-Err-clause-step c = λ scene here.
     let program = c.args.program.now in
     let x = shown program scene m Live in
     let s = site_at program m x.world c.args.next in
-    fault_told program scene m m here c.in-Err.fault
+    fault_reported program scene m m here c.in-Err.fault
     ∙ ap (λ o. turned program x m.thread (operates_by s m.heap Exit o)) c.in-Err.ensures.value

@@ -4,7 +4,7 @@ use Rattle.instructions.specs.declared.kinds.Course.TheVariants.{Live}
 use Rattle.instructions.specs.Acting.{shown, turned}
 use Rattle.instructions.specs.HeapMonitors.{monitor_held, monitored}
 use Rattle.instructions.proofs.MonitoringLemmas.{monitored-alone}
-use Rattle.instructions.proofs.MonitorMoves.{exits-there, monitor_told, others-there}
+use Rattle.instructions.proofs.MonitorMoves.{exits-there, monitor_reported, others-there}
 use Rattle.instructions.proofs.machines.Machine.exit_object.Goals as goal
 
 pub returns-then-not-owns-clause-step : goal.returns-then-not-owns-clause-step
@@ -13,7 +13,8 @@ returns-then-not-owns-clause-step c = λ scene here.
     let program = c.args.program.now in
     let owns : is_owner m.thread (monitor_held m.heap c.args.reference).owner ≡ false = search rules in
     c.raise.ensures.step scene here
-    ∙ sym (ap (turned program (shown program scene m Live) m.thread) (others-there program scene m here c.args.next c.args.reference owns))
+    ∙ sym (ap (turned program (shown program scene m Live) m.thread) (others-there program scene m here c.args.next
+        c.args.reference owns))
 
 pub returns-clause-step : goal.returns-clause-step
 returns-clause-step c = λ scene here.
@@ -23,9 +24,11 @@ returns-clause-step c = λ scene here.
     let owns : is_owner m.thread (monitor_held m.heap r).owner ≡ true = search rules in
     let is : c.exit.result ≡ exited (monitor_held m.heap r) = c.exit.ensures ∙ ap exited c.monitor-monitor.ensures in
     rw c.to.ensures
-    (monitor_told program scene m here c.args.next r c.discard.new.self c.set_monitor.new.self (exited (monitor_held m.heap r))
+    (monitor_reported program scene m here c.args.next r c.discard.new.self c.set_monitor.new.self
+        (exited (monitor_held m.heap r))
     c.requires.object c.discard.ensures (c.set_monitor.ensures ∙ ap (monitored m.heap r) is)
-    ∙ sym (ap (turned program (shown program scene m Live) m.thread) (exits-there program scene m here c.args.next r owns)))
+    ∙ sym (ap (turned program (shown program scene m Live) m.thread) (exits-there program scene m here c.args.next r
+        owns)))
 
 pub returns-clause-keeps : goal.returns-clause-keeps
 returns-clause-keeps c =

@@ -7,7 +7,7 @@ use Rattle.model.specs.declared.turns.ClassState.TheVariants.{Done}
 use Rattle.instructions.specs.declared.kinds.Course.TheVariants.{Live}
 use Rattle.instructions.specs.declared.machines.Machine.{Machine}
 use Rattle.instructions.specs.Acting.{shown, site_at, turned}
-use Rattle.instructions.proofs.ActingLemmas.{fault_told}
+use Rattle.instructions.proofs.ActingLemmas.{fault_reported}
 use Rattle.instructions.proofs.ReturnLemmas.{gives_result, left-keeps, result_full}
 use Rattle.instructions.proofs.machines.Machine.go_on_with.Goals as goal
 
@@ -21,7 +21,7 @@ returns-then-saturating_sub-units_of-clause-step c = λ n scene here.
     let room = ap (λ (head : FrameHead). head.room) c.requires.caller.is in
     let taken = ap (λ (head : FrameHead). head.taken) c.requires.caller.is in
     let full : below.room - units_of_all below.stack < units_of c.args.value = omega arith in
-    fault_told program scene m m here _
+    fault_reported program scene m m here _
     ∙ sym (ap (λ r. turned program x m.thread (resumes s r)) (result_full c.args.next below c.args.value full))
 
 pub returns-clause-step : goal.returns-clause-step
@@ -32,14 +32,18 @@ returns-clause-step c = λ n scene here.
     let room = ap (λ (head : FrameHead). head.room) c.requires.caller.is in
     let taken = ap (λ (head : FrameHead). head.taken) c.requires.caller.is in
     let fits : units_of c.args.value ≤ below.room - units_of_all below.stack = omega arith in
-    let after : Machine = record { thread = left.thread; frames = c.put_result.new.frames; slots = left.slots; states = left.states; heap = c.shade.new.self; output = left.output } in
+    let after : Machine = record { thread = left.thread; frames = c.put_result.new.frames; slots = left.slots;
+          states = left.states; heap = c.shade.new.self; output = left.output } in
     rw c.to.ensures
-    (gives_result c.args.program.now scene m left after here c.leave_frame.ensures.left refl refl refl n c.args.next c.args.value fits
+    (gives_result c.args.program.now scene m left after here c.leave_frame.ensures.left refl refl refl n c.args.next
+        c.args.value fits
     c.leave_frame.ensures.frames c.put_result.ensures (c.shade.ensures ∙ rw c.reference_of.ensures refl))
 
 pub returns-clause-keeps : goal.returns-clause-keeps
 returns-clause-keeps c =
     let m = c.args.self.now in
     let left = c.leave_frame.new.self in
-    let after : Machine = record { thread = left.thread; frames = c.put_result.new.frames; slots = left.slots; states = left.states; heap = c.shade.new.self; output = left.output } in
-    left-keeps c.args.program.now Done (running_frame m.frames ∷ []) m left after _ c.leave_frame.ensures.left refl refl refl refl c.shade.ensures
+    let after : Machine = record { thread = left.thread; frames = c.put_result.new.frames; slots = left.slots;
+          states = left.states; heap = c.shade.new.self; output = left.output } in
+    left-keeps c.args.program.now Done (running_frame m.frames ∷ []) m left after _ c.leave_frame.ensures.left refl refl
+        refl refl c.shade.ensures

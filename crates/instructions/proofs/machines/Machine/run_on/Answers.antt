@@ -4,7 +4,7 @@ use Rattle.instructions.specs.declared.kinds.Course.TheVariants.{Live}
 use Rattle.instructions.specs.Acting.{shown, site_at, turned}
 use Rattle.instructions.specs.OwnCalls.{own_call}
 use Rattle.instructions.specs.CallsByNumbers.{called_known, is_static, known_at}
-use Rattle.instructions.proofs.ActingLemmas.{fault_told}
+use Rattle.instructions.proofs.ActingLemmas.{fault_reported}
 use Rattle.instructions.proofs.InvokeLemmas.{instance-known, static-known}
 use Rattle.instructions.proofs.machines.Machine.run_on.Goals as goal
 
@@ -15,7 +15,7 @@ returns-in-None-clause-step c = λ scene here lives.
     let x = shown program scene m Live in
     let s = site_at program m x.world c.args.next in
     let known : known_at program c.args.place ≡ None = search rules in
-    fault_told program scene m m here NoMethod
+    fault_reported program scene m m here NoMethod
     ∙ sym (ap (λ o. turned program x m.thread (called_known (own_call m.heap s) s c.args.object c.args.place o)) known)
 
 pub returns-then-is_static-clause-step : goal.returns-then-is_static-clause-step
@@ -27,7 +27,7 @@ returns-then-is_static-clause-step c = λ scene here lives.
     let method = c.in-Some.method.now in
     let known : known_at program c.args.place ≡ Some method = search rules in
     let static : is_static method ≡ true = search rules in
-    fault_told program scene m m here NoMethod
+    fault_reported program scene m m here NoMethod
     ∙ sym (ap (λ o. turned program x m.thread (called_known (own_call m.heap s) s c.args.object c.args.place o)) known
     ∙ ap (turned program x m.thread) (static-known (own_call m.heap s) s c.args.object c.args.place method static))
 

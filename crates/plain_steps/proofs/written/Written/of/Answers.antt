@@ -12,12 +12,14 @@ loop-value-preserved c =
           rw (w.numbers-is, w.count-is) (record {
             room = rw length-set c.loop-value.invariant.room;
             within = omega arith;
-            so_far = births_of-next _ _ _ _ _ _ c.loop-value-test.true room c.loop-value.invariant.so_far (rw w.in-Some.is at c.reference.ensures);
+            so_far = births_of-next _ _ _ _ _ _ c.loop-value-test.true room c.loop-value.invariant.so_far
+                (rw w.in-Some.is at c.reference.ensures);
           })
       | in_default w ↦
           rw (w.numbers-is, w.count-is) (record {
             room = c.loop-value.invariant.room;
             within = omega arith;
-            so_far = births_of-skip _ _ _ _ c.loop-value-test.true c.loop-value.invariant.so_far (rw w.in_default.is at c.reference.ensures);
+            so_far = births_of-skip _ _ _ _ c.loop-value-test.true c.loop-value.invariant.so_far
+                (rw w.in_default.is at c.reference.ensures);
           })
     ]

@@ -5,4 +5,17 @@ use Rattle.scheduler.proofs.journal_texts.writing.write_journal.Goals as goal
 
 pub returns : goal.returns
 unfolding journal_text
-returns g c = grind (arith, append_assoc, c.in_ok-text.ensures.items, c.write_heap.ensures, c.write_limits.ensures, c.write_number.ensures, c.write_rows.ensures, c.write_end.ensures, c.shape.ensures, c.limits.ensures, c.workers.ensures, c.rows.ensures)
+returns g c = grind (
+  arith,
+  append_assoc,
+  c.in_ok-text.ensures.items,
+  c.write_heap.ensures,
+  c.write_limits.ensures,
+  c.write_number.ensures,
+  c.write_rows.ensures,
+  c.write_end.ensures,
+  c.shape.ensures,
+  c.limits.ensures,
+  c.workers.ensures,
+  c.rows.ensures,
+)

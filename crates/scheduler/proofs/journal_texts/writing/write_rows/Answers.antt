@@ -5,7 +5,8 @@ use Rattle.model.specs.JournalTexts.{row_line, lines_of_rows}
 use Rattle.scheduler.proofs.journal_texts.writing.write_rows.Goals as goal
 
 pub loop-row-init : goal.loop-row-init
-loop-row-init c = ap (λ (rows : List Row). c.args.text.now.items ++ lines_of_rows row_line rows) c.into_iter-row-iterator.ensures.into_iter_gives
+loop-row-init c = ap (λ (rows : List Row). c.args.text.now.items ++ lines_of_rows row_line rows)
+    c.into_iter-row-iterator.ensures.into_iter_gives
 
 pub loop-row-preserved : goal.loop-row-preserved
 loop-row-preserved c =

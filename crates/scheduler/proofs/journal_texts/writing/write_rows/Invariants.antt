@@ -4,4 +4,5 @@ use Rattle.scheduler.proofs.journal_texts.writing.write_rows.Given as goal
 
 -- the text so far, and the lines that are left
 abbrev pub invariant-loop-row : goal.invariant-loop-row
-invariant-loop-row l = l.text.items ++ lines_of_rows row_line l.row-iterator ≡ l.fn.text.items ++ lines_of_rows row_line l.fn.rows
+invariant-loop-row l = l.text.items ++ lines_of_rows row_line l.row-iterator ≡ l.fn.text.items
+    ++ lines_of_rows row_line l.fn.rows

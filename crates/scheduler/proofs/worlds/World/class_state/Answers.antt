@@ -5,4 +5,5 @@ use Rattle.scheduler.proofs.worlds.World.class_state.Goals as goal
 pub returns : goal.returns
 returns c =
     (rw c.as_bytes.ensures.value at c.class_state.ensures)
-    ∙ rw (← c.self.view_is) (class_is c.self.inside.state c.self.inside.journal c.self.inside.next c.self.invariant c.args.name.now)
+    ∙ rw (← c.self.view_is) (class_is c.self.inside.state c.self.inside.journal c.self.inside.next c.self.invariant
+    c.args.name.now)

@@ -10,7 +10,8 @@ pub loop-turn-preserved : goal.loop-turn-preserved
 loop-turn-preserved c =
     let at = c.loop-turn in
     record {
-      workers = ap (λ (v : Recorded). v.journal.workers) c.turn_by.ensures.world ∙ workers-after at.self Collector c.args.worker ∙ at.invariant.workers;
+      workers = ap (λ (v : Recorded). v.journal.workers) c.turn_by.ensures.world
+          ∙ workers-after at.self Collector c.args.worker ∙ at.invariant.workers;
       world =
           ap (λ (v : Recorded). collections v c.args.worker (c.args.turns - (at._turn + 1))) c.turn_by.ensures.world
           ∙ sym (collections-more at.self c.args.worker c.args.turns at._turn c.loop-turn-test.true)

@@ -11,9 +11,11 @@ collect-requires c =
 
 pub note-requires-clause-room : goal.note-requires-clause-room
 note-requires-clause-room c =
-    row_fits c.self.inside.state c.self.inside.journal c.self.inside.next c.self.invariant Collector c.args.worker (rw (← c.self.view_is) at c.requires.allowed)
+    row_fits c.self.inside.state c.self.inside.journal c.self.inside.next c.self.invariant Collector c.args.worker
+    (rw (← c.self.view_is) at c.requires.allowed)
 
 pub invariant_of-self : goal.invariant_of-self
 invariant_of-self c =
     rw (c.collect.ensures, c.note.ensures)
-    (noted_is c.self.inside.state c.self.inside.journal c.self.inside.next c.self.invariant Collector c.args.worker (rw (← c.self.view_is) at c.requires.allowed))
+    (noted_is c.self.inside.state c.self.inside.journal c.self.inside.next c.self.invariant Collector c.args.worker
+    (rw (← c.self.view_is) at c.requires.allowed))

@@ -5,4 +5,5 @@ use Rattle.scheduler.proofs.worlds.World.helds.Goals as goal
 pub returns : goal.returns
 returns c =
     rw (← c.self.view_is)
-    (subst (λ helds. IfOk c.helds.result (λ views. views.items ≡ helds)) (helds_is c.self.inside.state c.self.inside.journal c.self.inside.next c.self.invariant) c.helds.ensures)
+    (subst (λ helds. IfOk c.helds.result (λ views. views.items ≡ helds))
+    (helds_is c.self.inside.state c.self.inside.journal c.self.inside.next c.self.invariant) c.helds.ensures)

@@ -12,19 +12,22 @@ rounds-preserved c =
     let made = c.rounds_plainly-made.result in
     let left = at.left - made in
     let next : left ≡ suc (left - 1) = omega (arith, c.if-left-eq0.false) in
-    let done = ap is_done (sym c.turn_behind-answer.ensures.answer) ∙ sym c.is_done.ensures ∙ c.if-not-is_done.false in
-    let workers = ap (λ (v : Recorded). v.journal.workers) c.turn_behind-answer.ensures.world ∙ workers-picked mid w ∙ c.rounds_plainly-made.ensures.workers in
+    let done = ap is_done (sym c.turn_after-answer.ensures.answer) ∙ sym c.is_done.ensures ∙ c.if-not-is_done.false in
+    let workers = ap (λ (v : Recorded). v.journal.workers) c.turn_after-answer.ensures.world ∙ workers-picked mid w
+    ∙ c.rounds_plainly-made.ensures.workers in
     record {
       known = omega (arith, workers, at.invariant.known);
       world =
-          ap (λ (v : Recorded). after_rounds v w 0 (left - 1)) c.turn_behind-answer.ensures.world
+          ap (λ (v : Recorded). after_rounds v w 0 (left - 1)) c.turn_after-answer.ensures.world
           ∙ sym (world-first mid w left (left - 1) next true done)
-          ∙ sym (world-left at.self mid w 0 made at.left c.rounds_plainly-made.ensures.rounds c.rounds_plainly-made.ensures.most)
+          ∙ sym (world-left at.self mid w 0 made at.left c.rounds_plainly-made.ensures.rounds
+          c.rounds_plainly-made.ensures.most)
           ∙ at.invariant.world;
       answer =
-          ap (λ (v : Recorded). rounds_answer v w 0 (left - 1)) c.turn_behind-answer.ensures.world
+          ap (λ (v : Recorded). rounds_answer v w 0 (left - 1)) c.turn_after-answer.ensures.world
           ∙ sym (answer-first mid w left (left - 1) next true done)
-          ∙ sym (answer-left at.self mid w 0 made at.left c.rounds_plainly-made.ensures.rounds c.rounds_plainly-made.ensures.most)
+          ∙ sym (answer-left at.self mid w 0 made at.left c.rounds_plainly-made.ensures.rounds
+          c.rounds_plainly-made.ensures.most)
           ∙ at.invariant.answer;
     }
 
@@ -34,7 +37,8 @@ returns-then-left-eq0-clause-world c =
     let w = c.args.worker in
     let mid = c.rounds_plainly-made.new.self in
     ap (after_rounds mid w 0) (sym c.if-left-eq0.true)
-    ∙ sym (world-left at.self mid w 0 c.rounds_plainly-made.result at.left c.rounds_plainly-made.ensures.rounds c.rounds_plainly-made.ensures.most)
+    ∙ sym (world-left at.self mid w 0 c.rounds_plainly-made.result at.left c.rounds_plainly-made.ensures.rounds
+    c.rounds_plainly-made.ensures.most)
     ∙ at.invariant.world
 
 pub returns-then-left-eq0-clause-answer : goal.returns-then-left-eq0-clause-answer
@@ -43,7 +47,8 @@ returns-then-left-eq0-clause-answer c =
     let w = c.args.worker in
     let mid = c.rounds_plainly-made.new.self in
     ap (rounds_answer mid w 0) (sym c.if-left-eq0.true)
-    ∙ sym (answer-left at.self mid w 0 c.rounds_plainly-made.result at.left c.rounds_plainly-made.ensures.rounds c.rounds_plainly-made.ensures.most)
+    ∙ sym (answer-left at.self mid w 0 c.rounds_plainly-made.result at.left c.rounds_plainly-made.ensures.rounds
+    c.rounds_plainly-made.ensures.most)
     ∙ at.invariant.answer
 
 pub returns-then-not-is_done-clause-world : goal.returns-then-not-is_done-clause-world
@@ -54,10 +59,11 @@ returns-then-not-is_done-clause-world c =
     let made = c.rounds_plainly-made.result in
     let left = at.left - made in
     let next : left ≡ suc (left - 1) = omega (arith, c.if-left-eq0.false) in
-    let done = ap is_done (sym c.turn_behind-answer.ensures.answer) ∙ sym c.is_done.ensures ∙ c.if-not-is_done.true in
-    c.turn_behind-answer.ensures.world
+    let done = ap is_done (sym c.turn_after-answer.ensures.answer) ∙ sym c.is_done.ensures ∙ c.if-not-is_done.true in
+    c.turn_after-answer.ensures.world
     ∙ sym (world-first mid w left (left - 1) next false done)
-    ∙ sym (world-left at.self mid w 0 made at.left c.rounds_plainly-made.ensures.rounds c.rounds_plainly-made.ensures.most)
+    ∙ sym (world-left at.self mid w 0 made at.left c.rounds_plainly-made.ensures.rounds
+    c.rounds_plainly-made.ensures.most)
     ∙ at.invariant.world
 
 pub returns-then-not-is_done-clause-answer : goal.returns-then-not-is_done-clause-answer
@@ -68,8 +74,9 @@ returns-then-not-is_done-clause-answer c =
     let made = c.rounds_plainly-made.result in
     let left = at.left - made in
     let next : left ≡ suc (left - 1) = omega (arith, c.if-left-eq0.false) in
-    let done = ap is_done (sym c.turn_behind-answer.ensures.answer) ∙ sym c.is_done.ensures ∙ c.if-not-is_done.true in
-    c.turn_behind-answer.ensures.answer
+    let done = ap is_done (sym c.turn_after-answer.ensures.answer) ∙ sym c.is_done.ensures ∙ c.if-not-is_done.true in
+    c.turn_after-answer.ensures.answer
     ∙ sym (answer-first mid w left (left - 1) next false done)
-    ∙ sym (answer-left at.self mid w 0 made at.left c.rounds_plainly-made.ensures.rounds c.rounds_plainly-made.ensures.most)
+    ∙ sym (answer-left at.self mid w 0 made at.left c.rounds_plainly-made.ensures.rounds
+    c.rounds_plainly-made.ensures.most)
     ∙ at.invariant.answer

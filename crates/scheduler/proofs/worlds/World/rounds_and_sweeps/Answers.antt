@@ -41,8 +41,8 @@ returns-then-not-is_done-clause-world c =
     let rounds = made.result in
     let left = at.left - rounds.made in
     let next : left ≡ suc (left - 1) = omega (arith, c.if-left-eq0.false) in
-    let done = ap is_done (sym c.round_behind-answer.ensures.answer) ∙ sym c.is_done.ensures ∙ c.if-not-is_done.true in
-    c.round_behind-answer.ensures.world
+    let done = ap is_done (sym c.another_round-answer.ensures.answer) ∙ sym c.is_done.ensures ∙ c.if-not-is_done.true in
+    c.another_round-answer.ensures.world
     ∙ sym (rounds-first mid w gc left (left - 1) next false done)
     ∙ sym (world-whole at.self mid w gc rounds at.left made.ensures.rounds made.ensures.most c.if-rounds.false)
     ∙ at.invariant.world
@@ -57,8 +57,8 @@ returns-then-not-is_done-clause-answer c =
     let rounds = made.result in
     let left = at.left - rounds.made in
     let next : left ≡ suc (left - 1) = omega (arith, c.if-left-eq0.false) in
-    let done = ap is_done (sym c.round_behind-answer.ensures.answer) ∙ sym c.is_done.ensures ∙ c.if-not-is_done.true in
-    c.round_behind-answer.ensures.answer
+    let done = ap is_done (sym c.another_round-answer.ensures.answer) ∙ sym c.is_done.ensures ∙ c.if-not-is_done.true in
+    c.another_round-answer.ensures.answer
     ∙ sym (answer-first mid w gc left (left - 1) next false done)
     ∙ sym (answer-whole at.self mid w gc rounds at.left made.ensures.rounds made.ensures.most c.if-rounds.false)
     ∙ at.invariant.answer
@@ -77,11 +77,13 @@ rounds-preserved-then-rounds c =
       known = omega (arith, c.sweep.ensures.workers, made.ensures.workers, at.invariant.known);
       world =
           ap (λ (v : Recorded). after_rounds v w gc (left - 1)) c.sweep.ensures.world
-          ∙ sym (world-begun at.self mid w gc rounds at.left made.ensures.rounds made.ensures.most c.if-rounds.true (left - 1) next)
+          ∙ sym (world-begun at.self mid w gc rounds at.left made.ensures.rounds made.ensures.most c.if-rounds.true
+          (left - 1) next)
           ∙ at.invariant.world;
       answer =
           ap (λ (v : Recorded). rounds_answer v w gc (left - 1)) c.sweep.ensures.world
-          ∙ sym (answer-begun at.self mid w gc rounds at.left made.ensures.rounds made.ensures.most c.if-rounds.true (left - 1) next)
+          ∙ sym (answer-begun at.self mid w gc rounds at.left made.ensures.rounds made.ensures.most c.if-rounds.true
+          (left - 1) next)
           ∙ at.invariant.answer;
     }
 
@@ -95,16 +97,17 @@ rounds-preserved c =
     let rounds = made.result in
     let left = at.left - rounds.made in
     let next : left ≡ suc (left - 1) = omega (arith, c.if-left-eq0.false) in
-    let done = ap is_done (sym c.round_behind-answer.ensures.answer) ∙ sym c.is_done.ensures ∙ c.if-not-is_done.false in
+    let done = ap is_done (sym c.another_round-answer.ensures.answer) ∙ sym c.is_done.ensures ∙ c.if-not-is_done.false
+    in
     record {
-      known = omega (arith, c.round_behind-answer.ensures.workers, made.ensures.workers, at.invariant.known);
+      known = omega (arith, c.another_round-answer.ensures.workers, made.ensures.workers, at.invariant.known);
       world =
-          ap (λ (v : Recorded). after_rounds v w gc (left - 1)) c.round_behind-answer.ensures.world
+          ap (λ (v : Recorded). after_rounds v w gc (left - 1)) c.another_round-answer.ensures.world
           ∙ sym (rounds-first mid w gc left (left - 1) next true done)
           ∙ sym (world-whole at.self mid w gc rounds at.left made.ensures.rounds made.ensures.most c.if-rounds.false)
           ∙ at.invariant.world;
       answer =
-          ap (λ (v : Recorded). rounds_answer v w gc (left - 1)) c.round_behind-answer.ensures.world
+          ap (λ (v : Recorded). rounds_answer v w gc (left - 1)) c.another_round-answer.ensures.world
           ∙ sym (answer-first mid w gc left (left - 1) next true done)
           ∙ sym (answer-whole at.self mid w gc rounds at.left made.ensures.rounds made.ensures.most c.if-rounds.false)
           ∙ at.invariant.answer;

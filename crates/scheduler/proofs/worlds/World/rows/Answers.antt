@@ -3,4 +3,5 @@ use Rattle.scheduler.proofs.Noting.{back}
 use Rattle.scheduler.proofs.worlds.World.rows.Goals as goal
 
 pub returns : goal.returns
-returns c = c.rows.ensures ∙ (rw (← c.self.view_is) (back c.self.inside.state c.self.inside.journal c.self.inside.next c.self.invariant).rows)
+returns c = c.rows.ensures
+    ∙ (rw (← c.self.view_is) (back c.self.inside.state c.self.inside.journal c.self.inside.next c.self.invariant).rows)

@@ -3,4 +3,6 @@ use Rattle.scheduler.proofs.Noting.{back}
 use Rattle.scheduler.proofs.worlds.World.status.Goals as goal
 
 pub returns : goal.returns
-returns c = c.status.ensures ∙ (rw (← c.self.view_is) (back c.self.inside.state c.self.inside.journal c.self.inside.next c.self.invariant).status)
+returns c = c.status.ensures
+    ∙ (rw (← c.self.view_is) (back c.self.inside.state c.self.inside.journal c.self.inside.next
+    c.self.invariant).status)

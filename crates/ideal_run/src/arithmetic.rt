@@ -3,7 +3,7 @@ ghost use Rattle.std.specs.Prelude.{◌≡◌, IfOk};
 ghost use Rattle.model.specs.Table.Numbers.{number, operands_of, operand_of, source_kind};
 ghost use Rattle.model.specs.declared.instructions.NumberOperation.TheVariants.{Binary, Negate, Convert, CompareLongs};
 ghost use Rattle.model.specs.declared.instructions.NumberKind.TheVariants.{Int, Long};
-ghost use Rattle.ideal_run.specs.Told.{frame_in, value_converted};
+ghost use Rattle.ideal_run.specs.Reported.{frame_in, value_converted};
 
 use crate::frames::{Frame, Moved, faulted, moved, replaced_if_room};
 use crate::operands::{count_and_long_on, int_on, long_on, two_ints_on, two_longs_on};

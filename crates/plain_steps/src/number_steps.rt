@@ -6,7 +6,7 @@ ghost use Rattle.model.specs.Table.Numbers.{number as number_move, operands_of};
 ghost use Rattle.model.specs.declared.instructions.NumberOperation.TheVariants.{Binary, Negate, Convert, CompareLongs};
 ghost use Rattle.model.specs.declared.instructions.NumberKind.TheVariants.{Int, Long};
 ghost use Rattle.plain_steps.specs.LongUnits.{long_units};
-ghost use Rattle.plain_steps.specs.Told.{told_with, moved_with};
+ghost use Rattle.plain_steps.specs.Reported.{reported_with, moved_with};
 
 use crate::written::Written;
 use frames::Frames;
@@ -18,7 +18,7 @@ use values::{IntType, Value};
 #[inline(always)]
 pub(crate) fn int_operation(frames: &mut Frames, next: u16, op: Operator) -> Result<Written, Abrupt>
     requires { 0 < length frames.old }
-    ensures step { told_with result frames.new
+    ensures step { reported_with result frames.new
         ≡ moved_with frames.old (number_move next (Binary Int op) (running_frame frames.old)) }
     ensures kept { OnErr result (frames.new ≡ frames.old) }
     ensures few { IfOk result (λ written. length written ≤ 1) }
@@ -41,7 +41,7 @@ pub(crate) fn long_operation(
     op: Operator,
 ) -> Result<Written, Abrupt>
     requires { 0 < length frames.old }
-    ensures step { told_with result frames.new
+    ensures step { reported_with result frames.new
         ≡ moved_with frames.old (number_move next (Binary Long op) (running_frame frames.old)) }
     ensures kept { OnErr result (frames.new ≡ frames.old) }
     ensures few { IfOk result (λ written. length written ≤ 1) }
@@ -103,7 +103,7 @@ fn long_operands(frames: &Frames, op: Operator) -> Result<(i64, i64), Fault>
 #[inline(always)]
 pub(crate) fn int_negation(frames: &mut Frames, next: u16) -> Result<Written, Abrupt>
     requires { 0 < length frames.old }
-    ensures step { told_with result frames.new
+    ensures step { reported_with result frames.new
         ≡ moved_with frames.old (number_move next (Negate Int) (running_frame frames.old)) }
     ensures kept { OnErr result (frames.new ≡ frames.old) }
     ensures few { IfOk result (λ written. length written ≤ 1) }
@@ -117,7 +117,7 @@ pub(crate) fn int_negation(frames: &mut Frames, next: u16) -> Result<Written, Ab
 #[inline(always)]
 pub(crate) fn long_negation(frames: &mut Frames, next: u16) -> Result<Written, Abrupt>
     requires { 0 < length frames.old }
-    ensures step { told_with result frames.new
+    ensures step { reported_with result frames.new
         ≡ moved_with frames.old (number_move next (Negate Long) (running_frame frames.old)) }
     ensures kept { OnErr result (frames.new ≡ frames.old) }
     ensures few { IfOk result (λ written. length written ≤ 1) }
@@ -135,7 +135,7 @@ pub(crate) fn convert(
     conversion: Conversion,
 ) -> Result<Written, Abrupt>
     requires { 0 < length frames.old }
-    ensures step { told_with result frames.new
+    ensures step { reported_with result frames.new
         ≡ moved_with frames.old (number_move next (Convert conversion) (running_frame frames.old)) }
     ensures kept { OnErr result (frames.new ≡ frames.old) }
     ensures few { IfOk result (λ written. length written ≤ 1) }
@@ -155,7 +155,7 @@ pub(crate) fn convert(
 #[inline(always)]
 pub(crate) fn comparison(frames: &mut Frames, next: u16) -> Result<Written, Abrupt>
     requires { 0 < length frames.old }
-    ensures step { told_with result frames.new
+    ensures step { reported_with result frames.new
         ≡ moved_with frames.old (number_move next CompareLongs (running_frame frames.old)) }
     ensures kept { OnErr result (frames.new ≡ frames.old) }
     ensures few { IfOk result (λ written. length written ≤ 1) }

@@ -7,14 +7,14 @@ ghost use Rattle.scheduler.specs.declared.journal_texts.errors.JournalError.{Jou
 
 use crate::journal_texts::errors::JournalError;
 use crate::journal_texts::heads::Version;
-use crate::journal_texts::words::{behind, number};
+use crate::journal_texts::words::{following, number};
 use model::journals::{Outcome, Row};
 use model::row_runs::RowRuns;
 use model::turns::Actor;
 use std::alloc::Global;
 
 /// The rows with which a text begins, up to its end or to the first line that begins with `end`, and that line with all
-/// behind it. N3 for the first row at fault, N6 where memory runs out.
+/// after it. N3 for the first row at fault, N6 where memory runs out.
 pub fn rows(
     alloc: Global,
     version: Version,
@@ -30,9 +30,9 @@ pub fn rows(
     let mut rest = text;
     'rows: while !is_over(rest) {
         match row(version, workers, rest) {
-            Some((row, behind)) => {
+            Some((row, following)) => {
                 rows.add(row)?;
-                rest = behind;
+                rest = following;
             }
             None => return Err(JournalError::Row(rows.rows().len().saturating_add(1))),
         }
@@ -66,7 +66,7 @@ fn row(version: Version, workers: u8, text: &[u8]) -> Option<(Row, &[u8])>
 fn actor(text: &[u8]) -> Option<(Actor, &[u8])>
     ensures { Tells result (actor_at text.now) }
 {
-    if let Some(rest) = behind(b"c ", text) {
+    if let Some(rest) = following(b"c ", text) {
         return Some((Actor::Collector, rest));
     }
     let (thread, rest) = number(text, b' ')?;
@@ -103,9 +103,9 @@ fn worker(version: Version, workers: u8, text: &[u8]) -> Option<(u8, &[u8])>
     ensures { Tells result (worker_at version workers text.now) }
 {
     match version {
-        Version::One => Some((0, behind(b"\n", text)?)),
+        Version::One => Some((0, following(b"\n", text)?)),
         Version::Two => {
-            let (worker, rest) = number(behind(b" ", text)?, b'\n')?;
+            let (worker, rest) = number(following(b" ", text)?, b'\n')?;
             if worker < u32::from(workers) {
                 Some((worker as u8, rest))
             } else {

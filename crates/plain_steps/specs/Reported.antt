@@ -3,9 +3,9 @@ use Rattle.model.specs.declared.turns.Abrupt.{Abrupt}
 use Rattle.model.specs.Frames.{Frame, Moved, with_running}
 
 -- what a step's answer and the frames after it tell: these frames and the references written, or why nothing was done
-abbrev pub told_with : Result (List ℕ) Abrupt → List Frame → Result (List Frame × List ℕ) Abrupt
-told_with (Ok written) after = Ok (after, written)
-told_with (Err e) after = Err e
+abbrev pub reported_with : Result (List ℕ) Abrupt → List Frame → Result (List Frame × List ℕ) Abrupt
+reported_with (Ok written) after = Ok (after, written)
+reported_with (Err e) after = Err e
 
 -- a thread's frames after a move of the running one, and what the move wrote
 abbrev pub moved_with : List Frame → Result Moved Abrupt → Result (List Frame × List ℕ) Abrupt
