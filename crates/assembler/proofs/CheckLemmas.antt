@@ -56,7 +56,9 @@ same_both a b =
     elim (bool_tells (bytes_eq a b)) [
       | inl t ↦ t ∙ sym ((bytes_eq-Decides b a).1 (sym ((bytes_eq-Decides a b).0 t)))
       | inr f ↦ elim (bool_tells (bytes_eq b a)) [
-          inl t ↦ let e = (bytes_eq-Decides a b).1 (sym ((bytes_eq-Decides b a).0 t)) in cc | inr g ↦ f ∙ sym g ]
+        | inl t ↦ let e = (bytes_eq-Decides a b).1 (sym ((bytes_eq-Decides b a).0 t)) in cc
+        | inr g ↦ f ∙ sym g
+      ]
     ]
 
 -- a label that wasn't there has its pc after the others
@@ -64,9 +66,13 @@ pub now_there : (pcs : List (List ℕ × ℕ)) (name other : List ℕ) (pc later
     → unwrap_or (named (pcs ++ (name, pc) ∷ []) other) later ≡ unwrap_or (named pcs other) (if bytes_eq name other
     then pc else later)
 now_there [] name other pc later = elim (bool_tells (bytes_eq name other)) [
-    inl t ↦ rw (t, sym (same_both name other) ∙ t) refl | inr f ↦ rw (f, sym (same_both name other) ∙ f) refl ]
-now_there (row ∷ pcs) name other pc later = elim (bool_tells (bytes_eq other row.0)) [ inl t ↦ rw t refl |
-    inr f ↦ rw f (now_there pcs name other pc later) ]
+  | inl t ↦ rw (t, sym (same_both name other) ∙ t) refl
+  | inr f ↦ rw (f, sym (same_both name other) ∙ f) refl
+]
+now_there (row ∷ pcs) name other pc later = elim (bool_tells (bytes_eq other row.0)) [
+  | inl t ↦ rw t refl
+  | inr f ↦ rw f (now_there pcs name other pc later)
+]
 
 -- ---- code
 
@@ -86,10 +92,10 @@ module _ (narrow : List ℤ) (body : Body) where
   pub right_parts : code_is_right (code_listing narrow body) ≡ true → IsRight
   right_parts h =
       let outer = and_tells (list_all (λ p. switch_agrees p.instruction) (placed_from pc 0 lines)
-            && size_is_right (end_from 0 (placed_from pc 0 lines))) (list_all (λ p. reaches p.pc p.instruction)
-            (placed_from pc 0 lines)) h in
+      && size_is_right (end_from 0 (placed_from pc 0 lines))) (list_all (λ p. reaches p.pc p.instruction)
+      (placed_from pc 0 lines)) h in
       let inner = and_tells (list_all (λ p. switch_agrees p.instruction) (placed_from pc 0 lines))
-            (size_is_right (end_from 0 (placed_from pc 0 lines))) outer.0 in
+      (size_is_right (end_from 0 (placed_from pc 0 lines))) outer.0 in
       record {
         agree = sym (agree_together narrow pc 0 body.lines) ∙ inner.0;
         size = rw (ends_after pc 0 lines) at inner.1;
@@ -108,10 +114,15 @@ module _ (narrow : List ℤ) (body : Body) where
 pub settled_is : (narrow : List ℤ) (pcs : List (List ℕ × ℕ)) (max_stack max_locals : ℕ) (rows : List ExceptionRow)
     (instructions : List Placed) (catches : List CatchRow) (lines : List TextLine)
     → ((name : List ℕ) → pc_in pcs name ≡ pc_of 0 (map (widened_line narrow) lines) name)
-        → rows ≡ map (row_with (pc_in pcs)) catches → instructions
-        ≡ placed_from (pc_in pcs) 0 (map (widened_line narrow) lines)
-    → let code : CodeListing = record { max_stack = max_stack; max_locals = max_locals; rows = rows; instructions =
-            instructions } in
+    → rows ≡ map (row_with (pc_in pcs)) catches → instructions
+    ≡ placed_from (pc_in pcs) 0 (map (widened_line narrow) lines)
+    → let code : CodeListing = record {
+      max_stack = max_stack;
+      max_locals = max_locals;
+      rows = rows;
+      instructions =
+          instructions;
+    } in
     let body : Body = record { max_stack = max_stack; max_locals = max_locals; rows = catches; lines = lines } in
     code ≡ code_listing narrow body
 settled_is narrow pcs max_stack max_locals rows instructions catches lines same e f = rw (e, f, fun_ext same) refl

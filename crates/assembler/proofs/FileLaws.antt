@@ -30,8 +30,11 @@ codes_of : (pool : List Entry) (class : ℕ) (items : List Item) (ms : List Meth
     → AllByRecursion (MethodStands pool class) (map (assembled_method items) ms)
     → AllByRecursion (λ m. HasCode items m.code) ms
 codes_of pool class items [] all = tt
-codes_of pool class items (m ∷ ms) all = (code_of pool items (wants_code m.flags.0) m.code
-    (standing_code pool class (assembled_method items m) all.0), codes_of pool class items ms all.1)
+codes_of pool class items (m ∷ ms) all = (
+  code_of pool items (wants_code m.flags.0) m.code
+      (standing_code pool class (assembled_method items m) all.0),
+  codes_of pool class items ms all.1,
+)
 
 pub have_code : (items : List Item) (l : ClassListing) → IsClass (assembled items l)
     → AllByRecursion (λ m. HasCode items m.code) l.methods

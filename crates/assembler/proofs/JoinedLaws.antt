@@ -49,7 +49,7 @@ used_there f narrow pc [] x h = cc
 used_there f narrow pc (Label l ∷ lines) x h = used_there f narrow pc lines x h
 used_there f narrow pc (Instruction i ∷ lines) x h =
     let rest = flat_map placed_items (placed_from f (pc + size_at pc (widened narrow i))
-          (map (widened_line narrow) lines)) in
+    (map (widened_line narrow) lines)) in
     elim (first i h) [
       | inl here ↦ among_left (instruction_items (with_targets f (widened narrow i))) rest x here
       | inr there ↦ among_right (instruction_items (with_targets f (widened narrow i))) rest x
@@ -92,7 +92,7 @@ body_there narrow (Some b) x h =
     let c = code_listing narrow b in
     among_right (text_item (codes "Code") ∷ []) (flat_map placed_items c.instructions ++ flat_map row_items c.rows) x
     (among_left (flat_map placed_items c.instructions) (flat_map row_items c.rows) x
-        (used_there (pc_of 0 lines) narrow 0 b.lines x h))
+    (used_there (pc_of 0 lines) narrow 0 b.lines x h))
 
 pub ints_append : (xs ys : List ℤ) → map int_item (xs ++ ys) ≡ map int_item xs ++ map int_item ys
 ints_append [] ys = refl
@@ -104,7 +104,7 @@ methods_there narrow [] x h = cc
 methods_there narrow (m ∷ ms) x h =
     let rest = flat_map method_items (map (method_listing narrow) ms) in
     elim (among_cases (map int_item (used_in_body m.body)) (map int_item (used_in_methods ms)) x
-        (rw (ints_append (used_in_body m.body) (used_in_methods ms)) at h)) [
+    (rw (ints_append (used_in_body m.body) (used_in_methods ms)) at h)) [
       | inl here ↦ among_left (method_items (method_listing narrow m)) rest x
           (among_right (text_item m.name ∷ text_item m.descriptor ∷ [])
           (code_items (option_map (code_listing narrow) m.body)) x (body_there narrow m.body x here))
@@ -123,7 +123,7 @@ ints_there t =
     among_right (class_items l.name) (class_items l.superclass ++ (interfaces ++ (fields ++ methods))) x
     (among_right (class_items l.superclass) (interfaces ++ (fields ++ methods)) x
     (among_right interfaces (fields ++ methods) x
-        (among_right fields methods x (methods_there (narrow_numbers t.methods) t.methods x h)))))
+    (among_right fields methods x (methods_there (narrow_numbers t.methods) t.methods x h)))))
 
 -- ---- a tree that has a class file can be assembled
 
@@ -153,7 +153,7 @@ it_assembles t right short pool =
     let same = listing_count (used_in_methods t.methods) l (ints_there t) in
     let fits = pool.fits in
     rw (all_right l.methods right three.1, one.0, one.1, two.1, le-leb (pool_size l) 65535 (omega (arith, same, fits)))
-        refl
+    refl
 
 -- ---- the listing of the class file
 
@@ -174,13 +174,13 @@ pub listed_again : (t : Tree) → IsPool (with_items [] (tree_items t)) → (lis
 listed_again t pool small h =
     let l = listing_of t in
     class_listed (with_items [] (tree_items t)) (file_flags l.flags) l pool.closed
-        (listing_there (used_in_methods t.methods) l) (flags_kept l.flags small h)
+    (listing_there (used_in_methods t.methods) l) (flags_kept l.flags small h)
 
 pub joined : (file : ClassPart) (items : List Item) (a : ClassPart) (t : Tree) → items ≡ with_items [] (tree_items t)
     → a ≡ assembled_tree t → list_all method_is_right (listing_of t).methods ≡ true → has_short_lists (listing_of t)
     ≡ true
     → has (listing_of t).flags.0 0x0020 ≡ false → (listing_of t).flags.0 < 2 ^ 16 → file ≡ a → IsPool items
-        → (file_listing file ≡ listing_of t) × (assembles t ≡ true)
+    → (file_listing file ≡ listing_of t) × (assembles t ≡ true)
 unfolding assembled_tree
 joined file items a t e same right short super small is pools =
     let pool = subst IsPool e pools in

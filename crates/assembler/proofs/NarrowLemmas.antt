@@ -35,8 +35,10 @@ others noted z = not (is_among noted z)
 
 among_push : (noted : List ℤ) (z y : ℤ) → is_among (noted ++ z ∷ []) y ≡ (is_among noted y || int_eq z y)
 among_push [] z y = elim (bool_tells (int_eq z y)) [ inl t ↦ rw t refl | inr f ↦ rw f refl ]
-among_push (n ∷ noted) z y = elim (bool_tells (int_eq n y)) [ inl t ↦ rw t refl |
-    inr f ↦ rw (f, among_push noted z y) refl ]
+among_push (n ∷ noted) z y = elim (bool_tells (int_eq n y)) [
+  | inl t ↦ rw t refl
+  | inr f ↦ rw (f, among_push noted z y) refl
+]
 
 not_or : (a b : Bool) → not (a || b) ≡ (not b && not a)
 not_or true true = refl
@@ -87,7 +89,7 @@ unfolding others
 new_rest noted z zs h =
     kept (others noted) z (filter (λ y. not (int_eq z y)) (different zs)) (rw h refl)
     ∙ ap (λ ys. z ∷ ys) (filter_twice (others noted) (λ y. not (int_eq z y)) (others (noted ++ z ∷ [])) (different zs)
-        (λ y. ap not (among_push noted z y) ∙ not_or (is_among noted y) (int_eq z y)))
+    (λ y. ap not (among_push noted z y) ∙ not_or (is_among noted y) (int_eq z y)))
 
 -- a number that is noted
 pub noted_new : (noted : List ℤ) (z : ℤ) (zs : List ℤ) → is_among noted z ≡ false → numbers_with noted (z ∷ zs)

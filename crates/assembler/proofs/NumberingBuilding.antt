@@ -37,13 +37,13 @@ text_still items more text h = number_left 1 items more (text_item text)
 reference_still : (make : ℕ → ℕ → Entry) (items more : List Item) (m : Member)
     → are_items_of items (class_item m.class ∷ name_item m.name m.descriptor ∷ []) ≡ true
     → make (number_of (items ++ more) (class_item m.class)) (number_of (items ++ more) (name_item m.name m.descriptor))
-        ≡ make (number_of items (class_item m.class)) (number_of items (name_item m.name m.descriptor))
+    ≡ make (number_of items (class_item m.class)) (number_of items (name_item m.name m.descriptor))
 reference_still make items more m h =
     let parts = reference_parts items m h in
     ap (λ k. make k (number_of (items ++ more) (name_item m.name m.descriptor)))
-        (number_left 1 items more (class_item m.class) parts.0)
+    (number_left 1 items more (class_item m.class) parts.0)
     ∙ ap (make (number_of items (class_item m.class))) (number_left 1 items more (name_item m.name m.descriptor)
-        parts.1)
+    parts.1)
 
 entry_still : (items more : List Item) (x : Item) → are_items_of items (named_by x) ≡ true → entry_of (items ++ more) x
     ≡ entry_of items x
@@ -54,7 +54,7 @@ entry_still items more (class_item name) h = ap Class (text_still items more nam
 entry_still items more (name_item name descriptor) h =
     let both = and_parts (is_item_of items (text_item name)) (are_items_of items (text_item descriptor ∷ [])) h in
     ap (λ k. NameAndType k (number_of (items ++ more) (text_item descriptor)))
-        (number_left 1 items more (text_item name) both.0)
+    (number_left 1 items more (text_item name) both.0)
     ∙ ap (NameAndType (number_of items (text_item name))) (text_still items more descriptor both.1)
 entry_still items more (field_item m) h = reference_still Fieldref items more m h
 entry_still items more (method_item m) h = reference_still Methodref items more m h
@@ -66,9 +66,9 @@ entries_still : (items more xs : List Item) → AreClosed items
 entries_still items more [] closed each = refl
 entries_still items more (x ∷ xs) closed each =
     ap (λ e. e ∷ map (entry_of (items ++ more)) xs)
-        (entry_still items more x (named_are items x closed (each x (among_first x xs))))
+    (entry_still items more x (named_are items x closed (each x (among_first x xs))))
     ∙ ap (λ es. entry_of items x ∷ es)
-        (entries_still items more xs closed (λ y h. each y (or_right (is_same_item y x) (is_item_of xs y) h)))
+    (entries_still items more xs closed (λ y h. each y (or_right (is_same_item y x) (is_item_of xs y) h)))
 
 entries_grow : (items : List Item) (x : Item) → AreClosed items → are_items_of items (named_by x) ≡ true
     → entries_of (items ++ x ∷ []) ≡ entries_of items ++ entry_of items x ∷ []
@@ -99,7 +99,7 @@ among_entries items (y ∷ xs) x h = elim (or_cases (is_same_item x y) (is_item_
   | inl s ↦ or_left (is_same (entry_of items x) (entry_of items y))
       (is_among (entry_of items x) (map (entry_of items) xs))
       (ap (λ (z : Item). is_same (entry_of items x) (entry_of items z)) (sym (same_item_is x y s))
-          ∙ equal_self (entry_of items x))
+      ∙ equal_self (entry_of items x))
   | inr r ↦ or_right (is_same (entry_of items x) (entry_of items y))
       (is_among (entry_of items x) (map (entry_of items) xs)) (among_entries items xs x r)
 ]
@@ -107,8 +107,7 @@ among_entries items (y ∷ xs) x h = elim (or_cases (is_same_item x y) (is_item_
 among_items : (items xs : List Item) (e : Entry) → is_among e (map (entry_of items) xs) ≡ true → (y : Item)
     × (is_item_of xs y ≡ true) × (e ≡ entry_of items y)
 among_items items [] e h = absurd (true≢false (sym h))
-among_items items (y ∷ xs) e h = elim (or_cases (is_same e (entry_of items y)) (is_among e (map (entry_of items) xs)) h)
-    [
+among_items items (y ∷ xs) e h = elim (or_cases (is_same e (entry_of items y)) (is_among e (map (entry_of items) xs)) h) [
   | inl s ↦ (y, among_first y xs, equal_is e (entry_of items y) s)
   | inr r ↦
       let rest = among_items items xs e r in
@@ -124,9 +123,9 @@ added_is items x closed named = elim (cases_Bool (is_item_of items x)) [
   | inr f ↦
       let new : is_among (entry_of items x) (entries_of items) ≡ false =
       false_from_ne_true (is_among (entry_of items x) (entries_of items))
-          (λ a. not_there f (among_items items items (entry_of items x) a)) in
+      (λ a. not_there f (among_items items items (entry_of items x) a)) in
       entry_new (entry_of items x) (entries_of items) new ∙ sym (entries_grow items x closed named)
-          ∙ ap entries_of (sym (item_new items x f))
+      ∙ ap entries_of (sym (item_new items x f))
 ]
   where
     entry_known : (e : Entry) (es : List Entry) → is_among e es ≡ true → added es e ≡ es
@@ -167,7 +166,7 @@ grown entries more items e held of are room =
     let x = said items e in
     let added_are : added entries e ≡ entries_of (with_item items x) =
     ap (λ es. added es e) held.0 ∙ ap (added (entries_of items)) of.entry_is ∙ added_is items x held.1.closed of.named
-        in (
+    in (
       are ∙ added_are,
       record {
         closed = closed_grows items x held.1.closed of.named;
@@ -204,19 +203,21 @@ number_is more items e n of held at =
     let u = item_under all n e (closed_are_different all closed) (ap (λ es. entry_at es n) (sym held.0) ∙ at) in
     let same : x ≡ u.0 =
     one_entry all x u.0 closed (named_are all x closed (with_item_has items x)) (named_are all u.0 closed u.2)
-        (entry_with items x x of.named ∙ sym of.entry_is ∙ u.1) in
+    (entry_with items x x of.named ∙ sym of.entry_is ∙ u.1) in
     sym u.3 ∙ ap (number_of all) (sym same)
 
 -- what adding an entry comes to
 pub entry_added : (entries more : List Entry) (items : List Item) (e : Entry) (n : ℕ) → Holds entries items
     → IsEntry items e → more ≡ added entries e → (2 ^ 16 ≤ pool_count (added entries e) → ⊥) → entry_at more n ≡ Some e
     → (items_of more ≡ with_item items (said items e)) × (n ≡ number_of (items_of more) (said items e))
-        × Holds more (items_of more)
+    × Holds more (items_of more)
 entry_added entries more items e n held of are room at =
     let all = grown entries more items e held of are room in
-    let view : items_of more ≡ with_item items (said items e) = seen more (with_item items (said items e)) all in
-    (view, number_is more items e n of all at ∙ ap (λ xs. number_of xs (said items e)) (sym view),
-        still_held more (with_item items (said items e)) all)
+    let view : items_of more ≡ with_item items (said items e) = seen more (with_item items (said items e)) all in (
+      view,
+      number_is more items e n of all at ∙ ap (λ xs. number_of xs (said items e)) (sym view),
+      still_held more (with_item items (said items e)) all,
+    )
 
 pub count_added : (entries : List Entry) (items : List Item) (e : Entry) → Holds entries items → IsEntry items e
     → pool_count (added entries e) ≡ items_count (with_item items (said items e))
@@ -232,9 +233,9 @@ count_added entries items e held of =
 pub reported_added : (entries more : List Entry) (items : List Item) (e : Entry) (n : ℕ) (r : Result ℕ AddError)
     → items_of entries ≡ items → Holds entries (items_of entries) → IsEntry items e → r ≡ Ok n
     → (more ≡ added entries e) × (entry_at more n ≡ Some e)
-        → ((r ≡ Err error.Full) ↔ (2 ^ 16 ≤ pool_count (added entries e)))
+    → ((r ≡ Err error.Full) ↔ (2 ^ 16 ≤ pool_count (added entries e)))
     → (items_of more ≡ with_item items (said items e)) × (n ≡ number_of (items_of more) (said items e))
-        × Holds more (items_of more)
+    × Holds more (items_of more)
 reported_added entries more items e n r view held of ok are full =
     entry_added entries more items e n (subst (Holds entries) view held) of are.0 (room r ok full) are.1
   where
@@ -246,11 +247,11 @@ reported_added entries more items e n r view held of ok are full =
 pub reported_memory : (entries : List Entry) (items : List Item) (e : Entry) (r : Result ℕ AddError) (fault : AddError)
     → items_of entries ≡ items → Holds entries (items_of entries) → IsEntry items e → r ≡ Err fault
     → ((r ≡ Err error.Full) ↔ (2 ^ 16 ≤ pool_count (added entries e)))
-        → (2 ^ 16 ≤ items_count (with_item items (said items e)) → ⊥) → fault ≡ error.Memory
+    → (2 ^ 16 ≤ items_count (with_item items (said items e)) → ⊥) → fault ≡ error.Memory
 reported_memory entries items e r error.Memory view held of is full room = refl
 reported_memory entries items e r error.Full view held of is full room =
     absurd (room (subst (λ k. 2 ^ 16 ≤ k) (count_added entries items e (subst (Holds entries) view held) of)
-        (full.0 is)))
+    (full.0 is)))
 
 -- ---- what an entry says by the numbers that it has
 
@@ -281,15 +282,15 @@ pub class_entry : (before items : List Item) (name : List ℕ) (n : ℕ) → IsP
     → IsEntry items (Class n) × (said items (Class n) ≡ class_item name)
 class_entry before items name n pool h =
     made_entry before (text_item name ∷ []) items (Class n) (class_item name) pool (h []).0
-        (all_added before (text_item name ∷ [])) (ap Class (h []).1)
+    (all_added before (text_item name ∷ [])) (ap Class (h []).1)
 
 pub name_entry : (before items : List Item) (name descriptor : List ℕ) (m n : ℕ) → IsPool items
     → Stays {A = ℕ × ℕ} before (text_item name ∷ text_item descriptor ∷ []) items
-        (λ items. (number_of items (text_item name), number_of items (text_item descriptor))) (m, n)
+    (λ items. (number_of items (text_item name), number_of items (text_item descriptor))) (m, n)
     → IsEntry items (NameAndType m n) × (said items (NameAndType m n) ≡ name_item name descriptor)
 name_entry before items name descriptor m n pool h =
     made_entry before (text_item name ∷ text_item descriptor ∷ []) items (NameAndType m n) (name_item name descriptor)
-        pool (h []).0 (all_added before (text_item name ∷ text_item descriptor ∷ []))
+    pool (h []).0 (all_added before (text_item name ∷ text_item descriptor ∷ []))
     (ap (λ (p : ℕ × ℕ). NameAndType p.0 p.1) (h []).1)
 
 -- what a reference to a member names was added
@@ -299,13 +300,13 @@ pub references_there : (before : List Item) (m : Member)
 references_there before m =
     let items = with_items before (reference_items m) in
     let class = with_items_have before (reference_items m) (class_item m.class)
-          (or_left (is_same_item (class_item m.class) (class_item m.class)) _ (same_self (class_item m.class))) in
+    (or_left (is_same_item (class_item m.class) (class_item m.class)) _ (same_self (class_item m.class))) in
     let names =
     with_items_have before (reference_items m) (name_item m.name m.descriptor)
-        (or_left (is_same_item (name_item m.name m.descriptor) (name_item m.name m.descriptor)) false
-        (same_self (name_item m.name m.descriptor))) in
+    (or_left (is_same_item (name_item m.name m.descriptor) (name_item m.name m.descriptor)) false
+    (same_self (name_item m.name m.descriptor))) in
     and_from (is_item_of items (class_item m.class)) (are_items_of items (name_item m.name m.descriptor ∷ [])) class
-        (and_from (is_item_of items (name_item m.name m.descriptor)) true names refl)
+    (and_from (is_item_of items (name_item m.name m.descriptor)) true names refl)
 
 -- a reference's numbers
 abbrev pub ReportedReference : List Item → List Item → Member → ℕ → ℕ → Type 0
@@ -315,11 +316,11 @@ ReportedReference before items m class names = Stays {A = ℕ × ℕ} before (re
 reference_entry : (make : ℕ → ℕ → Entry) (before items : List Item) (m : Member) (x : Item) (class names : ℕ)
     → IsPool items → ReportedReference before items m class names
     → named_by x ≡ class_item m.class ∷ name_item m.name m.descriptor ∷ [] → entry_of items x
-        ≡ make (number_of items (class_item m.class)) (number_of items (name_item m.name m.descriptor))
+    ≡ make (number_of items (class_item m.class)) (number_of items (name_item m.name m.descriptor))
     → IsEntry items (make class names) × (said items (make class names) ≡ x)
 reference_entry make before items m x class names pool h named is =
     made_entry before (reference_items m) items (make class names) x pool (h []).0
-        (ap (are_items_of (with_items before (reference_items m))) named ∙ references_there before m)
+    (ap (are_items_of (with_items before (reference_items m))) named ∙ references_there before m)
     (ap (λ (p : ℕ × ℕ). make p.0 p.1) (h []).1 ∙ sym is)
 
 pub field_entry : (before items : List Item) (m : Member) (class names : ℕ) → IsPool items

@@ -25,13 +25,21 @@ pub code_listed : (items : List Item) (c : CodeListing) → AreClosed items → 
     ≡ true → listed_code (entries_of items) (assembled_code items c) ≡ c
 code_listed items c closed all =
     let parts = all_parts items (flat_map placed_items c.instructions) (flat_map row_items c.rows)
-          (all_parts items (text_item (codes "Code") ∷ []) (flat_map placed_items c.instructions
-          ++ flat_map row_items c.rows) all).1 in
-    ap (λ (rs : List ExceptionRow). record { max_stack = c.max_stack; max_locals = c.max_locals; rows = rs;
-        instructions = (listed_code (entries_of items) (assembled_code items c)).instructions })
-        (all_rows items c.rows closed parts.1)
-    ∙ ap (λ (ps : List Placed). record { max_stack = c.max_stack; max_locals = c.max_locals; rows = c.rows;
-        instructions = ps }) (all_placed items c.instructions closed parts.0)
+    (all_parts items (text_item (codes "Code") ∷ []) (flat_map placed_items c.instructions
+    ++ flat_map row_items c.rows) all).1 in
+    ap (λ (rs : List ExceptionRow). record {
+      max_stack = c.max_stack;
+      max_locals = c.max_locals;
+      rows = rs;
+      instructions = (listed_code (entries_of items) (assembled_code items c)).instructions;
+    })
+    (all_rows items c.rows closed parts.1)
+    ∙ ap (λ (ps : List Placed). record {
+      max_stack = c.max_stack;
+      max_locals = c.max_locals;
+      rows = c.rows;
+      instructions = ps;
+    }) (all_placed items c.instructions closed parts.0)
 
 body_listed : (items : List Item) (code : Option CodeListing) → AreClosed items → are_items_of items (code_items code)
     ≡ true → option_map (listed_code (entries_of items)) (option_map (assembled_code items) code) ≡ code
@@ -44,13 +52,17 @@ method_listed items m closed all =
     let first = all_parts items (text_item m.name ∷ []) (text_item m.descriptor ∷ code_items m.code) all in
     let second = all_parts items (text_item m.descriptor ∷ []) (code_items m.code) first.1 in
     let body = option_map (listed_code (entries_of items)) (option_map (assembled_code items) m.code) in
-    ap (λ (n : List ℕ). record { flags = m.flags; name = n;
-        descriptor = name_at (entries_of items) (number_of items (text_item m.descriptor)); code = body })
-        (text_named items m.name (only_there items (text_item m.name) first.0))
+    ap (λ (n : List ℕ). record {
+      flags = m.flags;
+      name = n;
+      descriptor = name_at (entries_of items) (number_of items (text_item m.descriptor));
+      code = body;
+    })
+    (text_named items m.name (only_there items (text_item m.name) first.0))
     ∙ ap (λ (d : List ℕ). record { flags = m.flags; name = m.name; descriptor = d; code = body })
-        (text_named items m.descriptor (only_there items (text_item m.descriptor) second.0))
+    (text_named items m.descriptor (only_there items (text_item m.descriptor) second.0))
     ∙ ap (λ (c : Option CodeListing). record { flags = m.flags; name = m.name; descriptor = m.descriptor; code = c })
-        (body_listed items m.code closed second.1)
+    (body_listed items m.code closed second.1)
 
 pub all_methods : (items : List Item) (ms : List Method) → AreClosed items
     → are_items_of items (flat_map method_items ms) ≡ true
@@ -72,7 +84,7 @@ unfolding listing_items
 listing_parts items l all =
     let members = flat_map field_items l.fields ++ flat_map method_items l.methods in
     let a = all_parts items (class_items l.name) (class_items l.superclass
-          ++ (flat_map class_items l.interfaces ++ members)) all in
+    ++ (flat_map class_items l.interfaces ++ members)) all in
     let b = all_parts items (class_items l.superclass) (flat_map class_items l.interfaces ++ members) a.1 in
     let c = all_parts items (flat_map class_items l.interfaces) members b.1 in
     let d = all_parts items (flat_map field_items l.fields) (flat_map method_items l.methods) c.1 in
@@ -92,16 +104,52 @@ class_listed items flags l closed all kept =
     let fields = map (listed_field pool) (map (numbered_field items) l.fields) in
     let methods = map (listed_method pool) (map (assembled_method items) l.methods) in
     let superclass = class_at pool (number_of items (class_item l.superclass)) in
-    ap (λ (n : List ℕ). record { name = n; flags = listed_flags flags; superclass = superclass; interfaces = interfaces;
-        fields = fields; methods = methods }) (class_named items l.name closed (class_there items l.name parts.name))
-    ∙ ap (λ (f : ClassFlags). record { name = l.name; flags = f; superclass = superclass; interfaces = interfaces;
-        fields = fields; methods = methods }) kept
-    ∙ ap (λ (n : List ℕ). record { name = l.name; flags = l.flags; superclass = n; interfaces = interfaces;
-        fields = fields; methods = methods })
-        (class_named items l.superclass closed (class_there items l.superclass parts.superclass))
-    ∙ ap (λ (ns : List (List ℕ)). record { name = l.name; flags = l.flags; superclass = l.superclass; interfaces = ns;
-        fields = fields; methods = methods }) (all_classes items l.interfaces closed parts.interfaces)
-    ∙ ap (λ (fs : List Field). record { name = l.name; flags = l.flags; superclass = l.superclass;
-        interfaces = l.interfaces; fields = fs; methods = methods }) (all_fields items l.fields closed parts.fields)
-    ∙ ap (λ (ms : List Method). record { name = l.name; flags = l.flags; superclass = l.superclass;
-        interfaces = l.interfaces; fields = l.fields; methods = ms }) (all_methods items l.methods closed parts.methods)
+    ap (λ (n : List ℕ). record {
+      name = n;
+      flags = listed_flags flags;
+      superclass = superclass;
+      interfaces = interfaces;
+      fields = fields;
+      methods = methods;
+    }) (class_named items l.name closed (class_there items l.name parts.name))
+    ∙ ap (λ (f : ClassFlags). record {
+      name = l.name;
+      flags = f;
+      superclass = superclass;
+      interfaces = interfaces;
+      fields = fields;
+      methods = methods;
+    }) kept
+    ∙ ap (λ (n : List ℕ). record {
+      name = l.name;
+      flags = l.flags;
+      superclass = n;
+      interfaces = interfaces;
+      fields = fields;
+      methods = methods;
+    })
+    (class_named items l.superclass closed (class_there items l.superclass parts.superclass))
+    ∙ ap (λ (ns : List (List ℕ)). record {
+      name = l.name;
+      flags = l.flags;
+      superclass = l.superclass;
+      interfaces = ns;
+      fields = fields;
+      methods = methods;
+    }) (all_classes items l.interfaces closed parts.interfaces)
+    ∙ ap (λ (fs : List Field). record {
+      name = l.name;
+      flags = l.flags;
+      superclass = l.superclass;
+      interfaces = l.interfaces;
+      fields = fs;
+      methods = methods;
+    }) (all_fields items l.fields closed parts.fields)
+    ∙ ap (λ (ms : List Method). record {
+      name = l.name;
+      flags = l.flags;
+      superclass = l.superclass;
+      interfaces = l.interfaces;
+      fields = l.fields;
+      methods = ms;
+    }) (all_methods items l.methods closed parts.methods)

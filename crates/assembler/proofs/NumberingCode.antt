@@ -77,7 +77,7 @@ key_below a b h = grind (arith, ints)
 rising_from : (key : ℤ) (ps : List (ℤ × ℕ)) → rise_from key ps ≡ true → AreRisingFrom key ps
 rising_from key [] h = tt
 rising_from key (p ∷ ps) h = let q = and_parts (lt_z key p.0) (rise_from p.0 ps) h
-                                   in (key_below key p.0 q.0, rising_from p.0 ps q.1)
+    in (key_below key p.0 q.0, rising_from p.0 ps q.1)
 
 rising : (ps : List (ℤ × ℕ)) → keys_rise ps ≡ true → AreRising ps
 rising [] h = tt
@@ -88,8 +88,12 @@ lookup_fits : (pc : ℕ) (s : Lookup ℕ) → pc ≤ 65535 → length s.pairs �
     → LookupFits pc s
 lookup_fits pc s low few all h agrees =
     let parts = low_parts (map (λ p. p.1) s.pairs) s.default all in
-    record { few = omega (arith, few); default = way_fits pc s.default low parts.1;
-        pairs = pairs_fit pc s.pairs low parts.0 h; rising = rising s.pairs agrees }
+    record {
+      few = omega (arith, few);
+      default = way_fits pc s.default low parts.1;
+      pairs = pairs_fit pc s.pairs low parts.0 h;
+      rising = rising s.pairs agrees;
+    }
 
 -- ---- an instruction
 
@@ -143,7 +147,7 @@ low_goals : (of : List Placed) (ns : List ℕ) → ((n : ℕ) → is_pc of n ≡
     → AreLow ns
 low_goals of [] below h = tt
 low_goals of (n ∷ ns) below h = let p = and_parts (is_pc of n) (list_all (is_pc of) ns) h
-                                      in (below n p.0, low_goals of ns below p.1)
+    in (below n p.0, low_goals of ns below p.1)
 
 end_after : (pc : ℕ) (ps : List Placed) → stand_from pc ps ≡ true → pc ≤ end_from pc ps
 end_after pc [] h = omega arith
@@ -157,7 +161,7 @@ stands : (items : List Item) (of : List Placed) (pc : ℕ) (ps : List Placed) �
     → ((n : ℕ) → is_pc of n ≡ true → n ≤ 65535) → stand_from pc ps ≡ true → end_from pc ps ≤ 65535
     → AllByRecursion (IsReady items of) ps
     → StandFrom pc (map (numbered_placed items) ps) (code_bytes (map (numbered_placed items) ps))
-        × (pc + length (code_bytes (map (numbered_placed items) ps)) ≡ end_from pc ps)
+    × (pc + length (code_bytes (map (numbered_placed items) ps)) ≡ end_from pc ps)
 stands items of pc [] pool below h end all = (refl, omega arith)
 stands items of pc (p ∷ ps) pool below h end all =
     let a = and_parts _ (stand_from p.next ps) h in
@@ -189,14 +193,17 @@ stands items of pc (p ∷ ps) pool below h end all =
 
 a_pc : (items : List Item) (of : List Placed) (n : ℕ) → is_pc of n ≡ true → IsPc (map (numbered_placed items) of) n
 a_pc items [] n h = absurd (false≢true h)
-a_pc items (p ∷ of) n h = elim (or_cases (p.pc == n) (is_pc of n) h) [ inl e ↦ inl (eqb-true p.pc n e) | inr r ↦
-    inr (a_pc items of n r) ]
+a_pc items (p ∷ of) n h = elim (or_cases (p.pc == n) (is_pc of n) h) [
+  | inl e ↦ inl (eqb-true p.pc n e)
+  | inr r ↦
+      inr (a_pc items of n r)
+]
 
 pcs : (items : List Item) (of : List Placed) (ns : List ℕ) → list_all (is_pc of) ns ≡ true
     → AllByRecursion (IsPc (map (numbered_placed items) of)) ns
 pcs items of [] h = tt
 pcs items of (n ∷ ns) h = let p = and_parts (is_pc of n) (list_all (is_pc of) ns) h
-                                in (a_pc items of n p.0, pcs items of ns p.1)
+    in (a_pc items of n p.0, pcs items of ns p.1)
 
 last_first : (test : ℕ → Bool) (ns : List ℕ) (n : ℕ) → list_all test (ns ++ n ∷ []) ≡ true → list_all test (n ∷ ns)
     ≡ true
@@ -238,5 +245,9 @@ pub code_is_code : (items : List Item) (ps : List Placed) → IsPool items → (
     → IsCode (code_bytes (map (numbered_placed items) ps)) (map (numbered_placed items) ps)
 code_is_code items ps pool below stand some end all =
     let s = stands items ps 0 ps pool below stand end all in
-    record { stand = s.0; some = omega (arith, s.1, some); few = omega (arith, s.1, end);
-        land = all_land items ps ps all }
+    record {
+      stand = s.0;
+      some = omega (arith, s.1, some);
+      few = omega (arith, s.1, end);
+      land = all_land items ps ps all;
+    }

@@ -56,9 +56,9 @@ after_goes : (xs : List Item) (x : Item) → GoAfter xs → ((y : Item) → is_i
     ≡ true) → GoAfter (xs ++ x ∷ [])
 after_goes xs x go named items closed =
     let there : are_items_of (with_items items xs) (named_by x) ≡ true = all_from (with_items items xs) (named_by x)
-          (λ y h. with_items_have items xs y (named y h)) in
+    (λ y h. with_items_have items xs y (named y h)) in
     subst AreClosed (sym (with_items-append items xs (x ∷ []))) (closed_grows (with_items items xs) x (go items closed)
-        there)
+    there)
 
 all_go : {A : Type 0} (f : A → List Item) (xs : List A) → ((x : A) → GoAfter (f x)) → GoAfter (flat_map f xs)
 all_go f [] each = none_go
@@ -79,7 +79,7 @@ class_goes name = after_goes (text_item name ∷ []) (class_item name) (text_goe
 pub name_goes : (name descriptor : List ℕ) → GoAfter (name_items name descriptor)
 name_goes name descriptor =
     after_goes (text_item name ∷ text_item descriptor ∷ []) (name_item name descriptor)
-        (both_go (text_item name ∷ []) (text_item descriptor ∷ []) (text_goes name) (text_goes descriptor)) (λ y h. h)
+    (both_go (text_item name ∷ []) (text_item descriptor ∷ []) (text_goes name) (text_goes descriptor)) (λ y h. h)
 
 -- what a reference names is there
 reference_named : (x : Item) (m : Member) → named_by x ≡ class_item m.class ∷ name_item m.name m.descriptor ∷ []
@@ -87,7 +87,7 @@ reference_named : (x : Item) (m : Member) → named_by x ≡ class_item m.class 
     y ≡ true
 reference_named x m is y h =
     elim (or_cases (is_same_item y (class_item m.class)) (is_item_of (name_item m.name m.descriptor ∷ []) y)
-        (sym (ap (λ xs. is_item_of xs y) is) ∙ h)) [
+    (sym (ap (λ xs. is_item_of xs y) is) ∙ h)) [
       | inl c ↦ among_left (class_items m.class) (name_items m.name m.descriptor) y
           (among_right (text_item m.class ∷ []) (class_item m.class ∷ []) y
           (or_left (is_same_item y (class_item m.class)) false c))
@@ -99,8 +99,8 @@ pub member_goes : (x : Item) (m : Member) → named_by x ≡ class_item m.class 
     → GoAfter (member_items x m)
 member_goes x m is =
     after_goes (class_items m.class ++ name_items m.name m.descriptor) x
-        (both_go (class_items m.class) (name_items m.name m.descriptor) (class_goes m.class)
-        (name_goes m.name m.descriptor)) (reference_named x m is)
+    (both_go (class_items m.class) (name_items m.name m.descriptor) (class_goes m.class)
+    (name_goes m.name m.descriptor)) (reference_named x m is)
 
 constant_goes : (c : Pushed ℤ ℤ) → GoAfter (constant_items c)
 constant_goes pushed.Null = none_go
@@ -150,15 +150,15 @@ code_goes : (code : Option CodeListing) → GoAfter (code_items code)
 code_goes None = none_go
 code_goes (Some c) =
     both_go (text_item (codes "Code") ∷ []) (flat_map placed_items c.instructions ++ flat_map row_items c.rows)
-        (text_goes (codes "Code"))
+    (text_goes (codes "Code"))
     (both_go (flat_map placed_items c.instructions) (flat_map row_items c.rows)
-        (all_go placed_items c.instructions (λ p. instruction_goes p.instruction))
-        (all_go row_items c.rows (λ r. row_goes r.class)))
+    (all_go placed_items c.instructions (λ p. instruction_goes p.instruction))
+    (all_go row_items c.rows (λ r. row_goes r.class)))
 
 method_goes : (m : Method) → GoAfter (method_items m)
 method_goes m =
     both_go (text_item m.name ∷ []) (text_item m.descriptor ∷ code_items m.code) (text_goes m.name)
-        (both_go (text_item m.descriptor ∷ []) (code_items m.code) (text_goes m.descriptor) (code_goes m.code))
+    (both_go (text_item m.descriptor ∷ []) (code_items m.code) (text_goes m.descriptor) (code_goes m.code))
 
 value_goes : (value : Option Constant) → GoAfter (value_items value)
 value_goes None = none_go
@@ -170,21 +170,21 @@ value_goes (Some (constant.Long z)) = both_go (text_item (codes "ConstantValue")
 field_goes : (f : Field) → GoAfter (field_items f)
 field_goes f =
     both_go (text_item f.name ∷ []) (text_item f.descriptor ∷ value_items f.constant) (text_goes f.name)
-        (both_go (text_item f.descriptor ∷ []) (value_items f.constant) (text_goes f.descriptor)
-        (value_goes f.constant))
+    (both_go (text_item f.descriptor ∷ []) (value_items f.constant) (text_goes f.descriptor)
+    (value_goes f.constant))
 
 pub listing_goes : (l : ClassListing) → GoAfter (listing_items l)
 unfolding listing_items
 listing_goes l =
     let members = flat_map field_items l.fields ++ flat_map method_items l.methods in
     let members_go = both_go (flat_map field_items l.fields) (flat_map method_items l.methods)
-          (all_go field_items l.fields field_goes) (all_go method_items l.methods method_goes) in
+    (all_go field_items l.fields field_goes) (all_go method_items l.methods method_goes) in
     let classes_go = both_go (flat_map class_items l.interfaces) members (all_go class_items l.interfaces class_goes)
-          members_go in
+    members_go in
     both_go (class_items l.name) (class_items l.superclass ++ (flat_map class_items l.interfaces ++ members))
-        (class_goes l.name)
+    (class_goes l.name)
     (both_go (class_items l.superclass) (flat_map class_items l.interfaces ++ members) (class_goes l.superclass)
-        classes_go)
+    classes_go)
 
 pub ints_go : (zs : List ℤ) → GoAfter (map int_item zs)
 ints_go [] = none_go
@@ -194,8 +194,11 @@ ints_go (z ∷ zs) = both_go (int_item z ∷ []) (map int_item zs) (int_goes z) 
 pub listing_pool : (zs : List ℤ) (l : ClassListing)
     → items_count (with_items [] (map int_item zs ++ listing_items l)) < 2 ^ 16
     → IsPool (with_items [] (map int_item zs ++ listing_items l))
-listing_pool zs l fits = record { closed = both_go (map int_item zs) (listing_items l) (ints_go zs) (listing_goes l) []
-    tt; fits = fits }
+listing_pool zs l fits = record {
+  closed = both_go (map int_item zs) (listing_items l) (ints_go zs) (listing_goes l) []
+      tt;
+  fits = fits;
+}
 
 -- ---- a pool's count hangs on its members alone
 
@@ -206,8 +209,10 @@ different_push (y ∷ items) x different new =
     let parts = or_parts (is_same_item x y) (is_item_of items x) new in (
       false_from_ne_true (is_item_of (items ++ x ∷ []) y) (λ h. elim (among_cases items (x ∷ []) y h) [
         | inl a ↦ true≢false (sym a ∙ different.0)
-        | inr b ↦ elim (or_cases (is_same_item y x) false b) [ inl s ↦ true≢false (sym s ∙ same_turned x y parts.0) |
-            inr n ↦ true≢false (sym n) ]
+        | inr b ↦ elim (or_cases (is_same_item y x) false b) [
+          | inl s ↦ true≢false (sym s ∙ same_turned x y parts.0)
+          | inr n ↦ true≢false (sym n)
+        ]
       ]),
       different_push items x different.1 parts.1,
     )
@@ -245,21 +250,24 @@ sum_without x (y ∷ ys) h = elim (cases_Bool (is_same_item x y)) [
       omega (arith, same, sum_by-cons numbers_taken y ys, ap (sum_by numbers_taken) (without_here x y ys t))
   | inr f ↦
       let rest = sum_without x ys (rw f at h) in
-      omega (arith, sum_by-cons numbers_taken y ys, sum_by-cons numbers_taken y (without x ys), rest,
-          ap (sum_by numbers_taken) (without_there x y ys f))
+      omega (
+        arith,
+        sum_by-cons numbers_taken y ys,
+        sum_by-cons numbers_taken y (without x ys),
+        rest,
+        ap (sum_by numbers_taken) (without_there x y ys f),
+      )
 ]
 
 still_without : (x : Item) (ys : List Item) (z : Item) → is_item_of ys z ≡ true → is_same_item z x ≡ false
     → is_item_of (without x ys) z ≡ true
 still_without x [] z h other = absurd (true≢false (sym h))
 still_without x (y ∷ ys) z h other = elim (cases_Bool (is_same_item x y)) [
-  | inl t ↦ ap (λ zs. is_item_of zs z) (without_here x y ys t) ∙ elim (or_cases (is_same_item z y) (is_item_of ys z) h)
-      [
+  | inl t ↦ ap (λ zs. is_item_of zs z) (without_here x y ys t) ∙ elim (or_cases (is_same_item z y) (is_item_of ys z) h) [
     | inl s ↦ absurd (true≢false (sym s ∙ ap (is_same_item z) (sym (same_is x y t)) ∙ other))
     | inr r ↦ r
   ]
-  | inr f ↦ ap (λ zs. is_item_of zs z) (without_there x y ys f) ∙ elim (or_cases (is_same_item z y) (is_item_of ys z) h)
-      [
+  | inr f ↦ ap (λ zs. is_item_of zs z) (without_there x y ys f) ∙ elim (or_cases (is_same_item z y) (is_item_of ys z) h) [
     | inl s ↦ or_left (is_same_item z y) (is_item_of (without x ys) z) s
     | inr r ↦ or_right (is_same_item z y) (is_item_of (without x ys) z) (still_without x ys z r other)
   ]
@@ -272,9 +280,9 @@ sum_is_less [] ys different each = omega arith
 sum_is_less (x ∷ xs) ys different each =
     let other : (z : Item) → is_item_of xs z ≡ true → is_same_item z x ≡ false =
     λ z h. false_from_ne_true (is_same_item z x) (λ s. true≢false (sym h ∙ ap (is_item_of xs) (same_is z x s)
-        ∙ different.0)) in
+    ∙ different.0)) in
     let rest = sum_is_less xs (without x ys) different.1
-          (λ z h. still_without x ys z (each z (or_right (is_same_item z x) (is_item_of xs z) h)) (other z h)) in
+    (λ z h. still_without x ys z (each z (or_right (is_same_item z x) (is_item_of xs z) h)) (other z h)) in
     omega (arith, rest, sum_without x ys (each x (among_first x xs)), sum_by-cons numbers_taken x xs)
 
 none_before : (xs : List Item) (x : Item) → is_item_of (with_items [] xs) x ≡ true → is_item_of xs x ≡ true
@@ -283,8 +291,11 @@ none_before xs x h = elim (with_items_only [] xs x h) [ inl n ↦ absurd (true�
 pub count_is_less : (xs ys : List Item) → are_items_of ys xs ≡ true
     → items_count (with_items [] xs) ≤ items_count (with_items [] ys)
 count_is_less xs ys all =
-    omega (arith, sum_is_less (with_items [] xs) (with_items [] ys) (with_items_different [] xs tt)
-        (λ x h. with_items_have [] ys x (one_of ys xs x all (none_before xs x h))))
+    omega (
+      arith,
+      sum_is_less (with_items [] xs) (with_items [] ys) (with_items_different [] xs tt)
+          (λ x h. with_items_have [] ys x (one_of ys xs x all (none_before xs x h))),
+    )
 
 pub same_count : (xs ys : List Item) → are_items_of ys xs ≡ true → are_items_of xs ys ≡ true
     → items_count (with_items [] xs) ≡ items_count (with_items [] ys)
@@ -309,7 +320,7 @@ pub listing_there : (zs : List ℤ) (l : ClassListing) → are_items_of (with_it
     (listing_items l) ≡ true
 listing_there zs l =
     all_from (with_items [] (map int_item zs ++ listing_items l)) (listing_items l) (λ x h. with_items_have [] (map
-        int_item zs ++ listing_items l) x (among_right (map int_item zs) (listing_items l) x h))
+    int_item zs ++ listing_items l) x (among_right (map int_item zs) (listing_items l) x h))
 
 -- ---- small numbers
 
@@ -320,8 +331,12 @@ number_below n (y ∷ xs) x h = elim (cases_Bool (is_same_item x y)) [
   | inl t ↦
       let same : numbers_taken y ≡ numbers_taken x = ap (λ (z : Item). numbers_taken z) (sym (same_is x y t)) in
       omega (arith, number_here n y x xs t, same, sum_by-cons numbers_taken y xs)
-  | inr f ↦ omega (arith, number_after n y x xs f, number_below (n + numbers_taken y) xs x (rw f at h),
-      sum_by-cons numbers_taken y xs)
+  | inr f ↦ omega (
+    arith,
+    number_after n y x xs f,
+    number_below (n + numbers_taken y) xs x (rw f at h),
+    sum_by-cons numbers_taken y xs,
+  )
 ]
 
 takes_one : (x : Item) → 1 ≤ numbers_taken x
@@ -345,8 +360,12 @@ number_fits items x pool h = omega (arith, number_under_count items x h, pool.fi
 count_one : (items : List Item) (x : Item) → items_count (with_item items x) ≤ items_count items + numbers_taken x
 count_one items x = elim (cases_Bool (is_item_of items x)) [
   | inl t ↦ omega (arith, ap items_count (item_known items x t))
-  | inr f ↦ omega (arith, ap items_count (item_new items x f), sum_by-append numbers_taken items (x ∷ []),
-      sum_by-cons numbers_taken x [])
+  | inr f ↦ omega (
+    arith,
+    ap items_count (item_new items x f),
+    sum_by-append numbers_taken items (x ∷ []),
+    sum_by-cons numbers_taken x [],
+  )
 ]
 
 count_ints : (items : List Item) (zs : List ℤ) → items_count (with_items items (map int_item zs)) ≤ items_count
@@ -362,7 +381,7 @@ int_number zs xs z h =
     let there : is_item_of ints (int_item z) ≡ true = with_items_have [] (map int_item zs) (int_item z) h in
     let same : number_of (with_items [] (map int_item zs ++ xs)) (int_item z) ≡ number_of ints (int_item z) =
     ap (λ items. number_of items (int_item z)) (with_items-append [] (map int_item zs) xs) ∙ still_numbers
-        ints xs (int_item z) there in
+    ints xs (int_item z) there in
     omega (arith, same, number_under_count ints (int_item z) there, count_ints [] zs)
 
 -- ---- the numbers of different ints
@@ -371,7 +390,7 @@ not_before : (xs ys : List Item) (y : Item) → AreDifferent (xs ++ y ∷ ys) �
 not_before [] ys y different = refl
 not_before (x ∷ xs) ys y different =
     let apart : is_same_item x y ≡ false = (or_parts (is_same_item x y) (is_item_of ys x) (or_after xs different.0)).0
-          in
+    in
     or_from (is_same_item y x) (is_item_of xs y) (same_turned x y apart) (not_before xs ys y different.1)
   where
     or_after : (zs : List Item) → is_item_of (zs ++ y ∷ ys) x ≡ false → is_item_of (y ∷ ys) x ≡ false
@@ -390,10 +409,12 @@ number_past : (n : ℕ) (xs ys : List Item) (y : Item) → is_item_of xs y ≡ f
 number_past n [] ys y h = ap (λ k. number_from k ys y) (omega arith)
 number_past n (x ∷ xs) ys y h =
     let parts = or_parts (is_same_item y x) (is_item_of xs y) h in
-    let sums : n + numbers_taken x + sum_by numbers_taken xs ≡ n + sum_by numbers_taken (x ∷ xs) = omega (arith,
-          sum_by-cons numbers_taken x xs) in
+    let sums : n + numbers_taken x + sum_by numbers_taken xs ≡ n + sum_by numbers_taken (x ∷ xs) = omega (
+      arith,
+      sum_by-cons numbers_taken x xs,
+    ) in
     number_after n x y (xs ++ ys) parts.0 ∙ number_past (n + numbers_taken x) xs ys y parts.1
-        ∙ ap (λ k. number_from k ys y) sums
+    ∙ ap (λ k. number_from k ys y) sums
 
 ints_take : (zs : List ℤ) → sum_by numbers_taken (map int_item zs) ≡ length zs
 ints_take [] = refl
@@ -406,10 +427,10 @@ int_place before z after different =
     let first = map int_item before in
     let begun = first ++ int_item z ∷ [] in
     let there : is_item_of begun (int_item z) ≡ true = among_right first (int_item z ∷ []) (int_item z)
-          (among_first (int_item z) []) in
+    (among_first (int_item z) []) in
     let pool : with_items [] (first ++ int_item z ∷ after) ≡ with_items begun after =
     ap (with_items []) (sym (append_assoc first (int_item z ∷ []) after)) ∙ with_items-append [] begun after
-        ∙ ap (λ items. with_items items after) (all_new [] begun different) in
+    ∙ ap (λ items. with_items items after) (all_new [] begun different) in
     ap (λ items. number_of items (int_item z)) pool ∙ still_numbers begun after (int_item z) there
     ∙ number_past 1 first (int_item z ∷ []) (int_item z) (not_before first [] (int_item z) different)
     ∙ number_here (1 + sum_by numbers_taken first) (int_item z) (int_item z) [] (same_self (int_item z))

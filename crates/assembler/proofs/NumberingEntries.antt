@@ -63,8 +63,13 @@ entry_takes items (interface_item m) = refl
 entries_take : (items xs : List Item) → sum_by numbers_of (map (entry_of items) xs) ≡ sum_by numbers_taken xs
 entries_take items [] = refl
 entries_take items (x ∷ xs) =
-    omega (arith, entry_takes items x, entries_take items xs,
-        sum_by-cons numbers_of (entry_of items x) (map (entry_of items) xs), sum_by-cons numbers_taken x xs)
+    omega (
+      arith,
+      entry_takes items x,
+      entries_take items xs,
+      sum_by-cons numbers_of (entry_of items x) (map (entry_of items) xs),
+      sum_by-cons numbers_taken x xs,
+    )
 
 pub count_is : (items : List Item) → pool_count (entries_of items) ≡ items_count items
 count_is items = ap (λ (n : ℕ). 1 + n) (entries_take items items)
@@ -100,11 +105,11 @@ following_slot items x others i = elim (width items x others) [
   | inl n ↦
       let k : numbers_taken x + i ≡ suc i = omega (arith, n.1) in
       ap (λ (s : List (Option Entry)). slice_get s (numbers_taken x + i)) n.0
-          ∙ ap (slice_get (Some (entry_of items x) ∷ others)) k
+      ∙ ap (slice_get (Some (entry_of items x) ∷ others)) k
   | inr w ↦
       let k : numbers_taken x + i ≡ suc (suc i) = omega (arith, w.1) in
       ap (λ (s : List (Option Entry)). slice_get s (numbers_taken x + i)) w.0
-          ∙ ap (slice_get (Some (entry_of items x) ∷ None ∷ others)) k
+      ∙ ap (slice_get (Some (entry_of items x) ∷ None ∷ others)) k
 ]
 
 -- ---- an item's number has the item's entry
@@ -138,12 +143,12 @@ pub entry_under : (items : List Item) (x : Item) → is_item_of items x ≡ true
 entry_under items x h =
     let s = stands items 1 items x h in
     ap (λ (k : ℕ). held (slice_get (None ∷ slots_of (entries_of items)) k)) s.1
-        ∙ ap held (next_get (slots_of (entries_of items)) s.0 ∙ s.2)
+    ∙ ap held (next_get (slots_of (entries_of items)) s.0 ∙ s.2)
 
 -- no item has the number 0
 pub number_of_positive : (items : List Item) (x : Item) → is_item_of items x ≡ true → eqb (number_of items x) 0 ≡ false
 number_of_positive items x h = let s = stands items 1 items x h
-                                     in ne_eqb (number_of items x) 0 (λ e. absurd (omega (arith, e, s.1)))
+    in ne_eqb (number_of items x) 0 (λ e. absurd (omega (arith, e, s.1)))
 
 -- ---- and no other number has it
 
@@ -174,14 +179,14 @@ parted : (items : List Item) (x : Item) (others : List (Option Entry)) (i : ℕ)
 parted items x others i e h = elim (width items x others) [
   | inl n ↦ elim (after_narrow (entry_of items x) others i e (sym (ap (λ (s : List (Option Entry)). slice_get s i) n.0)
       ∙ h)) [
-    | inl a ↦ inl a
-    | inr b ↦ inr (b.0, omega (arith, b.1, n.1), b.2)
-  ]
+        | inl a ↦ inl a
+        | inr b ↦ inr (b.0, omega (arith, b.1, n.1), b.2)
+      ]
   | inr w ↦ elim (after_wide (entry_of items x) others i e (sym (ap (λ (s : List (Option Entry)). slice_get s i) w.0)
       ∙ h)) [
-    | inl a ↦ inl a
-    | inr b ↦ inr (b.0, omega (arith, b.1, w.1), b.2)
-  ]
+        | inl a ↦ inl a
+        | inr b ↦ inr (b.0, omega (arith, b.1, w.1), b.2)
+      ]
 ]
 
 stands_under : (items : List Item) (n : ℕ) (xs : List Item) (i : ℕ) (e : Entry) → AreDifferent xs
@@ -193,7 +198,7 @@ stands_under items n (x ∷ xs) i e different h = elim (parted items x (slots_of
       let rest = stands_under items (n + numbers_taken x) xs b.0 e different.1 b.2 in
       let other : is_same_item rest.0 x ≡ false =
       false_from_ne_true (is_same_item rest.0 x) (λ s. true≢false (sym rest.2 ∙ ap (is_item_of xs) (same_is rest.0 x s)
-          ∙ different.0)) in (
+      ∙ different.0)) in (
         rest.0,
         rest.1,
         or_right (is_same_item rest.0 x) (is_item_of xs rest.0) rest.2,

@@ -35,15 +35,15 @@ use Rattle.assembler.proofs.NumberingListed.{only_there, class_there, member_the
 
 byte_fits : (z : ℤ) → is_byte z ≡ true → FitsSigned w8 z
 byte_fits (pos n) h = let both = and_parts true (nat_le n 127) h
-                            in record { sfits = omega (arith, leb-true n 127 both.1) }
+    in record { sfits = omega (arith, leb-true n 127 both.1) }
 byte_fits (negsuc n) h = let both = and_parts (nat_le n 127) true h
-                               in record { sfits = omega (arith, leb-true n 127 both.0) }
+    in record { sfits = omega (arith, leb-true n 127 both.0) }
 
 short_fits : (z : ℤ) → is_short z ≡ true → FitsSigned w16 z
 short_fits (pos n) h = let both = and_parts true (nat_le n 32767) h
-                             in record { sfits = omega (arith, leb-true n 32767 both.1) }
+    in record { sfits = omega (arith, leb-true n 32767 both.1) }
 short_fits (negsuc n) h = let both = and_parts (nat_le n 32767) true h
-                                in record { sfits = omega (arith, leb-true n 32767 both.0) }
+    in record { sfits = omega (arith, leb-true n 32767 both.0) }
 
 -- every way in a method has room in four bytes
 pub way_fits : (pc target : ℕ) → pc ≤ 65535 → target ≤ 65535 → FitsSigned w32 (offset pc target)

@@ -54,13 +54,13 @@ interface_still f = has_still f 0x0200 refl
 pub agree_still : (f : ℕ) → are_class_flags (bit_or f 0x0020) ≡ are_class_flags f
 agree_still f =
     ap (λ k. (eqb k 0 && (not (has (bit_or f 0x0020) 0x0200) || has (bit_or f 0x0020) 0x0400))
-        && not (has (bit_or f 0x0020) 0x0010 && has (bit_or f 0x0020) 0x0400)) (and_or_apart 0xf9ce f 32 refl)
+    && not (has (bit_or f 0x0020) 0x0010 && has (bit_or f 0x0020) 0x0400)) (and_or_apart 0xf9ce f 32 refl)
     ∙ ap (λ b. (eqb (bit_and f 0xf9ce) 0 && (not b || has (bit_or f 0x0020) 0x0400))
-        && not (has (bit_or f 0x0020) 0x0010 && has (bit_or f 0x0020) 0x0400)) (has_still f 0x0200 refl)
+    && not (has (bit_or f 0x0020) 0x0010 && has (bit_or f 0x0020) 0x0400)) (has_still f 0x0200 refl)
     ∙ ap (λ b. (eqb (bit_and f 0xf9ce) 0 && (not (has f 0x0200) || b)) && not (has (bit_or f 0x0020) 0x0010 && b))
-        (has_still f 0x0400 refl)
+    (has_still f 0x0400 refl)
     ∙ ap (λ b. (eqb (bit_and f 0xf9ce) 0 && (not (has f 0x0200) || has f 0x0400)) && not (b && has f 0x0400))
-        (has_still f 0x0010 refl)
+    (has_still f 0x0010 refl)
 
 pub or_is_short : (f : ℕ) → f < 2 ^ 16 → bit_or f 0x0020 < 2 ^ 16
 or_is_short f small = or_of_16 f 0x0020 small (omega arith)

@@ -47,7 +47,7 @@ is_member a b h =
     let first = and_parts (bytes_eq a.class b.class && bytes_eq a.name b.name) (bytes_eq a.descriptor b.descriptor) h in
     let second = and_parts (bytes_eq a.class b.class) (bytes_eq a.name b.name) first.0 in
     same_parts a b ((bytes_eq-Decides a.class b.class).0 second.0) ((bytes_eq-Decides a.name b.name).0 second.1)
-        ((bytes_eq-Decides a.descriptor b.descriptor).0 first.1)
+    ((bytes_eq-Decides a.descriptor b.descriptor).0 first.1)
 
 -- items that are the same are one
 pub same_is : (x y : Item) → is_same_item x y ≡ true → x ≡ y
@@ -105,7 +105,7 @@ pub all_from : (items xs : List Item) → ((x : Item) → is_item_of xs x ≡ tr
 all_from items [] each = refl
 all_from items (y ∷ xs) each =
     and_from (is_item_of items y) (are_items_of items xs) (each y (among_first y xs))
-        (all_from items xs (λ x h. each x (or_right (is_same_item x y) (is_item_of xs x) h)))
+    (all_from items xs (λ x h. each x (or_right (is_same_item x y) (is_item_of xs x) h)))
 
 pub all_left : (items more xs : List Item) → are_items_of items xs ≡ true → are_items_of (items ++ more) xs ≡ true
 all_left items more xs all = all_from (items ++ more) xs (λ x h. among_left items more x (one_of items xs x all h))
@@ -138,9 +138,9 @@ with_item_only items x y h = elim (cases_Bool (is_item_of items x)) [
   | inl t ↦ inl (sym (ap (λ (xs : List Item). is_item_of xs y) (item_known items x t)) ∙ h)
   | inr f ↦ elim (among_cases items (x ∷ []) y (sym (ap (λ (xs : List Item). is_item_of xs y) (item_new items x f))
       ∙ h)) [
-    | inl l ↦ inl l
-    | inr r ↦ elim (or_cases (is_same_item y x) false r) [ inl s ↦ inr s | inr n ↦ absurd (true≢false (sym n)) ]
-  ]
+        | inl l ↦ inl l
+        | inr r ↦ elim (or_cases (is_same_item y x) false r) [ inl s ↦ inr s | inr n ↦ absurd (true≢false (sym n)) ]
+      ]
 ]
 
 pub with_items_keep : (items xs : List Item) (y : Item) → is_item_of items y ≡ true → is_item_of (with_items items xs) y
@@ -231,7 +231,7 @@ not_after before [] y closed h = refl
 not_after before (x ∷ xs) y closed h =
     or_from (is_same_item y x) (is_item_of xs y)
     (false_from_ne_true (is_same_item y x) (λ s. true≢false (sym h ∙ ap (is_item_of before) (same_is y x s)
-        ∙ closed.1)))
+    ∙ closed.1)))
     (not_after (before ++ x ∷ []) xs y closed.2 (among_left before (x ∷ []) y h))
 
 closed_after_different : (before xs : List Item) → AreClosedAfter before xs → AreDifferent xs

@@ -46,7 +46,7 @@ pub member_there : (items : List Item) (x : Item) (m : Member) → are_items_of 
     → is_item_of items x ≡ true
 member_there items x m all =
     one_of items (member_items x m) x all (among_right (class_items m.class) (name_items m.name m.descriptor ++ x ∷ [])
-        x (among_right (name_items m.name m.descriptor) (x ∷ []) x (among_first x [])))
+    x (among_right (name_items m.name m.descriptor) (x ∷ []) x (among_first x [])))
 
 pub all_parts : (items xs ys : List Item) → are_items_of items (xs ++ ys) ≡ true → (are_items_of items xs ≡ true)
     × (are_items_of items ys ≡ true)
@@ -122,12 +122,12 @@ placed_numbered items p closed all = ap (λ (i : Listed). record { pc = p.pc; ne
 -- lists of what each is itself again
 pub all_again : {A B : Type 0} (back : B → A) (there : A → B) (named : A → List Item) (items : List Item) (xs : List A)
     → ((x : A) → are_items_of items (named x) ≡ true → back (there x) ≡ x) → are_items_of items (flat_map named xs)
-        ≡ true → map back (map there xs) ≡ xs
+    ≡ true → map back (map there xs) ≡ xs
 all_again back there named items [] each all = refl
 all_again back there named items (x ∷ xs) each all =
     let parts = all_parts items (named x) (flat_map named xs) all in
     ap (λ y. y ∷ map back (map there xs)) (each x parts.0)
-        ∙ ap (λ ys. x ∷ ys) (all_again back there named items xs each parts.1)
+    ∙ ap (λ ys. x ∷ ys) (all_again back there named items xs each parts.1)
 
 -- the instructions of code
 pub all_placed : (items : List Item) (ps : List Placed) → AreClosed items
@@ -141,19 +141,23 @@ all_placed items ps closed all = all_again (placed (entries_of items)) (numbered
 catch_listed : (items : List Item) (class : Option (List ℕ)) → AreClosed items → are_items_of items (catch_items class)
     ≡ true
     → cond (eqb (numbered_catch items class) 0) None (Some (class_at (entries_of items) (numbered_catch items class)))
-        ≡ class
+    ≡ class
 catch_listed items None closed all = refl
 catch_listed items (Some name) closed all =
     let there = class_there items name all in
     ap (λ b. cond b None (Some (class_at (entries_of items) (number_of items (class_item name)))))
-        (number_of_positive items (class_item name) there)
+    (number_of_positive items (class_item name) there)
     ∙ ap Some (class_named items name closed there)
 
 -- a row of the listing
 pub row_listed : (items : List Item) (r : ExceptionRow) → AreClosed items → are_items_of items (row_items r) ≡ true
     → listed_row (entries_of items) (numbered_row items r) ≡ r
-row_listed items r closed all = ap (λ (c : Option (List ℕ)). record { start = r.start; end = r.end; handler = r.handler;
-    class = c }) (catch_listed items r.class closed all)
+row_listed items r closed all = ap (λ (c : Option (List ℕ)). record {
+  start = r.start;
+  end = r.end;
+  handler = r.handler;
+  class = c;
+}) (catch_listed items r.class closed all)
 
 pub all_rows : (items : List Item) (rs : List ExceptionRow) → AreClosed items
     → are_items_of items (flat_map row_items rs) ≡ true
@@ -175,7 +179,7 @@ value_there items c all = only_there items (value_item c) (all_parts items (text
 
 value_listed : (items : List Item) (value : Option Constant) → are_items_of items (value_items value) ≡ true
     → option_and_then (λ c. value_of (entry_at (entries_of items) c.value)) (option_map (numbered_value items) value)
-        ≡ value
+    ≡ value
 value_listed items None all = refl
 value_listed items (Some c) all = value_named items c (value_there items c all)
 
@@ -186,14 +190,18 @@ field_listed items f closed all =
     let first = all_parts items (text_item f.name ∷ []) (text_item f.descriptor ∷ value_items f.constant) all in
     let second = all_parts items (text_item f.descriptor ∷ []) (value_items f.constant) first.1 in
     let value : Option Constant = option_and_then (λ c. value_of (entry_at (entries_of items) c.value))
-          (option_map (numbered_value items) f.constant) in
-    ap (λ (n : List ℕ). record { flags = f.flags; name = n;
-        descriptor = name_at (entries_of items) (number_of items (text_item f.descriptor)); constant = value })
-        (text_named items f.name (only_there items (text_item f.name) first.0))
+    (option_map (numbered_value items) f.constant) in
+    ap (λ (n : List ℕ). record {
+      flags = f.flags;
+      name = n;
+      descriptor = name_at (entries_of items) (number_of items (text_item f.descriptor));
+      constant = value;
+    })
+    (text_named items f.name (only_there items (text_item f.name) first.0))
     ∙ ap (λ (d : List ℕ). record { flags = f.flags; name = f.name; descriptor = d; constant = value })
-        (text_named items f.descriptor (only_there items (text_item f.descriptor) second.0))
+    (text_named items f.descriptor (only_there items (text_item f.descriptor) second.0))
     ∙ ap (λ (c : Option Constant). record { flags = f.flags; name = f.name; descriptor = f.descriptor; constant = c })
-        (value_listed items f.constant second.1)
+    (value_listed items f.constant second.1)
 
 pub all_fields : (items : List Item) (fs : List Field) → AreClosed items → are_items_of items (flat_map field_items fs)
     ≡ true → map (listed_field (entries_of items)) (map (numbered_field items) fs) ≡ fs
@@ -207,4 +215,4 @@ pub all_classes : (items : List Item) (names : List (List ℕ)) → AreClosed it
     → map (class_at (entries_of items)) (map (λ name. number_of items (class_item name)) names) ≡ names
 all_classes items names closed all =
     all_again (class_at (entries_of items)) (λ name. number_of items (class_item name)) class_items items names
-        (λ name h. class_named items name closed (class_there items name h)) all
+    (λ name h. class_named items name closed (class_there items name h)) all

@@ -61,19 +61,19 @@ reference_sound : (test : List ℕ → List ℕ → Bool) (items : List Item) (m
     → are_items_of items (class_item m.class ∷ name_item m.name m.descriptor ∷ []) ≡ true → test m.name m.descriptor
     ≡ true
     → member_fault (entries_of items) test
-        (class_of (entry_at (entries_of items) (number_of items (class_item m.class))))
-        (name_and_type_of (entry_at (entries_of items) (number_of items (name_item m.name m.descriptor)))) ≡ None
+    (class_of (entry_at (entries_of items) (number_of items (class_item m.class))))
+    (name_and_type_of (entry_at (entries_of items) (number_of items (name_item m.name m.descriptor)))) ≡ None
 reference_sound test items m closed named good =
     let parts = reference_parts items m named in
     let texts = name_texts items m.name m.descriptor closed parts.1 in
     let pool = entries_of items in
     ap (λ e. member_fault pool test (class_of e)
-        (name_and_type_of (entry_at pool (number_of items (name_item m.name m.descriptor)))))
-        (entry_under items (class_item m.class) parts.0)
+    (name_and_type_of (entry_at pool (number_of items (name_item m.name m.descriptor)))))
+    (entry_under items (class_item m.class) parts.0)
     ∙ ap (λ e. member_fault pool test (Some (number_of items (text_item m.class))) (name_and_type_of e))
-        (entry_under items (name_item m.name m.descriptor) parts.1)
+    (entry_under items (name_item m.name m.descriptor) parts.1)
     ∙ ap (λ t. texts_fault test t (text_at pool (number_of items (text_item m.descriptor))))
-        (text_under items m.name texts.0)
+    (text_under items m.name texts.0)
     ∙ ap (texts_fault test (Some m.name)) (text_under items m.descriptor texts.1)
     ∙ faultless (test m.name m.descriptor) Name good
 
@@ -87,7 +87,7 @@ entry_sound items (class_item name) closed named good = ap class_fault
 entry_sound items (name_item name descriptor) closed named good =
     let both = and_parts (is_item_of items (text_item name)) (are_items_of items (text_item descriptor ∷ [])) named in
     ap (λ t. pair_fault t (text_at (entries_of items) (number_of items (text_item descriptor))))
-        (text_under items name both.0)
+    (text_under items name both.0)
     ∙ ap (pair_fault (Some name)) (text_under items descriptor (only_there items (text_item descriptor) both.1))
     ∙ faultless (is_member name descriptor) Name good
 entry_sound items (field_item m) closed named good = reference_sound is_field items m closed named good
@@ -111,29 +111,31 @@ pub pool_is_sound : (items : List Item) → AreClosed items → list_all is_well
     → AreSound (entries_of items)
 pool_is_sound items closed good =
     all_entries (λ e. entry_fault (entries_of items) e ≡ None) items items
-        (λ x h g. entry_sound items x closed (named_are items x closed h) g) (all_there items) good
+    (λ x h g. entry_sound items x closed (named_are items x closed h) g) (all_there items) good
 
 -- ---- what has bytes
 
 pub int_fits : (z : ℤ) → is_int z ≡ true → FitsSigned w32 z
 int_fits (pos n) h = let both = and_parts true (nat_le n 2147483647) h
-                           in record { sfits = omega (arith, leb-true n 2147483647 both.1) }
+    in record { sfits = omega (arith, leb-true n 2147483647 both.1) }
 int_fits (negsuc n) h = let both = and_parts (nat_le n 2147483647) true h
-                              in record { sfits = omega (arith, leb-true n 2147483647 both.0) }
+    in record { sfits = omega (arith, leb-true n 2147483647 both.0) }
 
 pub long_fits : (z : ℤ) → is_long z ≡ true → FitsSigned w64 z
 long_fits (pos n) h = let both = and_parts true (nat_le n 9223372036854775807) h
-                            in record { sfits = omega (arith, leb-true n 9223372036854775807 both.1) }
+    in record { sfits = omega (arith, leb-true n 9223372036854775807 both.1) }
 long_fits (negsuc n) h = let both = and_parts (nat_le n 9223372036854775807) true h
-                               in record { sfits = omega (arith, leb-true n 9223372036854775807 both.0) }
+    in record { sfits = omega (arith, leb-true n 9223372036854775807 both.0) }
 
 reference_fits : (items : List Item) (m : Member) → IsPool items
     → are_items_of items (class_item m.class ∷ name_item m.name m.descriptor ∷ []) ≡ true
     → (number_of items (class_item m.class) < 2 ^ 16) × (number_of items (name_item m.name m.descriptor) < 2 ^ 16)
 reference_fits items m pool named =
-    let parts = reference_parts items m named in
-    (number_fits items (class_item m.class) pool parts.0, number_fits items (name_item m.name m.descriptor) pool
-        parts.1)
+    let parts = reference_parts items m named in (
+      number_fits items (class_item m.class) pool parts.0,
+      number_fits items (name_item m.name m.descriptor) pool
+          parts.1,
+    )
 
 entry_fits : (items : List Item) (x : Item) → IsPool items → are_items_of items (named_by x) ≡ true → is_well_formed x
     ≡ true → EntryFits (entry_of items x)
@@ -145,9 +147,10 @@ entry_fits items (long_item z) pool named good = long_fits z good
 entry_fits items (class_item name) pool named good = number_fits items (text_item name) pool
     (only_there items (text_item name) named)
 entry_fits items (name_item name descriptor) pool named good =
-    let both = and_parts (is_item_of items (text_item name)) (are_items_of items (text_item descriptor ∷ [])) named in
-    (number_fits items (text_item name) pool both.0,
-        number_fits items (text_item descriptor) pool (only_there items (text_item descriptor) both.1))
+    let both = and_parts (is_item_of items (text_item name)) (are_items_of items (text_item descriptor ∷ [])) named in (
+      number_fits items (text_item name) pool both.0,
+      number_fits items (text_item descriptor) pool (only_there items (text_item descriptor) both.1),
+    )
 entry_fits items (field_item m) pool named good = reference_fits items m pool named
 entry_fits items (method_item m) pool named good = reference_fits items m pool named
 entry_fits items (interface_item m) pool named good = reference_fits items m pool named
@@ -165,9 +168,9 @@ pub class_is : (items : List Item) (name : List ℕ) → AreClosed items → is_
     → is_class_name name ≡ true → is_class (entries_of items) (number_of items (class_item name)) ≡ true
 class_is items name closed there good =
     ap (λ e. passes is_class_name (option_and_then (text_at (entries_of items)) (class_of e)))
-        (entry_under items (class_item name) there)
+    (entry_under items (class_item name) there)
     ∙ ap (passes is_class_name)
-        (text_under items name (only_there items (text_item name) (named_are items (class_item name) closed there)))
+    (text_under items name (only_there items (text_item name) (named_are items (class_item name) closed there)))
     ∙ good
 
 -- the tag under an item's number
@@ -255,8 +258,8 @@ row_fits items r pool start end handler all = record {
     caught None h = refl
     caught (Some name) h =
         or_right (eqb (number_of items (class_item name)) 0)
-            (has_tag (entries_of items) 7 (number_of items (class_item name)))
-            (tag_is items (class_item name) 7 (class_there items name h) refl)
+        (has_tag (entries_of items) 7 (number_of items (class_item name)))
+        (tag_is items (class_item name) 7 (class_there items name h) refl)
 
 -- the value of a field that a text can give it
 pub values_fit : (items : List Item) (static : Bool) (descriptor : List ℕ) (value : Option Constant) → IsPool items

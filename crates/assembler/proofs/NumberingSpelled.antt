@@ -67,14 +67,16 @@ all_good : {A : Type 0} (test : A → Bool) (f : A → List Item) (xs : List A) 
     → list_all test xs ≡ true → Good (flat_map f xs)
 all_good test f [] each h = refl
 all_good test f (x ∷ xs) each h = let p = and_parts (test x) (list_all test xs) h
-                                        in both_good (f x) (flat_map f xs) (each x p.0) (all_good test f xs each p.1)
+    in both_good (f x) (flat_map f xs) (each x p.0) (all_good test f xs each p.1)
 
 pub good_one : (xs : List Item) (x : Item) → Good xs → is_item_of xs x ≡ true → is_well_formed x ≡ true
 good_one [] x good h = absurd (true≢false (sym h))
 good_one (y ∷ xs) x good h =
     let p = and_parts (is_well_formed y) (list_all is_well_formed xs) good in
-    elim (or_cases (is_same_item x y) (is_item_of xs x) h) [ inl s ↦ ap is_well_formed (same_is x y s) ∙ p.0 |
-        inr r ↦ good_one xs x p.1 r ]
+    elim (or_cases (is_same_item x y) (is_item_of xs x) h) [
+      | inl s ↦ ap is_well_formed (same_is x y s) ∙ p.0
+      | inr r ↦ good_one xs x p.1 r
+    ]
 
 pub good_from : (xs : List Item) → ((x : Item) → is_item_of xs x ≡ true → is_well_formed x ≡ true) → Good xs
 good_from [] each = refl
@@ -85,8 +87,10 @@ good_from (x ∷ xs) each = more_good x xs (each x (among_first x xs))
 pub pool_is_good : (xs : List Item) → list_all is_well_formed xs ≡ true → list_all is_well_formed (with_items [] xs)
     ≡ true
 pool_is_good xs good =
-    good_from (with_items [] xs) (λ x h. elim (with_items_only [] xs x h) [ inl n ↦ absurd (true≢false (sym n)) |
-        inr r ↦ good_one xs x good r ])
+    good_from (with_items [] xs) (λ x h. elim (with_items_only [] xs x h) [
+      | inl n ↦ absurd (true≢false (sym n))
+      | inr r ↦ good_one xs x good r
+    ])
 
 -- ---- classes and members
 
@@ -104,15 +108,15 @@ member_good x m owner name descriptor pair own =
     both_good (class_items m.class) (name_items m.name m.descriptor ++ x ∷ []) (plain_class_good m.class owner)
     (more_good (text_item m.name) (text_item m.descriptor ∷ name_item m.name m.descriptor ∷ x ∷ []) name
     (more_good (text_item m.descriptor) (name_item m.name m.descriptor ∷ x ∷ []) descriptor
-        (more_good (name_item m.name m.descriptor) (x ∷ []) pair (one_good x own))))
+    (more_good (name_item m.name m.descriptor) (x ∷ []) pair (one_good x own))))
 
 named_field_good : (m : Member) → field_is_named m ≡ true → Good (member_items (field_item m) m)
 named_field_good m h =
     let p = and_parts (is_class_name m.class) (is_field m.name m.descriptor) h in
     let q = and_parts (is_field_name m.name) (is_field_descriptor m.descriptor) p.1 in
     member_good (field_item m) m p.0 (written m.name (field_name_plain m.name q.0))
-        (written m.descriptor (field_descriptor_plain m.descriptor q.1))
-        (or_left (is_field m.name m.descriptor) (is_method m.name m.descriptor) p.1) p.1
+    (written m.descriptor (field_descriptor_plain m.descriptor q.1))
+    (or_left (is_field m.name m.descriptor) (is_method m.name m.descriptor) p.1) p.1
 
 named_method_good : (x : Item) (m : Member) → method_is_named m ≡ true
     → (is_method m.name m.descriptor ≡ true → is_well_formed x ≡ true) → Good (member_items x m)
@@ -120,8 +124,8 @@ named_method_good x m h own =
     let p = and_parts (is_class_name m.class) (is_method m.name m.descriptor) h in
     let q = and_parts (is_method_name m.name) (fits_units (arguments_of m.descriptor)) p.1 in
     member_good x m p.0 (written m.name (method_name_plain m.name q.0))
-        (written m.descriptor (called_descriptor_plain m.descriptor q.1)) (or_right (is_field m.name m.descriptor)
-        (is_method m.name m.descriptor) p.1) (own p.1)
+    (written m.descriptor (called_descriptor_plain m.descriptor q.1)) (or_right (is_field m.name m.descriptor)
+    (is_method m.name m.descriptor) p.1) (own p.1)
 
 -- ---- instructions
 
@@ -205,10 +209,10 @@ method_good class m h =
     let q = and_parts _ (units_fit (has m.flags.0 0x0008) (arguments_of m.descriptor)) p.0 in
     let r = and_parts _ (is_method_name m.name) q.0 in
     more_good (text_item m.name) (text_item m.descriptor ∷ code_items m.code)
-        (written m.name (method_name_plain m.name r.1))
+    (written m.name (method_name_plain m.name r.1))
     (more_good (text_item m.descriptor) (code_items m.code)
-        (written m.descriptor (own_descriptor_plain (has m.flags.0 0x0008) m.descriptor q.1))
-        (body_good (wants_code m.flags.0) m.code p.1))
+    (written m.descriptor (own_descriptor_plain (has m.flags.0 0x0008) m.descriptor q.1))
+    (body_good (wants_code m.flags.0) m.code p.1))
 
 value_good : (static : Bool) (descriptor : List ℕ) (value : Option Constant) → value_is_spelled static descriptor value
     ≡ true → Good (value_items value)
@@ -224,10 +228,10 @@ field_good class f h =
     let q = and_parts _ (is_field_descriptor f.descriptor) p.0 in
     let r = and_parts _ (is_field_name f.name) q.0 in
     more_good (text_item f.name) (text_item f.descriptor ∷ value_items f.constant)
-        (written f.name (field_name_plain f.name r.1))
+    (written f.name (field_name_plain f.name r.1))
     (more_good (text_item f.descriptor) (value_items f.constant)
-        (written f.descriptor (field_descriptor_plain f.descriptor q.1)) (value_good (has f.flags.0 0x0008) f.descriptor
-        f.constant p.1))
+    (written f.descriptor (field_descriptor_plain f.descriptor q.1)) (value_good (has f.flags.0 0x0008) f.descriptor
+    f.constant p.1))
 
 -- ---- a class
 
@@ -242,11 +246,11 @@ listing_good l h =
     let name = and_parts _ (is_class_name l.name) superclass.0 in
     let members = flat_map field_items l.fields ++ flat_map method_items l.methods in
     both_good (class_items l.name) (class_items l.superclass ++ (flat_map class_items l.interfaces ++ members))
-        (plain_class_good l.name name.1)
+    (plain_class_good l.name name.1)
     (both_good (class_items l.superclass) (flat_map class_items l.interfaces ++ members)
-        (plain_class_good l.superclass superclass.1)
+    (plain_class_good l.superclass superclass.1)
     (both_good (flat_map class_items l.interfaces) members (all_good is_class_name class_items l.interfaces
-        plain_class_good interfaces.1)
+    plain_class_good interfaces.1)
     (both_good (flat_map field_items l.fields) (flat_map method_items l.methods)
     (all_good (field_is_spelled l.flags.0) field_items l.fields (field_good l.flags.0) fields.1)
     (all_good (method_is_spelled l.flags.0) method_items l.methods (method_good l.flags.0) methods.1))))
@@ -254,7 +258,7 @@ listing_good l h =
 ints_good : (zs : List ℤ) → list_all is_int zs ≡ true → Good (map int_item zs)
 ints_good [] h = refl
 ints_good (z ∷ zs) h = let p = and_parts (is_int z) (list_all is_int zs) h
-                             in more_good (int_item z) (map int_item zs) p.0 (ints_good zs p.1)
+    in more_good (int_item z) (map int_item zs) p.0 (ints_good zs p.1)
 
 -- the pool of a text's listing, and of ints before it
 pub spelled_pool_is_good : (zs : List ℤ) (l : ClassListing) → list_all is_int zs ≡ true → is_spelled l ≡ true

@@ -81,7 +81,7 @@ constant_name items c all = (all_parts items (text_item (codes "ConstantValue") 
 value_stands : (items : List Item) (static : Bool) (descriptor : List ℕ) (value : Option Constant) → IsPool items
     → are_items_of items (value_items value) ≡ true → value_is_spelled static descriptor value ≡ true
     → ConstantBounds (option_map (numbered_value items) value)
-        × (is_constant (entries_of items) static descriptor (option_map (numbered_value items) value) ≡ true)
+    × (is_constant (entries_of items) static descriptor (option_map (numbered_value items) value) ≡ true)
 value_stands items static descriptor None pool all h = (tt, refl)
 value_stands items static descriptor (Some c) pool all h =
     let fits = values_fit items static descriptor (Some c) pool all h in
@@ -91,7 +91,7 @@ value_stands items static descriptor (Some c) pool all h =
           (text_at (entries_of items) (number_of items (text_item (codes "ConstantValue")))))
           (is_value_of descriptor (entry_at (entries_of items) (number_of items (value_item c))))
           (text_passes (is_constant_value static) items (codes "ConstantValue") named
-              (and_from static true (value_static static descriptor c h) refl)) fits.kind,
+          (and_from static true (value_static static descriptor c h) refl)) fits.kind,
     )
 
 -- a class's flags in the file tell of an interface as those of the listing
@@ -113,14 +113,17 @@ field_number_stands items file class f pool like all h =
     let agree : are_field_flags file f.flags.0 ≡ true = rw like s.1 in
     let named = text_passes is_field_name items f.name first.0 r.1 in
     let typed = text_passes (is_type (entries_of items) static (option_map (numbered_value items) f.constant)) items
-          f.descriptor second.0 (and_from (is_field_descriptor f.descriptor)
-          (is_constant (entries_of items) static f.descriptor (option_map (numbered_value items) f.constant)) q.1
-          value.1) in
-    field_stands (entries_of items) file (numbered_field items f) (short f.flags.0 s.0,
-        text_short items f.name pool first.0, text_short items f.descriptor pool second.0) value.0
+    f.descriptor second.0 (and_from (is_field_descriptor f.descriptor)
+    (is_constant (entries_of items) static f.descriptor (option_map (numbered_value items) f.constant)) q.1
+    value.1) in
+    field_stands (entries_of items) file (numbered_field items f) (
+      short f.flags.0 s.0,
+      text_short items f.name pool first.0,
+      text_short items f.descriptor pool second.0,
+    ) value.0
     (and_from (are_field_flags file f.flags.0
-        && passes is_field_name (text_at (entries_of items) (number_of items (text_item f.name)))) _
-        (and_from (are_field_flags file f.flags.0) _ agree named) typed)
+    && passes is_field_name (text_at (entries_of items) (number_of items (text_item f.name)))) _
+    (and_from (are_field_flags file f.flags.0) _ agree named) typed)
 
 -- ---- code
 
@@ -176,8 +179,8 @@ all_sound items of (p ∷ ps) closed all h =
     let q = and_parts (instruction_is_spelled of p) (list_all (instruction_is_spelled of) ps) h in
     let one = (and_parts (operands_are_spelled p.instruction) _ q.0).0 in
     and_from (is_sound (entries_of items) (numbered_placed items p).instruction)
-        (are_sound (entries_of items) (map (numbered_placed items) ps)) (numbered_is_sound items p.instruction closed
-        parts.0 one) (all_sound items of ps closed parts.1 q.1)
+    (are_sound (entries_of items) (map (numbered_placed items) ps)) (numbered_is_sound items p.instruction closed
+    parts.0 one) (all_sound items of ps closed parts.1 q.1)
 
 -- the instructions have bytes with numbers for names
 abbrev pub HasBytes : List Item → Option CodeListing → Type 0
@@ -194,7 +197,7 @@ body_stands items false None pool all h fits bytes = refl
 body_stands items wanted (Some c) pool all h fits bytes =
     let top = and_parts wanted (code_is_spelled c) h in
     let first = all_parts items (text_item (codes "Code") ∷ []) (flat_map placed_items c.instructions
-          ++ flat_map row_items c.rows) all in
+    ++ flat_map row_items c.rows) all in
     let parts = all_parts items (flat_map placed_items c.instructions) (flat_map row_items c.rows) first.1 in
     let p = and_parts _ (list_all (row_is_spelled c.instructions) c.rows) top.1 in
     let q = and_parts _ (list_all (instruction_is_spelled c.instructions) c.instructions) p.0 in
@@ -210,9 +213,9 @@ body_stands items wanted (Some c) pool all h fits bytes =
       code_stands (entries_of items) (assembled_code items c) (text_short items (codes "Code") pool first.0)
           (short c.max_stack s.0) (short c.max_locals s.1) bytes
           (text_passes is_code_name items (codes "Code") first.0 refl) (all_sound items c.instructions c.instructions
-              pool.closed parts.0 q.1)
+          pool.closed parts.0 q.1)
           (omega (arith, few, length-map c.rows (numbered_row items))) (rows_fit items c.instructions c.rows pool r.1
-              end parts.1 p.1),
+          end parts.1 p.1),
     )
 
 -- ---- methods
@@ -231,9 +234,9 @@ method_number_stands items file class m pool like all h fits bytes =
     let s = and_parts (is_u2 m.flags.0) (are_method_flags class m.flags.0) r.0 in
     let agree : are_method_flags file m.flags.0 ≡ true = rw like s.1 in
     method_stands (entries_of items) file (assembled_method items m) (short m.flags.0 s.0)
-        (text_short items m.name pool first.0) (text_short items m.descriptor pool second.0) agree
+    (text_short items m.name pool first.0) (text_short items m.descriptor pool second.0) agree
     (text_passes is_method_name items m.name first.0 r.1) (text_passes (method_type_test static) items m.descriptor
-        second.0 q.1)
+    second.0 q.1)
     (body_stands items (wants_code m.flags.0) m.code pool second.1 p.1 fits bytes)
 
 -- ---- the class file
@@ -241,7 +244,7 @@ method_number_stands items file class m pool like all h fits bytes =
 all_stand : {A B : Type 0} (P : B → Type 0) (there : A → B) (test : A → Bool) (named : A
     → List Item) (items : List Item) (xs : List A)
     → ((x : A) → are_items_of items (named x) ≡ true → test x ≡ true → P (there x))
-        → are_items_of items (flat_map named xs) ≡ true → list_all test xs ≡ true → AllByRecursion P (map there xs)
+    → are_items_of items (flat_map named xs) ≡ true → list_all test xs ≡ true → AllByRecursion P (map there xs)
 all_stand P there test named items [] each all h = tt
 all_stand P there test named items (x ∷ xs) each all h =
     let parts = all_parts items (named x) (flat_map named xs) all in
@@ -252,27 +255,30 @@ methods_stand : (items : List Item) (file class : ℕ) (ms : List Method) → Is
     → are_items_of items (flat_map method_items ms) ≡ true → list_all (method_is_spelled class) ms ≡ true
     → list_all method_assembles ms ≡ true
     → AllByRecursion (λ m. HasBytes items m.code) ms
-        → AllByRecursion (MethodStands (entries_of items) file) (map (assembled_method items) ms)
+    → AllByRecursion (MethodStands (entries_of items) file) (map (assembled_method items) ms)
 methods_stand items file class [] pool like all h fits bytes = tt
 methods_stand items file class (m ∷ ms) pool like all h fits bytes =
     let parts = all_parts items (method_items m) (flat_map method_items ms) all in
     let p = and_parts (method_is_spelled class m) (list_all (method_is_spelled class) ms) h in
-    let q = and_parts (method_assembles m) (list_all method_assembles ms) fits in
-    (method_number_stands items file class m pool like parts.0 p.0 q.0 bytes.0,
-        methods_stand items file class ms pool like parts.1 p.1 q.1 bytes.1)
+    let q = and_parts (method_assembles m) (list_all method_assembles ms) fits in (
+      method_number_stands items file class m pool like parts.0 p.0 q.0 bytes.0,
+      methods_stand items file class ms pool like parts.1 p.1 q.1 bytes.1,
+    )
 
 class_number_stands : (items : List Item) (name : List ℕ) → IsPool items → are_items_of items (class_items name) ≡ true
     → is_class_name name ≡ true → ClassStands (entries_of items) (number_of items (class_item name))
 class_number_stands items name pool all h =
-    let there = class_there items name all in (number_fits items (class_item name) pool there,
-          class_is items name pool.closed there h)
+    let there = class_there items name all in (
+      number_fits items (class_item name) pool there,
+      class_is items name pool.closed there h,
+    )
 
 -- a listing of a text, whose sizes a class file has room for and whose code has bytes, has a class file
 pub class_file_stands : (items : List Item) (flags : ClassFlags) (l : ClassListing) → IsPool items
     → list_all is_well_formed items ≡ true → are_items_of items (listing_items l) ≡ true → is_spelled l ≡ true
     → listing_assembles l ≡ true
     → flags.0 < 2 ^ 16 → are_class_flags flags.0 ≡ true → AreLike flags.0 l.flags.0
-        → AllByRecursion (λ m. HasBytes items m.code) l.methods → IsClass (class_with items flags l)
+    → AllByRecursion (λ m. HasBytes items m.code) l.methods → IsClass (class_with items flags l)
 unfolding is_spelled listing_assembles
 class_file_stands items flags l pool good all spelled fits small agree like bytes =
     let parts = listing_parts items l all in
@@ -286,23 +292,23 @@ class_file_stands items flags l pool good all spelled fits small agree like byte
     let few_methods = and_parts _ (is_countable (length l.methods)) whole.0 in
     let few_fields = and_parts _ (is_countable (length l.fields)) few_methods.0 in
     let few_interfaces = and_parts (list_all method_assembles l.methods) (is_countable (length l.interfaces))
-          few_fields.0 in
+    few_fields.0 in
     let m : length l.methods ≤ 65535 = leb-true (length l.methods) 65535 few_methods.1 in
     let f : length l.fields ≤ 65535 = leb-true (length l.fields) 65535 few_fields.1 in
     let i : length l.interfaces ≤ 65535 = leb-true (length l.interfaces) 65535 few_interfaces.1 in
     let c = class_with items flags l in
     let head =
     head_stands c.head (pool_fits items pool good) (pool_is_sound items pool.closed good) small agree
-        (class_number_stands items l.name pool parts.name name.1) (class_number_stands items l.superclass pool
-        parts.superclass superclass.1)
+    (class_number_stands items l.name pool parts.name name.1) (class_number_stands items l.superclass pool
+    parts.superclass superclass.1)
     (omega (arith, i, length-map l.interfaces (λ n. number_of items (class_item n))))
     (all_stand (ClassStands (entries_of items)) (λ n. number_of items (class_item n)) is_class_name class_items items
-        l.interfaces (λ n h g. class_number_stands items n pool h g) parts.interfaces interfaces.1)
+    l.interfaces (λ n h g. class_number_stands items n pool h g) parts.interfaces interfaces.1)
     (omega (arith, f, length-map l.fields (numbered_field items)))
     (all_stand (FieldStands (entries_of items) flags.0) (numbered_field items) (field_is_spelled l.flags.0) field_items
-        items l.fields (λ x h g. field_number_stands items flags.0 l.flags.0 x pool like h g) parts.fields fields.1) in
+    items l.fields (λ x h g. field_number_stands items flags.0 l.flags.0 x pool like h g) parts.fields fields.1) in
     class_stands c head (omega (arith, m, length-map l.methods (assembled_method items)))
-        (methods_stand items flags.0 l.flags.0 l.methods pool like parts.methods methods.1 few_interfaces.0 bytes)
+    (methods_stand items flags.0 l.flags.0 l.methods pool like parts.methods methods.1 few_interfaces.0 bytes)
 
 -- what the flags of a text's listing are
 pub spelled_flags : (l : ClassListing) → is_spelled l ≡ true → (l.flags.0 < 2 ^ 16) × (are_class_flags l.flags.0 ≡ true)
@@ -329,7 +335,7 @@ spelled_flags l spelled =
 all_ready : (items : List Item) (of ps : List Placed) → are_items_of items (flat_map placed_items ps) ≡ true
     → list_all (instruction_is_spelled of) ps ≡ true → list_all (λ p. switch_agrees p.instruction) ps ≡ true
     → list_all (λ p. reaches p.pc p.instruction) ps ≡ true
-        → AllByRecursion (λ p. AreSmall items (narrow_number p.instruction)) ps → AllByRecursion (IsReady items of) ps
+    → AllByRecursion (λ p. AreSmall items (narrow_number p.instruction)) ps → AllByRecursion (IsReady items of) ps
 all_ready items of [] all h agrees ways small = tt
 all_ready items of (p ∷ ps) all h agrees ways small =
     let parts = all_parts items (placed_items p) (flat_map placed_items ps) all in
@@ -353,7 +359,7 @@ body_has_bytes items wanted None pool all h fits small = tt
 body_has_bytes items wanted (Some c) pool all h fits small =
     let top = and_parts wanted (code_is_spelled c) h in
     let first = all_parts items (text_item (codes "Code") ∷ []) (flat_map placed_items c.instructions
-          ++ flat_map row_items c.rows) all in
+    ++ flat_map row_items c.rows) all in
     let parts = all_parts items (flat_map placed_items c.instructions) (flat_map row_items c.rows) first.1 in
     let p = and_parts _ (list_all (row_is_spelled c.instructions) c.rows) top.1 in
     let q = and_parts _ (list_all (instruction_is_spelled c.instructions) c.instructions) p.0 in
@@ -361,10 +367,10 @@ body_has_bytes items wanted (Some c) pool all h fits small =
     let t = and_parts _ (is_countable (length c.rows)) fits in
     let u = and_parts _ (list_all (λ x. reaches x.pc x.instruction) c.instructions) t.0 in
     let size = and_parts (list_all (λ x. switch_agrees x.instruction) c.instructions)
-          (size_is_right (end_from 0 c.instructions)) u.0 in
+    (size_is_right (end_from 0 c.instructions)) u.0 in
     let sized = and_parts (nat_le 1 (end_from 0 c.instructions)) (nat_le (end_from 0 c.instructions) 65535) size.1 in
     let some : 1 ≤ end_from 0 c.instructions = leb-true 1 (end_from 0 c.instructions) sized.0 in
     let end : end_from 0 c.instructions ≤ 65535 = leb-true (end_from 0 c.instructions) 65535 sized.1 in
     code_is_code items c.instructions pool (λ n is. omega (arith, pc_before_end 0 c.instructions n r.1 is, end)) r.1
-        some end
+    some end
     (all_ready items c.instructions c.instructions parts.0 q.1 size.0 u.1 small)

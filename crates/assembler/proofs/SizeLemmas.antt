@@ -18,4 +18,4 @@ pub goes_past : (narrow : List ℤ) (pc i : ℕ) (lines : List TextLine) (instru
     → pc + size_at pc (widened narrow instruction) ≤ pc_following pc (map (widened_line narrow) (drop i lines))
 goes_past narrow pc i lines instruction h e =
     rw (drop-cons lines i (Instruction instruction), ← e) (after_grows (pc + size_at pc (widened narrow instruction))
-        (map (widened_line narrow) (drop (suc i) lines)))
+    (map (widened_line narrow) (drop (suc i) lines)))

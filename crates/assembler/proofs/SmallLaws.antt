@@ -55,7 +55,9 @@ equal_both a b =
     elim (bool_tells (int_eq a b)) [
       | inl t ↦ t ∙ sym ((Decides-int_eq b a).1 (sym ((Decides-int_eq a b).0 t)))
       | inr f ↦ elim (bool_tells (int_eq b a)) [
-          inl t ↦ let e = (Decides-int_eq a b).1 (sym ((Decides-int_eq b a).0 t)) in cc | inr g ↦ f ∙ sym g ]
+        | inl t ↦ let e = (Decides-int_eq a b).1 (sym ((Decides-int_eq b a).0 t)) in cc
+        | inr g ↦ f ∙ sym g
+      ]
     ]
 
 ints_among : (noted : List ℤ) (z : ℤ) → is_item_of (map int_item noted) (int_item z) ≡ is_among noted z
@@ -69,12 +71,12 @@ ints_are noted (z ∷ zs) =
     elim (bool_tells (is_among noted z)) [
       | inl t ↦
           ap (λ items. with_items items (map int_item zs)) (item_known (map int_item noted) (int_item z)
-              (ints_among noted z ∙ t))
+          (ints_among noted z ∙ t))
           ∙ ints_are noted zs
           ∙ ap (λ ys. map int_item (noted ++ ys)) (sym (known_rest noted z zs t))
       | inr f ↦
           ap (λ items. with_items items (map int_item zs)) (item_new (map int_item noted) (int_item z)
-              (ints_among noted z ∙ f) ∙ sym (ints_append noted (z ∷ [])))
+          (ints_among noted z ∙ f) ∙ sym (ints_append noted (z ∷ [])))
           ∙ ints_are (noted ++ z ∷ []) zs
           ∙ ap (map int_item) (append_assoc noted (z ∷ []) (filter (others (noted ++ z ∷ [])) (different zs)))
           ∙ ap (λ ys. map int_item (noted ++ ys)) (sym (new_rest noted z zs f))
@@ -91,8 +93,11 @@ int_place n [] z h = cc
 int_place n (x ∷ zs) z h =
     elim (bool_tells (is_same_item (int_item z) (int_item x))) [
       | inl t ↦ omega (arith, number_here n (int_item x) (int_item z) (map int_item zs) t)
-      | inr f ↦ omega (arith, number_after n (int_item x) (int_item z) (map int_item zs) f,
-          int_place (n + 1) zs z (rw f at h))
+      | inr f ↦ omega (
+        arith,
+        number_after n (int_item x) (int_item z) (map int_item zs) f,
+        int_place (n + 1) zs z (rw f at h),
+      )
     ]
 
 -- the first 255 different numbers have numbers of one byte
@@ -103,12 +108,12 @@ small zs rest z h =
     let first = take 255 all in
     let here : is_item_of (map int_item first) (int_item z) ≡ true = ints_among first z ∙ h in
     let split : map int_item all ≡ map int_item first ++ map
-          int_item (drop 255 all) = ap (map int_item) (sym (take-append-drop 255 all)) ∙
-          ints_append first (drop 255 all) in
+    int_item (drop 255 all) = ap (map int_item) (sym (take-append-drop 255 all)) ∙
+    ints_append first (drop 255 all) in
     let there : is_item_of (map int_item all) (int_item z) ≡ true = subst (λ items. is_item_of items (int_item z)
-          ≡ true) (sym split) (among_left (map int_item first) (map int_item (drop 255 all)) (int_item z) here) in
+    ≡ true) (sym split) (among_left (map int_item first) (map int_item (drop 255 all)) (int_item z) here) in
     let number : number_of (with_items [] (map int_item zs ++ rest)) (int_item z)
-          ≡ number_from 1 (map int_item first) (int_item z) =
+    ≡ number_from 1 (map int_item first) (int_item z) =
     ap (λ items. number_of items (int_item z)) (ints_first zs rest)
     ∙ still_numbers (map int_item all) rest (int_item z) there
     ∙ ap (λ items. number_of items (int_item z)) split
@@ -127,7 +132,9 @@ module _ (items : List Item) (narrow : List ℤ) (each : (z : ℤ) → is_among 
   one_small f (instruction.Constant (constant.Byte z)) = tt
   one_small f (instruction.Constant (constant.Short z)) = tt
   one_small f (instruction.Constant (constant.Int Narrow z)) = elim (bool_tells (is_among narrow z)) [
-      inl t ↦ rw t (each z t, tt) | inr g ↦ rw g tt ]
+    | inl t ↦ rw t (each z t, tt)
+    | inr g ↦ rw g tt
+  ]
   one_small f (instruction.Constant (constant.Int Wide z)) = tt
   one_small f (instruction.Constant (constant.Long z)) = tt
   one_small f (instruction.Local a) = tt
@@ -160,7 +167,7 @@ module _ (items : List Item) (narrow : List ℤ) (each : (z : ℤ) → is_among 
       → are_items_of items (flat_map method_items (map (method_listing narrow) ms)) ≡ true
       → list_all (method_is_spelled class) (map (method_listing narrow) ms) ≡ true
       → list_all method_assembles (map (method_listing narrow) ms) ≡ true
-          → AllByRecursion (λ m. HasBytes items m.code) (map (method_listing narrow) ms)
+      → AllByRecursion (λ m. HasBytes items m.code) (map (method_listing narrow) ms)
   methods_bytes class [] pool all spelled fits = tt
   methods_bytes class (t ∷ ts) pool all spelled fits =
       let m = method_listing narrow t in
@@ -169,9 +176,10 @@ module _ (items : List Item) (narrow : List ℤ) (each : (z : ℤ) → is_among 
       let code = all_parts items (text_item m.name ∷ text_item m.descriptor ∷ []) (code_items m.code) parts.0 in
       let s = and_tells (method_is_spelled class m) (list_all (method_is_spelled class) ms) spelled in
       let a = and_tells (method_assembles m) (list_all method_assembles ms) fits in
-      let body = and_tells _ (body_is_spelled (wants_code m.flags.0) m.code) s.0 in
-      (body_has_bytes items (wants_code m.flags.0) m.code pool code.1 body.1 a.0 (body_small t.body),
-          methods_bytes class ts pool parts.1 s.1 a.1)
+      let body = and_tells _ (body_is_spelled (wants_code m.flags.0) m.code) s.0 in (
+        body_has_bytes items (wants_code m.flags.0) m.code pool code.1 body.1 a.0 (body_small t.body),
+        methods_bytes class ts pool parts.1 s.1 a.1,
+      )
 
 -- ---- the class
 
@@ -211,7 +219,7 @@ tree_bytes : (t : Tree) (items : List Item) → items ≡ with_items [] (tree_it
 unfolding listing_of
 tree_bytes t items same pool all spelled fits =
     methods_bytes items (narrow_numbers t.methods) (λ z h. subst (λ xs. number_of xs (int_item z) ≤ 255) (sym same)
-        (small (used_in_methods t.methods) (listing_items (listing_of t)) z h)) t.flags.0 t.methods pool all
+    (small (used_in_methods t.methods) (listing_items (listing_of t)) z h)) t.flags.0 t.methods pool all
     (spelled_methods (listing_of t) spelled) (assembled_methods (listing_of t) fits)
 
 -- a tree that a text spells and that can be assembled has a class file
@@ -223,11 +231,11 @@ has_class t spelled whole =
     let pool = pool_of t whole in
     let listed = listing_good l spelled in
     let ints = good_from (map int_item (used_in_methods t.methods)) (λ x h. good_one (listing_items l) x listed
-          (one_of (listing_items l) (map int_item (used_in_methods t.methods)) x (ints_there t) h)) in
+    (one_of (listing_items l) (map int_item (used_in_methods t.methods)) x (ints_there t) h)) in
     let good = pool_is_good (tree_items t) (both_good (map int_item (used_in_methods t.methods)) (listing_items l)
-          ints listed) in
+    ints listed) in
     let all = listing_there (used_in_methods t.methods) l in
     let flags = spelled_flags l spelled in
     let kept = flags_small l.flags flags.0 flags.1 in
     class_file_stands items (file_flags l.flags) l pool good all spelled whole kept.0 kept.1 kept.2
-        (tree_bytes t items refl pool (listing_parts items l all).methods spelled whole)
+    (tree_bytes t items refl pool (listing_parts items l all).methods spelled whole)

@@ -74,14 +74,14 @@ code_is items pc (x ∷ xs) bytes (p ∷ ps) stand at same =
     let following : p.next ≡ pc + size_at pc p.instruction = eqb-true p.next (pc + size_at pc p.instruction) inner.1 in
     let first = ap (λ is. get_or is 0 x.instruction) same in
     let size : length (spelling pc x.instruction) ≡ size_at pc p.instruction = spelled pc x.instruction
-          ∙ ap (size_at pc) first ∙ numbered_size items pc p.instruction in
+    ∙ ap (size_at pc) first ∙ numbered_size items pc p.instruction in
     let next : x.next ≡ p.next = begins.next ∙ ap (λ n. pc + n) size ∙ sym following in
     ap (λ q. located_at q x.next x.instruction ∷ xs) (begins.at ∙ sym here)
     ∙ ap (λ q. located_at p.pc q x.instruction ∷ xs) next
     ∙ ap (λ i. located_at p.pc p.next i ∷ xs) first
     ∙ ap (λ ys. numbered_placed items p ∷ ys)
-        (code_is items p.next xs stand.0 ps (subst (λ q. StandFrom q xs stand.0) next stand.2) outer.1
-        (ap (drop 1) same))
+    (code_is items p.next xs stand.0 ps (subst (λ q. StandFrom q xs stand.0) next stand.2) outer.1
+    (ap (drop 1) same))
 
 -- instructions without their pcs
 pub without_pcs : (items : List Item) (ps : List Placed) → instructions_of (map (numbered_placed items) ps)
@@ -94,42 +94,54 @@ without_pcs items (p ∷ ps) = ap (λ is. numbered items p.instruction ∷ is) (
 module _ (old first middle new : List Item) (c : CodeListing) (ps : List Placed) (rs : List ExceptionRow) (name : ℕ)
     (is : List Instr) (rows : List CodeRow) (same_instructions : ps ≡ c.instructions) (same_rows : rs ≡ c.rows)
     (named : Stays old (text_item (codes "Code") ∷ []) first (λ items. number_of items (text_item (codes "Code"))) name)
-        (instructed : Stays first (flat_map placed_items ps) middle (λ items. map (λ p. numbered items p.instruction)
-        ps) is)
+    (instructed : Stays first (flat_map placed_items ps) middle (λ items. map (λ p. numbered items p.instruction)
+    ps) is)
     (rowed : Stays middle (flat_map row_items rs) new (λ items. map (numbered_row items) rs) rows) where
   abbrev values : List Item → ℕ × (List Instr × List CodeRow)
-  values items = (number_of items (text_item (codes "Code")), (map (λ p. numbered items p.instruction) c.instructions,
-      map (numbered_row items) c.rows))
+  values items = (
+    number_of items (text_item (codes "Code")),
+    (
+      map (λ p. numbered items p.instruction) c.instructions,
+      map (numbered_row items) c.rows,
+    ),
+  )
 
   parts : Stays {A = ℕ × (List Instr × List CodeRow)} old (code_items (Some c)) new values (name, (is, rows))
   parts =
       let i : Stays first (flat_map placed_items c.instructions) middle
-            (λ items. map (λ p. numbered items p.instruction) c.instructions) is = subst
-            (λ qs. Stays first (flat_map placed_items qs) middle (λ items. map (λ p. numbered items p.instruction) qs)
-            is) same_instructions instructed in
+      (λ items. map (λ p. numbered items p.instruction) c.instructions) is = subst
+      (λ qs. Stays first (flat_map placed_items qs) middle (λ items. map (λ p. numbered items p.instruction) qs)
+      is) same_instructions instructed in
       let r : Stays middle (flat_map row_items c.rows) new (λ items. map (numbered_row items) c.rows) rows = subst
-            (λ qs. Stays middle (flat_map row_items qs) new (λ items. map (numbered_row items) qs) rows) same_rows rowed
-            in
+      (λ qs. Stays middle (flat_map row_items qs) new (λ items. map (numbered_row items) qs) rows) same_rows rowed
+      in
       stays_then old first new (text_item (codes "Code") ∷ []) (flat_map placed_items c.instructions
-          ++ flat_map row_items c.rows) (λ items. number_of items (text_item (codes "Code")))
-          (λ items. (map (λ p. numbered items p.instruction) c.instructions, map (numbered_row items) c.rows)) name (is,
-          rows) named
+      ++ flat_map row_items c.rows) (λ items. number_of items (text_item (codes "Code")))
+      (λ items. (map (λ p. numbered items p.instruction) c.instructions, map (numbered_row items) c.rows)) name (
+        is,
+        rows,
+      ) named
       (stays_then first middle new (flat_map placed_items c.instructions) (flat_map row_items c.rows)
-          (λ items. map (λ p. numbered items p.instruction) c.instructions) (λ items. map (numbered_row items) c.rows)
-          is rows i r)
+      (λ items. map (λ p. numbered items p.instruction) c.instructions) (λ items. map (numbered_row items) c.rows)
+      is rows i r)
 
   -- the attribute
   pub code_stays : (code : List Located) → stand_from 0 c.instructions ≡ true → instructions_of code ≡ is
       → (bytes : List ℕ) × IsCode bytes code
       → Stays {A = CodePart} old (code_items (Some c)) new (λ items. assembled_code items c)
-          (record { name = name; max_stack = c.max_stack; max_locals = c.max_locals; instructions = code; rows = rows })
+      (record { name = name; max_stack = c.max_stack; max_locals = c.max_locals; instructions = code; rows = rows })
   code_stays code at same is_code later =
       let p = parts later in
       let items = with_items new later in
       let placed : code ≡ map (numbered_placed items) c.instructions = code_is items 0 code is_code.0 c.instructions
-            is_code.1.stand at (same ∙ ap (λ x. x.1.0) p.1) in
-      let attribute : ℕ → List Located → List CodeRow → CodePart = λ n xs ys. record { name = n;
-            max_stack = c.max_stack; max_locals = c.max_locals; instructions = xs; rows = ys } in (
+      is_code.1.stand at (same ∙ ap (λ x. x.1.0) p.1) in
+      let attribute : ℕ → List Located → List CodeRow → CodePart = λ n xs ys. record {
+        name = n;
+        max_stack = c.max_stack;
+        max_locals = c.max_locals;
+        instructions = xs;
+        rows = ys;
+      } in (
         p.0,
         ap (λ n. attribute n code rows) (ap (λ x. x.0) p.1)
             ∙ ap (λ xs. attribute (number_of items (text_item (codes "Code"))) xs rows) placed
@@ -143,4 +155,4 @@ module _ (old first middle new : List Item) (c : CodeListing) (ps : List Placed)
   has_bytes later =
       let p = parts later in
       ap (λ items. instructions_of (map (numbered_placed items) c.instructions)) p.0
-          ∙ without_pcs (with_items new later) c.instructions ∙ sym (ap (λ x. x.1.0) p.1)
+      ∙ without_pcs (with_items new later) c.instructions ∙ sym (ap (λ x. x.1.0) p.1)

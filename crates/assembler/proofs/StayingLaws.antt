@@ -85,7 +85,7 @@ module _ {A B : Type 0} (items_of : A → List Item) (value : List Item → A �
         let rest = map (value whole) (drop (i + 1) xs) in
         append_assoc made (b ∷ []) rest
         ∙ ap (λ y. made ++ y ∷ rest) ((new (flat_map items_of (drop (i + 1) xs) ++ later)).1
-            ∙ ap (λ items. value items x) (sym (grows later)))
+        ∙ ap (λ items. value items x) (sym (grows later)))
         ∙ ap (λ ys. made ++ map (value whole) ys) (sym here)
         ∙ so_far.are later;
   }
@@ -102,7 +102,7 @@ module _ {A B : Type 0} (items_of : A → List Item) (value : List Item → A �
       → Stays initial (flat_map items_of xs) now (λ items. map (value items) xs) made
   done initial now made rest xs none so_far later =
       let whole : with_items initial (flat_map items_of xs ++ later) ≡ with_items now later = so_far.grown later
-            ∙ ap (λ ys. with_items now (flat_map items_of ys ++ later)) none in (
+      ∙ ap (λ ys. with_items now (flat_map items_of ys ++ later)) none in (
         whole,
         sym (append-nil made)
             ∙ ap (λ ys. made ++ map (value (with_items initial (flat_map items_of xs ++ later))) ys) (sym none)
@@ -114,11 +114,11 @@ module _ {A B : Type 0} (items_of : A → List Item) (value : List Item → A �
   pub fails : (initial now : List Item) (made : List B) (xs : List A) (i : ℕ) (x : A) (e : AsmError) → drop i xs
       ≡ x ∷ drop (i + 1) xs → IsMade initial now made (drop i xs) xs
       → ((later : List Item) → HasRoom (with_items now (items_of x ++ later)) → e ≡ error.Memory) → (later : List Item)
-          → HasRoom (with_items initial (flat_map items_of xs ++ later)) → e ≡ error.Memory
+      → HasRoom (with_items initial (flat_map items_of xs ++ later)) → e ≡ error.Memory
   fails initial now made xs i x e here so_far only later room =
       only (flat_map items_of (drop (i + 1) xs) ++ later)
       (subst HasRoom (so_far.grown later ∙ ap (λ ys. with_items now (flat_map items_of ys ++ later)) here
-          ∙ ap (with_items now) (front x (drop (i + 1) xs) later)) room)
+      ∙ ap (with_items now) (front x (drop (i + 1) xs) later)) room)
 
 -- ---- one part after the other
 
@@ -159,13 +159,13 @@ pub first_refused : {A : Type 0} (answer : Result A AsmError) (e : AsmError) (ol
     → ((later : List Item) → HasRoom (with_items old (xs ++ later)) → e ≡ error.Memory) → OnlyFull old (xs ++ ys) answer
 first_refused answer e old xs ys given only =
     given_on answer e (λ f. (later : List Item) → HasRoom (with_items old ((xs ++ ys) ++ later)) → f ≡ error.Memory)
-        given (first_fails HasRoom old xs ys only)
+    given (first_fails HasRoom old xs ys only)
 
 pub second_refused : {A : Type 0} (answer : Result A AsmError) (e : AsmError) (old mid xs ys : List Item)
     → IsErrAnd answer (λ f. f ≡ e) → Grows old xs mid
     → ((later : List Item) → HasRoom (with_items mid (ys ++ later)) → e ≡ error.Memory) → OnlyFull old (xs ++ ys) answer
 second_refused answer e old mid xs ys given grows only =
     given_on answer e (λ f. (later : List Item) → HasRoom (with_items old ((xs ++ ys) ++ later)) → f ≡ error.Memory)
-        given
+    given
     (λ later room. only later (subst HasRoom (ap (with_items old) (append_assoc xs ys later) ∙ grows (ys ++ later))
-        room))
+    room))

@@ -58,8 +58,12 @@ placed_stand : (f : List ℕ → ℕ) (pc : ℕ) (lines : List TextLine) → sta
 placed_stand f pc [] = refl
 placed_stand f pc (Label l ∷ lines) = placed_stand f pc lines
 placed_stand f pc (Instruction i ∷ lines) =
-    rw (eq-eqb pc pc refl, eq-eqb (pc + size_at pc i) (pc + size_at pc (with_targets f i))
-        (ap (λ n. pc + n) (sym (target_size f pc i))), placed_stand f (pc + size_at pc i) lines) refl
+    rw (
+      eq-eqb pc pc refl,
+      eq-eqb (pc + size_at pc i) (pc + size_at pc (with_targets f i))
+          (ap (λ n. pc + n) (sym (target_size f pc i))),
+      placed_stand f (pc + size_at pc i) lines,
+    ) refl
 
 body_stands : (narrow : List ℤ) (o : Option Body) → code_stands (option_map (code_listing narrow) o) ≡ true
 body_stands narrow None = refl
@@ -84,7 +88,7 @@ body_few (Some c) h = (and_tells (code_is_right c) (is_countable (length c.rows)
 methods_few : (ms : List Method) → list_all method_assembles ms ≡ true → list_all has_few_rows ms ≡ true
 methods_few [] h = refl
 methods_few (m ∷ ms) h = let both = and_tells (method_assembles m) (list_all method_assembles ms) h
-                               in rw (body_few m.code both.0, methods_few ms both.1) refl
+    in rw (body_few m.code both.0, methods_few ms both.1) refl
 
 pub short_lists : (l : ClassListing) → listing_assembles l ≡ true → has_short_lists l ≡ true
 unfolding listing_assembles
@@ -119,31 +123,31 @@ no_super l h =
     let two = and_tells (head && n) s three.0 in
     let one = and_tells head n two.0 in
     let last = and_tells (is_u2 l.flags.0 && are_class_flags l.flags.0 && not (has l.flags.0 0x0020))
-          (not (has l.flags.0 0x0200) || bytes_eq l.superclass (codes "java/lang/Object")) one.0 in
+    (not (has l.flags.0 0x0200) || bytes_eq l.superclass (codes "java/lang/Object")) one.0 in
     not_true (has l.flags.0 0x0020)
-        ((and_tells (is_u2 l.flags.0 && are_class_flags l.flags.0) (not (has l.flags.0 0x0020)) last.0).1)
+    ((and_tells (is_u2 l.flags.0 && are_class_flags l.flags.0) (not (has l.flags.0 0x0020)) last.0).1)
 
 -- ---- the pool
 
 module _ (t : Tree) (old new : List Item) (used : List ℤ) (none : old ≡ []) (same : used ≡ used_in_methods t.methods)
-    where
-  whole : with_items old (map int_item used ++ listing_items (listing_of t)) ≡ with_items [] (tree_items t)
-  whole = ap (λ items. with_items items (map int_item used ++ listing_items (listing_of t))) none
-      ∙ ap (λ zs. with_items [] (map int_item zs ++ listing_items (listing_of t))) same
+  where
+    whole : with_items old (map int_item used ++ listing_items (listing_of t)) ≡ with_items [] (tree_items t)
+    whole = ap (λ items. with_items items (map int_item used ++ listing_items (listing_of t))) none
+        ∙ ap (λ zs. with_items [] (map int_item zs ++ listing_items (listing_of t))) same
 
-  pub tree_pool : Grows old (map int_item used) new → (l : ClassListing) → l ≡ listing_of t
-      → assembled (with_items new (listing_items l)) l ≡ assembled_tree t
-  unfolding assembled_tree
-  tree_pool grown l e =
-      ap (λ k. assembled (with_items new (listing_items k)) k) e
-      ∙ ap (λ items. assembled items (listing_of t)) (sym (grown (listing_items (listing_of t))) ∙ whole)
+    pub tree_pool : Grows old (map int_item used) new → (l : ClassListing) → l ≡ listing_of t
+        → assembled (with_items new (listing_items l)) l ≡ assembled_tree t
+    unfolding assembled_tree
+    tree_pool grown l e =
+        ap (λ k. assembled (with_items new (listing_items k)) k) e
+        ∙ ap (λ items. assembled items (listing_of t)) (sym (grown (listing_items (listing_of t))) ∙ whole)
 
-  pub tree_room : IsClass (assembled_tree t)
-      → HasRoom (with_items old (map int_item used ++ listing_items (listing_of t)))
-  unfolding assembled_tree
-  tree_room is = subst HasRoom (sym whole) (has_room (with_items [] (tree_items t)) (listing_of t) is)
+    pub tree_room : IsClass (assembled_tree t)
+        → HasRoom (with_items old (map int_item used ++ listing_items (listing_of t)))
+    unfolding assembled_tree
+    tree_room is = subst HasRoom (sym whole) (has_room (with_items [] (tree_items t)) (listing_of t) is)
 
-  pub tree_items_are : Grows old (map int_item used) new → (l : ClassListing) → l ≡ listing_of t
-      → with_items new (listing_items l) ≡ with_items [] (tree_items t)
-  tree_items_are grown l e = ap (λ k. with_items new (listing_items k)) e ∙ sym (grown (listing_items (listing_of t)))
-      ∙ whole
+    pub tree_items_are : Grows old (map int_item used) new → (l : ClassListing) → l ≡ listing_of t
+        → with_items new (listing_items l) ≡ with_items [] (tree_items t)
+    tree_items_are grown l e = ap (λ k. with_items new (listing_items k)) e ∙ sym (grown (listing_items (listing_of t)))
+        ∙ whole

@@ -23,4 +23,4 @@ OnlyFull old added answer = IfErr answer (λ e. (later : List Item) → HasRoom 
 abbrev pub OnlyFullWhere : {A : Type 0} → List Item → List Item → (List Item → Type 0) → Result A AsmError → Type 0
 OnlyFullWhere old added Meets answer =
     IfErr answer (λ e. (later : List Item) → HasRoom (with_items old (added ++ later))
-        → Meets (with_items old (added ++ later)) → e ≡ error.Memory)
+    → Meets (with_items old (added ++ later)) → e ≡ error.Memory)

@@ -195,12 +195,18 @@ numbered_catch items None = 0
 numbered_catch items (Some name) = number_of items (class_item name)
 
 abbrev pub numbered_row : List Item → ExceptionRow → CodeRow
-numbered_row items row = record { start = row.start; end = row.end; handler = row.handler;
-    class = numbered_catch items row.class }
+numbered_row items row = record {
+  start = row.start;
+  end = row.end;
+  handler = row.handler;
+  class = numbered_catch items row.class;
+}
 
 abbrev pub numbered_value : List Item → Constant → ConstantValue
-numbered_value items c = record { name = number_of items (text_item (codes "ConstantValue"));
-    value = number_of items (value_item c) }
+numbered_value items c = record {
+  name = number_of items (text_item (codes "ConstantValue"));
+  value = number_of items (value_item c);
+}
 
 abbrev pub numbered_field : List Item → Field → FieldEntry
 numbered_field items f = record {

@@ -27,7 +27,7 @@ fits_found old new v w n fits here there = record {
   counts = each_changed (λ k m. Stands (slice_index new (k + 1)) m) (found n) v.marks w
       (subst (λ (x : ℕ). Stands x (found n (mark_of v.marks w))) (sym here) (stands_found n (mark_of v.marks w)))
       (λ k ne. subst (λ (x : ℕ). Stands x (mark_of v.marks k)) (sym (there (k + 1) (λ e. ne (omega arith))))
-          (fits.counts k));
+      (fits.counts k));
   stop = λ e. λ z. fits.stop e (sym (there 0 (λ h. omega arith)) ∙ z);
   guest = fits.guest;
 }
@@ -58,27 +58,30 @@ module _ (workers slots id : ℕ) (v : View) (cs : List (ℕ × ℕ)) where
         count_found v w n,
         keeps,
         tt,
-        subst (λ (words : List ℕ). Rule (record { words = words; homes = s.homes;
-            views = set s.views id (count_found v w n) })) (sym same)
+        subst (λ (words : List ℕ). Rule (record {
+          words = words;
+          homes = s.homes;
+          views = set s.views id (count_found v w n);
+        })) (sym same)
             (steps ℕ workers id v (count_found v w n) s.words s kept here kept.long
-                (fits_found s.words s.words v w n fits refl (λ i ne. refl)) (λ j t ne at. kept.fits j t at)
-                (owns_found v w n)),
+            (fits_found s.words s.words v w n fits refl (λ i ne. refl)) (λ j t ne at. kept.fits j t at)
+            (owns_found v w n)),
         reported w n n (fits.counts w),
       )
 
   fits_risen : (s : State ℕ View) → Rule s → get_elem? s.views id ≡ some v → (w count : ℕ) (new : List ℕ)
       → (mark_of v.marks w).own ≡ Some count
       → slice_index s.words (w + 1) ≤ slice_index new (w + 1)
-          → ((i : ℕ) → i ≢ w + 1 → slice_index new i ≡ slice_index s.words i)
+      → ((i : ℕ) → i ≢ w + 1 → slice_index new i ≡ slice_index s.words i)
       → (j : ℕ) (t : View) → j ≢ id → get_elem? s.views j ≡ some t → Fits new t
   fits_risen s kept here w count new own up there j t ne at = let fits = kept.fits j t at in record {
     counts = λ k. dite (ℕ_discrete k w)
         (λ e. subst (λ (i : ℕ). Stands (slice_index new (i + 1)) (mark_of t.marks i)) (sym e)
         (stands_risen (slice_index s.words (w + 1)) (slice_index new (w + 1)) (mark_of t.marks w) up
         (foreign (mark_of t.marks w).own
-            (λ o. ne (kept.apart j id t v at here w o (own_count (mark_of v.marks w).own count own)))) (fits.counts w)))
+        (λ o. ne (kept.apart j id t v at here w o (own_count (mark_of v.marks w).own count own)))) (fits.counts w)))
         (λ differs. subst (λ (x : ℕ). Stands x (mark_of t.marks k)) (sym (there (k + 1) (λ e. differs (omega arith))))
-            (fits.counts k));
+        (fits.counts k));
     stop = λ e. λ z. fits.stop e (sym (there 0 (λ h. omega arith)) ∙ z);
     guest = fits.guest;
   }
@@ -94,17 +97,20 @@ module _ (workers slots id : ℕ) (v : View) (cs : List (ℕ × ℕ)) where
       let new : List ℕ = set s.words (w + 1) (n + 1) in
       let at_w : slice_index new (w + 1) ≡ n + 1 = get_or-set_same s.words (w + 1) (n + 1) 0 long in
       let there : (i : ℕ) → i ≢ w + 1 → slice_index new i ≡ slice_index s.words i = λ i ne. get_or-set_other s.words
-            (w + 1) i (n + 1) 0 ne in
+      (w + 1) i (n + 1) 0 ne in
       let after : View = count_found v w (n + 1) in (
         after,
         keeps,
         tt,
-        subst (λ (x : ℕ). Rule (record { words = set s.words (w + 1) x; homes = s.homes;
-            views = set s.views id after })) (sym more)
+        subst (λ (x : ℕ). Rule (record {
+          words = set s.words (w + 1) x;
+          homes = s.homes;
+          views = set s.views id after;
+        })) (sym more)
             (steps ℕ workers id v after new s kept here (length-set s.words (w + 1) (n + 1) ∙ kept.long)
-                (fits_found s.words new v w (n + 1) fits at_w there)
+            (fits_found s.words new v w (n + 1) fits at_w there)
             (fits_risen s kept here w count new own (subst (λ (x : ℕ). n ≤ x) (sym at_w) (omega arith)) there)
-                (owns_found v w (n + 1))),
+            (owns_found v w (n + 1))),
         reported w n (n + 1) (fits.counts w),
       )
 
@@ -118,9 +124,11 @@ set_or_seen n b true e old h = old h
 set_or_seen n b false e old h = not_zero n e
 
 fits_stop : (words : List ℕ) (v : View) → Fits words v → Fits words (stop_found v (slice_index words 0))
-fits_stop words v fits = record { counts = fits.counts;
-    stop = set_or_seen (slice_index words 0) v.stop (nat_eq (slice_index words 0) 0) refl fits.stop;
-    guest = fits.guest }
+fits_stop words v fits = record {
+  counts = fits.counts;
+  stop = set_or_seen (slice_index words 0) v.stop (nat_eq (slice_index words 0) 0) refl fits.stop;
+  guest = fits.guest;
+}
 
 -- the stop's word isn't 0 any more
 fits_stopped : (words : List ℕ) (n : ℕ) (v u : View) → 0 < length words → n ≢ 0 → Fits words v → u.marks ≡ v.marks
@@ -134,8 +142,10 @@ fits_stopped words n v u room ne fits same guest = record {
 }
 
 module _ (workers slots id : ℕ) (v : View) (cs : List (ℕ × ℕ)) where
-  pub stop_look_allowed : Allows (IsKept ℕ workers) slots id (v, cs) 0 (λ n. n) (FindsStop (step slots 0 0 0 none) (v,
-      cs))
+  pub stop_look_allowed : Allows (IsKept ℕ workers) slots id (v, cs) 0 (λ n. n) (FindsStop (step slots 0 0 0 none) (
+    v,
+    cs,
+  ))
   stop_look_allowed s kept len here small =
       let n : ℕ = slice_index s.words 0 in
       let fits = kept.fits id v here in
@@ -143,15 +153,20 @@ module _ (workers slots id : ℕ) (v : View) (cs : List (ℕ × ℕ)) where
         stop_found v n,
         keeps,
         tt,
-        subst (λ (words : List ℕ). IsKept ℕ workers (record { words = words; homes = s.homes;
-            views = set s.views id (stop_found v n) })) (sym same)
+        subst (λ (words : List ℕ). IsKept ℕ workers (record {
+          words = words;
+          homes = s.homes;
+          views = set s.views id (stop_found v n);
+        })) (sym same)
             (steps ℕ workers id v (stop_found v n) s.words s kept here kept.long (fits_stop s.words v fits)
-                (λ j t ne at. kept.fits j t at) (λ w o. o)),
+            (λ j t ne at. kept.fits j t at) (λ w o. o)),
         (fits.stop, fits.guest, refl),
       )
 
-  pub ask_allowed : Allows (IsKept ℕ workers) slots id (v, cs) 0 (λ n. bit_or n 1) (SetsStop (step slots 0 1 0 none) (v,
-      cs))
+  pub ask_allowed : Allows (IsKept ℕ workers) slots id (v, cs) 0 (λ n. bit_or n 1) (SetsStop (step slots 0 1 0 none) (
+    v,
+    cs,
+  ))
   ask_allowed s kept len here small =
       let n : ℕ = bit_or (slice_index s.words 0) 1 in
       let set_now : n ≢ 0 = λ e. (let le = le_or_r (slice_index s.words 0) 1 in omega arith) in
@@ -161,8 +176,8 @@ module _ (workers slots id : ℕ) (v : View) (cs : List (ℕ × ℕ)) where
         tt,
         steps ℕ workers id v (stop_found v 1) (set s.words 0 n) s kept here (length-set s.words 0 n ∙ kept.long)
             (fits_stopped s.words n v (stop_found v 1) room set_now (kept.fits id v here) refl
-                (kept.fits id v here).guest)
+            (kept.fits id v here).guest)
             (λ j t ne at. fits_stopped s.words n t t room set_now (kept.fits j t at) refl (kept.fits j t at).guest)
-                (λ w o. o),
+            (λ w o. o),
         refl,
       )

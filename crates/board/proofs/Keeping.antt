@@ -21,7 +21,7 @@ pub kept_so : (S : Type 0) (workers : ℕ) (s t : State S View) (place : ℕ →
     ≡ workers + 1
     → ((j : ℕ) (u : View) → get_elem? t.views j ≡ some u → Fits t.words u)
     → ((j : ℕ) (u : View) (w : ℕ) → get_elem? t.views j ≡ some u → Owns u w → OwnedFrom s.views place j w)
-        → IsKept S workers t
+    → IsKept S workers t
 kept_so S workers s t place kept long fits from = record {
   long = long;
   fits = fits;
@@ -39,9 +39,9 @@ owns_same u v w e o = subst (λ (x : View). Owns x w) (sym e) o
 pub steps : (S : Type 0) (workers id : ℕ) (v u : View) (words : List ℕ) (s : State S View) → IsKept S workers s
     → get_elem? s.views id ≡ some v
     → length words ≡ workers + 1 → Fits words u → ((j : ℕ) (t : View) → j ≢ id → get_elem? s.views j ≡ some t
-        → Fits words t)
+    → Fits words t)
     → ((w : ℕ) → Owns u w → Owns v w)
-        → IsKept S workers (record { words = words; homes = s.homes; views = set s.views id u })
+    → IsKept S workers (record { words = words; homes = s.homes; views = set s.views id u })
 steps S workers id v u words s kept here long mine others own = kept_so S workers s
     (record { words = words; homes = s.homes; views = set s.views id u }) (λ w i. i) kept long
     (λ j t at. ⊎_elim (λ h. subst (Fits words) h.1 mine) (λ h. others j t h.0 h.1) (at_set s.views id j u t at))
@@ -73,13 +73,13 @@ pub joins : (S : Type 0) (workers id : ℕ) (v : View) (other : ℕ) (w both : V
     → ((x : ℕ) → Owns both x → Owns v x ⊎ Owns w x) → Joins (IsKept S workers) id v other w both spent
 joins S workers id v other w both fit own s kept here ne there =
     let was : get_elem? s.views other ≡ some w = ⊎_elim (λ h. absurd (ne h.0)) (λ h. h.1)
-          (at_set s.views id other both w there) in
+    (at_set s.views id other both w there) in
     kept_so S workers s (record { words = s.words; homes = s.homes; views = set (set s.views id both) other spent })
-        (λ x i. sent other id i) kept kept.long
+    (λ x i. sent other id i) kept kept.long
     (λ j u at. ⊎_elim
     (λ h. subst (Fits s.words) h.1 (fits_spent s.words))
     (λ h. ⊎_elim (λ k. subst (Fits s.words) k.1 (fit s.words (λ x a b. ne (kept.apart other id w v was here x b a))
-        (kept.fits id v here) (kept.fits other w was))) (λ k. kept.fits j u k.1) (at_set s.views id j both u h.1))
+    (kept.fits id v here) (kept.fits other w was))) (λ k. kept.fits j u k.1) (at_set s.views id j both u h.1))
     (at_set (set s.views id both) other j spent u at))
     (λ j u x at o. ⊎_elim
     (λ h. absurd (owns_nothing x (owns_same spent u x h.1 o)))
@@ -117,25 +117,34 @@ moved_else false from to i ne = refl
 pub splits : (S : Type 0) (workers id : ℕ) (v left right : View) → ((words : List ℕ) → Fits words v → Fits words left
     × Fits words right)
     → ((w : ℕ) → Owns left w → Owns v w) → ((w : ℕ) → Owns right w → Owns v w)
-        → ((w : ℕ) → Owns left w → Owns right w → ⊥)
+    → ((w : ℕ) → Owns left w → Owns right w → ⊥)
     → Splits (IsKept S workers) id v left right
 splits S workers id v left right fit own_left own_right apart s kept here =
     let new : ℕ = length s.views in
     let pair = fit s.words (kept.fits id v here) in
     kept_so S workers s (record { words = s.words; homes = s.homes; views = set s.views id left ++ right ∷ [] })
-        (λ w i. moved (is_own right.marks w) id new i) kept kept.long
+    (λ w i. moved (is_own right.marks w) id new i) kept kept.long
     (λ j u at. ⊎_elim
     (λ h. ⊎_elim (λ k. subst (Fits s.words) k.1 pair.0) (λ k. kept.fits j u k.1) (at_set s.views id j left u h))
     (λ h. subst (Fits s.words) h.1 pair.1)
     (at_end (set s.views id left) right u j at))
     (λ j u w at o. ⊎_elim
     (λ h. ⊎_elim
-    (λ k. let mine = owns_same left u w k.1 o in
-    (id, v, here, own_left w mine,
-        k.0 ∙ sym (ap (λ (b : Bool). moved b id new id) (not_true (is_own right.marks w) (apart w mine)))))
+    (λ k. let mine = owns_same left u w k.1 o in (
+      id,
+      v,
+      here,
+      own_left w mine,
+      k.0 ∙ sym (ap (λ (b : Bool). moved b id new id) (not_true (is_own right.marks w) (apart w mine))),
+    ))
     (λ k. (j, u, k.1, o, sym (moved_else (is_own right.marks w) id new j k.0)))
     (at_set s.views id j left u h))
-    (λ h. let yours = owns_same right u w h.1 o in
-    (id, v, here, own_right w yours, (h.0 ∙ length-set s.views id left)
-        ∙ sym (ap (λ (b : Bool). moved b id new id) yours ∙ sent_it id new)))
+    (λ h. let yours = owns_same right u w h.1 o in (
+      id,
+      v,
+      here,
+      own_right w yours,
+      (h.0 ∙ length-set s.views id left)
+          ∙ sym (ap (λ (b : Bool). moved b id new id) yours ∙ sent_it id new),
+    ))
     (at_end (set s.views id left) right u j at))

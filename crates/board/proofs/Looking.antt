@@ -61,7 +61,7 @@ look_tells v w n stands = record {
 module _ (slots w n : ℕ) (me new : Me ℕ View) where
   pub looked : FindsCount (step slots (w + 1) 0 0 none) me n new → Looked w n me.0 new.0
   looked is = let f = is w refl in subst (Looked w n me.0) (sym (ap (λ (m : Me ℕ View). m.0) f.1))
-                    (look_tells me.0 w n f.0)
+      (look_tells me.0 w n f.0)
 
   pub look_keeps_slots : FindsCount (step slots (w + 1) 0 0 none) me n new → new.1 ≡ me.1
   look_keeps_slots is = ap (λ (m : Me ℕ View). m.1) (is w refl).1
@@ -104,7 +104,7 @@ module _ (slots worker count n : ℕ) (me new : Me ℕ View) (held : Holds me wo
     own = ap (λ (m : Me ℕ View). (mark_of m.0.marks worker).own) is ∙ own_now;
     no_other = λ w ne. ap (λ (m : Me ℕ View). (mark_of m.0.marks w).own) is
         ∙ each_changed (λ k m. k ≢ worker → m.own ≡ None) (found (n + 1)) me.0.marks worker
-            (λ never. absurd (never refl)) (λ k other again. held.no_other k again) w ne;
+        (λ never. absurd (never refl)) (λ k other again. held.no_other k again) w ne;
   }
 
   pub pulse_later : (w : ℕ) → (mark_of me.0.marks w).seen ≤ (mark_of new.0.marks w).seen

@@ -116,8 +116,10 @@ stands_found n m = (le_refl n, owned_found n m.own)
 
 -- another's count may rise
 pub stands_risen : (n k : ℕ) (m : Mark) → n ≤ k → m.own ≡ None → Stands n m → Stands k m
-stands_risen n k m le foreign is = ((let a = is.0 in omega arith),
-                                           subst (λ (o : Option ℕ). IfSome o (λ c. k ≡ c)) (sym foreign) tt)
+stands_risen n k m le foreign is = (
+  (let a = is.0 in omega arith),
+  subst (λ (o : Option ℕ). IfSome o (λ c. k ≡ c)) (sym foreign) tt,
+)
 
 pub owned_is : (n : ℕ) (m : Mark) (count : ℕ) → m.own ≡ Some count → Stands n m → n ≡ count
 owned_is n m count own is = subst (λ (o : Option ℕ). IfSome o (λ c. n ≡ c)) own is.1

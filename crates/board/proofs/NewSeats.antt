@@ -20,8 +20,12 @@ none_seen (suc n) zero = refl
 none_seen (suc n) (suc k) = none_seen n k
 
 pub opening_is : (workers : ℕ) → IsNextSeat workers 0 (unseated workers)
-opening_is workers = record { next_is = refl; own = λ w from to. all_owned workers w to;
-    unseen = λ w. none_seen workers w; stop = refl }
+opening_is workers = record {
+  next_is = refl;
+  own = λ w from to. all_owned workers w to;
+  unseen = λ w. none_seen workers w;
+  stop = refl;
+}
 
 module _ (workers next : ℕ) (v : View) (is : IsNextSeat workers next v) where
   pub rest_is : IsNextSeat workers (next + 1) (seats_left v)

@@ -52,16 +52,16 @@ module _ (board : Board) (seats left rest : List BoardSeat) (last : BoardSeat) (
   one_gathered = record {
     own = λ i seat le at. dite (ℕ_discrete i (length rest))
         (λ e. subst (λ (s : BoardSeat). (mark_of both.marks s.worker).own ≡ Some s.count) (is_last i seat e at)
-            own_last)
+        own_last)
         (λ ne. own_from seat.worker (Some seat.count) (before.own i seat (let l = one_less in omega arith) at));
     not_yet = λ i seat lt at. own_from seat.worker None (before.not_yet i seat (let l = one_less in omega arith) at)
         ∙ last.no_other seat.worker (λ e. let same = all.once i (length rest) seat last at last_at e in omega arith);
     seen = λ i w seat le at. dite (ℕ_discrete i (length rest))
         (λ e. subst (λ (s : BoardSeat). seen_of s w ≤ (mark_of both.marks w).seen) (is_last i seat e at)
-            (seen-together v.marks last.seat.me.0.marks w).1)
+        (seen-together v.marks last.seat.me.0.marks w).1)
         (λ ne. let a = before.seen i w seat (let l = one_less in omega arith) at
-                                                   in let b = (seen-together v.marks last.seat.me.0.marks w).0
-                                                            in omega arith);
+        in let b = (seen-together v.marks last.seat.me.0.marks w).0
+        in omega arith);
   }
 
   pub still_first : AreFirst rest seats
@@ -92,11 +92,11 @@ one_counted seats counts w n before after room all look counted = record {
   is = λ i seat lt at. dite (ℕ_discrete seat.worker w)
       (λ e. ap (slice_index (set counts w n)) e
       ∙ (here ∙ own_count_found w n before after seat.count look (ap (λ (k : ℕ). (mark_of before.marks k).own) (sym e)
-          ∙ all.own i seat (omega arith) at)))
+      ∙ all.own i seat (omega arith) at)))
       (λ ne. there seat.worker ne ∙ counted.is i seat (omega arith) at);
   seen = λ i j seat at lt. dite (ℕ_discrete j w)
       (λ e. subst (λ (x : ℕ). seen_of seat x ≤ slice_index (set counts w n) x) (sym e)
-          (let a = all.seen i w seat (omega arith) at in let b = look.stands.0 in let c = here in omega arith))
+      (let a = all.seen i w seat (omega arith) at in let b = look.stands.0 in let c = here in omega arith))
       (λ ne. let a = counted.seen i j seat at (omega arith) in let b = there j ne in omega arith);
   past = λ j le. there j (λ e. omega arith) ∙ counted.past j (omega arith);
 }

@@ -41,7 +41,7 @@ longer (y ∷ ys) last = let e = longer ys last in omega arith
 -- seats in the workers' order are all seats
 pub all_in_order : (board : Board) (seats : List BoardSeat) → length seats ≡ workers_of board
     → ((w : ℕ) (seat : BoardSeat) → slice_get seats w ≡ Some seat → IsSeatOf board seat × (worker_of seat ≡ w))
-        → AreAllSeats board seats
+    → AreAllSeats board seats
 all_in_order board seats long at = record {
   all = long;
   mine = λ i seat e. (at i seat e).0;

@@ -92,13 +92,13 @@ module _ (workers id : ℕ) (v : View) (other : ℕ) (w : View) where
       (λ words apart fits_v fits_w. record {
         counts = subst (λ (ms : List Mark). (k : ℕ) → Stands (slice_index words (k + 1)) (mark_of ms k)) (sym marks)
             (each_together (λ k m. Stands (slice_index words (k + 1)) m) v.marks w.marks
-                (λ k. stands_joined (slice_index words (k + 1)) (mark_of v.marks k) (mark_of w.marks k)
-                (fits_v.counts k) (fits_w.counts k)));
+            (λ k. stands_joined (slice_index words (k + 1)) (mark_of v.marks k) (mark_of w.marks k)
+            (fits_v.counts k) (fits_w.counts k)));
         stop = λ e. ⊎_elim fits_v.stop fits_w.stop (either v.stop w.stop (sym stop ∙ e));
         guest = guest apart;
       })
       (λ x o. each_together (λ k m. is_some m.own ≡ true → Owns v k ⊎ Owns w k) v.marks w.marks
-          (λ k. some_either (mark_of v.marks k).own (mark_of w.marks k).own) x
+      (λ k. some_either (mark_of v.marks k).own (mark_of w.marks k).own) x
       (subst (λ (ms : List Mark). is_some (mark_of ms x).own ≡ true) marks o))
 
   -- both views own their own workers' counts, so these are two workers

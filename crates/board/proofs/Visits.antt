@@ -33,8 +33,8 @@ round_goes_on w n before mid after round look = record {
   later = λ k. (let a = round.later k in let b = look.later k in omega arith);
   exact = λ k count lt own. dite (ℕ_discrete k w)
       (λ e. ap (λ (j : ℕ). (mark_of after.marks j).seen) e
-          ∙ (look.now ∙ own_count_found w n mid after count look (ap (λ (j : ℕ). (mark_of mid.marks j).own) (sym e)
-          ∙ (round.own k ∙ own))))
+      ∙ (look.now ∙ own_count_found w n mid after count look (ap (λ (j : ℕ). (mark_of mid.marks j).own) (sym e)
+      ∙ (round.own k ∙ own))))
       (λ ne. look.others k ne ∙ round.exact k count (omega arith) own);
   stop = λ e. look.stop ∙ round.stop e;
 }
@@ -79,7 +79,7 @@ module _ (workers a b m n : ℕ) (host guest : Me ℕ View) (h : Holds host a m)
       × (host.0.stop ≡ true → v.stop ≡ true)
   as_host v sees = (
     (λ w. let e = sees.0 w in let x = (seen-together host.0.marks guest.0.marks w).0
-                                    in let y = round.later w in omega arith),
+        in let y = round.later w in omega arith),
     (λ e. sees.1 ∙ round.stop (or_left host.0.stop guest.0.stop e)),
   )
 
@@ -87,17 +87,21 @@ module _ (workers a b m n : ℕ) (host guest : Me ℕ View) (h : Holds host a m)
       × (guest.0.stop ≡ true → v.stop ≡ true)
   as_guest v sees = (
     (λ w. let e = sees.0 w in let x = (seen-together host.0.marks guest.0.marks w).1
-                                    in let y = round.later w in omega arith),
+        in let y = round.later w in omega arith),
     (λ e. sees.1 ∙ round.stop (or_right host.0.stop guest.0.stop e)),
   )
 
   pub host_sees : (new : Me ℕ View) → new.0 ≡ host_after u → Sees new.0
-  host_sees new is = ((λ w. ap (λ (v : View). (mark_of v.marks w).seen) is ∙ seen-without u.marks (guest_of u) w),
-      ap (λ (v : View). v.stop) is)
+  host_sees new is = (
+    (λ w. ap (λ (v : View). (mark_of v.marks w).seen) is ∙ seen-without u.marks (guest_of u) w),
+    ap (λ (v : View). v.stop) is,
+  )
 
   pub guest_sees : (new : Me ℕ View) → new.0 ≡ guest_after u → Sees new.0
-  guest_sees new is = ((λ w. ap (λ (v : View). (mark_of v.marks w).seen) is ∙ seen-only u.marks (guest_of u) w),
-      ap (λ (v : View). v.stop) is)
+  guest_sees new is = (
+    (λ w. ap (λ (v : View). (mark_of v.marks w).seen) is ∙ seen-only u.marks (guest_of u) w),
+    ap (λ (v : View). v.stop) is,
+  )
 
   pub host_holds : (new : Me ℕ View) → new.0 ≡ host_after u → new.1 ≡ [] → Holds new a m
   host_holds new is slots = record {
@@ -125,4 +129,4 @@ pub round_of_both : (workers : ℕ) (host guest handed joined : Me ℕ View) (u 
     → LooksRound workers (hosting host.0 guest.0) u
 round_of_both workers host guest handed joined u over in_it round =
     subst (λ (v : View). LooksRound workers v u) (ap (λ (m : Me ℕ View). m.0) in_it
-        ∙ ap (λ (m : Me ℕ View). hosting host.0 m.0) over) round
+    ∙ ap (λ (m : Me ℕ View). hosting host.0 m.0) over) round

@@ -28,8 +28,12 @@ pub record IsKept (S : Type 0) (workers : ℕ) (s : State S View) : Type 0 where
 
 -- all counts, each 0; worker 0 gets its seat next
 abbrev pub unseated : ℕ → View
-unseated workers = record { worker = 0; guest = None; marks = replicate workers (record { seen = 0; own = Some 0 });
-    stop = false }
+unseated workers = record {
+  worker = 0;
+  guest = None;
+  marks = replicate workers (record { seen = 0; own = Some 0 });
+  stop = false;
+}
 
 -- nothing is known or owned
 abbrev pub spent : View
@@ -44,8 +48,12 @@ seats_left v = record { worker = v.worker + 1; guest = None; marks = without v.m
 
 -- a seat that has taken in another's view, as its guest or for good
 abbrev pub hosting : View → View → View
-hosting v w = record { worker = v.worker; guest = Some w.worker; marks = together v.marks w.marks;
-    stop = v.stop || w.stop }
+hosting v w = record {
+  worker = v.worker;
+  guest = Some w.worker;
+  marks = together v.marks w.marks;
+  stop = v.stop || w.stop;
+}
 
 abbrev pub gathered : View → View → View
 gathered v w = record { worker = v.worker; guest = None; marks = together v.marks w.marks; stop = v.stop || w.stop }

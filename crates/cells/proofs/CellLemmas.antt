@@ -18,7 +18,7 @@ use Rattle.cells.proofs.LayoutLemmas.{stands_at, changed, object_found}
 
 pub with_objects : {K : Type 0} (shape : HeapShape) (os os' : List (Option (StoredObject K))) → os ≡ os'
     → (let y : CellsValue K = record { shape = shape; objects = os } in y)
-             ≡ (let y : CellsValue K = record { shape = shape; objects = os' } in y)
+    ≡ (let y : CellsValue K = record { shape = shape; objects = os' } in y)
 with_objects shape os os' e = ap (λ xs. let y : CellsValue _ = record { shape = shape; objects = xs } in y) e
 
 set_found : {A : Type 0} (xs : List A) (n : ℕ) (x : A) → slice_get xs n ≡ Some x → set xs n x ≡ xs
@@ -42,7 +42,7 @@ pub nowhere : {K : Type 0} (shape : HeapShape) (words : List Value) (hs : List (
     ≡ with_object (cells_in shape words hs) cell o
 nowhere shape words hs cell o missing =
     with_objects shape _ _ (sym (set_missing (map (stored_in words) hs) cell o (slice_get-map (stored_in words) hs cell
-        ∙ ap (option_map (stored_in words)) missing)))
+    ∙ ap (option_map (stored_in words)) missing)))
 
 -- ---- another header for the same words
 
@@ -68,7 +68,7 @@ pub monitored : {K : Type 0} (shape : HeapShape) (words : List Value) (hs : List
 monitored shape words hs cell h m found =
     headed shape words hs cell (record h { monitor = m }) _
     (stored_monitor (used_words words h) h m h.kind
-        ∙ ap (option_map (monitor_set m)) (sym (object_found words hs cell h found)))
+    ∙ ap (option_map (monitor_set m)) (sym (object_found words hs cell h found)))
 
 stored_thread : {K : Type 0} (used : List Value) (h : Header K) (t : Option ℕ) (kind : Option K)
     → stored_as used (record h { thread = t }) kind ≡ option_map (thread_set t) (stored_as used h kind)
@@ -81,7 +81,7 @@ pub threaded : {K : Type 0} (shape : HeapShape) (words : List Value) (hs : List 
 threaded shape words hs cell h t found =
     headed shape words hs cell (record h { thread = t }) _
     (stored_thread (used_words words h) h t h.kind
-        ∙ ap (option_map (thread_set t)) (sym (object_found words hs cell h found)))
+    ∙ ap (option_map (thread_set t)) (sym (object_found words hs cell h found)))
 
 -- ---- a word is written
 
@@ -100,14 +100,14 @@ written shape room words hs cell index h v laid found within =
     let room_is = at.0.room_is in
     let new = set words (h.base + index) v in
     let stored : stored_in new h
-          ≡ option_map (word_set index v) (object_if (slice_get (map (stored_in words) hs) cell)) =
+    ≡ option_map (word_set index v) (object_if (slice_get (map (stored_in words) hs) cell)) =
     ap (λ used. stored_as used h h.kind) (set_used words h.base h.length index v within)
     ∙ stored_word (used_words words h) h index v h.kind
     ∙ ap (option_map (word_set index v)) (sym (object_found words hs cell h found)) in
     with_objects shape _ _
     (ap (map (stored_in new)) (sym (set_found hs cell h found))
     ∙ changed room 0 0 hs (length words) cell (h.base + index) (suc (h.base + index)) h h words new laid found
-        (set_same words (h.base + index) v) (omega arith) (omega (arith, within, fits, room_is))
+    (set_same words (h.base + index) v) (omega arith) (omega (arith, within, fits, room_is))
     ∙ ap (λ o. set (map (stored_in words) hs) cell o) stored)
 
 word_past : {K : Type 0} (index : ℕ) (v : Value) (o : Option (StoredObject K)) → length (words_if o) ≤ index
@@ -122,28 +122,34 @@ pub unwritten : {K : Type 0} (cells : CellsValue K) (cell index : ℕ) (v : Valu
 unwritten cells cell index v past =
     with_objects cells.shape _ _
     (sym (ap (λ o. set cells.objects cell o) (word_past index v (object_if (slice_get cells.objects cell)) past)
-        ∙ set_back cells.objects cell))
+    ∙ set_back cells.objects cell))
 
 -- ---- a new object
 
 pub placed : {K : Type 0} (shape : HeapShape) (room : ℕ → ℕ) (words new vs : List Value) (hs : List
     (Header K)) (cell count : ℕ) (h h' : Header K) (kind : K) → AreLaidOut room 0 0 hs (length words)
     → slice_get hs cell ≡ Some h → length vs ≡ count → count ≤ h.room → new ≡ overwritten words h.base count vs
-    → h' ≡ record { base = h.base; room = h.room; length = count; kind = Some kind; monitor = free_monitor;
-        thread = None }
+    → h' ≡ record {
+      base = h.base;
+      room = h.room;
+      length = count;
+      kind = Some kind;
+      monitor = free_monitor;
+      thread = None;
+    }
     → cells_in shape new (set hs cell h') ≡ with_object (cells_in shape words hs) cell (Some (made_object kind vs))
 placed shape room words new vs hs cell count h h' kind laid found long fits is header_is =
     let at = stands_at room 0 0 hs (length words) cell (0 + cell) h laid found refl in
     let within = at.1 in
     let inside : h.base + count ≤ length words = omega (arith, within, fits) in
     let same : SameOutside h.base (h.base + count) words new = rw is (overwrite_same words h.base count vs long inside)
-          in
+    in
     let used : take count (drop h.base new) ≡ vs = rw is (overwrite_used words h.base count vs long inside) in
     with_objects shape _ _
     (changed room 0 0 hs (length words) cell h.base (h.base + count) h h' words new laid found same (omega arith)
-        (omega (arith, fits))
+    (omega (arith, fits))
     ∙ ap (λ o. set (map (stored_in words) hs) cell o) (ap (stored_in new) header_is
-        ∙ ap (λ ws. Some (made_object kind ws)) used))
+    ∙ ap (λ ws. Some (made_object kind ws)) used))
 
 -- ---- what a caller promised, told of the fields
 
@@ -152,5 +158,5 @@ pub enough : {K : Type 0} (shape : HeapShape) (words : List Value) (hs : List (H
     → count ≤ words_of_cell cells.shape cell → count ≤ room
 enough shape words hs cells room cell count seen room_is fits =
     let same : words_of_cell cells.shape cell ≡ room = ap (λ (y : CellsValue _). words_of_cell y.shape cell) (sym seen)
-          ∙ sym room_is in
+    ∙ sym room_is in
     omega (arith, same, fits)

@@ -105,7 +105,7 @@ following room c from (x ∷ hs) end lo hi old new laid after same =
     let here = stored_same old new x (stays_above x.base x.length lo hi old new same (omega (arith, begins, after))) in
     ap (λ o. o ∷ map (stored_in new) hs) here
     ∙ ap (λ os. stored_in old x ∷ os) (following room (suc c) (from + room c) hs end lo hi old new laid.1
-        (omega (arith, after)) same)
+    (omega (arith, after)) same)
 
 -- a cell's words and header are written: in all others is what was there
 pub changed : {K : Type 0} (room : ℕ → ℕ) (c from : ℕ) (hs : List (Header K)) (end cell lo hi : ℕ) (h h' : Header K)
@@ -120,16 +120,21 @@ changed room c from (x ∷ hs) end zero lo hi h h' old new laid found same low h
     let begins = laid.0.begins in
     let room_is = laid.0.room_is in
     ap (λ os. stored_in new h' ∷ os) (following room (suc c) (from + room c) hs end lo hi old new laid.1
-        (omega (arith, high, base_is, wide, begins, room_is)) same)
+    (omega (arith, high, base_is, wide, begins, room_is)) same)
 changed room c from (x ∷ hs) end (suc cell) lo hi h h' old new laid found same low high =
     let after = begins_after room (suc c) (from + room c) hs end cell h laid.1 found in
     let begins = laid.0.begins in
     let fits = laid.0.fits in
-    let here = stored_same old new x (stays_below x.base x.length lo hi old new same (omega (arith, after, begins, fits,
-          low))) in
+    let here = stored_same old new x (stays_below x.base x.length lo hi old new same (omega (
+      arith,
+      after,
+      begins,
+      fits,
+      low,
+    ))) in
     ap (λ o. o ∷ map (stored_in new) (set hs cell h')) here
     ∙ ap (λ os. stored_in old x ∷ os) (changed room (suc c) (from + room c) hs end cell lo hi h h' old new laid.1 found
-        same low high)
+    same low high)
 
 -- ---- what is found in a cell
 
@@ -179,7 +184,7 @@ get-drop : {A : Type 0} (xs : List A) (base n : ℕ) → slice_get (drop base xs
 get-drop xs zero n = ap (slice_get xs) (omega arith)
 get-drop [] (suc base) n = refl
 get-drop (x ∷ xs) (suc base) n = let e : suc (base + n) ≡ suc base + n = omega arith in get-drop xs base n
-                                       ∙ ap (slice_get (x ∷ xs)) e
+    ∙ ap (slice_get (x ∷ xs)) e
 
 -- a word that the object of a cell uses is one of the array's
 pub word_found : {K : Type 0} (room : ℕ → ℕ) (words : List Value) (hs : List (Header K)) (cell index : ℕ) (h : Header K)
@@ -221,8 +226,14 @@ laid_out-set_for room hs words new cell h h' laid same found base_is room_is fit
 pub laid_out-occupied : {K : Type 0} (room : ℕ → ℕ) (hs : List
     (Header K)) (words new : List Value) (cell count : ℕ) (h h' : Header K) (kind : K)
     → AreLaidOut room 0 0 hs (length words) → length new ≡ length words → slice_get hs cell ≡ Some h → count ≤ h.room
-    → h' ≡ record { base = h.base; room = h.room; length = count; kind = Some kind; monitor = free_monitor;
-        thread = None }
+    → h' ≡ record {
+      base = h.base;
+      room = h.room;
+      length = count;
+      kind = Some kind;
+      monitor = free_monitor;
+      thread = None;
+    }
     → AreLaidOut room 0 0 (set hs cell h') (length new)
 laid_out-occupied room hs words new cell count h h' kind laid same found fits is =
     rw is (laid_out-set_for room hs words new cell h _ laid same found refl refl fits (λ none. cc none))

@@ -18,7 +18,7 @@ pub stays_below : (base count from to : ℕ) (old new : List Value) → SameOuts
     → take count (drop base new) ≡ take count (drop base old)
 stays_below base count from to old new same within =
     let cut = sym (take-take (base + count) from new within) ∙ ap (take (base + count)) same.below
-          ∙ take-take (base + count) from old within in
+    ∙ take-take (base + count) from old within in
     sym (drop-take base count new) ∙ ap (drop base) cut ∙ drop-take base count old
 
 -- some words that lie above
@@ -58,8 +58,12 @@ pub overwrite_same : (words : List Value) (base count : ℕ) (vs : List Value) �
     → base + count ≤ length words → SameOutside base (base + count) words (overwritten words base count vs)
 overwrite_same words base count vs long within = record {
   long =
-      omega (arith, length-append (take base words ++ vs) (drop (base + count) words),
-          length-overwritten words base count vs long within, length-drop (base + count) words);
+      omega (
+        arith,
+        length-append (take base words ++ vs) (drop (base + count) words),
+        length-overwritten words base count vs long within,
+        length-drop (base + count) words,
+      );
   below =
       ap (take base) (append_assoc (take base words) vs (drop (base + count) words))
       ∙ take_at (take base words) (vs ++ drop (base + count) words) base (length-take-le base words (omega arith));
@@ -72,7 +76,7 @@ pub overwrite_used : (words : List Value) (base count : ℕ) (vs : List Value) �
 overwrite_used words base count vs long within =
     ap (λ ws. take count (drop base ws)) (append_assoc (take base words) vs (drop (base + count) words))
     ∙ ap (take count) (drop_at (take base words) (vs ++ drop (base + count) words) base
-        (length-take-le base words (omega arith)))
+    (length-take-le base words (omega arith)))
     ∙ take_at vs (drop (base + count) words) count long
 
 -- the same of words that are reported twice

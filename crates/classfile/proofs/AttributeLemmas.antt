@@ -44,7 +44,7 @@ pub sized_again : (info rest : List ℕ) → length info < 2 ^ 32 → sized_from
 unfolding sized_from
 sized_again info rest small =
     ap sized_from (append_assoc (u4 (length info)) info rest)
-        ∙ rw (number_again w32 wide32 (length info) (info ++ rest) small) (taken_again info rest)
+    ∙ rw (number_again w32 wide32 (length info) (info ++ rest) small) (taken_again info rest)
 
 -- ---- texts
 
@@ -56,21 +56,23 @@ pub record IsText (pool : List Entry) (bytes : List ℕ) (x : (ℕ × List ℕ) 
 some_text : (o : Option (List ℕ)) (rest : List ℕ) (y : List ℕ × List ℕ) → the_text o rest ≡ Ok y → (o ≡ Some y.0)
     × (rest ≡ y.1)
 some_text None rest y e = absurd cc
-some_text (Some text) rest y e = let same = ok_is (text, rest) y e in (ap (λ (p : List ℕ × List ℕ). Some p.0) same,
-                                       ap (λ (p : List ℕ × List ℕ). p.1) same)
+some_text (Some text) rest y e = let same = ok_is (text, rest) y e in (
+  ap (λ (p : List ℕ × List ℕ). Some p.0) same,
+  ap (λ (p : List ℕ × List ℕ). p.1) same,
+)
 
 pub text_takes : (pool : List Entry) (bytes : List ℕ) (x : (ℕ × List ℕ) × List ℕ) → IsBytes bytes → text_from pool bytes
     ≡ Ok x → IsText pool bytes x
 unfolding text_from
 text_takes pool bytes x fits e =
     let a = bind_ok (number_at w16 bytes) (λ number. the_text (text_at pool number.0) number.1
-          >>= λ text. Ok ((number.0, text.0), text.1)) x e in
+    >>= λ text. Ok ((number.0, text.0), text.1)) x e in
     let b = bind_ok (the_text (text_at pool a.0.0) a.0.1) (λ text. Ok ((a.0.0, text.0), text.1)) x a.2 in
     let t = number_takes w16 wide16 bytes a.0.0 a.0.1 fits a.1 in
     let s = some_text (text_at pool a.0.0) a.0.1 b.0 b.1 in
     let made : (ℕ × List ℕ) × List ℕ = ((a.0.0, b.0.0), b.0.1) in
     subst (IsText pool bytes) (ok_is made x b.2)
-        (record { takes = subst (λ (r : List ℕ). Takes bytes (u2 a.0.0) r) s.1 t.0; small = t.1; text = s.0 })
+    (record { takes = subst (λ (r : List ℕ). Takes bytes (u2 a.0.0) r) s.1 t.0; small = t.1; text = s.0 })
 
 pub text_again : (pool : List Entry) (n : ℕ) (text rest : List ℕ) → n < 2 ^ 16 → text_at pool n ≡ Some text
     → text_from pool (u2 n ++ rest) ≡ Ok ((n, text), rest)
@@ -84,7 +86,7 @@ tested_takes pool test bytes x fits e =
     let b = bind_ok (text_from pool bytes) (λ t. cond (test t.0.1) (Ok t) (Err Name)) x e in
     let p = passed_ok (test b.0.0.1) Name (Ok b.0) x b.2 in
     subst (λ (y : (ℕ × List ℕ) × List ℕ). IsText pool bytes y × (test y.0.1 ≡ true)) (ok_is b.0 x p.1)
-        (text_takes pool bytes b.0 fits b.1, p.0)
+    (text_takes pool bytes b.0 fits b.1, p.0)
 
 pub tested_again : (pool : List Entry) (test : List ℕ → Bool) (n : ℕ) (text rest : List ℕ) → n < 2 ^ 16 → text_at pool n
     ≡ Some text → test text ≡ true → tested_from pool test (u2 n ++ rest) ≡ Ok ((n, text), rest)
@@ -127,7 +129,7 @@ module _ {S : Type 0} (pool : List Entry) (wanted : List ℕ → Bool) (step : S
   unfolding attribute_from
   attribute_takes takes s bytes x fits e =
       let b = bind_ok (text_from pool bytes) (λ name. cond (wanted name.0.1) (step s name.0.0 name.1)
-            (skipped s name.1)) x e in
+      (skipped s name.1)) x e in
       let t = text_takes pool bytes b.0 fits b.1 in
       let there : is_some (text_at pool b.0.0.0) ≡ true = ap is_some t.text in
       let same : passes wanted (text_at pool b.0.0.0) ≡ wanted b.0.0.1 = ap (passes wanted) t.text in
@@ -169,11 +171,16 @@ module _ {S : Type 0} (pool : List Entry) (wanted : List ℕ → Bool) (step : S
       → attributes_from pool wanted step n s bytes ≡ Ok x → AreAttributes n s bytes x
   unfolding attributes_from
   attributes_take takes zero s bytes x fits e =
-      subst (λ (y : S × List ℕ). AreAttributes 0 s bytes y) (ok_is (s, bytes) x e) (record { attributes = [];
-          takes = Takes-nothing bytes fits; number = refl; fit = tt; runs = refl })
+      subst (λ (y : S × List ℕ). AreAttributes 0 s bytes y) (ok_is (s, bytes) x e) (record {
+        attributes = [];
+        takes = Takes-nothing bytes fits;
+        number = refl;
+        fit = tt;
+        runs = refl;
+      })
   attributes_take takes (suc n) s bytes x fits e =
       let b = bind_ok (attribute_from pool wanted step s bytes) (λ first. attributes_from pool wanted step n first.0
-            first.1) x e in
+      first.1) x e in
       let one = attribute_takes takes s bytes b.0 fits b.1 in
       let others = attributes_take takes n b.0.0 b.0.1 x one.takes.rest_fits b.2 in
       record {
@@ -190,26 +197,37 @@ module _ {S : Type 0} (pool : List Entry) (wanted : List ℕ → Bool) (step : S
       ≡ b → AttributeFits pool a → text_at pool a.name ≡ Some text → RunsBy b s a others
       → (t : S) × (attribute_from pool wanted step s (attribute_bytes a ++ rest) ≡ Ok (t, rest)) × others t
   unfolding attribute_from
-  attribute_by again true s a text rest others w fits is runs =
-      (runs.0, ap (attribute_from pool wanted step s) (append_assoc (u2 a.name) (sized_bytes a.info) rest)
-          ∙ rw (text_again pool a.name text (sized_bytes a.info ++ rest) fits.name is,
-          w) (again s a runs.0 rest runs.1 fits.info), runs.2)
-  attribute_by again false s a text rest others w fits is runs =
-      (s, ap (attribute_from pool wanted step s) (append_assoc (u2 a.name) (sized_bytes a.info) rest)
-          ∙ rw (text_again pool a.name text (sized_bytes a.info ++ rest) fits.name is, w,
-          sized_again a.info rest fits.info) refl, runs)
+  attribute_by again true s a text rest others w fits is runs = (
+    runs.0,
+    ap (attribute_from pool wanted step s) (append_assoc (u2 a.name) (sized_bytes a.info) rest)
+        ∙ rw (
+          text_again pool a.name text (sized_bytes a.info ++ rest) fits.name is,
+          w,
+        ) (again s a runs.0 rest runs.1 fits.info),
+    runs.2,
+  )
+  attribute_by again false s a text rest others w fits is runs = (
+    s,
+    ap (attribute_from pool wanted step s) (append_assoc (u2 a.name) (sized_bytes a.info) rest)
+        ∙ rw (
+          text_again pool a.name text (sized_bytes a.info ++ rest) fits.name is,
+          w,
+          sized_again a.info rest fits.info,
+        ) refl,
+    runs,
+  )
 
   pub attributes_again : StepAgain → (attributes : List Attribute) (s t : S) (rest : List ℕ)
       → AllByRecursion (AttributeFits pool) attributes → Runs s attributes t
       → attributes_from pool wanted step (length attributes) s (flat_map attribute_bytes attributes ++ rest)
-          ≡ Ok (t, rest)
+      ≡ Ok (t, rest)
   unfolding attributes_from
   attributes_again again [] s t rest fit runs = ap (λ (n : S). Ok (n, rest)) runs
   attributes_again again (a ∷ attributes) s t rest fit runs =
       let is = the_some (text_at pool a.name) fit.0.text in
       let w : wanted is.0 ≡ passes wanted (text_at pool a.name) = sym (ap (passes wanted) is.1) in
       let one = attribute_by again (passes wanted (text_at pool a.name)) s a is.0 (flat_map attribute_bytes attributes
-            ++ rest) (λ m. Runs m attributes t) w fit.0 is.1 runs in
+      ++ rest) (λ m. Runs m attributes t) w fit.0 is.1 runs in
       ap (attributes_from pool wanted step (suc (length attributes)) s)
-          (append_assoc (attribute_bytes a) (flat_map attribute_bytes attributes) rest)
-          ∙ rw one.1 (attributes_again again attributes one.0 t rest fit.1 one.2)
+      (append_assoc (attribute_bytes a) (flat_map attribute_bytes attributes) rest)
+      ∙ rw one.1 (attributes_again again attributes one.0 t rest fit.1 one.2)

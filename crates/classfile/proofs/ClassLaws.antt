@@ -45,15 +45,15 @@ unfolding after_head_from
 after_head_is head bytes methods fits e =
     let read = method_from head.pool head.flags.0 in
     let a = bind_ok (list_from read bytes) (λ ms. skipped_from head.pool ms.1 >>= λ attributes. ended ms.0 attributes.1)
-          methods e in
+    methods e in
     let b = bind_ok (skipped_from head.pool a.0.1) (λ attributes. ended a.0.0 attributes.1) methods a.2 in
     let end = ended_is a.0.0 methods b.0.1 b.2 in
     let ta = list_takes read (SpellsMethod head.pool head.flags.0) (λ more y h k. method_takes head.pool head.flags.0
-          more y h k) bytes a.0 fits a.1 in
+    more y h k) bytes a.0 fits a.1 in
     let tb = skipped_takes head.pool a.0.1 b.0 ta.takes.rest_fits b.1 in
     let last : a.0.1 ≡ attributes_bytes tb.attributes = tb.takes.parts
-          ∙ ap (λ (t : List ℕ). attributes_bytes tb.attributes ++ t) end.1 ∙ append-nil (attributes_bytes tb.attributes)
-          in
+    ∙ ap (λ (t : List ℕ). attributes_bytes tb.attributes ++ t) end.1 ∙ append-nil (attributes_bytes tb.attributes)
+    in
     subst (IsAfterHead head bytes) end.0 (record {
       text = ta.text;
       spell = ta.spells;
@@ -66,15 +66,18 @@ after_head_is head bytes methods fits e =
 after_head_again : (head : HeadPart) (text : List ℕ) (methods : List MethodPart) (attributes : List Attribute)
     → SpellsList (SpellsMethod head.pool head.flags.0) text methods → length attributes < 2 ^ 16
     → AllByRecursion (AttributeFits head.pool) attributes → after_head_from head (text ++ attributes_bytes attributes)
-        ≡ Ok methods
+    ≡ Ok methods
 unfolding after_head_from
 after_head_again head text methods attributes spell few fit =
     let read = method_from head.pool head.flags.0 in
     let skipped : skipped_from head.pool (attributes_bytes attributes)
-          ≡ Ok (0, []) = ap (skipped_from head.pool) (sym (append-nil (attributes_bytes attributes)))
-          ∙ skipped_again head.pool attributes [] few fit in
-    rw (list_again read (SpellsMethod head.pool head.flags.0) (λ t x r k. method_again head.pool head.flags.0 t x r k)
-        text methods (attributes_bytes attributes) spell, skipped) refl
+    ≡ Ok (0, []) = ap (skipped_from head.pool) (sym (append-nil (attributes_bytes attributes)))
+    ∙ skipped_again head.pool attributes [] few fit in
+    rw (
+      list_again read (SpellsMethod head.pool head.flags.0) (λ t x r k. method_again head.pool head.flags.0 t x r k)
+          text methods (attributes_bytes attributes) spell,
+      skipped,
+    ) refl
 
 -- ---- the file
 
@@ -82,7 +85,7 @@ pub file_is : (bytes : List ℕ) (c : ClassPart) → IsBytes bytes → file_from
 unfolding file_from
 file_is bytes c fits e =
     let a = bind_ok (head_from bytes) (λ head. after_head_from head.0 head.1
-          >>= λ methods. Ok (record { head = head.0; methods = methods })) c e in
+    >>= λ methods. Ok (record { head = head.0; methods = methods })) c e in
     let b = bind_ok (after_head_from a.0.0 a.0.1) (λ methods. Ok (record { head = a.0.0; methods = methods })) c a.2 in
     let ta = head_takes bytes a.0 fits a.1 in
     let tb = after_head_is a.0.0 a.0.1 b.0 ta.takes.rest_fits b.1 in
@@ -125,14 +128,21 @@ methods_written : (pool : List Entry) (class : ℕ) (body : List ℕ) (methods :
     → SpellsAll (SpellsMethod pool class) body methods
     → SpellsAll (SpellsMethod pool class) (flat_map method_bytes methods) methods
 methods_written pool class body [] s = refl
-methods_written pool class body (m ∷ methods) s = (method_bytes m, flat_map method_bytes methods, refl,
-    method_written pool class s.0 m s.3, methods_written pool class s.1 methods s.4)
+methods_written pool class body (m ∷ methods) s = (
+  method_bytes m,
+  flat_map method_bytes methods,
+  refl,
+  method_written pool class s.0 m s.3,
+  methods_written pool class s.1 methods s.4,
+)
 
 methods_fit_in : (pool : List Entry) (class : ℕ) (body : List ℕ) (methods : List MethodPart)
     → SpellsAll (SpellsMethod pool class) body methods → AllByRecursion MethodFits methods
 methods_fit_in pool class body [] s = tt
-methods_fit_in pool class body (m ∷ methods) s = (method_fits pool class s.0 m s.3,
-    methods_fit_in pool class s.1 methods s.4)
+methods_fit_in pool class body (m ∷ methods) s = (
+  method_fits pool class s.0 m s.3,
+  methods_fit_in pool class s.1 methods s.4,
+)
 
 pub methods_fit : (bytes : List ℕ) (c : ClassPart) → IsClassFile bytes c → AllByRecursion MethodFits c.methods
 methods_fit bytes c s = methods_fit_in c.head.pool c.head.flags.0 s.methods_spell.body c.methods s.methods_spell.all
@@ -143,8 +153,12 @@ class_written bytes text c s head = record {
   head_bytes = text;
   head_spells = head;
   method_bytes = list_bytes method_bytes c.methods;
-  methods_spell = record { few = s.methods_spell.few; body = flat_map method_bytes c.methods; bytes_are = refl;
-      all = methods_written c.head.pool c.head.flags.0 s.methods_spell.body c.methods s.methods_spell.all };
+  methods_spell = record {
+    few = s.methods_spell.few;
+    body = flat_map method_bytes c.methods;
+    bytes_are = refl;
+    all = methods_written c.head.pool c.head.flags.0 s.methods_spell.body c.methods s.methods_spell.all;
+  };
   attributes = [];
   few = omega arith;
   fit = tt;

@@ -40,20 +40,20 @@ row_takes : (pool : List Entry) (bytes : List ℕ) (x : CodeRow × List ℕ) →
 unfolding row_from
 row_takes pool bytes x fits e =
     let a = bind_ok (number_at w16 bytes) (λ start. number_at w16 start.1 >>= λ end. number_at w16 end.1
-          >>= λ handler. number_at w16 handler.1 >>= λ class. cond (eqb class.0 0 || has_tag pool 7 class.0)
-          (Ok (record { start = start.0; end = end.0; handler = handler.0; class = class.0 }, class.1))
-          (Err fault.Index)) x e in
+    >>= λ handler. number_at w16 handler.1 >>= λ class. cond (eqb class.0 0 || has_tag pool 7 class.0)
+    (Ok (record { start = start.0; end = end.0; handler = handler.0; class = class.0 }, class.1))
+    (Err fault.Index)) x e in
     let b = bind_ok (number_at w16 a.0.1) (λ end. number_at w16 end.1 >>= λ handler. number_at w16 handler.1
-          >>= λ class. cond (eqb class.0 0 || has_tag pool 7 class.0)
-          (Ok (record { start = a.0.0; end = end.0; handler = handler.0; class = class.0 }, class.1)) (Err fault.Index))
-          x a.2 in
+    >>= λ class. cond (eqb class.0 0 || has_tag pool 7 class.0)
+    (Ok (record { start = a.0.0; end = end.0; handler = handler.0; class = class.0 }, class.1)) (Err fault.Index))
+    x a.2 in
     let c = bind_ok (number_at w16 b.0.1) (λ handler. number_at w16 handler.1
-          >>= λ class. cond (eqb class.0 0 || has_tag pool 7 class.0)
-          (Ok (record { start = a.0.0; end = b.0.0; handler = handler.0; class = class.0 }, class.1)) (Err fault.Index))
-          x b.2 in
+    >>= λ class. cond (eqb class.0 0 || has_tag pool 7 class.0)
+    (Ok (record { start = a.0.0; end = b.0.0; handler = handler.0; class = class.0 }, class.1)) (Err fault.Index))
+    x b.2 in
     let d = bind_ok (number_at w16 c.0.1) (λ class. cond (eqb class.0 0 || has_tag pool 7 class.0)
-          (Ok (record { start = a.0.0; end = b.0.0; handler = c.0.0; class = class.0 }, class.1)) (Err fault.Index)) x
-          c.2 in
+    (Ok (record { start = a.0.0; end = b.0.0; handler = c.0.0; class = class.0 }, class.1)) (Err fault.Index)) x
+    c.2 in
     let row : CodeRow = record { start = a.0.0; end = b.0.0; handler = c.0.0; class = d.0.0 } in
     let made : CodeRow × List ℕ = (row, d.0.1) in
     let p = passed_ok (eqb d.0.0 0 || has_tag pool 7 d.0.0) fault.Index (Ok made) x d.2 in
@@ -62,10 +62,13 @@ row_takes pool bytes x fits e =
     let tc = number_takes w16 wide16 b.0.1 c.0.0 c.0.1 tb.0.rest_fits c.1 in
     let td = number_takes w16 wide16 c.0.1 d.0.0 d.0.1 tc.0.rest_fits d.1 in
     let whole = Takes-then bytes (u2 a.0.0) a.0.1 (u2 b.0.0 ++ (u2 c.0.0 ++ u2 d.0.0)) d.0.1 ta.0
-          (Takes-then a.0.1 (u2 b.0.0) b.0.1 (u2 c.0.0 ++ u2 d.0.0) d.0.1 tb.0
-          (Takes-then b.0.1 (u2 c.0.0) c.0.1 (u2 d.0.0) d.0.1 tc.0 td.0)) in
-    subst (Found (SpellsRow pool) bytes) (ok_is made x p.1) (record { text = row_bytes row; takes = whole;
-        spells = (refl, record { start = ta.1; end = tb.1; handler = tc.1; class = td.1; kind = p.0 }) })
+    (Takes-then a.0.1 (u2 b.0.0) b.0.1 (u2 c.0.0 ++ u2 d.0.0) d.0.1 tb.0
+    (Takes-then b.0.1 (u2 c.0.0) c.0.1 (u2 d.0.0) d.0.1 tc.0 td.0)) in
+    subst (Found (SpellsRow pool) bytes) (ok_is made x p.1) (record {
+      text = row_bytes row;
+      takes = whole;
+      spells = (refl, record { start = ta.1; end = tb.1; handler = tc.1; class = td.1; kind = p.0 });
+    })
 
 row_again : (pool : List Entry) (text : List ℕ) (r : CodeRow) (rest : List ℕ) → SpellsRow pool text r
     → row_from pool (text ++ rest) ≡ Ok (r, rest)
@@ -105,25 +108,34 @@ limits_take : (bytes : List ℕ) (x : ((ℕ × ℕ) × List ℕ) × List ℕ) �
 unfolding limits_from
 limits_take bytes x fits e =
     let a = bind_ok (number_at w16 bytes) (λ stack. number_at w16 stack.1 >>= λ locals. sized_from locals.1
-          >>= λ code. Ok (((stack.0, locals.0), code.0), code.1)) x e in
-    let b = bind_ok (number_at w16 a.0.1) (λ locals. sized_from locals.1 >>= λ code. Ok (((a.0.0, locals.0), code.0),
-          code.1)) x a.2 in
+    >>= λ code. Ok (((stack.0, locals.0), code.0), code.1)) x e in
+    let b = bind_ok (number_at w16 a.0.1) (λ locals. sized_from locals.1 >>= λ code. Ok (
+      ((a.0.0, locals.0), code.0),
+      code.1,
+    )) x a.2 in
     let c = bind_ok (sized_from b.0.1) (λ code. Ok (((a.0.0, b.0.0), code.0), code.1)) x b.2 in
     let ta = number_takes w16 wide16 bytes a.0.0 a.0.1 fits a.1 in
     let tb = number_takes w16 wide16 a.0.1 b.0.0 b.0.1 ta.0.rest_fits b.1 in
     let tc = sized_takes b.0.1 c.0 tb.0.rest_fits c.1 in
     let made : ((ℕ × ℕ) × List ℕ) × List ℕ = (((a.0.0, b.0.0), c.0.0), c.0.1) in
     let whole = Takes-then bytes (u2 a.0.0) a.0.1 (u2 b.0.0 ++ sized_bytes c.0.0) c.0.1 ta.0
-          (Takes-then a.0.1 (u2 b.0.0) b.0.1 (sized_bytes c.0.0) c.0.1 tb.0 tc.takes) in
-    subst (AreLimits bytes) (ok_is made x c.2) (record { takes = whole; stack = ta.1; locals = tb.1;
-        code_fits = tc.bytes_fit })
+    (Takes-then a.0.1 (u2 b.0.0) b.0.1 (sized_bytes c.0.0) c.0.1 tb.0 tc.takes) in
+    subst (AreLimits bytes) (ok_is made x c.2) (record {
+      takes = whole;
+      stack = ta.1;
+      locals = tb.1;
+      code_fits = tc.bytes_fit;
+    })
 
 limits_again : (stack locals : ℕ) (code rest : List ℕ) → stack < 2 ^ 16 → locals < 2 ^ 16 → length code < 2 ^ 32
     → limits_from (u2 stack ++ (u2 locals ++ (sized_bytes code ++ rest))) ≡ Ok (((stack, locals), code), rest)
 unfolding limits_from
-limits_again stack locals code rest s l small = rw (number_again w16 wide16 stack (u2 locals
-    ++ (sized_bytes code ++ rest)) s, number_again w16 wide16 locals (sized_bytes code ++ rest) l,
-    sized_again code rest small) refl
+limits_again stack locals code rest s l small = rw (
+  number_again w16 wide16 stack (u2 locals
+      ++ (sized_bytes code ++ rest)) s,
+  number_again w16 wide16 locals (sized_bytes code ++ rest) l,
+  sized_again code rest small,
+) refl
 
 -- ---- instructions
 
@@ -138,14 +150,16 @@ sound_is pool code items fits e =
     let b = bind_ok (as_format (decoded code)) (λ xs. cond (are_sound pool xs) (Ok xs) (Err fault.Index)) items e in
     let p = passed_ok (are_sound pool b.0) fault.Index (Ok b.0) items b.2 in
     subst (λ (xs : List Located). IsCode code xs × AllByRecursion (λ x. is_sound pool x.instruction ≡ true) xs)
-        (ok_is b.0 items p.1)
+    (ok_is b.0 items p.1)
     (decoded_is code b.0 fits (format_ok (decoded code) b.0 b.1), each-true (λ x. is_sound pool x.instruction) b.0 p.0)
 
 sound_again : (pool : List Entry) (code : List ℕ) (items : List Located) → IsCode code items
     → AllByRecursion (λ x. is_sound pool x.instruction ≡ true) items → sound_from pool code ≡ Ok items
 unfolding sound_from
-sound_again pool code items is sound = rw (code_is_decoded code items is,
-    true-each (λ x. is_sound pool x.instruction) items sound) refl
+sound_again pool code items is sound = rw (
+  code_is_decoded code items is,
+  true-each (λ x. is_sound pool x.instruction) items sound,
+) refl
 
 -- ---- rows and attributes up to the end
 
@@ -166,17 +180,17 @@ tail_is : (pool : List Entry) (bytes : List ℕ) (rows : List CodeRow) → IsByt
 unfolding tail_from
 tail_is pool bytes rows fits e =
     let a = bind_ok (list_from (row_from pool) bytes) (λ rs. skipped_from pool rs.1
-          >>= λ attributes. filled rs.0 attributes.1) rows e in
+    >>= λ attributes. filled rs.0 attributes.1) rows e in
     let b = bind_ok (skipped_from pool a.0.1) (λ attributes. filled a.0.0 attributes.1) rows a.2 in
     let end = filled_is a.0.0 rows b.0.1 b.2 in
     let ta = list_takes (row_from pool) (SpellsRow pool) (λ more y h k. row_takes pool more y h k) bytes a.0 fits a.1 in
     let tb = skipped_takes pool a.0.1 b.0 ta.takes.rest_fits b.1 in
     let body = rows_are pool ta.spells.body a.0.0 ta.spells.all in
     let front : ta.text ≡ list_bytes row_bytes a.0.0 = ta.spells.bytes_are ∙ ap (λ (t : List ℕ). u2 (length a.0.0) ++ t)
-          body.0 in
+    body.0 in
     let last : a.0.1 ≡ attributes_bytes tb.attributes = tb.takes.parts
-          ∙ ap (λ (t : List ℕ). attributes_bytes tb.attributes ++ t) end.1 ∙ append-nil (attributes_bytes tb.attributes)
-          in
+    ∙ ap (λ (t : List ℕ). attributes_bytes tb.attributes ++ t) end.1 ∙ append-nil (attributes_bytes tb.attributes)
+    in
     subst (IsTail pool bytes) end.0 (record {
       few = ta.spells.few;
       fit = body.1;
@@ -192,13 +206,20 @@ tail_again : (pool : List Entry) (rows : List CodeRow) (attributes : List Attrib
     → tail_from pool (list_bytes row_bytes rows ++ attributes_bytes attributes) ≡ Ok rows
 unfolding tail_from
 tail_again pool rows attributes few fit attributes_few attributes_fit =
-    let spelled : SpellsList (SpellsRow pool) (list_bytes row_bytes rows) rows = record { few = few;
-          body = flat_map row_bytes rows; bytes_are = refl; all = rows_spell pool rows fit } in
+    let spelled : SpellsList (SpellsRow pool) (list_bytes row_bytes rows) rows = record {
+      few = few;
+      body = flat_map row_bytes rows;
+      bytes_are = refl;
+      all = rows_spell pool rows fit;
+    } in
     let skipped : skipped_from pool (attributes_bytes attributes)
-          ≡ Ok (0, []) = ap (skipped_from pool) (sym (append-nil (attributes_bytes attributes)))
-          ∙ skipped_again pool attributes [] attributes_few attributes_fit in
-    rw (list_again (row_from pool) (SpellsRow pool) (λ t x r k. row_again pool t x r k) (list_bytes row_bytes rows) rows
-        (attributes_bytes attributes) spelled, skipped) refl
+    ≡ Ok (0, []) = ap (skipped_from pool) (sym (append-nil (attributes_bytes attributes)))
+    ∙ skipped_again pool attributes [] attributes_few attributes_fit in
+    rw (
+      list_again (row_from pool) (SpellsRow pool) (λ t x r k. row_again pool t x r k) (list_bytes row_bytes rows) rows
+          (attributes_bytes attributes) spelled,
+      skipped,
+    ) refl
 
 -- ---- the attribute
 
@@ -211,25 +232,45 @@ body_is : (pool : List Entry) (name : ℕ) (info : List ℕ) (c : CodePart) → 
 unfolding body_from
 body_is pool name info c fits e =
     let a = bind_ok (limits_from info) (λ limits. sound_from pool limits.0.1 >>= λ items. tail_from pool limits.1
-          >>= λ rows. Ok (record { name = name; max_stack = limits.0.0.0; max_locals = limits.0.0.1;
-          instructions = items; rows = rows })) c e in
+    >>= λ rows. Ok (record {
+      name = name;
+      max_stack = limits.0.0.0;
+      max_locals = limits.0.0.1;
+      instructions = items;
+      rows = rows;
+    })) c e in
     let b = bind_ok (sound_from pool a.0.0.1) (λ items. tail_from pool a.0.1
-          >>= λ rows. Ok (record { name = name; max_stack = a.0.0.0.0; max_locals = a.0.0.0.1; instructions = items;
-          rows = rows })) c a.2 in
+    >>= λ rows. Ok (record {
+      name = name;
+      max_stack = a.0.0.0.0;
+      max_locals = a.0.0.0.1;
+      instructions = items;
+      rows = rows;
+    })) c a.2 in
     let d = bind_ok (tail_from pool a.0.1)
-          (λ rows. Ok (record { name = name; max_stack = a.0.0.0.0; max_locals = a.0.0.0.1; instructions = b.0;
-          rows = rows })) c b.2 in
+    (λ rows. Ok (record {
+      name = name;
+      max_stack = a.0.0.0.0;
+      max_locals = a.0.0.0.1;
+      instructions = b.0;
+      rows = rows;
+    })) c b.2 in
     let ta = limits_take info a.0 fits a.1 in
     let tb = sound_is pool a.0.0.1 b.0 ta.code_fits b.1 in
     let td = tail_is pool a.0.1 d.0 ta.takes.rest_fits d.1 in
-    let made : CodePart = record { name = name; max_stack = a.0.0.0.0; max_locals = a.0.0.0.1; instructions = b.0;
-          rows = d.0 } in
+    let made : CodePart = record {
+      name = name;
+      max_stack = a.0.0.0.0;
+      max_locals = a.0.0.0.1;
+      instructions = b.0;
+      rows = d.0;
+    } in
     let end = list_bytes row_bytes d.0 ++ attributes_bytes td.attributes in
     let front = u2 a.0.0.0.0 ++ (u2 a.0.0.0.1 ++ sized_bytes a.0.0.1) in
     let parts : info ≡ u2 a.0.0.0.0 ++ (u2 a.0.0.0.1 ++ (sized_bytes a.0.0.1 ++ end)) = ta.takes.parts
-          ∙ ap (λ (t : List ℕ). front ++ t) td.bytes_are
-          ∙ append_assoc (u2 a.0.0.0.0) (u2 a.0.0.0.1 ++ sized_bytes a.0.0.1) end
-          ∙ ap (λ (t : List ℕ). u2 a.0.0.0.0 ++ t) (append_assoc (u2 a.0.0.0.1) (sized_bytes a.0.0.1) end) in
+    ∙ ap (λ (t : List ℕ). front ++ t) td.bytes_are
+    ∙ append_assoc (u2 a.0.0.0.0) (u2 a.0.0.0.1 ++ sized_bytes a.0.0.1) end
+    ∙ ap (λ (t : List ℕ). u2 a.0.0.0.0 ++ t) (append_assoc (u2 a.0.0.0.1) (sized_bytes a.0.0.1) end) in
     subst (IsBody pool name info) (ok_is made c d.2) (record {
       name_is = refl;
       spells = record {
@@ -278,7 +319,7 @@ code_again pool info c s = rw (body_again pool info c s) refl
 rows_length : (rows : List CodeRow) → length (flat_map row_bytes rows) ≡ 8 * length rows
 rows_length [] = refl
 rows_length (r ∷ rows) = let others = rows_length rows
-                               in let both = length-append (row_bytes r) (flat_map row_bytes rows) in omega arith
+    in let both = length-append (row_bytes r) (flat_map row_bytes rows) in omega arith
 
 pub info_has : (c : CodePart) → length (code_info c) ≡ 12 + length (code_bytes c.instructions) + 8 * length c.rows
 unfolding code_info
@@ -287,7 +328,7 @@ info_has c =
     let end = length-append (list_bytes row_bytes c.rows) (attributes_bytes []) in
     let code = length-append (code_bytes c.instructions) (list_bytes row_bytes c.rows ++ attributes_bytes []) in
     let sized = ap length (append_assoc (u4 (length (code_bytes c.instructions))) (code_bytes c.instructions)
-          (list_bytes row_bytes c.rows ++ attributes_bytes [])) in
+    (list_bytes row_bytes c.rows ++ attributes_bytes [])) in
     omega arith
 
 pub code_written : (pool : List Entry) (info : List ℕ) (c : CodePart) → SpellsCode pool info c

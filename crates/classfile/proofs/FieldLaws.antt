@@ -42,11 +42,15 @@ unfolding value_of
 value_takes pool type info v fits e =
     let n = from_be_bytes w16 info in
     let p = passed_ok (eqb (length info) 2) fault.Attribute (cond (is_value_of type (entry_at pool n)) (Ok n)
-          (Err fault.Index)) v e in
+    (Err fault.Index)) v e in
     let q = passed_ok (is_value_of type (entry_at pool n)) fault.Index (Ok n) v p.1 in
     let two : length info ≡ 2 = eqb-true _ _ p.0 in
-    subst (λ k. (u2 k ≡ info) × (k < 2 ^ 16) × (is_value_of type (entry_at pool k) ≡ true)) (ok_is n v q.1) (be_bytes_2
-        info n two fits refl, wide16.below info fits, q.0)
+    subst (λ k. (u2 k ≡ info) × (k < 2 ^ 16) × (is_value_of type (entry_at pool k) ≡ true)) (ok_is n v q.1) (
+      be_bytes_2
+          info n two fits refl,
+      wide16.below info fits,
+      q.0,
+    )
 
 value_again : (pool : List Entry) (type : List ℕ) (v : ℕ) → v < 2 ^ 16 → is_value_of type (entry_at pool v) ≡ true
     → value_of pool type (u2 v) ≡ Ok v
@@ -60,17 +64,24 @@ unfolding constant_from
 constant_takes pool type (Some c) name bytes x fits e = absurd cc
 constant_takes pool type None name bytes x fits e =
     let a = bind_ok (sized_from bytes) (λ info. value_of pool type
-          info.0 >>= λ value. Ok (Some (record { name = name; value = value }), info.1)) x e in
+    info.0 >>= λ value. Ok (Some (record { name = name; value = value }), info.1)) x e in
     let b = bind_ok (value_of pool type a.0.0) (λ value. Ok (Some (record { name = name; value = value }), a.0.1)) x a.2
-          in
+    in
     let z = sized_takes bytes a.0 fits a.1 in
     let v = value_takes pool type a.0.0 b.0 z.bytes_fit b.1 in
     let c : ConstantValue = record { name = name; value = b.0 } in
     let made : Option ConstantValue × List ℕ = (Some c, a.0.1) in
     subst (λ (y : Option ConstantValue × List ℕ). (info : List ℕ) × Sized bytes info y.1
-        × TakesConstant pool type None (record { name = name; info = info }) y.0) (ok_is made x b.2)
-    (a.0.0, z, (c, refl, ap (λ (i : List ℕ). record { name = name; info = i }) (sym v.0),
-        record { value = v.1; kind = v.2 }))
+    × TakesConstant pool type None (record { name = name; info = info }) y.0) (ok_is made x b.2) (
+      a.0.0,
+      z,
+      (
+        c,
+        refl,
+        ap (λ (i : List ℕ). record { name = name; info = i }) (sym v.0),
+        record { value = v.1; kind = v.2 },
+      ),
+    )
 
 constant_again : (pool : List Entry) (type : List ℕ) (s : Option ConstantValue) (a : Attribute)
     (t : Option ConstantValue) (rest : List ℕ) → TakesConstant pool type s a t → length a.info < 2 ^ 32
@@ -81,10 +92,12 @@ constant_again pool type None a t rest does small =
     let c = does.0 in
     let same = sym does.2 in
     let here : constant_from pool type None c.name (sized_bytes (u2 c.value) ++ rest)
-          ≡ Ok (Some c, rest) = rw (sized_again (u2 c.value) rest (omega arith),
-          value_again pool type c.value does.3.value does.3.kind) refl in
+    ≡ Ok (Some c, rest) = rw (
+      sized_again (u2 c.value) rest (omega arith),
+      value_again pool type c.value does.3.value does.3.kind,
+    ) refl in
     subst (λ (b : Attribute). constant_from pool type None b.name (sized_bytes b.info ++ rest) ≡ Ok (t, rest)) same
-        (here ∙ ap (λ (o : Option ConstantValue). Ok (o, rest)) (sym does.1))
+    (here ∙ ap (λ (o : Option ConstantValue). Ok (o, rest)) (sym does.1))
 
 -- ---- those that count
 
@@ -118,12 +131,14 @@ module _ (pool : List Entry) (static : Bool) (type : List ℕ) where
   found_by true a attributes t h others =
       let c = h.1.0 in
       let later : AllRun (Some c) attributes t = subst (λ (m : Option ConstantValue). AllRun m attributes t) h.1.1 h.2
-            in
+      in
       let r = runs_after c attributes t later in
       subst (λ (o : Option ConstantValue). (a ∷ those attributes ≡ constant_attributes o) × ConstantsFit pool type o)
-          r.1
-      (ap (λ (b : Attribute). b ∷ those attributes) h.1.2 ∙ ap (λ (list : List Attribute). constant_attribute c ∷ list)
-          r.0, h.1.3)
+      r.1 (
+        ap (λ (b : Attribute). b ∷ those attributes) h.1.2 ∙ ap (λ (list : List Attribute). constant_attribute c ∷ list)
+            r.0,
+        h.1.3,
+      )
   found_by false a attributes t h others = others h
 
   pub runs_found : (attributes : List Attribute) (t : Option ConstantValue) → AllRun None attributes t
@@ -145,7 +160,7 @@ module _ (pool : List Entry) (static : Bool) (type : List ℕ) where
   counted_by : (b : Bool) (a : Attribute) (attributes : List Attribute) (t : Option ConstantValue)
       → ConstantsFit pool type t → cond b (a ∷ those attributes) (those attributes) ≡ constant_attributes t
       → (those attributes ≡ constant_attributes t → AllRun None attributes t)
-          → OneRuns b None a (λ m. AllRun m attributes t)
+      → OneRuns b None a (λ m. AllRun m attributes t)
   counted_by true a attributes None fits e others = absurd cc
   counted_by true a attributes (Some c) fits e others =
       let first : a ≡ constant_attribute c = cc in
@@ -177,10 +192,10 @@ unfolding constants_from
 constants_take pool static type bytes x fits e =
     let wanted = is_constant_value static in
     let b = bind_ok (number_at w16 bytes) (λ count. attributes_from pool wanted (constant_from pool type) count.0 None
-          count.1) x e in
+    count.1) x e in
     let t = number_takes w16 wide16 bytes b.0.0 b.0.1 fits b.1 in
     let r = attributes_take pool wanted (constant_from pool type) (TakesConstant pool type)
-          (λ s name more y f h. constant_takes pool type s name more y f h) b.0.0 None b.0.1 x t.0.rest_fits b.2 in
+    (λ s name more y f h. constant_takes pool type s name more y f h) b.0.0 None b.0.1 x t.0.rest_fits b.2 in
     let f = runs_found pool static type r.attributes x.0 r.runs in
     record {
       attributes = r.attributes;
@@ -196,16 +211,16 @@ constants_again : (pool : List Entry) (static : Bool) (type : List ℕ) (attribu
     (found : Option ConstantValue) (rest : List ℕ) → length attributes < 2 ^ 16
     → AllByRecursion (AttributeFits pool) attributes
     → filter (counts pool static) attributes ≡ constant_attributes found → ConstantsFit pool type found
-        → constants_from pool static type (attributes_bytes attributes ++ rest) ≡ Ok (found, rest)
+    → constants_from pool static type (attributes_bytes attributes ++ rest) ≡ Ok (found, rest)
 unfolding constants_from
 constants_again pool static type attributes found rest few fit counted fits =
     let wanted = is_constant_value static in
     let runs = found_runs pool static type attributes found fits counted in
     let regrouped = append_assoc (u2 (length attributes)) (flat_map attribute_bytes attributes) rest in
     ap (constants_from pool static type) regrouped
-        ∙ rw (number_again w16 wide16 (length attributes) (flat_map attribute_bytes attributes ++ rest) few)
+    ∙ rw (number_again w16 wide16 (length attributes) (flat_map attribute_bytes attributes ++ rest) few)
     (attributes_again pool wanted (constant_from pool type) (TakesConstant pool type)
-        (λ s a t more does small. constant_again pool type s a t more does small) attributes None found rest fit runs)
+    (λ s a t more does small. constant_again pool type s a t more does small) attributes None found rest fit runs)
 
 -- ---- flags
 
@@ -214,11 +229,11 @@ flags_take : (class : ℕ) (bytes : List ℕ) (x : ℕ × List ℕ) → IsBytes 
 unfolding field_flags_from
 flags_take class bytes x fits e =
     let b = bind_ok (number_at w16 bytes) (λ flags. cond (are_field_flags class flags.0) (Ok flags) (Err fault.Flags)) x
-          e in
+    e in
     let p = passed_ok (are_field_flags class b.0.0) fault.Flags (Ok b.0) x b.2 in
     let t = number_takes w16 wide16 bytes b.0.0 b.0.1 fits b.1 in
     subst (λ (y : ℕ × List ℕ). Takes bytes (u2 y.0) y.1 × (y.0 < 2 ^ 16) × (are_field_flags class y.0 ≡ true))
-        (ok_is b.0 x p.1) (t.0, t.1, p.0)
+    (ok_is b.0 x p.1) (t.0, t.1, p.0)
 
 flags_again : (class flags : ℕ) (rest : List ℕ) → flags < 2 ^ 16 → are_field_flags class flags ≡ true
     → field_flags_from class (u2 flags ++ rest) ≡ Ok (flags, rest)
@@ -237,30 +252,62 @@ pub field_takes : (pool : List Entry) (class : ℕ) (bytes : List ℕ) (x : Fiel
 unfolding field_from
 field_takes pool class bytes x fits e =
     let a = bind_ok (field_flags_from class bytes) (λ flags. tested_from pool is_field_name flags.1
-          >>= λ name. tested_from pool is_field_descriptor name.1 >>= λ type. constants_from pool (has flags.0 0x0008)
-          type.0.1 type.1 >>= λ constant. Ok (record { flags = record { 0 = flags.0 }; name = name.0.0;
-          descriptor = type.0.0; constant = constant.0 }, constant.1)) x e in
+    >>= λ name. tested_from pool is_field_descriptor name.1 >>= λ type. constants_from pool (has flags.0 0x0008)
+    type.0.1 type.1 >>= λ constant. Ok (
+      record {
+        flags = record { 0 = flags.0 };
+        name = name.0.0;
+        descriptor = type.0.0;
+        constant = constant.0;
+      },
+      constant.1,
+    )) x e in
     let b = bind_ok (tested_from pool is_field_name a.0.1) (λ name. tested_from pool is_field_descriptor name.1
-          >>= λ type. constants_from pool (has a.0.0 0x0008) type.0.1 type.1
-          >>= λ constant. Ok (record { flags = record { 0 = a.0.0 }; name = name.0.0; descriptor = type.0.0;
-          constant = constant.0 }, constant.1)) x a.2 in
+    >>= λ type. constants_from pool (has a.0.0 0x0008) type.0.1 type.1
+    >>= λ constant. Ok (
+      record {
+        flags = record { 0 = a.0.0 };
+        name = name.0.0;
+        descriptor = type.0.0;
+        constant = constant.0;
+      },
+      constant.1,
+    )) x a.2 in
     let c = bind_ok (tested_from pool is_field_descriptor b.0.1) (λ type. constants_from pool (has a.0.0 0x0008)
-          type.0.1 type.1 >>= λ constant. Ok (record { flags = record { 0 = a.0.0 }; name = b.0.0.0;
-          descriptor = type.0.0; constant = constant.0 }, constant.1)) x b.2 in
+    type.0.1 type.1 >>= λ constant. Ok (
+      record {
+        flags = record { 0 = a.0.0 };
+        name = b.0.0.0;
+        descriptor = type.0.0;
+        constant = constant.0;
+      },
+      constant.1,
+    )) x b.2 in
     let d = bind_ok (constants_from pool (has a.0.0 0x0008) c.0.0.1 c.0.1)
-          (λ constant. Ok (record { flags = record { 0 = a.0.0 }; name = b.0.0.0; descriptor = c.0.0.0;
-          constant = constant.0 }, constant.1)) x c.2 in
+    (λ constant. Ok (
+      record {
+        flags = record { 0 = a.0.0 };
+        name = b.0.0.0;
+        descriptor = c.0.0.0;
+        constant = constant.0;
+      },
+      constant.1,
+    )) x c.2 in
     let f = flags_take class bytes a.0 fits a.1 in
     let n = tested_takes pool is_field_name a.0.1 b.0 f.0.rest_fits b.1 in
     let t = tested_takes pool is_field_descriptor b.0.1 c.0 n.0.takes.rest_fits c.1 in
     let k = constants_take pool (has a.0.0 0x0008) c.0.0.1 c.0.1 d.0 t.0.takes.rest_fits d.1 in
-    let made : FieldEntry = record { flags = record { 0 = a.0.0 }; name = b.0.0.0; descriptor = c.0.0.0;
-          constant = d.0.0 } in
+    let made : FieldEntry = record {
+      flags = record { 0 = a.0.0 };
+      name = b.0.0.0;
+      descriptor = c.0.0.0;
+      constant = d.0.0;
+    } in
     let read : FieldEntry × List ℕ = (made, d.0.1) in
     let tail = attributes_bytes k.attributes in
     let whole = Takes-then bytes (u2 a.0.0) a.0.1 (u2 b.0.0.0 ++ (u2 c.0.0.0 ++ tail)) d.0.1 f.0
-          (Takes-then a.0.1 (u2 b.0.0.0) b.0.1 (u2 c.0.0.0 ++ tail) d.0.1 n.0.takes
-          (Takes-then b.0.1 (u2 c.0.0.0) c.0.1 tail d.0.1 t.0.takes k.takes)) in
+    (Takes-then a.0.1 (u2 b.0.0.0) b.0.1 (u2 c.0.0.0 ++ tail) d.0.1 n.0.takes
+    (Takes-then b.0.1 (u2 c.0.0.0) c.0.1 tail d.0.1 t.0.takes k.takes)) in
     subst (IsField pool class bytes) (ok_is read x d.2) (record {
       text = u2 a.0.0 ++ (u2 b.0.0.0 ++ (u2 c.0.0.0 ++ tail));
       takes = whole;
@@ -296,9 +343,9 @@ field_again pool class text f rest s =
     let end = tail ++ rest in
     let one : text ++ rest ≡ u2 f.flags.0 ++ (u2 f.name ++ (u2 f.descriptor ++ end)) =
     ap (λ (b : List ℕ). b ++ rest) s.bytes_are ∙ append_assoc (u2 f.flags.0) (u2 f.name ++ (u2 f.descriptor ++ tail))
-        rest
+    rest
     ∙ ap (λ (b : List ℕ). u2 f.flags.0 ++ b) (append_assoc (u2 f.name) (u2 f.descriptor ++ tail) rest
-        ∙ ap (λ (b : List ℕ). u2 f.name ++ b) (append_assoc (u2 f.descriptor) tail rest)) in
+    ∙ ap (λ (b : List ℕ). u2 f.name ++ b) (append_assoc (u2 f.descriptor) tail rest)) in
     ap (field_from pool class) one ∙ rw (
       flags_again class f.flags.0 (u2 f.name ++ (u2 f.descriptor ++ end)) s.flags_fit s.flags_agree,
       tested_again pool is_field_name f.name n.0 (u2 f.descriptor ++ end) s.name_fits n.1 n.2,
@@ -321,8 +368,10 @@ pub was_there : (pool : List Entry) (static : Bool) (attributes : List Attribute
 was_there pool static [] c fit e = absurd cc
 was_there pool static (a ∷ attributes) c fit e =
     elim (kept_by (counts pool static a) a (filter (counts pool static) attributes) c e) [
-      | inl here ↦ subst (λ (b : Attribute). AttributeFits pool b × (counts pool static b ≡ true)) here.1 (fit.0,
-          here.0)
+      | inl here ↦ subst (λ (b : Attribute). AttributeFits pool b × (counts pool static b ≡ true)) here.1 (
+        fit.0,
+        here.0,
+      )
       | inr later ↦ was_there pool static attributes c fit.1 later.1
     ]
 

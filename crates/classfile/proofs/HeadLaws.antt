@@ -32,13 +32,13 @@ opening_takes : (bytes : List ℕ) (x : ℕ × List ℕ) → IsBytes bytes → o
 unfolding opening_from
 opening_takes bytes x fits e =
     let a = bind_ok (number_at w32 bytes) (λ magic. cond (eqb magic.0 0xcafebabe) (number_at w16 magic.1)
-          (Err fault.Magic) >>= λ minor. cond (eqb minor.0 0) (number_at w16 minor.1) (Err fault.Version)
-          >>= λ major. cond (eqb major.0 49) (Ok major) (Err fault.Version)) x e in
+    (Err fault.Magic) >>= λ minor. cond (eqb minor.0 0) (number_at w16 minor.1) (Err fault.Version)
+    >>= λ major. cond (eqb major.0 49) (Ok major) (Err fault.Version)) x e in
     let b = bind_ok (cond (eqb a.0.0 0xcafebabe) (number_at w16 a.0.1) (Err fault.Magic))
-          (λ minor. cond (eqb minor.0 0) (number_at w16 minor.1) (Err fault.Version)
-          >>= λ major. cond (eqb major.0 49) (Ok major) (Err fault.Version)) x a.2 in
+    (λ minor. cond (eqb minor.0 0) (number_at w16 minor.1) (Err fault.Version)
+    >>= λ major. cond (eqb major.0 49) (Ok major) (Err fault.Version)) x a.2 in
     let c = bind_ok (cond (eqb b.0.0 0) (number_at w16 b.0.1) (Err fault.Version))
-          (λ major. cond (eqb major.0 49) (Ok major) (Err fault.Version)) x b.2 in
+    (λ major. cond (eqb major.0 49) (Ok major) (Err fault.Version)) x b.2 in
     let p = passed_ok (eqb a.0.0 0xcafebabe) fault.Magic (number_at w16 a.0.1) b.0 b.1 in
     let q = passed_ok (eqb b.0.0 0) fault.Version (number_at w16 b.0.1) c.0 c.1 in
     let r = passed_ok (eqb c.0.0 49) fault.Version (Ok c.0) x c.2 in
@@ -49,11 +49,11 @@ opening_takes bytes x fits e =
     let minor : u2 b.0.0 ≡ u2 0 = ap u2 (eqb-true _ _ q.0) in
     let major : u2 c.0.0 ≡ u2 49 = ap u2 (eqb-true _ _ r.0) in
     let whole = Takes-then bytes (u4 a.0.0) a.0.1 (u2 b.0.0 ++ u2 c.0.0) c.0.1 t0.0
-          (Takes-then a.0.1 (u2 b.0.0) b.0.1 (u2 c.0.0) c.0.1 t1.0 t2.0) in
+    (Takes-then a.0.1 (u2 b.0.0) b.0.1 (u2 c.0.0) c.0.1 t1.0 t2.0) in
     let end : c.0.1 ≡ x.1 = ap (λ (y : ℕ × List ℕ). y.1) (ok_is c.0 x r.1) in
     let spelled : u4 a.0.0 ++ (u2 b.0.0 ++ u2 c.0.0) ≡ opening = ap (λ (t : List ℕ). t ++ (u2 b.0.0 ++ u2 c.0.0)) magic
-          ∙ ap (λ (t : List ℕ). u4 0xcafebabe ++ (t ++ u2 c.0.0)) minor
-          ∙ ap (λ (t : List ℕ). u4 0xcafebabe ++ (u2 0 ++ t)) major in
+    ∙ ap (λ (t : List ℕ). u4 0xcafebabe ++ (t ++ u2 c.0.0)) minor
+    ∙ ap (λ (t : List ℕ). u4 0xcafebabe ++ (u2 0 ++ t)) major in
     subst (λ (t : List ℕ). Takes bytes opening t) end (subst (λ (t : List ℕ). Takes bytes t c.0.1) spelled whole)
 
 opening_again : (rest : List ℕ) → opening_from (opening ++ rest) ≡ Ok (49, rest)
@@ -74,7 +74,7 @@ flags_take bytes x fits e =
     let p = passed_ok (are_class_flags b.0.0) fault.Flags (Ok b.0) x b.2 in
     let t = number_takes w16 wide16 bytes b.0.0 b.0.1 fits b.1 in
     subst (λ (y : ℕ × List ℕ). Takes bytes (u2 y.0) y.1 × (y.0 < 2 ^ 16) × (are_class_flags y.0 ≡ true))
-        (ok_is b.0 x p.1) (t.0, t.1, p.0)
+    (ok_is b.0 x p.1) (t.0, t.1, p.0)
 
 flags_again : (flags : ℕ) (rest : List ℕ) → flags < 2 ^ 16 → are_class_flags flags ≡ true
     → class_flags_from (u2 flags ++ rest) ≡ Ok (flags, rest)
@@ -88,8 +88,11 @@ class_takes pool bytes x fits e =
     let b = bind_ok (number_at w16 bytes) (λ n. cond (is_class pool n.0) (Ok n) (Err fault.Index)) x e in
     let p = passed_ok (is_class pool b.0.0) fault.Index (Ok b.0) x b.2 in
     let t = number_takes w16 wide16 bytes b.0.0 b.0.1 fits b.1 in
-    subst (Found (SpellsClass pool) bytes) (ok_is b.0 x p.1) (record { text = u2 b.0.0; takes = t.0;
-        spells = (refl, t.1, p.0) })
+    subst (Found (SpellsClass pool) bytes) (ok_is b.0 x p.1) (record {
+      text = u2 b.0.0;
+      takes = t.0;
+      spells = (refl, t.1, p.0);
+    })
 
 class_again : (pool : List Entry) (text : List ℕ) (n : ℕ) (rest : List ℕ) → SpellsClass pool text n
     → class_from pool (text ++ rest) ≡ Ok (n, rest)
@@ -100,7 +103,7 @@ class_again pool text n rest s = ap (λ (t : List ℕ). class_from pool (t ++ re
 field_found : (pool : List Entry) (class : ℕ) (bytes : List ℕ) (x : FieldEntry × List ℕ) → IsBytes bytes
     → field_from pool class bytes ≡ Ok x → Found (SpellsField pool class) bytes x
 field_found pool class bytes x fits e = let f = field_takes pool class bytes x fits e
-                                              in record { text = f.text; takes = f.takes; spells = f.spells }
+    in record { text = f.text; takes = f.takes; spells = f.spells }
 
 -- ---- what stands after the pool
 
@@ -115,33 +118,84 @@ after_takes : (pool : List Entry) (bytes : List ℕ) (x : HeadPart × List ℕ) 
 unfolding after_from
 after_takes pool bytes x fits e =
     let a = bind_ok (class_flags_from bytes) (λ flags. class_from pool flags.1 >>= λ class. class_from pool class.1
-          >>= λ superclass. list_from (class_from pool) superclass.1 >>= λ
-          interfaces. list_from (field_from pool flags.0) interfaces.1
-          >>= λ fields. Ok (record { pool = pool; flags = record { 0 = flags.0 }; class = class.0;
-          superclass = superclass.0; interfaces = interfaces.0; fields = fields.0 }, fields.1)) x e in
+    >>= λ superclass. list_from (class_from pool) superclass.1 >>= λ
+    interfaces. list_from (field_from pool flags.0) interfaces.1
+    >>= λ fields. Ok (
+      record {
+        pool = pool;
+        flags = record { 0 = flags.0 };
+        class = class.0;
+        superclass = superclass.0;
+        interfaces = interfaces.0;
+        fields = fields.0;
+      },
+      fields.1,
+    )) x e in
     let b = bind_ok (class_from pool a.0.1) (λ class. class_from pool class.1
-          >>= λ superclass. list_from (class_from pool) superclass.1 >>= λ interfaces. list_from (field_from pool a.0.0)
-          interfaces.1 >>= λ fields. Ok (record { pool = pool; flags = record { 0 = a.0.0 }; class = class.0;
-          superclass = superclass.0; interfaces = interfaces.0; fields = fields.0 }, fields.1)) x a.2 in
+    >>= λ superclass. list_from (class_from pool) superclass.1 >>= λ interfaces. list_from (field_from pool a.0.0)
+    interfaces.1 >>= λ fields. Ok (
+      record {
+        pool = pool;
+        flags = record { 0 = a.0.0 };
+        class = class.0;
+        superclass = superclass.0;
+        interfaces = interfaces.0;
+        fields = fields.0;
+      },
+      fields.1,
+    )) x a.2 in
     let c = bind_ok (class_from pool b.0.1) (λ superclass. list_from (class_from pool) superclass.1 >>= λ
-          interfaces. list_from (field_from pool a.0.0) interfaces.1
-          >>= λ fields. Ok (record { pool = pool; flags = record { 0 = a.0.0 }; class = b.0.0;
-          superclass = superclass.0; interfaces = interfaces.0; fields = fields.0 }, fields.1)) x b.2 in
+    interfaces. list_from (field_from pool a.0.0) interfaces.1
+    >>= λ fields. Ok (
+      record {
+        pool = pool;
+        flags = record { 0 = a.0.0 };
+        class = b.0.0;
+        superclass = superclass.0;
+        interfaces = interfaces.0;
+        fields = fields.0;
+      },
+      fields.1,
+    )) x b.2 in
     let d = bind_ok (list_from (class_from pool) c.0.1) (λ interfaces. list_from (field_from pool a.0.0) interfaces.1
-          >>= λ fields. Ok (record { pool = pool; flags = record { 0 = a.0.0 }; class = b.0.0; superclass = c.0.0;
-          interfaces = interfaces.0; fields = fields.0 }, fields.1)) x c.2 in
+    >>= λ fields. Ok (
+      record {
+        pool = pool;
+        flags = record { 0 = a.0.0 };
+        class = b.0.0;
+        superclass = c.0.0;
+        interfaces = interfaces.0;
+        fields = fields.0;
+      },
+      fields.1,
+    )) x c.2 in
     let f = bind_ok (list_from (field_from pool a.0.0) d.0.1)
-          (λ fields. Ok (record { pool = pool; flags = record { 0 = a.0.0 }; class = b.0.0; superclass = c.0.0;
-          interfaces = d.0.0; fields = fields.0 }, fields.1)) x d.2 in
+    (λ fields. Ok (
+      record {
+        pool = pool;
+        flags = record { 0 = a.0.0 };
+        class = b.0.0;
+        superclass = c.0.0;
+        interfaces = d.0.0;
+        fields = fields.0;
+      },
+      fields.1,
+    )) x d.2 in
     let ta = flags_take bytes a.0 fits a.1 in
     let tb = class_takes pool a.0.1 b.0 ta.0.rest_fits b.1 in
     let tc = class_takes pool b.0.1 c.0 tb.takes.rest_fits c.1 in
     let td = list_takes (class_from pool) (SpellsClass pool) (λ more y h k. class_takes pool more y h k) c.0.1 d.0
-          tc.takes.rest_fits d.1 in
+    tc.takes.rest_fits d.1 in
     let tf = list_takes (field_from pool a.0.0) (SpellsField pool a.0.0) (λ more y h k. field_found pool a.0.0 more y h
-          k) d.0.1 f.0 td.takes.rest_fits f.1 in
-    let made : HeadPart = record { pool = pool; flags = record { 0 = a.0.0 }; class = b.0.0; superclass = c.0.0;
-          interfaces = d.0.0; fields = f.0.0 } in
+    k) d.0.1 f.0 td.takes.rest_fits f.1 in
+    let made : HeadPart = record {
+      pool = pool;
+      flags = record { 0 = a.0.0 };
+      class = b.0.0;
+      superclass = c.0.0;
+      interfaces = d.0.0;
+      fields = f.0.0;
+    } in
     let read : HeadPart × List ℕ = (made, f.0.1) in
     let whole = Takes-then bytes (u2 a.0.0) a.0.1 (tb.text ++ (tc.text ++ (td.text ++ tf.text))) f.0.1 ta.0
     (Takes-then a.0.1 tb.text b.0.1 (tc.text ++ (td.text ++ tf.text)) f.0.1 tb.takes
@@ -171,11 +225,11 @@ after_again : (text : List ℕ) (h : HeadPart) (rest : List ℕ) → SpellsAfter
 unfolding after_from
 after_again text h rest s =
     let one : text ++ rest ≡ u2 h.flags.0
-          ++ (s.class_bytes ++ (s.super_bytes ++ (s.interface_bytes ++ (s.field_bytes ++ rest)))) = ap
-          (λ (t : List ℕ). t ++ rest) s.bytes_are
-          ∙ append_assoc (u2 h.flags.0) (s.class_bytes ++ (s.super_bytes ++ (s.interface_bytes ++ s.field_bytes))) rest
+    ++ (s.class_bytes ++ (s.super_bytes ++ (s.interface_bytes ++ (s.field_bytes ++ rest)))) = ap
+    (λ (t : List ℕ). t ++ rest) s.bytes_are
+    ∙ append_assoc (u2 h.flags.0) (s.class_bytes ++ (s.super_bytes ++ (s.interface_bytes ++ s.field_bytes))) rest
     ∙ ap (λ (t : List ℕ). u2 h.flags.0 ++ t) (append_assoc s.class_bytes (s.super_bytes
-        ++ (s.interface_bytes ++ s.field_bytes)) rest
+    ++ (s.interface_bytes ++ s.field_bytes)) rest
     ∙ ap (λ (t : List ℕ). s.class_bytes ++ t) (append_assoc s.super_bytes (s.interface_bytes ++ s.field_bytes) rest
     ∙ ap (λ (t : List ℕ). s.super_bytes ++ t) (append_assoc s.interface_bytes s.field_bytes rest))) in
     ap (after_from h.pool) one ∙ rw (
@@ -202,7 +256,7 @@ head_takes bytes x fits e =
     let tb = pool_takes a.0.1 b.0 ta.rest_fits b.1 in
     let tc = after_takes b.0.0 b.0.1 x tb.0.rest_fits b.2 in
     let whole = Takes-then bytes opening a.0.1 (pool_bytes b.0.0 ++ tc.text) x.1 ta
-          (Takes-then a.0.1 (pool_bytes b.0.0) b.0.1 tc.text x.1 tb.0 tc.takes) in
+    (Takes-then a.0.1 (pool_bytes b.0.0) b.0.1 tc.text x.1 tb.0 tc.takes) in
     record {
       text = opening ++ (pool_bytes b.0.0 ++ tc.text);
       takes = whole;
@@ -220,26 +274,38 @@ pub head_again : (text : List ℕ) (h : HeadPart) (rest : List ℕ) → SpellsHe
 unfolding head_from
 head_again text h rest s =
     let one : text ++ rest ≡ opening ++ (pool_bytes h.pool ++ (s.after_pool ++ rest)) = ap (λ (t : List ℕ). t ++ rest)
-          s.bytes_are ∙ append_assoc opening (pool_bytes h.pool ++ s.after_pool) rest
-          ∙ ap (λ (t : List ℕ). opening ++ t) (append_assoc (pool_bytes h.pool) s.after_pool rest) in
-    ap head_from one ∙ rw (opening_again (pool_bytes h.pool ++ (s.after_pool ++ rest)),
-        pool_again h.pool (s.after_pool ++ rest) s.pool_fits s.pool_is_sound)
-        (after_again s.after_pool h rest s.following)
+    s.bytes_are ∙ append_assoc opening (pool_bytes h.pool ++ s.after_pool) rest
+    ∙ ap (λ (t : List ℕ). opening ++ t) (append_assoc (pool_bytes h.pool) s.after_pool rest) in
+    ap head_from one ∙ rw (
+      opening_again (pool_bytes h.pool ++ (s.after_pool ++ rest)),
+      pool_again h.pool (s.after_pool ++ rest) s.pool_fits s.pool_is_sound,
+    )
+    (after_again s.after_pool h rest s.following)
 
 -- ---- what is written
 
 classes_written : (pool : List Entry) (body : List ℕ) (classes : List ℕ) → SpellsAll (SpellsClass pool) body classes
     → SpellsAll (SpellsClass pool) (flat_map u2 classes) classes
 classes_written pool body [] s = refl
-classes_written pool body (n ∷ classes) s = (u2 n, flat_map u2 classes, refl, (refl, s.3.1, s.3.2),
-    classes_written pool s.1 classes s.4)
+classes_written pool body (n ∷ classes) s = (
+  u2 n,
+  flat_map u2 classes,
+  refl,
+  (refl, s.3.1, s.3.2),
+  classes_written pool s.1 classes s.4,
+)
 
 fields_written : (pool : List Entry) (class : ℕ) (body : List ℕ) (fields : List FieldEntry)
     → SpellsAll (SpellsField pool class) body fields → SpellsAll (SpellsField pool class) (flat_map field_bytes fields)
     fields
 fields_written pool class body [] s = refl
-fields_written pool class body (f ∷ fields) s = (field_bytes f, flat_map field_bytes fields, refl,
-    field_written pool class s.0 f s.3, fields_written pool class s.1 fields s.4)
+fields_written pool class body (f ∷ fields) s = (
+  field_bytes f,
+  flat_map field_bytes fields,
+  refl,
+  field_written pool class s.0 f s.3,
+  fields_written pool class s.1 fields s.4,
+)
 
 pub head_written : (bytes : List ℕ) (h : HeadPart) → SpellsHead bytes h → SpellsHead (head_bytes h) h
 head_written bytes h s =
@@ -257,11 +323,19 @@ head_written bytes h s =
         super_bytes = u2 h.superclass;
         super_spells = (refl, b.super_spells.1, b.super_spells.2);
         interface_bytes = list_bytes u2 h.interfaces;
-        interfaces_spell = record { few = b.interfaces_spell.few; body = flat_map u2 h.interfaces; bytes_are = refl;
-            all = classes_written h.pool b.interfaces_spell.body h.interfaces b.interfaces_spell.all };
+        interfaces_spell = record {
+          few = b.interfaces_spell.few;
+          body = flat_map u2 h.interfaces;
+          bytes_are = refl;
+          all = classes_written h.pool b.interfaces_spell.body h.interfaces b.interfaces_spell.all;
+        };
         field_bytes = list_bytes field_bytes h.fields;
-        fields_spell = record { few = b.fields_spell.few; body = flat_map field_bytes h.fields; bytes_are = refl;
-            all = fields_written h.pool h.flags.0 b.fields_spell.body h.fields b.fields_spell.all };
+        fields_spell = record {
+          few = b.fields_spell.few;
+          body = flat_map field_bytes h.fields;
+          bytes_are = refl;
+          all = fields_written h.pool h.flags.0 b.fields_spell.body h.fields b.fields_spell.all;
+        };
         bytes_are = refl;
       };
     }
@@ -272,7 +346,7 @@ pub is_found : (bytes : List ℕ) (r : Result (HeadPart × Bor (List ℕ)) ReadE
     → Gives (λ x. (x.0, x.1.now)) r (head_from bytes) → IfOk r (λ x. (text : List ℕ) × SpellsHead text x.0
     × (bytes ≡ text ++ x.1.now))
 is_found bytes (Ok x) fits given = let f = head_takes bytes (x.0, x.1.now) fits given
-                                         in (f.text, f.spells, f.takes.parts)
+    in (f.text, f.spells, f.takes.parts)
 is_found bytes (Err e) fits given = tt
 
 pub one_alone : (a b x y : List ℕ) (h k : HeadPart) → SpellsHead a h → SpellsHead b k → a ++ x ≡ b ++ y → (h ≡ k)

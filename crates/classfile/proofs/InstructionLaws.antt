@@ -47,31 +47,37 @@ split : (left pc b : ℕ) (bytes : List ℕ) (items : List Located) → items_fr
 unfolding items_from
 split left pc b bytes items e =
     let x = bind_ok (instruction_at pc (b ∷ bytes))
-          (λ first. items_from left (pc + (length (b ∷ bytes) - length first.1)) first.1
-          >>= λ others. Ok (placed pc (pc + (length (b ∷ bytes) - length first.1)) first.0 ∷ others)) items e in
+    (λ first. items_from left (pc + (length (b ∷ bytes) - length first.1)) first.1
+    >>= λ others. Ok (placed pc (pc + (length (b ∷ bytes) - length first.1)) first.0 ∷ others)) items e in
     let y = bind_ok (items_from left (pc + (length (b ∷ bytes) - length x.0.1)) x.0.1)
-          (λ others. Ok (placed pc (pc + (length (b ∷ bytes) - length x.0.1)) x.0.0 ∷ others)) items x.2 in
-    record { i = x.0.0; after = x.0.1; others = y.0; read = x.1; more = y.1;
-        are = ok_is (placed pc (pc + (length (b ∷ bytes) - length x.0.1)) x.0.0 ∷ y.0) items y.2 }
+    (λ others. Ok (placed pc (pc + (length (b ∷ bytes) - length x.0.1)) x.0.0 ∷ others)) items x.2 in
+    record {
+      i = x.0.0;
+      after = x.0.1;
+      others = y.0;
+      read = x.1;
+      more = y.1;
+      are = ok_is (placed pc (pc + (length (b ∷ bytes) - length x.0.1)) x.0.0 ∷ y.0) items y.2;
+    }
 
 items_below : (left pc : ℕ) (bytes : List ℕ) (items : List Located) (t : ℕ) → IsBytes bytes → items_from left pc bytes
     ≡ Ok items → IsPc items t → t < pc + length bytes
 unfolding items_from
 items_below zero pc [] items t fits e p = let none : [] ≡ items = ok_is [] items e
-                                                in absurd (subst (λ (xs : List Located). IsPc xs t) (sym none) p)
+    in absurd (subst (λ (xs : List Located). IsPc xs t) (sym none) p)
 items_below zero pc (b ∷ bytes) items t fits e p = absurd cc
 items_below (suc left) pc [] items t fits e p = let none : [] ≡ items = ok_is [] items e
-                                                      in absurd (subst (λ (xs : List Located). IsPc xs t) (sym none) p)
+    in absurd (subst (λ (xs : List Located). IsPc xs t) (sym none) p)
 items_below (suc left) pc (b ∷ bytes) items t fits e p =
     let s = split left pc b bytes items e in
     let taken = instruction-takes pc (b ∷ bytes) s.i s.after fits s.read in
     let here : IsPc (placed pc (pc + (length (b ∷ bytes) - length s.after)) s.i ∷ s.others) t = subst
-          (λ (xs : List Located). IsPc xs t) (sym s.are) p in
+    (λ (xs : List Located). IsPc xs t) (sym s.are) p in
     elim here [
       | inl at ↦ let less = taken.shorter in omega arith
       | inr later ↦
           let below = items_below left (pc + (length (b ∷ bytes) - length s.after)) s.after s.others t taken.rest_fits
-                s.more later in
+          s.more later in
           let less = taken.shorter in omega arith
     ]
 
@@ -89,11 +95,14 @@ items_stand (suc left) pc (b ∷ bytes) items fits real e =
     let all : AreReal (x ∷ s.others) = subst AreReal (sym s.are) real in
     let front = taken.front all.0 in
     let size : length (b ∷ bytes) ≡ length (spelling pc s.i) + length s.after = ap length front.parts
-          ∙ length-append (spelling pc s.i) s.after in
+    ∙ length-append (spelling pc s.i) s.after in
     let next : x.next ≡ pc + length (spelling pc s.i) = omega arith in
     let more = items_stand left x.next s.after s.others taken.rest_fits all.1 s.more in
-    subst (λ (xs : List Located). StandFrom pc xs (b ∷ bytes)) s.are (s.after,
-        record { at = refl; fits = front.fits; bytes_are = front.parts; next = next }, more)
+    subst (λ (xs : List Located). StandFrom pc xs (b ∷ bytes)) s.are (
+      s.after,
+      record { at = refl; fits = front.fits; bytes_are = front.parts; next = next },
+      more,
+    )
 
 items_again : (left pc : ℕ) (bytes : List ℕ) (items : List Located) → length bytes ≤ left → AreReal items
     → StandFrom pc items bytes → items_from left pc bytes ≡ Ok items
@@ -102,21 +111,23 @@ items_again zero pc bytes [] small real stand = rw stand refl
 items_again (suc left) pc bytes [] small real stand = rw stand refl
 items_again zero pc bytes (x ∷ xs) small real stand =
     let size : length bytes ≡ length (spelling pc x.instruction) + length stand.0 = ap length stand.1.bytes_are
-          ∙ length-append (spelling pc x.instruction) stand.0 in
+    ∙ length-append (spelling pc x.instruction) stand.0 in
     absurd (omega arith)
 items_again (suc left) pc bytes (x ∷ xs) small real stand =
     let begins = stand.1 in
     let size : length bytes ≡ length (spelling pc x.instruction) + length stand.0 = ap length begins.bytes_are
-          ∙ length-append (spelling pc x.instruction) stand.0 in
+    ∙ length-append (spelling pc x.instruction) stand.0 in
     let whole = spelling pc x.instruction ++ stand.0 in
     let next : x.next ≡ pc + (length whole - length
-          stand.0) = let n = begins.next in let w = length-append (spelling pc x.instruction) stand.0 in omega arith in
+    stand.0) = let n = begins.next in let w = length-append (spelling pc x.instruction) stand.0 in omega arith in
     let here : placed pc (pc + (length whole - length stand.0)) x.instruction
-          ≡ x = sym (located-is x pc (pc + (length whole - length stand.0)) x.instruction begins.at next refl) in
+    ≡ x = sym (located-is x pc (pc + (length whole - length stand.0)) x.instruction begins.at next refl) in
     let tail = subst (λ (n : ℕ). StandFrom n xs stand.0) next stand.2 in
     let more = items_again left (pc + (length whole - length stand.0)) stand.0 xs (omega arith) real.1 tail in
-    ap (items_from (suc left) pc) begins.bytes_are ∙ rw (instruction-again pc x.instruction stand.0 begins.fits real.0,
-        more) (ap (λ (y : Located). Ok (y ∷ xs)) here)
+    ap (items_from (suc left) pc) begins.bytes_are ∙ rw (
+      instruction-again pc x.instruction stand.0 begins.fits real.0,
+      more,
+    ) (ap (λ (y : Located). Ok (y ∷ xs)) here)
 
 -- ---- branches
 
@@ -130,8 +141,11 @@ or_right false b e = e
 
 pc_is : (items : List Located) (t : ℕ) → is_pc items t ≡ true → IsPc items t
 pc_is [] t e = absurd cc
-pc_is (x ∷ xs) t e = elim (or_is (eqb x.pc t) (is_pc xs t) e) [ inl here ↦ inl (eqb-true x.pc t here) | inr later ↦
-    inr (pc_is xs t later) ]
+pc_is (x ∷ xs) t e = elim (or_is (eqb x.pc t) (is_pc xs t) e) [
+  | inl here ↦ inl (eqb-true x.pc t here)
+  | inr later ↦
+      inr (pc_is xs t later)
+]
 
 is_the_pc : (items : List Located) (t : ℕ) → IsPc items t → is_pc items t ≡ true
 is_the_pc [] t p = absurd p
@@ -143,7 +157,7 @@ landed : (items : List Located) → list_all (lands_among items) items ≡ true
 landed items e =
     all-of (λ x. lands_among items x ≡ true) (λ x. AllByRecursion (IsPc items) (targets x.instruction)) items
     (λ x land. all-of (λ t. is_pc items t ≡ true) (IsPc items) (targets x.instruction) (λ t p. pc_is items t p)
-        (each-true (is_pc items) (targets x.instruction) land)) (each-true (lands_among items) items e)
+    (each-true (is_pc items) (targets x.instruction) land)) (each-true (lands_among items) items e)
 
 lands : (items : List Located) → AllByRecursion (λ x. AllByRecursion (IsPc items) (targets x.instruction)) items
     → list_all (lands_among items) items ≡ true
@@ -151,7 +165,7 @@ lands items all =
     true-each (lands_among items) items
     (all-of (λ x. AllByRecursion (IsPc items) (targets x.instruction)) (λ x. lands_among items x ≡ true) items
     (λ x land. true-each (is_pc items) (targets x.instruction) (all-of (IsPc items) (λ t. is_pc items t ≡ true)
-        (targets x.instruction) (λ t p. is_the_pc items t p) land)) all)
+    (targets x.instruction) (λ t p. is_the_pc items t p) land)) all)
 
 -- ---- code
 
@@ -168,11 +182,11 @@ pub decoded_is : (bytes : List ℕ) (items : List Located) → IsBytes bytes →
 unfolding decoded
 decoded_is bytes items fits e =
     let p = passed (nat_le 1 (length bytes) && nat_le (length bytes) 65535) error.Length
-          (items_from (length bytes) 0 bytes >>= λ xs. cond (list_all (lands_among xs) xs) (Ok xs) (Err error.Branch))
-          items e in
+    (items_from (length bytes) 0 bytes >>= λ xs. cond (list_all (lands_among xs) xs) (Ok xs) (Err error.Branch))
+    items e in
     let range = both_true (nat_le 1 (length bytes)) (nat_le (length bytes) 65535) p.0 in
     let b = bind_ok (items_from (length bytes) 0 bytes) (λ xs. cond (list_all (lands_among xs) xs) (Ok xs)
-          (Err error.Branch)) items p.1 in
+    (Err error.Branch)) items p.1 in
     let q = passed (list_all (lands_among b.0) b.0) error.Branch (Ok b.0) items b.2 in
     let same = ok_is b.0 items q.1 in
     let read : items_from (length bytes) 0 bytes ≡ Ok items = b.1 ∙ ap (λ (xs : List Located). Ok xs) same in
@@ -190,8 +204,12 @@ unfolding decoded
 code_is_decoded bytes items code =
     let some : nat_le 1 (length bytes) ≡ true = le-leb _ _ code.some in
     let few : nat_le (length bytes) 65535 ≡ true = le-leb _ _ code.few in
-    rw (some, few, items_again (length bytes) 0 bytes items (omega arith) (code-real bytes items code) code.stand,
-        lands items code.land) refl
+    rw (
+      some,
+      few,
+      items_again (length bytes) 0 bytes items (omega arith) (code-real bytes items code) code.stand,
+      lands items code.land,
+    ) refl
 
 faulty_code : (bytes : List ℕ) (e : OpError) → IsBytes bytes → (e ≡ error.Memory → ⊥)
     → ((items : List Located) → IsCode bytes items → e ≡ error.Memory) → as_format (decoded bytes) ≡ Err Attribute
@@ -214,8 +232,8 @@ stands_bytes pc [] bytes stand = stand
 stands_bytes pc (x ∷ xs) bytes stand =
     let begins = stand.1 in
     begins.bytes_are ∙ ap (λ (rest : List ℕ). spelling pc x.instruction ++ rest)
-        (stands_bytes x.next xs stand.0 stand.2) ∙ ap (λ (p : ℕ). spelling p x.instruction ++ code_bytes xs)
-        (sym begins.at)
+    (stands_bytes x.next xs stand.0 stand.2) ∙ ap (λ (p : ℕ). spelling p x.instruction ++ code_bytes xs)
+    (sym begins.at)
 
 pub code_bytes_are : (bytes : List ℕ) (items : List Located) → IsCode bytes items → bytes ≡ code_bytes items
 code_bytes_are bytes items code = stands_bytes 0 items bytes code.stand

@@ -36,7 +36,7 @@ module _ {A : Type 0} (read : List ℕ → Reads A) (Spells : List ℕ → A →
       (record { text = []; takes = Takes-nothing bytes fits; number = refl; spells = refl })
   repeated_takes takes (suc n) bytes x fits e =
       let a = bind_ok (read bytes) (λ first. repeated read n first.1 >>= λ others. Ok (first.0 ∷ others.0, others.1)) x
-            e in
+      e in
       let b = bind_ok (repeated read n a.0.1) (λ others. Ok (a.0.0 ∷ others.0, others.1)) x a.2 in
       let one = takes bytes a.0 fits a.1 in
       let others = repeated_takes takes n a.0.1 b.0 one.takes.rest_fits b.1 in
@@ -56,7 +56,7 @@ module _ {A : Type 0} (read : List ℕ → Reads A) (Spells : List ℕ → A →
       let first = spells.0 in
       let others = spells.1 in
       ap (λ (t : List ℕ). repeated read (suc (length xs)) (t ++ rest)) spells.2
-          ∙ ap (repeated read (suc (length xs))) (append_assoc first others rest)
+      ∙ ap (repeated read (suc (length xs))) (append_assoc first others rest)
       ∙ rw (again first x (others ++ rest) spells.3, repeated_again again xs others rest spells.4) refl
 
   pub list_takes : ReadTakes → (bytes : List ℕ) (x : List A × List ℕ) → IsBytes bytes → list_from read bytes ≡ Ok x
@@ -78,6 +78,6 @@ module _ {A : Type 0} (read : List ℕ → Reads A) (Spells : List ℕ → A →
   unfolding list_from
   list_again again text xs rest s =
       let one : text ++ rest ≡ u2 (length xs) ++ (s.body ++ rest) = ap (λ (t : List ℕ). t ++ rest) s.bytes_are
-            ∙ append_assoc (u2 (length xs)) s.body rest in
+      ∙ append_assoc (u2 (length xs)) s.body rest in
       ap (list_from read) one ∙ rw (number_again w16 wide16 (length xs) (s.body ++ rest) s.few)
-          (repeated_again again xs s.body rest s.all)
+      (repeated_again again xs s.body rest s.all)

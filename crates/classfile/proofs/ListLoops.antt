@@ -21,13 +21,13 @@ module _ {A : Type 0} (read : List ℕ → Reads A) where
   pub goes_on : (front : List A) (count i : ℕ) (bytes : List ℕ) (x : A) (after : List ℕ) (total : Reads (List A))
       → i < count → read bytes ≡ Ok (x, after)
       → with_front front (repeated read (count - i) bytes) ≡ total
-          → with_front (front ++ x ∷ []) (repeated read (count - (i + 1)) after) ≡ total
+      → with_front (front ++ x ∷ []) (repeated read (count - (i + 1)) after) ≡ total
   unfolding repeated
   goes_on front count i bytes x after total lt h so_far =
       let k : suc (count - (i + 1)) ≡ count - i = omega arith in
       let one : with_front front (repeated read (suc (count - (i + 1))) bytes)
-            ≡ with_front (front ++ x ∷ []) (repeated read (count - (i + 1)) after) = rw h
-            (regroup front x (repeated read (count - (i + 1)) after)) in
+      ≡ with_front (front ++ x ∷ []) (repeated read (count - (i + 1)) after) = rw h
+      (regroup front x (repeated read (count - (i + 1)) after)) in
       sym one ∙ ap (λ m. with_front front (repeated read m bytes)) k ∙ so_far
 
   pub ends : (e : ReadError) (front : List A) (count i : ℕ) (bytes : List ℕ) (total : Reads (List A)) → i < count
@@ -37,11 +37,13 @@ module _ {A : Type 0} (read : List ℕ → Reads A) where
   ends e front count i bytes total lt h so_far =
       let n = count - (i + 1) in
       let k : suc n ≡ count - i = omega arith in
-      let one = fails-then e (read bytes) (λ first. repeated read n first.1 >>= λ others. Ok (first.0 ∷ others.0,
-            others.1)) h in
+      let one = fails-then e (read bytes) (λ first. repeated read n first.1 >>= λ others. Ok (
+        first.0 ∷ others.0,
+        others.1,
+      )) h in
       let two = fails-then e (repeated read (suc n) bytes) (λ x. Ok (front ++ x.0, x.1)) one in
       fails-is e (with_front front (repeated read (suc n) bytes)) total
-          (ap (λ m. with_front front (repeated read m bytes)) k ∙ so_far) two
+      (ap (λ m. with_front front (repeated read m bytes)) k ∙ so_far) two
 
   pub is_done : (front : List A) (count i : ℕ) (bytes : List ℕ) (total : Reads (List A)) → count ≤ i
       → with_front front (repeated read (count - i) bytes) ≡ total → total ≡ Ok (front, bytes)
@@ -49,5 +51,5 @@ module _ {A : Type 0} (read : List ℕ → Reads A) where
   is_done front count i bytes total le so_far =
       let k : count - i ≡ 0 = omega arith in
       let one : with_front front (repeated read (count - i) bytes)
-            ≡ Ok (front, bytes) = rw k (ap (λ (xs : List A). Ok (xs, bytes)) (append-nil front)) in
+      ≡ Ok (front, bytes) = rw k (ap (λ (xs : List A). Ok (xs, bytes)) (append-nil front)) in
       sym so_far ∙ one

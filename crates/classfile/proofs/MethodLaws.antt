@@ -48,7 +48,7 @@ found_takes pool true None name bytes x fits e =
     let c = code_is pool name a.0.0 b.0 z.bytes_fit b.1 in
     let made : Option CodePart × List ℕ = (Some b.0, a.0.1) in
     subst (λ (y : Option CodePart × List ℕ). (info : List ℕ) × Sized bytes info y.1
-        × TakesCode pool true None (record { name = name; info = info }) y.0) (ok_is made x b.2)
+    × TakesCode pool true None (record { name = name; info = info }) y.0) (ok_is made x b.2)
     (a.0.0, z, (refl, b.0, refl, c.name_is, c.spells))
 
 found_again : (pool : List Entry) (wanted : Bool) (s : Option CodePart) (a : Attribute) (t : Option CodePart)
@@ -60,7 +60,7 @@ found_again pool false None a t rest does small = let no_code = does.0 in absurd
 found_again pool true None a t rest does small =
     let c = does.1 in
     let read : code_from pool a.name a.info ≡ Ok c = ap (λ (n : ℕ). code_from pool n a.info) does.3
-          ∙ code_again pool a.info c does.4 in
+    ∙ code_again pool a.info c does.4 in
     rw (sized_again a.info rest small, read) (ap (λ (o : Option CodePart). Ok (o, rest)) (sym does.2))
 
 -- ---- those that are code
@@ -97,15 +97,15 @@ module _ (pool : List Entry) (wanted : Bool) where
   found_by : (b : Bool) (a : Attribute) (attributes : List Attribute) (t : Option CodePart)
       → OneRuns b None a (λ m. AllRun m attributes t)
       → (AllRun None attributes t → Kept pool wanted (those attributes) t)
-          → Kept pool wanted (cond b (a ∷ those attributes) (those attributes)) t
+      → Kept pool wanted (cond b (a ∷ those attributes) (those attributes)) t
   found_by true a attributes t h others =
       let does = h.1 in
       let c = does.1 in
       let later : AllRun (Some c) attributes t = subst (λ (m : Option CodePart). AllRun m attributes t) does.2 h.2 in
       let r = runs_after c attributes t later in
       let only : a ∷ those attributes ≡ record { name = c.name; info = a.info }
-            ∷ [] = ap (λ (xs : List Attribute). a ∷ xs) r.0 ∙ ap (λ (n : ℕ). record { name = n; info = a.info } ∷ [])
-            does.3 in
+      ∷ [] = ap (λ (xs : List Attribute). a ∷ xs) r.0 ∙ ap (λ (n : ℕ). record { name = n; info = a.info } ∷ [])
+      does.3 in
       subst (λ (o : Option CodePart). Kept pool wanted (a ∷ those attributes) o) r.1 (does.0, a.info, only, does.4)
   found_by false a attributes t h others = others h
 
@@ -127,7 +127,7 @@ module _ (pool : List Entry) (wanted : Bool) where
   kept_by : (b : Bool) (a : Attribute) (attributes : List Attribute) (t : Option CodePart)
       → Kept pool wanted (cond b (a ∷ those attributes) (those attributes)) t
       → (Kept pool wanted (those attributes) t → AllRun None attributes t)
-          → OneRuns b None a (λ m. AllRun m attributes t)
+      → OneRuns b None a (λ m. AllRun m attributes t)
   kept_by true a attributes None e others = absurd cc
   kept_by true a attributes (Some c) e others =
       let info = e.1 in
@@ -163,7 +163,7 @@ last_test wanted found = cond wanted (cond (is_some found.0) (Ok found) (Err fau
 tested_last : (wanted : Bool) (found x : Option CodePart × List ℕ) → last_test wanted found ≡ Ok x → (found ≡ x)
     × Enough wanted found.0
 tested_last true found x e = let p = passed_ok (is_some found.0) fault.Attribute (Ok found) x e
-                                   in (ok_is found x p.1, λ w. p.0)
+    in (ok_is found x p.1, λ w. p.0)
 tested_last false found x e = (ok_is found x e, λ w. absurd cc)
 
 kept_spells : (pool : List Entry) (wanted : Bool) (attributes : List Attribute) (t : Option CodePart)
@@ -188,12 +188,12 @@ unfolding codes_from
 codes_take pool wanted bytes x fits e =
     let step = found_code_from pool wanted in
     let b = bind_ok (number_at w16 bytes) (λ count. attributes_from pool is_code_name step count.0 None count.1
-          >>= λ found. last_test wanted found) x e in
+    >>= λ found. last_test wanted found) x e in
     let d = bind_ok (attributes_from pool is_code_name step b.0.0 None b.0.1) (λ found. last_test wanted found) x b.2 in
     let l = tested_last wanted d.0 x d.2 in
     let t = number_takes w16 wide16 bytes b.0.0 b.0.1 fits b.1 in
     let r = attributes_take pool is_code_name step (TakesCode pool wanted) (λ s name more y f h. found_takes pool wanted
-          s name more y f h) b.0.0 None b.0.1 d.0 t.0.rest_fits d.1 in
+    s name more y f h) b.0.0 None b.0.1 d.0 t.0.rest_fits d.1 in
     let kept = runs_found pool wanted r.attributes d.0.0 r.runs in
     subst (AreCodes pool wanted bytes) l.0 (record {
       attributes = r.attributes;
@@ -207,12 +207,12 @@ codes_take pool wanted bytes x fits e =
 codes_again : (pool : List Entry) (wanted : Bool) (attributes : List Attribute) (t : Option CodePart) (rest : List ℕ)
     → length attributes < 2 ^ 16 → AllByRecursion (AttributeFits pool) attributes
     → SpellCode pool wanted (filter (is_code pool) attributes) t
-        → codes_from pool wanted (attributes_bytes attributes ++ rest) ≡ Ok (t, rest)
+    → codes_from pool wanted (attributes_bytes attributes ++ rest) ≡ Ok (t, rest)
 unfolding codes_from
 codes_again pool wanted attributes t rest few fit code =
     let step = found_code_from pool wanted in
     let runs = found_runs pool wanted attributes t (spells_kept pool wanted (filter (is_code pool) attributes) t code)
-          in
+    in
     let regrouped = append_assoc (u2 (length attributes)) (flat_map attribute_bytes attributes) rest in
     ap (codes_from pool wanted) regrouped ∙ rw (
       number_again w16 wide16 (length attributes) (flat_map attribute_bytes attributes ++ rest) few,
@@ -227,11 +227,11 @@ flags_take : (class : ℕ) (bytes : List ℕ) (x : ℕ × List ℕ) → IsBytes 
 unfolding method_flags_from
 flags_take class bytes x fits e =
     let b = bind_ok (number_at w16 bytes) (λ flags. cond (are_method_flags class flags.0) (Ok flags) (Err fault.Flags))
-          x e in
+    x e in
     let p = passed_ok (are_method_flags class b.0.0) fault.Flags (Ok b.0) x b.2 in
     let t = number_takes w16 wide16 bytes b.0.0 b.0.1 fits b.1 in
     subst (λ (y : ℕ × List ℕ). Takes bytes (u2 y.0) y.1 × (y.0 < 2 ^ 16) × (are_method_flags class y.0 ≡ true))
-        (ok_is b.0 x p.1) (t.0, t.1, p.0)
+    (ok_is b.0 x p.1) (t.0, t.1, p.0)
 
 flags_again : (class flags : ℕ) (rest : List ℕ) → flags < 2 ^ 16 → are_method_flags class flags ≡ true
     → method_flags_from class (u2 flags ++ rest) ≡ Ok (flags, rest)
@@ -245,33 +245,51 @@ pub method_takes : (pool : List Entry) (class : ℕ) (bytes : List ℕ) (x : Met
 unfolding method_from
 method_takes pool class bytes x fits e =
     let a = bind_ok (method_flags_from class bytes) (λ flags. tested_from pool is_method_name flags.1
-          >>= λ name. tested_from pool (method_type_test (has flags.0 0x0008)) name.1
-          >>= λ type. codes_from pool (wants_code flags.0) type.1
-          >>= λ code. Ok (record { flags = record { 0 = flags.0 }; name = name.0.0; descriptor = type.0.0;
-          code = code.0 }, code.1)) x e in
+    >>= λ name. tested_from pool (method_type_test (has flags.0 0x0008)) name.1
+    >>= λ type. codes_from pool (wants_code flags.0) type.1
+    >>= λ code. Ok (
+      record {
+        flags = record { 0 = flags.0 };
+        name = name.0.0;
+        descriptor = type.0.0;
+        code = code.0;
+      },
+      code.1,
+    )) x e in
     let b = bind_ok (tested_from pool is_method_name a.0.1)
-          (λ name. tested_from pool (method_type_test (has a.0.0 0x0008)) name.1
-          >>= λ type. codes_from pool (wants_code a.0.0) type.1
-          >>= λ code. Ok (record { flags = record { 0 = a.0.0 }; name = name.0.0; descriptor = type.0.0;
-          code = code.0 }, code.1)) x a.2 in
+    (λ name. tested_from pool (method_type_test (has a.0.0 0x0008)) name.1
+    >>= λ type. codes_from pool (wants_code a.0.0) type.1
+    >>= λ code. Ok (
+      record {
+        flags = record { 0 = a.0.0 };
+        name = name.0.0;
+        descriptor = type.0.0;
+        code = code.0;
+      },
+      code.1,
+    )) x a.2 in
     let c = bind_ok (tested_from pool (method_type_test (has a.0.0 0x0008)) b.0.1)
-          (λ type. codes_from pool (wants_code a.0.0) type.1
-          >>= λ code. Ok (record { flags = record { 0 = a.0.0 }; name = b.0.0.0; descriptor = type.0.0; code = code.0 },
-          code.1)) x b.2 in
+    (λ type. codes_from pool (wants_code a.0.0) type.1
+    >>= λ code. Ok (
+      record { flags = record { 0 = a.0.0 }; name = b.0.0.0; descriptor = type.0.0; code = code.0 },
+      code.1,
+    )) x b.2 in
     let d = bind_ok (codes_from pool (wants_code a.0.0) c.0.1)
-          (λ code. Ok (record { flags = record { 0 = a.0.0 }; name = b.0.0.0; descriptor = c.0.0.0; code = code.0 },
-          code.1)) x c.2 in
+    (λ code. Ok (
+      record { flags = record { 0 = a.0.0 }; name = b.0.0.0; descriptor = c.0.0.0; code = code.0 },
+      code.1,
+    )) x c.2 in
     let f = flags_take class bytes a.0 fits a.1 in
     let n = tested_takes pool is_method_name a.0.1 b.0 f.0.rest_fits b.1 in
     let t = tested_takes pool (method_type_test (has a.0.0 0x0008)) b.0.1 c.0 n.0.takes.rest_fits c.1 in
     let k = codes_take pool (wants_code a.0.0) c.0.1 d.0 t.0.takes.rest_fits d.1 in
     let made : MethodPart = record { flags = record { 0 = a.0.0 }; name = b.0.0.0; descriptor = c.0.0.0; code = d.0.0 }
-          in
+    in
     let read : MethodPart × List ℕ = (made, d.0.1) in
     let tail = attributes_bytes k.attributes in
     let whole = Takes-then bytes (u2 a.0.0) a.0.1 (u2 b.0.0.0 ++ (u2 c.0.0.0 ++ tail)) d.0.1 f.0
-          (Takes-then a.0.1 (u2 b.0.0.0) b.0.1 (u2 c.0.0.0 ++ tail) d.0.1 n.0.takes
-          (Takes-then b.0.1 (u2 c.0.0.0) c.0.1 tail d.0.1 t.0.takes k.takes)) in
+    (Takes-then a.0.1 (u2 b.0.0.0) b.0.1 (u2 c.0.0.0 ++ tail) d.0.1 n.0.takes
+    (Takes-then b.0.1 (u2 c.0.0.0) c.0.1 tail d.0.1 t.0.takes k.takes)) in
     subst (Found (SpellsMethod pool class) bytes) (ok_is read x d.2) (record {
       text = u2 a.0.0 ++ (u2 b.0.0.0 ++ (u2 c.0.0.0 ++ tail));
       takes = whole;
@@ -300,9 +318,9 @@ method_again pool class text m rest s =
     let end = tail ++ rest in
     let one : text ++ rest ≡ u2 m.flags.0 ++ (u2 m.name ++ (u2 m.descriptor ++ end)) =
     ap (λ (b : List ℕ). b ++ rest) s.bytes_are ∙ append_assoc (u2 m.flags.0) (u2 m.name ++ (u2 m.descriptor ++ tail))
-        rest
+    rest
     ∙ ap (λ (b : List ℕ). u2 m.flags.0 ++ b) (append_assoc (u2 m.name) (u2 m.descriptor ++ tail) rest
-        ∙ ap (λ (b : List ℕ). u2 m.name ++ b) (append_assoc (u2 m.descriptor) tail rest)) in
+    ∙ ap (λ (b : List ℕ). u2 m.name ++ b) (append_assoc (u2 m.descriptor) tail rest)) in
     ap (method_from pool class) one ∙ rw (
       flags_again class m.flags.0 (u2 m.name ++ (u2 m.descriptor ++ end)) s.flags_fit s.flags_agree,
       tested_again pool is_method_name m.name n.0 (u2 m.descriptor ++ end) s.name_fits n.1 n.2,
@@ -342,10 +360,12 @@ can_be_written pool wanted attributes (Some c) fit s =
     let short = code_short pool s.1 c s.3 in
     let rows = s.3.rows_few in
     let kept : filter (is_code pool) (code_attribute c ∷ []) ≡ code_attribute c
-          ∷ [] = ap (λ b. cond b (code_attribute c ∷ []) []) w.1 in
-    record { few = omega arith;
-        fit = (record { name = w.0.name; text = w.0.text; info = omega (arith, size, short, rows) }, tt);
-        code = (s.0, code_info c, kept, code_written pool s.1 c s.3) }
+    ∷ [] = ap (λ b. cond b (code_attribute c ∷ []) []) w.1 in
+    record {
+      few = omega arith;
+      fit = (record { name = w.0.name; text = w.0.text; info = omega (arith, size, short, rows) }, tt);
+      code = (s.0, code_info c, kept, code_written pool s.1 c s.3);
+    }
 
 pub method_written : (pool : List Entry) (class : ℕ) (bytes : List ℕ) (m : MethodPart) → SpellsMethod pool class bytes m
     → SpellsMethod pool class (method_bytes m) m

@@ -37,7 +37,7 @@ skipped_takes pool bytes x fits e =
     let b = bind_ok (number_at w16 bytes) (λ count. attributes_from pool none_wanted no_step count.0 0 count.1) x e in
     let t = number_takes w16 wide16 bytes b.0.0 b.0.1 fits b.1 in
     let r = attributes_take pool none_wanted no_step Does (λ s name more y f h. absurd cc) b.0.0 0 b.0.1 x t.0.rest_fits
-          b.2 in
+    b.2 in
     record {
       attributes = r.attributes;
       few = omega (arith, r.number, t.1);
@@ -52,6 +52,6 @@ pub skipped_again : (pool : List Entry) (attributes : List Attribute) (rest : Li
 unfolding skipped_from
 skipped_again pool attributes rest few fit =
     ap (skipped_from pool) (append_assoc (u2 (length attributes)) (flat_map attribute_bytes attributes) rest)
-        ∙ rw (number_again w16 wide16 (length attributes) (flat_map attribute_bytes attributes ++ rest) few)
+    ∙ rw (number_again w16 wide16 (length attributes) (flat_map attribute_bytes attributes ++ rest) few)
     (attributes_again pool none_wanted no_step Does (λ s a t more does small. absurd does) attributes 0 0 rest fit
-        (all_skipped pool attributes))
+    (all_skipped pool attributes))

@@ -50,8 +50,13 @@ passes_some test (Some text) e = refl
 all_spell : {A : Type 0} (Spells : List ℕ → A → Type 0) (spelling : A → List ℕ) (xs : List A)
     → AllByRecursion (λ x. Spells (spelling x) x) xs → SpellsAll Spells (flat_map spelling xs) xs
 all_spell Spells spelling [] all = refl
-all_spell Spells spelling (x ∷ xs) all = (spelling x, flat_map spelling xs, refl, all.0,
-    all_spell Spells spelling xs all.1)
+all_spell Spells spelling (x ∷ xs) all = (
+  spelling x,
+  flat_map spelling xs,
+  refl,
+  all.0,
+  all_spell Spells spelling xs all.1,
+)
 
 spelled_all : {A : Type 0} (Spells : List ℕ → A → Type 0) (P : A → Type 0) (body : List ℕ) (xs : List A)
     → ((text : List ℕ) (x : A) → Spells text x → P x) → SpellsAll Spells body xs → AllByRecursion P xs
@@ -65,11 +70,17 @@ constant_stands : (pool : List Entry) (static : Bool) (type : List ℕ) (o : Opt
 constant_stands pool static type None bounds e = (record { few = omega arith; fit = tt; counted = refl }, tt)
 constant_stands pool static type (Some c) bounds e =
     let both = and_both (passes (is_constant_value static) (text_at pool c.name))
-          (is_value_of type (entry_at pool c.value)) e in (
+    (is_value_of type (entry_at pool c.value)) e in (
       record {
         few = omega arith;
-        fit = (record { name = bounds.0; text = passes_some (is_constant_value static) (text_at pool c.name) both.0;
-            info = omega arith }, tt);
+        fit = (
+          record {
+            name = bounds.0;
+            text = passes_some (is_constant_value static) (text_at pool c.name) both.0;
+            info = omega arith;
+          },
+          tt,
+        );
         counted = rw both.0 refl;
       },
       record { value = bounds.1; kind = both.1 },
@@ -78,7 +89,7 @@ constant_stands pool static type (Some c) bounds e =
 standing_constant : (pool : List Entry) (static : Bool) (type : List ℕ) (attributes : List Attribute)
     (o : Option ConstantValue) → AllByRecursion (AttributeFits pool) attributes
     → filter (counts pool static) attributes ≡ constant_attributes o → ConstantsFit pool type o
-        → is_constant pool static type o ≡ true
+    → is_constant pool static type o ≡ true
 standing_constant pool static type attributes None fit e fits = refl
 standing_constant pool static type attributes (Some c) fit e fits =
     let w = fields.was_there pool static attributes (constant_attribute c) fit e in
@@ -91,11 +102,11 @@ pub field_stands : (pool : List Entry) (class : ℕ) (f : FieldEntry) → (f.fla
 field_stands pool class f bounds small e =
     let test = is_type pool (has f.flags.0 0x0008) f.constant in
     let front = and_both (are_field_flags class f.flags.0 && passes is_field_name (text_at pool f.name))
-          (passes test (text_at pool f.descriptor)) e in
+    (passes test (text_at pool f.descriptor)) e in
     let flags = and_both (are_field_flags class f.flags.0) (passes is_field_name (text_at pool f.name)) front.0 in
     let type = passed_text test (text_at pool f.descriptor) front.1 in
     let typed = and_both (is_field_descriptor type.0) (is_constant pool (has f.flags.0 0x0008) type.0 f.constant) type.2
-          in
+    in
     let constant = constant_stands pool (has f.flags.0 0x0008) type.0 f.constant small typed.1 in
     record {
       attributes = constant_attributes f.constant;
@@ -118,7 +129,7 @@ pub standing_field : (pool : List Entry) (class : ℕ) (f : FieldEntry) → Fiel
     → is_field pool class f.flags.0 f.name f.descriptor f.constant ≡ true
 standing_field pool class f s =
     let constant = standing_constant pool (has f.flags.0 0x0008) s.type s.attributes f.constant s.fit s.counted
-          s.constant_fits in
+    s.constant_fits in
     rw (s.flags_agree, s.name_is, s.descriptor_at, s.descriptor_is, constant) refl
 
 -- ---- methods
@@ -126,7 +137,7 @@ standing_field pool class f s =
 pub code_stands : (pool : List Entry) (c : CodePart) → c.name < 2 ^ 16 → c.max_stack < 2 ^ 16 → c.max_locals < 2 ^ 16
     → IsCode (code_bytes c.instructions) c.instructions
     → passes is_code_name (text_at pool c.name) ≡ true → are_sound pool c.instructions ≡ true → length c.rows ≤ 65535
-        → AllByRecursion (RowFits pool) c.rows → CodeStands pool c
+    → AllByRecursion (RowFits pool) c.rows → CodeStands pool c
 unfolding code_info
 code_stands pool c name stack locals code named sound few rows = record {
   name = name;
@@ -157,11 +168,17 @@ codes_written pool wanted (Some c) s =
     let short = code_short pool (code_info c) c s.1.spells in
     let rows = s.1.spells.rows_few in
     let kept : filter (is_code pool) (code_attribute c ∷ []) ≡ code_attribute c
-          ∷ [] = ap (λ b. cond b (code_attribute c ∷ []) []) s.1.named in
+    ∷ [] = ap (λ b. cond b (code_attribute c ∷ []) []) s.1.named in
     record {
       few = omega arith;
-      fit = (record { name = s.1.name; text = passes_some is_code_name (text_at pool c.name) s.1.named;
-          info = omega (arith, size, short, rows) }, tt);
+      fit = (
+        record {
+          name = s.1.name;
+          text = passes_some is_code_name (text_at pool c.name) s.1.named;
+          info = omega (arith, size, short, rows);
+        },
+        tt,
+      );
       code = (s.0, code_info c, kept, s.1.spells);
     }
 
@@ -177,7 +194,7 @@ pub method_stands : (pool : List Entry) (class : ℕ) (m : MethodPart) → m.fla
     → m.descriptor < 2 ^ 16 → are_method_flags class m.flags.0 ≡ true → passes is_method_name (text_at pool m.name)
     ≡ true
     → passes (method_type_test (has m.flags.0 0x0008)) (text_at pool m.descriptor) ≡ true
-        → CodesStand pool (wants_code m.flags.0) m.code → MethodStands pool class m
+    → CodesStand pool (wants_code m.flags.0) m.code → MethodStands pool class m
 method_stands pool class m flags name descriptor agree named typed code =
     let w = codes_written pool (wants_code m.flags.0) m.code code in
     record {
@@ -208,7 +225,7 @@ classes_spell pool (n ∷ ns) all = (u2 n, flat_map u2 ns, refl, (refl, all.0.0,
 pub head_stands : (h : HeadPart) → PoolFits h.pool → AreSound h.pool → h.flags.0 < 2 ^ 16 → are_class_flags h.flags.0
     ≡ true → ClassStands h.pool h.class → ClassStands h.pool h.superclass
     → length h.interfaces ≤ 65535 → AllByRecursion (ClassStands h.pool) h.interfaces → length h.fields ≤ 65535
-        → AllByRecursion (FieldStands h.pool h.flags.0) h.fields → IsHead h
+    → AllByRecursion (FieldStands h.pool h.flags.0) h.fields → IsHead h
 head_stands h fits sound flags agree class superclass few interfaces count all = (
   head_bytes h,
   record {
@@ -224,11 +241,19 @@ head_stands h fits sound flags agree class superclass few interfaces count all =
       super_bytes = u2 h.superclass;
       super_spells = (refl, superclass.0, superclass.1);
       interface_bytes = list_bytes u2 h.interfaces;
-      interfaces_spell = record { few = omega (arith, few); body = flat_map u2 h.interfaces; bytes_are = refl;
-          all = classes_spell h.pool h.interfaces interfaces };
+      interfaces_spell = record {
+        few = omega (arith, few);
+        body = flat_map u2 h.interfaces;
+        bytes_are = refl;
+        all = classes_spell h.pool h.interfaces interfaces;
+      };
       field_bytes = list_bytes field_bytes h.fields;
-      fields_spell = record { few = omega (arith, count); body = flat_map field_bytes h.fields; bytes_are = refl;
-          all = all_spell (SpellsField h.pool h.flags.0) field_bytes h.fields all };
+      fields_spell = record {
+        few = omega (arith, count);
+        body = flat_map field_bytes h.fields;
+        bytes_are = refl;
+        all = all_spell (SpellsField h.pool h.flags.0) field_bytes h.fields all;
+      };
       bytes_are = refl;
     };
   },
@@ -269,8 +294,12 @@ class_stands c head few all = (
     head_bytes = head.0;
     head_spells = head.1;
     method_bytes = list_bytes method_bytes c.methods;
-    methods_spell = record { few = omega (arith, few); body = flat_map method_bytes c.methods; bytes_are = refl;
-        all = all_spell (SpellsMethod c.head.pool c.head.flags.0) method_bytes c.methods all };
+    methods_spell = record {
+      few = omega (arith, few);
+      body = flat_map method_bytes c.methods;
+      bytes_are = refl;
+      all = all_spell (SpellsMethod c.head.pool c.head.flags.0) method_bytes c.methods all;
+    };
     attributes = [];
     few = omega arith;
     fit = tt;
@@ -281,17 +310,27 @@ class_stands c head few all = (
 pub standing_methods : (c : ClassPart) → IsClass c → (length c.methods < 2 ^ 16)
     × AllByRecursion (MethodStands c.head.pool c.head.flags.0) c.methods
 standing_methods c is =
-    let s = is.1.methods_spell in
-    (s.few, spelled_all (SpellsMethod c.head.pool c.head.flags.0) (MethodStands c.head.pool c.head.flags.0) s.body
-        c.methods (λ text m h. method_written c.head.pool c.head.flags.0 text m h) s.all)
+    let s = is.1.methods_spell in (
+      s.few,
+      spelled_all (SpellsMethod c.head.pool c.head.flags.0) (MethodStands c.head.pool c.head.flags.0) s.body
+          c.methods (λ text m h. method_written c.head.pool c.head.flags.0 text m h) s.all,
+    )
 
 -- ---- rows
 
 pub row_stands : (pool : List Entry) (r : CodeRow) (is_taken : Bool) → r.start < 2 ^ 16 → r.end < 2 ^ 16
     → r.handler < 2 ^ 16 → r.class < 2 ^ 16 → is_taken ≡ (r.class == 0 || has_tag pool 7 r.class) → (is_taken ≡ true)
     ↔ RowFits pool r
-row_stands pool r is_taken start end handler class same = (λ yes. record { start = start; end = end; handler = handler;
-    class = class; kind = sym same ∙ yes }, λ fits. same ∙ fits.kind)
+row_stands pool r is_taken start end handler class same = (
+  λ yes. record {
+    start = start;
+    end = end;
+    handler = handler;
+    class = class;
+    kind = sym same ∙ yes;
+  },
+  λ fits. same ∙ fits.kind,
+)
 
 -- ---- what tests tell
 
@@ -305,8 +344,7 @@ is_nat_le a b e = le-leb a b e
 counted : {A : Type 0} (P : A → Type 0) (xs ys : List A) (few all r : Bool) → few ≡ nat_le (length xs) 65535
     → (all ≡ true) ↔ AllByRecursion P xs → r ≡ (few && all) → xs ≡ ys → (r ≡ true)
     ↔ ((length ys ≤ 65535) × AllByRecursion P ys)
-counted P xs ys few all r one each is same = subst (λ zs. (r ≡ true) ↔ ((length zs ≤ 65535) × AllByRecursion P zs)) same
-    (
+counted P xs ys few all r one each is same = subst (λ zs. (r ≡ true) ↔ ((length zs ≤ 65535) × AllByRecursion P zs)) same (
   λ yes. let two = and_both few all (sym is ∙ yes) in (nat_le_is (length xs) 65535 (sym one ∙ two.0), each.0 two.1),
   λ s. is ∙ rw (one, is_nat_le (length xs) 65535 s.0, each.1 s.1) refl,
 )
@@ -316,53 +354,53 @@ pub field_test : (pool : List Entry) (class : ℕ) (f : FieldEntry) (flags : ℕ
     → r ≡ is_field pool class flags f.name f.descriptor f.constant → (r ≡ true) ↔ FieldStands pool class f
 field_test pool class f flags r same bounds small is =
     let fits : (f.flags.0 < 2 ^ 16) × (f.name < 2 ^ 16) × (f.descriptor < 2 ^ 16) = subst (λ n. (n < 2 ^ 16)
-          × (f.name < 2 ^ 16) × (f.descriptor < 2 ^ 16)) same bounds in
+    × (f.name < 2 ^ 16) × (f.descriptor < 2 ^ 16)) same bounds in
     let test : r ≡ is_field pool class f.flags.0 f.name f.descriptor f.constant = is
-          ∙ ap (λ n. is_field pool class n f.name f.descriptor f.constant) same in
+    ∙ ap (λ n. is_field pool class n f.name f.descriptor f.constant) same in
     (λ yes. field_stands pool class f fits (small yes) (sym test ∙ yes), λ s. test ∙ standing_field pool class f s)
 
 pub code_test : (pool : List Entry) (c : CodePart) (items : List Located) (rows : List CodeRow)
     (is_code few each fit r : Bool) → items ≡ c.instructions → rows ≡ c.rows → (c.name < 2 ^ 16)
     × (c.max_stack < 2 ^ 16) × (c.max_locals < 2 ^ 16)
     → IsCode (code_bytes c.instructions) c.instructions
-        → is_code ≡ (passes is_code_name (text_at pool c.name) && are_sound pool items)
-        → few ≡ nat_le (length rows) 65535 → (each ≡ true) ↔ AllByRecursion (RowFits pool) rows → fit ≡ (few && each)
+    → is_code ≡ (passes is_code_name (text_at pool c.name) && are_sound pool items)
+    → few ≡ nat_le (length rows) 65535 → (each ≡ true) ↔ AllByRecursion (RowFits pool) rows → fit ≡ (few && each)
     → r ≡ (is_code && fit) → (r ≡ true) ↔ CodeStands pool c
 code_test pool c items rows is_code few each fit r same_items same_rows bounds code is one all both whole =
     let listed = counted (RowFits pool) rows c.rows few each fit one all both same_rows in
     let test : is_code ≡ (passes is_code_name (text_at pool c.name) && are_sound pool c.instructions) = is
-          ∙ ap (λ xs. passes is_code_name (text_at pool c.name) && are_sound pool xs) same_items in (
+    ∙ ap (λ xs. passes is_code_name (text_at pool c.name) && are_sound pool xs) same_items in (
       λ yes.
           let parts = and_both is_code fit (sym whole ∙ yes) in
           let two = and_both (passes is_code_name (text_at pool c.name)) (are_sound pool c.instructions) (sym test
-                ∙ parts.0) in
+          ∙ parts.0) in
           let fits = listed.0 parts.1 in
           code_stands pool c bounds.0 bounds.1 bounds.2 code two.0 two.1 fits.0 fits.1,
       λ s.
           let few_rows = s.spells.rows_few in
           whole ∙ rw (test, s.named, standing_sound pool c s, listed.1 (omega (arith, few_rows), s.spells.rows_fit))
-              refl,
+          refl,
     )
 
 pub method_test : (pool : List Entry) (class : ℕ) (m : MethodPart) (flags : ℕ) (wanted is_method has_code r : Bool)
     → flags ≡ m.flags.0 → (flags < 2 ^ 16) × (m.name < 2 ^ 16) × (m.descriptor < 2 ^ 16)
     → is_method ≡ (are_method_flags class flags && passes is_method_name (text_at pool m.name)
-        && passes (method_type_test (has flags 0x0008)) (text_at pool m.descriptor))
+    && passes (method_type_test (has flags 0x0008)) (text_at pool m.descriptor))
     → wanted ≡ wants_code flags → (has_code ≡ true) ↔ CodesStand pool wanted m.code → r ≡ (is_method && has_code)
-        → (r ≡ true) ↔ MethodStands pool class m
+    → (r ≡ true) ↔ MethodStands pool class m
 method_test pool class m flags wanted is_method has_code r same bounds is wants codes whole =
     let fits : (m.flags.0 < 2 ^ 16) × (m.name < 2 ^ 16) × (m.descriptor < 2 ^ 16) = subst (λ n. (n < 2 ^ 16)
-          × (m.name < 2 ^ 16) × (m.descriptor < 2 ^ 16)) same bounds in
+    × (m.name < 2 ^ 16) × (m.descriptor < 2 ^ 16)) same bounds in
     let typed = λ (n : ℕ). passes (method_type_test (has n 0x0008)) (text_at pool m.descriptor) in
     let test : is_method ≡ (are_method_flags class m.flags.0 && passes is_method_name (text_at pool m.name)
-          && typed m.flags.0) = is ∙ ap (λ n. are_method_flags class n && passes is_method_name (text_at pool m.name)
-          && typed n) same in
+    && typed m.flags.0) = is ∙ ap (λ n. are_method_flags class n && passes is_method_name (text_at pool m.name)
+    && typed n) same in
     let coded : (has_code ≡ true) ↔ CodesStand pool (wants_code m.flags.0) m.code = subst (λ b. (has_code ≡ true)
-          ↔ CodesStand pool b m.code) (wants ∙ ap wants_code same) codes in (
+    ↔ CodesStand pool b m.code) (wants ∙ ap wants_code same) codes in (
       λ yes.
           let all = and_both is_method has_code (sym whole ∙ yes) in
           let front = and_both (are_method_flags class m.flags.0 && passes is_method_name (text_at pool m.name))
-                (typed m.flags.0) (sym test ∙ all.0) in
+          (typed m.flags.0) (sym test ∙ all.0) in
           let two = and_both (are_method_flags class m.flags.0) (passes is_method_name (text_at pool m.name)) front.0 in
           method_stands pool class m fits.0 fits.1 fits.2 two.0 two.1 front.1 (coded.0 all.1),
       λ s. whole ∙ rw (test, s.flags_agree, s.name_is, s.descriptor_is, coded.1 (standing_code pool class m s)) refl,
@@ -372,20 +410,20 @@ pub head_test : (h : HeadPart) (flags : ℕ) (interfaces : List ℕ) (fs : List 
     (class superclass few all others count each members agree named itself lists r : Bool) → PoolFits h.pool
     → AreSound h.pool
     → flags ≡ h.flags.0 → interfaces ≡ h.interfaces → fs ≡ h.fields → (class ≡ true) ↔ ClassStands h.pool h.class
-        → (superclass ≡ true) ↔ ClassStands h.pool h.superclass → few ≡ nat_le (length interfaces) 65535
+    → (superclass ≡ true) ↔ ClassStands h.pool h.superclass → few ≡ nat_le (length interfaces) 65535
     → (all ≡ true) ↔ AllByRecursion (ClassStands h.pool) interfaces → others ≡ (few && all)
-        → count ≡ nat_le (length fs) 65535 → (each ≡ true) ↔ AllByRecursion (FieldStands h.pool flags) fs
-        → members ≡ (count && each)
+    → count ≡ nat_le (length fs) 65535 → (each ≡ true) ↔ AllByRecursion (FieldStands h.pool flags) fs
+    → members ≡ (count && each)
     → flags < 2 ^ 16 → agree ≡ are_class_flags flags → named ≡ (class && superclass) → itself ≡ (agree && named)
-        → lists ≡ (others && members) → r ≡ (itself && lists) → (r ≡ true) ↔ IsHead h
+    → lists ≡ (others && members) → r ≡ (itself && lists) → (r ≡ true) ↔ IsHead h
 head_test h flags interfaces fs class superclass few all others count each members agree named itself lists r fits sound
     same_flags same_interfaces same_fields is_class is_super one alls both counts eachs boths small agrees names itselfs
     listss whole =
     let fields_fit : (each ≡ true) ↔ AllByRecursion (FieldStands h.pool h.flags.0) fs = subst (λ (n : ℕ). (each ≡ true)
-          ↔ AllByRecursion (FieldStands h.pool n) fs) same_flags eachs in
+    ↔ AllByRecursion (FieldStands h.pool n) fs) same_flags eachs in
     let listed = counted (ClassStands h.pool) interfaces h.interfaces few all others one alls both same_interfaces in
     let fielded = counted (FieldStands h.pool h.flags.0) fs h.fields count each members counts fields_fit boths
-          same_fields in
+    same_fields in
     let agree_is : agree ≡ are_class_flags h.flags.0 = agrees ∙ ap are_class_flags same_flags in
     let range : h.flags.0 < 2 ^ 16 = subst (λ (n : ℕ). n < 2 ^ 16) same_flags small in (
       λ yes.
@@ -419,10 +457,10 @@ pub class_test : (c : ClassPart) (pool : List Entry) (class : ℕ) (few each r :
     → r ≡ (few && each) → (r ≡ true) ↔ IsClass c
 class_test c pool class few each r same_pool same_class head all one whole =
     let methods_fit : (each ≡ true) ↔ AllByRecursion (MethodStands c.head.pool c.head.flags.0) c.methods = subst
-          (λ n. (each ≡ true) ↔ AllByRecursion (MethodStands c.head.pool n) c.methods) same_class
-          (subst (λ p. (each ≡ true) ↔ AllByRecursion (MethodStands p class) c.methods) same_pool all) in
+    (λ n. (each ≡ true) ↔ AllByRecursion (MethodStands c.head.pool n) c.methods) same_class
+    (subst (λ p. (each ≡ true) ↔ AllByRecursion (MethodStands p class) c.methods) same_pool all) in
     let listed = counted (MethodStands c.head.pool c.head.flags.0) c.methods c.methods few each r one methods_fit whole
-          refl in (
+    refl in (
       λ yes. let fits = listed.0 yes in class_stands c head fits.0 fits.1,
       λ s. let m = standing_methods c s in let few_methods = m.0 in listed.1 (omega (arith, few_methods), m.1),
     )

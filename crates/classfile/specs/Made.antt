@@ -18,7 +18,13 @@ pub record BodyPart : Type 0 where
 -- the class file of a pool and a body
 abbrev pub made : List Entry → BodyPart → ClassPart
 made pool b = record {
-  head = record { pool = pool; flags = b.flags; class = b.class; superclass = b.superclass; interfaces = b.interfaces;
-      fields = b.fields };
+  head = record {
+    pool = pool;
+    flags = b.flags;
+    class = b.class;
+    superclass = b.superclass;
+    interfaces = b.interfaces;
+    fields = b.fields;
+  };
   methods = b.methods;
 }

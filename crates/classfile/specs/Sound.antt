@@ -29,7 +29,7 @@ is_type pool static constant type = is_field_descriptor type && is_constant pool
 abbrev pub is_field : List Entry → ℕ → ℕ → ℕ → ℕ → Option ConstantValue → Bool
 is_field pool class flags name descriptor constant =
     are_field_flags class flags && passes is_field_name (text_at pool name)
-        && passes (is_type pool (has flags 0x0008) constant) (text_at pool descriptor)
+    && passes (is_type pool (has flags 0x0008) constant) (text_at pool descriptor)
 
 -- its numbers have bytes
 abbrev pub ConstantBounds : Option ConstantValue → Type 0

@@ -34,6 +34,9 @@ pub collected-is : (shape : HeapShape) (x : CellMachine)
     } ≡ collected_on shape x
 unfolding collected_on
 collected-is shape x =
-    ap (λ (w : World). record { world = w; account = step_on shape x.world x.account x.account.phase;
-        births = x.births })
+    ap (λ (w : World). record {
+      world = w;
+      account = step_on shape x.world x.account x.account.phase;
+      births = x.births;
+    })
     (swept-is x.world x.account x.account.phase)

@@ -109,7 +109,7 @@ module _ (w : World) where
       let more : count - n ≡ suc (count - (n + 1)) = omega (arith, within) in
       spread_by (count - (n + 1)) n m (count - n) more
       ∙ ap (λ o. with_listed m o (λ b. spread w (count - (n + 1)) (suc n) (all_noted m (words_of w.objects b))))
-          (sym is)
+      (sym is)
 
   pub spread_over : (count n : ℕ) (m : Marking) → count ≤ n → spread w (count - n) n m ≡ m
   spread_over count n m past = let none : count - n ≡ 0 = omega (arith, past) in rw none refl

@@ -145,7 +145,7 @@ module _ (w : World) (count : ℕ) where
       where
         by_mark : (s : ℕ) → IsMarked m s → (s ≡ r) ⊎ (s ≡ r → ⊥) → slice_get (set m.marks r true) s ≡ Some true
         by_mark s k (inl is) = (let k' : slice_get m.marks r ≡ Some true = ap (slice_get m.marks) (sym is) ∙ k
-                                      in absurd (cc))
+            in absurd (cc))
         by_mark s k (inr other) = get-set_other m.marks s r true other ∙ k
 
     sound_by : Reach w r → Sound m → Sound (with_mark m r)
@@ -208,7 +208,7 @@ module _ (w : World) (count : ℕ) where
     sound = sound_by m r e path s;
     grows = grows_by m r e;
     noted_is = λ q is below. (let q_is : r ≡ q = cc in ap (slice_get (set m.marks r true)) (sym q_is)
-                                    ∙ get-set_same m.marks r true false e);
+        ∙ get-set_same m.marks r true false e);
   }
 
   noted_after : (m : Marking) (o : Option ℕ) → Sound m → Led o → After m o (noted m o)
@@ -258,7 +258,7 @@ module _ (w : World) (count : ℕ) where
     sound = s;
     grows = same m;
     closed = λ r is. (let l = s.listed r is in let below = get-below m.list l.0 r l.1
-                                                     in closed l.0 r (omega (arith, below, past)) l.1);
+        in closed l.0 r (omega (arith, below, past)) l.1);
   }
 
   words_led : (r : ℕ) → Reach w r → AllLed (words_of w.objects r)
@@ -281,7 +281,7 @@ module _ (w : World) (count : ℕ) where
           → IsMarked (all_noted m (words_of w.objects r)) b
       by i q within e k b word below (inl here) =
           let q_is : r ≡ q = at_same n q r is (ap (slice_get (all_noted m (words_of w.objects r)).list) (sym here) ∙ e)
-                in
+          in
           after.noted_are k b (subst (λ (x : ℕ). ref_at (words_of w.objects x) k ≡ Some b) (sym q_is) word) below
       by i q within e k b word below (inr other) =
           let under = get-below m.list n r is in
@@ -296,7 +296,7 @@ module _ (w : World) (count : ℕ) where
   spread_closes (suc steps) n m all s closed =
       by (slice_get m.list n) refl
       (λ r is. (let after = words r is in spread_closes steps (suc n) (all_noted m (words_of w.objects r))
-                      (omega (arith, all)) after.sound (closed_next n r m is closed after)))
+      (omega (arith, all)) after.sound (closed_next n r m is closed after)))
     where
       words : (r : ℕ) → slice_get m.list n ≡ Some r
           → AfterAll m (words_of w.objects r) (all_noted m (words_of w.objects r))
@@ -304,15 +304,19 @@ module _ (w : World) (count : ℕ) where
 
       by : (o : Option ℕ) → slice_get m.list n ≡ o
           → ((r : ℕ) → slice_get m.list n ≡ Some r
-              → Spread (all_noted m (words_of w.objects r))
-              (spread w steps (suc n) (all_noted m (words_of w.objects r))))
+          → Spread (all_noted m (words_of w.objects r))
+          (spread w steps (suc n) (all_noted m (words_of w.objects r))))
           → Spread m (with_listed m o (λ r. spread w steps (suc n) (all_noted m (words_of w.objects r))))
       by None e rest = ended n m (get-past m.list n e) s closed
       by (Some r) e rest =
           let more = rest r e in
-          record { sound = more.sound; grows =
-              then m (all_noted m (words_of w.objects r)) (spread w steps (suc n) (all_noted m (words_of w.objects r)))
-              (words r e).grows more.grows; closed = more.closed }
+          record {
+            sound = more.sound;
+            grows =
+                then m (all_noted m (words_of w.objects r)) (spread w steps (suc n) (all_noted m (words_of w.objects r)))
+                (words r e).grows more.grows;
+            closed = more.closed;
+          }
 
   -- ---- from the roots
 
@@ -342,16 +346,16 @@ module _ (w : World) (count : ℕ) where
         → leads_within steps w b (Some a) ≡ true → IsMarked (marked w count) b
     unfolding leads_within word_at
     leads_marked zero a b here below e = let is : a ≡ b = eqb-true a b e
-                                               in subst (IsMarked (marked w count)) is (here (omega (arith, is, below)))
+        in subst (IsMarked (marked w count)) is (here (omega (arith, is, below)))
     leads_marked (suc steps) a b here below e =
         elim (or-cases (nat_eq a b) (list_any (leads_within steps w b) (words_of w.objects a)) e) [
           | inl same ↦ let is : a ≡ b = eqb-true a b same
-                             in subst (IsMarked (marked w count)) is (here (omega (arith, is, below)))
+              in subst (IsMarked (marked w count)) is (here (omega (arith, is, below)))
           | inr there ↦
               let word = passes (leads_within steps w b) (null_leads steps w b) (words_of w.objects a) there in
               let made = words_made w a word.0 word.1.0 word.1.1.0 in
               leads_marked steps word.1.0 b (λ inside. (whole).closed a (here (omega (arith, made, all))) word.0
-                  word.1.0 word.1.1.0 inside) below word.1.1.1
+              word.1.0 word.1.1.0 inside) below word.1.1.1
         ]
 
     reached_marked : (b : ℕ) → b < count → is_reached w b ≡ true → IsMarked (marked w count) b
@@ -359,8 +363,8 @@ module _ (w : World) (count : ℕ) where
     reached_marked b below e =
         let root = passes (leads_within (next_birth w) w b) (null_leads (next_birth w) w b) (roots_of w) e in
         leads_marked (next_birth w) root.1.0 b (λ
-            inside. (whole).grows.marks root.1.0 ((from_roots).noted_are root.0 root.1.0 root.1.1.0 inside)) below
-            root.1.1.1
+        inside. (whole).grows.marks root.1.0 ((from_roots).noted_are root.0 root.1.0 root.1.1.0 inside)) below
+        root.1.1.1
 
     pub marks_tell : (r : ℕ) → r < count → slice_get (marked w count).marks r ≡ Some (is_reached w r)
     marks_tell r below =

@@ -58,8 +58,8 @@ pub total-fewer : (f : Cell → ℕ) → ((x : Cell) → f x ≤ 1) → (cells :
 total-fewer f one [] c l e = absurd (omega arith)
 total-fewer f one (x ∷ cells) zero l e = let b = total-most f one cells in omega (arith, b, e)
 total-fewer f one (x ∷ cells) (suc c) l e = let a = one x
-                                                  in let b = total-fewer f one cells c (omega arith) e
-                                                           in omega (arith, a, b)
+    in let b = total-fewer f one cells c (omega arith) e
+    in omega (arith, a, b)
 
 -- ---- whether a number is that of a free cell
 
@@ -75,7 +75,7 @@ free_at_within (x ∷ cells) (suc c) l = let k = free_at_within cells c l in ome
 
 pub free_at_free : (cells : List Cell) (c : ℕ) → 1 ≤ free_at cells c → cell_at cells c ≡ Free
 free_at_free cells c l = let e = free_at_cell cells c (free_at_within cells c l)
-                               in free_by (cell_at cells c) (omega (arith, e, l))
+    in free_by (cell_at cells c) (omega (arith, e, l))
 
 pub free_at_found : (cells : List Cell) (c : ℕ) → 1 ≤ free_at cells c → slice_get cells c ≡ Some Free
 free_at_found [] c l = absurd (omega arith)

@@ -38,13 +38,13 @@ room_kept cells new free lists queue grey same e f h = record {
 pub room_for_grey : (a : Account) (c : ℕ) → Sound a → c < length a.cells → grey_in (cell_at a.cells c) ≡ 0
     → length a.grey < length a.cells
 room_for_grey a c h l e = let few = total-fewer grey_in grey_in_one a.cells c l e
-                                in let g = h.grey in omega (arith, few, g)
+    in let g = h.grey in omega (arith, few, g)
 
 -- where a cell isn't free the free lists have, together
 pub room_for_free : (a : Account) (c : ℕ) → Sound a → c < length a.cells → free_in (cell_at a.cells c) ≡ 0
     → how_many_listed a < length a.cells
 room_for_free a c h l e = let few = total-fewer free_in free_in_one a.cells c l e
-                                in let f = h.free in omega (arith, few, f)
+    in let f = h.free in omega (arith, few, f)
 
 pub pushed : (queue grey : Buffer ℕ) (r : ℕ) → grey ≡ buffer (queue.items ++ r ∷ []) queue.capacity
     → (length grey.items ≡ length queue.items + 1) × (grey.capacity ≡ queue.capacity)
@@ -56,8 +56,10 @@ pushed queue grey r e =
 pub popped : (queue grey : Buffer ℕ) (r : ℕ) → Some r ≡ slice_get queue.items 0
     → grey ≡ buffer (drop 1 queue.items) queue.capacity → (length grey.items + 1 ≡ length queue.items)
     × (grey.capacity ≡ queue.capacity)
-popped queue grey r f e = (go queue.items f (ap (λ (q : Buffer ℕ). length q.items) e),
-    ap (λ (q : Buffer ℕ). q.capacity) e)
+popped queue grey r f e = (
+  go queue.items f (ap (λ (q : Buffer ℕ). length q.items) e),
+  ap (λ (q : Buffer ℕ). q.capacity) e,
+)
   where
     go : (items : List ℕ) → Some r ≡ slice_get items 0 → length grey.items ≡ length (drop 1 items)
         → length grey.items + 1 ≡ length items
@@ -86,7 +88,7 @@ written a c x b h l f =
       listed = λ d. rw f.cells (elim (same_or_not c d) [
         | inl e ↦ rw e (let k = f.here in let z = free_at-set_same a.cells c x l in omega (arith, k, z))
         | inr n ↦ (let k = f.elsewhere d n in let z = free_at-set_other a.cells c d x n
-                                                    in let g = h.listed d in omega (arith, k, z, g))
+            in let g = h.listed d in omega (arith, k, z, g))
       ]);
     }
 
@@ -153,12 +155,12 @@ leaves a words r e =
 -- as the code takes it
 module _ (cells : List Cell) (old new : FreeLists) (queue : Buffer ℕ) (phase : Phase) (words c : ℕ) (r : Option ℕ)
     (taken : (a : Account) → take_cell (listing a old) words ≡ option_map (λ d. (d, listing a new)) r) (is : r ≡ Some c)
-    where
-  pub takes : take_cell (account_of cells old queue phase) words ≡ Some (c, account_of cells new queue phase)
-  takes = taken (account_of cells old queue phase) ∙ ap (option_map (λ d. (d, account_of cells new queue phase))) is
+  where
+    pub takes : take_cell (account_of cells old queue phase) words ≡ Some (c, account_of cells new queue phase)
+    takes = taken (account_of cells old queue phase) ∙ ap (option_map (λ d. (d, account_of cells new queue phase))) is
 
-  pub takes_leave : Leaves (account_of cells old queue phase) c (account_of cells new queue phase)
-  takes_leave = leaves _ words (c, account_of cells new queue phase) takes
+    pub takes_leave : Leaves (account_of cells old queue phase) c (account_of cells new queue phase)
+    takes_leave = leaves _ words (c, account_of cells new queue phase) takes
 
 -- what is taken is there and free
 pub is_free : (a : Account) (c : ℕ) (b : Account) → Sound a → Leaves a c b → 1 ≤ free_at a.cells c
@@ -211,11 +213,11 @@ listed_more : (a : Account) (c d : ℕ) (small medium : Bool)
     → (times_listed d (listed_in a c small medium) ≡ times_listed d a + one_if d c)
     × (how_many_listed (listed_in a c small medium) ≡ how_many_listed a + 1)
 listed_more a c d true medium = let k = times-push d a.small c
-                                      in let n = length-append a.small (c ∷ []) in (omega (arith, k), omega (arith, n))
+    in let n = length-append a.small (c ∷ []) in (omega (arith, k), omega (arith, n))
 listed_more a c d false true = let k = times-push d a.medium c
-                                     in let n = length-append a.medium (c ∷ []) in (omega (arith, k), omega (arith, n))
+    in let n = length-append a.medium (c ∷ []) in (omega (arith, k), omega (arith, n))
 listed_more a c d false false = let k = times-push d a.large c
-                                      in let n = length-append a.large (c ∷ []) in (omega (arith, k), omega (arith, n))
+    in let n = length-append a.large (c ∷ []) in (omega (arith, k), omega (arith, n))
 
 pub given : (cells : List Cell) (old new : FreeLists) (queue : Buffer ℕ) (phase : Phase) (shape : HeapShape) (c : ℕ)
     → Sound (account_of cells old queue phase) → c < length cells → free_in (cell_at cells c) ≡ 0

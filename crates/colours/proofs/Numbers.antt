@@ -131,7 +131,7 @@ empty_is_sound shape fits =
 -- the parts of which the code makes it
 pub opens : (shape : HeapShape) (cells : List Cell) (free : FreeLists) (queue : Buffer ℕ)
     → let n = shape.small + shape.medium + shape.large in ShapeFits shape.small shape.medium shape.large
-            → cells ≡ replicate n Free → free ≡ all_free shape n → queue ≡ buffer [] n → AreKept cells free queue Idle
+    → cells ≡ replicate n Free → free ≡ all_free shape n → queue ≡ buffer [] n → AreKept cells free queue Idle
 opens shape cells free queue fits is lists grey =
     let n = shape.small + shape.medium + shape.large in
     let same : n ≡ length cells = sym (ap length is ∙ length-free n) in (

@@ -14,7 +14,7 @@ glyph_digit : (n : ℕ) → is_digit (digit_glyph false (n % 10)) ≡ true
 glyph_digit n =
     let small : n % 10 < 10 = mod-lt n (omega arith) in
     rw (lt-ltb (n % 10) 10 small) (and_from (nat_le 48 (48 + n % 10)) (nat_le (48 + n % 10) 57)
-        (le-leb 48 (48 + n % 10) (omega arith)) (le-leb (48 + n % 10) 57 (omega (arith, small))))
+    (le-leb 48 (48 + n % 10) (omega arith)) (le-leb (48 + n % 10) 57 (omega (arith, small))))
 
 digits_plain : (b : ℕ) (bs : List ℕ) → list_all is_digit (b ∷ bs) ≡ true → IsPlain (b ∷ bs)
 digits_plain b bs h =
@@ -27,16 +27,16 @@ onto_plain zero n b bs h = digits_plain b bs h
 onto_plain (suc k) n b bs h =
     let g = digit_glyph false (n % 10) in
     let more : list_all is_digit (g ∷ b ∷ bs) ≡ true = and_from (is_digit g) (list_all is_digit (b ∷ bs))
-          (glyph_digit n) h in
+    (glyph_digit n) h in
     cond_both (n / 10 == 0) (g ∷ b ∷ bs) (digits_onto k 10 false (n / 10) (g ∷ b ∷ bs)) IsPlain
-        (λ last. digits_plain g (b ∷ bs) more) (λ goes_on. onto_plain k (n / 10) g (b ∷ bs) more)
+    (λ last. digits_plain g (b ∷ bs) more) (λ goes_on. onto_plain k (n / 10) g (b ∷ bs) more)
 
 numeral_plain : (k n : ℕ) → IsPlain (digits_onto (suc k) 10 false n [])
 numeral_plain k n =
     let g = digit_glyph false (n % 10) in
     let one : list_all is_digit (g ∷ []) ≡ true = and_from (is_digit g) true (glyph_digit n) refl in
     cond_both (n / 10 == 0) (g ∷ []) (digits_onto k 10 false (n / 10) (g ∷ [])) IsPlain (λ last. digits_plain g [] one)
-        (λ goes_on. onto_plain k (n / 10) g [] one)
+    (λ goes_on. onto_plain k (n / 10) g [] one)
 
 pub decimal_plain : (n : ℕ) → IsPlain (decimal n)
 unfolding digits

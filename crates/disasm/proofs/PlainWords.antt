@@ -43,7 +43,7 @@ ink_in_text b ink =
     let p = and_parts (nat_le 33 b) (nat_le b 126) ink in
     let low = leb-true 33 b p.0 in
     or_right (b == 9) (nat_le 32 b && nat_le b 126)
-        (and_from (nat_le 32 b) (nat_le b 126) (le-leb 32 b (omega (arith, low))) p.1)
+    (and_from (nat_le 32 b) (nat_le b 126) (le-leb 32 b (omega (arith, low))) p.1)
 
 -- ---- words
 
@@ -63,7 +63,7 @@ run_of_ink b [] rest ws ink inks ends others = ap (word_byte b (ends_word rest))
 run_of_ink b (c ∷ cs) rest ws ink inks ends others =
     let p = and_parts (is_ink c) (list_all is_ink cs) inks in
     ap (word_byte b (is_blank c)) (run_of_ink c cs rest ws p.0 p.1 ends others)
-        ∙ word_goes_on b (is_blank c) (c ∷ cs) ws (no_blank b ink) (no_blank c p.0)
+    ∙ word_goes_on b (is_blank c) (c ∷ cs) ws (no_blank b ink) (no_blank c p.0)
 
 -- a plain word's first byte, and that each of its bytes is ink
 record Begins (b : ℕ) (bs : List ℕ) : Type 0 where
@@ -81,7 +81,7 @@ first_run : (w rest : List ℕ) (ws : List (List ℕ)) → IsPlain w → ends_wo
     → runs_of (w ++ rest) ≡ w ∷ ws
 first_run [] rest ws plain ends others = absurd (false≢true plain)
 first_run (b ∷ bs) rest ws plain ends others = let p = begins b bs plain
-                                                     in run_of_ink b bs rest ws p.first p.others ends others
+    in run_of_ink b bs rest ws p.first p.others ends others
 
 ends_before : (ws : List (List ℕ)) → ends_word (tail ws) ≡ true
 ends_before [] = refl
@@ -100,7 +100,7 @@ line_words : (w : List ℕ) (ws : List (List ℕ)) → IsPlain w → AllByRecurs
     ≡ w ∷ ws
 line_words w ws first others =
     ap before_comment (first_run w (tail ws) ws first (ends_before ws) (tail_runs ws others))
-        ∙ no_comment (w ∷ ws) (first, others)
+    ∙ no_comment (w ∷ ws) (first, others)
 
 -- ---- lines
 
@@ -125,13 +125,13 @@ first_line (b ∷ bs) rest text =
     let p = and_parts (is_text_byte b) (list_all is_text_byte bs) text in
     ap (line_byte b (begins_with_newline (bs ++ 10 ∷ rest))) (first_line bs rest p.1)
     ∙ byte_goes_on b (begins_with_newline (bs ++ 10 ∷ rest)) bs (lines_of rest) (other_than is_text_byte b 10 p.0 refl)
-        (other_than is_text_byte b 13 p.0 refl)
+    (other_than is_text_byte b 13 p.0 refl)
 
 following_is : (ws : List (List ℕ)) (rest : List ℕ) → following ws ++ rest ≡ tail ws ++ 10 ∷ rest
 following_is [] rest = refl
 following_is (w ∷ ws) rest =
     ap (λ (bs : List ℕ). 32 ∷ bs) (append_assoc w (following ws) rest
-        ∙ ap (λ (bs : List ℕ). w ++ bs) (following_is ws rest) ∙ sym (append_assoc w (tail ws) (10 ∷ rest)))
+    ∙ ap (λ (bs : List ℕ). w ++ bs) (following_is ws rest) ∙ sym (append_assoc w (tail ws) (10 ∷ rest)))
 
 line_is : (w : List ℕ) (ws : List (List ℕ)) (rest : List ℕ) → line (w ∷ ws) ++ rest ≡ (w ++ tail ws) ++ 10 ∷ rest
 line_is w ws rest = append_assoc w (following ws) rest ∙ ap (λ (bs : List ℕ). w ++ bs) (following_is ws rest)
@@ -141,7 +141,7 @@ statement_is : (w : List ℕ) (ws : List (List ℕ)) → IsPlain w → AllByRecu
     ≡ Some (w ∷ ws)
 statement_is w ws first others =
     cond-true (list_all is_text_byte (w ++ tail ws)) (Some (words_of (w ++ tail ws))) None
-        (text_before w (tail ws) (inks_of w first) (text_tail ws others))
+    (text_before w (tail ws) (inks_of w first) (text_tail ws others))
     ∙ ap Some (line_words w ws first others)
 
 -- a statement's line is read as the statement
@@ -151,7 +151,7 @@ read_line [] rest said = absurd said
 read_line (w ∷ ws) rest said =
     ap (λ (bs : List ℕ). statements_of (lines_of bs)) (line_is w ws rest)
     ∙ ap statements_of (first_line (w ++ tail ws) rest (text_before w (tail ws) (inks_of w said.0)
-        (text_tail ws said.1)))
+    (text_tail ws said.1)))
     ∙ ap (λ (s : Statement). statement_before s (statements_of (lines_of rest))) (statement_is w ws said.0 said.1)
 
 -- statements are read from their lines

@@ -44,9 +44,9 @@ unfolding listing_assembles pcs_fit
 assembled_fits l e =
     let methods = list_all method_assembles l.methods in
     let one = and_parts (methods && is_countable (length l.interfaces) && is_countable (length l.fields)
-          && is_countable (length l.methods)) (is_countable (pool_size l)) e in
+    && is_countable (length l.methods)) (is_countable (pool_size l)) e in
     let two = and_parts (methods && is_countable (length l.interfaces) && is_countable (length l.fields))
-          (is_countable (length l.methods)) one.0 in
+    (is_countable (length l.methods)) one.0 in
     let three = and_parts (methods && is_countable (length l.interfaces)) (is_countable (length l.fields)) two.0 in
     let four = and_parts methods (is_countable (length l.interfaces)) three.0 in
     all_from method_assembles (λ (m : Method). code_fits m.code) (λ m fits. body_fits m.code fits) l.methods four.0

@@ -112,7 +112,7 @@ all_parts_if : {A B : Type 0} (P : B → Type 0) (f : A → List B) (t : A → B
 all_parts_if P f t h [] e = tt
 all_parts_if P f t h (x ∷ xs) e =
     let p = and_parts (t x) (list_all t xs) e
-          in all_append P (f x) (flat_map f xs) (h x p.0) (all_parts_if P f t h xs p.1)
+    in all_append P (f x) (flat_map f xs) (h x p.0) (all_parts_if P f t h xs p.1)
 
 -- ---- mnemonics
 
@@ -276,15 +276,19 @@ default_said : (pc : ℕ) → IsSaid (said.default_words pc)
 default_said pc = (refl, (refl, (label_plain pc, tt)))
 
 table_said : (t : Table ℕ) → AreSaid (said.table_statements t)
-table_said t =
-    ((refl, (signed_plain t.low, tt)), all_append IsSaid (map said.target_words t.targets) (said.default_words t.default
-        ∷ []) (all_mapped IsSaid said.target_words (λ pc. (label_plain pc, tt)) t.targets) (default_said t.default, tt))
+table_said t = (
+  (refl, (signed_plain t.low, tt)),
+  all_append IsSaid (map said.target_words t.targets) (said.default_words t.default
+      ∷ []) (all_mapped IsSaid said.target_words (λ pc. (label_plain pc, tt)) t.targets) (default_said t.default, tt),
+)
 
 lookup_said : (l : Lookup ℕ) → AreSaid (said.lookup_statements l)
-lookup_said l =
-    ((refl, tt), all_append IsSaid (map said.pair_words l.pairs) (said.default_words l.default ∷ [])
-        (all_mapped IsSaid said.pair_words (λ p. (signed_plain p.0, (refl, (label_plain p.1, tt)))) l.pairs)
-        (default_said l.default, tt))
+lookup_said l = (
+  (refl, tt),
+  all_append IsSaid (map said.pair_words l.pairs) (said.default_words l.default ∷ [])
+      (all_mapped IsSaid said.pair_words (λ p. (signed_plain p.0, (refl, (label_plain p.1, tt)))) l.pairs)
+      (default_said l.default, tt),
+)
 
 -- a member's class and name in one word
 path_plain : (class name : List ℕ) → IsPlain class → IsPlain name → IsPlain (class ++ (codes "/" ++ name))
@@ -294,9 +298,13 @@ field_operand_said : (name kind : List ℕ) (m : Member) → IsPlain (name ++ ki
     → IsSaid ((name ++ kind) ∷ said.field_path m ∷ m.descriptor ∷ [])
 field_operand_said name kind m plain h =
     let p = and_parts (is_class_name m.class) (is_field m.name m.descriptor) h in
-    let q = and_parts (is_field_name m.name) (is_field_descriptor m.descriptor) p.1 in
-    (plain, (path_plain m.class m.name (class_name_plain m.class p.0).plain (field_name_plain m.name q.0).plain,
-        ((field_descriptor_plain m.descriptor q.1).plain, tt)))
+    let q = and_parts (is_field_name m.name) (is_field_descriptor m.descriptor) p.1 in (
+      plain,
+      (
+        path_plain m.class m.name (class_name_plain m.class p.0).plain (field_name_plain m.name q.0).plain,
+        ((field_descriptor_plain m.descriptor q.1).plain, tt),
+      ),
+    )
 
 array_said : (a : ArrayOperation (List ℕ)) → spelled.array_is_spelled a ≡ true → IsSaid (said.array_words a)
 array_said (array.New p) h = (refl, (primitive_plain p, tt))
@@ -322,7 +330,7 @@ method_plain m h =
     let q = and_parts (is_method_name m.name) (fits_units (arguments_of m.descriptor)) p.1 in
     path_plain m.class (m.name ++ m.descriptor) (class_name_plain m.class p.0).plain
     (plain_append m.name m.descriptor (method_name_plain m.name q.0).plain
-        (inks_of m.descriptor (called_descriptor_plain m.descriptor q.1).plain))
+    (inks_of m.descriptor (called_descriptor_plain m.descriptor q.1).plain))
 
 instruction_said : (i : Listed) → spelled.operands_are_spelled i ≡ true → AreSaid (said.instruction_statements i)
 instruction_said Nop h = ((refl, tt), tt)
@@ -334,17 +342,28 @@ instruction_said (Branch t pc) h = ((test_plain t, (label_plain pc, tt)), tt)
 instruction_said (TableSwitch t) h = table_said t
 instruction_said (LookupSwitch l) h = lookup_said l
 instruction_said (Return k) h = ((return_plain k, tt), tt)
-instruction_said (Static a m) h =
-    (field_operand_said (text.access_name a) (codes "static") m (plain_append (text.access_name a) (codes "static")
-        (access_plain a) refl) h, tt)
-instruction_said (Field a m) h =
-    (field_operand_said (text.access_name a) (codes "field") m (plain_append (text.access_name a) (codes "field")
-        (access_plain a) refl) h, tt)
+instruction_said (Static a m) h = (
+  field_operand_said (text.access_name a) (codes "static") m (plain_append (text.access_name a) (codes "static")
+      (access_plain a) refl) h,
+  tt,
+)
+instruction_said (Field a m) h = (
+  field_operand_said (text.access_name a) (codes "field") m (plain_append (text.access_name a) (codes "field")
+      (access_plain a) refl) h,
+  tt,
+)
 instruction_said (Array a) h = (array_said a h, tt)
 instruction_said (Class o c) h = ((class_plain o, (operand_plain o c h, tt)), tt)
-instruction_said (Invoke i m) h =
-    ((invocation_plain i, (method_plain m (and_parts (spelled.count_is_spelled i) (spelled.method_is_named m) h).1,
-        count_plain i)), tt)
+instruction_said (Invoke i m) h = (
+  (
+    invocation_plain i,
+    (
+      method_plain m (and_parts (spelled.count_is_spelled i) (spelled.method_is_named m) h).1,
+      count_plain i,
+    ),
+  ),
+  tt,
+)
 instruction_said Throw h = ((refl, tt), tt)
 instruction_said (Monitor o) h = ((monitor_plain o, tt), tt)
 
@@ -359,12 +378,12 @@ instructions_said : (among : List Placed) (pcs : List ℕ) (end : ℕ) (ps : Lis
 instructions_said among pcs end [] h = label_said (text.is_named pcs end) end
 instructions_said among pcs end (p ∷ ps) h =
     let each = and_parts (spelled.instruction_is_spelled among p) (list_all (spelled.instruction_is_spelled among) ps) h
-          in
+    in
     let own = and_parts (spelled.operands_are_spelled p.instruction)
-          (list_all (spelled.is_pc among) (targets p.instruction)) each.0 in
+    (list_all (spelled.is_pc among) (targets p.instruction)) each.0 in
     all_append IsSaid (said.placed_statements pcs p) (said.statements_from pcs p.next ps)
     (all_append IsSaid (said.label_statements (text.is_named pcs p.pc) p.pc) (said.instruction_statements p.instruction)
-        (label_said (text.is_named pcs p.pc) p.pc) (instruction_said p.instruction own.0))
+    (label_said (text.is_named pcs p.pc) p.pc) (instruction_said p.instruction own.0))
     (instructions_said among pcs p.next ps each.1)
 
 catch_plain : (c : Option (List ℕ)) → spelled.catch_is_spelled c ≡ true → IsPlain (text.catch_name c)
@@ -375,9 +394,13 @@ catch_plain (Some name) h = (class_name_plain name (and_parts (is_class_name nam
 row_said : (among : List Placed) (r : ExceptionRow) → spelled.row_is_spelled among r ≡ true → IsSaid (said.row_words r)
 row_said among r h =
     let p = and_parts ((spelled.is_bound among r.start && spelled.is_bound among r.end)
-          && spelled.is_pc among r.handler) (spelled.catch_is_spelled r.class) h in
-    (refl, (catch_plain r.class p.1,
-        (refl, (label_plain r.start, (refl, (label_plain r.end, (refl, (label_plain r.handler, tt))))))))
+    && spelled.is_pc among r.handler) (spelled.catch_is_spelled r.class) h in (
+      refl,
+      (
+        catch_plain r.class p.1,
+        (refl, (label_plain r.start, (refl, (label_plain r.end, (refl, (label_plain r.handler, tt)))))),
+      ),
+    )
 
 code_said : (c : CodeListing) → spelled.code_is_spelled c ≡ true → AreSaid (said.code_statements c)
 code_said c h =
@@ -408,10 +431,16 @@ flags_plain flags table h = all_parts_if IsPlain (said.flag_words flags) (λ row
 
 class_said : (interface : Bool) (flags : ℕ) (name : List ℕ) → IsPlain name
     → IsSaid (said.class_words interface flags name)
-class_said false flags name plain = (refl, all_append IsPlain (said.flags_words class_flags flags) (name ∷ [])
-    (flags_plain flags class_flags refl) (plain, tt))
-class_said true flags name plain = (refl, all_append IsPlain (said.flags_words interface_flags flags) (name ∷ [])
-    (flags_plain flags interface_flags refl) (plain, tt))
+class_said false flags name plain = (
+  refl,
+  all_append IsPlain (said.flags_words class_flags flags) (name ∷ [])
+      (flags_plain flags class_flags refl) (plain, tt),
+)
+class_said true flags name plain = (
+  refl,
+  all_append IsPlain (said.flags_words interface_flags flags) (name ∷ [])
+      (flags_plain flags interface_flags refl) (plain, tt),
+)
 
 value_plain : (v : Option FieldValue) → ArePlain (said.value_words v)
 value_plain None = tt
@@ -421,14 +450,18 @@ field_said : (class : ℕ) (f : FieldOf) → spelled.field_is_spelled class f �
 field_said class f h =
     let flags = spelled.is_u2 f.flags.0 && are_field_flags class f.flags.0 in
     let p = and_parts ((flags && is_field_name f.name) && is_field_descriptor f.descriptor)
-          (spelled.value_is_spelled (has f.flags.0 0x0008) f.descriptor f.constant) h in
+    (spelled.value_is_spelled (has f.flags.0 0x0008) f.descriptor f.constant) h in
     let q = and_parts (flags && is_field_name f.name) (is_field_descriptor f.descriptor) p.0 in
     let r = and_parts flags (is_field_name f.name) q.0 in (
       refl,
       all_append IsPlain (said.flags_words field_flags f.flags.0) (f.name ∷ f.descriptor ∷ said.value_words f.constant)
-          (flags_plain f.flags.0 field_flags refl)
-          ((field_name_plain f.name r.1).plain, ((field_descriptor_plain f.descriptor q.1).plain,
-              value_plain f.constant)),
+          (flags_plain f.flags.0 field_flags refl) (
+            (field_name_plain f.name r.1).plain,
+            (
+              (field_descriptor_plain f.descriptor q.1).plain,
+              value_plain f.constant,
+            ),
+          ),
     )
 
 body_said : (wanted : Bool) (c : Option CodeListing) → spelled.body_is_spelled wanted c ≡ true
@@ -441,13 +474,16 @@ method_said class m h =
     let flags = spelled.is_u2 m.flags.0 && are_method_flags class m.flags.0 in
     let fit = units_fit (has m.flags.0 0x0008) (arguments_of m.descriptor) in
     let p = and_parts ((flags && is_method_name m.name) && fit) (spelled.body_is_spelled (wants_code m.flags.0) m.code)
-          h in
+    h in
     let q = and_parts (flags && is_method_name m.name) fit p.0 in
     let r = and_parts flags (is_method_name m.name) q.0 in
     let word = plain_append m.name m.descriptor (method_name_plain m.name r.1).plain
-          (inks_of m.descriptor (own_descriptor_plain (has m.flags.0 0x0008) m.descriptor q.1).plain) in (
-      (refl, all_append IsPlain (said.flags_words method_flags m.flags.0) ((m.name ++ m.descriptor) ∷ [])
-          (flags_plain m.flags.0 method_flags refl) (word, tt)),
+    (inks_of m.descriptor (own_descriptor_plain (has m.flags.0 0x0008) m.descriptor q.1).plain) in (
+      (
+        refl,
+        all_append IsPlain (said.flags_words method_flags m.flags.0) ((m.name ++ m.descriptor) ∷ [])
+            (flags_plain m.flags.0 method_flags refl) (word, tt),
+      ),
       all_append IsSaid (said.body_statements m.code) (said.end_words ∷ []) (body_said (wants_code m.flags.0) m.code
           p.1) ((refl, (refl, tt)), tt),
     )
@@ -462,9 +498,9 @@ class_statements_said l h =
     let methods = list_all (spelled.method_is_spelled flags) l.methods in
     let interfaces = list_all is_class_name l.interfaces in
     let a = and_parts (((((head && is_class_name l.name) && is_class_name l.superclass) && interfaces) && fields)
-          && methods) (nat_le (length (different (spelled.ldc_numbers l.methods))) 255) h in
+    && methods) (nat_le (length (different (spelled.ldc_numbers l.methods))) 255) h in
     let b = and_parts ((((head && is_class_name l.name) && is_class_name l.superclass) && interfaces) && fields) methods
-          a.0 in
+    a.0 in
     let c = and_parts (((head && is_class_name l.name) && is_class_name l.superclass) && interfaces) fields b.0 in
     let d = and_parts ((head && is_class_name l.name) && is_class_name l.superclass) interfaces c.0 in
     let e = and_parts (head && is_class_name l.name) (is_class_name l.superclass) d.0 in
@@ -475,10 +511,10 @@ class_statements_said l h =
         all_append IsSaid (map said.interface_words l.interfaces) (map said.field_words l.fields
             ++ flat_map said.method_statements l.methods)
             (all_mapped_if IsSaid said.interface_words is_class_name
-                (λ name plain. (refl, ((class_name_plain name plain).plain, tt))) l.interfaces d.1)
+            (λ name plain. (refl, ((class_name_plain name plain).plain, tt))) l.interfaces d.1)
             (all_append IsSaid (map said.field_words l.fields) (flat_map said.method_statements l.methods)
-                (all_mapped_if IsSaid said.field_words (spelled.field_is_spelled flags) (field_said flags) l.fields c.1)
+            (all_mapped_if IsSaid said.field_words (spelled.field_is_spelled flags) (field_said flags) l.fields c.1)
             (all_parts_if IsSaid said.method_statements (spelled.method_is_spelled flags) (method_said flags) l.methods
-                b.1)),
+            b.1)),
       ),
     )

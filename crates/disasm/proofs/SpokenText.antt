@@ -112,18 +112,18 @@ switch_lines : (head lines last : List ℕ) (h : List (List ℕ)) (ss : List (Li
 switch_lines head lines last h ss d first middle end =
     append_assoc head (lines ++ last) newline
     ∙ line_first head ((lines ++ last) ++ newline) h (ss ++ d ∷ []) first (append_assoc lines last newline
-        ∙ both_parts lines (last ++ newline) ss (d ∷ []) middle (one_line (last ++ newline) d end))
+    ∙ both_parts lines (last ++ newline) ss (d ∷ []) middle (one_line (last ++ newline) d end))
 
 table_lines : (t : Table ℕ) → text.table_text t ++ newline ≡ spoken (said.table_statements t)
 table_lines t =
     switch_lines (text.table_head t.low) (flat_map text.target_line t.targets) (text.default_text t.default)
-        (said.table_words t.low) (map said.target_words t.targets) (said.default_words t.default)
+    (said.table_words t.low) (map said.target_words t.targets) (said.default_words t.default)
     (table_line t.low) (each_line text.target_line said.target_words (λ pc. refl) t.targets) (default_line t.default)
 
 lookup_lines : (l : Lookup ℕ) → text.lookup_text l ++ newline ≡ spoken (said.lookup_statements l)
 lookup_lines l =
     switch_lines text.lookup_head (flat_map text.pair_line l.pairs) (text.default_text l.default) said.lookup_words
-        (map said.pair_words l.pairs) (said.default_words l.default)
+    (map said.pair_words l.pairs) (said.default_words l.default)
     lookup_line (each_line text.pair_line said.pair_words (λ p. refl) l.pairs) (default_line l.default)
 
 return_line : (k : List ℕ) → k ++ newline ≡ line (k ∷ [])
@@ -155,7 +155,7 @@ call_line i m =
     append_assoc (text.invocation_name i) (codes " " ++ (text.method_word m ++ text.count_text i)) newline
     ∙ ap (λ (bs : List ℕ). text.invocation_name i ++ (codes " " ++ bs))
     (append_assoc (text.method_word m) (text.count_text i) newline ∙ ap (λ (bs : List ℕ). text.method_word m ++ bs)
-        (count_line i))
+    (count_line i))
 
 instruction_lines : (i : Listed) → text.instruction_text i ++ newline ≡ spoken (said.instruction_statements i)
 instruction_lines Nop = refl
@@ -189,7 +189,7 @@ label_lines true pc = one_line (label pc ++ codes ":\n") ((label pc ++ codes ":"
 placed_lines : (pcs : List ℕ) (p : Placed) → text.placed_text pcs p ≡ spoken (said.placed_statements pcs p)
 placed_lines pcs p =
     both_parts (text.label_line (text.is_named pcs p.pc) p.pc) (text.instruction_text p.instruction ++ newline)
-        (said.label_statements (text.is_named pcs p.pc) p.pc) (said.instruction_statements p.instruction)
+    (said.label_statements (text.is_named pcs p.pc) p.pc) (said.instruction_statements p.instruction)
     (label_lines (text.is_named pcs p.pc) p.pc) (instruction_lines p.instruction)
 
 lines_from_are : (pcs : List ℕ) (end : ℕ) (ps : List Placed) → text.lines_from pcs end ps
@@ -197,7 +197,7 @@ lines_from_are : (pcs : List ℕ) (end : ℕ) (ps : List Placed) → text.lines_
 lines_from_are pcs end [] = label_lines (text.is_named pcs end) end
 lines_from_are pcs end (p ∷ ps) =
     both_parts (text.placed_text pcs p) (text.lines_from pcs p.next ps) (said.placed_statements pcs p)
-        (said.statements_from pcs p.next ps) (placed_lines pcs p) (lines_from_are pcs p.next ps)
+    (said.statements_from pcs p.next ps) (placed_lines pcs p) (lines_from_are pcs p.next ps)
 
 stack_line_is : (n : ℕ) → text.stack_line n ≡ line (said.stack_words n)
 unfolding text.stack_line
@@ -213,15 +213,15 @@ code_lines c =
     let instructions = text.lines_from pcs 0 c.instructions in
     let rest = said.statements_from pcs 0 c.instructions in
     append_assoc (text.stack_line c.max_stack) (text.locals_line c.max_locals) (flat_map text.row_text c.rows ++
-        instructions)
+    instructions)
     ∙ line_first (text.stack_line c.max_stack) (text.locals_line c.max_locals ++ (flat_map text.row_text c.rows ++
-        instructions)) (said.stack_words c.max_stack)
+    instructions)) (said.stack_words c.max_stack)
     (said.locals_words c.max_locals ∷ map said.row_words c.rows ++ rest) (stack_line_is c.max_stack)
     (line_first (text.locals_line c.max_locals) (flat_map text.row_text c.rows ++ instructions)
-        (said.locals_words c.max_locals) (map said.row_words c.rows ++ rest) (locals_line_is c.max_locals)
+    (said.locals_words c.max_locals) (map said.row_words c.rows ++ rest) (locals_line_is c.max_locals)
     (both_parts (flat_map text.row_text c.rows)
-        instructions (map said.row_words c.rows) rest (each_line text.row_text said.row_words (λ r. refl) c.rows)
-        (lines_from_are pcs 0 c.instructions)))
+    instructions (map said.row_words c.rows) rest (each_line text.row_text said.row_words (λ r. refl) c.rows)
+    (lines_from_are pcs 0 c.instructions)))
 
 -- ---- a class
 
@@ -238,9 +238,9 @@ flags_line flags [] w ws = refl
 flags_line flags (row ∷ rows) w ws =
     ap following (append_assoc (said.flag_words flags row) (said.flags_words rows flags) (w ∷ ws))
     ∙ flag_first (has flags row.1) row.0 (text.flags_text rows flags ++ (w ++ following ws))
-        (said.flags_words rows flags ++ w ∷ ws) (flags_line flags rows w ws)
+    (said.flags_words rows flags ++ w ∷ ws) (flags_line flags rows w ws)
     ∙ ap (λ (bs : List ℕ). 32 ∷ bs)
-        (sym (append_assoc (text.flag_word flags row) (text.flags_text rows flags) (w ++ following ws)))
+    (sym (append_assoc (text.flag_word flags row) (text.flags_text rows flags) (w ++ following ws)))
 
 class_line_is : (interface : Bool) (flags : ℕ) (name : List ℕ) → text.class_line interface flags name
     ≡ line (said.class_words interface flags name)
@@ -259,15 +259,15 @@ value_line (Some v) = refl
 field_line_is : (f : FieldOf) → text.field_line f ≡ line (said.field_words f)
 field_line_is f =
     ap (λ (bs : List ℕ). codes ".field " ++ (text.flags_text field_flags f.flags.0
-        ++ (f.name ++ (codes " " ++ (f.descriptor ++ bs))))) (value_line f.constant)
+    ++ (f.name ++ (codes " " ++ (f.descriptor ++ bs))))) (value_line f.constant)
     ∙ ap (λ (bs : List ℕ). codes ".field" ++ bs)
-        (sym (flags_line f.flags.0 field_flags f.name (f.descriptor ∷ said.value_words f.constant)))
+    (sym (flags_line f.flags.0 field_flags f.name (f.descriptor ∷ said.value_words f.constant)))
 
 method_line_is : (m : Method) → text.method_line m ≡ line (said.method_words m)
 unfolding text.method_line text.method_flag_words
 method_line_is m =
     ap (λ (bs : List ℕ). codes ".method " ++ (text.flags_text method_flags m.flags.0 ++ bs))
-        (sym (append_assoc m.name m.descriptor newline))
+    (sym (append_assoc m.name m.descriptor newline))
     ∙ ap (λ (bs : List ℕ). codes ".method" ++ bs) (sym (flags_line m.flags.0 method_flags (m.name ++ m.descriptor) []))
 
 body_lines : (c : Option CodeListing) → text.body_text c ≡ spoken (said.body_statements c)
@@ -281,9 +281,9 @@ end_line_is = refl
 method_lines : (m : Method) → text.method_text m ≡ spoken (said.method_statements m)
 method_lines m =
     line_first (text.method_line m) (text.body_text m.code ++ text.end_line) (said.method_words m)
-        (said.body_statements m.code ++ said.end_words ∷ []) (method_line_is m)
+    (said.body_statements m.code ++ said.end_words ∷ []) (method_line_is m)
     (both_parts (text.body_text m.code) text.end_line (said.body_statements m.code) (said.end_words ∷ [])
-        (body_lines m.code) (one_line text.end_line said.end_words end_line_is))
+    (body_lines m.code) (one_line text.end_line said.end_words end_line_is))
 
 -- the text of a listing, by its statements
 pub text_is : (l : ClassListing) → text.text_of l ≡ spoken (said.class_statements l)
@@ -294,15 +294,15 @@ text_is l =
     let methods = flat_map text.method_text l.methods in
     let interfaces = flat_map text.interface_line l.interfaces in
     let members = both_parts fields methods (map said.field_words l.fields) (flat_map said.method_statements l.methods)
-          (each_line text.field_line said.field_words field_line_is l.fields)
-          (each_part text.method_text said.method_statements method_lines l.methods) in
+    (each_line text.field_line said.field_words field_line_is l.fields)
+    (each_part text.method_text said.method_statements method_lines l.methods) in
     let after_super = both_parts interfaces (fields ++ methods) (map said.interface_words l.interfaces)
-          (map said.field_words l.fields ++ flat_map said.method_statements l.methods)
-          (each_line text.interface_line said.interface_words interface_line_is l.interfaces) members in
+    (map said.field_words l.fields ++ flat_map said.method_statements l.methods)
+    (each_line text.interface_line said.interface_words interface_line_is l.interfaces) members in
     let rest = map said.interface_words l.interfaces
-          ++ (map said.field_words l.fields ++ flat_map said.method_statements l.methods) in
+    ++ (map said.field_words l.fields ++ flat_map said.method_statements l.methods) in
     line_first (text.class_line kind l.flags.0 l.name) (text.super_line l.superclass
-        ++ (interfaces ++ (fields ++ methods))) (said.class_words kind l.flags.0 l.name) (said.super_words l.superclass
-        ∷ rest) (class_line_is kind l.flags.0 l.name)
+    ++ (interfaces ++ (fields ++ methods))) (said.class_words kind l.flags.0 l.name) (said.super_words l.superclass
+    ∷ rest) (class_line_is kind l.flags.0 l.name)
     (line_first (text.super_line l.superclass) (interfaces ++ (fields ++ methods)) (said.super_words l.superclass) rest
-        refl after_super)
+    refl after_super)

@@ -45,4 +45,4 @@ pub tree_refused : (l : ClassListing) → is_spelled l ≡ true → listing_asse
     → f ≡ fault.Memory
 tree_refused l good right written w f h =
     is_memory f (λ other. none_is_some (tree_back l) (sym (h other) ∙ ap tree_of w
-        ∙ text_read l good (assembled_fits l right)))
+    ∙ text_read l good (assembled_fits l right)))

@@ -32,8 +32,12 @@ abbrev pub row_back : ExceptionRow → CatchRow
 row_back r = record { class = r.class; start = label r.start; end = label r.end; handler = label r.handler }
 
 abbrev pub body_back : CodeListing → Body
-body_back c = record { max_stack = c.max_stack; max_locals = c.max_locals; rows = map row_back c.rows;
-    lines = lines_back (named_pcs c) 0 c.instructions }
+body_back c = record {
+  max_stack = c.max_stack;
+  max_locals = c.max_locals;
+  rows = map row_back c.rows;
+  lines = lines_back (named_pcs c) 0 c.instructions;
+}
 
 abbrev pub method_back : Method → MethodTree
 method_back m = record { flags = m.flags; name = m.name; descriptor = m.descriptor; body = option_map body_back m.code }

@@ -149,7 +149,7 @@ statements_from pcs end (p ∷ ps) = placed_statements pcs p ++ statements_from 
 abbrev pub row_words : ExceptionRow → List (List ℕ)
 row_words r =
     codes ".catch" ∷ catch_name r.class ∷ codes "from" ∷ label r.start ∷ codes "to" ∷ label r.end ∷ codes "using"
-        ∷ label r.handler ∷ []
+    ∷ label r.handler ∷ []
 
 abbrev pub stack_words : ℕ → List (List ℕ)
 stack_words n = codes ".limit" ∷ codes "stack" ∷ decimal n ∷ []
@@ -160,7 +160,7 @@ locals_words n = codes ".limit" ∷ codes "locals" ∷ decimal n ∷ []
 abbrev pub code_statements : CodeListing → List (List (List ℕ))
 code_statements c =
     stack_words c.max_stack ∷ locals_words c.max_locals ∷ map row_words c.rows
-        ++ statements_from (named_pcs c) 0 c.instructions
+    ++ statements_from (named_pcs c) 0 c.instructions
 
 -- ---- a class
 
@@ -206,7 +206,7 @@ abbrev pub class_statements : ClassListing → List (List (List ℕ))
 class_statements l =
     class_words (has l.flags.0 0x0200) l.flags.0 l.name ∷
     super_words l.superclass ∷ map interface_words l.interfaces
-        ++ (map field_words l.fields ++ flat_map method_statements l.methods)
+    ++ (map field_words l.fields ++ flat_map method_statements l.methods)
 
 -- the statements that the text of a listing spells
 unfoldable pub statements_back : ClassListing → List Statement

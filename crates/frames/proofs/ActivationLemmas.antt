@@ -27,9 +27,9 @@ pub last_is : (below : List Activation) (a : Activation) (count : ℕ) → 0 < l
 last_is below a zero some = absurd (omega arith)
 last_is below a (suc n) some =
     let place : length (take n below ++ a ∷ []) - 1
-          ≡ length (take n below) = let more = length-pushed (take n below) a in omega arith in
+    ≡ length (take n below) = let more = length-pushed (take n below) a in omega arith in
     sym (ap (λ (k : ℕ). get_or (take n below ++ a ∷ []) k no_activation) place
-        ∙ get_or-append_seam (take n below) a [] no_activation)
+    ∙ get_or-append_seam (take n below) a [] no_activation)
 
 -- the registers are those of the last one
 pub running_is_last : (below : List Activation) (a : Activation) (count : ℕ) (acts : List Activation)
@@ -45,7 +45,7 @@ last_put below a a' (suc n) some =
     let first = take n below in
     let place : length first ≡ length (first ++ a ∷ []) - 1 = let more = length-pushed first a in omega arith in
     let callers : take (length (first ++ a ∷ []) - 1) (first ++ a ∷ [])
-          ≡ first = take_at first (a ∷ []) (length (first ++ a ∷ []) - 1) place in
+    ≡ first = take_at first (a ∷ []) (length (first ++ a ∷ []) - 1) place in
     sym (set_last (first ++ a ∷ []) a' some ∙ ap (λ (l : List Activation). l ++ a' ∷ []) callers)
 
 -- a change of the last one
@@ -56,13 +56,13 @@ last_changed change below a count acts view some =
     let there : 0 < length (all_of below a count) = omega (arith, ap length view) in
     let last : change a ≡ change (last_of (all_of below a count)) = ap change (last_is below a count there) in
     last_put below a (change a) count there ∙ (ap (λ (x : Activation). with_last (all_of below a count) x) last
-        ∙ ap (λ (l : List Activation). with_last l (change (last_of l))) view)
+    ∙ ap (λ (l : List Activation). with_last l (change (last_of l))) view)
 
 -- the one at a place
 pub below_at : (below : List Activation) (a : Activation) (count capacity place : ℕ) (acts : List Activation)
     (found : Activation) → AreFew below count capacity
     → all_of below a count ≡ acts → place + 1 < count → found ≡ get_or below place found → Some found
-        ≡ slice_get acts place
+    ≡ slice_get acts place
 below_at below a zero capacity place acts found few view there read = absurd (omega arith)
 below_at below a (suc n) capacity place acts found few view there read =
     let below_are = few.below_are in
@@ -70,9 +70,9 @@ below_at below a (suc n) capacity place acts found few view there read =
     let total : suc n ≡ length (all_of below a (suc n)) = sym (length-all_of below a (suc n) capacity few) in
     let same : get_or (take n below ++ a ∷ []) place found ≡ get_or below place found =
     get_or_append_left (take n below) (a ∷ []) found place (omega arith) ∙ get_or-take n below place found (omega arith)
-        in
+    in
     sym (slice_get_read (all_of below a (suc n)) (suc n) place found total (omega arith) (read ∙ sym same))
-        ∙ ap (λ (l : List Activation). slice_get l place) view
+    ∙ ap (λ (l : List Activation). slice_get l place) view
 
 pub running_at : (below : List Activation) (a : Activation) (count capacity place : ℕ) (acts : List Activation)
     → AreFew below count capacity
@@ -84,9 +84,9 @@ running_at below a (suc n) capacity place acts few view there past =
     let total : suc n ≡ length (all_of below a (suc n)) = sym (length-all_of below a (suc n) capacity few) in
     let is : place ≡ length (take n below) = omega (arith, ap length view, total) in
     let same : get_or (take n below ++ a ∷ []) place a ≡ a = ap (λ (k : ℕ). get_or (take n below ++ a ∷ []) k a) is
-          ∙ get_or-append_seam (take n below) a [] a in
+    ∙ get_or-append_seam (take n below) a [] a in
     sym (slice_get_read (all_of below a (suc n)) (suc n) place a total (omega (arith, ap length view, total))
-        (sym same)) ∙ ap (λ (l : List Activation). slice_get l place) view
+    (sym same)) ∙ ap (λ (l : List Activation). slice_get l place) view
 
 -- how many there may be
 pub are_few : (below : List Activation) (a : Activation) (count capacity : ℕ) (acts : List Activation)

@@ -25,12 +25,12 @@ pub put_two : (units : List Entry) (end : ℕ) (d e : Entry) → end + 1 < lengt
     → slice_set (slice_set units end d) (end + 1) e ≡ take end units ++ d ∷ e ∷ [] ++ drop (end + 2) units
 put_two units end d e h =
     let second : slice_set (slice_set units end d) (end + 1) e ≡ take (end + 1) (slice_set units end d) ++ e ∷ []
-          ++ drop (end + 1 + 1) (slice_set units end d) = put_one (slice_set units end d) (end + 1) e
-          (simp length-set (omega arith)) in
+    ++ drop (end + 1 + 1) (slice_set units end d) = put_one (slice_set units end d) (end + 1) e
+    (simp length-set (omega arith)) in
     let before : take (end + 1) (slice_set units end d) ≡ take end units ++ d ∷ [] = take_more_set units end d
-          (omega arith) in
+    (omega arith) in
     let following : drop (end + 1 + 1) (slice_set units end d) ≡ drop (end + 1 + 1) units = drop-set-lt (end + 1 + 1)
-          units end d (omega arith) in
+    units end d (omega arith) in
     let place : end + 1 + 1 ≡ end + 2 = omega arith in
     second ∙ rw (before, following, place, append_assoc (take end units) (d ∷ []) (e ∷ []))
 
@@ -68,14 +68,14 @@ pub values_between-more : (units : List Entry) (from i : ℕ) → from + i < len
     → values_between units from (i + 1) ≡ values_between units from i ++ value_in (get_or units (from + i) Unset) ∷ []
 values_between-more units from i h =
     let more : take (i + 1) (drop from units) ≡ take i (drop from units) ++ get_or (drop from units) i Unset
-          ∷ [] = take_more (drop from units) i Unset (omega (arith, length-drop from units)) in
+    ∷ [] = take_more (drop from units) i Unset (omega (arith, length-drop from units)) in
     rw (more, get_or-drop) (map_push value_in (take i (drop from units)) (get_or units (from + i) Unset))
 
 pub units_between_le : (units : List Entry) (from i count : ℕ) → i ≤ count
     → units_of_all (values_between units from i) ≤ units_of_all (values_between units from count)
 units_between_le units from i count h =
     let part : take i (values_between units from count) ≡ values_between units from i = take-map value_in i
-          (take count (drop from units)) ∙ ap (map value_in) (take-take i count (drop from units) h) in
+    (take count (drop from units)) ∙ ap (map value_in) (take-take i count (drop from units) h) in
     let le = units_of_all-take_le (values_between units from count) i in
     omega (arith, ap units_of_all part)
 
@@ -90,11 +90,11 @@ pub value_next : (old : List Entry) (from base i : ℕ) (now : List Entry) (end 
 value_next old from base i now end e copied before fits read =
     let first : length (take base old) ≡ base = length-take-le base old fits in
     let split : now ≡ take base old ++ (argument_entries (values_between old from i) ++ drop end old) = copied.items
-          ∙ append_assoc (take base old) (argument_entries (values_between old from i)) (drop end old) in
+    ∙ append_assoc (take base old) (argument_entries (values_between old from i)) (drop end old) in
     let left : get_or now (from + i) Unset ≡ get_or (take base old) (from + i) Unset = ap
-          (λ (es : List Entry). get_or es (from + i) Unset) split
-          ∙ get_or_append_left (take base old) (argument_entries (values_between old from i) ++ drop end old) Unset
-          (from + i) (omega arith) in
+    (λ (es : List Entry). get_or es (from + i) Unset) split
+    ∙ get_or_append_left (take base old) (argument_entries (values_between old from i) ++ drop end old) Unset
+    (from + i) (omega arith) in
     ap value_in (read ∙ (left ∙ get_or-take base old (from + i) Unset before))
 
 pub copied_next : (old : List Entry) (from base i : ℕ) (now after : List Entry) (end : ℕ) (v : Value)
@@ -105,22 +105,22 @@ copied_next old from base i now after end v copied before fits inside value put 
     let entries = argument_entries (values_between old from i) in
     let first : length (take base old) ≡ base = length-take-le base old fits in
     let count : length entries ≡ units_of_all (values_between old from i) = length-argument_entries
-          (values_between old from i) in
+    (values_between old from i) in
     let end_is = copied.end_is in
     let both : length (take base old ++ entries) ≡ end = omega (arith, length-append (take base old) entries) in
     let head : take end now ≡ take base old ++ entries = ap (take end) copied.items
-          ∙ take_at (take base old ++ entries) (drop end old) end both in
+    ∙ take_at (take base old ++ entries) (drop end old) end both in
     let tail : drop (end + units_of v) now ≡ drop (end + units_of v) old = ap (drop (end + units_of v)) copied.items
-          ∙ (sym (drop-drop (units_of v) end (take base old ++ entries ++ drop end old))
-          ∙ (ap (drop (units_of v)) (drop_at (take base old ++ entries) (drop end old) end both)
-          ∙ drop-drop (units_of v) end old)) in
+    ∙ (sym (drop-drop (units_of v) end (take base old ++ entries ++ drop end old))
+    ∙ (ap (drop (units_of v)) (drop_at (take base old ++ entries) (drop end old) end both)
+    ∙ drop-drop (units_of v) end old)) in
     let more : values_between old from (i + 1) ≡ values_between old from i ++ v ∷ [] = values_between-more old from i
-          (omega arith) ∙ ap (λ (w : Value). values_between old from i ++ w ∷ []) (sym value) in
+    (omega arith) ∙ ap (λ (w : Value). values_between old from i ++ w ∷ []) (sym value) in
     let all : argument_entries (values_between old from (i + 1)) ≡ entries
-          ++ argument_entries (v ∷ []) = ap argument_entries more ∙ argument_entries-append (values_between old from i)
-          (v ∷ []) in
+    ++ argument_entries (v ∷ []) = ap argument_entries more ∙ argument_entries-append (values_between old from i)
+    (v ∷ []) in
     let units : units_of_all (values_between old from (i + 1)) ≡ units_of_all (values_between old from i) + units_of_all
-          (v ∷ []) = ap units_of_all more ∙ units_of_all-append (values_between old from i) (v ∷ []) in
+    (v ∷ []) = ap units_of_all more ∙ units_of_all-append (values_between old from i) (v ∷ []) in
     record {
       items = put ∙ rw (head, tail, all, append_assoc (take base old) entries (argument_entries (v ∷ [])));
       end_is = omega arith;
@@ -133,9 +133,9 @@ pub room_for_copy : (old : List Entry) (from base i count end : ℕ) (v : Value)
     → end + units_of v ≤ length old
 room_for_copy old from base i count end v fits within before end_is value =
     let more : values_between old from (i + 1) ≡ values_between old from i ++ v ∷ [] = values_between-more old from i
-          before ∙ ap (λ (w : Value). values_between old from i ++ w ∷ []) (sym value) in
+    before ∙ ap (λ (w : Value). values_between old from i ++ w ∷ []) (sym value) in
     let units : units_of_all (values_between old from (i + 1)) ≡ units_of_all (values_between old from i) + units_of_all
-          (v ∷ []) = ap units_of_all more ∙ units_of_all-append (values_between old from i) (v ∷ []) in
+    (v ∷ []) = ap units_of_all more ∙ units_of_all-append (values_between old from i) (v ∷ []) in
     let le = units_between_le old from (i + 1) count (omega arith) in
     omega arith
 
@@ -157,19 +157,26 @@ laid_out old now from count base locals fits enough is =
     let entries = argument_entries vs ++ replicate (locals - units_of_all vs) Unset in
     let first : length (take base old) ≡ base = length-take-le base old (omega arith) in
     let second : length entries
-          ≡ locals = omega (arith, length-append (argument_entries vs) (replicate (locals - units_of_all vs) Unset),
-          length-argument_entries vs, length-replicate (locals - units_of_all vs) Unset) in
+    ≡ locals = omega (
+      arith,
+      length-append (argument_entries vs) (replicate (locals - units_of_all vs) Unset),
+      length-argument_entries vs,
+      length-replicate (locals - units_of_all vs) Unset,
+    ) in
     let rest : length (drop (base + locals) old) ≡ length old - (base + locals) = length-drop (base + locals) old in
     let split : now ≡ take base old ++ (entries ++ drop (base + locals) old) = is
-          ∙ append_assoc (take base old) entries (drop (base + locals) old) in
+    ∙ append_assoc (take base old) entries (drop (base + locals) old) in
     let all : length now ≡ length (take base old) + length (entries ++ drop (base + locals) old) = ap length split
-          ∙ length-append (take base old) (entries ++ drop (base + locals) old) in
+    ∙ length-append (take base old) (entries ++ drop (base + locals) old) in
     let some = length-append entries (drop (base + locals) old) in
     record {
       long = omega arith;
       same = rw (split, take_at (take base old) (entries ++ drop (base + locals) old) base first);
-      locals_are = rw (split, drop_at (take base old) (entries ++ drop (base + locals) old) base first,
-          take_at entries (drop (base + locals) old) locals second);
+      locals_are = rw (
+        split,
+        drop_at (take base old) (entries ++ drop (base + locals) old) base first,
+        take_at entries (drop (base + locals) old) locals second,
+      );
     }
 
 -- the copied arguments, and then the unset entries
@@ -184,20 +191,23 @@ laid_out_items old between after from count base locals end fits enough end_is c
     let vs = values_between old from count in
     let entries = argument_entries vs in
     let first : length (take base old) ≡ base = length-take-le base old (omega arith) in
-    let both : length (take base old ++ entries) ≡ end = omega (arith, length-append (take base old) entries,
-          length-argument_entries vs) in
+    let both : length (take base old ++ entries) ≡ end = omega (
+      arith,
+      length-append (take base old) entries,
+      length-argument_entries vs,
+    ) in
     let copy : between ≡ take base old ++ entries ++ drop end old = copied
-          ∙ ap (λ (n : ℕ). take base old ++ entries ++ drop n old) (sym end_is) in
+    ∙ ap (λ (n : ℕ). take base old ++ entries ++ drop n old) (sym end_is) in
     let head : take end between ≡ take base old ++ entries = ap (take end) copy
-          ∙ take_at (take base old ++ entries) (drop end old) end both in
+    ∙ take_at (take base old ++ entries) (drop end old) end both in
     let many : base + locals - end ≡ locals - units_of_all vs = omega arith in
     let sum : end + (base + locals - end) ≡ end + (locals - units_of_all vs) = ap (λ (n : ℕ). end + n) many in
     let whole : end + (locals - units_of_all vs) ≡ base + locals = omega arith in
     let tail : drop (end + (locals - units_of_all vs)) between
-          ≡ drop (base + locals) old = ap (drop (end + (locals - units_of_all vs))) copy
-          ∙ (sym (drop-drop (locals - units_of_all vs) end (take base old ++ entries ++ drop end old))
-          ∙ (ap (drop (locals - units_of_all vs)) (drop_at (take base old ++ entries) (drop end old) end both)
-          ∙ (drop-drop (locals - units_of_all vs) end old ∙ ap (λ (n : ℕ). drop n old) whole))) in
+    ≡ drop (base + locals) old = ap (drop (end + (locals - units_of_all vs))) copy
+    ∙ (sym (drop-drop (locals - units_of_all vs) end (take base old ++ entries ++ drop end old))
+    ∙ (ap (drop (locals - units_of_all vs)) (drop_at (take base old ++ entries) (drop end old) end both)
+    ∙ (drop-drop (locals - units_of_all vs) end old ∙ ap (λ (n : ℕ). drop n old) whole))) in
     is ∙ rw (many, head, tail, append_assoc (take base old) entries (replicate (locals - units_of_all vs) Unset))
 
 -- ---- the arguments on a stack are those in its last units
@@ -207,10 +217,10 @@ pub stack_of-between : (units : List Entry) (base n : ℕ) → base + n ≤ leng
 stack_of-between units base zero h = refl
 stack_of-between units base (suc n) h =
     let more : values_between units base (suc n) ≡ values_between units base n
-          ++ value_in (get_or units (base + n) Unset)
-          ∷ [] = rw (← add-one) (values_between-more units base n (omega arith)) in
+    ++ value_in (get_or units (base + n) Unset)
+    ∷ [] = rw (← add-one) (values_between-more units base n (omega arith)) in
     rw (more, reverse-append) (ap (λ (vs : List Value). value_in (get_or units (base + n) Unset) ∷ vs)
-        (stack_of-between units base n (omega arith)))
+    (stack_of-between units base n (omega arith)))
 
 pub take-stack_of : (units : List Entry) (base n k : ℕ) → k ≤ n → take k (stack_of units base n)
     ≡ stack_of units (base + (n - k)) k
@@ -221,7 +231,7 @@ take-stack_of units base (suc n) (suc k) h =
     let less : suc n - suc k ≡ n - k = omega arith in
     let place : base + (n - k) + k ≡ base + n = omega arith in
     let kept : take (suc k) (stack_of units base (suc n)) ≡ stack_of units (base + (n - k)) (suc k) = rw (rest, place)
-          in
+    in
     kept ∙ ap (λ (m : ℕ). stack_of units (base + m) (suc k)) (sym less)
 
 pub arguments-between : (units : List Entry) (base n k : ℕ) → k ≤ n → base + n ≤ length units

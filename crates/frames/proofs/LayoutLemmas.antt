@@ -30,7 +30,7 @@ pub split_last : (acts : List Activation) (a : Activation) → 0 < length acts �
     → acts ≡ take (length acts - 1) acts ++ a ∷ []
 split_last acts a some is =
     let whole : take (length acts - 1 + 1) acts ≡ take (length acts - 1) acts ++ get_or acts (length acts - 1) a
-          ∷ [] = take_more acts (length acts - 1) a (omega arith) in
+    ∷ [] = take_more acts (length acts - 1) a (omega arith) in
     let all : take (length acts - 1 + 1) acts ≡ acts = take_all (length acts - 1 + 1) acts (omega arith) in
     cc
 
@@ -42,9 +42,11 @@ pub record StandsLast (units : List Entry) (base end : ℕ) (acts : List Activat
 
 pub laid_split : (units : List Entry) (base end : ℕ) (acts : List Activation) (a : Activation)
     → AreLaidOut units base (acts ++ a ∷ []) end → StandsLast units base end acts a
-laid_split units base end [] a h = record { below = sym h.0.begins;
-    stands = record { begins = refl; taken_is = h.0.taken_is; fits = h.0.fits };
-    ends = let e = h.0.begins in let f = h.1 in omega arith }
+laid_split units base end [] a h = record {
+  below = sym h.0.begins;
+  stands = record { begins = refl; taken_is = h.0.taken_is; fits = h.0.fits };
+  ends = let e = h.0.begins in let f = h.1 in omega arith;
+}
 laid_split units base end (x ∷ xs) a h =
     let rest = laid_split units (base + x.locals + x.room) end xs a h.1 in
     record { below = (h.0, rest.below); stands = rest.stands; ends = rest.ends }
@@ -52,10 +54,18 @@ laid_split units base end (x ∷ xs) a h =
 pub laid_join : (units : List Entry) (base middle end : ℕ) (acts : List Activation) (a : Activation)
     → AreLaidOut units base acts middle → Stands units middle a → middle + a.locals + a.room ≡ end
     → AreLaidOut units base (acts ++ a ∷ []) end
-laid_join units base middle end [] a h stands ends = (record { begins = stands.begins ∙ sym h;
-    taken_is = stands.taken_is; fits = stands.fits }, omega arith)
-laid_join units base middle end (x ∷ xs) a h stands ends = (h.0,
-    laid_join units (base + x.locals + x.room) middle end xs a h.1 stands ends)
+laid_join units base middle end [] a h stands ends = (
+  record {
+    begins = stands.begins ∙ sym h;
+    taken_is = stands.taken_is;
+    fits = stands.fits;
+  },
+  omega arith,
+)
+laid_join units base middle end (x ∷ xs) a h stands ends = (
+  h.0,
+  laid_join units (base + x.locals + x.room) middle end xs a h.1 stands ends,
+)
 
 -- activations end no earlier than they begin
 pub laid_le : (units : List Entry) (base end : ℕ) (acts : List Activation) → AreLaidOut units base acts end → base ≤ end
@@ -89,7 +99,7 @@ all_fit units base end (x ∷ xs) h le =
     let begins = h.0.begins in
     let stands : Stands units x.base x = record { begins = refl; taken_is = h.0.taken_is; fits = h.0.fits } in
     All-cons Fits x xs (fits_with units x x.pc x.values x.taken stands (omega arith))
-        (all_fit units (base + x.locals + x.room) end xs h.1 le)
+    (all_fit units (base + x.locals + x.room) end xs h.1 le)
 
 -- units that agree below one place agree below each lower one
 pub take-agree : (units units' : List Entry) (m k : ℕ) → take m units ≡ take m units' → k ≤ m → take k units
@@ -104,10 +114,10 @@ frame_of-agree units units' m base a same stands h =
     let few = values_fit units base a stands in
     let begins = stands.begins in
     let stacks : stack_of units (a.base + a.locals) a.values
-          ≡ stack_of units' (a.base + a.locals) a.values = stack_of-agree units units' m (a.base + a.locals) a.values
-          same (omega arith) in
+    ≡ stack_of units' (a.base + a.locals) a.values = stack_of-agree units units' m (a.base + a.locals) a.values
+    same (omega arith) in
     let locals : take a.locals (drop a.base units) ≡ take a.locals (drop a.base units') = locals-agree units units' m
-          a.base a.locals same (omega arith) in
+    a.base a.locals same (omega arith) in
     cc
 
 pub frames-agree : (units units' : List Entry) (m base end : ℕ) (acts : List Activation) → take m units ≡ take m units'
@@ -117,7 +127,7 @@ frames-agree units units' m base end (x ∷ xs) same h le =
     let up = laid_le units (base + x.locals + x.room) end xs h.1 in
     let first : frame_of units x ≡ frame_of units' x = frame_of-agree units units' m base x same h.0 (omega arith) in
     let rest : map (frame_of units) xs ≡ map (frame_of units') xs = frames-agree units units' m
-          (base + x.locals + x.room) end xs same h.1 le in
+    (base + x.locals + x.room) end xs same h.1 le in
     cc
 
 pub stands-agree : (units units' : List Entry) (m base : ℕ) (a : Activation) → take m units ≡ take m units'
@@ -126,17 +136,19 @@ stands-agree units units' m base a same stands h =
     let few = values_fit units base a stands in
     let begins = stands.begins in
     let stacks : stack_of units (a.base + a.locals) a.values
-          ≡ stack_of units' (a.base + a.locals) a.values = stack_of-agree units units' m (a.base + a.locals) a.values
-          same (omega arith) in
+    ≡ stack_of units' (a.base + a.locals) a.values = stack_of-agree units units' m (a.base + a.locals) a.values
+    same (omega arith) in
     record { begins = stands.begins; taken_is = stands.taken_is ∙ ap units_of_all stacks; fits = stands.fits }
 
 pub laid-agree : (units units' : List Entry) (m base end : ℕ) (acts : List Activation) → take m units ≡ take m units'
     → AreLaidOut units base acts end → end ≤ m → AreLaidOut units' base acts end
 laid-agree units units' m base end [] same h le = h
 laid-agree units units' m base end (x ∷ xs) same h le =
-    let up = laid_le units (base + x.locals + x.room) end xs h.1 in
-    (stands-agree units units' m base x same h.0 (omega arith), laid-agree units units' m (base + x.locals + x.room) end
-        xs same h.1 le)
+    let up = laid_le units (base + x.locals + x.room) end xs h.1 in (
+      stands-agree units units' m base x same h.0 (omega arith),
+      laid-agree units units' m (base + x.locals + x.room) end
+          xs same h.1 le,
+    )
 
 -- the units that frames take are those between their ends
 pub units_of_frames-laid : (units : List Entry) (base end : ℕ) (acts : List Activation) → AreLaidOut units base acts end
@@ -147,7 +159,7 @@ units_of_frames-laid units base end (x ∷ xs) h fits =
     let up = laid_le units (base + x.locals + x.room) end xs h.1 in
     let begins = h.0.begins in
     let locals : length (take x.locals (drop x.base units)) ≡ x.locals = length-take-le x.locals (drop x.base units)
-          (omega (arith, length-drop x.base units)) in
+    (omega (arith, length-drop x.base units)) in
     omega arith
 
 -- ---- a frame is entered or left
@@ -169,14 +181,14 @@ pub view_push : (units units' : List Entry) (acts : List Activation) (used : ℕ
     → map (frame_of units') (acts ++ a ∷ []) ≡ frames ++ frame_of units' a ∷ []
 view_push units units' acts used a frames sound view same =
     let below : map (frame_of units) acts ≡ map (frame_of units') acts = frames-agree units units' used 0 used acts same
-          sound.laid_out (omega arith) in
+    sound.laid_out (omega arith) in
     map_push (frame_of units') acts a ∙ ap (λ (fs : List Frame). fs ++ frame_of units' a ∷ []) (sym below ∙ view)
 
 pub sound_pop : (units : List Entry) (acts rest : List Activation) (used : ℕ) (a : Activation) → IsSound units acts used
     → acts ≡ rest ++ a ∷ [] → IsSound units rest a.base
 sound_pop units acts rest used a sound split =
     let last = laid_split units 0 used rest a (let P : List Activation → Type 0 = λ l. AreLaidOut units 0 l used
-                                                     in subst P split sound.laid_out) in
+    in subst P split sound.laid_out) in
     let ends = last.ends in
     let count = sound.count_is in
     let used_is = sound.used_is in
@@ -226,8 +238,8 @@ module _ {units : List Entry} {acts : List Activation} {used : ℕ} {frames : Li
   pub stands_last : StandsLast units 0 used (take (length acts - 1) acts) a
   stands_last =
       laid_split units 0 used (take (length acts - 1) acts) a
-          (let P : List Activation → Type 0 = λ l. AreLaidOut units 0 l used
-                 in subst P (split_last acts a o.some o.last) o.sound.laid_out)
+      (let P : List Activation → Type 0 = λ l. AreLaidOut units 0 l used
+      in subst P (split_last acts a o.some o.last) o.sound.laid_out)
 
   -- the last activation and units from its base on are written
   pub sound_put : (units' : List Entry) (a' : Activation) → length units' ≡ length units → take a.base units
@@ -243,7 +255,7 @@ module _ {units : List Entry} {acts : List Activation} {used : ℕ} {frames : Li
         count_is = rw length-set o.sound.count_is;
         used_is = subst (λ n. used ≤ n) (sym long) o.sound.used_is;
         laid_out = let P : List Activation → Type 0 = λ l. AreLaidOut units' 0 l used
-                         in subst P (sym (set_last acts a' o.some)) laid;
+            in subst P (sym (set_last acts a' o.some)) laid;
       }
 
   pub view_put : (units' : List Entry) (a' : Activation) → take a.base units ≡ take a.base units'
@@ -251,21 +263,21 @@ module _ {units : List Entry} {acts : List Activation} {used : ℕ} {frames : Li
   view_put units' a' same =
       let last = stands_last in
       let below : map (frame_of units) (take (length acts - 1) acts)
-            ≡ map (frame_of units') (take (length acts - 1) acts) = frames-agree units units' a.base 0 a.base
-            (take (length acts - 1) acts) same last.below (omega arith) in
+      ≡ map (frame_of units') (take (length acts - 1) acts) = frames-agree units units' a.base 0 a.base
+      (take (length acts - 1) acts) same last.below (omega arith) in
       let count : length (map (frame_of units) acts) ≡ length acts = length-map acts (frame_of units) in
       let some = o.some in
       let written : slice_set (map (frame_of units) acts) (length (map (frame_of units) acts) - 1) (frame_of units' a')
-            ≡ take (length (map (frame_of units) acts) - 1) (map (frame_of units) acts) ++ frame_of units' a'
-            ∷ [] = set_last (map (frame_of units) acts) (frame_of units' a') (omega arith) in
+      ≡ take (length (map (frame_of units) acts) - 1) (map (frame_of units) acts) ++ frame_of units' a'
+      ∷ [] = set_last (map (frame_of units) acts) (frame_of units' a') (omega arith) in
       let callers : take (length (map (frame_of units) acts) - 1) (map (frame_of units) acts)
-            ≡ map (frame_of units) (take (length acts - 1) acts) = ap
-            (λ (k : ℕ). take (k - 1) (map (frame_of units) acts)) count ∙ take-map (frame_of units) (length acts - 1)
-            acts in
+      ≡ map (frame_of units) (take (length acts - 1) acts) = ap
+      (λ (k : ℕ). take (k - 1) (map (frame_of units) acts)) count ∙ take-map (frame_of units) (length acts - 1)
+      acts in
       let put : map (frame_of units') (slice_set acts (length acts - 1) a')
-            ≡ with_running (map (frame_of units) acts) (frame_of units' a') = ap (map (frame_of units'))
-            (set_last acts a' o.some) ∙ (map_push (frame_of units') (take (length acts - 1) acts) a'
-            ∙ (ap (λ (fs : List Frame). fs ++ frame_of units' a' ∷ []) (sym below ∙ sym callers) ∙ sym written)) in
+      ≡ with_running (map (frame_of units) acts) (frame_of units' a') = ap (map (frame_of units'))
+      (set_last acts a' o.some) ∙ (map_push (frame_of units') (take (length acts - 1) acts) a'
+      ∙ (ap (λ (fs : List Frame). fs ++ frame_of units' a' ∷ []) (sym below ∙ sym callers) ∙ sym written)) in
       put ∙ ap (λ (fs : List Frame). with_running fs (frame_of units' a')) o.view
 
   -- the last activation goes
@@ -276,7 +288,7 @@ module _ {units : List Entry} {acts : List Activation} {used : ℕ} {frames : Li
   view_leave =
       let count : length (map (frame_of units) acts) ≡ length acts = length-map acts (frame_of units) in
       sym (ap callers (sym o.view) ∙ (ap (λ (k : ℕ). take (k - 1) (map (frame_of units) acts)) count
-          ∙ take-map (frame_of units) (length acts - 1) acts))
+      ∙ take-map (frame_of units) (length acts - 1) acts))
 
   -- the running frame's region lies within the units, and its stack within its room
   pub region_fits : (a.base + a.locals + a.room ≤ length units) × (a.values ≤ a.room) × (a.taken ≤ a.room)
@@ -314,50 +326,66 @@ module _ {units : List Entry} {acts : List Activation} {used : ℕ} {frames : Li
       let last = stands_last in
       let total = last.stands.taken_is in
       let fits = last.stands.fits in
-      let deep : count ≤ a.values = omega (arith, ap length stack_is,
-            length-stack_of units (a.base + a.locals) a.values) in
+      let deep : count ≤ a.values = omega (
+        arith,
+        ap length stack_is,
+        length-stack_of units (a.base + a.locals) a.values,
+      ) in
       let parts = units_of_all-take-drop stack count in
       let gone : taken ≡ units_of_all (take count stack) = sized
-            ∙ ap (λ (vs : List Value). units_of_all (take count vs)) stack_is in
+      ∙ ap (λ (vs : List Value). units_of_all (take count vs)) stack_is in
       let left : units_of_all (drop count stack)
-            ≡ units_of_all (stack_of units (a.base + a.locals) (a.values - count)) = ap units_of_all
-            (drop-stack_of units (a.base + a.locals) a.values count deep) in
+      ≡ units_of_all (stack_of units (a.base + a.locals) (a.values - count)) = ap units_of_all
+      (drop-stack_of units (a.base + a.locals) a.values count deep) in
       let stack_units = ap (λ (vs : List Value). units_of_all (drop count vs)) stack_is in
       let room_is : (running_frame frames).room ≡ a.room = ap (λ (f : Frame). f.room) running_is in
       (deep, omega arith, omega arith, record { begins = refl; taken_is = omega arith; fits = omega arith })
 
   pub view_drop : (next count taken : ℕ) → count ≤ a.values
-      → map (frame_of units) (with_last acts (record a { pc = next; values = a.values - count;
-      taken = a.taken - taken }))
-      ≡ with_running frames (record (running_frame frames) { pc = next;
-      stack = drop count (running_frame frames).stack })
+      → map (frame_of units) (with_last acts (record a {
+        pc = next;
+        values = a.values - count;
+        taken = a.taken - taken;
+      }))
+      ≡ with_running frames (record (running_frame frames) {
+        pc = next;
+        stack = drop count (running_frame frames).stack;
+      })
   view_drop next count taken deep =
       let left : stack_of units (a.base + a.locals) (a.values - count)
-            ≡ drop count (stack_of units (a.base + a.locals) a.values) = sym (drop-stack_of units (a.base + a.locals)
-            a.values count deep) in
-      rw (running_is, ← left) (view_put units (record a { pc = next; values = a.values - count;
-          taken = a.taken - taken }) refl)
+      ≡ drop count (stack_of units (a.base + a.locals) a.values) = sym (drop-stack_of units (a.base + a.locals)
+      a.values count deep) in
+      rw (running_is, ← left) (view_put units (record a {
+        pc = next;
+        values = a.values - count;
+        taken = a.taken - taken;
+      }) refl)
 
   -- a value is written above the stack
   pub pushes : (e : Entry)
       → units_of (value_in e) + units_of_all (running_frame frames).stack ≤ (running_frame frames).room
       → (a.values < a.room) × (a.base + a.locals + a.values < length units) × (a.taken + units_of (value_in e) ≤ a.room)
-      × Stands (slice_set units (a.base + a.locals + a.values) e) a.base (record a { values = a.values + 1;
-      taken = a.taken + units_of (value_in e) })
+      × Stands (slice_set units (a.base + a.locals + a.values) e) a.base (record a {
+        values = a.values + 1;
+        taken = a.taken + units_of (value_in e);
+      })
   pushes e room =
       let last = stands_last in
       let total = last.stands.taken_is in
       let fits = region_fits in
       let room_is : (running_frame frames).room ≡ a.room = ap (λ (f : Frame). f.room) running_is in
       let units_are : units_of_all (running_frame frames).stack
-            ≡ units_of_all (stack_of units (a.base + a.locals) a.values) = ap units_of_all stack_is in
+      ≡ units_of_all (stack_of units (a.base + a.locals) a.values) = ap units_of_all stack_is in
       let some = units_of-pos (value_in e) in
       let few = length_le_units (stack_of units (a.base + a.locals) a.values) in
       let count = length-stack_of units (a.base + a.locals) a.values in
       let inside : a.base + a.locals + a.values < length units = omega arith in
-      let pushed = stack_of-push units (a.base + a.locals) a.values e inside in
-      (omega arith, inside, omega arith,
-          record { begins = refl; taken_is = let e = ap units_of_all pushed in omega arith; fits = omega arith })
+      let pushed = stack_of-push units (a.base + a.locals) a.values e inside in (
+        omega arith,
+        inside,
+        omega arith,
+        record { begins = refl; taken_is = let e = ap units_of_all pushed in omega arith; fits = omega arith },
+      )
 
   pub view_push_value : (e : Entry) → a.base + a.locals + a.values < length units
       → map (frame_of (slice_set units (a.base + a.locals + a.values) e))
@@ -366,15 +394,18 @@ module _ {units : List Entry} {acts : List Activation} {used : ℕ} {frames : Li
   view_push_value e inside =
       let units' = slice_set units (a.base + a.locals + a.values) e in
       let same : take a.base units ≡ take a.base units' = sym (take-set-le a.base units (a.base + a.locals + a.values) e
-            (omega arith)) in
+      (omega arith)) in
       let below : take (a.base + a.locals) units' ≡ take (a.base + a.locals) units = take-set-le (a.base + a.locals)
-            units (a.base + a.locals + a.values) e (omega arith) in
+      units (a.base + a.locals + a.values) e (omega arith) in
       let locals : take a.locals (drop a.base units') ≡ take a.locals (drop a.base units) = locals-agree units' units
-            (a.base + a.locals) a.base a.locals below (omega arith) in
+      (a.base + a.locals) a.base a.locals below (omega arith) in
       let stack : stack_of units' (a.base + a.locals) (a.values + 1) ≡ value_in e ∷ stack_of units (a.base + a.locals)
-            a.values = stack_of-push units (a.base + a.locals) a.values e inside in
-      rw (running_is, ← stack,
-          ← locals) (view_put units' (record a { values = a.values + 1; taken = a.taken + units_of (value_in e) }) same)
+      a.values = stack_of-push units (a.base + a.locals) a.values e inside in
+      rw (
+        running_is,
+        ← stack,
+        ← locals,
+      ) (view_put units' (record a { values = a.values + 1; taken = a.taken + units_of (value_in e) }) same)
 
   -- the running frame's locals
   pub locals_is : (running_frame frames).locals ≡ take a.locals (drop a.base units)
@@ -389,11 +420,11 @@ module _ {units : List Entry} {acts : List Activation} {used : ℕ} {frames : Li
       → Some e ≡ slice_get (running_frame frames).locals i
   entry_within i e within read =
       let place : get_or (running_frame frames).locals i Unset
-            ≡ get_or units (a.base + i) Unset = ap (λ (es : List Entry). get_or es i Unset) locals_is
-            ∙ (get_or-take a.locals (drop a.base units) i Unset within ∙ get_or-drop a.base units i Unset) in
+      ≡ get_or units (a.base + i) Unset = ap (λ (es : List Entry). get_or es i Unset) locals_is
+      ∙ (get_or-take a.locals (drop a.base units) i Unset within ∙ get_or-drop a.base units i Unset) in
       let default = get_or_default (running_frame frames).locals i Unset e (omega (arith, length-locals)) in
       sym (slice_get_read (running_frame frames).locals a.locals i e (sym length-locals) within (read
-          ∙ (sym place ∙ default)))
+      ∙ (sym place ∙ default)))
 
   pub entry_past : (i : ℕ) → a.locals ≤ i → None ≡ slice_get (running_frame frames).locals i
   entry_past i past = sym (slice_get_past (running_frame frames).locals i (omega (arith, length-locals)))
@@ -410,10 +441,13 @@ module _ {units : List Entry} {acts : List Activation} {used : ℕ} {frames : Li
   sound_entry i e within =
       let stands = stands_last.stands in
       let same : take a.base units ≡ take a.base (slice_set units (a.base + i) e) = sym
-            (take-set-le a.base units (a.base + i) e (omega arith)) in
+      (take-set-le a.base units (a.base + i) e (omega arith)) in
       let put = sound_put (slice_set units (a.base + i) e) a (length-set units (a.base + i) e) same
-            (record { begins = refl; taken_is = stands.taken_is ∙ ap units_of_all (sym (stands_entry i e within));
-            fits = stands.fits }) refl in
+      (record {
+        begins = refl;
+        taken_is = stands.taken_is ∙ ap units_of_all (sym (stands_entry i e within));
+        fits = stands.fits;
+      }) refl in
       let P : List Activation → Type 0 = λ l. IsSound (slice_set units (a.base + i) e) l used in
       subst P acts_stay put
 
@@ -424,10 +458,10 @@ module _ {units : List Entry} {acts : List Activation} {used : ℕ} {frames : Li
       let same : take a.base units ≡ take a.base units' = sym (take-set-le a.base units (a.base + i) e (omega arith)) in
       let stack = stands_entry i e within in
       let locals : take a.locals (drop a.base units') ≡ slice_set (take a.locals (drop a.base units)) i e = ap
-            (λ (es : List Entry). take a.locals es) (drop-set-add a.base units i e)
-            ∙ take-set-lt a.locals (drop a.base units) i e within in
+      (λ (es : List Entry). take a.locals es) (drop-set-add a.base units i e)
+      ∙ take-set-lt a.locals (drop a.base units) i e within in
       let put : map (frame_of units') acts ≡ with_running frames (frame_of units' a) = ap (map (frame_of units'))
-            (sym acts_stay) ∙ view_put units' a same in
+      (sym acts_stay) ∙ view_put units' a same in
       rw (running_is, ← locals, ← stack) put
 
   -- the running frame calls a method: values leave its stack, and a frame is made after it
@@ -442,15 +476,17 @@ module _ {units : List Entry} {acts : List Activation} {used : ℕ} {frames : Li
       let d = drops count taken there sized in
       let narrow : take a.base units ≡ take a.base units' = take-agree units units' used a.base same (omega arith) in
       let caller : Stands units' a.base (record a { values = a.values - count; taken = a.taken - taken }) = stands-agree
-            units units' used a.base (record a { values = a.values - count; taken = a.taken - taken }) same d.3
-            (omega arith) in
+      units units' used a.base (record a { values = a.values - count; taken = a.taken - taken }) same d.3
+      (omega arith) in
       let put = sound_put units' (record a { values = a.values - count; taken = a.taken - taken }) long narrow caller
-            refl in
+      refl in
       let count_is : length (with_last acts (record a { values = a.values - count; taken = a.taken - taken }))
-            ≡ length acts = length-set acts (length acts - 1) (record a { values = a.values - count;
-            taken = a.taken - taken }) in
+      ≡ length acts = length-set acts (length acts - 1) (record a {
+        values = a.values - count;
+        taken = a.taken - taken;
+      }) in
       rw is (sound_push units' units' (with_last acts (record a { values = a.values - count; taken = a.taken - taken }))
-          used end b put put.units_are refl stands ends (subst (λ n. end ≤ n) (sym long) fits) (omega arith))
+      used end b put put.units_are refl stands ends (subst (λ n. end ≤ n) (sym long) fits) (omega arith))
 
   pub view_call : (units' : List Entry) (a' b : Activation) (count taken : ℕ)
       → count ≤ length (running_frame frames).stack → taken ≡ units_of_all (take count (running_frame frames).stack)
@@ -465,18 +501,18 @@ module _ {units : List Entry} {acts : List Activation} {used : ℕ} {frames : Li
       let narrow : take a.base units ≡ take a.base units' = take-agree units units' used a.base same (omega arith) in
       let put = view_put units' (record a { values = a.values - count; taken = a.taken - taken }) narrow in
       let kept : frame_of units (record a { values = a.values - count; taken = a.taken - taken })
-            ≡ frame_of units' (record a { values = a.values - count; taken = a.taken - taken }) = frame_of-agree units
-            units' used a.base (record a { values = a.values - count; taken = a.taken - taken }) same d.3 (omega arith)
-            in
+      ≡ frame_of units' (record a { values = a.values - count; taken = a.taken - taken }) = frame_of-agree units
+      units' used a.base (record a { values = a.values - count; taken = a.taken - taken }) same d.3 (omega arith)
+      in
       let left : stack_of units (a.base + a.locals) (a.values - count)
-            ≡ drop count (stack_of units (a.base + a.locals) a.values) = sym (drop-stack_of units (a.base + a.locals)
-            a.values count d.0) in
+      ≡ drop count (stack_of units (a.base + a.locals) a.values) = sym (drop-stack_of units (a.base + a.locals)
+      a.values count d.0) in
       let frame : frame_of units' (record a { values = a.values - count; taken = a.taken - taken })
-            ≡ record (running_frame frames) { stack = drop count (running_frame frames).stack } = sym kept
-            ∙ rw (running_is, ← left) in
+      ≡ record (running_frame frames) { stack = drop count (running_frame frames).stack } = sym kept
+      ∙ rw (running_is, ← left) in
       rw is (map_push (frame_of units')
-          (with_last acts (record a { values = a.values - count; taken = a.taken - taken })) b
-          ∙ ap (λ (fs : List Frame). fs ++ frame_of units' b ∷ []) (put ∙ ap (with_running frames) frame))
+      (with_last acts (record a { values = a.values - count; taken = a.taken - taken })) b
+      ∙ ap (λ (fs : List Frame). fs ++ frame_of units' b ∷ []) (put ∙ ap (with_running frames) frame))
 
 -- whether another frame fits, from the units in use
 pub has_room-laid : (units : List Entry) (acts : List Activation) (used : ℕ) (frames : List Frame)
@@ -487,8 +523,8 @@ has_room-laid units acts used frames max_locals max_stack sound view =
     let fits = sound.used_is in
     let long = sound.units_are in
     let total : units_of_frames (map (frame_of units) acts)
-          ≡ used = sym (zero-add (units_of_frames (map (frame_of units) acts)))
-          ∙ units_of_frames-laid units 0 used acts sound.laid_out (omega arith) in
+    ≡ used = sym (zero-add (units_of_frames (map (frame_of units) acts)))
+    ∙ units_of_frames-laid units 0 used acts sound.laid_out (omega arith) in
     let taken : units_of_frames frames ≡ used = sym (ap units_of_frames view) ∙ total in
     rw (count, taken)
 
@@ -497,7 +533,7 @@ pub has_room-few : (units : List Entry) (acts : List Activation) (used n : ℕ) 
     → n < 256 → nat_le (used + max_locals + max_stack) 4096 ≡ has_room_for frames max_locals max_stack
 has_room-few units acts used n frames max_locals max_stack sound view count few =
     sym (has_room-laid units acts used frames max_locals max_stack sound view
-        ∙ ap (λ (b : Bool). b && nat_le (used + max_locals + max_stack) 4096) (lt-ltb (length acts) 256 (omega arith)))
+    ∙ ap (λ (b : Bool). b && nat_le (used + max_locals + max_stack) 4096) (lt-ltb (length acts) 256 (omega arith)))
 
 pub has_room-facts : (units : List Entry) (acts : List Activation) (used : ℕ) (frames : List Frame)
     (max_locals max_stack : ℕ) → IsSound units acts used → map (frame_of units) acts ≡ frames
@@ -505,9 +541,12 @@ pub has_room-facts : (units : List Entry) (acts : List Activation) (used : ℕ) 
     × (used ≤ length units) × (length units ≤ 4096)
 has_room-facts units acts used frames max_locals max_stack sound view has =
     let both = and_parts (nat_lt (length acts) 256) (nat_le (used + max_locals + max_stack) 4096)
-          (sym (has_room-laid units acts used frames max_locals max_stack sound view) ∙ has) in
-    (ltb-true (length acts) 256 both.0, leb-true (used + max_locals + max_stack) 4096 both.1, sound.used_is,
-        sound.units_are)
+    (sym (has_room-laid units acts used frames max_locals max_stack sound view) ∙ has) in (
+      ltb-true (length acts) 256 both.0,
+      leb-true (used + max_locals + max_stack) 4096 both.1,
+      sound.used_is,
+      sound.units_are,
+    )
 
 -- ---- units are reached, so many at least, before a frame is made in them
 
@@ -550,12 +589,15 @@ unsets units units' base count fits is =
     let second : length (replicate count Unset) ≡ count = length-replicate count Unset in
     let rest : length (drop (base + count) units) ≡ length units - (base + count) = length-drop (base + count) units in
     let all : length units' ≡ length (take base units) + length (replicate count Unset) + length
-          (drop (base + count) units) = rw (is, length-append, length-append) in
+    (drop (base + count) units) = rw (is, length-append, length-append) in
     let split : units' ≡ take base units ++ (replicate count Unset ++ drop (base + count) units) = is
-          ∙ append_assoc (take base units) (replicate count Unset) (drop (base + count) units) in
+    ∙ append_assoc (take base units) (replicate count Unset) (drop (base + count) units) in
     record {
       long = omega arith;
       same = rw (split, take_at (take base units) (replicate count Unset ++ drop (base + count) units) base first);
-      unset = rw (split, drop_at (take base units) (replicate count Unset ++ drop (base + count) units) base first,
-          take_at (replicate count Unset) (drop (base + count) units) count second);
+      unset = rw (
+        split,
+        drop_at (take base units) (replicate count Unset ++ drop (base + count) units) base first,
+        take_at (replicate count Unset) (drop (base + count) units) count second,
+      );
     }

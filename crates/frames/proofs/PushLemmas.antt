@@ -13,10 +13,10 @@ pub units_of_all-take_at : (vs : List Value) (i : ℕ) (d : Value) → i < lengt
 units_of_all-take_at [] i d h = absurd (omega arith)
 units_of_all-take_at (v ∷ vs) zero d h = omega arith
 units_of_all-take_at (v ∷ vs) (suc i) d h = let rest = units_of_all-take_at vs i d (omega arith)
-                                                  in let e : units_of_all (take (suc i) vs)
-                                                           ≡ units_of_all (take i vs) + units_of
-                                                           (slice_index_or vs i d) = rw (← add-one) rest
-                                                           in rw add-one (omega arith)
+    in let e : units_of_all (take (suc i) vs)
+    ≡ units_of_all (take i vs) + units_of
+    (slice_index_or vs i d) = rw (← add-one) rest
+    in rw add-one (omega arith)
 
 pub units_of_all-take_le : (vs : List Value) (i : ℕ) → units_of_all (take i vs) ≤ units_of_all vs
 units_of_all-take_le vs i = let parts = units_of_all-take-drop vs i in omega arith

@@ -33,7 +33,7 @@ map-reverse {Y = Y} f (x ∷ xs) =
     let before : reverse (x ∷ xs) ≡ reverse xs ++ x ∷ [] = reverse-append (x ∷ []) xs in
     let after : reverse (f x ∷ map f xs) ≡ reverse (map f xs) ++ f x ∷ [] = reverse-append (f x ∷ []) (map f xs) in
     ap (map f) before ∙ (map-append f (reverse xs) (x ∷ []) ∙ (ap (λ (ys : List Y). ys ++ f x ∷ []) (map-reverse f xs)
-        ∙ sym after))
+    ∙ sym after))
 
 -- an activation within the units: what it is known to do
 pub record Within (units : List Entry) (a : Activation) : Type 0 where
@@ -47,8 +47,10 @@ within units base end (x ∷ xs) zero a laid fits is =
     let same : x ≡ a = cc in
     let up = laid_le units (base + x.locals + x.room) end xs laid.1 in
     let begins = laid.0.begins in
-    rw (← same) (record { stands = record { begins = refl; taken_is = laid.0.taken_is; fits = laid.0.fits };
-        fits = omega arith })
+    rw (← same) (record {
+      stands = record { begins = refl; taken_is = laid.0.taken_is; fits = laid.0.fits };
+      fits = omega arith;
+    })
 within units base end (x ∷ xs) (suc d) a laid fits is = within units (base + x.locals + x.room) end xs d a laid.1 fits
     is
 
@@ -58,19 +60,19 @@ frame_refs-frame_of units a w =
     let room = values_fit units a.base a w.stands in
     let fits = w.fits in
     let bottom_first : reverse (stack_of units (a.base + a.locals) a.values)
-          ≡ values_between units (a.base + a.locals) a.values = ap reverse (stack_of-between units (a.base + a.locals)
-          a.values (omega arith)) ∙ reverse-reverse (values_between units (a.base + a.locals) a.values) in
+    ≡ values_between units (a.base + a.locals) a.values = ap reverse (stack_of-between units (a.base + a.locals)
+    a.values (omega arith)) ∙ reverse-reverse (values_between units (a.base + a.locals) a.values) in
     let stack : reverse (map ref_of (stack_of units (a.base + a.locals) a.values))
-          ≡ map entry_ref (take a.values (drop (a.base + a.locals) units)) = sym
-          (map-reverse ref_of (stack_of units (a.base + a.locals) a.values))
-          ∙ (ap (map ref_of) bottom_first ∙ refs_of-values (take a.values (drop (a.base + a.locals) units))) in
+    ≡ map entry_ref (take a.values (drop (a.base + a.locals) units)) = sym
+    (map-reverse ref_of (stack_of units (a.base + a.locals) a.values))
+    ∙ (ap (map ref_of) bottom_first ∙ refs_of-values (take a.values (drop (a.base + a.locals) units))) in
     let both : take (a.locals + a.values) (drop a.base units) ≡ take a.locals (drop a.base units)
-          ++ take a.values (drop (a.base + a.locals) units) = take-add a.locals a.values (drop a.base units)
-          ∙ ap (λ (es : List Entry). take a.locals (drop a.base units) ++ take a.values es)
-          (drop-drop a.locals a.base units) in
+    ++ take a.values (drop (a.base + a.locals) units) = take-add a.locals a.values (drop a.base units)
+    ∙ ap (λ (es : List Entry). take a.locals (drop a.base units) ++ take a.values es)
+    (drop-drop a.locals a.base units) in
     ap (λ (rs : List (Option ℕ)). map entry_ref (take a.locals (drop a.base units)) ++ rs) stack
-        ∙ (sym (map-append entry_ref (take a.locals (drop a.base units))
-        (take a.values (drop (a.base + a.locals) units))) ∙ ap (map entry_ref) (sym both))
+    ∙ (sym (map-append entry_ref (take a.locals (drop a.base units))
+    (take a.values (drop (a.base + a.locals) units))) ∙ ap (map entry_ref) (sym both))
 
 -- ---- the entries of a frame, as its activation has them
 
@@ -82,14 +84,14 @@ entries-some units acts frames used d a sound view is =
     let used_is = sound.used_is in
     let w = within units 0 used acts d a sound.laid_out (omega arith) is in
     let found : slice_get frames d ≡ Some (frame_of units a) = ap (λ (fs : List Frame). slice_get fs d) (sym view)
-          ∙ (slice_get-map (frame_of units) acts d ∙ ap (option_map (frame_of units)) is) in
+    ∙ (slice_get-map (frame_of units) acts d ∙ ap (option_map (frame_of units)) is) in
     ap refs_of_frame found ∙ frame_refs-frame_of units a w
 
 pub entries-none : (units : List Entry) (acts : List Activation) (frames : List Frame) (d : ℕ)
     → map (frame_of units) acts ≡ frames → slice_get acts d ≡ None → entries_at frames d ≡ []
 entries-none units acts frames d view is =
     let found : slice_get frames d ≡ None = ap (λ (fs : List Frame). slice_get fs d) (sym view)
-          ∙ (slice_get-map (frame_of units) acts d ∙ ap (option_map (frame_of units)) is) in
+    ∙ (slice_get-map (frame_of units) acts d ∙ ap (option_map (frame_of units)) is) in
     ap refs_of_frame found
 
 -- where an activation's region lies
@@ -105,28 +107,31 @@ region_of units acts used d a sound is =
 
 pub length-entries : (units : List Entry) (a : Activation) → a.base + a.locals + a.values ≤ length units
     → a.locals + a.values ≡ length (map entry_ref (take (a.locals + a.values) (drop a.base units)))
-length-entries units a fits = omega (arith, length-map (take (a.locals + a.values) (drop a.base units)) entry_ref,
-    length-take-le (a.locals + a.values) (drop a.base units) (omega (arith, length-drop a.base units)))
+length-entries units a fits = omega (
+  arith,
+  length-map (take (a.locals + a.values) (drop a.base units)) entry_ref,
+  length-take-le (a.locals + a.values) (drop a.base units) (omega (arith, length-drop a.base units)),
+)
 
 pub ref_at-entries : (units : List Entry) (a : Activation) (j : ℕ) (e : Entry)
     → a.base + a.locals + a.values ≤ length units → j < a.locals + a.values → e ≡ get_or units (a.base + j) Unset
     → entry_ref e ≡ ref_at (map entry_ref (take (a.locals + a.values) (drop a.base units))) j
 ref_at-entries units a j e fits h read =
     let many : length (take (a.locals + a.values) (drop a.base units))
-          ≡ a.locals + a.values = length-take-le (a.locals + a.values) (drop a.base units)
-          (omega (arith, length-drop a.base units)) in
+    ≡ a.locals + a.values = length-take-le (a.locals + a.values) (drop a.base units)
+    (omega (arith, length-drop a.base units)) in
     let place : get_or (take (a.locals + a.values) (drop a.base units)) j Unset
-          ≡ get_or units (a.base + j) Unset = get_or-take (a.locals + a.values) (drop a.base units) j Unset h
-          ∙ get_or-drop a.base units j Unset in
+    ≡ get_or units (a.base + j) Unset = get_or-take (a.locals + a.values) (drop a.base units) j Unset h
+    ∙ get_or-drop a.base units j Unset in
     ap entry_ref (read ∙ sym place) ∙ sym (get_or-map entry_ref (take (a.locals + a.values) (drop a.base units)) j Unset
-        None (omega arith))
+    None (omega arith))
 
 pub ref_at-past : (units : List Entry) (a : Activation) (j : ℕ) → a.locals + a.values ≤ j
     → None ≡ ref_at (map entry_ref (take (a.locals + a.values) (drop a.base units))) j
 ref_at-past units a j h =
     let many = length-take (a.locals + a.values) (drop a.base units) in
     sym (get_or_past (map entry_ref (take (a.locals + a.values) (drop a.base units))) j None
-        (omega (arith, length-map (take (a.locals + a.values) (drop a.base units)) entry_ref)))
+    (omega (arith, length-map (take (a.locals + a.values) (drop a.base units)) entry_ref)))
 
 -- ---- a frame but for its locals and the values on its stack, as its activation has it
 
@@ -138,14 +143,20 @@ head-some units acts frames used d a sound view is =
     let used_is = sound.used_is in
     let w = within units 0 used acts d a sound.laid_out (omega arith) is in
     let found : slice_get frames d ≡ Some (frame_of units a) = ap (λ (fs : List Frame). slice_get fs d) (sym view)
-          ∙ (slice_get-map (frame_of units) acts d ∙ ap (option_map (frame_of units)) is) in
+    ∙ (slice_get-map (frame_of units) acts d ∙ ap (option_map (frame_of units)) is) in
     ap (option_map head_of) found
-        ∙ ap (λ (taken : ℕ). let head : FrameHead = record { method = a.method; pc = a.pc; taken = taken; room = a.room;
-                                   monitor = a.monitor; mark = a.mark } in Some head) (sym w.stands.taken_is)
+    ∙ ap (λ (taken : ℕ). let head : FrameHead = record {
+      method = a.method;
+      pc = a.pc;
+      taken = taken;
+      room = a.room;
+      monitor = a.monitor;
+      mark = a.mark;
+    } in Some head) (sym w.stands.taken_is)
 
 pub head-none : (units : List Entry) (acts : List Activation) (frames : List Frame) (d : ℕ) → map (frame_of units) acts
     ≡ frames → slice_get acts d ≡ None → head_at frames d ≡ None
 head-none units acts frames d view is =
     let found : slice_get frames d ≡ None = ap (λ (fs : List Frame). slice_get fs d) (sym view)
-          ∙ (slice_get-map (frame_of units) acts d ∙ ap (option_map (frame_of units)) is) in
+    ∙ (slice_get-map (frame_of units) acts d ∙ ap (option_map (frame_of units)) is) in
     ap (option_map head_of) found

@@ -80,7 +80,7 @@ stack_is_full old count above taken room next vs s full =
     let taken_is = s.taken_is in
     let room_is = s.room_is in
     let no = lt-leb (units_of_all (push_all vs (drop count (running_frame old).stack))) (running_frame old).room
-          (omega arith) in
+    (omega arith) in
     rw no
 
 pub stack_has_room : (old after : List Frame) (count above taken room next : ℕ) (vs : List Value)
@@ -94,7 +94,7 @@ stack_has_room old after count above taken room next vs s fits is =
     let taken_is = s.taken_is in
     let room_is = s.room_is in
     let yes = le-leb (units_of_all (push_all vs (drop count (running_frame old).stack))) (running_frame old).room
-          (omega arith) in
+    (omega arith) in
     rw (yes, is)
 
 pub room_for_value : (old dropped : List Frame) (next count above taken room : ℕ) (v : Value) → 0 < length old
@@ -118,7 +118,7 @@ pub then_changed : (change then : Frame → Frame) (old between after : List Fra
 then_changed change then old between after some first second =
     let runs = running_frame-with_running old between (change (running_frame old)) some first in
     with_running-with_running old between after (change (running_frame old)) (then (change (running_frame old))) first
-        (second ∙ ap (λ (f : Frame). with_running between (then f)) runs)
+    (second ∙ ap (λ (f : Frame). with_running between (then f)) runs)
 
 -- values are dropped, and one is pushed
 pub replaces : (old dropped after : List Frame) (next count : ℕ) (v : Value) → 0 < length old
@@ -180,9 +180,9 @@ pub puts_two : (old freed_one freed_two after : List Frame) (index : ℕ) (e : E
     (running_frame old))
 puts_two old freed_one freed_two after index e some first second third =
     let two = then_changed (at_locals (λ ls. freed ls index)) (at_locals (λ ls. freed ls (index + 1))) old freed_one
-          freed_two some first second in
+    freed_two some first second in
     then_changed (at_locals (λ ls. freed (freed ls index) (index + 1))) (at_locals (λ ls. in_two ls index e)) old
-        freed_two after some two third
+    freed_two after some two third
 
 -- where an entry was made unset, nothing is to be freed
 pub nothing_to_free : (whole locals : List Entry) (index at : ℕ)
@@ -197,11 +197,11 @@ pub over_long : (locals : List Entry) (index : ℕ) (z : ℤ) (e : Entry) → sl
 over_long locals index z e is =
     let half : freed locals index ≡ slice_set locals (index + 1) Unset = ap (without_half locals index) is in
     let none : freed (slice_set locals (index + 1) Unset) (index + 1)
-          ≡ slice_set locals (index + 1) Unset = nothing_to_free (slice_set locals (index + 1) Unset) locals (index + 1)
-          (index + 1) in
+    ≡ slice_set locals (index + 1) Unset = nothing_to_free (slice_set locals (index + 1) Unset) locals (index + 1)
+    (index + 1) in
     let order : slice_set (slice_set locals (index + 1) Unset) index e
-          ≡ slice_set (slice_set locals index e) (index + 1) Unset = set_comm locals (index + 1)
-          index Unset e (omega arith) in
+    ≡ slice_set (slice_set locals index e) (index + 1) Unset = set_comm locals (index + 1)
+    index Unset e (omega arith) in
     rw (half, none, order, set-set)
 
 pub puts_over_long : (old after : List Frame) (index : ℕ) (z : ℤ) (e : Entry) → slice_get (running_frame old).locals

@@ -26,7 +26,7 @@ pub reached : (slots after : List Slot) (count : ℕ) → after ≡ slots ++ rep
 reached slots after count is =
     ap (map entry_of) is ∙ map-append entry_of slots (replicate (count - length slots) Unset)
     ∙ ap (λ (es : List Entry). map entry_of slots ++ es) (unset-slots (count - length slots)
-        ∙ ap (λ (n : ℕ). replicate (count - n) UnsetEntry) (sym (length-map slots entry_of)))
+    ∙ ap (λ (n : ℕ). replicate (count - n) UnsetEntry) (sym (length-map slots entry_of)))
 
 -- some slots in the middle are made unset
 pub unset-between : (slots after : List Slot) (base count : ℕ) → after ≡ take base slots ++ replicate count Unset
@@ -34,10 +34,10 @@ pub unset-between : (slots after : List Slot) (base count : ℕ) → after ≡ t
     ++ drop (base + count) (map entry_of slots)
 unset-between slots after base count is =
     let whole : map entry_of after ≡ map entry_of (take base slots ++ replicate count Unset)
-          ++ map entry_of (drop (base + count) slots) = ap (map entry_of) is
-          ∙ map-append entry_of (take base slots ++ replicate count Unset) (drop (base + count) slots) in
+    ++ map entry_of (drop (base + count) slots) = ap (map entry_of) is
+    ∙ map-append entry_of (take base slots ++ replicate count Unset) (drop (base + count) slots) in
     let front : map entry_of (take base slots ++ replicate count Unset) ≡ map entry_of (take base slots)
-          ++ map entry_of (replicate count Unset) = map-append entry_of (take base slots) (replicate count Unset) in
+    ++ map entry_of (replicate count Unset) = map-append entry_of (take base slots) (replicate count Unset) in
     whole ∙ rw (front, unset-slots count, take-map, drop-map)
 
 -- the entries of some slots in the middle

@@ -57,9 +57,9 @@ stack_of-agree units units' m base zero same h = refl
 stack_of-agree units units' m base (suc n) same h =
     let rest = stack_of-agree units units' m base n same (omega arith) in
     let here : get_or units (base + n) Unset
-          ≡ get_or units' (base + n) Unset = sym (get_or-take m units (base + n) Unset (omega arith))
-          ∙ (ap (λ (us : List Entry). get_or us (base + n) Unset) same
-          ∙ get_or-take m units' (base + n) Unset (omega arith)) in
+    ≡ get_or units' (base + n) Unset = sym (get_or-take m units (base + n) Unset (omega arith))
+    ∙ (ap (λ (us : List Entry). get_or us (base + n) Unset) same
+    ∙ get_or-take m units' (base + n) Unset (omega arith)) in
     cc
 
 -- so do locals
@@ -67,7 +67,7 @@ pub locals-agree : (units units' : List Entry) (m base n : ℕ) → take m units
     → take n (drop base units) ≡ take n (drop base units')
 locals-agree units units' m base n same h =
     let narrow : take (base + n) units ≡ take (base + n) units' = sym (take-take (base + n) m units h)
-          ∙ (ap (λ (us : List Entry). take (base + n) us) same ∙ take-take (base + n) m units' h) in
+    ∙ (ap (λ (us : List Entry). take (base + n) us) same ∙ take-take (base + n) m units' h) in
     sym (drop-take base n units) ∙ (ap (λ (us : List Entry). drop base us) narrow ∙ drop-take base n units')
 
 -- each value takes a unit at least
@@ -83,8 +83,11 @@ pub top_of-drop-stack_of : (units : List Entry) (base n k : ℕ) (e : Entry) →
 top_of-drop-stack_of units base n k e h read =
     let place : base + (n - k) - 1 ≡ base + (n - k - 1) = omega arith in
     let found : Entry → Result Value Fault = λ x. Ok (value_in x) in
-    rw (drop-stack_of units base n k (omega arith), stack_of-suc units base (n - k) (omega arith),
-        place) (ap found read)
+    rw (
+      drop-stack_of units base n k (omega arith),
+      stack_of-suc units base (n - k) (omega arith),
+      place,
+    ) (ap found read)
 
 -- there is no such value
 pub top_of-drop_all-stack_of : (units : List Entry) (base n k : ℕ) → n ≤ k → Err StackEmpty
@@ -115,5 +118,12 @@ units_of-pos (Int z) = omega arith
 units_of-pos (Long z) = omega arith
 units_of-pos (Ref r) = omega arith
 
-pub ruleset stacks = (length-stack_of, stack_of-suc, stack_of-set, stack_of-set_below, drop-stack_of, drop_all-stack_of,
-    stack_of-push)
+pub ruleset stacks = (
+  length-stack_of,
+  stack_of-suc,
+  stack_of-set,
+  stack_of-set_below,
+  drop-stack_of,
+  drop_all-stack_of,
+  stack_of-push,
+)

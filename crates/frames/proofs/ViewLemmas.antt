@@ -15,11 +15,18 @@ use Rattle.frames.proofs.ArgumentLemmas.{stack_of-between}
 pub frame_of-copies : (units : List Entry) (a : Activation) (locals : List Entry) (values : List Value)
     → a.base + a.locals + a.values ≤ length units → locals ≡ take a.locals (drop a.base units)
     → values ≡ map value_in (take a.values (drop (a.base + a.locals) units))
-    → record { method = a.method; pc = a.pc; locals = locals; stack = reverse values; room = a.room;
-    monitor = a.monitor; mark = a.mark } ≡ frame_of units a
+    → record {
+      method = a.method;
+      pc = a.pc;
+      locals = locals;
+      stack = reverse values;
+      room = a.room;
+      monitor = a.monitor;
+      mark = a.mark;
+    } ≡ frame_of units a
 frame_of-copies units a locals values fits locals_are values_are =
     let stack_is : reverse values ≡ stack_of units (a.base + a.locals) a.values = ap reverse values_are
-          ∙ sym (stack_of-between units (a.base + a.locals) a.values fits) in
+    ∙ sym (stack_of-between units (a.base + a.locals) a.values fits) in
     cc
 
 -- one frame more

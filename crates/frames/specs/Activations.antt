@@ -10,8 +10,17 @@ all_of below running (suc n) = take n below ++ running ∷ []
 
 -- where there is none, an activation that no program has
 abbrev pub no_activation : Activation
-no_activation = record { method = record { class = 0; method = 0 }; pc = 0; base = 0; locals = 0; values = 0; room = 0;
-    taken = 0; monitor = None; mark = Unmarked }
+no_activation = record {
+  method = record { class = 0; method = 0 };
+  pc = 0;
+  base = 0;
+  locals = 0;
+  values = 0;
+  room = 0;
+  taken = 0;
+  monitor = None;
+  mark = Unmarked;
+}
 
 -- the last activation
 abbrev pub last_of : List Activation → Activation

@@ -6,8 +6,14 @@ use Rattle.frames.specs.declared.heads.FrameHead.{FrameHead}
 
 -- what is told of a frame beside its locals and the values on its stack
 abbrev pub head_of : Frame → FrameHead
-head_of f = record { method = f.method; pc = f.pc; taken = units_of_all f.stack; room = f.room; monitor = f.monitor;
-    mark = f.mark }
+head_of f = record {
+  method = f.method;
+  pc = f.pc;
+  taken = units_of_all f.stack;
+  room = f.room;
+  monitor = f.monitor;
+  mark = f.mark;
+}
 
 -- the same of a thread's frame, frames being counted from the outermost; none where there is no such frame
 abbrev pub head_at : List Frame → ℕ → Option FrameHead

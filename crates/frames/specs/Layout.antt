@@ -18,8 +18,15 @@ values_between units from count = map value_in (take count (drop from units))
 
 -- the frame that an activation stands for
 abbrev pub frame_of : List Entry → Activation → Frame
-frame_of units a = record { method = a.method; pc = a.pc; locals = take a.locals (drop a.base units);
-    stack = stack_of units (a.base + a.locals) a.values; room = a.room; monitor = a.monitor; mark = a.mark }
+frame_of units a = record {
+  method = a.method;
+  pc = a.pc;
+  locals = take a.locals (drop a.base units);
+  stack = stack_of units (a.base + a.locals) a.values;
+  room = a.room;
+  monitor = a.monitor;
+  mark = a.mark;
+}
 
 -- an activation begins at this unit, and its stack is within its room
 pub record Stands (units : List Entry) (base : ℕ) (a : Activation) : Type 0 where

@@ -32,7 +32,7 @@ more-world worker gc (suc n) v =
     let done = is_done answer in
     let w = after_round v worker gc in
     ap (λ (x : Recorded). if done then after_more x (Both gc) worker n else x) (swept-if answer (picked v worker) worker
-        gc)
+    gc)
     ∙ ap (λ (x : Recorded). if done then x else w) (more-world worker gc n w)
 
 pub more-answer : (worker gc n : ℕ) (v : Recorded) → answer_more v (Both gc) worker n
@@ -43,7 +43,7 @@ more-answer worker gc (suc n) v =
     let done = is_done answer in
     let w = after_round v worker gc in
     ap (λ (x : Recorded). if done then answer_more x (Both gc) worker n else done_so_far answer)
-        (swept-if answer (picked v worker) worker gc)
+    (swept-if answer (picked v worker) worker gc)
     ∙ ap (λ (x : Turn). if done then x else done_so_far answer) (more-answer worker gc n w)
     ∙ so-far done (thread_rounds_answer w worker gc n) answer
 

@@ -96,7 +96,7 @@ adds_on u v w worker m n a b = record {
   world_is =
       b.world_is ∙ ap (λ (x : Recorded). with_rows x b.rows) a.world_is
       ∙ ap (λ (rows : List Row). record u { journal = record u.journal { rows = rows } })
-          (append_assoc u.journal.rows a.rows b.rows);
+      (append_assoc u.journal.rows a.rows b.rows);
   own = All-append (λ (row : Row). row.worker ≡ worker) a.rows b.rows a.own b.own;
   long = length-append a.rows b.rows ∙ (let p = a.long in let q = b.long in omega arith);
 }
@@ -112,7 +112,7 @@ adds_length v w worker n a =
 
 by_refusal : (v after : Recorded) (actor : Actor) (worker : ℕ) (refused : Option Turn) → MakesNone refused
     → Adds v (with_row v (row_unless_refused v.program (machine_of v) actor worker refused)) worker
-        (rows_by (answer_unless_refused after refused))
+    (rows_by (answer_unless_refused after refused))
 by_refusal v after actor worker None none = adds_one v _ _ (reported_one (machine_of after).world.fault)
 by_refusal v after actor worker (Some t) none = adds_none v worker _ none
 
@@ -150,7 +150,7 @@ module _ (v w : Recorded) (worker : ℕ) (t : Turn) (adds : Adds v w worker (row
     role_is = ap (λ (s : ShareValue). s.role) e;
     burst_is = ap (λ (s : ShareValue). s.burst) e;
     count_is = (let c : after.count ≡ before.count + rows_by t = ap (λ (s : ShareValue). s.count) e
-                      in let l = turn_length in omega arith);
+        in let l = turn_length in omega arith);
   }
 
 -- ---- a role's turn
@@ -171,8 +171,11 @@ record AddsFew (v w : Recorded) (worker most : ℕ) : Type 0 where
 
 once_if : (v : Recorded) (worker : ℕ) (running : Bool) → AddsFew v (if running then after_turn_by v Collector worker
     else v) worker 1
-once_if v worker true = record { n = rows_by (answer_to v Collector worker); few = small (answer_to v Collector worker);
-    adds = turn_adds v Collector worker }
+once_if v worker true = record {
+  n = rows_by (answer_to v Collector worker);
+  few = small (answer_to v Collector worker);
+  adds = turn_adds v Collector worker;
+}
 once_if v worker false = record { n = 0; few = omega arith; adds = adds_none v worker 0 refl }
 
 collections_add : (worker n : ℕ) (v : Recorded) → AddsFew v (collections v worker n) worker n
@@ -228,9 +231,12 @@ both_adds : (v u : Recorded) (gc worker : ℕ) (t : Turn) → Adds v u worker (r
     → OnceAdds v (swept_after t u worker gc) (Both gc) t worker
 both_adds v u gc worker Done a =
     let rest = swept_adds worker gc u in
-    record { n = 1 + rest.n; rises = (omega arith, (let f = rest.few in omega arith));
-                                                          adds = adds_on v u (swept u worker gc) worker 1 rest.n a
-                                                          rest.adds }
+    record {
+      n = 1 + rest.n;
+      rises = (omega arith, (let f = rest.few in omega arith));
+      adds = adds_on v u (swept u worker gc) worker 1 rest.n a
+          rest.adds;
+    }
 both_adds v u gc worker (Fault f) a = role_once v u (Both gc) (Fault f) worker a
 both_adds v u gc worker NotReady a = role_once v u (Both gc) NotReady worker a
 both_adds v u gc worker Stopped a = role_once v u (Both gc) Stopped worker a
@@ -239,7 +245,7 @@ both_adds v u gc worker StepLimit a = role_once v u (Both gc) StepLimit worker a
 
 collected_if : (v : Recorded) (worker : ℕ) (last : Bool)
     → Adds v (if last then v else after_turn_by v Collector worker) worker (rows_by (if last then NotReady
-        else answer_to v Collector worker))
+    else answer_to v Collector worker))
 collected_if v worker true = adds_none v worker 0 refl
 collected_if v worker false = turn_adds v Collector worker
 
@@ -281,29 +287,44 @@ grown role extra d n StepLimit few h = omega arith
 more_if : (v u : Recorded) (role : Role) (worker extra : ℕ) (t : Turn) → OnceAdds v u role t worker
     → MoreAdds u (after_more u role worker extra) role extra (answer_more u role worker extra) worker
     → MoreAdds v (if is_done t then after_more u role worker extra else u) role (suc extra) (if is_done t
-        then answer_more u role worker extra else done_so_far t) worker
+    then answer_more u role worker extra else done_so_far t) worker
 more_if v u role worker extra Done once rest = record {
   n = once.n + rest.n;
   rises = grown role extra once.n rest.n (answer_more u role worker extra) once.rises.1 rest.rises;
   adds = adds_on v u (after_more u role worker extra) worker once.n rest.n once.adds rest.adds;
 }
-more_if v u role worker extra (Fault f) once rest = record { n = once.n;
-    rises = (let e = once.rises in omega arith, let e = once.rises in omega arith); adds = once.adds }
-more_if v u role worker extra NotReady once rest = record { n = once.n;
-    rises = (let e = once.rises in omega arith); adds = once.adds }
-more_if v u role worker extra Stopped once rest = record { n = once.n;
-    rises = (let e = once.rises in omega arith); adds = once.adds }
-more_if v u role worker extra OutputFull once rest = record { n = once.n;
-    rises = (let e = once.rises in omega arith); adds = once.adds }
-more_if v u role worker extra StepLimit once rest = record { n = once.n;
-    rises = (let e = once.rises in omega arith); adds = once.adds }
+more_if v u role worker extra (Fault f) once rest = record {
+  n = once.n;
+  rises = (let e = once.rises in omega arith, let e = once.rises in omega arith);
+  adds = once.adds;
+}
+more_if v u role worker extra NotReady once rest = record {
+  n = once.n;
+  rises = (let e = once.rises in omega arith);
+  adds = once.adds;
+}
+more_if v u role worker extra Stopped once rest = record {
+  n = once.n;
+  rises = (let e = once.rises in omega arith);
+  adds = once.adds;
+}
+more_if v u role worker extra OutputFull once rest = record {
+  n = once.n;
+  rises = (let e = once.rises in omega arith);
+  adds = once.adds;
+}
+more_if v u role worker extra StepLimit once rest = record {
+  n = once.n;
+  rises = (let e = once.rises in omega arith);
+  adds = once.adds;
+}
 
 more_adds : (role : Role) (worker extra : ℕ) (v : Recorded)
     → MoreAdds v (after_more v role worker extra) role extra (answer_more v role worker extra) worker
 more_adds role worker zero v = record { n = 0; rises = omega arith; adds = adds_none v worker 0 refl }
 more_adds role worker (suc extra) v =
     more_if v (after_allowed v role worker) role worker extra (answer_allowed v role worker)
-        (allowed_adds v role worker)
+    (allowed_adds v role worker)
     (more_adds role worker extra (after_allowed v role worker))
 
 -- ---- more than so many rounds
@@ -324,7 +345,7 @@ more_on : (role : Role) (e k m n : ℕ) (t : Turn) → RisesMore role e Done m �
     → RisesMore role (e + k) t (m + n)
 more_on role e k m n Done few h = let sum = times_plus e k (1 + gc_of role) in omega arith
 more_on role e k m n (Fault f) few h = let sum = times_plus e k (1 + gc_of role)
-                                             in (let a = h.0 in omega arith, let b = h.1 in omega arith)
+    in (let a = h.0 in omega arith, let b = h.1 in omega arith)
 more_on role e k m n NotReady few h = absurd h
 more_on role e k m n Stopped few h = let sum = times_plus e k (1 + gc_of role) in omega arith
 more_on role e k m n OutputFull few h = let sum = times_plus e k (1 + gc_of role) in omega arith
@@ -333,7 +354,7 @@ more_on role e k m n StepLimit few h = let sum = times_plus e k (1 + gc_of role)
 more_wide : (role : Role) (e k n : ℕ) (t : Turn) → RisesMore role e t n → RisesMore role (e + k) t n
 more_wide role e k n Done h = let sum = times_plus e k (1 + gc_of role) in omega arith
 more_wide role e k n (Fault f) h = let sum = times_plus e k (1 + gc_of role)
-                                         in (let a = h.0 in omega arith, let b = h.1 in omega arith)
+    in (let a = h.0 in omega arith, let b = h.1 in omega arith)
 more_wide role e k n NotReady h = absurd h
 more_wide role e k n Stopped h = let sum = times_plus e k (1 + gc_of role) in omega arith
 more_wide role e k n OutputFull h = let sum = times_plus e k (1 + gc_of role) in omega arith
@@ -359,9 +380,9 @@ thread_rounds : (worker n : ℕ) (v : Recorded) → after_thread_rounds v worker
 thread_rounds worker zero v = refl
 thread_rounds worker (suc n) v =
     ap (λ (u : Recorded). if is_done (picked_answer v worker) then after_thread_rounds u worker 0 n
-        else u) (thread_round v worker)
+    else u) (thread_round v worker)
     ∙ ap (λ (w : Recorded). if is_done (picked_answer v worker) then w else after_allowed v Carrier worker)
-        (thread_rounds worker n (after_allowed v Carrier worker))
+    (thread_rounds worker n (after_allowed v Carrier worker))
 
 done_if : (d : Bool) (a b c : Turn) → done_so_far a ≡ c → done_so_far (if d then a else b)
     ≡ (if d then c else done_so_far b)
@@ -373,9 +394,9 @@ thread_answers : (worker n : ℕ) (v : Recorded) → done_so_far (thread_rounds_
 thread_answers worker zero v = refl
 thread_answers worker (suc n) v =
     done_if (is_done (picked_answer v worker)) (thread_rounds_answer (after_round v worker 0) worker 0 n)
-        (picked_answer v worker) (answer_more (after_allowed v Carrier worker) Carrier worker n)
+    (picked_answer v worker) (answer_more (after_allowed v Carrier worker) Carrier worker n)
     (ap (λ (u : Recorded). done_so_far (thread_rounds_answer u worker 0 n)) (thread_round v worker)
-        ∙ thread_answers worker n (after_allowed v Carrier worker))
+    ∙ thread_answers worker n (after_allowed v Carrier worker))
 
 carried_on : (worker extra : ℕ) (v : Recorded) → MoreAdds v (after_thread_rounds v worker 0 extra) Carrier extra
     (done_so_far (thread_rounds_answer v worker 0 extra)) worker
@@ -390,8 +411,11 @@ module _ (v u w : Recorded) (worker e k b c : ℕ) (t : Turn) where
     where
       by_births : (below : Bool) → MoreAdds v (if below then w else u) Carrier (e + k) (if below then t else Done)
           worker
-      by_births true = record { n = one.n + rest.n; rises = more_on Carrier e k one.n rest.n t one.rises rest.rises;
-          adds = adds_on v u w worker one.n rest.n one.adds rest.adds }
+      by_births true = record {
+        n = one.n + rest.n;
+        rises = more_on Carrier e k one.n rest.n t one.rises rest.rises;
+        adds = adds_on v u w worker one.n rest.n one.adds rest.adds;
+      }
       by_births false = wide_more v u Carrier e k Done worker one
   burst_if (Fault f) one rest = wide_more v u Carrier e k (Fault f) worker one
   burst_if NotReady one rest = wide_more v u Carrier e k Done worker one
@@ -403,14 +427,14 @@ bursts_add : (worker due extra again : ℕ) (v : Recorded) → MoreAdds v (after
     (times (suc again) extra) (answer_bursts v worker due extra again) worker
 bursts_add worker due extra zero v =
     wide_more v (after_thread_rounds v worker 0 extra) Carrier extra 0
-        (done_so_far (thread_rounds_answer v worker 0 extra)) worker (carried_on worker extra v)
+    (done_so_far (thread_rounds_answer v worker 0 extra)) worker (carried_on worker extra v)
 bursts_add worker due extra (suc again) v =
     burst_if v (after_thread_rounds v worker 0 extra) (after_bursts (after_thread_rounds v worker 0 extra) worker due
-        extra again) worker extra (times (suc again) extra)
+    extra again) worker extra (times (suc again) extra)
     (next_birth_of (after_thread_rounds v worker 0 extra)) due (answer_bursts (after_thread_rounds v worker 0 extra)
-        worker due extra again)
+    worker due extra again)
     (thread_rounds_answer v worker 0 extra) (carried_on worker extra v)
-        (bursts_add worker due extra again (after_thread_rounds v worker 0 extra))
+    (bursts_add worker due extra again (after_thread_rounds v worker 0 extra))
 
 -- ---- a role's turn
 
@@ -438,8 +462,11 @@ module _ (v u w : Recorded) (role : Role) (worker extra : ℕ) (answer : Turn) w
     rises = whole role extra once.n rest.n answer once.rises rest.rises;
     adds = adds_on v u w worker once.n rest.n once.adds rest.adds;
   }
-  rounds_if (Fault f) once rest = record { n = once.n;
-      rises = (let e = once.rises in omega arith, let e = once.rises in omega arith); adds = once.adds }
+  rounds_if (Fault f) once rest = record {
+    n = once.n;
+    rises = (let e = once.rises in omega arith, let e = once.rises in omega arith);
+    adds = once.adds;
+  }
   rounds_if NotReady once rest = record { n = once.n; rises = once.rises; adds = once.adds }
   rounds_if Stopped once rest = record { n = once.n; rises = (let e = once.rises in omega arith); adds = once.adds }
   rounds_if OutputFull once rest = record { n = once.n; rises = (let e = once.rises in omega arith); adds = once.adds }
@@ -449,9 +476,9 @@ rounds_add : (v : Recorded) (role : Role) (worker extra : ℕ) → RoleAdds v (a
     (answer_rounds v role worker extra) worker
 rounds_add v role worker extra =
     rounds_if v (after_allowed v role worker) (after_more (after_allowed v role worker) role worker extra) role worker
-        extra
+    extra
     (answer_more (after_allowed v role worker) role worker extra) (answer_allowed v role worker)
-        (allowed_adds v role worker)
+    (allowed_adds v role worker)
     (more_adds role worker extra (after_allowed v role worker))
 
 carried_add : (v : Recorded) (worker : ℕ) (burst : Burst) (due : ℕ)
@@ -459,9 +486,9 @@ carried_add : (v : Recorded) (worker : ℕ) (burst : Burst) (due : ℕ)
     (answer_carried v worker burst due) worker
 carried_add v worker burst due =
     rounds_if v (after_allowed v Carrier worker) (after_bursts (after_allowed v Carrier worker) worker due burst.extra
-        burst.again) Carrier worker (following Carrier burst)
+    burst.again) Carrier worker (following Carrier burst)
     (answer_bursts (after_allowed v Carrier worker) worker due burst.extra burst.again)
-        (answer_allowed v Carrier worker) (allowed_adds v Carrier worker)
+    (answer_allowed v Carrier worker) (allowed_adds v Carrier worker)
     (bursts_add worker due burst.extra burst.again (after_allowed v Carrier worker))
 
 times_one : (n : ℕ) → times n 1 ≡ n
@@ -491,9 +518,12 @@ following_cycled : (v u : Recorded) (worker most : ℕ) (t : Turn) → Adds v u 
 following_cycled v u worker most Done a =
     let rest = cycled_adds worker most u in
     let ones = times_one most in
-    record { n = 1 + rest.n; rises = (omega arith, (let f = rest.few in omega arith));
-                                                          adds = adds_on v u (cycled u worker most) worker 1 rest.n a
-                                                          rest.adds }
+    record {
+      n = 1 + rest.n;
+      rises = (omega arith, (let f = rest.few in omega arith));
+      adds = adds_on v u (cycled u worker most) worker 1 rest.n a
+          rest.adds;
+    }
 following_cycled v u worker most (Fault f) a = record { n = 1; rises = (omega arith, omega arith); adds = a }
 following_cycled v u worker most NotReady a = record { n = 0; rises = refl; adds = a }
 following_cycled v u worker most Stopped a = record { n = 0; rises = omega arith; adds = a }
@@ -502,22 +532,22 @@ following_cycled v u worker most StepLimit a = record { n = 0; rises = omega ari
 
 known_adds : (v : Recorded) (role : Role) (worker : ℕ) (burst : Burst) (due : ℕ)
     → RoleAdds v (after_known v role worker burst due) role (following role burst)
-        (answer_known v role worker burst due) worker
+    (answer_known v role worker burst due) worker
 known_adds v Carrier worker burst due = carried_add v worker burst due
 known_adds v Collecting worker burst due =
     following_cycled v (collected v worker) worker burst.sweep (collected_answer v worker)
-        (collected_if v worker (last_is_collector v))
+    (collected_if v worker (last_is_collector v))
 known_adds v (Both gc) worker burst due = rounds_add v (Both gc) worker burst.extra
 
 known_if : (v : Recorded) (role : Role) (worker : ℕ) (burst : Burst) (due : ℕ) (known : Bool)
     → RoleAdds v (if known then after_known v role worker burst due else v) role (following role burst) (if known
-        then answer_known v role worker burst due else NotReady) worker
+    then answer_known v role worker burst due else NotReady) worker
 known_if v role worker burst due true = known_adds v role worker burst due
 known_if v role worker burst due false = record { n = 0; rises = refl; adds = adds_none v worker 0 refl }
 
 role_adds : (v : Recorded) (role : Role) (worker : ℕ) (burst : Burst) (due : ℕ)
     → RoleAdds v (after_role v role worker burst due) role (following role burst) (answer_role v role worker burst due)
-        worker
+    worker
 unfolding after_role answer_role
 role_adds v role worker burst due = known_if v role worker burst due (nat_lt worker v.journal.workers)
 
@@ -557,8 +587,12 @@ counted v w answer before after t = record { n = length t.rows; rises = t.rises;
 
 -- a turn that isn't taken
 pub counts_nothing : (share : ShareValue) → Counts NotReady share share
-counts_nothing share = record { n = 0; rises = refl; share_is = share_same share (counted_on share 0) refl refl refl
-    (omega arith) }
+counts_nothing share = record {
+  n = 0;
+  rises = refl;
+  share_is = share_same share (counted_on share 0) refl refl refl
+      (omega arith);
+}
 
 -- ---- counting step by step
 
@@ -605,7 +639,7 @@ rounds_longer v w worker gc extra is =
     let more = all_on worker gc extra v in
     let long = adds_length v (after_thread_rounds v worker gc extra) worker more.n more.adds in
     let same : length w.journal.rows ≡ length (after_thread_rounds v worker gc extra).journal.rows = ap
-          (λ (x : Recorded). length x.journal.rows) is in
+    (λ (x : Recorded). length x.journal.rows) is in
     omega (arith, long, same)
 
 pub rounds_counted : (v w : Recorded) (worker gc extra made : ℕ) (before after : ShareValue)
@@ -620,7 +654,7 @@ rounds_counted v w worker gc extra made before after is sum e =
       role_is = ap (λ (s : ShareValue). s.role) e;
       burst_is = ap (λ (s : ShareValue). s.burst) e;
       count_is = (let c : after.count ≡ before.count + made = ap (λ (s : ShareValue). s.count) e
-                        in omega (arith, c, sum));
+          in omega (arith, c, sum));
     }
 
 -- ---- bursts, seen from their first one
@@ -642,7 +676,7 @@ module _ (v w : Recorded) (worker due extra again i : ℕ) (lt : i < again) (t :
   bursts_left on =
       ap (after_bursts v worker due extra) left
       ∙ ap (λ (b : Bool). if b then after_bursts (after_thread_rounds v worker 0 extra) worker due extra
-          (again - (i + 1)) else after_thread_rounds v worker 0 extra) (further ∙ on)
+      (again - (i + 1)) else after_thread_rounds v worker 0 extra) (further ∙ on)
       ∙ ap (λ (x : Recorded). after_bursts x worker due extra (again - (i + 1))) (sym is)
 
   pub answers_left : goes_on t (next_birth_of w) due ≡ true → answer_bursts v worker due extra (again - i)
@@ -650,7 +684,7 @@ module _ (v w : Recorded) (worker due extra again i : ℕ) (lt : i < again) (t :
   answers_left on =
       ap (answer_bursts v worker due extra) left
       ∙ ap (λ (b : Bool). if b then answer_bursts (after_thread_rounds v worker 0 extra) worker due extra
-          (again - (i + 1)) else done_so_far (thread_rounds_answer v worker 0 extra)) (further ∙ on)
+      (again - (i + 1)) else done_so_far (thread_rounds_answer v worker 0 extra)) (further ∙ on)
       ∙ ap (λ (x : Recorded). answer_bursts x worker due extra (again - (i + 1))) (sym is)
 
   -- and where they end
@@ -658,7 +692,7 @@ module _ (v w : Recorded) (worker due extra again i : ℕ) (lt : i < again) (t :
   bursts_end off =
       ap (after_bursts v worker due extra) left
       ∙ ap (λ (b : Bool). if b then after_bursts (after_thread_rounds v worker 0 extra) worker due extra
-          (again - (i + 1)) else after_thread_rounds v worker 0 extra) (further ∙ off)
+      (again - (i + 1)) else after_thread_rounds v worker 0 extra) (further ∙ off)
       ∙ sym is
 
   pub answers_end : goes_on t (next_birth_of w) due ≡ false → answer_bursts v worker due extra (again - i)
@@ -666,5 +700,5 @@ module _ (v w : Recorded) (worker due extra again i : ℕ) (lt : i < again) (t :
   answers_end off =
       ap (answer_bursts v worker due extra) left
       ∙ ap (λ (b : Bool). if b then answer_bursts (after_thread_rounds v worker 0 extra) worker due extra
-          (again - (i + 1)) else done_so_far (thread_rounds_answer v worker 0 extra)) (further ∙ off)
+      (again - (i + 1)) else done_so_far (thread_rounds_answer v worker 0 extra)) (further ∙ off)
       ∙ ap done_so_far (sym reported)

@@ -26,8 +26,11 @@ left [] [] i y all at = absurd (none-some y at)
 left [] (b ∷ ys) i y all at = absurd all
 left (a ∷ xs) [] i y all at = absurd all
 left (a ∷ xs) (b ∷ ys) zero y all at = record { seat = a; at = refl; same = subst (IsSameSeat a) (inside b y at) all.0 }
-left (a ∷ xs) (b ∷ ys) (suc i) y all at = let l = left xs ys i y all.1 at in record { seat = l.seat; at = l.at;
-                                                same = l.same }
+left (a ∷ xs) (b ∷ ys) (suc i) y all at = let l = left xs ys i y all.1 at in record {
+  seat = l.seat;
+  at = l.at;
+  same = l.same;
+}
 
 module _ (board : Board) (seats home : List BoardSeat) (all : AreAllSeats board seats)
     (same : Pairwise IsSameSeat seats home) where
@@ -64,4 +67,4 @@ module _ {A : Type 0} where
   of_last P all xs x is h =
       let l = length-append xs (x ∷ []) in
       subst P (ap (λ (zs : List A). get_or zs (length xs) x) is ∙ get_or_push xs x x (length xs) refl)
-          (h (length xs) x (rw is (omega arith)))
+      (h (length xs) x (rw is (omega arith)))

@@ -12,5 +12,9 @@ pub record Head : Type 0 where
   pub workers : ℕ
 
 abbrev pub head_of : Recorded → Head
-head_of v = record { program = v.program; shape = v.journal.shape; limits = v.journal.limits;
-    workers = v.journal.workers }
+head_of v = record {
+  program = v.program;
+  shape = v.journal.shape;
+  limits = v.journal.limits;
+  workers = v.journal.workers;
+}

@@ -79,7 +79,7 @@ abbrev pub after_more : Recorded → Role → ℕ → ℕ → Recorded
 after_more v role worker zero = v
 after_more v role worker (suc n) =
     if is_done (answer_allowed v role worker) then after_more (after_allowed v role worker) role worker n
-        else after_allowed v role worker
+    else after_allowed v role worker
 
 abbrev pub answer_more : Recorded → Role → ℕ → ℕ → Turn
 answer_more v role worker zero = Done
@@ -91,12 +91,12 @@ answer_more v role worker (suc n) =
 abbrev pub after_rounds : Recorded → Role → ℕ → ℕ → Recorded
 after_rounds v role worker extra =
     if is_done (answer_allowed v role worker) then after_more (after_allowed v role worker) role worker extra
-        else after_allowed v role worker
+    else after_allowed v role worker
 
 abbrev pub answer_rounds : Recorded → Role → ℕ → ℕ → Turn
 answer_rounds v role worker extra =
     if is_done (answer_allowed v role worker) then answer_more (after_allowed v role worker) role worker extra
-        else answer_allowed v role worker
+    else answer_allowed v role worker
 
 -- ---- a carrier's rounds after its first, again and again while all were done and no collection is due
 
@@ -110,25 +110,25 @@ after_bursts v worker due extra zero = after_thread_rounds v worker 0 extra
 after_bursts v worker due extra (suc again) =
     if goes_on (thread_rounds_answer v worker 0 extra) (next_birth_of (after_thread_rounds v worker 0 extra)) due
     then after_bursts (after_thread_rounds v worker 0 extra) worker due extra again
-        else after_thread_rounds v worker 0 extra
+    else after_thread_rounds v worker 0 extra
 
 abbrev pub answer_bursts : Recorded → ℕ → ℕ → ℕ → ℕ → Turn
 answer_bursts v worker due extra zero = done_so_far (thread_rounds_answer v worker 0 extra)
 answer_bursts v worker due extra (suc again) =
     if goes_on (thread_rounds_answer v worker 0 extra) (next_birth_of (after_thread_rounds v worker 0 extra)) due
     then answer_bursts (after_thread_rounds v worker 0 extra) worker due extra again
-        else done_so_far (thread_rounds_answer v worker 0 extra)
+    else done_so_far (thread_rounds_answer v worker 0 extra)
 
 abbrev pub after_carried : Recorded → ℕ → Burst → ℕ → Recorded
 after_carried v worker burst due =
     if is_done (answer_allowed v Carrier worker) then after_bursts (after_allowed v Carrier worker) worker due
-        burst.extra burst.again
+    burst.extra burst.again
     else after_allowed v Carrier worker
 
 abbrev pub answer_carried : Recorded → ℕ → Burst → ℕ → Turn
 answer_carried v worker burst due =
     if is_done (answer_allowed v Carrier worker) then answer_bursts (after_allowed v Carrier worker) worker due
-        burst.extra burst.again
+    burst.extra burst.again
     else answer_allowed v Carrier worker
 
 -- ---- a collector's turns after its first, until a cycle ends, each if the world is running

@@ -78,15 +78,15 @@ module _ (program : List ClassListing) where
       let own = neither (refused_by BuiltinName (find has_builtin_name program)) from_classes e in
       let classes = neither (refused_by ClassTwice (find (is_class_twice program) program)) from_missing own.1 in
       let missing = neither (refused_by MissingSuperclass (find (has_missing_parent program) program)) from_cycles
-            classes.1 in
+      classes.1 in
       let cycles = neither (refused_by Cycle (find (is_on_cycle program) program)) from_wrong missing.1 in
       let wrong = neither (refused_by WrongSuperclass (find (has_wrong_parent program) program)) from_members cycles.1
-            in
+      in
       let members = neither (refused_by MemberTwice (find has_member_twice program)) from_refused wrong.1 in
       let refused = neither (refused_by RefusedMember (find (has_refused_member program) program)) from_references
-            members.1 in
+      members.1 in
       let references = neither (refused_by UnresolvedReference (find (has_unresolved program) program)) from_rows
-            refused.1 in
+      refused.1 in
       let rows = neither (refused_by BadExceptionRow (find (has_bad_row program) program)) last references.1 in
       let limits = neither (refused_by LimitPassed (first_past_limits program)) (refused_main program) rows.1 in
       record {
@@ -130,7 +130,7 @@ module _ (program : List ClassListing) where
       ∙ none-any-at (λ (m : Method). passes_limits m m.code) c.methods k m
       (methods-fit c (not-large n c free.limits at)) here in
       let both = either-false (nat_lt code.max_locals (units_to_begin m))
-            (nat_lt 4096 (code.max_locals + code.max_stack)) fits in
+      (nat_lt 4096 (code.max_locals + code.max_stack)) fits in
       record {
         arguments = ltb-false code.max_locals (units_to_begin m) both.0;
         frame = ltb-false 4096 (code.max_locals + code.max_stack) both.1;

@@ -386,8 +386,8 @@ opening_agrees shape o o' fits =
 
 pub taken_among : {K : Type 0} (cells : List Cell) (objects : List (Option (StoredObject K))) (o : Option (ℕ × Account))
     → map is_taken cells ≡ map is_some objects → IfSome o (λ taken. taken.0 < length cells)
-        → IfSome o (λ taken. taken.0 < length objects)
+    → IfSome o (λ taken. taken.0 < length objects)
 taken_among cells objects o same among =
     let count : length cells ≡ length objects = sym (length-map cells is_taken) ∙ ap length same
-          ∙ length-map objects is_some in
+    ∙ length-map objects is_some in
     subst (λ n. IfSome o (λ taken. taken.0 < n)) count among

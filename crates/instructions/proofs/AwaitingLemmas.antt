@@ -230,7 +230,7 @@ call_waits courses s h shown alike (operation.Invokevirtual class selector) e =
     selected courses s h shown alike class (slice_get (selectors s.program) selector)
 call_waits courses s h shown alike (operation.Invokespecial class declarer method) e =
     let place = place_of_number (declarer, method)
-          in special courses s h shown alike class place (known_at s.program place)
+    in special courses s h shown alike class place (known_at s.program place)
 call_waits courses s h shown alike (operation.Invokenone class declarer method) e =
     none courses s h shown alike class (known_at s.program (place_of_number (declarer, method)))
 call_waits courses s h shown alike operation.PrintInt e = bytes courses s h shown alike decimal_line

@@ -76,8 +76,8 @@ module _ (program : List ClassListing) (free : Unrefused program) (hides : find 
           let known = methods.known program free hides test d found in
           let static = neither (is_static d.member) (is_private d.member)
           (both (is_pair (codes "run") (codes "()V") d.member.name d.member.descriptor) _
-              (found-test program test d found)).1 in
+          (found-test program test d found)).1 in
           of-known place (method_facts program d.class d.member) known static begun
           (sym (ap (begun_known place birth) known)
-              ∙ sym (ap (λ n. begun_at program birth (option_map place_of_number n))
-              (methods.numbered program free hides test d found)) ∙ k)
+          ∙ sym (ap (λ n. begun_at program birth (option_map place_of_number n))
+          (methods.numbered program free hides test d found)) ∙ k)

@@ -56,7 +56,7 @@ subtype_within : (steps : ℕ) (program : List ClassListing) (name above : List 
 unfolding is_subtype_within
 subtype_within steps program name above plain =
     plain_compare (is_subclass program name above) (bytes_eq above (codes "java/lang/Object"))
-        (λ n m. is_subtype_within steps program n m) (element_of name) (element_of above) plain
+    (λ n m. is_subtype_within steps program n m) (element_of name) (element_of above) plain
 
 pub subtype_subclass : (program : List ClassListing) (name above : List ℕ) → element_of name ≡ None
     → is_subtype program name above ≡ is_subclass program name above
@@ -75,7 +75,7 @@ named_within steps program name above none e = by (bytes_eq name above) refl e
         → name ≡ above
     by true is k = (bytes_eq-Decides name above).0 is
     by false is k = absurd (let empty : list_any (λ parent. is_within steps program parent above)
-                                  (parents_named program name) ≡ false = rw none refl in cc)
+        (parents_named program name) ≡ false = rw none refl in cc)
 
 is_some_else : {A : Type 0} (o : Option A) (x : A) → or_else o (Some x) ≡ None → ⊥
 is_some_else None x e = cc
@@ -95,7 +95,7 @@ catch_number program name e = by (class_named program name) refl
         let more : enough_steps program ≡ suc (length program + 22) = omega arith in
         let below : is_within (suc (length program + 22)) program name (codes "java/lang/Throwable") ≡ true =
         ap (λ n. is_within n program name (codes "java/lang/Throwable")) (sym more)
-            ∙ was-not (is_subclass program name (codes "java/lang/Throwable")) e in
+        ∙ was-not (is_subclass program name (codes "java/lang/Throwable")) e in
         let same = named_within (length program + 22) program name (codes "java/lang/Throwable") is below in
         absurd (throwable_there program (ap (class_named program) (sym same) ∙ is))
 
@@ -107,9 +107,9 @@ own-at program place = following program (length program + place) refl
   where
     following : (cs : List ClassListing) (n : ℕ) → n ≡ length cs + place
         → slice_get (map (λ (c : ClassListing). c.name) cs ++ map (λ (c : ClassListing). c.name) builtin_classes) n
-            ≡ slice_get (map (λ (c : ClassListing). c.name) builtin_classes) place
+        ≡ slice_get (map (λ (c : ClassListing). c.name) builtin_classes) place
     following [] n e = let at : n ≡ place = omega (arith, e)
-                             in ap (slice_get (map (λ (c : ClassListing). c.name) builtin_classes)) at
+        in ap (slice_get (map (λ (c : ClassListing). c.name) builtin_classes)) at
     following (c ∷ cs) zero e = absurd (omega (arith, e))
     following (c ∷ cs) (suc n) e = following cs n (omega (arith, e))
 
@@ -123,7 +123,7 @@ pub class-nowhere : (program : List ClassListing) (class above : ℕ) → slice_
     → is_subtype_in (class_tables program) class above ≡ false
 class-nowhere program class above none =
     ap (is_below above) (slice_get-map (class_facts program) (all_classes program) class
-        ∙ ap (option_map (class_facts program)) none)
+    ∙ ap (option_map (class_facts program)) none)
 
 -- ---- a kind that can be thrown
 
@@ -155,20 +155,20 @@ module _ (program : List ClassListing) (class : ℕ) (listing : ClassListing) (t
 
   rows_are : (pc : ℕ) (code : CodeListing) (rows : List ExceptionRow) → list_any (is_bad_row program code) rows ≡ false
       → handler_in_rows program kind pc (map (row_of program) rows) ≡ option_map (λ (row : ExceptionRow). row.handler)
-          (find (fits program name pc) rows)
+      (find (fits program name pc) rows)
   rows_are pc code [] e = refl
   rows_are pc code (row ∷ rows) e =
       let good = neither (is_bad_row program code row) (list_any (is_bad_row program code) rows) e in
       let throwable = (neither _ (is_no_throwable program row.class) good.0).1 in
       ap (λ b. option_map (λ (row : Row). row.handler) (cond (nat_le row.start pc && nat_lt pc row.end && b)
-          (Some (row_of program row)) (find (row_fits program kind pc) (map (row_of program) rows))))
-          (takes_is row.class throwable)
+      (Some (row_of program row)) (find (row_fits program kind pc) (map (row_of program) rows))))
+      (takes_is row.class throwable)
       ∙ by (fits program name pc row) (rows_are pc code rows good.1)
     where
       by : (b : Bool) → handler_in_rows program kind pc (map (row_of program) rows)
           ≡ option_map (λ (row : ExceptionRow). row.handler) (find (fits program name pc) rows)
           → option_map (λ (row : Row). row.handler)
-              (cond b (Some (row_of program row)) (find (row_fits program kind pc) (map (row_of program) rows)))
+          (cond b (Some (row_of program row)) (find (row_fits program kind pc) (map (row_of program) rows)))
           ≡ option_map (λ (row : ExceptionRow). row.handler) (cond b (Some row) (find (fits program name pc) rows))
       by true rest = refl
       by false rest = rest
@@ -210,11 +210,11 @@ module _ (program : List ClassListing) (class : ℕ) (listing : ClassListing) (t
   pub answer_is : (f : Frame) → response_as (answer_by program kind (head_of f)) ≡ response_of program name f
   answer_is f =
       answers_as (handler_by program kind (head_of f) f.mark) (runs_initializer program f
-          && not (is_kind_below program kind (length program + 3)))
+      && not (is_kind_below program kind (length program + 3)))
       ∙ ap (λ handler. responds handler (runs_initializer program f
-          && not (is_kind_below program kind (length program + 3)))) (handler_is f f.mark)
+      && not (is_kind_below program kind (length program + 3)))) (handler_is f f.mark)
       ∙ ap (λ error. responds (handler_of program name f f.mark) (runs_initializer program f && not error))
-          (below_is (length program + 3) (codes "java/lang/Error") (error-at program))
+      (below_is (length program + 3) (codes "java/lang/Error") (error-at program))
 
 -- of whatever can be thrown
 pub thrown_answers : (program : List ClassListing) (kind : Kind) → refusal_of program ≡ None → IsThrown program kind
@@ -242,7 +242,7 @@ throwable_within : (steps : ℕ) (program : List ClassListing) (name : List ℕ)
 unfolding is_subtype_within
 throwable_within steps program name e =
     compare_array (is_subclass program name (codes "java/lang/Throwable"))
-        (bytes_eq (codes "java/lang/Throwable") (codes "java/lang/Object"))
+    (bytes_eq (codes "java/lang/Throwable") (codes "java/lang/Object"))
     (λ n m. is_subtype_within steps program n m) (element_of name) refl e
 
 pub throwable_plain : (program : List ClassListing) (name : List ℕ)
@@ -250,7 +250,7 @@ pub throwable_plain : (program : List ClassListing) (name : List ℕ)
 throwable_plain program name e =
     let more : suc (length name) ≡ length name + 1 = omega arith in
     throwable_within (length name) program name
-        (ap (λ n. is_subtype_within n program name (codes "java/lang/Throwable")) more ∙ e)
+    (ap (λ n. is_subtype_within n program name (codes "java/lang/Throwable")) more ∙ e)
 
 pub throwable-thrown : (program : List ClassListing) (kind : Kind) → is_throwable program kind ≡ true
     → IsThrown program kind
@@ -260,9 +260,9 @@ throwable-thrown program (Instance class) e = by (slice_get (all_classes program
     by : (o : Option ClassListing) → slice_get (all_classes program) class ≡ o → IsThrown program (Instance class)
     by None is =
         let none : is_throwable program (Instance class) ≡ false = class-nowhere program class (length program + 1) is
-              in cc
+        in cc
     by (Some listing) is =
         thrown class listing is
         (throwable_plain program listing.name
         (sym (subtype-names program class (length program + 1) listing (codes "java/lang/Throwable") is
-            (throwable-at program)) ∙ e))
+        (throwable-at program)) ∙ e))

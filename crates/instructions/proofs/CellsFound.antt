@@ -13,7 +13,7 @@ use Rattle.instructions.specs.HeapsAgree.{is_taken}
 
 pub is_there : {K : Type 0} (cells : List Cell) (objects : List (Option (StoredObject K))) (c b : ℕ) (x : Colour)
     → map is_taken cells ≡ map is_some objects → cell_at cells c ≡ Taken b x → is_some (object_if (slice_get objects c))
-        ≡ true
+    ≡ true
 is_there [] objects c b x taken held = absurd (cc)
 is_there (z ∷ cells) [] c b x taken held = absurd (cc)
 is_there (z ∷ cells) (None ∷ objects) zero b x taken held =
@@ -25,13 +25,13 @@ is_there (z ∷ cells) (o ∷ objects) (suc c) b x taken held = is_there cells o
 
 pub object_there : {K : Type 0} (cells : List Cell) (objects : List (Option (StoredObject K))) (b c : ℕ)
     → map is_taken cells ≡ map is_some objects → cell_from 0 b cells ≡ Some c
-        → is_some (object_if (slice_get objects c)) ≡ true
+    → is_some (object_if (slice_get objects c)) ≡ true
 object_there cells objects b c taken found =
     let held = holding b cells c found in is_there cells objects c b held.0 taken held.1
 
 -- the same of what was found, if something was
 pub found_there : {K : Type 0} (cells : List Cell) (objects : List (Option (StoredObject K))) (b : ℕ) (found : Option ℕ)
     → map is_taken cells ≡ map is_some objects → found ≡ cell_from 0 b cells
-        → IfSome found (λ c. is_some (object_if (slice_get objects c)) ≡ true)
+    → IfSome found (λ c. is_some (object_if (slice_get objects c)) ≡ true)
 found_there cells objects b None taken e = tt
 found_there cells objects b (Some c) taken e = object_there cells objects b c taken (sym e)

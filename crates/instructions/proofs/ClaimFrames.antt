@@ -75,7 +75,7 @@ module _ (program : List ClassListing) where
           → AreLeft (count - (passed + 1)) above
       left-further above above_is =
           let cut : length (class ∷ further) ≡ count - passed = ap (λ (cs : List ℕ). length cs) (sym left-is) ∙ h.whole
-                in
+          in
           subst (AreLeft (count - (passed + 1))) (sym above_is) (record {
             whole = omega (arith, cut, inside);
             listed = (subst (AreBelow (length program)) left-is h.listed).1;
@@ -181,65 +181,65 @@ module _ (program : List ClassListing) (passed count : ℕ) (next : Option ℕ) 
 
   module _ (accepted : refusal_of program ≡ None) (frames whole : List Frame)
       (all : frames ++ callers_waiting (initializer_frames program (rest_of program (count - passed) next)) ≡ whole)
-          where
-    whole-is : frames ++ callers_waiting (opened ∷ later) ≡ whole
-    whole-is = ap (λ fs. frames ++ callers_waiting fs) (sym frames-left) ∙ all
+    where
+      whole-is : frames ++ callers_waiting (opened ∷ later) ≡ whole
+      whole-is = ap (λ fs. frames ++ callers_waiting fs) (sym frames-left) ∙ all
 
-    few-later : length later ≡ count - (passed + 1)
-    few-later =
-        let left = left-further program passed count next inside h class e above above_is in
-        frames-count program (rest_of program (count - (passed + 1)) above) accepted left.listed ∙ left.whole
+      few-later : length later ≡ count - (passed + 1)
+      few-later =
+          let left = left-further program passed count next inside h class e above above_is in
+          frames-count program (rest_of program (count - (passed + 1)) above) accepted left.listed ∙ left.whole
 
-    pub has-room : within_limits whole ≡ true → has_room_for frames locals stack ≡ true
-    has-room fits =
-        let parts = both-true (nat_le (length whole) 256) (nat_le (units_of_frames whole) 4096) fits in
-        let few = leb-true (length whole) 256 parts.0 in
-        let small = leb-true (units_of_frames whole) 4096 parts.1 in
-        let long : length frames + suc (length later) ≡ length whole =
-        ap (λ n. length frames + n) (sym (length-waiting (opened ∷ later)))
-        ∙ sym (length-append frames (callers_waiting (opened ∷ later))) ∙ ap (λ (fs : List Frame). length fs) whole-is
-            in
-        let wide : units_of_frames frames + (locals + stack + units_of_frames later) ≡ units_of_frames whole =
-        ap (λ n. units_of_frames frames + n)
-        (sym (units-waiting (opened ∷ later) ∙ units-opening (initializer_place program class) locals stack later))
-        ∙ sym (units-append frames (callers_waiting (opened ∷ later))) ∙ ap units_of_frames whole-is in
-        and-true (nat_lt (length frames) 256) (nat_le (units_of_frames frames + locals + stack) 4096)
-        (le-leb (suc (length frames)) 256 (omega (arith, few, long)))
-        (le-leb (units_of_frames frames + locals + stack) 4096 (omega (arith, small, wide)))
+      pub has-room : within_limits whole ≡ true → has_room_for frames locals stack ≡ true
+      has-room fits =
+          let parts = both-true (nat_le (length whole) 256) (nat_le (units_of_frames whole) 4096) fits in
+          let few = leb-true (length whole) 256 parts.0 in
+          let small = leb-true (units_of_frames whole) 4096 parts.1 in
+          let long : length frames + suc (length later) ≡ length whole =
+          ap (λ n. length frames + n) (sym (length-waiting (opened ∷ later)))
+          ∙ sym (length-append frames (callers_waiting (opened ∷ later))) ∙ ap (λ (fs : List Frame). length fs) whole-is
+          in
+          let wide : units_of_frames frames + (locals + stack + units_of_frames later) ≡ units_of_frames whole =
+          ap (λ n. units_of_frames frames + n)
+          (sym (units-waiting (opened ∷ later) ∙ units-opening (initializer_place program class) locals stack later))
+          ∙ sym (units-append frames (callers_waiting (opened ∷ later))) ∙ ap units_of_frames whole-is in
+          and-true (nat_lt (length frames) 256) (nat_le (units_of_frames frames + locals + stack) 4096)
+          (le-leb (suc (length frames)) 256 (omega (arith, few, long)))
+          (le-leb (units_of_frames frames + locals + stack) 4096 (omega (arith, small, wide)))
 
-    enters-one : count ≤ passed + 1 → (frames ++ opened ∷ []) ++ callers_waiting later ≡ whole
-    enters-one last =
-        append_assoc frames (opened ∷ []) (callers_waiting later)
-        ∙ ap (λ fs. frames ++ fs) (waits-none opened later (omega (arith, few-later, last))) ∙ whole-is
+      enters-one : count ≤ passed + 1 → (frames ++ opened ∷ []) ++ callers_waiting later ≡ whole
+      enters-one last =
+          append_assoc frames (opened ∷ []) (callers_waiting later)
+          ∙ ap (λ fs. frames ++ fs) (waits-none opened later (omega (arith, few-later, last))) ∙ whole-is
 
-    enters-waiting : passed + 1 < count → (after : List Frame)
-        → after ≡ with_running (frames ++ opened ∷ []) (record (running_frame (frames ++ opened ∷ []))
-            { mark = Waiting })
-        → after ++ callers_waiting later ≡ whole
-    enters-waiting more after is =
-        ap (λ fs. fs ++ callers_waiting later)
-        (is ∙ ap (λ (f : Frame). with_running (frames ++ opened ∷ []) (waiting f)) (running-last frames opened)
-        ∙ with_running-last frames opened (waiting opened))
-        ∙ append_assoc frames (waiting opened ∷ []) (callers_waiting later)
-        ∙ ap (λ fs. frames ++ fs) (waits-first opened later (omega (arith, few-later, more))) ∙ whole-is
+      enters-waiting : passed + 1 < count → (after : List Frame)
+          → after ≡ with_running (frames ++ opened ∷ []) (record (running_frame (frames ++ opened ∷ []))
+          { mark = Waiting })
+          → after ++ callers_waiting later ≡ whole
+      enters-waiting more after is =
+          ap (λ fs. fs ++ callers_waiting later)
+          (is ∙ ap (λ (f : Frame). with_running (frames ++ opened ∷ []) (waiting f)) (running-last frames opened)
+          ∙ with_running-last frames opened (waiting opened))
+          ∙ append_assoc frames (waiting opened ∷ []) (callers_waiting later)
+          ∙ ap (λ fs. frames ++ fs) (waits-first opened later (omega (arith, few-later, more))) ∙ whole-is
 
-    pub enters-last : (place : MethodPlace) → place ≡ initializer_place program class → (after : List Frame)
-        → after ≡ frames ++ opening_frame place locals stack ∷ [] → count ≤ passed + 1
-        → after ++ callers_waiting later ≡ whole
-    enters-last place placed after is last =
-        ap (λ fs. fs ++ callers_waiting later)
-        (is ∙ ap (λ place. frames ++ opening_frame place locals stack ∷ []) placed)
-        ∙ enters-one last
+      pub enters-last : (place : MethodPlace) → place ≡ initializer_place program class → (after : List Frame)
+          → after ≡ frames ++ opening_frame place locals stack ∷ [] → count ≤ passed + 1
+          → after ++ callers_waiting later ≡ whole
+      enters-last place placed after is last =
+          ap (λ fs. fs ++ callers_waiting later)
+          (is ∙ ap (λ place. frames ++ opening_frame place locals stack ∷ []) placed)
+          ∙ enters-one last
 
-    pub enters-more : (place : MethodPlace) → place ≡ initializer_place program class → (entered after : List Frame)
-        → entered ≡ frames ++ opening_frame place locals stack ∷ []
-        → after ≡ with_running entered (record (running_frame entered) { mark = Waiting }) → passed + 1 < count
-        → after ++ callers_waiting later ≡ whole
-    enters-more place placed entered after is marked more =
-        let same : entered ≡ frames ++ opened ∷ [] =
-        is ∙ ap (λ place. frames ++ opening_frame place locals stack ∷ []) placed in
-        enters-waiting more after
-        (marked ∙ ap (λ (fs : List Frame). with_running fs (waiting (running_frame fs))) same)
+      pub enters-more : (place : MethodPlace) → place ≡ initializer_place program class → (entered after : List Frame)
+          → entered ≡ frames ++ opening_frame place locals stack ∷ []
+          → after ≡ with_running entered (record (running_frame entered) { mark = Waiting }) → passed + 1 < count
+          → after ++ callers_waiting later ≡ whole
+      enters-more place placed entered after is marked more =
+          let same : entered ≡ frames ++ opened ∷ [] =
+          is ∙ ap (λ place. frames ++ opening_frame place locals stack ∷ []) placed in
+          enters-waiting more after
+          (marked ∙ ap (λ (fs : List Frame). with_running fs (waiting (running_frame fs))) same)
 
 -- the place of an initializer, as the tables are read
 pub placed-at : (program : List ClassListing) (class : ℕ) (places : List ClassInitializer) (place : MethodPlace)
@@ -254,8 +254,11 @@ pub units-over : (program : List ClassListing) (class count left : ℕ) (next : 
 units-over program class count left next units none all =
     let over : units_of_frames (initializer_frames program (rest_of program left next)) ≡ 0 =
     ap (λ cs. units_of_frames (initializer_frames program cs)) (rest-over program left next none) in
-    let same : units ≡ units_of_frames (initializer_frames program (claimed program class count)) = omega (arith, all,
-          over) in
+    let same : units ≡ units_of_frames (initializer_frames program (claimed program class count)) = omega (
+      arith,
+      all,
+      over,
+    ) in
     same ∙ sym (units-waiting (initializer_frames program (claimed program class count)))
 
 -- ---- whether a claim fits

@@ -77,14 +77,14 @@ module _ (classes : List ClassFacts) (states : List ClassState) (whole : Chain) 
         ends (suc (steps - (passed + 1))) (Some class) count state
         (at (steps - (passed + 1)) class state is
         ∙ stops class state (chain_upwards (steps - (passed + 1)) classes states (superclass_in classes class)) other)
-            one
+        one
 
     pub walk-next : state ≡ Unused → (above : Option ℕ) → above ≡ superclass_in classes class
         → Walks classes states whole (steps - (passed + 1)) above (count + 1)
     walk-next unused above above_is =
         let further = chain_upwards (steps - (passed + 1)) classes states (superclass_in classes class) in
         let is : chain_upwards (suc (steps - (passed + 1))) classes states (Some class)
-              ≡ chain_with class Unused further =
+        ≡ chain_with class Unused further =
         at (steps - (passed + 1)) class state is ∙ ap (λ state. chain_with class state further) unused in
         let more : count + length (chain_upwards (suc (steps - (passed + 1))) classes states (Some class)).unused
         ≡ count + suc (length further.unused) = ap (λ (c : Chain). count + length c.unused) is in
@@ -152,7 +152,7 @@ module _ (program : List ClassListing) (states : List ClassState) (class count :
       ∙ ap (claimed program class) found.1
 
   pub chain-found : (let chain : Chain = record { unused = claimed program class count; above = above }
-                           in chain_at program states class ≡ chain)
+      in chain_at program states class ≡ chain)
   chain-found = by (chain_at program states class) is-claimed found.0 where
     by : (c : Chain) → c.unused ≡ claimed program class count → c.above ≡ above
         → (let chain : Chain = record { unused = claimed program class count; above = above } in c ≡ chain)

@@ -47,19 +47,20 @@ module _ (program : List ClassListing) (f : Frame) (scene : Scene) (m : Machine)
 
   comes_to : (o : Option (ℕ × Account)) → take_cell m.heap.account (length words) ≡ o
       → turned program x m.thread (Creates next taken contents)
-          ≡ reported_as o (created_at program x m.thread next taken contents o)
+      ≡ reported_as o (created_at program x m.thread next taken contents o)
   unfolding turned_on
   comes_to o is =
       ap (λ o. reported_as o (created_at program x m.thread next taken contents o))
-          (ap (take_cell m.heap.account) (words-shown program kind words) ∙ is)
+      (ap (take_cell m.heap.account) (words-shown program kind words) ∙ is)
 
   -- the new object in its cell, its reference on the stack
   abbrev placed : ℕ → Account → List Frame → CellMachine
   placed cell account frames = record {
-    world = with_thread (let w : World = record x.world
-                               { objects = objects_shown program
-                               (created m.heap kind words (Some (cell, account))).objects } in w) m.thread
-                               (LiveThread frames);
+    world = with_thread (let w : World = record x.world {
+      objects = objects_shown program
+          (created m.heap kind words (Some (cell, account))).objects;
+    } in w) m.thread
+        (LiveThread frames);
     account = (shaded (created m.heap kind words (Some (cell, account))) (Some (suc cell))).account;
     births = m.heap.births + 1;
   }
@@ -73,23 +74,25 @@ module _ (program : List ClassListing) (f : Frame) (scene : Scene) (m : Machine)
   in_cell cell account true room =
       ap (created_in x m.thread next taken contents cell account) runs_on
       ∙ ap (λ b. created_with_on x m.thread cell account contents (if b
-          then Ok (replaced next f taken (Ref (Some (suc cell)) ∷ [])) else Err (Faulted StackFull))) room
+      then Ok (replaced next f taken (Ref (Some (suc cell)) ∷ [])) else Err (Faulted StackFull))) room
       ∙ ap (λ (fs : List Frame). let y : CellMachine = record {
-        world = with_thread (let w : World = record x.world { objects = slice_set x.world.objects (suc cell)
-                                   (made_of contents) } in w) m.thread (LiveThread (with_running fs (pushed cell)));
+        world = with_thread (let w : World = record x.world {
+          objects = slice_set x.world.objects (suc cell)
+              (made_of contents);
+        } in w) m.thread (LiveThread (with_running fs (pushed cell)));
         account = shade_cells (birth_in account cell x.births) (suc cell ∷ []);
         births = x.births + 1;
       } in y) (frames_shown program scene m here)
       ∙ ap (λ (objects : List Object). let y : CellMachine = record {
         world = with_thread (let w : World = record x.world { objects = objects } in w) m.thread
-                                   (LiveThread (with_running m.frames (pushed cell)));
+            (LiveThread (with_running m.frames (pushed cell)));
         account = shade_cells (birth_in account cell x.births) (suc cell ∷ []);
         births = x.births + 1;
       } in y) (sym (shown-set program m.heap.objects cell (Some (made kind words))))
   in_cell cell account false room =
       ap (created_in x m.thread next taken contents cell account) runs_on
       ∙ ap (λ b. created_with_on x m.thread cell account contents (if b
-          then Ok (replaced next f taken (Ref (Some (suc cell)) ∷ [])) else Err (Faulted StackFull))) room
+      then Ok (replaced next f taken (Ref (Some (suc cell)) ∷ [])) else Err (Faulted StackFull))) room
 
   pub new_reported : (after : Machine) (reference : ℕ) (o : Option (ℕ × Account))
       → take_cell m.heap.account (length words) ≡ o
@@ -102,12 +105,19 @@ module _ (program : List ClassListing) (f : Frame) (scene : Scene) (m : Machine)
   new_reported after reference (Some cell) came is room frames heap slots states output =
       let at : reference ≡ suc cell.0 = cc in
       let fits : 1 + units_of_all (drop taken f.stack) ≤ f.room = omega (arith, room) in
-      rw (frames, heap, slots, states, output, at,
-          sym (thread_set scene m.thread here (LiveThread m.frames)
-          (LiveThread (with_running m.frames (pushed cell.0)))))
+      rw (
+        frames,
+        heap,
+        slots,
+        states,
+        output,
+        at,
+        sym (thread_set scene m.thread here (LiveThread m.frames)
+            (LiveThread (with_running m.frames (pushed cell.0)))),
+      )
       (sym (comes_to (Some cell) came
       ∙ ap (reported_as (Some cell)) (in_cell cell.0 cell.1 true (le-leb (1 + units_of_all (drop taken f.stack)) f.room
-          fits))))
+      fits))))
 
   -- a cell is free and the stack is full
   pub blocked_reported : (nat_le f.room (units_of_all (drop taken f.stack)) && has_room m.heap.account (length words))
@@ -125,13 +135,13 @@ module _ (program : List ClassListing) (f : Frame) (scene : Scene) (m : Machine)
       by None is =
           let free : has_room m.heap.account (length words) ≡ true =
           and-right (nat_le f.room (units_of_all (drop taken f.stack))) (has_room m.heap.account (length words)) blocked
-              in
+          in
           let none : has_room m.heap.account (length words) ≡ false = ap is_some is in cc
       by (Some cell) is =
           let over : f.room < 1 + units_of_all (drop taken f.stack) = omega (arith, full) in
           sym (comes_to (Some cell) is
           ∙ ap (reported_as (Some cell))
-              (in_cell cell.0 cell.1 false (lt-leb (1 + units_of_all (drop taken f.stack)) f.room over)))
+          (in_cell cell.0 cell.1 false (lt-leb (1 + units_of_all (drop taken f.stack)) f.room over)))
 
 -- where none is, there is room on the stack or no free cell
 pub unblocked : (room units : ℕ) (free : Bool) → free ≡ true → (nat_le room units && free) ≡ false → units < room

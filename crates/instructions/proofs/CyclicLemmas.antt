@@ -51,7 +51,7 @@ cyclic-up start count within few (inl same) =
     let from : 0 + within ≡ within = omega arith in
     let all : within ≡ within - 0 = omega arith in
     rw same (ap (λ ns. ns ++ take within (numbers_up 0 count)) (drop-up within 0 count
-        ∙ ap (λ n. numbers_up n (count - within)) from)
+    ∙ ap (λ n. numbers_up n (count - within)) from)
     ∙ ap (λ ns. numbers_up within (count - within) ++ ns) (take-up within 0 count few ∙ ap (numbers_up 0) all))
 cyclic-up start count within few (inr past) =
     let none : count - start ≡ 0 = omega (arith, past.0) in
@@ -138,14 +138,14 @@ any-none p from to over =
 -- a thread lives, by its number among those of a list after others
 any-following : (q : Thread → Bool) (p : ℕ → Bool) (n : ℕ) (threads : List Thread)
     → ((k : ℕ) (t : Thread) → slice_get threads k ≡ Some t → p (n + k) ≡ q t) → list_any q threads
-        ≡ list_any p (numbers_from n threads)
+    ≡ list_any p (numbers_from n threads)
 any-following q p n [] same = refl
 any-following q p n (t ∷ ts) same =
     let here : n + 0 ≡ n = omega arith in
     let first : q t ≡ p n = sym (same 0 t refl) ∙ ap p here in
     rw first (ap (λ b. p n || b)
-        (any-following q p (n + 1) ts (λ k u at. let there : n + 1 + k ≡ n + suc k = omega arith in ap p there
-                                                       ∙ same (suc k) u at)))
+    (any-following q p (n + 1) ts (λ k u at. let there : n + 1 + k ≡ n + suc k = omega arith in ap p there
+    ∙ same (suc k) u at)))
 
 pub some-lives : (threads : List Thread) → list_any (λ t. lives (Some t)) threads
     ≡ list_any (λ n. lives (slice_get threads n)) (numbers_from 0 threads)

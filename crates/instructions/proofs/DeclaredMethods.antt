@@ -55,7 +55,7 @@ module _ (program : List ClassListing) (test : Method → Bool) where
     where
       by : (m : Option Method) → find test c.methods ≡ m
           → option_map (λ (m : Method). let found : Declared Method = record { class = name; member = m } in found) m
-                                              ≡ Some d
+          ≡ Some d
           → IsFound program test d
       by None h k = cc
       by (Some m) h k =
@@ -111,8 +111,11 @@ either-part (z ∷ zs) ys (suc k) x e =
     elim (either-part zs ys k x e) [
       | inl there ↦ inl there
       | inr following ↦
-          inr (let at = following.is in record { place = following.place; is = omega (arith, at);
-                     there = following.there })
+          inr (let at = following.is in record {
+            place = following.place;
+            is = omega (arith, at);
+            there = following.there;
+          })
     ]
 
 -- ---- the machine's own classes
@@ -209,7 +212,7 @@ module _ (program : List ClassListing) (free : Unrefused program) (hides : find 
   pub class_there : slice_get (all_classes program) class_of.number ≡ Some is.class
   class_there =
       sym (ap (option_and_then (slice_get (all_classes program))) class_of.is) ∙ class_at_number program d.class
-          ∙ is.named
+      ∙ is.named
 
   pub class_name_is : is.class.name ≡ d.class
   class_name_is =
@@ -242,15 +245,15 @@ module _ (program : List ClassListing) (free : Unrefused program) (hides : find 
   numbered =
       ap (λ o. option_zip o (method_place program d)) class_of.is
       ∙ ap (λ o. option_zip (Some class_of.number)
-          (option_and_then (λ (c : ClassListing). position (is_method d.member.name d.member.descriptor) c.methods) o))
-          is.named
+      (option_and_then (λ (c : ClassListing). position (is_method d.member.name d.member.descriptor) c.methods) o))
+      is.named
       ∙ ap (option_zip (Some class_of.number)) alone
 
   method_there : slice_get program class_of.number ≡ Some is.class → method_at program where_it_is ≡ Some d.member
   method_there at =
       ap (option_and_then (λ (c : ClassListing). method_of_class c found_at.place)) at
       ∙ ap (λ o. or_else o (cond (found_at.place == length is.class.methods) (Some empty_initializer) None))
-          found_at.there
+      found_at.there
 
   pub known : known_at program where_it_is ≡ Some (method_facts program d.class d.member)
   known =
@@ -273,7 +276,7 @@ module _ (program : List ClassListing) (free : Unrefused program) (hides : find 
   declared_there =
       ap (option_and_then (method_in found_at.place)) class_there
       ∙ ap (option_map (λ (m : Method). let found : Declared Method = record { class = is.class.name; member = m }
-                                              in found)) found_at.there
+      in found)) found_at.there
       ∙ ap (λ name. Some (record { class = name; member = d.member })) class_name_is
 
   -- it stands there in the program, or has no code
@@ -282,12 +285,12 @@ module _ (program : List ClassListing) (free : Unrefused program) (hides : find 
       elim parts [
         | inl at ↦
             inl (row-place program row d free.classes free.members (slice_get_within program class_of.number is.class
-                at) declared_there)
+            at) declared_there)
         | inr own ↦
             inr (none-is d.member.code
             (all-at (λ (m : Method). is_none m.code) is.class.methods found_at.place d.member
             (all-at (λ (c : ClassListing). list_all (λ (m : Method). is_none m.code) c.methods) builtin_classes
-                own.place is.class own-codes own.there)
+            own.place is.class own-codes own.there)
             found_at.there))
       ]
     where
@@ -303,17 +306,17 @@ module _ (program : List ClassListing) (free : Unrefused program) (hides : find 
         | inl at ↦
             let plain : is_some (builtin d.class) ≡ false =
             ap (λ n. is_some (builtin n)) (sym class_name_is) ∙ none-found-at has_builtin_name program class_of.number
-                is.class hides at in
+            is.class hides at in
             let none : builtin_of (member_of d) ≡ None = not-own (member_of d) plain in absurd (cc)
         | inr there ↦
             were-same (is_static d.member) (is_printing own)
             (ap (is_static_as (is_static d.member)) (sym e)
             ∙ ap (λ (n : List ℕ). is_static_as (is_static d.member)
-                (builtin_of (record { class = n; name = d.member.name; descriptor = d.member.descriptor })))
-                (sym class_name_is)
+            (builtin_of (record { class = n; name = d.member.name; descriptor = d.member.descriptor })))
+            (sym class_name_is)
             ∙ all-at (λ (m : Method). is_static_as (is_static m) (builtin_of (member_in is.class m))) is.class.methods
-                found_at.place d.member
+            found_at.place d.member
             (all-at (λ (c : ClassListing). list_all (λ (m : Method). is_static_as (is_static m)
-                (builtin_of (member_in c m))) c.methods) builtin_classes there.place is.class own-static there.there)
+            (builtin_of (member_in c m))) c.methods) builtin_classes there.place is.class own-static there.there)
             found_at.there)
       ]

@@ -73,7 +73,7 @@ module _ (states : List ClassState) where
       by : (b : Bool) (u : World) → with_monitor_of (with_class_states w states) birth (exited (monitor_of w birth))
           ≡ with_class_states u states
           → (if b then with_monitor_of (with_class_states w states) birth (exited (monitor_of w birth))
-              else with_class_states w states)
+          else with_class_states w states)
           ≡ with_class_states (if b then u else w) states
       by true u e = e
       by false u e = refl
@@ -119,7 +119,7 @@ module _ (program : List ClassListing) (classes : List ℕ) where
   Follows w e further =
       ((further ≡ e) × (is_fault e.after ≡ true))
       ⊎ ((let same : Effect = record { after = failed_too e.after; writes = e.writes } in further ≡ same)
-                × (e.after.fault ≡ w.fault))
+      × (e.after.fault ≡ w.fault))
 
   abbrev handled : World → ℕ → ℕ → ℕ → Frame → List Frame → Effect
   handled w t birth handler f callers = record {
@@ -149,7 +149,7 @@ module _ (program : List ClassListing) (classes : List ℕ) where
       let way = way_of program class (reverse (frames_at w t)) in
       let left = without program w t way.left in
       subst (λ (u : World). Follows w (landed before left t birth class way.landing)
-          (landed before u t birth class way.landing))
+      (landed before u t birth class way.landing))
       (sym (without-too w t way.left))
       (follows-from left w (landed before left t birth class way.landing)
       (landed before (failed_too left) t birth class way.landing)
@@ -247,7 +247,7 @@ module _ (program : List ClassListing) (classes : List ℕ) where
 
     pub denies_reported : (t : Turned)
         → reported before m.thread (shown program scene raised) (Ok t)
-            ≡ turned program before m.thread (Raises NoClassDefFound)
+        ≡ turned program before m.thread (Raises NoClassDefFound)
         → after.frames ≡ raised.frames → after.slots ≡ raised.slots
         → after.states.items ≡ with_states Failed classes raised.states.items → after.output.items ≡ raised.output.items
         → after.heap ≡ raised.heap
@@ -260,7 +260,7 @@ module _ (program : List ClassListing) (classes : List ℕ) where
 
     pub denies_fault_reported : (fault : Fault)
         → reported before m.thread (shown program scene raised) (Err fault)
-            ≡ turned program before m.thread (Raises NoClassDefFound)
+        ≡ turned program before m.thread (Raises NoClassDefFound)
         → reported before m.thread (shown program scene after) (Err fault)
         ≡ turned program before m.thread (Denies (with_states Failed classes m.states.items))
     denies_fault_reported fault is =

@@ -111,7 +111,7 @@ module _ {K : Type 0} (memory stack : K) where
       → ErrorsAre memory stack a.cells objects births → ErrorsAre memory stack (shade_cell a r).cells objects births
   shaded_errors a objects births r =
       kept a.cells objects (shade_cell a r).cells objects births births memory stack (shaded-births a objects births r)
-          (omega arith)
+      (omega arith)
 
   -- ---- a new object
 
@@ -123,7 +123,7 @@ module _ {K : Type 0} (memory stack : K) where
       let t = one_taken a births c (take_cell a words) is in
       rw (t.2, cells_left a words (c, t.0) t.1)
       (λ n b least less stands. changed a.cells objects c n b (Taken births Grey) (Some object)
-          (λ e. omega (arith, e, less)) least stands)
+      (λ e. omega (arith, e, less)) least stands)
 
   pub came_errors : (a : Account) (objects : List (Option (StoredObject K))) (births c words : ℕ)
       (object : StoredObject K)
@@ -131,7 +131,7 @@ module _ {K : Type 0} (memory stack : K) where
       → ErrorsAre memory stack (born_in a births (take_cell a words)).cells (set objects c (Some object)) (births + 1)
   came_errors a objects births c words object is =
       kept a.cells objects (born_in a births (take_cell a words)).cells (set objects c (Some object)) births
-          (births + 1) memory
+      (births + 1) memory
       stack (created-births a objects births c words object is) (omega arith)
 
   -- ---- an object changes but for its kind
@@ -152,7 +152,7 @@ module _ {K : Type 0} (memory stack : K) where
       → ErrorsAre memory stack cells (set objects c (option_map change (object_if (slice_get objects c)))) births
   changed_errors cells objects births c change stays =
       kept cells objects cells (set objects c (option_map change (object_if (slice_get objects c)))) births births
-          memory stack
+      memory stack
       (λ n b least less stands. (stands, kind-changed objects c n change stays)) (omega arith)
 
   -- ---- a step of the collector
@@ -203,7 +203,7 @@ module _ {K : Type 0} (memory stack : K) where
     swept-births p (Taken b White) held =
         rw (listed-cells (with_cell a p Free) p (nat_lt p shape.small) (nat_lt p (shape.small + shape.medium)))
         (λ n birth least less stands. changed a.cells objects p n birth Free None (λ e. omega (arith, e, least)) least
-            stands)
+        stands)
     swept-births p (Taken b Grey) held = same a.cells objects births
     swept-births p (Taken b Black) held = recoloured a.cells objects p b births Black White held
 
@@ -228,20 +228,23 @@ module _ {K : Type 0} (memory stack : K) where
         → ErrorsAre memory stack (step_on reported w a phase).cells (cleared objects freed) births
     collected_errors reported phase freed shape_is is =
         rw (shape_is, is) (kept a.cells objects (step_on shape w a phase).cells (cleared objects (freed_cell a phase))
-            births births memory stack
+        births births memory stack
         (stepped-births phase) (omega arith))
 
 -- ---- the opening
 
 two_kinds : {K : Type 0} (cells : List Cell) (n total : ℕ) (o o' : StoredObject K) → total ≡ suc (suc n)
     → ErrorsAre o.kind o'.kind cells (set (set (replicate total None) 0 (Some o)) 1 (Some o')) 3
-two_kinds cells n total o o' count = rw count (record { memory_is = λ stands. refl; stack_is = λ stands. refl;
-    least = omega arith })
+two_kinds cells n total o o' count = rw count (record {
+  memory_is = λ stands. refl;
+  stack_is = λ stands. refl;
+  least = omega arith;
+})
 
 pub opening_errors : {K : Type 0} (cells : List Cell) (shape : HeapShape) (o o' : StoredObject K)
     → ShapeFits shape.small shape.medium shape.large
     → ErrorsAre o.kind o'.kind cells (set (set (replicate (shape.small + shape.medium + shape.large) None) 0 (Some o)) 1
-        (Some o')) 3
+    (Some o')) 3
 opening_errors cells shape o o' fits =
     let least = fits.0 in
     let total = shape.small + shape.medium + shape.large in
@@ -251,7 +254,7 @@ opening_errors cells shape o o' fits =
 pub renamed : {K : Type 0} {memory stack memory' stack' : K} (cells : List Cell)
     (objects : List (Option (StoredObject K))) (births : ℕ)
     → memory ≡ memory' → stack ≡ stack' → ErrorsAre memory stack cells objects births
-        → ErrorsAre memory' stack' cells objects births
+    → ErrorsAre memory' stack' cells objects births
 renamed cells objects births first second errors = record {
   memory_is = λ stands. errors.memory_is stands ∙ ap Some first;
   stack_is = λ stands. errors.stack_is stands ∙ ap Some second;

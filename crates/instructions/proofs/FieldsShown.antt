@@ -17,7 +17,7 @@ at_place : (fields : List (Declared Field)) (words : List Value) (n : ℕ) (fiel
     → n < length words → length words ≤ length fields
     → keyed (drop n (map unwritten fields)) (drop n words)
     ≡ word_as (get_or fields n field) (get_or words n word) ∷ keyed (drop (suc n) (map unwritten fields))
-        (drop (suc n) words)
+    (drop (suc n) words)
 at_place [] [] n field word below few = absurd (omega (arith, below))
 at_place (f ∷ fields) [] n field word below few = absurd (omega (arith, below))
 at_place [] (w ∷ words) n field word below few = absurd (omega (arith, few))
@@ -38,5 +38,5 @@ next_shown F fields words n field word views after view below few is shown more 
     rw (more, next)
     (append_assoc views (view ∷ []) following
     ∙ ap (λ (v : FieldValue). views ++ v ∷ following) (shown
-        ∙ ap (λ (f : Declared Field). F (word_as f (get_or words n word))) is)
+    ∙ ap (λ (f : Declared Field). F (word_as f (get_or words n word))) is)
     ∙ ap (λ fs. views ++ map F fs) (sym (at_place fields words n field word below few)))

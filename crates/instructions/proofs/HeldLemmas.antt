@@ -81,7 +81,7 @@ module _ (program : List ClassListing) (h : HeapValue) (w : World)
           ap (with_word_of w (suc cell) place v) (object-shown cell ∙ ap (option_map (object_shown program)) is)
           ∙ ap (λ object. with_objects (set w.objects (suc cell) object)) (object-written x place v)
           ∙ ap (λ objects. with_objects (set objects (suc cell) (object_shown program (Some (word_set place v x)))))
-              shown
+          shown
           ∙ ap (λ objects. with_objects (nobody ∷ objects))
           (sym (map-set (object_shown program) h.objects cell (Some (word_set place v x))))
           ∙ sym (ap (λ found. after (object_if found)) is)

@@ -48,8 +48,13 @@ module _ (program : List ClassListing) (births : Naming) where
   shown_words (Array type) words = refl
 
   abbrev with_all : ℕ → ObjectKind → List Value → Monitor → Option ℕ → Held
-  with_all b kind words monitor thread = record { birth = b; kind = kind; words = words; monitor = monitor;
-      thread = thread }
+  with_all b kind words monitor thread = record {
+    birth = b;
+    kind = kind;
+    words = words;
+    monitor = monitor;
+    thread = thread;
+  }
 
   of_stored : (b : ℕ) (o : StoredObject Kind) → with_all b (held_kind program o.kind) (map (named_value births) o.words)
       o.monitor o.thread ≡ held_of b (named_object births (object_shown program (Some o)))
@@ -59,9 +64,9 @@ module _ (program : List ClassListing) (births : Naming) where
       (monitor : Monitor) (thread : Option ℕ)
       → Some stored ≡ option_map (λ object. object.kind) (object_if o) → kind ≡ held_kind program stored
       → words ≡ map (named_value births) (words_if (object_if o)) → monitor ≡ monitor_if (object_if o)
-          → thread ≡ thread_if (object_if o)
+      → thread ≡ thread_if (object_if o)
       → Some (with_all b kind words monitor thread)
-          ≡ option_map (held_of b) (option_map (named_object births) (option_map (object_shown program) o))
+      ≡ option_map (held_of b) (option_map (named_object births) (option_map (object_shown program) o))
   in_cell b None stored kind words monitor thread is of has owned started = absurd (cc)
   in_cell b (Some None) stored kind words monitor thread is of has owned started = absurd (cc)
   in_cell b (Some (Some object)) stored kind words monitor thread is of has owned started =
@@ -71,17 +76,17 @@ module _ (program : List ClassListing) (births : Naming) where
   pub held_is : (b : ℕ) (objects : List (Option (StoredObject Kind))) (cell : ℕ) (stored : Kind) (kind : ObjectKind)
       (words : List Value) (monitor : Monitor) (thread : Option ℕ)
       → Some stored ≡ option_map (λ object. object.kind) (object_if (slice_get objects cell))
-          → kind ≡ held_kind program stored
+      → kind ≡ held_kind program stored
       → words ≡ map (named_value births) (words_if (object_if (slice_get objects cell)))
       → monitor ≡ monitor_if (object_if (slice_get objects cell))
-          → thread ≡ thread_if (object_if (slice_get objects cell))
+      → thread ≡ thread_if (object_if (slice_get objects cell))
       → Some (with_all b kind words monitor thread)
-          ≡ option_map (held_of b)
-          (option_map (named_object births) (slice_get (objects_shown program objects) (suc cell)))
+      ≡ option_map (held_of b)
+      (option_map (named_object births) (slice_get (objects_shown program objects) (suc cell)))
   held_is b objects cell stored kind words monitor thread is of has owned started =
       in_cell b (slice_get objects cell) stored kind words monitor thread is of has owned started
       ∙ ap (λ o. option_map (held_of b) (option_map (named_object births) o))
-          (sym (slice_get-map (object_shown program) objects cell))
+      (sym (slice_get-map (object_shown program) objects cell))
 
 -- ---- where paths lead
 
@@ -95,7 +100,7 @@ pub has_reference : (program : List ClassListing) (objects : List (Option (Store
 has_reference program objects c there =
     let within : c + 1 ≤ length objects = within_objects objects c there in
     let count : length (map (object_shown program) objects) ≡ length objects = length-map objects (object_shown program)
-          in
+    in
     omega (arith, within, count)
 
 module _ (x : CellMachine) (c : ℕ) where
@@ -114,7 +119,7 @@ module _ (x : CellMachine) (c : ℕ) where
 
 helds_at : (x : CellMachine) (cells : List Cell) (first n : ℕ) → n < length cells
     → helds_from x (first + n) (drop n cells) ≡ held_on x (first + n) (cell_at cells n) ∷ helds_from x (first + suc n)
-        (drop (suc n) cells)
+    (drop (suc n) cells)
 helds_at x [] first n below = absurd (omega (arith, below))
 helds_at x (cell ∷ cells) first zero below =
     let here : first + 0 ≡ first = omega arith in
@@ -134,8 +139,10 @@ next_held x cells n held views after below is more =
     let zero_next : 0 + suc n ≡ suc n = omega arith in
     let following = helds_from x (suc n) (drop (suc n) cells) in
     let from = helds_at x cells 0 n below in
-    let step : helds_from x n (drop n cells) ≡ held_on x n (cell_at cells n) ∷ following = rw (zero_here,
-          zero_next) at from in
+    let step : helds_from x n (drop n cells) ≡ held_on x n (cell_at cells n) ∷ following = rw (
+      zero_here,
+      zero_next,
+    ) at from in
     rw (more, next)
     (append_assoc views (held ∷ []) following
     ∙ ap (λ (h : Option Held). views ++ h ∷ following) is

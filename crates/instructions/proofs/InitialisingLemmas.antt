@@ -125,7 +125,7 @@ claims-some s own (c ∷ cs) e = refl
 
 module _ (program : List ClassListing) (m : Machine) (next class count : ℕ) (above : ClassState)
     (is : (let chain : Chain = record { unused = claimed program class count; above = above }
-                 in chain_at program m.states.items class ≡ chain))
+    in chain_at program m.states.items class ≡ chain))
     (w : World) (shows : w.statics.states ≡ m.states.items) where
   abbrev here : Site
   here = site_at program m w next
@@ -135,7 +135,7 @@ module _ (program : List ClassListing) (m : Machine) (next class count : ℕ) (a
       → initialises_class here own (Some class) ≡ initialises here (claimed program class count) above own
   initialises-is own =
       ap (λ states. initialises_chain here own (chain_at program states class)) shows
-          ∙ ap (initialises_chain here own) is
+      ∙ ap (initialises_chain here own) is
 
   pub others-wait : (own : Completion) → is_others m.thread above ≡ true → initialises_class here own (Some class)
       ≡ Waits
@@ -146,15 +146,15 @@ module _ (program : List ClassListing) (m : Machine) (next class count : ℕ) (a
   failed-denies own e = initialises-is own ∙ ap (λ above. initialises here (claimed program class count) above own) e
 
   module _ (fine : is_others m.thread above ≡ false) (usable : above ≢ Failed) (there : AreClaimed program class count)
-      where
-    pub may-use : (own : Completion) → count ≡ 0 → initialises_class here own (Some class) ≡ own
-    may-use own none =
-        initialises-is own ∙ claims-then here own (claimed program class count) above fine usable
-        ∙ claims-none here own (claimed program class count) (there.whole ∙ none)
+    where
+      pub may-use : (own : Completion) → count ≡ 0 → initialises_class here own (Some class) ≡ own
+      may-use own none =
+          initialises-is own ∙ claims-then here own (claimed program class count) above fine usable
+          ∙ claims-none here own (claimed program class count) (there.whole ∙ none)
 
-    pub claims-all : (own : Completion) → 0 < count
-        → initialises_class here own (Some class) ≡ claims_so_many here class count
-    claims-all own some =
-        let some_too : 0 < length (claimed program class count) = omega (arith, some, there.whole) in
-        initialises-is own ∙ claims-then here own (claimed program class count) above fine usable
-        ∙ claims-some here own (claimed program class count) some_too
+      pub claims-all : (own : Completion) → 0 < count
+          → initialises_class here own (Some class) ≡ claims_so_many here class count
+      claims-all own some =
+          let some_too : 0 < length (claimed program class count) = omega (arith, some, there.whole) in
+          initialises-is own ∙ claims-then here own (claimed program class count) above fine usable
+          ∙ claims-some here own (claimed program class count) some_too

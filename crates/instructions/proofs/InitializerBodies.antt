@@ -45,7 +45,7 @@ module _ (m : Member) (is : m.name ≡ codes "<clinit>") where
       → (a && bytes_eq m.name name && c) ≡ true → ⊥
   other a c name differs e =
       let named : bytes_eq m.name name
-            ≡ true = (both a (bytes_eq m.name name) (both (a && bytes_eq m.name name) c e).0).1 in
+      ≡ true = (both a (bytes_eq m.name name) (both (a && bytes_eq m.name name) c e).0).1 in
       let same : true ≡ false = sym named ∙ ap (λ n. bytes_eq n name) is ∙ differs in
       cc
 
@@ -101,7 +101,7 @@ unrefused-at program name (x ∷ xs) zero m none e =
     ap (is_refused program name) (sym same) ∙ (either (is_refused program name x) _ none).0
 unrefused-at program name (x ∷ xs) (suc n) m none e =
     unrefused-at program name xs n m (either (is_refused program name x) (list_any (is_refused program name) xs) none).1
-        e
+    e
 
 place-within : (p : Method → Bool) (ms : List Method) → position_or_len p ms ≤ length ms
 place-within p [] = omega arith
@@ -130,7 +130,7 @@ module _ (program : List ClassListing) (c : ClassListing) (none : list_any (is_r
         let first = first_within is_class_initializer c.methods place refl (ltb-true place (length c.methods) h) in
         let fine = unrefused-at program c.name c.methods place first.item none first.there in
         let right : is_wrong_initializer first.item
-              ≡ false = (either (is_wrong_initializer first.item) _ (either _ _ fine).0).0 in
+        ≡ false = (either (is_wrong_initializer first.item) _ (either _ _ fine).0).0 in
         let code = coded (is_class_initializer first.item) _ first.item.code first.passes right in
         record {
           method = first.item;
@@ -144,11 +144,19 @@ module _ (program : List ClassListing) (c : ClassListing) (none : list_any (is_r
         let last : place ≡ length c.methods = omega (arith, past, place-within is_class_initializer c.methods) in
         record {
           method = empty_initializer;
-          code = record { max_stack = 0; max_locals = 0; rows = []; instructions = record { pc = 0; next = 1;
-              instruction = Return None } ∷ [] };
+          code = record {
+            max_stack = 0;
+            max_locals = 0;
+            rows = [];
+            instructions = record {
+              pc = 0;
+              next = 1;
+              instruction = Return None;
+            } ∷ [];
+          };
           there =
               ap (λ o. or_else o (cond (place == length c.methods) (Some empty_initializer) None))
-                  (slice_get_past c.methods place past)
+              (slice_get_past c.methods place past)
               ∙ ap (λ b. cond b (Some empty_initializer) None) ((Decides-eqb place (length c.methods)).1 last);
           code_is = refl;
           named = refl;
@@ -198,7 +206,7 @@ module _ (program : List ClassListing) (class : ℕ) (accepted : refusal_of prog
     (inside : class < length program)
     (o : Option MethodFacts) (tables : List (List MethodFacts)) (places : List ClassInitializer) (place : MethodPlace)
     (reported : o ≡ facts_at tables place) (tables_are : tables ≡ method_tables program) (placed : place
-        ≡ place_in places class)
+    ≡ place_in places class)
     (places_are : places ≡ initializers program) where
   abbrev there : HasInitializer program class
   there = initializer-there program class accepted inside
@@ -207,7 +215,7 @@ module _ (program : List ClassListing) (class : ℕ) (accepted : refusal_of prog
   found =
       reported ∙ ap (λ tables. facts_at tables place) tables_are
       ∙ ap (facts_at (method_tables program)) (placed ∙ ap (λ places. place_in places class) places_are)
-          ∙ there.reported
+      ∙ there.reported
 
   body-is : (facts : MethodFacts) (body : Body) → o ≡ Some facts → body ≡ facts.body
       → body ≡ Coded there.locals there.stack

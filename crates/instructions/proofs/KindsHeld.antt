@@ -140,10 +140,10 @@ module _ (program : List ClassListing) (hierarchy : IsHierarchy program) (hides 
           → is_subtype program (class_name program k) above ≡ is_subtype_in (class_tables program) k class.number
       by None e =
           let name : class_name program k
-                ≡ [] = ap name_or_none (name-at program k ∙ ap (option_map (λ (c : ClassListing). c.name)) e) in
+          ≡ [] = ap name_or_none (name-at program k ∙ ap (option_map (λ (c : ClassListing). c.name)) e) in
           ap (λ n. is_subtype program n above) name ∙ nobody-below
           ∙ sym (ap (is_below class.number) (slice_get-map (class_facts program) (all_classes program) k
-              ∙ ap (option_map (class_facts program)) e))
+          ∙ ap (option_map (class_facts program)) e))
       by (Some d) e =
           ap (λ n. is_subtype program n above) (name-some program k d e)
           ∙ sym (subtype-names program k class.number d above e (number-names program above class.number class.is))
@@ -157,7 +157,7 @@ module _ (program : List ClassListing) (hierarchy : IsHierarchy program) (hides 
   each-other (d ∷ ds) none = (
     refuted (bytes_eq (codes "java/lang/Object") d.name)
         (λ e. own-differs d (by (is_some (builtin d.name)) none) ((bytes_eq-Decides (codes "java/lang/Object") d.name).0
-            e)),
+        e)),
     each-other ds (rest (is_some (builtin d.name)) none),
   )
     where
@@ -185,7 +185,7 @@ module _ (program : List ClassListing) (hierarchy : IsHierarchy program) (hides 
       (λ e. (Decides-eqb class.number (length program)).1
       (let same = one class.number (length program + 0)
       (sym class.is ∙ ap (class_number program) ((bytes_eq-Decides above (codes "java/lang/Object")).0 e)
-          ∙ object-number) in
+      ∙ object-number) in
       omega (arith, same)))
       (λ e. (bytes_eq-Decides above (codes "java/lang/Object")).1
       (one above (codes "java/lang/Object")

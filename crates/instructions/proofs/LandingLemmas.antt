@@ -59,7 +59,7 @@ module _ (frames : List Frame) where
       let long = kept_length left (omega (arith, within)) in
       let fewer : length (kept left frames) - 1 ≡ length frames - (left + 1) = omega (arith, within, long) in
       ap (λ n. take n (kept left frames)) fewer ∙ take-take (length frames - (left + 1)) (length frames - left) frames
-          (omega arith)
+      (omega arith)
 
   pub innermost_next : (left : ℕ) → left < length frames → innermost (left + 1) frames ≡ innermost left frames
       ++ running_frame (kept left frames) ∷ []
@@ -80,7 +80,7 @@ module _ (frames : List Frame) where
       let same : length (kept left frames) - 1 ≡ length frames - left - 1 = omega (arith, long) in
       ap (option_map head_of) (slice_get-get_or frames (length frames - left - 1) no_frame (omega (arith, within))
       ∙ ap Some (sym (ap (λ k. slice_index_or (kept left frames) k no_frame) same
-          ∙ get_or-take n frames (length frames - left - 1) no_frame (omega (arith, within)))))
+      ∙ get_or-take n frames (length frames - left - 1) no_frame (omega (arith, within)))))
 
   -- ---- the search
 
@@ -94,7 +94,7 @@ module _ (frames : List Frame) where
     seeks_first =
         let all : length frames - 0 ≡ length frames = omega arith in
         ap (λ fs. way_of program class (reverse fs))
-            (sym (ap (λ n. take n frames) all ∙ take_all (length frames) frames (omega arith)))
+        (sym (ap (λ n. take n frames) all ∙ take_all (length frames) frames (omega arith)))
 
     module _ (left : ℕ) (within : left < length frames) (seeks : Seeks left) where
       abbrev here : Frame
@@ -105,34 +105,34 @@ module _ (frames : List Frame) where
 
       way_here : (r : Response) → response_of program class here ≡ r
           → way_of program class (reverse frames)
-              ≡ extended (innermost left frames) (way_from here (reverse (callers (kept left frames))) r further)
+          ≡ extended (innermost left frames) (way_from here (reverse (callers (kept left frames))) r further)
       way_here r is =
           seeks ∙ ap (λ fs. extended (innermost left frames) (way_of program class fs)) (kept_first left within)
           ∙ ap (λ r. extended (innermost left frames) (way_from here (reverse (callers (kept left frames))) r further))
-              is
+          is
 
       pub seeks_next : response_of program class here ≡ Leaves → Seeks (left + 1)
       seeks_next is =
           way_here Leaves is
           ∙ ap (λ (fs : List Frame). let w : Way = record { landing = further.landing; left = fs } in w)
           (sym (append_assoc (innermost left frames) (here ∷ []) further.left)
-              ∙ ap (λ fs. fs ++ further.left) (sym (innermost_next left within)))
+          ∙ ap (λ fs. fs ++ further.left) (sym (innermost_next left within)))
           ∙ ap (λ fs. extended (innermost (left + 1) frames) (way_of program class (reverse fs)))
-              (kept_next left within)
+          (kept_next left within)
 
       pub found_handler : (handler : ℕ) → response_of program class here ≡ Handles handler
           → way_of program class (reverse frames) ≡ way_as frames (target.Handler left handler)
       found_handler handler is =
           way_here (Handles handler) is
           ∙ ap (λ (fs : List Frame). let w : Way = record (way_as frames (target.Handler left handler)) { left = fs }
-                                           in w) (append-nil (innermost left frames))
+          in w) (append-nil (innermost left frames))
 
       pub found_initializer : response_of program class here ≡ Fails
           → way_of program class (reverse frames) ≡ way_as frames (target.Initializer left)
       found_initializer is =
           way_here Fails is
           ∙ ap (λ (fs : List Frame). let w : Way = record (way_as frames (target.Initializer left)) { left = fs }
-                                           in w) (append-nil (innermost left frames))
+          in w) (append-nil (innermost left frames))
 
     pub found_nowhere : (left : ℕ) → length frames ≤ left → left ≤ length frames → Seeks left
         → way_of program class (reverse frames) ≡ way_as frames target.Nowhere
@@ -147,14 +147,14 @@ module _ (frames : List Frame) where
 pub answered : (program : List ClassListing) (kind : Kind) (frames : List Frame) (left depth : ℕ) (head : FrameHead)
     (found : Option FrameHead) (a : Answer)
     → refusal_of program ≡ None → IsThrown program kind → depth ≡ length frames → left < depth
-        → found ≡ head_at frames (depth - left - 1)
+    → found ≡ head_at frames (depth - left - 1)
     → found ≡ Some head → a ≡ answer_by program kind head
     → response_of program (kind_name program kind) (running_frame (kept left frames)) ≡ response_as a
 answered program kind frames left depth head found a accepted can count within is there reported =
     let here = running_frame (kept left frames) in
     let at : head_at frames (depth - left - 1) ≡ Some (head_of here) = ap (λ n. head_at frames (n - left - 1)) count
-          ∙ head_there frames left (omega (arith, count, within)) in
+    ∙ head_there frames left (omega (arith, count, within)) in
     let some : Some head ≡ Some (head_of here) = sym there ∙ is ∙ at in
     let same : head ≡ head_of here = cc in
     sym (ap response_as reported ∙ ap (λ h. response_as (answer_by program kind h)) same
-        ∙ thrown_answers program kind accepted can here)
+    ∙ thrown_answers program kind accepted can here)

@@ -24,7 +24,7 @@ use Rattle.instructions.proofs.MonitoringLemmas.{all_released-shown, released-sh
 pub running_last : (frames : List Frame) → 0 < length frames → frames ≡ callers frames ++ running_frame frames ∷ []
 running_last frames some =
     let whole : take (length frames - 1 + 1) frames ≡ callers frames ++ running_frame frames
-          ∷ [] = take_more frames (length frames - 1) no_frame (omega arith) in
+    ∷ [] = take_more frames (length frames - 1) no_frame (omega arith) in
     let all : take (length frames - 1 + 1) frames ≡ frames = take_all (length frames - 1 + 1) frames (omega arith) in
     cc
 
@@ -54,7 +54,7 @@ module _ (program : List ClassListing) (state : ClassState) where
     where
       by : (b : Bool)
           → with_states state (classes (cond b (f ∷ filter (runs_initializer program) fs)
-              (filter (runs_initializer program) fs))) states
+          (filter (runs_initializer program) fs))) states
           ≡ with_states state (initialised_by program fs) (with_states state (classes (cond b (f ∷ []) [])) states)
       by true = refl
       by false = refl
@@ -110,7 +110,7 @@ module _ (program : List ClassListing) (h : HeapValue) (w : World) (t : ℕ) (f 
       ≡ world_left program h w t Done (f ∷ [])
   returned-shown =
       ap (λ (v : World). initialised_if v f.method.class (runs_initializer program f))
-          (released-shown program h w shown t f.monitor)
+      (released-shown program h w shown t f.monitor)
       ∙ by_runs (runs_initializer program f)
       ∙ ap (λ (classes : List ℕ). stated classes) (sym (initialised-one program f))
 
@@ -129,16 +129,16 @@ module _ (program : List ClassListing) (old : Machine) (count : ℕ) where
 
   pub rest-first : count ≤ length old.frames → RestLeaves program old old count (count - 0)
   rest-first some = let all : count ≡ count - 0 = omega arith
-                          in subst (RestLeaves program old old count) all (first some)
+      in subst (RestLeaves program old old count) all (first some)
 
   callers_left : (frames : List Frame) (rest : ℕ) → suc rest ≤ length frames
       → take (length (callers frames) - rest) (callers frames) ≡ take (length frames - suc rest) frames
   callers_left frames rest some =
       let fewer : length (callers frames) ≡ length frames - 1 = length-take-le (length frames - 1) frames (omega arith)
-            in
+      in
       let same : length (callers frames) - rest ≡ length frames - suc rest = omega arith in
       ap (λ (n : ℕ). take n (callers frames)) same ∙ take-take (length frames - suc rest) (length frames - 1) frames
-          (omega arith)
+      (omega arith)
 
   after_one : (now next : Machine) (rest : ℕ) → RestLeaves program old now count (suc rest)
       → HasLeft program Failed (running_frame now.frames ∷ []) now next → next.frames ≡ callers now.frames
@@ -146,7 +146,7 @@ module _ (program : List ClassListing) (old : Machine) (count : ℕ) where
   after_one now next rest k one is =
       let many = k.some in
       let fewer : length (callers now.frames) ≡ length now.frames - 1 = length-take-le (length now.frames - 1)
-            now.frames (omega arith) in
+      now.frames (omega arith) in
       record {
         some = omega (arith, fewer, ap length is);
         frames = ap (λ (frames : List Frame). take (length frames - rest) frames) is ∙ callers_left now.frames rest many
@@ -154,7 +154,7 @@ module _ (program : List ClassListing) (old : Machine) (count : ℕ) where
         left = λ after left. k.left after
             (rw (innermost-next rest now.frames (omega arith))
             (left_next program Failed (running_frame now.frames) (innermost rest (callers now.frames)) now next after
-                one
+            one
             (subst (λ (frames : List Frame). HasLeft program Failed (innermost rest frames) next after) is left)));
       }
 
@@ -172,13 +172,15 @@ module _ (program : List ClassListing) (old : Machine) (count : ℕ) where
 
   over : (now : Machine) → RestLeaves program old now count 0
       → HasLeft program Failed (innermost count old.frames) old now
-          × (now.frames ≡ take (length old.frames - count) old.frames)
-  over now k =
-      (k.left now (left_none program Failed now), sym (take_all (length now.frames - 0) now.frames (omega arith))
-          ∙ k.frames)
+      × (now.frames ≡ take (length old.frames - count) old.frames)
+  over now k = (
+    k.left now (left_none program Failed now),
+    sym (take_all (length now.frames - 0) now.frames (omega arith))
+        ∙ k.frames,
+  )
 
   pub rest-over : (now : Machine) (i : ℕ) → count ≤ i → RestLeaves program old now count (count - i)
       → HasLeft program Failed (innermost count old.frames) old now
-          × (now.frames ≡ take (length old.frames - count) old.frames)
+      × (now.frames ≡ take (length old.frames - count) old.frames)
   rest-over now i past k = let none : count - i ≡ 0 = omega arith
-                                 in over now (subst (RestLeaves program old now count) none k)
+      in over now (subst (RestLeaves program old now count) none k)

@@ -43,7 +43,7 @@ module _ (program : List ClassListing) (place : MethodPlace) where
       there None is within = absurd (somewhere program place.class within is)
       there (Some c) is within =
           subst (λ facts. Reported facts (method_at program place)) (sym (program-facts program place c is))
-              (reported_as c.name (method_at program place))
+          (reported_as c.name (method_at program place))
 
       by : (b : Bool) → nat_lt place.class (length program) ≡ b
           → Reported (facts_if b (facts_at (method_tables program) place)) (method_at program place)

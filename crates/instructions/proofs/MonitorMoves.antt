@@ -38,7 +38,7 @@ entered-by false v w e = (refl, cc e)
 
 pub refused-by : (b : Bool) (v : Monitor) (fault : Fault)
     → (let r : Result Monitor Fault = Err fault in r ≡ (if b then Err MonitorLimit else Ok v)) → (b ≡ true)
-             × (fault ≡ MonitorLimit)
+    × (fault ≡ MonitorLimit)
 refused-by true v fault e = (refl, cc e)
 refused-by false v fault e = cc
 
@@ -109,7 +109,7 @@ module _ (program : List ClassListing) (scene : Scene) (m : Machine) (here : len
       → heap ≡ monitored m.heap reference monitor
       → (let after : Machine = record m { frames = frames; heap = heap } in
       reported x m.thread (shown program scene after) (Ok (done_in Live))
-          ≡ turned program x m.thread (moves_to monitor))
+      ≡ turned program x m.thread (moves_to monitor))
   monitor_reported frames heap monitor object frames_are heap_is =
       let after : Machine = record m { frames = frames; heap = heap } in
       let alone = monitored-alone program m.heap reference monitor in
@@ -120,8 +120,8 @@ module _ (program : List ClassListing) (scene : Scene) (m : Machine) (here : len
       (sym (ap (λ (h : HeapValue). h.account) heap_is ∙ alone.account))
       (ap (λ (h : HeapValue). h.births) heap_is ∙ alone.births)
       ∙ ap (λ (w : World). goes w frames)
-          (sym (monitored-shown program m.heap x.world refl reference monitor found.object found.is))
+      (sym (monitored-shown program m.heap x.world refl reference monitor found.object found.is))
       ∙ ap (goes (with_monitor_of x.world reference monitor))
       (frames_are
       ∙ ap (λ (fs : List Frame). with_running fs (replaced next (running_frame m.frames) 1 []).frame)
-          (sym (frames_shown program scene m here)))
+      (sym (frames_shown program scene m here)))

@@ -68,7 +68,7 @@ module _ (program : List ClassListing) where
     classes = refl;
     stored = λ stored.
         set-stored program h.objects cell _ stored (as_stored m (object_if (slice_get h.objects cell))
-            (held-stored program h.objects cell stored));
+        (held-stored program h.objects cell stored));
   }
 
   either : (h after : HeapValue) (b : Bool) → MonitorsAlone program h after
@@ -81,7 +81,7 @@ module _ (program : List ClassListing) where
   released-alone h t None = nothing h
   released-alone h t (Some reference) =
       either h _ (is_owner t (monitor_held h reference).owner)
-          (monitored-alone h reference (exited (monitor_held h reference)))
+      (monitored-alone h reference (exited (monitor_held h reference)))
 
   pub all_released-alone : (h : HeapValue) (t : ℕ) (references : List (Option ℕ))
       → MonitorsAlone program h (all_released_in h t references)
@@ -129,9 +129,9 @@ module _ (program : List ClassListing) (h : HeapValue) (w : World)
       by (Some None) is k = cc
       by (Some (Some x)) is k =
           ap (with_monitor_if w (suc cell) m) (object-shown program h w shown cell
-              ∙ ap (option_map (object_shown program)) is)
+          ∙ ap (option_map (object_shown program)) is)
           ∙ ap (λ (objects : List Object). with_objects
-              (set objects (suc cell) (object_shown program (Some (monitor_set m x))))) shown
+          (set objects (suc cell) (object_shown program (Some (monitor_set m x))))) shown
           ∙ ap (λ (objects : List Object). with_objects (nobody ∷ objects))
           (sym (map-set (object_shown program) h.objects cell (Some (monitor_set m x))))
           ∙ sym (ap (λ found. after (object_if found)) is)
@@ -145,7 +145,7 @@ module _ (program : List ClassListing) (h : HeapValue) (w : World)
   either_shown : (t birth : ℕ) (b : Bool) → is_owner t (monitor_held h birth).owner ≡ b
       → (if b then with_monitor_of w birth (exited (monitor_held h birth)) else w)
       ≡ with_objects (objects_shown program (if b then monitored h birth (exited (monitor_held h birth))
-          else h).objects)
+      else h).objects)
   either_shown t birth true owns = owned t birth (held h birth) refl owns
   either_shown t birth false owns = ap with_objects shown
 
@@ -168,4 +168,4 @@ all_released-shown program h w t (monitor ∷ monitors) shown =
     ap (λ (w : World). released_all w t monitors) here
     ∙ all_released-shown program (released_in h t monitor)
     (let after : World = record w { objects = objects_shown program (released_in h t monitor).objects } in after) t
-           monitors refl
+    monitors refl

@@ -55,7 +55,7 @@ module _ (program : List ClassListing) (name : List ℕ) (states : List ClassSta
       let within : n < length program = slice_get_within program n first.item first.there in
       let there : n < length states = omega (arith, within, sized) in
       let named : is_some (find (is_named name) program) ≡ true = found-at (is_named name) program n first.item
-            first.there first.passes in
+      first.there first.passes in
       is ∙ slice_get-get_or states n Done there ∙ ap (λ (place : Option ℕ). Some (state_at states place)) (sym at)
       ∙ sym (some-reported (find (is_named name) program) named)
 
@@ -64,7 +64,7 @@ module _ (program : List ClassListing) (name : List ℕ) (states : List ClassSta
   unlisted-state none other =
       let nowhere : find (is_named name) program ≡ None = found-nowhere (is_named name) program (past none) in
       sym (ap (λ (o : Option ClassListing). reported (or_else o (builtin name))) nowhere
-          ∙ ap reported (no-class (builtin name) other))
+      ∙ ap reported (no-class (builtin name) other))
     where
       no-class : (o : Option ClassListing) → is_some o ≡ false → o ≡ None
       no-class None e = refl

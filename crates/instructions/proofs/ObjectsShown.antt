@@ -30,26 +30,26 @@ module _ (program : List ClassListing) where
   enough_in None words e = omega (arith, e)
   enough_in (Some c) words e =
       let same : length (map (word_of program) (layout program c.name)) ≡ length (layout program c.name) = length-map
-            (layout program c.name) (word_of program) in
+      (layout program c.name) (word_of program) in
       omega (arith, e, same)
 
   enough_of : (class : ℕ) (words : List Value) → IsStored program (Instance class) words
       → length words ≤ length (layout program (class_name program class))
   enough_of class words e =
       let facts : slice_get (class_tables program) class
-            ≡ option_map (class_facts program) (slice_get (all_classes program) class) = slice_get-map
-            (class_facts program) (all_classes program) class in
+      ≡ option_map (class_facts program) (slice_get (all_classes program) class) = slice_get-map
+      (class_facts program) (all_classes program) class in
       let name : slice_get (class_names program) class ≡ option_map name_of (slice_get (all_classes program) class) = ap
-            (λ names. slice_get names class) names_are ∙ slice_get-map name_of (all_classes program) class in
+      (λ names. slice_get names class) names_are ∙ slice_get-map name_of (all_classes program) class in
       subst (λ n. length words ≤ length (layout program (name_or_none n))) (sym name)
       (enough_in (slice_get (all_classes program) class) words (e ∙ ap (λ f. length (words_known f)) facts))
 
   pub enough_fields : (kind : Kind) (class : ℕ) (words : List Value) (name : List ℕ)
       → IsStored program kind words → kind ≡ Instance class → name ≡ class_name program class
-          → length words ≤ length (layout program name)
+      → length words ≤ length (layout program name)
   enough_fields kind class words name stored is named =
       subst (λ n. length words ≤ length (layout program n)) (sym named)
-          (enough_of class words (subst (λ k. IsStored program k words) is stored))
+      (enough_of class words (subst (λ k. IsStored program k words) is stored))
 
   -- ---- what stands in a cell
 
@@ -78,12 +78,12 @@ module _ (program : List ClassListing) where
   pub object_is : (births : Naming) (objects : List (Option (StoredObject Kind))) (cell : ℕ) (kind : Kind)
       (words : List Value) (contents : Contents) (monitor : Monitor) (thread : Option ℕ)
       → Some kind ≡ option_map (λ object. object.kind) (object_if (slice_get objects cell))
-          → words ≡ words_if (object_if (slice_get objects cell))
+      → words ≡ words_if (object_if (slice_get objects cell))
       → contents ≡ named_contents births (contents_shown program kind words)
       → monitor ≡ monitor_if (object_if (slice_get objects cell))
-          → thread ≡ thread_if (object_if (slice_get objects cell))
+      → thread ≡ thread_if (object_if (slice_get objects cell))
       → Some (with_all contents monitor thread)
-          ≡ option_map (named_object births) (slice_get (map (object_shown program) objects) cell)
+      ≡ option_map (named_object births) (slice_get (map (object_shown program) objects) cell)
   object_is births objects cell kind words contents monitor thread is has holds owned started =
       in_cell births (slice_get objects cell) kind words contents monitor thread is has holds owned started
       ∙ ap (option_map (named_object births)) (sym (slice_get-map (object_shown program) objects cell))

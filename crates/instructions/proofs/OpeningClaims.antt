@@ -71,7 +71,7 @@ module _ (program : List ClassListing) (accepted : refusal_of program ≡ None) 
     (main : IsMain program locals stack) (place : MethodPlace) (placed : main_in program ≡ Some place)
     (few : locals + stack ≤ 4096) (count : ℕ) (above : ClassState)
     (chain : (let found : Chain = record { unused = claimed program 0 count; above = above }
-                    in chain_at program (opening_states program) 0 ≡ found))
+    in chain_at program (opening_states program) 0 ≡ found))
     (there : AreClaimed program 0 count) where
   abbrev opened : Frame
   opened = opening_frame place locals stack
@@ -84,7 +84,7 @@ module _ (program : List ClassListing) (accepted : refusal_of program ≡ None) 
         ap (λ (c : Chain). c.unused)
         (chain-same (c ∷ cs) (opening_states (c ∷ cs)) (opening-sized (c ∷ cs)) c.name 0 (first-number c cs))
         ∙ ap (λ (p : List ClassListing). (chain_at p (opening_states p) 0).unused) e
-            ∙ ap (λ (c : Chain). c.unused) chain
+        ∙ ap (λ (c : Chain). c.unused) chain
 
   main-is : main_frames program (main_in program) ≡ opened ∷ []
   main-is =
@@ -116,8 +116,11 @@ module _ (program : List ClassListing) (accepted : refusal_of program ≡ None) 
 
     pub main-fits : true ≡ opening_fits program
     main-fits =
-        let small : length (replicate locals Unset) + stack + 0 ≤ 4096 = omega (arith, few,
-              length-replicate locals Unset) in
+        let small : length (replicate locals Unset) + stack + 0 ≤ 4096 = omega (
+          arith,
+          few,
+          length-replicate locals Unset,
+        ) in
         sym (ap within_limits alone ∙ le-leb (length (replicate locals Unset) + stack + 0) 4096 small)
 
     pub main-alone : (frames before : List Frame) → before ≡ [] → frames ≡ before ++ opened ∷ []

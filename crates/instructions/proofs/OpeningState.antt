@@ -39,7 +39,7 @@ pub opened_slots : (program : List ClassListing) (slots : List Value)
     → length slots ≡ length (opening_slots program)
 opened_slots program slots e =
     ap length e ∙ length-map (static_slots program) (λ (s : Slot). s.opening)
-        ∙ length-map (opening_slots program) (slot_of program)
+    ∙ length-map (opening_slots program) (slot_of program)
 
 -- each class has a state
 pub claimed_sized : (program : List ClassListing) → length (claimed_states program) ≡ length program
@@ -56,15 +56,19 @@ pub opening_shown : (program : List ClassListing) (limits : Limits) (shape : Hea
     (states : List ClassState) (heap : HeapValue) (output : List ℕ)
     → ShapeFits shape.small shape.medium shape.large → frames ≡ opening_frames program
     → slots ≡ map (λ (s : Slot). s.opening) (static_slots program) → states ≡ claimed_states program
-        → heap ≡ opening_heap program shape
+    → heap ≡ opening_heap program shape
     → output ≡ [] → (threads : ThreadsValue) → threads ≡ record { courses = LiveCourse ∷ []; parked = replicate 64 [] }
-    → record { program = program; limits = limits; shape = heap.shape;
-        machine = machine_shown program (all_shown program threads 0 frames) slots states heap output None 0 }
+    → record {
+      program = program;
+      limits = limits;
+      shape = heap.shape;
+      machine = machine_shown program (all_shown program threads 0 frames) slots states heap output None 0;
+    }
     ≡ fresh program limits shape
 opening_shown program limits shape frames slots states heap output fits entered opens claimed heaps empty started
     opened =
     let threads = opening_threads program frames entered in
     let fields : keyed (opening_slots program) slots ≡ map (named_field (λ b. b)) (opening_slots program) =
     ap (keyed (opening_slots program)) opens ∙ keyed-opening program (opening_slots program)
-        ∙ sym (map-same (named_field (λ b. b)) field_same (opening_slots program)) in
+    ∙ sym (map-same (named_field (λ b. b)) field_same (opening_slots program)) in
     rw (opened, heaps, claimed, empty, fields, threads, opening_objects program shape fits) refl

@@ -48,7 +48,7 @@ module _ (program : List ClassListing) where
 
   in-classes : (cs : List ClassListing) (n k : ℕ) (methods : List MethodFacts) (facts : MethodFacts)
       → slice_get (map (class_methods program) cs) n ≡ Some methods → slice_get methods k ≡ Some facts
-          → IsOfMethod program facts
+      → IsOfMethod program facts
   in-classes [] n k methods facts there e = cc
   in-classes (c ∷ cs) zero k methods facts there e =
       let same : class_methods program c ≡ methods = cc in
@@ -57,7 +57,7 @@ module _ (program : List ClassListing) where
 
   in-own : (cs : List ClassListing) (n k : ℕ) (methods : List MethodFacts) (facts : MethodFacts)
       → slice_get (map (own_methods program) cs) n ≡ Some methods → slice_get methods k ≡ Some facts
-          → IsOfMethod program facts
+      → IsOfMethod program facts
   in-own [] n k methods facts there e = cc
   in-own (c ∷ cs) zero k methods facts there e =
       let same : own_methods program c ≡ methods = cc in
@@ -70,7 +70,7 @@ module _ (program : List ClassListing) where
       let methods = and_then-some (λ (methods : List MethodFacts). slice_get methods place.method)
       (slice_get (method_tables program) place.class) facts known in
       elim (either-part (map (class_methods program) program) (map (own_methods program) builtin_classes) place.class
-          methods.0 methods.1) [
+      methods.0 methods.1) [
         | inl there ↦ in-classes program place.class place.method methods.0 facts there methods.2
         | inr following ↦ in-own builtin_classes following.place place.method methods.0 facts following.there methods.2
       ]

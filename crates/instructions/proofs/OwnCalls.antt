@@ -48,12 +48,12 @@ both false b e = cc
 
 seven : (P : Builtin → Type 0) (a b c d e f g : Bool) (own : Builtin)
     → (a ≡ true → P PrintInt) → (b ≡ true → P PrintLong) → (c ≡ true → P PutByte) → (d ≡ true → P RunThread)
-        → (e ≡ true → P StartThread) → (f ≡ true → P JoinThread) → (g ≡ true → P Initialize)
+    → (e ≡ true → P StartThread) → (f ≡ true → P JoinThread) → (g ≡ true → P Initialize)
     → cond a (Some PrintInt)
-        (cond b (Some PrintLong)
-        (cond c (Some PutByte)
-        (cond d (Some RunThread)
-        (cond e (Some StartThread) (cond f (Some JoinThread) (cond g (Some Initialize) None)))))) ≡ Some own
+    (cond b (Some PrintLong)
+    (cond c (Some PutByte)
+    (cond d (Some RunThread)
+    (cond e (Some StartThread) (cond f (Some JoinThread) (cond g (Some Initialize) None)))))) ≡ Some own
     → P own
 seven P true b c d e f g own pa pb pc pd pe pf pg is = let same : PrintInt ≡ own = cc in rw (← same) (pa refl)
 seven P false true c d e f g own pa pb pc pd pe pf pg is = let same : PrintLong ≡ own = cc in rw (← same) (pb refl)
@@ -73,7 +73,7 @@ module _ (m : Member) where
       → IsCalled m own
   as_member own class e =
       let parts = both (bytes_eq m.class class && bytes_eq m.name (own_name own))
-            (bytes_eq m.descriptor (own_descriptor own)) e in
+      (bytes_eq m.descriptor (own_descriptor own)) e in
       record {
         name = (bytes_eq-Decides m.name (own_name own)).0
             (both (bytes_eq m.class class) (bytes_eq m.name (own_name own)) parts.0).1;
@@ -91,15 +91,15 @@ module _ (m : Member) where
   pub own_called : (own : Builtin) → builtin_of m ≡ Some own → IsCalled m own
   own_called own e =
       seven (IsCalled m) (is_member m (codes "vm/Sys") (codes "print") (codes "(I)V"))
-          (is_member m (codes "vm/Sys") (codes "printl") (codes "(J)V"))
+      (is_member m (codes "vm/Sys") (codes "printl") (codes "(J)V"))
       (is_member m (codes "vm/Sys") (codes "putc") (codes "(I)V")) (is_member m (codes "java/lang/Thread") (codes "run")
-          (codes "()V"))
+      (codes "()V"))
       (is_member m (codes "java/lang/Thread") (codes "start") (codes "()V"))
-          (is_member m (codes "java/lang/Thread") (codes "join") (codes "()V"))
+      (is_member m (codes "java/lang/Thread") (codes "join") (codes "()V"))
       (is_own_initializer m) own
       (as_member PrintInt (codes "vm/Sys")) (as_member PrintLong (codes "vm/Sys")) (as_member PutByte (codes "vm/Sys"))
       (as_member RunThread (codes "java/lang/Thread")) (as_member StartThread (codes "java/lang/Thread"))
-          (as_member JoinThread (codes "java/lang/Thread"))
+      (as_member JoinThread (codes "java/lang/Thread"))
       as_initializer e
 
 -- ---- operands

@@ -72,14 +72,14 @@ module _ (program : List ClassListing) (hierarchy : IsHierarchy program)
   own-none name c none e =
       ap (λ o. instance_fields_in name (or_else o (builtin name))) none ∙ ap (instance_fields_in name) e
       ∙ no-fields name c (all-found (λ (c : ClassListing). fieldless c.fields) (is_named name) builtin_classes c
-          own_fieldless e)
+      own_fieldless e)
 
   nothing-above : (n : ℕ) (name : List ℕ) → listed program name ≡ None → Each HasNone (upwards n program name)
   unfolding upwards
   nothing-above zero name none = tt
   nothing-above (suc n) name none =
       subst (λ o. Each HasNone (with_superclasses name (λ above. upwards n program above) (or_else o (builtin name))))
-          (sym none)
+      (sym none)
       (by (builtin name) refl (λ above none. nothing-above n above none))
     where
       by : (c : Option ClassListing) → builtin name ≡ c
@@ -91,7 +91,7 @@ module _ (program : List ClassListing) (hierarchy : IsHierarchy program)
   own-layout : (name : List ℕ) → is_some (builtin name) ≡ true → layout program name ≡ []
   own-layout name own =
       flat-none fields_named _
-          (each-reverse HasNone _ (nothing-above _ name (unlisted program hierarchy hides name own)))
+      (each-reverse HasNone _ (nothing-above _ name (unlisted program hierarchy hides name own)))
 
   own-words : (place : ℕ) → words_in (class_tables program) (length program + place) ≡ []
   own-words place = by (slice_get (all_classes program) (length program + place)) refl
@@ -102,7 +102,7 @@ module _ (program : List ClassListing) (hierarchy : IsHierarchy program)
       by (Some c) e =
           let own : is_some (builtin c.name) ≡ true =
           all-at (λ (c : ClassListing). is_some (builtin c.name)) builtin_classes place c own_there
-              (sym (get-following program builtin_classes place) ∙ e) in
+          (sym (get-following program builtin_classes place) ∙ e) in
           words-layout program (length program + place) c e ∙ ap (map (word_of program)) (own-layout c.name own)
 
 -- an object of one is made with all its words
@@ -110,4 +110,4 @@ pub own-stored : (program : List ClassListing) → CanRun program → (place : �
     → IsStored program (own_class program place) []
 own-stored program can place =
     sym (ap length (own-words program (accepted_hierarchy program can.accepted) (none_hides program can.accepted)
-        place))
+    place))

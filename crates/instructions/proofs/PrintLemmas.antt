@@ -28,17 +28,24 @@ module _ (program : List ClassListing) (scene : Scene) (m after : Machine) (here
   bytes_line : (n : ℕ) (z : ℤ) → after.frames ≡ with_running m.frames (replaced n (running_frame m.frames) 1 []).frame
       → after.slots ≡ m.slots
       → after.states.items ≡ m.states.items → after.output.items ≡ m.output.items ++ bytes z → after.heap ≡ m.heap
-          → Tells (Ok (done_in Live)) (printed n (Ok z))
+      → Tells (Ok (done_in Live)) (printed n (Ok z))
   unfolding turned_on
   bytes_line n z frames slots states output heap =
-      rw (frames, slots, states, output, heap, frames_shown program scene m here,
-          thread_set scene m.thread here (LiveThread m.frames)
-          (LiveThread (with_running m.frames (replaced n (running_frame m.frames) 1 []).frame))) refl
+      rw (
+        frames,
+        slots,
+        states,
+        output,
+        heap,
+        frames_shown program scene m here,
+        thread_set scene m.thread here (LiveThread m.frames)
+            (LiveThread (with_running m.frames (replaced n (running_frame m.frames) 1 []).frame)),
+      ) refl
 
   pub bytes_reported : (n : ℕ) (z : ℤ) (r : Result ℤ Fault) → Ok z ≡ r → after.frames
       ≡ with_running m.frames (replaced n (running_frame m.frames) 1 []).frame
       → after.slots ≡ m.slots → after.states.items ≡ m.states.items → after.output.items ≡ m.output.items ++ bytes z
-          → after.heap ≡ m.heap
+      → after.heap ≡ m.heap
       → Tells (Ok (done_in Live)) (printed n r)
   bytes_reported n z r is frames slots states output heap =
       subst (λ r. Tells (Ok (done_in Live)) (printed n r)) is (bytes_line n z frames slots states output heap)

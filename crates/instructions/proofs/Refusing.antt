@@ -50,20 +50,20 @@ pub allowed : (s : Loaded) (t : ℕ) → refusal s.program s.limits s.machine.wo
 unfolding refusal
 allowed s t e =
     let none : s.machine.world.fault ≡ None = faultless s.program s.limits s.machine.world (Thread t)
-          s.machine.world.fault e in
+    s.machine.world.fault e in
     let rest : refusal_after s.program s.limits s.machine.world (Thread t) None
-          ≡ None = ap (refusal_after s.program s.limits s.machine.world (Thread t)) (sym none) ∙ e in
+    ≡ None = ap (refusal_after s.program s.limits s.machine.world (Thread t)) (sym none) ∙ e in
     let steps = counted (nat_le s.limits.steps s.machine.world.rows) (thread_refusal s.program s.limits s.machine.world
-          t) rest in
+    t) rest in
     let ready = unrefused (is_ready s.program s.machine.world t) (overflows s.program s.limits s.machine.world t)
-          steps.1 in
+    steps.1 in
     record {
       faultless = none;
       counted = leb-false s.limits.steps s.machine.world.rows steps.0;
       live =
           second_holds (is_none s.machine.world.fault) (is_live s.machine.world t)
           (first_holds (is_none s.machine.world.fault && is_live s.machine.world t)
-              (not (waits (completion s.program s.machine.world t))) ready.0);
+          (not (waits (completion s.program s.machine.world t))) ready.0);
       fits = fits s.limits.output s.machine.world.output (print_of s.program s.machine.world t) ready.1;
     }
 
@@ -79,5 +79,5 @@ unfolding refusal
 unrefused_counted program limits w actor e =
     let none : w.fault ≡ None = faultless program limits w actor w.fault e in
     let rest : refusal_after program limits w actor None ≡ None = ap (refusal_after program limits w actor) (sym none)
-          ∙ e in
+    ∙ e in
     leb-false limits.steps w.rows (counted (nat_le limits.steps w.rows) (actor_refusal program limits w actor) rest).0

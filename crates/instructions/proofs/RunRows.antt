@@ -53,8 +53,10 @@ module _ {A : Type 0} (p : A → Bool) where
       by true h later e =
           let is : x ≡ r = ap (λ (o : Option A). unwrap_or o x) e in ((0, omega arith, is), ap p (sym is) ∙ h)
       by false h later e =
-          let rest = later e in let inside : rest.0.0 < length xs = rest.0.1 in ((suc rest.0.0, omega arith, rest.0.2),
-                                      rest.1)
+          let rest = later e in let inside : rest.0.0 < length xs = rest.0.1 in (
+            (suc rest.0.0, omega arith, rest.0.2),
+            rest.1,
+          )
 
   none-in : (xs : List A) (r : A) → find p xs ≡ None → Contains xs r → p r ≡ true → ⊥
   none-in [] r e there h = absurd (omega (arith, there.1))
@@ -134,22 +136,22 @@ module _ (program : List ClassListing) where
       in-class : (c : ClassListing) → slice_get builtin_classes n ≡ Some c → (o : Option Method) → slice_get c.methods k
           ≡ o
           → run_declared (option_map (λ (m : Method). let d : Declared Method = record { class = c.name; member = m }
-                                                            in d) o)
+          in d) o)
           ≡ known_run (option_map (method_facts program c.name) o)
       in-class c at None there = refl
       in-class c at (Some m) there =
           same-bools (is_run m) (is_own_run (body_of c.name m))
           (all-at (λ (m : Method). same_bool (is_run m) (is_own_run (body_of c.name m))) c.methods k m
           (all-at (λ (c : ClassListing). list_all (λ (m : Method). same_bool (is_run m) (is_own_run (body_of c.name m)))
-              c.methods) builtin_classes n c own-runs at) there)
+          c.methods) builtin_classes n c own-runs at) there)
 
       none : slice_get builtin_classes n ≡ None
           → facts_at (method_tables program) (record { class = length program + n; method = k }) ≡ None
       none e =
           let same : length program + n ≡ length (map (class_methods program) program) + n = ap (λ l. l + n)
-                (sym (length-map (class_methods program) program)) in
+          (sym (length-map (class_methods program) program)) in
           ap (λ class. option_and_then (λ (methods : List MethodFacts). slice_get methods k)
-              (slice_get (method_tables program) class)) same
+          (slice_get (method_tables program) class)) same
           ∙ ap (option_and_then (λ (methods : List MethodFacts). slice_get methods k))
           (following (map (class_methods program) program) (map (own_methods program) builtin_classes) n
           ∙ slice_get-map (own_methods program) builtin_classes n ∙ ap (option_map (own_methods program)) e)
@@ -162,12 +164,12 @@ module _ (program : List ClassListing) where
 
   pub own-row : (r : RowOfNumbers) → length program ≤ r.class
       → known_run (facts_at (method_tables program) (record { class = r.class; method = r.method }))
-          ≡ is_run_row program r
+      ≡ is_run_row program r
   own-row r past =
       let place : r.class ≡ length program + (r.class - length program) = omega (arith, past) in
       ap (λ class. known_run
-          (facts_at (method_tables program) (let at : MethodPlace = record { class = class; method = r.method } in at)))
-                                                   place
+      (facts_at (method_tables program) (let at : MethodPlace = record { class = class; method = r.method } in at)))
+      place
       ∙ sym (own-at (r.class - length program) r.method)
       ∙ sym (ap (λ o. run_declared (option_and_then (method_in r.method) o))
       (ap (slice_get (all_classes program)) place ∙ following program builtin_classes (r.class - length program)))
@@ -185,24 +187,24 @@ inside program class less =
     let own = own-count in omega (arith, less, count, own)
 
 module _ (program : List ClassListing) (hierarchy : IsHierarchy program) (hides : find has_builtin_name program ≡ None)
-    where
-  nothing-above : superclasses program [] ≡ []
-  nothing-above = none-above program hierarchy hides (length program + 23)
+  where
+    nothing-above : superclasses program [] ≡ []
+    nothing-above = none-above program hierarchy hides (length program + 23)
 
-  -- past the last class nothing is selected
-  pub past-none : (class : ℕ) → length program + 23 ≤ class
-      → None ≡ selected_place program run_signature (Instance class)
-  past-none class past =
-      let first = length-map (λ (c : ClassListing). c.name) program in
-      let second = length-map (λ (c : ClassListing). c.name) builtin_classes in
-      let own = own-count in
-      let count = length-append (map (λ (c : ClassListing). c.name) program)
-            (map (λ (c : ClassListing). c.name) builtin_classes) in
-      let name : class_name program class ≡ [] =
-      ap name_or_none (slice_get_past (class_names program) class (omega (arith, first, second, own, count, past))) in
-      sym (ap (λ n. place_if program (selected program n (codes "run") (codes "()V"))) name
-      ∙ ap (λ names. place_if program (first_declared program (virtual_of (codes "run") (codes "()V")) names))
-          nothing-above)
+    -- past the last class nothing is selected
+    pub past-none : (class : ℕ) → length program + 23 ≤ class
+        → None ≡ selected_place program run_signature (Instance class)
+    past-none class past =
+        let first = length-map (λ (c : ClassListing). c.name) program in
+        let second = length-map (λ (c : ClassListing). c.name) builtin_classes in
+        let own = own-count in
+        let count = length-append (map (λ (c : ClassListing). c.name) program)
+        (map (λ (c : ClassListing). c.name) builtin_classes) in
+        let name : class_name program class ≡ [] =
+        ap name_or_none (slice_get_past (class_names program) class (omega (arith, first, second, own, count, past))) in
+        sym (ap (λ n. place_if program (selected program n (codes "run") (codes "()V"))) name
+        ∙ ap (λ names. place_if program (first_declared program (virtual_of (codes "run") (codes "()V")) names))
+        nothing-above)
 
 -- ---- the row of `run()V`
 
@@ -219,7 +221,7 @@ module _ (program : List ClassListing) (free : Unrefused program) (hides : find 
 
     some-row : (r : RowOfNumbers) → find (is_run_row program) rows ≡ Some r
         → Some (let at : MethodPlace = record { class = r.class; method = r.method } in at)
-                      ≡ place_if program (selected program class run no_arguments)
+        ≡ place_if program (selected program class run no_arguments)
     some-row r e =
         let found = found-in (is_run_row program) rows r e in
         let d = (row_of program r).method in
@@ -228,15 +230,15 @@ module _ (program : List ClassListing) (free : Unrefused program) (hides : find 
         (sym (ap (run_declared program) tells) ∙ found.1) in
         let name : d.member.name ≡ run = (bytes_eq-Decides d.member.name run).0 names.0 in
         let descriptor : d.member.descriptor ≡ no_arguments = (bytes_eq-Decides d.member.descriptor no_arguments).0
-              names.1 in
+        names.1 in
         let given : selected program class d.member.name d.member.descriptor ≡ Some d =
         All-contains (IsSelected program class) (map (row_of program) rows) (row_of program r) table.table.given
-            (contains-map (row_of program) rows r found.0) in
+        (contains-map (row_of program) rows r found.0) in
         let is : selected program class run no_arguments ≡ Some d =
         sym (ap (λ n. selected program class n no_arguments) name)
-            ∙ sym (ap (selected program class d.member.name) descriptor) ∙ given in
+        ∙ sym (ap (selected program class d.member.name) descriptor) ∙ given in
         sym (row-number program free hides (is_virtual_of run no_arguments) d (virtual-is program free hides class run
-            no_arguments d is) r tells)
+        no_arguments d is) r tells)
         ∙ sym (ap (place_if program) is)
 
     none-row : find (is_run_row program) rows ≡ None → None ≡ place_if program (selected program class run no_arguments)
@@ -251,25 +253,25 @@ module _ (program : List ClassListing) (free : Unrefused program) (hides : find 
             let tells = row-tells r mapped.there in
             let name : (row_of program r).method.member.name ≡ run = ap (λ (x : SelectionRow). x.name) mapped.is in
             let descriptor : (row_of program r).method.member.descriptor
-                  ≡ no_arguments = ap (λ (x : SelectionRow). x.descriptor) mapped.is in
+            ≡ no_arguments = ap (λ (x : SelectionRow). x.descriptor) mapped.is in
             absurd (none-in (is_run_row program) rows r e mapped.there
             (ap (run_declared program) tells
-                ∙ ap (λ n. bytes_eq n run && bytes_eq (row_of program r).method.member.descriptor no_arguments) name
+            ∙ ap (λ n. bytes_eq n run && bytes_eq (row_of program r).method.member.descriptor no_arguments) name
             ∙ ap (λ n. bytes_eq run run && bytes_eq n no_arguments) descriptor))
 
   pub row-place : (class : ℕ) (c : ClassListing) (rows : List RowOfNumbers) (row : Option RowOfNumbers)
       → slice_get (all_classes program) class ≡ Some c
       → IsTableAt program class rows → row ≡ find (is_run_row program) rows
       → option_map (λ (r : RowOfNumbers). let at : MethodPlace = record { class = r.class; method = r.method }
-                                                in at) row
+      in at) row
       ≡ selected_place program run_signature (Instance class)
   row-place class c rows row at table is =
       by row (sym is) ∙ sym (ap (λ n. place_if program (selected program n (codes "run") (codes "()V")))
-          (name-some program class c at))
+      (name-some program class c at))
     where
       by : (row : Option RowOfNumbers) → find (is_run_row program) rows ≡ row
           → option_map (λ (r : RowOfNumbers). let at : MethodPlace = record { class = r.class; method = r.method }
-                                                    in at) row
+          in at) row
           ≡ place_if program (selected program c.name (codes "run") (codes "()V"))
       by None e = none-row c.name rows (table c at) e
       by (Some r) e = some-row c.name rows (table c at) r e
@@ -278,7 +280,7 @@ module _ (program : List ClassListing) (free : Unrefused program) (hides : find 
       → class < length (all_classes program)
       → IsTableAt program class rows → row ≡ find (is_run_row program) rows
       → option_map (λ (r : RowOfNumbers). let at : MethodPlace = record { class = r.class; method = r.method }
-                                                in at) row
+      in at) row
       ≡ selected_place program run_signature (Instance class)
   row-run class rows row less table is = by (slice_get (all_classes program) class) refl
     where
@@ -287,7 +289,7 @@ module _ (program : List ClassListing) (free : Unrefused program) (hides : find 
 
       by : (o : Option ClassListing) → slice_get (all_classes program) class ≡ o
           → option_map (λ (r : RowOfNumbers). let at : MethodPlace = record { class = r.class; method = r.method }
-                                                    in at) row
+          in at) row
           ≡ selected_place program run_signature (Instance class)
       by None e = absurd (none-here e (inside-some (all_classes program) class less))
         where

@@ -12,12 +12,12 @@ running-with frames f some =
 with-twice : (frames : List Frame) (f g : Frame) → with_running (with_running frames f) g ≡ with_running frames g
 with-twice frames f g =
     ap (λ n. slice_set (with_running frames f) (n - 1) g) (length-set frames (length frames - 1) f)
-        ∙ set-set frames (length frames - 1) f g
+    ∙ set-set frames (length frames - 1) f g
 
 pub changed-twice : (old mid : List Frame) (g : Frame) (change : Frame → Frame) → 0 < length old
     → mid ≡ with_running old g
     → with_running mid (change (running_frame mid)) ≡ with_running old (change g)
 changed-twice old mid g change some is =
     ap (λ fs. with_running fs (change (running_frame fs))) is ∙ ap (λ f. with_running (with_running old g) (change f))
-        (running-with old g some)
+    (running-with old g some)
     ∙ with-twice old g (change g)

@@ -45,77 +45,77 @@ fold-has P f keeps x brings (y ∷ ys) (suc k) a e = fold-has P f keeps x brings
 -- ---- what signatures keep, whatever is called
 
 module _ (P : List Signature → Type 0) (keeps : (ss : List Signature) (s : Signature) → P ss → P (with_signature ss s))
-    where
-  member-keeps : (ss : List Signature) (invocation : Invocation) (m : Member) → P ss → P (with_member ss invocation m)
-  member-keeps ss Virtual m p = keeps ss (m.name, m.descriptor) p
-  member-keeps ss (Interface count) m p = keeps ss (m.name, m.descriptor) p
-  member-keeps ss Special m p = p
-  member-keeps ss Static m p = p
+  where
+    member-keeps : (ss : List Signature) (invocation : Invocation) (m : Member) → P ss → P (with_member ss invocation m)
+    member-keeps ss Virtual m p = keeps ss (m.name, m.descriptor) p
+    member-keeps ss (Interface count) m p = keeps ss (m.name, m.descriptor) p
+    member-keeps ss Special m p = p
+    member-keeps ss Static m p = p
 
-  called-keeps : (ss : List Signature) (i : Listed) → P ss → P (with_called ss i)
-  called-keeps ss (Invoke invocation m) p = member-keeps ss invocation m p
-  called-keeps ss Nop p = p
-  called-keeps ss (Constant constant) p = p
-  called-keeps ss (Number operation) p = p
-  called-keeps ss (Return kind) p = p
-  called-keeps ss (Local access) p = p
-  called-keeps ss (Stack operation) p = p
-  called-keeps ss (Branch test target) p = p
-  called-keeps ss (TableSwitch table) p = p
-  called-keeps ss (LookupSwitch lookup) p = p
-  called-keeps ss (StaticField access m) p = p
-  called-keeps ss (Field access m) p = p
-  called-keeps ss (Array operation) p = p
-  called-keeps ss (Class operation name) p = p
-  called-keeps ss Throw p = p
-  called-keeps ss (Monitor operation) p = p
+    called-keeps : (ss : List Signature) (i : Listed) → P ss → P (with_called ss i)
+    called-keeps ss (Invoke invocation m) p = member-keeps ss invocation m p
+    called-keeps ss Nop p = p
+    called-keeps ss (Constant constant) p = p
+    called-keeps ss (Number operation) p = p
+    called-keeps ss (Return kind) p = p
+    called-keeps ss (Local access) p = p
+    called-keeps ss (Stack operation) p = p
+    called-keeps ss (Branch test target) p = p
+    called-keeps ss (TableSwitch table) p = p
+    called-keeps ss (LookupSwitch lookup) p = p
+    called-keeps ss (StaticField access m) p = p
+    called-keeps ss (Field access m) p = p
+    called-keeps ss (Array operation) p = p
+    called-keeps ss (Class operation name) p = p
+    called-keeps ss Throw p = p
+    called-keeps ss (Monitor operation) p = p
 
-  instructions-keep : (is : List Placed) (ss : List Signature) → P ss → P (with_instructions ss is)
-  instructions-keep is ss p =
-      fold-keeps P (λ (called : List Signature) (i : Placed). with_called called i.instruction)
-          (λ ss i p. called-keeps ss i.instruction p) is ss p
+    instructions-keep : (is : List Placed) (ss : List Signature) → P ss → P (with_instructions ss is)
+    instructions-keep is ss p =
+        fold-keeps P (λ (called : List Signature) (i : Placed). with_called called i.instruction)
+        (λ ss i p. called-keeps ss i.instruction p) is ss p
 
-  code-keeps : (code : Option CodeListing) (ss : List Signature) → P ss → P (with_code ss code)
-  code-keeps None ss p = p
-  code-keeps (Some code) ss p = instructions-keep code.instructions ss p
+    code-keeps : (code : Option CodeListing) (ss : List Signature) → P ss → P (with_code ss code)
+    code-keeps None ss p = p
+    code-keeps (Some code) ss p = instructions-keep code.instructions ss p
 
-  methods-keep : (methods : List Method) (ss : List Signature) → P ss → P (with_methods ss methods)
-  methods-keep methods ss p =
-      fold-keeps P (λ (called : List Signature) (m : Method). with_code called m.code)
-          (λ ss m p. code-keeps m.code ss p) methods ss p
+    methods-keep : (methods : List Method) (ss : List Signature) → P ss → P (with_methods ss methods)
+    methods-keep methods ss p =
+        fold-keeps P (λ (called : List Signature) (m : Method). with_code called m.code)
+        (λ ss m p. code-keeps m.code ss p) methods ss p
 
-  classes-keep : (classes : List ClassListing) (ss : List Signature) → P ss → P (with_classes ss classes)
-  classes-keep classes ss p =
-      fold-keeps P (λ (called : List Signature) (c : ClassListing). with_methods called c.methods)
-          (λ ss c p. methods-keep c.methods ss p) classes ss p
+    classes-keep : (classes : List ClassListing) (ss : List Signature) → P ss → P (with_classes ss classes)
+    classes-keep classes ss p =
+        fold-keeps P (λ (called : List Signature) (c : ClassListing). with_methods called c.methods)
+        (λ ss c p. methods-keep c.methods ss p) classes ss p
 
-  -- ---- an instruction of the code of a program
+    -- ---- an instruction of the code of a program
 
-  module _ (i : Placed) (brings : (ss : List Signature) → P (with_called ss i.instruction)) where
-    instructions-have : (is : List Placed) (k : ℕ) (ss : List Signature) → slice_get is k ≡ Some i
-        → P (with_instructions ss is)
-    instructions-have is k ss e =
-        fold-has P (λ (called : List Signature) (j : Placed). with_called called j.instruction)
-            (λ ss j p. called-keeps ss j.instruction p)
-        i brings is k ss e
+    module _ (i : Placed) (brings : (ss : List Signature) → P (with_called ss i.instruction)) where
+      instructions-have : (is : List Placed) (k : ℕ) (ss : List Signature) → slice_get is k ≡ Some i
+          → P (with_instructions ss is)
+      instructions-have is k ss e =
+          fold-has P (λ (called : List Signature) (j : Placed). with_called called j.instruction)
+          (λ ss j p. called-keeps ss j.instruction p)
+          i brings is k ss e
 
-    methods-have : (m : Method) (code : CodeListing) → m.code ≡ Some code → (n : ℕ) → slice_get code.instructions n
-        ≡ Some i
-        → (methods : List Method) (k : ℕ) (ss : List Signature) → slice_get methods k ≡ Some m
-            → P (with_methods ss methods)
-    methods-have m code is n at methods k ss e =
-        fold-has P (λ (called : List Signature) (m : Method). with_code called m.code)
-            (λ ss m p. code-keeps m.code ss p)
-        m (λ ss. subst (λ code. P (with_code ss code)) (sym is) (instructions-have code.instructions n ss at)) methods k
-            ss e
+      methods-have : (m : Method) (code : CodeListing) → m.code ≡ Some code → (n : ℕ) → slice_get code.instructions n
+          ≡ Some i
+          → (methods : List Method) (k : ℕ) (ss : List Signature) → slice_get methods k ≡ Some m
+          → P (with_methods ss methods)
+      methods-have m code is n at methods k ss e =
+          fold-has P (λ (called : List Signature) (m : Method). with_code called m.code)
+          (λ ss m p. code-keeps m.code ss p)
+          m (λ ss. subst (λ code. P (with_code ss code)) (sym is) (instructions-have code.instructions n ss at)) methods k
+          ss e
 
-    program-has : (c : ClassListing) (m : Method) (code : CodeListing) → m.code ≡ Some code
-        → (n : ℕ) → slice_get code.instructions n ≡ Some i → (k : ℕ) → slice_get c.methods k ≡ Some m
-        → (program : List ClassListing) (j : ℕ) → slice_get program j ≡ Some c → P (selectors program)
-    program-has c m code is n at k there program j e =
-        fold-has P (λ (called : List Signature) (c : ClassListing). with_methods called c.methods)
-            (λ ss c p. methods-keep c.methods ss p)
-        c (λ ss. methods-have m code is n at c.methods k ss there) program j [] e
+      program-has : (c : ClassListing) (m : Method) (code : CodeListing) → m.code ≡ Some code
+          → (n : ℕ) → slice_get code.instructions n ≡ Some i → (k : ℕ) → slice_get c.methods k ≡ Some m
+          → (program : List ClassListing) (j : ℕ) → slice_get program j ≡ Some c → P (selectors program)
+      program-has c m code is n at k there program j e =
+          fold-has P (λ (called : List Signature) (c : ClassListing). with_methods called c.methods)
+          (λ ss c p. methods-keep c.methods ss p)
+          c (λ ss. methods-have m code is n at c.methods k ss there) program j [] e
 
 -- ---- each signature once
 
@@ -152,7 +152,7 @@ nowhere s ss none = by (position (is_signature s) ss) refl
         → list_any (is_signature s) ss ≡ true
     any-at [] k x e h = cc
     any-at (y ∷ ys) zero x e h = let same : y ≡ x = cc
-                                       in ap (λ b. b || list_any (is_signature s) ys) (ap (is_signature s) same ∙ h)
+        in ap (λ b. b || list_any (is_signature s) ys) (ap (is_signature s) same ∙ h)
     any-at (y ∷ ys) (suc k) x e h = ap (λ b. is_signature s y || b) (any-at ys k x e h) ∙ or-true (is_signature s y)
       where
         or-true : (a : Bool) → (a || true) ≡ true
@@ -185,7 +185,7 @@ one-more ss t once new k s e = by (slice_get ss k) refl
         let same : x ≡ s = one-of (sym (first-part ss (t ∷ []) k x h) ∙ e) in
         position-append (is_signature s) ss (t ∷ [])
         ∙ ap (λ o. or_else o (place_after (length ss) (position (is_signature s) (t ∷ []))))
-            (once k s (h ∙ ap Some same))
+        (once k s (h ∙ ap Some same))
       where
         one-of : Some x ≡ Some s → x ≡ s
         one-of e = cc
@@ -332,7 +332,7 @@ module _ (program : List ClassListing) (m : Member) where
       by : (c : ClassListing) (x : Method) → slice_get program place.class ≡ Some c → x.code ≡ Some code
           → (o : Option Method) → slice_get c.methods place.method ≡ o
           → or_else o (cond (place.method == length c.methods) (Some empty_initializer) None) ≡ Some x
-              → HasSelector program m
+          → HasSelector program m
       by c x class is (Some y) e k =
           let same : y ≡ x = cc in
           let found = found-place (λ (i : Placed). i.pc == pc) code.instructions i at in

@@ -108,8 +108,10 @@ completes_goes s (Err (Thrown e)) = raises_goes e
 static_got_silent : (s : Site) (n : ℕ) (o : Option Slot) → (prints (static_got_if s n o) ≡ None)
     × (waits (static_got_if s n o) ≡ false)
 static_got_silent s n None = (refl, refl)
-static_got_silent s n (Some slot) = (completes_silent s (replaced_if_room s.next s.frame 0 (slot_at s.world n ∷ [])),
-    completes_goes s (replaced_if_room s.next s.frame 0 (slot_at s.world n ∷ [])))
+static_got_silent s n (Some slot) = (
+  completes_silent s (replaced_if_room s.next s.frame 0 (slot_at s.world n ∷ [])),
+  completes_goes s (replaced_if_room s.next s.frame 0 (slot_at s.world n ∷ [])),
+)
 
 static_put_silent : (s : Site) (n : ℕ) (storage : Storage) (r : Result Value Fault)
     → (prints (static_put_at s n storage r) ≡ None) × (waits (static_put_at s n storage r) ≡ false)
@@ -215,7 +217,7 @@ enter_waits own true false e = e
 
 exit_silent : (s : Site) (w : World) (owns : Bool)
     → (let c = if owns then moved_with s w else raises exception.IllegalMonitorState in (prints c ≡ None)
-             × (waits c ≡ false))
+    × (waits c ≡ false))
 exit_silent s w true = (refl, refl)
 exit_silent s w false = (refl, refl)
 
@@ -224,7 +226,7 @@ operates_prints s Enter birth =
     let m = monitor_of s.world birth in enter_prints (moved_with s _) (may_enter s.thread m.owner) (is_full m) refl
 operates_prints s Exit birth =
     let m = monitor_of s.world birth
-          in (exit_silent s (with_monitor_of s.world birth (exited m)) (is_owner s.thread m.owner)).0
+    in (exit_silent s (with_monitor_of s.world birth (exited m)) (is_owner s.thread m.owner)).0
 
 monitors_print : (s : Site) (h : HeapValue) (operation : MonitorOperation) (r : Result (Option ℕ) Fault)
     → prints (operates_by s h operation r) ≡ None
@@ -242,7 +244,7 @@ aside_silent s None = (refl, refl)
 aside_silent s (Some i) = by (aside_move s.next i.instruction s.frame)
   where
     by : (o : Option (Result Moved Abrupt)) → (let c = moved_or s o (Faults NoInstruction) in (prints c ≡ None)
-                                                     × (waits c ≡ false))
+        × (waits c ≡ false))
     by None = (refl, refl)
     by (Some m) = (completes_silent s m, completes_goes s m)
 
@@ -293,7 +295,7 @@ abbrev claims_frames : Site → List ℕ → List Frame → Bool → Completion
 claims_frames s classes frames fit =
     if fit
     then Goes (with_class_states (with_thread s.world s.thread (Live frames))
-        (with_states (Running s.thread) classes (states_in s))) []
+    (with_states (Running s.thread) classes (states_in s))) []
     else raises exception.StackOverflow
 
 claim_silent : (s : Site) (classes : List ℕ) (frames : List Frame) (fit : Bool)
@@ -309,7 +311,7 @@ claimed_prints : (s : Site) (classes : List ℕ) (own : Completion) → prints o
 claimed_prints s [] own none = none
 claimed_prints s (class ∷ classes) own none =
     (claim_silent s (class ∷ classes) (frames_claimed s (class ∷ classes))
-        (within_limits (frames_claimed s (class ∷ classes)))).0
+    (within_limits (frames_claimed s (class ∷ classes)))).0
 
 chain_prints : (s : Site) (own : Completion) → prints own ≡ None → (unused : List ℕ) (above : ClassState)
     → prints (initialises s unused above own) ≡ None
@@ -327,7 +329,7 @@ class_prints : (s : Site) (own : Completion) → prints own ≡ None → (class 
 class_prints s own none None = none
 class_prints s own none (Some class) =
     chain_prints s own none (chain_at s.program (states_in s) class).unused
-        (chain_at s.program (states_in s) class).above
+    (chain_at s.program (states_in s) class).above
 
 -- what prints uses no class
 pub stepped_prints : (s : Site) (h : HeapValue) (op : Operation)
@@ -378,7 +380,7 @@ module _ (courses : List Course) (s : Site) (h : HeapValue) (objects_are : s.wor
     by : (there : Bool) → waits (operates_if s Exit birth there) ≡ false
     by true =
         let m = monitor_of s.world birth
-              in (exit_silent s (with_monitor_of s.world birth (exited m)) (is_owner s.thread m.owner)).1
+        in (exit_silent s (with_monitor_of s.world birth (exited m)) (is_owner s.thread m.owner)).1
     by false = refl
 
   else_waits : (op : Operation) → waits (operated_else s h op)
@@ -427,7 +429,7 @@ module _ (courses : List Course) (s : Site) (h : HeapValue) (objects_are : s.wor
   claimed_waits [] own goes = goes
   claimed_waits (class ∷ classes) own goes =
       (claim_silent s (class ∷ classes) (frames_claimed s (class ∷ classes))
-          (within_limits (frames_claimed s (class ∷ classes)))).1
+      (within_limits (frames_claimed s (class ∷ classes)))).1
 
   chain_waits : (own : Completion) → waits own ≡ false → (unused : List ℕ) (above : ClassState)
       → waits (initialises s unused above own) ≡ is_others s.thread above
@@ -445,7 +447,7 @@ module _ (courses : List Course) (s : Site) (h : HeapValue) (objects_are : s.wor
   class_waits own goes None = goes
   class_waits own goes (Some class) =
       chain_waits own goes (chain_at s.program (states_in s) class).unused
-          (chain_at s.program (states_in s) class).above
+      (chain_at s.program (states_in s) class).above
 
   or-false : (a b : Bool) → b ≡ false → a ≡ (a || b)
   or-false true b e = refl
@@ -454,12 +456,12 @@ module _ (courses : List Course) (s : Site) (h : HeapValue) (objects_are : s.wor
   -- an operation that enters no monitor
   uses_waits : (op : Operation) → awaits_thread s.program courses s.thread h s.frame op ≡ false
       → waits (after_initialising_by_numbers s op (operated s h op))
-          ≡ (waits_for s.program (states_in s) s.thread (class_used_by s.program op) || awaits_thread s.program courses
-          s.thread h s.frame op)
+      ≡ (waits_for s.program (states_in s) s.thread (class_used_by s.program op) || awaits_thread s.program courses
+      s.thread h s.frame op)
   uses_waits op none =
       class_waits (operated s h op) (operated_waits op ∙ none) (class_used_by s.program op)
       ∙ or-false (waits_for s.program (states_in s) s.thread (class_used_by s.program op))
-          (awaits_thread s.program courses s.thread h s.frame op) none
+      (awaits_thread s.program courses s.thread h s.frame op) none
 
   pub stepped_waits : (op : Operation) → waits (after_initialising_by_numbers s op (operated s h op))
       ≡ (waits_for s.program (states_in s) s.thread (class_used_by s.program op) || awaits_thread s.program courses
@@ -486,6 +488,6 @@ turn_waits program courses w m t (Some f) objects states lives = by f.mark
     by Unmarked =
         stepped_waits courses (site_of program w t f (standing program f).next) m.heap objects lives op
         ∙ ap (λ (ss : List ClassState). waits_for program ss t (class_used_by program op)
-            || awaits_thread program courses t m.heap f op) states
+        || awaits_thread program courses t m.heap f op) states
     by Waiting = refl
     by Failing = refl

@@ -100,7 +100,7 @@ module _ (s : Site) (h : HeapValue) (shown : s.world.objects ≡ objects_shown s
 
       coded-same : (code : Option CodeListing) → d.member.code ≡ code
           → begins_by_name s birth object (coded d.member code (place_of s.program d))
-              ≡ begins s birth object (begun_by place birth (body_by None code))
+          ≡ begins s birth object (begun_by place birth (body_by None code))
       coded-same None e = refl
       coded-same (Some code) e =
           elim (methods.placed s.program free hides test d is) [
@@ -117,7 +117,7 @@ module _ (s : Site) (h : HeapValue) (shown : s.world.objects ≡ objects_shown s
         where
           by : (builtin : Option Builtin)
               → begins_by_name s birth object (callee_by s.program d builtin)
-                  ≡ begins s birth object (begun_by place birth (body_by builtin d.member.code))
+              ≡ begins s birth object (begun_by place birth (body_by builtin d.member.code))
           by None = coded-same d.member.code refl
           by (Some builtin) = refl
 
@@ -126,13 +126,13 @@ module _ (s : Site) (h : HeapValue) (shown : s.world.objects ≡ objects_shown s
       found-same =
           callee-same
           ∙ sym (ap (λ f. begins s birth object (begun_known place birth f)) (methods.known s.program free hides test d
-              is))
+          is))
           ∙ sym (ap (λ n. begins s birth object (begun_at s.program birth (option_map place_of_number n)))
-              (methods.numbered s.program free hides test d is))
+          (methods.numbered s.program free hides test d is))
 
     by-kind : (o : Option Kind)
         → begins_by_name s birth object (callee_of s.program (run (kind_name_if s.program o)))
-            ≡ begins s birth object (begun_of s.program birth o)
+        ≡ begins s birth object (begun_of s.program birth o)
     by-kind None = ap (λ d. begins_by_name s birth object (callee_of s.program d)) run-nobody
     by-kind (Some (Array type)) = ap (λ d. begins_by_name s birth object (callee_of s.program d))
         (run-array (type_name s.program type))
@@ -140,7 +140,7 @@ module _ (s : Site) (h : HeapValue) (shown : s.world.objects ≡ objects_shown s
       where
         by : (o : Option (Declared Method)) → run (class_name s.program class) ≡ o
             → begins_by_name s birth object (callee_of s.program o)
-                ≡ begins s birth object (begun_at s.program birth (place_if s.program o))
+            ≡ begins s birth object (begun_at s.program birth (place_if s.program o))
         by None e = refl
         by (Some d) e =
             found-same d (virtual-is s.program free hides (class_name s.program class) (codes "run") (codes "()V") d e)
@@ -153,7 +153,7 @@ module _ (s : Site) (h : HeapValue) (shown : s.world.objects ≡ objects_shown s
       sym (ap class_if e) ∙ class_held s.program h s.world shown birth in
       ap (λ (begun : Completion). start_if begun (is_some object.thread) (nat_le 64 (length s.world.threads)))
       (ap (λ n. begins_by_name s birth object (callee_of s.program (run n))) class
-          ∙ by-kind birth object (kind_held h birth))
+      ∙ by-kind birth object (kind_held h birth))
 
   started-same : (r : Result (Option ℕ) Fault) → started_by_name s r ≡ started s h r
   started-same (Err fault) = refl

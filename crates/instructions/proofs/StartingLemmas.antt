@@ -74,8 +74,13 @@ module _ (program : List ClassListing) where
   as_stored t (Some object) fits = fits
 
   pub numbered-alone : (h : HeapValue) (reference t : ℕ) → ThreadsAlone program h (with_thread_on h reference t)
-  numbered-alone h zero t = record { shape = refl; account = refl; births = refl; classes = refl;
-      stored = λ stored. stored }
+  numbered-alone h zero t = record {
+    shape = refl;
+    account = refl;
+    births = refl;
+    classes = refl;
+    stored = λ stored. stored;
+  }
   numbered-alone h (suc cell) t = record {
     shape = refl;
     account = refl;
@@ -109,7 +114,7 @@ module _ (program : List ClassListing) (h : HeapValue) where
     where
       by : (objects : List (Option (StoredObject Kind))) (cell : ℕ)
           → thread_if (slice_get (map (object_shown program) objects) cell)
-              ≡ thread_of (object_if (slice_get objects cell))
+          ≡ thread_of (object_if (slice_get objects cell))
       by [] cell = refl
       by (None ∷ objects) zero = refl
       by (Some x ∷ objects) zero = refl
@@ -124,7 +129,7 @@ module _ (program : List ClassListing) (h : HeapValue) where
       ap (λ (objects : List Object). nobody ∷ objects)
       (sym (map-set (object_shown program) h.objects cell (Some (thread_set (Some t) o))))
       ∙ ap (λ (x : Option (StoredObject Kind)). objects_shown program
-          (set h.objects cell (option_map (thread_set (Some t)) x))) (sym e)
+      (set h.objects cell (option_map (thread_set (Some t)) x))) (sym e)
 
 -- ---- the threads
 
@@ -188,47 +193,56 @@ module _ (program : List ClassListing) (scene : Scene) (m after : Machine) (here
       → shade_cells x.account written ≡ after.heap.account → after.heap.births ≡ m.heap.births
       → (with_begun (Some begun) (shown program scene after Live), Done)
       ≡ turned program x m.thread
-          (Goes (with_more (with_thread w m.thread (LiveThread after.frames)) (thread_begun begun)) written)
+      (Goes (with_more (with_thread w m.thread (LiveThread after.frames)) (thread_begun begun)) written)
   unfolding turned_on
   more_in begun w written threads statics output objects fault rows account births =
-      rw (threads, statics, output, objects, fault, rows, account, births,
-          thread_replaced scene m.thread here (LiveThread m.frames) (LiveThread after.frames)) refl
+      rw (
+        threads,
+        statics,
+        output,
+        objects,
+        fault,
+        rows,
+        account,
+        births,
+        thread_replaced scene m.thread here (LiveThread m.frames) (LiveThread after.frames),
+      ) refl
 
   begins_in : (courses : List Course) → AreIn courses (threads_shown scene (LiveThread []))
       → (next birth : ℕ) (o : StoredObject Kind) (begun : Begun)
       → held m.heap birth ≡ Some o → after.frames
-          ≡ with_running m.frames (replaced next (running_frame m.frames) 1 []).frame
+      ≡ with_running m.frames (replaced next (running_frame m.frames) 1 []).frame
       → after.slots ≡ m.slots → after.states.items ≡ m.states.items → after.output.items ≡ m.output.items
       → after.heap.objects ≡ (with_thread_on m.heap birth (length courses)).objects
       → shade_cells m.heap.account (begun_writes birth begun) ≡ after.heap.account → after.heap.births ≡ m.heap.births
       → (with_begun (Some begun) (shown program scene after Live), Done)
       ≡ turned program x m.thread (begins (site_at program m x.world next) birth (object_shown program (Some o))
-          (Some begun))
+      (Some begun))
   begins_in courses lives next birth o begun is frames slots states output objects account births =
       let few : length courses ≡ length x.world.threads =
       alike-length courses x.world.threads (lives-shown courses scene m.frames lives) in
       let known : (numbered x.world birth (object_shown program (Some o))).objects
-            ≡ objects_shown program after.heap.objects =
+      ≡ objects_shown program after.heap.objects =
       ap (λ (n : ℕ). set x.world.objects birth (object_shown program (Some (thread_set (Some n) o)))) (sym few)
       ∙ numbered-shown program m.heap birth (length courses) o is ∙ ap (objects_shown program) (sym objects) in
       more_in begun (numbered x.world birth (object_shown program (Some o))) (begun_writes birth begun) refl
       (rw (slots, states) refl) (sym output) known refl refl account births
       ∙ ap (λ (fs : List Frame). turned program x m.thread
       (Goes (with_more (with_thread (numbered x.world birth (object_shown program (Some o))) m.thread (LiveThread fs))
-          (thread_begun begun)) (begun_writes birth begun)))
+      (thread_begun begun)) (begun_writes birth begun)))
       (frames ∙ ap (λ (fs : List Frame). with_running fs (replaced next (running_frame m.frames) 1 []).frame)
-          (sym (frames_shown program scene m here)))
+      (sym (frames_shown program scene m here)))
 
   -- the object at the top goes, and knows its thread by its number
   pub begins_reported : (courses : List Course) → AreIn courses (threads_shown scene (LiveThread []))
       → (next birth : ℕ) (begun : Begun)
       → is_some (held m.heap birth) ≡ true → after.frames
-          ≡ with_running m.frames (replaced next (running_frame m.frames) 1 []).frame
+      ≡ with_running m.frames (replaced next (running_frame m.frames) 1 []).frame
       → after.slots ≡ m.slots → after.states.items ≡ m.states.items → after.output.items ≡ m.output.items
       → after.heap ≡ all_shaded (with_thread_on m.heap birth (length courses)) (begun_writes birth begun)
       → (with_begun (Some begun) (shown program scene after Live), Done)
       ≡ turned program x m.thread (begins (site_at program m x.world next) birth
-          (object_shown program (held m.heap birth)) (Some begun))
+      (object_shown program (held m.heap birth)) (Some begun))
   begins_reported courses lives next birth begun there frames slots states output heap = by (held m.heap birth) refl
       there
     where
@@ -238,13 +252,13 @@ module _ (program : List ClassListing) (scene : Scene) (m after : Machine) (here
       by : (o : Option (StoredObject Kind)) → held m.heap birth ≡ o → is_some o ≡ true
           → (with_begun (Some begun) (shown program scene after Live), Done)
           ≡ turned program x m.thread (begins (site_at program m x.world next) birth (object_shown program o)
-              (Some begun))
+          (Some begun))
       by None is some = cc
       by (Some o) is some =
           begins_in courses lives next birth o begun is frames slots states output
-              (ap (λ (h : HeapValue). h.objects) heap)
+          (ap (λ (h : HeapValue). h.objects) heap)
           (ap (λ (a : Account). shade_cells a (begun_writes birth begun)) (sym alone.account)
-              ∙ sym (ap (λ (h : HeapValue). h.account) heap))
+          ∙ sym (ap (λ (h : HeapValue). h.account) heap))
           (ap (λ (h : HeapValue). h.births) heap ∙ alone.births)
 
 -- ---- start and join, by what the code finds

@@ -31,7 +31,7 @@ pub next_static : (F : FieldValue → FieldValue) (keys : List FieldValue) (word
     → length words ≤ length keys → key ≡ get_or keys n key → slice_get words n ≡ Some word
     → view ≡ F (holding key word) → after ≡ views ++ view ∷ []
     → after ++ map F (keyed (drop (n + 1) keys) (drop (n + 1) words))
-        ≡ views ++ map F (keyed (drop n keys) (drop n words))
+    ≡ views ++ map F (keyed (drop n keys) (drop n words))
 next_static F keys words n key word views after view few is held shown more =
     let next : n + 1 ≡ suc n = omega arith in
     let following = map F (keyed (drop (suc n) keys) (drop (suc n) words)) in

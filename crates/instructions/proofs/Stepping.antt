@@ -86,7 +86,7 @@ step_for program superclass i = step_or_none (option_map (step_of program superc
 -- the step at a frame's method and pc is that of the instruction at which the frame stands
 step-of_instruction : (program : List ClassListing) (superclass : List ℕ) (o : Option CodeListing) (pc : ℕ)
     → step_or_none (option_and_then (λ (code : CodeListing). step_in (step_of program superclass) code.instructions pc)
-        o)
+    o)
     ≡ step_for program superclass (option_and_then (λ (code : CodeListing). placed_at code pc) o)
 step-of_instruction program superclass None pc = refl
 step-of_instruction program superclass (Some code) pc = refl
@@ -212,7 +212,7 @@ module _ (program : List ClassListing) (w : World) (t : ℕ) (h : HeapValue) (f 
   plain_agrees n i e =
       let d = direct_move n f i e in
       by_family-plain (site n) i d.0 d.1 d.2 d.3
-          ∙ sym (ap (λ o. moved_or (site n) o (operated_on_calls (site n) h d.0)) d.3)
+      ∙ sym (ap (λ o. moved_or (site n) o (operated_on_calls (site n) h d.0)) d.3)
       ∙ sym (ap (λ o. operated (site n) h (or_resolved program above i o)) d.2)
 
   returned_agrees : (n : ℕ) (kind : Option Kind) → Agree n (Return kind)
@@ -224,8 +224,12 @@ module _ (program : List ClassListing) (w : World) (t : ℕ) (h : HeapValue) (f 
 
   module _ (kept : IsKept program w h) where
     numbered : (n : ℕ) → IsNumbered (site n) h kept.slots
-    numbered n = record { objects_are = kept.objects_are; stored = kept.stored; fields_are = kept.fields_are;
-        slots_fit = kept.slots_fit }
+    numbered n = record {
+      objects_are = kept.objects_are;
+      stored = kept.stored;
+      fields_are = kept.fields_are;
+      slots_fit = kept.slots_fit;
+    }
 
     thrown_agrees : (n : ℕ) → Agree n Throw
     unfolding plain_move
@@ -245,20 +249,20 @@ module _ (program : List ClassListing) (w : World) (t : ℕ) (h : HeapValue) (f 
       named_agrees : goes_by_name i.instruction ≡ true → Agree n i.instruction
       named_agrees named =
           (code-by_numbers (site n) h kept.slots (numbered n) kept.accepted above f.method code f.pc i there at
-              named).same
+          named).same
           ∙ named_stays (site n) h above i.instruction named
 
       typed_agrees : goes_by_type i.instruction ≡ true → Agree n i.instruction
       typed_agrees typed =
           (code-by_types (site n) h kept.slots (numbered n) kept.accepted kept.names above f.method code f.pc i there at
-              typed).same
+          typed).same
           ∙ typed_stays (site n) h above i.instruction typed
 
       called_agrees : (invocation : Invocation) (m : Member) → i.instruction ≡ Invoke invocation m
           → Agree n (Invoke invocation m)
       called_agrees invocation m is =
           let agrees = code-call (own_call h) (site n) h kept.slots (numbered n) kept.accepted kept.names code f.pc i
-                invocation m there at is
+          invocation m there at is
           (own-alike (site n) h kept.objects_are kept.accepted kept.names m) in
           agrees.same ∙ call_stays (site n) h (call_operation program above invocation m) (call_is_call agrees.valid)
         where
@@ -327,7 +331,7 @@ module _ (program : List ClassListing) (w : World) (t : ℕ) (h : HeapValue) (f 
       site_agrees =
           ap (after_initialising (site n) (class_used program i.instruction)) (placed_agrees i.instruction refl)
           ∙ code-initialises (site n) kept.accepted kept.sized above
-              (operated (site n) h (operation_of program above i.instruction)) f.method code f.pc i there at
+          (operated (site n) h (operation_of program above i.instruction)) f.method code f.pc i there at
 
     at_agrees : (i : Option Placed) → instruction_of program f ≡ i → at_instruction program w t f i
         ≡ stepped program w t h f (step_for program above i)

@@ -85,4 +85,4 @@ module _ (program : List ClassListing) where
       set-stored (set (replicate count None) 0 (Some (made (memory_error_kind program) []))) 1
       (Some (made (exception_kind program StackOverflow) []))
       (set-stored (replicate count None) 0 (Some (made (memory_error_kind program) [])) (nobody-stored count) first)
-          second
+      second

@@ -77,7 +77,7 @@ index-is (z ∷ zs) (suc n) x d e = index-is zs n x d e
 pub threads-grown : (cs more : List Course) (all new : List (List Frame)) (c : Course) (capacity grown : ℕ)
     → AreThreads cs all capacity
     → length cs < 64 → capacity ≤ grown → more ≡ cs ++ c ∷ [] → length new ≡ length all → drop (suc (length cs)) new
-        ≡ drop (suc (length cs)) all
+    ≡ drop (suc (length cs)) all
     → AreThreads more new grown
 threads-grown cs more all new c capacity grown threads few room is long same =
     let count : length more ≡ suc (length cs) = ap length is ∙ length-append cs (c ∷ []) ∙ omega arith in
@@ -103,7 +103,7 @@ first-fresh cs all capacity threads few =
 module _ (program : List ClassListing) where
   pub thread_got : (cs : List Course) (all : List (List Frame)) (t : ℕ) (course : Course) (frames : List Frame)
       → slice_get cs t ≡ Some course → slice_get all t ≡ Some frames → slice_get (threads_in program cs all) t
-          ≡ Some (thread_shown program course frames)
+      ≡ Some (thread_shown program course frames)
   thread_got [] all t course frames started own = cc
   thread_got (c ∷ cs) [] t course frames started own = cc
   thread_got (c ∷ cs) (f ∷ fs) zero course frames started own =
@@ -176,7 +176,7 @@ module _ (program : List ClassListing) where
   pub threads-set : (cs : List Course) (all : List (List Frame)) (t : ℕ) (course : Course) (frames : List Frame)
       → length cs ≤ length all
       → threads_in program (slice_set cs t course) (slice_set all t frames)
-          ≡ slice_set (threads_in program cs all) t (thread_shown program course frames)
+      ≡ slice_set (threads_in program cs all) t (thread_shown program course frames)
   threads-set [] all t course frames few = refl
   threads-set (c ∷ cs) [] t course frames few = absurd (omega (arith, few))
   threads-set (c ∷ cs) (f ∷ fs) zero course frames few = refl
@@ -187,7 +187,7 @@ module _ (program : List ClassListing) where
   pub threads-more : (cs : List Course) (all : List (List Frame)) (course : Course) (frames : List Frame)
       → length cs < length all
       → threads_in program (cs ++ course ∷ []) (slice_set all (length cs) frames) ≡ threads_in program cs all
-          ++ thread_shown program course frames ∷ []
+      ++ thread_shown program course frames ∷ []
   threads-more [] [] course frames few = absurd (omega (arith, few))
   threads-more [] (f ∷ fs) course frames few = refl
   threads-more (c ∷ cs) [] course frames few = absurd (omega (arith, few))

@@ -153,7 +153,7 @@ module _ (program : List ClassListing) (scene : Scene) (m : Machine) (here : len
 
   thrown_is : (before : World) → thrown program before world m.thread reference
       ≡ landed before (left_with (way_as m.frames target).left) m.thread reference (kind_name program kind)
-          (way_as m.frames target).landing
+      (way_as m.frames target).landing
   thrown_is before =
       ap (unwound program before world m.thread reference (class_at world reference)) way_is
       ∙ ap (λ class. unwound program before world m.thread reference class (way_as m.frames target)) class_is
@@ -179,21 +179,24 @@ module _ (program : List ClassListing) (scene : Scene) (m : Machine) (here : len
   abbrev goes_on : ℕ → Frame → World
   goes_on left g =
       with_thread (world_left program m.heap (shown program scene m Live).world m.thread Failed
-          (innermost left m.frames)) m.thread
+      (innermost left m.frames)) m.thread
       (LiveThread (reverse (reverse (callers (kept left m.frames))) ++ g ∷ []))
 
   abbrev handled_as : ℕ → ℕ → Effect
-  handled_as left handler = record { after = goes_on left
-      (handling reference handler (running_frame (kept left m.frames))); writes = reference ∷ [] }
+  handled_as left handler = record {
+    after = goes_on left
+        (handling reference handler (running_frame (kept left m.frames)));
+    writes = reference ∷ [];
+  }
 
   -- where the handler has no room
   pub full_reported : (target : Target) → way_of program (kind_name program kind) (reverse m.frames)
       ≡ way_as m.frames target
       → is_full_at m.frames target ≡ true → (before : World) → thrown program before (shown program scene m Live).world
-          m.thread reference ≡ faulted before m.thread StackFull
+      m.thread reference ≡ faulted before m.thread StackFull
   full_reported (target.Handler left handler) way full before =
       let none : (running_frame (kept left m.frames)).room
-            ≡ 0 = (Decides-eqb (running_frame (kept left m.frames)).room 0).0 full in
+      ≡ 0 = (Decides-eqb (running_frame (kept left m.frames)).room 0).0 full in
       thrown_is program scene m here reference kind (target.Handler left handler) held way before
       ∙ ap (λ room. if nat_le 1 room then handled_as left handler else faulted before m.thread StackFull) none
   full_reported (target.Initializer left) way full before = cc
@@ -218,8 +221,11 @@ module _ (program : List ClassListing) (scene : Scene) (m : Machine) (here : len
     live_shown : (g : Frame) (writes : List ℕ) → after.frames ≡ with_running mid.frames g → after.heap.objects
         ≡ mid.heap.objects
         → after.heap.account ≡ shade_cells mid.heap.account writes → after.heap.births ≡ mid.heap.births
-        → (let y : CellMachine = record { world = goes_on left g; account = shade_cells m.heap.account writes;
-                 births = m.heap.births } in y)
+        → (let y : CellMachine = record {
+          world = goes_on left g;
+          account = shade_cells m.heap.account writes;
+          births = m.heap.births;
+        } in y)
         ≡ shown program scene after Live
     live_shown g writes frames objects account births =
         rw (
@@ -246,9 +252,9 @@ module _ (program : List ClassListing) (scene : Scene) (m : Machine) (here : len
         ≡ way_as m.frames (target.Handler left handler)
         → is_full_at m.frames (target.Handler left handler) ≡ false
         → after.frames ≡ with_running mid.frames (handling reference handler (running_frame mid.frames)) → after.heap
-            ≡ shaded mid.heap (Some reference)
+        ≡ shaded mid.heap (Some reference)
         → carried_on x m.heap.account m.heap.births (thrown program x.world (shown program scene m Live).world m.thread
-            reference) ≡ shown program scene after Live
+        reference) ≡ shown program scene after Live
     handler_lands handler way room frames heap =
         let f = running_frame stays in
         let has : nat_le 1 f.room ≡ true = has_room f.room room in
@@ -256,36 +262,36 @@ module _ (program : List ClassListing) (scene : Scene) (m : Machine) (here : len
         (thrown_is program scene m here reference kind (target.Handler left handler) held way x.world
         ∙ ap (λ b. if b then handled_as left handler else faulted x.world m.thread StackFull) has)
         ∙ live_shown (handling reference handler f) (reference ∷ []) (frames
-            ∙ ap (λ fs. with_running mid.frames (handling reference handler (running_frame fs))) stay)
+        ∙ ap (λ fs. with_running mid.frames (handling reference handler (running_frame fs))) stay)
         (ap (λ (h : HeapValue). h.objects) heap) (ap (λ (h : HeapValue). h.account) heap)
-            (ap (λ (h : HeapValue). h.births) heap)
+        (ap (λ (h : HeapValue). h.births) heap)
 
     pub initializer_lands : way_of program (kind_name program kind) (reverse m.frames)
         ≡ way_as m.frames (target.Initializer left)
         → after.frames ≡ with_running mid.frames (failing (running_frame mid.frames)) → after.heap ≡ mid.heap
         → carried_on x m.heap.account m.heap.births (thrown program x.world (shown program scene m Live).world m.thread
-            reference) ≡ shown program scene after Live
+        reference) ≡ shown program scene after Live
     initializer_lands way frames heap =
         ap (carried_on x m.heap.account m.heap.births) (thrown_is program scene m here reference kind
-            (target.Initializer left) held way x.world)
+        (target.Initializer left) held way x.world)
         ∙ live_shown (failing (running_frame stays)) [] (frames
-            ∙ ap (λ fs. with_running mid.frames (failing (running_frame fs))) stay)
+        ∙ ap (λ fs. with_running mid.frames (failing (running_frame fs))) stay)
         (ap (λ (h : HeapValue). h.objects) heap) (ap (λ (h : HeapValue). h.account) heap)
-            (ap (λ (h : HeapValue). h.births) heap)
+        (ap (λ (h : HeapValue). h.births) heap)
 
   -- where no frame handles it
   pub nowhere_lands : (x : CellMachine) (after : Machine) → way_of program (kind_name program kind) (reverse m.frames)
       ≡ way_as m.frames target.Nowhere
       → HasLeft program Failed (innermost (length m.frames) m.frames) m after
       → carried_on x m.heap.account m.heap.births (thrown program x.world (shown program scene m Live).world m.thread
-          reference) ≡ shown program scene after (Threw (Some kind))
+      reference) ≡ shown program scene after (Threw (Some kind))
   nowhere_lands x after way has_left =
       let all : innermost (length m.frames) m.frames
-            ≡ reverse m.frames = let turned = length-reverse m.frames in take_all (length m.frames) (reverse m.frames)
-                                       (omega (arith, turned)) in
+      ≡ reverse m.frames = let turned = length-reverse m.frames in take_all (length m.frames) (reverse m.frames)
+      (omega (arith, turned)) in
       let alone = all_released-alone program m.heap m.thread (monitors_of (innermost (length m.frames) m.frames)) in
       ap (carried_on x m.heap.account m.heap.births) (thrown_is program scene m here reference kind target.Nowhere held
-          way x.world)
+      way x.world)
       ∙ rw (
         ← all,
         has_left.slots,
@@ -303,7 +309,7 @@ new_held : (h : HeapValue) (kind : Kind) (cell : ℕ × Account) → cell.0 < le
 new_held h kind cell within =
     ap (λ o. option_map (λ (o : StoredObject Kind). o.kind) (object_if o))
     (get-set_same h.objects cell.0 (Some (made kind [])) (slice_index_or h.objects cell.0 None)
-        (slice_get-get_or h.objects cell.0 None within))
+    (slice_get-get_or h.objects cell.0 None within))
 
 pub created_held : (h : HeapValue) (kind : Kind) (o : Option (ℕ × Account)) (reference : ℕ)
     → IfSome o (λ taken. taken.0 < length h.objects)
@@ -341,11 +347,11 @@ module _ (program : List ClassListing) (scene : Scene) (m : Machine) (here : len
   pub throw_full_reported : (reference : ℕ) (kind : Kind) (target : Target) (outcome : Outcome)
       → kind_held m.heap reference ≡ Some kind
       → way_of program (kind_name program kind) (reverse m.frames) ≡ way_as m.frames target → is_full_at m.frames target
-          ≡ true
+      ≡ true
       → (faulted_on x m.thread StackFull, FaultOutcome) ≡ thrown_on program x m.thread reference outcome
   throw_full_reported reference kind target outcome held way full =
       sym (ap (λ e. landed_reported program (carried_on x x.account x.births e) outcome)
-          (full_reported program scene m here reference kind held target way full x.world))
+      (full_reported program scene m here reference kind held target way full x.world))
 
   -- a new exception in its cell, as the code has it and on cells
   new_shown : (e : Exception) (c : ℕ)
@@ -354,14 +360,14 @@ module _ (program : List ClassListing) (scene : Scene) (m : Machine) (here : len
   new_shown e c =
       shown-set program m.heap.objects c (Some (made (exception_kind program e) []))
       ∙ ap (slice_set x.world.objects (suc c)) (own_shown program (exception_place e) (exception_class e)
-          (exception_name program e))
+      (exception_name program e))
 
   abbrev reported_as : Option (ℕ × Account) → Outcome
   reported_as o = if is_some o then GotObject else NoRoom
 
   raised_as : (e : Exception) (o : Option (ℕ × Account)) → take_cell m.heap.account 0 ≡ o
       → turned program x m.thread (Raises e) ≡ landed_reported program (raised_at program x x.world m.thread e o)
-          (reported_as o)
+      (reported_as o)
   unfolding turned_on
   raised_as e o is = ap (λ o. landed_reported program (raised_at program x x.world m.thread e o) (reported_as o)) is
 
@@ -371,17 +377,17 @@ module _ (program : List ClassListing) (scene : Scene) (m : Machine) (here : len
   -- the effect of what is thrown in the world with the new exception
   raised_on : (e : Exception) (cell : ℕ × Account) → raised_at program x x.world m.thread e (Some cell)
       ≡ carried_on x (new_heap e cell).account (new_heap e cell).births
-          (thrown program x.world (shown program scene (with_heap m (new_heap e cell)) Live).world m.thread
-          (suc cell.0))
+      (thrown program x.world (shown program scene (with_heap m (new_heap e cell)) Live).world m.thread
+      (suc cell.0))
   raised_on e cell =
       ap (λ (objects : List Object). carried_on x (birth_in cell.1 cell.0 x.births) (x.births + 1)
-          (thrown program x.world (let w : World = record x.world { objects = objects } in w) m.thread (suc cell.0)))
-                                         (sym (new_shown e cell.0))
+      (thrown program x.world (let w : World = record x.world { objects = objects } in w) m.thread (suc cell.0)))
+      (sym (new_shown e cell.0))
 
   pub raise_reported : (e : Exception) (kind : Kind) (heap : HeapValue) (after : Machine) (reference : ℕ)
       (course : Course) (o : Option (ℕ × Account))
       → take_cell m.heap.account 0 ≡ o → kind ≡ exception_kind program e → heap ≡ created m.heap kind [] o
-          → Some reference ≡ reference_taken o
+      → Some reference ≡ reference_taken o
       → Lands program (with_heap m heap) after reference course
       → (shown program scene after course, GotObject) ≡ turned program x m.thread (Raises e)
   raise_reported e kind heap after reference course None taken kind_is heap_is reference_is lands = cc
@@ -390,25 +396,25 @@ module _ (program : List ClassListing) (scene : Scene) (m : Machine) (here : len
       let is : heap ≡ new_heap e cell = heap_is ∙ ap (λ k. created m.heap k [] (Some cell)) kind_is in
       let there : Lands program (with_heap m (new_heap e cell)) after (suc cell.0) course =
       subst (λ r. Lands program (with_heap m (new_heap e cell)) after r course) at
-          (subst (λ h. Lands program (with_heap m h) after reference course) is lands) in
+      (subst (λ h. Lands program (with_heap m h) after reference course) is lands) in
       sym (raised_as e (Some cell) taken ∙ ap (λ y. landed_reported program y GotObject) (raised_on e cell
-          ∙ there scene here x))
+      ∙ there scene here x))
 
   pub raise_full_reported : (e : Exception) (kind : Kind) (target : Target) (o : Option (ℕ × Account))
       → take_cell m.heap.account 0 ≡ o → is_some o ≡ true
       → IfSome o (λ taken. taken.0 < length m.heap.objects) → kind ≡ exception_kind program e
       → way_of program (kind_name program kind) (reverse m.frames) ≡ way_as m.frames target → is_full_at m.frames target
-          ≡ true
+      ≡ true
       → (faulted_on x m.thread StackFull, FaultOutcome) ≡ turned program x m.thread (Raises e)
   raise_full_reported e kind target None taken some within kind_is way full = cc
   raise_full_reported e kind target (Some cell) taken some within kind_is way full =
       let there : way_of program (kind_name program (exception_kind program e)) (reverse m.frames)
-            ≡ way_as m.frames target = subst (λ k. way_of program (kind_name program k) (reverse m.frames)
-            ≡ way_as m.frames target) kind_is way in
+      ≡ way_as m.frames target = subst (λ k. way_of program (kind_name program k) (reverse m.frames)
+      ≡ way_as m.frames target) kind_is way in
       sym (raised_as e (Some cell) taken
       ∙ ap (λ y. landed_reported program y GotObject) (raised_on e cell
       ∙ ap (carried_on x (new_heap e cell).account (new_heap e cell).births)
-          (full_reported program scene (with_heap m (new_heap e cell)) here (suc cell.0) (exception_kind program e)
+      (full_reported program scene (with_heap m (new_heap e cell)) here (suc cell.0) (exception_kind program e)
       (new_held m.heap (exception_kind program e) cell within) target there full x.world)))
 
   -- a throwable that is there
@@ -420,14 +426,14 @@ module _ (program : List ClassListing) (scene : Scene) (m : Machine) (here : len
   -- StackOverflowError is there
   pub overflow_raised : (after : Machine) (result : Result Turned Fault) → Throws program m after result 2 Done
       → reported x m.thread (shown program scene after) result
-          ≡ turned program x m.thread (raises exception.StackOverflow)
+      ≡ turned program x m.thread (raises exception.StackOverflow)
   unfolding turned_on
   overflow_raised after result throws = throws scene here
 
   pub raise_none_reported : (e : Exception) (after : Machine) (result : Result Turned Fault) → room_in m.heap.account 0
       ≡ false → e ≢ exception.StackOverflow
       → Throws program m after result 1 NoRoom → reported x m.thread (shown program scene after) result
-          ≡ turned program x m.thread (raises e)
+      ≡ turned program x m.thread (raises e)
   raise_none_reported e after result none other throws = by (take_cell m.heap.account 0) refl
     where
       by : (o : Option (ℕ × Account)) → take_cell m.heap.account 0 ≡ o
@@ -440,11 +446,11 @@ module _ (program : List ClassListing) (scene : Scene) (m : Machine) (here : len
       (result : Result Turned Fault)
       → take_cell m.heap.account (length words) ≡ o → None ≡ reference_taken o → Throws program m after result 1 NoRoom
       → reported x m.thread (shown program scene after) result
-          ≡ turned program x m.thread (Creates next taken (contents_shown program kind words))
+      ≡ turned program x m.thread (Creates next taken (contents_shown program kind words))
   unfolding turned_on
   new_none next taken kind words (Some cell) after result is none throws = cc
   new_none next taken kind words None after result is none throws =
       throws scene here ∙ sym
-          (ap (λ o. landed_reported program (created_at program x m.thread next taken
-          (contents_shown program kind words) o) (reported_as o))
+      (ap (λ o. landed_reported program (created_at program x m.thread next taken
+      (contents_shown program kind words) o) (reported_as o))
       (ap (take_cell m.heap.account) (words-shown program kind words) ∙ is))

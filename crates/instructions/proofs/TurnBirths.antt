@@ -46,7 +46,7 @@ raised_births program x w t e None = carried_births x x.account x.births (thrown
 raised_births program x w t e (Some cell) =
     carried_births x (birth_in cell.1 cell.0 x.births) (x.births + 1)
     (thrown program x.world (with_object w (suc cell.0) (plain_object (exception_class e))) t (suc cell.0)) _
-        (omega arith) (omega arith)
+    (omega arith) (omega arith)
 
 pub turned_births : (program : List ClassListing) (x : CellMachine) (t : ℕ) (c : Completion)
     → (turned_on program x t c).births ≤ x.births + 1

@@ -50,8 +50,12 @@ Sound a = IsSound a.program a.limits a.machine a.threads a.rows
 
 -- what contracts see of the state
 abbrev pub loaded : Inside → Loaded
-loaded a = record { program = a.program; limits = a.limits; shape = a.machine.heap.shape;
-    machine = state_shown a.program a.machine a.threads a.fault a.rows }
+loaded a = record {
+  program = a.program;
+  limits = a.limits;
+  shape = a.machine.heap.shape;
+  machine = state_shown a.program a.machine a.threads a.fault a.rows;
+}
 
 -- what a thread's turn prints
 abbrev pub printed_here : Inside → ℕ → Option (List ℕ)
@@ -73,7 +77,7 @@ pub going : (a : Inside) (t : ℕ) → Sound a → refusal a.program a.limits (n
 going a t sound e =
     let may = allowed (loaded a) t e in
     let fits = subst (λ o. IfSome o (λ line. length a.machine.output.items + length line ≤ a.limits.output))
-          (reported_now a sound t) may.fits in
+    (reported_now a sound t) may.fits in
     record {
       live = may.live;
       faultless = may.faultless;
@@ -92,7 +96,7 @@ pub length-parked : (a : Inside) (t : ℕ) (v : ThreadsValue) (m : Machine) → 
     → length a.threads.parked ≡ 64 → length v.parked ≡ 64
 length-parked a t v m s parked =
     sym (length-set v.parked t m.frames) ∙ ap length s.all ∙ length-set a.threads.parked a.machine.thread
-        a.machine.frames ∙ parked
+    a.machine.frames ∙ parked
 
 -- ---- what a turn leaves of the threads
 
@@ -111,8 +115,11 @@ module _ (program : List ClassListing) (cs : List Course) (parked : List (List F
       ++ thread_shown program course frames ∷ after_it
   alone-noted =
       let long : length cs ≤ length (slice_set parked t old) = omega (arith, few, length-set parked t old) in
-      let many : t < length (threads_in program cs (slice_set parked t old)) = omega (arith, here,
-            length-threads program cs (slice_set parked t old)) in
+      let many : t < length (threads_in program cs (slice_set parked t old)) = omega (
+        arith,
+        here,
+        length-threads program cs (slice_set parked t old),
+      ) in
       ap (threads_in program noted) (sym (set-twice parked t old frames))
       ∙ threads-set program cs (slice_set parked t old) t course frames long
       ∙ set-between (threads_in program cs (slice_set parked t old)) t (thread_shown program course frames) many
@@ -127,8 +134,12 @@ module _ (program : List ClassListing) (cs : List Course) (parked : List (List F
       let first = first_frame place max_locals max_stack reference ∷ [] in
       let same : length noted ≡ length cs = length-set cs t course in
       let apart : length noted ≡ t → ⊥ = λ e. absurd (omega (arith, e, same, here)) in
-      let more : length noted < length (slice_set parked t frames) = omega (arith, same, less,
-            length-set parked t frames) in
+      let more : length noted < length (slice_set parked t frames) = omega (
+        arith,
+        same,
+        less,
+        length-set parked t frames,
+      ) in
       ap (threads_in program (noted ++ Live ∷ [])) (set-apart parked (length noted) t first frames apart)
       ∙ threads-more program noted (slice_set parked t frames) Live first more
       ∙ ap (λ ts. ts ++ LiveThread first ∷ []) alone-noted
@@ -170,7 +181,7 @@ module _ (a : Inside) (t : ℕ) (sound : Sound a) (g : IsGoing a t) (v : Threads
   before_is =
       rw (g.faultless, s.slots, s.states, s.heap, s.output)
       (ap (λ threads. machine_shown a.program threads a.machine.slots a.machine.states.items a.machine.heap
-          a.machine.output.items None a.rows) among)
+      a.machine.output.items None a.rows) among)
 
   abbrev comes_to : Completion
   comes_to = completion a.program (loaded a).machine.world t
@@ -184,7 +195,7 @@ module _ (a : Inside) (t : ℕ) (sound : Sound a) (g : IsGoing a t) (v : Threads
       ∙ ap (completion a.program before.world) (sym s.thread)
       ∙ completion_completed a.program before.world m.thread m.heap shown_kept
       ∙ ap (λ fs. completed_at a.program before.world m.thread m.heap (running fs))
-          (frames_shown a.program scene m placed)
+      (frames_shown a.program scene m placed)
 
   -- it has room for what it prints
   pub room_here : HasRoomFor m (printed_at a.program (running m.frames))
@@ -212,19 +223,19 @@ module _ (a : Inside) (t : ℕ) (sound : Sound a) (g : IsGoing a t) (v : Threads
   outcome_is : outcome_on a.program (loaded a).machine (ByThread t) ≡ (turned a.program before m.thread comes_to).1
   outcome_is =
       ap (λ (x : CellMachine). (turned a.program x t comes_to).1) before_is
-          ∙ ap (λ n. (turned a.program before n comes_to).1) (sym s.thread)
+      ∙ ap (λ n. (turned a.program before n comes_to).1) (sym s.thread)
 
   -- ---- what is kept
 
   pub sound_after : (after : Machine) (w : ThreadsValue) → Keeps a.program m after
       → after.heap.births ≤ a.machine.heap.births + 1
       → length w.courses ≤ 64 → length w.parked ≡ 64 → t < length w.courses
-          → IsSound a.program a.limits after w (a.rows + 1)
+      → IsSound a.program a.limits after w (a.rows + 1)
   sound_after after w keeps births few parked begun =
       let slots : length m.slots ≡ length a.machine.slots = ap length s.slots in
       let kept_slots = keeps.slots in
       let capacity : vec_capacity m.output ≡ vec_capacity a.machine.output = ap (λ (v : Vec ℕ Global). vec_capacity v)
-            s.output in
+      s.output in
       record {
         named = sound.named;
         accepted = sound.accepted;
@@ -254,22 +265,22 @@ module _ (a : Inside) (t : ℕ) (sound : Sound a) (g : IsGoing a t) (v : Threads
         let more = length-append w.courses (Returned ∷ []) in
         let few = ap length s.courses in
         sound_after after (begun_as w BegunEnded) keeps births (omega (arith, same, more, few, begins)) all
-            (omega (arith, same, more, here))
+        (omega (arith, same, more, here))
     sound_begun after w (Some (Runs place max_locals max_stack reference)) keeps births same all begins =
         let more = length-append w.courses (Live ∷ []) in
         let few = ap length s.courses in
         let frames = first_frame place max_locals max_stack reference ∷ [] in
         sound_after after (begun_as w (Runs place max_locals max_stack reference)) keeps births
-            (omega (arith, same, more, few, begins.0))
+        (omega (arith, same, more, few, begins.0))
         (length-set w.parked (length w.courses) frames ∙ all) (omega (arith, same, more, here))
 
     pub sound_noted : (after : Machine) (stepped : Stepped) → Keeps a.program m after
         → after.heap.births ≤ a.machine.heap.births + 1
         → IfSome stepped.begun (CanBegin v.courses) → IsSound a.program a.limits after (noted_as v t stepped)
-            (a.rows + 1)
+        (a.rows + 1)
     sound_noted after stepped keeps births begins =
         sound_begun after (record { courses = slice_set v.courses t stepped.turned.course; parked = v.parked })
-            stepped.begun keeps births
+        stepped.begun keeps births
         (length-set v.courses t stepped.turned.course ∙ ap length s.courses) parked begins
 
     pub less_if : (o : Option Begun) → IfSome o (CanBegin v.courses)
@@ -296,7 +307,7 @@ module _ (a : Inside) (t : ℕ) (sound : Sound a) (g : IsGoing a t) (v : Threads
 
     counted : (o : Option Begun) (threads : List Thread) → threads ≡ (with_begun o left).world.threads
         → machine_shown a.program threads after.slots after.states.items after.heap after.output.items None (a.rows + 1)
-            ≡ counted_on (with_begun o left)
+        ≡ counted_on (with_begun o left)
     counted None threads is = rw is refl
     counted (Some begun) threads is = rw is refl
 
@@ -304,8 +315,12 @@ module _ (a : Inside) (t : ℕ) (sound : Sound a) (g : IsGoing a t) (v : Threads
     With w o = all_shown a.program w after.thread after.frames ≡ (with_begun o left).world.threads
 
     shown_with : (w : ThreadsValue) → With w stepped.begun
-        → record { program = a.program; limits = a.limits; shape = after.heap.shape;
-            machine = state_shown a.program after w a.fault (a.rows + 1) } ≡ after_step (loaded a) t
+        → record {
+          program = a.program;
+          limits = a.limits;
+          shape = after.heap.shape;
+          machine = state_shown a.program after w a.fault (a.rows + 1);
+        } ≡ after_step (loaded a) t
     shown_with w is =
         let same : after.heap.shape ≡ a.machine.heap.shape = shape ∙ ap (λ (h : HeapValue). h.shape) s.heap in
         ap (seen_of (state_shown a.program after w a.fault (a.rows + 1))) same
@@ -322,25 +337,27 @@ module _ (a : Inside) (t : ℕ) (sound : Sound a) (g : IsGoing a t) (v : Threads
       alone_with =
           ap (λ n. threads_in a.program noted_in.courses (slice_set v.parked n after.frames)) (thread ∙ s.thread)
           ∙ ap (λ cs. threads_in a.program (slice_set cs t stepped.turned.course) (slice_set v.parked t after.frames))
-              s.courses
+          s.courses
           ∙ alone-noted a.program a.threads.courses v.parked few t here m.frames after.frames stepped.turned.course
           ∙ ap (λ all. take t (threads_in a.program a.threads.courses all)
-              ++ thread_shown a.program stepped.turned.course after.frames
-              ∷ drop (suc t) (threads_in a.program a.threads.courses all)) same_frames
+          ++ thread_shown a.program stepped.turned.course after.frames
+          ∷ drop (suc t) (threads_in a.program a.threads.courses all)) same_frames
 
       begun_with : (begun : Begun) → length a.threads.courses < length v.parked
           → With (begun_as noted_in begun) (Some begun)
       begun_with begun less =
           ap (λ n. threads_in a.program (begun_as noted_in begun).courses (slice_set (begun_as noted_in begun).parked n
-              after.frames)) (thread ∙ s.thread)
-          ∙ ap (λ cs. let w : ThreadsValue = record { courses = slice_set cs t stepped.turned.course;
-                            parked = v.parked } in threads_in a.program (begun_as w begun).courses
-                            (slice_set (begun_as w begun).parked t after.frames)) s.courses
+          after.frames)) (thread ∙ s.thread)
+          ∙ ap (λ cs. let w : ThreadsValue = record {
+            courses = slice_set cs t stepped.turned.course;
+            parked = v.parked;
+          } in threads_in a.program (begun_as w begun).courses
+          (slice_set (begun_as w begun).parked t after.frames)) s.courses
           ∙ begun-noted a.program a.threads.courses v.parked few t here m.frames after.frames stepped.turned.course
-              begun less
+          begun less
           ∙ ap (λ all. (take t (threads_in a.program a.threads.courses all)
-              ++ thread_shown a.program stepped.turned.course after.frames
-              ∷ drop (suc t) (threads_in a.program a.threads.courses all)) ++ thread_begun begun ∷ []) same_frames
+          ++ thread_shown a.program stepped.turned.course after.frames
+          ∷ drop (suc t) (threads_in a.program a.threads.courses all)) ++ thread_begun begun ∷ []) same_frames
 
       noted_with : (o : Option Begun) → IfSome o (λ begun. length a.threads.courses < length v.parked)
           → With (begun_if noted_in o) o
@@ -348,9 +365,13 @@ module _ (a : Inside) (t : ℕ) (sound : Sound a) (g : IsGoing a t) (v : Threads
       noted_with (Some begun) less = begun_with begun less
 
       pub done_shown : IfSome stepped.begun (λ begun. length a.threads.courses < length v.parked)
-          → record { program = a.program; limits = a.limits; shape = after.heap.shape;
-              machine = state_shown a.program after (noted_as v t stepped) a.fault (a.rows + 1) }
-              ≡ after_step (loaded a) t
+          → record {
+            program = a.program;
+            limits = a.limits;
+            shape = after.heap.shape;
+            machine = state_shown a.program after (noted_as v t stepped) a.fault (a.rows + 1);
+          }
+          ≡ after_step (loaded a) t
       done_shown less = shown_with (noted_as v t stepped) (noted_with stepped.begun less)
 
     pub done_outcome : stepped.turned.outcome ≡ outcome_on a.program (loaded a).machine (ByThread t)
@@ -380,14 +401,18 @@ module _ (a : Inside) (t : ℕ) (sound : Sound a) (g : IsGoing a t) (v : Threads
     still_after : all_shown a.program v after.thread after.frames ≡ threads_shown scene (LiveThread m.frames)
     still_after =
         ap (λ n. all_shown a.program v n after.frames) (thread ∙ s.thread) ∙ ap (all_shown a.program v t) stays.frames
-            ∙ still
+        ∙ still
 
     still_faulted : state_shown a.program after v (Some (fault, m.thread)) (a.rows + 1)
         ≡ counted_on (faulted_on before m.thread fault)
     still_faulted = rw (stays.slots, stays.states, stays.heap, stays.output, still_after) refl
 
-    pub fault_shown : record { program = a.program; limits = a.limits; shape = after.heap.shape;
-        machine = state_shown a.program after v (Some (fault, t)) (a.rows + 1) } ≡ after_step (loaded a) t
+    pub fault_shown : record {
+      program = a.program;
+      limits = a.limits;
+      shape = after.heap.shape;
+      machine = state_shown a.program after v (Some (fault, t)) (a.rows + 1);
+    } ≡ after_step (loaded a) t
     fault_shown =
         let same : after.heap.shape ≡ a.machine.heap.shape = ap (λ (h : HeapValue). h.shape) (stays.heap ∙ s.heap) in
         ap (seen_of (state_shown a.program after v (Some (fault, t)) (a.rows + 1))) same
@@ -401,12 +426,20 @@ module _ (a : Inside) (t : ℕ) (sound : Sound a) (g : IsGoing a t) (v : Threads
 
 -- ---- a turn of the collector
 
-pub collected_shown : (a : Inside) → record { program = a.program; limits = a.limits; shape = a.machine.heap.shape;
-    machine = machine_shown a.program (threads_now a) a.machine.slots a.machine.states.items
-    (collected a.program (threads_now a) a.machine.slots a.machine.heap) a.machine.output.items a.fault (a.rows + 1) }
+pub collected_shown : (a : Inside) → record {
+  program = a.program;
+  limits = a.limits;
+  shape = a.machine.heap.shape;
+  machine = machine_shown a.program (threads_now a) a.machine.slots a.machine.states.items
+      (collected a.program (threads_now a) a.machine.slots a.machine.heap) a.machine.output.items a.fault (a.rows + 1);
+}
     ≡ after_collection (loaded a)
 collected_shown a =
-    ap (λ (x : CellMachine). let s : Loaded = record { program = a.program; limits = a.limits;
-                                   shape = a.machine.heap.shape; machine = counted_on x } in s)
+    ap (λ (x : CellMachine). let s : Loaded = record {
+      program = a.program;
+      limits = a.limits;
+      shape = a.machine.heap.shape;
+      machine = counted_on x;
+    } in s)
     (sym (collected_on_shown a.program (threads_now a) a.machine.slots a.machine.states.items a.machine.output.items
-        a.fault a.rows a.machine.heap))
+    a.fault a.rows a.machine.heap))

@@ -95,7 +95,7 @@ module _ (s : Site) (h : HeapValue) (slots : List Value) (shown : IsNumbered s h
   load-same kind (Err fault) = refl
   load-same kind (Ok operands) =
       ap (element_got s) (place-is s.program accepted names h s.world shown.objects_are shown.stored kind operands.0
-          operands.1)
+      operands.1)
 
   holds-same : (v : Value) (birth : ℕ) → may_hold s (contents_at s.world birth) v
       ≡ takes s.program h (kind_held h birth) v
@@ -164,18 +164,42 @@ module _ (s : Site) (h : HeapValue) (slots : List Value) (shown : IsNumbered s h
 
   load-case : (kind : ElementKind) → Agrees (ArrayOf (Load kind)) (load_of kind)
   unfolding plain_move
-  load-case IntElement = record { same = load-same IntElement
-      (both (int_on s.frame.stack) (ref_on (drop 1 s.frame.stack))); valid = λ e. cc; stays = λ next f. refl }
-  load-case LongElement = record { same = load-same LongElement
-      (both (int_on s.frame.stack) (ref_on (drop 1 s.frame.stack))); valid = λ e. cc; stays = λ next f. refl }
-  load-case RefElement = record { same = load-same RefElement
-      (both (int_on s.frame.stack) (ref_on (drop 1 s.frame.stack))); valid = λ e. cc; stays = λ next f. refl }
-  load-case ByteElement = record { same = load-same ByteElement
-      (both (int_on s.frame.stack) (ref_on (drop 1 s.frame.stack))); valid = λ e. cc; stays = λ next f. refl }
-  load-case CharElement = record { same = load-same CharElement
-      (both (int_on s.frame.stack) (ref_on (drop 1 s.frame.stack))); valid = λ e. cc; stays = λ next f. refl }
-  load-case ShortElement = record { same = load-same ShortElement
-      (both (int_on s.frame.stack) (ref_on (drop 1 s.frame.stack))); valid = λ e. cc; stays = λ next f. refl }
+  load-case IntElement = record {
+    same = load-same IntElement
+        (both (int_on s.frame.stack) (ref_on (drop 1 s.frame.stack)));
+    valid = λ e. cc;
+    stays = λ next f. refl;
+  }
+  load-case LongElement = record {
+    same = load-same LongElement
+        (both (int_on s.frame.stack) (ref_on (drop 1 s.frame.stack)));
+    valid = λ e. cc;
+    stays = λ next f. refl;
+  }
+  load-case RefElement = record {
+    same = load-same RefElement
+        (both (int_on s.frame.stack) (ref_on (drop 1 s.frame.stack)));
+    valid = λ e. cc;
+    stays = λ next f. refl;
+  }
+  load-case ByteElement = record {
+    same = load-same ByteElement
+        (both (int_on s.frame.stack) (ref_on (drop 1 s.frame.stack)));
+    valid = λ e. cc;
+    stays = λ next f. refl;
+  }
+  load-case CharElement = record {
+    same = load-same CharElement
+        (both (int_on s.frame.stack) (ref_on (drop 1 s.frame.stack)));
+    valid = λ e. cc;
+    stays = λ next f. refl;
+  }
+  load-case ShortElement = record {
+    same = load-same ShortElement
+        (both (int_on s.frame.stack) (ref_on (drop 1 s.frame.stack)));
+    valid = λ e. cc;
+    stays = λ next f. refl;
+  }
 
   abbrev operands : ElementKind → Result (Value × (ℤ × Option ℕ)) Fault
   operands kind =
@@ -184,18 +208,36 @@ module _ (s : Site) (h : HeapValue) (slots : List Value) (shown : IsNumbered s h
 
   store-case : (kind : ElementKind) → Agrees (ArrayOf (Store kind)) (store_of kind)
   unfolding plain_move
-  store-case IntElement = record { same = store-same IntElement (operands IntElement); valid = λ e. cc;
-      stays = λ next f. refl }
-  store-case LongElement = record { same = store-same LongElement (operands LongElement); valid = λ e. cc;
-      stays = λ next f. refl }
-  store-case RefElement = record { same = store-same RefElement (operands RefElement); valid = λ e. cc;
-      stays = λ next f. refl }
-  store-case ByteElement = record { same = store-same ByteElement (operands ByteElement); valid = λ e. cc;
-      stays = λ next f. refl }
-  store-case CharElement = record { same = store-same CharElement (operands CharElement); valid = λ e. cc;
-      stays = λ next f. refl }
-  store-case ShortElement = record { same = store-same ShortElement (operands ShortElement); valid = λ e. cc;
-      stays = λ next f. refl }
+  store-case IntElement = record {
+    same = store-same IntElement (operands IntElement);
+    valid = λ e. cc;
+    stays = λ next f. refl;
+  }
+  store-case LongElement = record {
+    same = store-same LongElement (operands LongElement);
+    valid = λ e. cc;
+    stays = λ next f. refl;
+  }
+  store-case RefElement = record {
+    same = store-same RefElement (operands RefElement);
+    valid = λ e. cc;
+    stays = λ next f. refl;
+  }
+  store-case ByteElement = record {
+    same = store-same ByteElement (operands ByteElement);
+    valid = λ e. cc;
+    stays = λ next f. refl;
+  }
+  store-case CharElement = record {
+    same = store-same CharElement (operands CharElement);
+    valid = λ e. cc;
+    stays = λ next f. refl;
+  }
+  store-case ShortElement = record {
+    same = store-same ShortElement (operands ShortElement);
+    valid = λ e. cc;
+    stays = λ next f. refl;
+  }
 
   length-case : Agrees (ArrayOf Length) Arraylength
   unfolding plain_move
@@ -204,21 +246,27 @@ module _ (s : Site) (h : HeapValue) (slots : List Value) (shown : IsNumbered s h
   cast-case : (name : List ℕ) (t : HasType s.program few_classes name)
       → Agrees (ClassOf CheckCast name) (Checkcast t.type)
   unfolding plain_move
-  cast-case name t = record { same = cast-same name t.type t.there t.what (ref_on s.frame.stack); valid = λ e. cc;
-      stays = λ next f. refl }
+  cast-case name t = record {
+    same = cast-same name t.type t.there t.what (ref_on s.frame.stack);
+    valid = λ e. cc;
+    stays = λ next f. refl;
+  }
 
   test-case : (name : List ℕ) (t : HasType s.program few_classes name)
       → Agrees (ClassOf InstanceOf name) (Instanceof t.type)
   unfolding plain_move
-  test-case name t = record { same = test-same name t.type t.there t.what (ref_on s.frame.stack); valid = λ e. cc;
-      stays = λ next f. refl }
+  test-case name t = record {
+    same = test-same name t.type t.there t.what (ref_on s.frame.stack);
+    valid = λ e. cc;
+    stays = λ next f. refl;
+  }
 
   array-agrees : (operation : ArrayOperation (List ℕ)) → resolves s.program (ArrayOf operation) ≡ true
       → type_is_named (ArrayOf operation) ≡ true → Agrees (ArrayOf operation) (array_operation s.program operation)
   array-agrees (NewArray primitive) there named = primitive-case primitive
   array-agrees (NewOf name) there named =
       let t = typed s.program few_classes name named (and_parts (is_type s.program name) (nat_lt (dimensions name) 255)
-            there).0 in
+      there).0 in
       subst (λ o. Agrees (ArrayOf (NewOf name)) (makes_array o)) (sym t.is)
       (array-case name t.type t.there (elements_named s.program few_classes name named t))
   array-agrees Length there named = length-case
@@ -300,9 +348,9 @@ module _ (program : List ClassListing) (names : list_all is_well_named program �
   placed-named place code pc i there at =
       let method = and_then-some (λ (m : Method). m.code) (method_at program place) code there in
       let class = and_then-some (λ (c : ClassListing). method_in c place.method) (slice_get program place.class)
-            method.0 method.1 in
+      method.0 method.1 in
       let named : types_are_named class.0.methods
-            ≡ true = types-named class.0 (all-at is_well_named program place.class class.0 names class.1) in
+      ≡ true = types-named class.0 (all-at is_well_named program place.class class.0 names class.1) in
       let whole : types_are_named_in (Some code) ≡ true =
       ap types_are_named_in (sym method.2)
       ∙ in_methods class.0 place.method method.0 named class.2 in
@@ -311,7 +359,7 @@ module _ (program : List ClassListing) (names : list_all is_well_named program �
 -- at a pc of a method
 pub code-by_types : (s : Site) (h : HeapValue) (slots : List Value) → IsNumbered s h slots → refusal_of s.program ≡ None
     → list_all is_well_named s.program ≡ true → (superclass : List ℕ) (place : MethodPlace) (code : CodeListing)
-        (pc : ℕ) (i : Placed)
+    (pc : ℕ) (i : Placed)
     → code_at s.program place ≡ Some code → placed_at code pc ≡ Some i → goes_by_type i.instruction ≡ true
     → AgreesByType s h i.instruction (operation_of s.program superclass i.instruction)
 code-by_types s h slots shown accepted names superclass place code pc i there at goes =

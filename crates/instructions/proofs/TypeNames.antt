@@ -94,7 +94,7 @@ pub names_count : (program : List ClassListing) → length (class_names program)
 names_count program =
     length-append (map name_of program) (map name_of builtin_classes)
     ∙ ap (λ n. n + length (map name_of builtin_classes)) (program_count program)
-        ∙ ap (λ n. length program + n) own_count
+    ∙ ap (λ n. length program + n) own_count
 
 pub number_within : (program : List ClassListing) (n : ℕ) (name : List ℕ) → slice_get (class_names program) n
     ≡ Some name
@@ -121,7 +121,7 @@ module _ (program : List ClassListing) (few : length program ≤ 256) where
 
   there-on : (n : ℕ) (name : List ℕ) → is_there_within (suc n) program name
       ≡ type_is_there (is_some (class_named program name)) (λ element. is_there_within n program element)
-          (element_of name)
+      (element_of name)
   unfolding is_there_within
   there-on n name = refl
 
@@ -211,7 +211,7 @@ module _ (program : List ClassListing) (few : length program ≤ 256) where
   class-word : (name : List ℕ) → HasNumber program name → IsWord (76 ∷ name ++ 59 ∷ [])
   class-word name class =
       let there : slice_get (class_names program) class.number ≡ Some name = number-names program name class.number
-            class.is in
+      class.is in
       let number = class_element class.number (number_within program class.number name there) in
       record {
         element = class.number;
@@ -220,7 +220,7 @@ module _ (program : List ClassListing) (few : length program ≤ 256) where
         same =
             ap (λ (o : Option (List ℕ)). 76 ∷ name_or_none o ++ 59 ∷ []) (sym there)
             ∙ ap (λ b. if b then (class.number % 256) ∷ [] else 76 ∷ class_name program class.number ++ 59 ∷ [])
-                (sym number.low);
+            (sym number.low);
       }
 
   class-type : (bytes : List ℕ) (n : ℕ) → position_or_len ends bytes + 1 ≡ length bytes
@@ -233,7 +233,7 @@ module _ (program : List ClassListing) (few : length program ≤ 256) where
       ap (λ xs. described (76 ∷ xs)) whole ∙ between (take (position_or_len ends bytes) bytes) in
       let there : is_there_within n program (take (position_or_len ends bytes) bytes) ≡ true =
       ap (type_is_there (is_some (class_named program (91 ∷ 76 ∷ bytes)))
-          (λ element. is_there_within n program element)) (sym named)
+      (λ element. is_there_within n program element)) (sym named)
       ∙ sym (there-on n (91 ∷ 76 ∷ bytes)) ∙ e in
       subst (λ xs. IsWord (76 ∷ xs)) (sym whole)
       (class-word (take (position_or_len ends bytes) bytes) (class-number n (take (position_or_len ends bytes) bytes)
@@ -257,10 +257,10 @@ module _ (program : List ClassListing) (few : length program ≤ 256) where
       int : is_int_type (b ∷ bs) ≡ true → IsWord (b ∷ bs)
       int h =
           elim (or_cases (bytes_eq (b ∷ bs) (codes "B") || bytes_eq (b ∷ bs) (codes "C")
-              || bytes_eq (b ∷ bs) (codes "S")) (bytes_eq (b ∷ bs) (codes "I")) h) [
+          || bytes_eq (b ∷ bs) (codes "S")) (bytes_eq (b ∷ bs) (codes "I")) h) [
             | inl h ↦
                 elim (or_cases (bytes_eq (b ∷ bs) (codes "B") || bytes_eq (b ∷ bs) (codes "C"))
-                    (bytes_eq (b ∷ bs) (codes "S")) h) [
+                (bytes_eq (b ∷ bs) (codes "S")) h) [
                   | inl h ↦
                       elim (or_cases (bytes_eq (b ∷ bs) (codes "B")) (bytes_eq (b ∷ bs) (codes "C")) h) [
                         | inl h ↦ one-letter 66 (b ∷ bs) refl h
@@ -274,7 +274,7 @@ module _ (program : List ClassListing) (few : length program ≤ 256) where
       class : is_class_type (b ∷ bs) ≡ true → IsWord (b ∷ bs)
       class h =
           let parts = and_parts (b == 76 && position_or_len ends bs + 1 == length bs)
-                (are_parts false (before_first ends bs)) h in
+          (are_parts false (before_first ends bs)) h in
           let head = and_parts (b == 76) (position_or_len ends bs + 1 == length bs) parts.0 in
           let first : b ≡ 76 = eqb-true b 76 head.0 in
           subst (λ (x : ℕ). IsWord (x ∷ bs)) (sym first)
@@ -319,12 +319,12 @@ module _ (program : List ClassListing) (few : length program ≤ 256) where
       by : (c : Bool) → (b == 91) ≡ c → is_element_type (drop (if b == 91 then 1 + dimensions bs else 0) (b ∷ bs))
           ≡ true
           → ((n : ℕ) → is_element_type (drop (dimensions bs) bs) ≡ true → is_there_within n program (91 ∷ bs) ≡ true
-              → IsWord bs)
+          → IsWord bs)
           → IsWord (b ∷ bs)
       by true is word rest = subst Of (sym (eqb-true b 91 is)) (more rest) word e
       by false is word rest =
           last-word b bs n (ap (λ c. is_element_type (drop (if c then 1 + dimensions bs else 0) (b ∷ bs))) (sym is)
-              ∙ word) e
+          ∙ word) e
 
   -- ---- the types that instructions name
 
@@ -352,7 +352,7 @@ module _ (program : List ClassListing) (few : length program ≤ 256) where
       let class = class-number (length name + 1) name plain e in
       let none : dimensions name ≡ 0 = no_dimensions name plain in
       let there : slice_get (class_names program) class.number ≡ Some name = number-names program name class.number
-            class.is in
+      class.is in
       let number = class_element class.number (number_within program class.number name there) in
       record {
         type = type_with 0 class.number;
@@ -368,9 +368,9 @@ module _ (program : List ClassListing) (few : length program ≤ 256) where
   array-typed word named e =
       let field = and_parts (fits (91 ∷ word)) (is_type_word (91 ∷ word)) named in
       let count : brackets (91 ∷ word) ≡ suc (dimensions word) = brackets_are (91 ∷ word) ∙ one_more (dimensions word)
-            in
+      in
       let type = and_parts (nat_le (brackets (91 ∷ word)) 255)
-            (is_element_type (drop (brackets (91 ∷ word)) (91 ∷ word))) field.1 in
+      (is_element_type (drop (brackets (91 ∷ word)) (91 ∷ word))) field.1 in
       let few : brackets (91 ∷ word) ≤ 255 = leb-true (brackets (91 ∷ word)) 255 type.0 in
       let counted : nat_le (suc (dimensions word)) 65535 ≡ true =
       le-leb (suc (dimensions word)) 65535 (omega (arith, few, count)) in
@@ -380,7 +380,7 @@ module _ (program : List ClassListing) (few : length program ≤ 256) where
         type = type_with (suc (dimensions word)) w.element;
         is =
             ap (λ n. option_map (λ element. type_with (counted_dimensions n) element)
-                (last_number program n (91 ∷ word)))
+            (last_number program n (91 ∷ word)))
             (one_more (dimensions word))
             ∙ ap (option_map (λ element. type_with (counted_dimensions (suc (dimensions word))) element)) w.is
             ∙ ap (λ b. Some (type_with (if b then suc (dimensions word) else 65535) w.element)) counted;
@@ -401,7 +401,7 @@ module _ (program : List ClassListing) (few : length program ≤ 256) where
       array (b ∷ bs) h e =
           let first : b ≡ 91 = eqb-true b 91 (and_parts (b == 91) (is_field_descriptor (b ∷ bs)) h).0 in
           subst (λ (x : ℕ). is_array_descriptor (x ∷ bs) ≡ true → is_type program (x ∷ bs) ≡ true → HasType (x ∷ bs))
-              (sym first)
+          (sym first)
           (array-typed bs) h e
 
   -- arrays of a type have the descriptor that its numbers show
@@ -416,7 +416,7 @@ module _ (program : List ClassListing) (few : length program ≤ 256) where
           ap (λ t. if t then b ∷ bs else 76 ∷ b ∷ bs ++ 59 ∷ []) c.unbracketed
           ∙ ap (λ (o : Option (List ℕ)). 76 ∷ name_or_none o ++ 59 ∷ []) (sym c.named)
           ∙ ap (λ t. if t then (type.element % 256) ∷ [] else 76 ∷ class_name program type.element ++ 59 ∷ [])
-              (sym c.low)
+          (sym c.low)
           ∙ ap (λ n. replicate n 91 ++ last_element program type.element) (sym c.plain)
 
       array : (name : List ℕ) (type : TypeNumber) → IsArray name type → descriptor_of name ≡ type_name program type

@@ -137,11 +137,11 @@ once x [] more zero name before following e =
     let same : x ≡ name = cc in ap (λ y. bytes_eq y x) (sym same) ∙ (bytes_eq-Decides x x).1 refl
 once x [] more (suc n) name before following e =
     not-true (bytes_eq name x) (all-at (λ y. not (bytes_eq y x)) more n name following e)
-        ∙ sym (ne_eqb (suc n) 0 (λ h. omega (arith, h)))
+    ∙ sym (ne_eqb (suc n) 0 (λ h. omega (arith, h)))
 once x (y ∷ ys) more zero name before following e =
     let same : y ≡ name = cc in
     ap (λ z. bytes_eq z x) (sym same)
-        ∙ not-true (bytes_eq y x) (and-left (not (bytes_eq y x)) (list_all (λ y. not (bytes_eq y x)) ys) before)
+    ∙ not-true (bytes_eq y x) (and-left (not (bytes_eq y x)) (list_all (λ y. not (bytes_eq y x)) ys) before)
     ∙ sym (ne_eqb 0 (suc (length ys)) (λ h. omega (arith, h)))
 once x (y ∷ ys) more (suc n) name before following e =
     once x ys more n name (and-right (not (bytes_eq y x)) (list_all (λ y. not (bytes_eq y x)) ys) before) following e
@@ -160,14 +160,14 @@ named-classes [] e = refl
 named-classes (c ∷ cs) e =
     let parts = and_parts (is_well_named c) (list_all is_well_named cs) e in
     and_from (is_class_name c.name) (list_all (λ (c : ClassListing). is_class_name c.name) cs) (class-name c parts.0)
-        (named-classes cs parts.1)
+    (named-classes cs parts.1)
 
 proper-names : (cs : List ClassListing) → AreClassNames cs → list_all is_proper (map name_of cs) ≡ true
 proper-names [] e = refl
 proper-names (c ∷ cs) e =
     let parts = and_parts (is_class_name c.name) (list_all (λ (c : ClassListing). is_class_name c.name) cs) e in
     and_from (is_proper c.name) (list_all is_proper (map name_of cs)) (proper-name c.name parts.0)
-        (proper-names cs parts.1)
+    (proper-names cs parts.1)
 
 module _ (program : List ClassListing) (few : length program ≤ 256) (names : AreClassNames program)
     (hierarchy : IsHierarchy program) (hides : find has_builtin_name program ≡ None) where
@@ -184,7 +184,7 @@ module _ (program : List ClassListing) (few : length program ≤ 256) (names : A
   pub proper-named : (name : List ℕ) (c : ClassListing) → class_named program name ≡ Some c → is_proper name ≡ true
   proper-named name c e =
       let class = number-of program name c e
-            in proper-at class.number name (number-names program name class.number class.is)
+      in proper-at class.number name (number-names program name class.number class.is)
 
   pub class_unbracketed : (n : ℕ) → is_bracketed (class_name program n) ≡ false
   class_unbracketed n = by (slice_get (class_names program) n) refl
@@ -203,7 +203,7 @@ module _ (program : List ClassListing) (few : length program ≤ 256) (names : A
       by : (o : Option ClassListing) → class_named program p ≡ o → is_bracketed p ≡ false
       by None e =
           absurd (differ (any-has (λ name. is_none (class_named program name)) (parents_of c) p h
-              (ap (λ (o : Option ClassListing). is_none o) e)) none)
+          (ap (λ (o : Option ClassListing). is_none o) e)) none)
       by (Some d) e = proper-unbracketed p (proper-named p d e)
 
   parents-plain : (name p : List ℕ) → HasName (parents_named program name) p → is_bracketed p ≡ false
@@ -216,7 +216,7 @@ module _ (program : List ClassListing) (few : length program ≤ 256) (names : A
           not-true (is_bracketed p)
           (all-of (λ p. not (is_bracketed p)) (parents_of c) p
           (all-found (λ (c : ClassListing). list_all (λ p. not (is_bracketed p)) (parents_of c)) (is_named name)
-              builtin_classes c own-parents f) h)
+          builtin_classes c own-parents f) h)
       by (Some c) k e f h =
           parents-there c p (none-fails (has_missing_parent program) (is_named name) program c hierarchy.0 e) h
 
@@ -244,7 +244,7 @@ module _ (program : List ClassListing) (few : length program ≤ 256) (names : A
   alone same e = e
   alone (parent {name = name} {above = above} h) e =
       absurd (subst (λ (o : Option ClassListing). HasName (parents_in o) above) (ap (class_named program) e
-          ∙ nobody-named) h)
+      ∙ nobody-named) h)
   alone (through middle p q) e = alone q (alone p e)
 
   nothing-above : (above : List ℕ) → is_proper above ≡ true → is_subclass program [] above ≡ false
@@ -259,7 +259,7 @@ module _ (program : List ClassListing) (few : length program ≤ 256) (names : A
 
   subtype-on : (n : ℕ) (name above : List ℕ) → is_subtype_within (suc n) program name above
       ≡ types_compare (is_subclass program name above) (bytes_eq above object)
-          (λ n' m. is_subtype_within n program n' m) (element_of name) (element_of above)
+      (λ n' m. is_subtype_within n program n' m) (element_of name) (element_of above)
   unfolding is_subtype_within
   subtype-on n name above = refl
 
@@ -269,7 +269,7 @@ module _ (program : List ClassListing) (few : length program ≤ 256) (names : A
   plain-subtype (suc n) name above plain some =
       subtype-on n name above
       ∙ ap (λ o. types_compare (is_subclass program name above) (bytes_eq above object)
-          (λ n' m. is_subtype_within n program n' m) o (element_of above)) (no_array name plain)
+      (λ n' m. is_subtype_within n program n' m) o (element_of above)) (no_array name plain)
 
   pub plain-is : (name above : List ℕ) → is_bracketed name ≡ false → is_subtype program name above
       ≡ is_subclass program name above
@@ -290,7 +290,7 @@ module _ (program : List ClassListing) (few : length program ≤ 256) (names : A
       by : (o : Option ClassListing) → slice_get (all_classes program) n ≡ o → IsListed n
       by None e =
           let none : slice_get (class_names program) n ≡ None = name-at program n
-                ∙ ap (option_map (λ (c : ClassListing). c.name)) e in
+          ∙ ap (option_map (λ (c : ClassListing). c.name)) e in
           absurd (gone none)
         where
           gone : slice_get (class_names program) n ≡ None → ⊥
@@ -302,7 +302,7 @@ module _ (program : List ClassListing) (few : length program ≤ 256) (names : A
               past (x ∷ xs) (suc k) inside none = past xs k (omega (arith, inside)) none
       by (Some c) e =
           let name : slice_get (class_names program) n ≡ Some c.name = name-at program n
-                ∙ ap (option_map (λ (c : ClassListing). c.name)) e in
+          ∙ ap (option_map (λ (c : ClassListing). c.name)) e in
           let is : class_name program n ≡ c.name = ap name_or_none name in
           record {
             class = c;
@@ -370,11 +370,11 @@ module _ (program : List ClassListing) (few : length program ≤ 256) (names : A
           ++ 59 ∷ []) ≡ Some (held_last (is_letter e) e)
       by true high =
           numbered_letters (λ e. described (if is_letter e then (e % 256) ∷ [] else 76 ∷ class_name program e
-              ++ 59 ∷ []) ≡ Some (held_last (is_letter e) e))
+          ++ 59 ∷ []) ≡ Some (held_last (is_letter e) e))
           refl refl refl refl refl e high there
       by false low =
           ap (λ b. described (if b then (e % 256) ∷ [] else 76 ∷ class_name program e ++ 59 ∷ [])) low
-              ∙ between program few (class_name program e)
+          ∙ between program few (class_name program e)
           ∙ ap (λ b. Some (held_last b e)) (sym low)
 
   -- ---- an array below a class
@@ -385,10 +385,10 @@ module _ (program : List ClassListing) (few : length program ≤ 256) (names : A
 
   array-on : (n d e : ℕ) (above : List ℕ) → is_element program e ≡ true
       → is_subtype_within (suc n) program (array d e) above ≡ compared n (array d e) above (Some (held_in d e))
-          (element_of above)
+      (element_of above)
   array-on n d e above there =
       subtype-on n (array d e) above ∙ ap (λ o. compared n (array d e) above o (element_of above))
-          (word-holds d e there)
+      (word-holds d e there)
 
   below-class : (n d e c : ℕ) → is_element program e ≡ true → is_letter c ≡ false → is_element program c ≡ true → 1 ≤ n
       → is_subtype_within n program (array d e) (class_name program c) ≡ (c == object_class program)
@@ -396,7 +396,7 @@ module _ (program : List ClassListing) (few : length program ≤ 256) (names : A
   below-class (suc n) d e c there low class some =
       array-on n d e (class_name program c) there
       ∙ ap (compared n (array d e) (class_name program c) (Some (held_in d e)))
-          (no_array (class_name program c) (class_unbracketed c))
+      (no_array (class_name program c) (class_unbracketed c))
       ∙ object-is c low class
 
   -- ---- what arrays hold at last, compared
@@ -404,7 +404,7 @@ module _ (program : List ClassListing) (few : length program ≤ 256) (names : A
   past-above : (n above : ℕ) → length program + 23 ≤ above → is_subtype_in (class_tables program) n above ≡ false
   past-above n above past =
       ap (is_below above) (slice_get-map (class_facts program) (all_classes program) n)
-          ∙ by (slice_get (all_classes program) n)
+      ∙ by (slice_get (all_classes program) n)
     where
       none-at : (f : List ℕ → Bool) (xs : List (List ℕ)) (k : ℕ) → length xs ≤ k → slice_index_or (map f xs) k false
           ≡ false
@@ -468,19 +468,19 @@ module _ (program : List ClassListing) (few : length program ≤ 256) (names : A
   fewer : (d e above c : ℕ) → above ≤ d → is_below_by d e above c ≡ (c == object_class program)
   fewer d e above c le =
       ap (λ b. if b then c == object_class program else (above == d + 1 && is_element_below program e c))
-          (le-leb above d le)
+      (le-leb above d le)
 
   more : (d e above c : ℕ) → d + 1 < above → is_below_by d e above c ≡ false
   more d e above c less =
       ap (λ b. if b then c == object_class program else (above == d + 1 && is_element_below program e c))
-          (lt-leb above d (omega (arith, less)))
+      (lt-leb above d (omega (arith, less)))
       ∙ ap (λ b. b && is_element_below program e c) (ne_eqb above (d + 1) (λ same. omega (arith, less, same)))
 
   shift : (d e above c : ℕ) → is_below_by d e above c ≡ is_below_by (suc d) e (suc above) c
   shift d e above c =
       let one : suc d + 1 ≡ suc (d + 1) = omega arith in
       ap (λ b. if b then c == object_class program else (above == d + 1 && is_element_below program e c))
-          (sym (leb-suc above d))
+      (sym (leb-suc above d))
       ∙ ap (λ b. if nat_le (suc above) (suc d) then c == object_class program else (b && is_element_below program e c))
       (sym (eqb-suc above (d + 1)) ∙ ap (λ k. suc above == k) (sym one))
 
@@ -501,31 +501,31 @@ module _ (program : List ClassListing) (few : length program ≤ 256) (names : A
 
       by : (d above : ℕ) → d + 1 ≤ n → Smaller
           → compared n (array d e) (array above c) (Some (held_in d e)) (Some (held_in above c))
-              ≡ is_below_by d e (suc above) c
+          ≡ is_below_by d e (suc above) c
       by zero zero steps rest = last-is n e c there other (omega (arith, steps))
       by zero (suc above) steps rest = last (is_letter e) refl ∙ sym (more 0 e (suc (suc above)) c (omega arith))
         where
           last : (b : Bool) → is_letter e ≡ b
               → compared n (array 0 e) (array (suc above) c) (Some (held_last (is_letter e) e))
-                  (Some (Reference (array above c))) ≡ false
+              (Some (Reference (array above c))) ≡ false
           last true high = ap (λ b. compared n (array 0 e) (array (suc above) c) (Some (held_last b e))
               (Some (Reference (array above c)))) high
           last false low =
               ap (λ b. compared n (array 0 e) (array (suc above) c) (Some (held_last b e))
-                  (Some (Reference (array above c)))) low
+              (Some (Reference (array above c)))) low
               ∙ plain-subtype n (class_name program e) (array above c) (class_unbracketed e) (omega (arith, steps))
               ∙ no-array-above (class_name program e) (array above c) (class_unbracketed e) refl
       by (suc d) zero steps rest = last (is_letter c) refl ∙ sym (fewer (suc d) e 1 c (omega arith))
         where
           last : (b : Bool) → is_letter c ≡ b
               → compared n (array (suc d) e) (array 0 c) (Some (Reference (array d e)))
-                  (Some (held_last (is_letter c) c)) ≡ (c == object_class program)
+              (Some (held_last (is_letter c) c)) ≡ (c == object_class program)
           last true high =
               ap (λ b. compared n (array (suc d) e) (array 0 c) (Some (Reference (array d e))) (Some (held_last b c)))
-                  high ∙ sym (not_object c high)
+              high ∙ sym (not_object c high)
           last false low =
               ap (λ b. compared n (array (suc d) e) (array 0 c) (Some (Reference (array d e))) (Some (held_last b c)))
-                  low
+              low
               ∙ below-class n d e c there low other (omega (arith, steps))
       by (suc d) (suc above) steps rest = rest d above (omega (arith, steps)) ∙ shift d e (suc above) c
 
@@ -553,13 +553,13 @@ module _ (program : List ClassListing) (few : length program ≤ 256) (names : A
           → is_subtype program (class_name program k) name ≡ is_subtype_in (class_tables program) k type.element
       by None e =
           let none : class_name program k
-                ≡ [] = ap name_or_none (name-at program k ∙ ap (option_map (λ (c : ClassListing). c.name)) e) in
+          ≡ [] = ap name_or_none (name-at program k ∙ ap (option_map (λ (c : ClassListing). c.name)) e) in
           ap (λ x. is_subtype program x name) none ∙ nobody-below name type (inl c)
           ∙ sym (ap (is_below type.element) (slice_get-map (class_facts program) (all_classes program) k
-              ∙ ap (option_map (class_facts program)) e))
+          ∙ ap (option_map (class_facts program)) e))
       by (Some d) e =
           let is : class_name program k ≡ d.name = ap name_or_none (name-at program k
-                ∙ ap (option_map (λ (c : ClassListing). c.name)) e) in
+          ∙ ap (option_map (λ (c : ClassListing). c.name)) e) in
           ap (λ x. is_subtype program x name) is ∙ sym (subtype-names program k type.element d name e c.named)
   instance-below k name type (inr a) =
       plain-is (class_name program k) name (class_unbracketed k)
@@ -582,7 +582,7 @@ module _ (program : List ClassListing) (few : length program ≤ 256) (names : A
       let is : class_name program above.element ≡ name = ap name_or_none c.named in
       ap (λ x. is_subtype program (array type.dimensions type.element) x) (sym is)
       ∙ below-class (length (array type.dimensions type.element) + 1) type.dimensions type.element above.element there
-          c.low other (omega arith)
+      c.low other (omega arith)
       ∙ sym (fewer type.dimensions type.element above.dimensions above.element (omega (arith, c.plain)))
   array-kind type name above there other (inr a) =
       ap (λ x. is_subtype program (array type.dimensions type.element) x) a.named

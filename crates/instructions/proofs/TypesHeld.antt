@@ -84,10 +84,10 @@ module _ (program : List ClassListing) (accepted : refusal_of program ≡ None) 
       → has_elements (letter_for kind) (described (type_name program (type_with d e))) ≡ holds kind (type_with d e)
   holds-is kind (suc d) e there =
       refers kind (type_name program (type_with (suc d) e)) (type_with (suc d) e) (nested d e (is_letter e))
-          (λ letter. nested d e (e == 32768 + letter))
+      (λ letter. nested d e (e == 32768 + letter))
   holds-is kind zero e there =
       ap (has_elements (letter_for kind)) (word-holds program few names (accepted_hierarchy program accepted)
-          (none_hides program accepted) 0 e there)
+      (none_hides program accepted) 0 e there)
       ∙ by (is_letter e) refl
     where
       by : (b : Bool) → is_letter e ≡ b → HoldsLast kind e
@@ -107,10 +107,10 @@ module _ (program : List ClassListing) (accepted : refusal_of program ≡ None) 
       → is_subtype program (class_of (contents_shown program kind words)) name ≡ is_kind_of program kind type
   kind-of (Instance class) words name type stored there named =
       instance-below program few names (accepted_hierarchy program accepted) (none_hides program accepted) class name
-          type named
+      type named
   kind-of (Array element) words name type stored there named =
       array-kind program few names (accepted_hierarchy program accepted) (none_hides program accepted) element name type
-          stored there named
+      stored there named
 
   none-of : (name : List ℕ) (type : TypeNumber) → Named name type → is_subtype program [] name ≡ false
   none-of name type named = nobody-below program few names (accepted_hierarchy program accepted)
@@ -123,7 +123,7 @@ module _ (program : List ClassListing) (accepted : refusal_of program ≡ None) 
     -- what holds of none, of nobody and of each stored object
     pub at-birth : (P : Option Object → Option (StoredObject Kind) → Type 0) → P None None → P (Some nobody) None
         → ((o : StoredObject Kind) → IsStored program o.kind o.words
-            → P (Some (object_shown program (Some o))) (Some o))
+        → P (Some (object_shown program (Some o))) (Some o))
         → (birth : ℕ) → P (object_at w birth) (held h birth)
     at-birth P none nobody some zero = subst (λ objects. P (slice_get objects 0) None) (sym shown) nobody
     at-birth P none nobody some (suc cell) =
@@ -147,7 +147,7 @@ module _ (program : List ClassListing) (accepted : refusal_of program ≡ None) 
 
     taken : (class : List ℕ) (o : Option (StoredObject Kind)) (d e : ℕ) → is_element program e ≡ true
         → ((name : List ℕ) → Named name (type_with d e) → is_subtype program class name
-            ≡ is_object_of program o (type_with d e))
+        ≡ is_object_of program o (type_with d e))
         → is_element_of program class (described (type_name program (type_with d e)))
         ≡ (not (holds_references (type_with d e)) || is_object_of program o (type_with d e))
     taken class o (suc d) e there of =
@@ -155,18 +155,18 @@ module _ (program : List ClassListing) (accepted : refusal_of program ≡ None) 
         ∙ ap (λ b. not (not b) || is_object_of program o (type_with (suc d) e)) (sym (nested d e (is_letter e)))
     taken class o zero e there of =
         ap (is_element_of program class) (word-holds program few names (accepted_hierarchy program accepted)
-            (none_hides program accepted) 0 e there)
+        (none_hides program accepted) 0 e there)
         ∙ by (is_letter e) refl
       where
         by : (b : Bool) → is_letter e ≡ b
             → is_element_of program class (Some (held_last (is_letter e) e))
-                ≡ (not (not (is_letter e)) || is_object_of program o (type_with 0 e))
+            ≡ (not (not (is_letter e)) || is_object_of program o (type_with 0 e))
         by true high =
             ap (λ b. is_element_of program class (Some (held_last b e))) high
             ∙ ap (λ b. not (not b) || is_object_of program o (type_with 0 e)) (sym high)
         by false low =
             let class_of = element-listed program few names (accepted_hierarchy program accepted)
-                  (none_hides program accepted) e low there in
+            (none_hides program accepted) e low there in
             ap (λ b. is_element_of program class (Some (held_last b e))) low
             ∙ of (class_name program e) (inl (record {
               plain = refl;
@@ -182,15 +182,15 @@ module _ (program : List ClassListing) (accepted : refusal_of program ≡ None) 
 
     pub takes-is : (value : ℕ) (birth : ℕ)
         → is_element_of program (class_at w value) (element_in (contents_at w birth))
-            ≡ takes_object program (kind_held h birth) (held h value)
+        ≡ takes_object program (kind_held h birth) (held h value)
     takes-is value birth =
         at-birth (λ x o. is_element_of program (class_at w value) (element_in (contents_if x))
-            ≡ takes_object program (kind_if o) (held h value))
+        ≡ takes_object program (kind_if o) (held h value))
         refl refl (λ o fits. by o.kind o.words fits) birth
       where
         by : (kind : Kind) (words : List Value) → IsStored program kind words
             → is_element_of program (class_at w value) (element_in (contents_shown program kind words))
-                ≡ takes_object program (Some kind) (held h value)
+            ≡ takes_object program (Some kind) (held h value)
         by (Instance class) words fits = refl
         by (Array type) words fits =
             taken (class_at w value) (held h value) type.dimensions type.element fits
@@ -212,11 +212,11 @@ module _ (program : List ClassListing) (accepted : refusal_of program ≡ None) 
       where
         by : (k : Kind) (words : List Value) → IsStored program k words
             → if_array (is_array_of kind (contents_shown program k words))
-                (indexed birth (index_in z (contents_shown program k words)))
+            (indexed birth (index_in z (contents_shown program k words)))
             ≡ if_array (is_array_of_kind kind (Some k)) (indexed birth (index_within z (length words)))
         by (Instance class) words fits = refl
         by (Array type) words fits =
             ap (λ i. if_array (has_elements (letter_for kind) (described (type_name program type))) (indexed birth i))
-                (index-is type words z)
+            (index-is type words z)
             ∙ ap (λ b. if_array b (indexed birth (index_within z (length words))))
-                (holds-is kind type.dimensions type.element fits)
+            (holds-is kind type.dimensions type.element fits)

@@ -421,7 +421,7 @@ module _ (program : List ClassListing) (hides : find has_builtin_name program �
           ∙ ap (λ name. Some (class_place program name)) (class-same d first.item first.passes)
           ∙ ap (λ n. Some n) (first_at (bytes_eq d.class) (class_names program) class.number class.is).place_is in
           subst (λ slot. AreSame program (Some d.class) (class_used_by program (accesses_slot access slot)))
-              (sym slot.is)
+          (sym slot.is)
           (subst (AreSame program (Some d.class)) (sym (by_access access slot.place ∙ listed)) class.is)
         where
           by_access : (access : Access) (n : ℕ)
@@ -497,15 +497,15 @@ module _ (program : List ClassListing) (hides : find has_builtin_name program �
       no-class (class_used_by program (tests_type (type_of program name))) (tests-none program (type_of program name))
   used-same superclass (Invoke Virtual m) there =
       no-class (class_used_by program (calls_selected (selector_named program m)))
-          (virtual-none program (selector_named program m))
+      (virtual-none program (selector_named program m))
   used-same superclass (Invoke Special m) there =
       no-class (class_used_by program (special_call program m (special_method program superclass m)
-          (resolved_method program m)))
+      (resolved_method program m)))
       (special-none program m (special_method program superclass m) (resolved_method program m))
   used-same superclass (Invoke Static m) there = call-same m
   used-same superclass (Invoke (Interface count) m) there =
       no-class (class_used_by program (calls_selected (selector_named program m)))
-          (virtual-none program (selector_named program m))
+      (virtual-none program (selector_named program m))
   used-same superclass Throw there = tt
   used-same superclass (Monitor Enter) there = tt
   used-same superclass (Monitor Exit) there = tt

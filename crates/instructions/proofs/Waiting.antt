@@ -27,13 +27,13 @@ use Rattle.instructions.proofs.ThreadLemmas.{thread_got}
 pub ready_lives : (program : List ClassListing) (w : World) (t : ℕ) → is_ready program w t ≡ true → is_live w t ≡ true
 ready_lives program w t e = second (is_none w.fault) (is_live w t)
     (first (is_none w.fault && is_live w t) (not (waits (completion program w t))) e) where
-  first : (a b : Bool) → (a && b) ≡ true → a ≡ true
-  first true b e = refl
-  first false b e = cc
+      first : (a b : Bool) → (a && b) ≡ true → a ≡ true
+      first true b e = refl
+      first false b e = cc
 
-  second : (a b : Bool) → (a && b) ≡ true → b ≡ true
-  second true b e = e
-  second false b e = cc
+      second : (a b : Bool) → (a && b) ≡ true → b ≡ true
+      second true b e = e
+      second false b e = cc
 
 -- whether so many bytes more pass a limit
 abbrev pub passes_with : ℕ → List ℕ → Option ℕ → Bool
@@ -78,7 +78,7 @@ module _ (a : Inside) where
       → status_by faulted lives ready ≡ status_in a.program now
   stands faulted lives ready f l r =
       let same : some_lives now ≡ lives = sym (some_alive a.program a.threads.courses all_now ∙ some-lives threads_now)
-            ∙ l in
+      ∙ l in
       sym (ap (λ b. status_by b (some_lives now) (some_is_ready a.program now)) f
       ∙ ap (λ b. status_by faulted b (some_is_ready a.program now)) same
       ∙ ap (status_by faulted lives) r)
@@ -88,14 +88,14 @@ module _ (a : Inside) where
   some_ready n is =
       some-found (is_ready a.program now) (numbers_between 0 n)
       ∙ ap (λ n. list_any (is_ready a.program now) (numbers_up 0 n))
-          (let all : n - 0 ≡ length threads_now = omega (arith, is, counted_now) in all)
+      (let all : n - 0 ≡ length threads_now = omega (arith, is, counted_now) in all)
       ∙ ap (list_any (is_ready a.program now)) (sym (numbers-of 0 threads_now))
 
   pub some_held : (p : ℕ → Bool) (n : ℕ) → n ≡ length a.threads.courses → list_any p (numbers_between 0 n)
       ≡ list_any p (thread_numbers now)
   some_held p n is =
       ap (λ n. list_any p (numbers_up 0 n)) (let all : n - 0 ≡ length threads_now = omega (arith, is, counted_now)
-                                                   in all) ∙ ap (list_any p) (sym (numbers-of 0 threads_now))
+      in all) ∙ ap (list_any p) (sym (numbers-of 0 threads_now))
 
   -- the numbers of threads in cyclic order, from where the last one is at most
   abbrev pub StartsAt : ℕ → ℕ → Type 0
@@ -121,19 +121,19 @@ module _ (a : Inside) where
         → Some n ≡ find ready (cyclic_from start (thread_numbers now))
     first_ready n found =
         cyclic-first ready start within threads_now (omega (arith, least.1, many)) starts n (found
-            ∙ ap (λ to. find ready (numbers_between within to)) many)
+        ∙ ap (λ to. find ready (numbers_between within to)) many)
 
     pub second_ready : None ≡ find ready (numbers_between within count)
         → find ready (numbers_between 0 within) ≡ find ready (cyclic_from start (thread_numbers now))
     second_ready none =
         cyclic-second ready start within threads_now (omega (arith, least.1, many)) starts (none
-            ∙ ap (λ to. find ready (numbers_between within to)) many)
+        ∙ ap (λ to. find ready (numbers_between within to)) many)
 
   module _ (sound : IsSound a.program a.limits a.machine a.threads a.rows) where
     -- a world with other threads is one that the code keeps by numbers
     pub kept : (threads : List Thread) (fault : Option (Fault × ℕ))
         → IsKept a.program (machine_shown a.program threads a.machine.slots a.machine.states.items a.machine.heap
-            a.machine.output.items fault a.rows).world a.machine.heap
+        a.machine.output.items fault a.rows).world a.machine.heap
     kept threads fault = record {
       accepted = sound.accepted;
       names = sound.named;
@@ -155,7 +155,7 @@ module _ (a : Inside) where
         ≡ waits (completion a.program now t)
     waits_now t =
         sym (waits_completed a.program a.threads.courses now a.machine t (kept threads_now a.fault) refl
-            (are_in a.program a.threads.courses all_now))
+        (are_in a.program a.threads.courses all_now))
 
     -- it prints what its step does
     pub reported_now : (t : ℕ) → print_of a.program now t ≡ printed_at a.program (running (frames_at now t))
@@ -163,7 +163,7 @@ module _ (a : Inside) where
 
     pub overflows_shown : (t : ℕ) (frames : List Frame) → frames_at now t ≡ frames → (n : Option ℕ)
         → n ≡ option_map length (printed_at a.program (running frames))
-            → passes_with a.limits.output a.machine.output.items n ≡ overflows a.program a.limits now t
+        → passes_with a.limits.output a.machine.output.items n ≡ overflows a.program a.limits now t
     overflows_shown t frames own n is =
         ap (passes_with a.limits.output a.machine.output.items) is
         ∙ sym (passes-length a.limits.output a.machine.output.items (printed_at a.program (running frames)))

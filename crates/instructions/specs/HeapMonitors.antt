@@ -15,8 +15,10 @@ monitor_held h reference = monitor_if (held h reference)
 abbrev pub monitored : HeapValue → ℕ → Monitor → HeapValue
 monitored h zero monitor = h
 monitored h (suc cell) monitor =
-    record h { objects = slice_set h.objects cell
-        (option_map (monitor_set monitor) (object_if (slice_get h.objects cell))) }
+    record h {
+      objects = slice_set h.objects cell
+          (option_map (monitor_set monitor) (object_if (slice_get h.objects cell)));
+    }
 
 -- a frame is left that gives a monitor back, where the thread still owns it
 abbrev pub released_in : HeapValue → ℕ → Option ℕ → HeapValue

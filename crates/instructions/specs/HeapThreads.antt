@@ -13,5 +13,7 @@ thread_held h reference = thread_if (held h reference)
 abbrev pub with_thread_on : HeapValue → ℕ → ℕ → HeapValue
 with_thread_on h zero thread = h
 with_thread_on h (suc cell) thread =
-    record h { objects = slice_set h.objects cell
-        (option_map (thread_set (Some thread)) (object_if (slice_get h.objects cell))) }
+    record h {
+      objects = slice_set h.objects cell
+          (option_map (thread_set (Some thread)) (object_if (slice_get h.objects cell)));
+    }

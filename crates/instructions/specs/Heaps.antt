@@ -63,7 +63,7 @@ made kind words = made_object kind words
 abbrev pub opening_stored : List ClassListing → HeapShape → List (Option (StoredObject Kind))
 opening_stored program shape =
     slice_set (slice_set (replicate (shape.small + shape.medium + shape.large) None) 0
-        (Some (made (memory_error_kind program) [])))
+    (Some (made (memory_error_kind program) [])))
     1 (Some (made (exception_kind program StackOverflow) []))
 
 abbrev pub opening_heap : List ClassListing → HeapShape → HeapValue
@@ -110,8 +110,9 @@ reference_taken (Some taken) = Some (suc taken.0)
 abbrev pub written : HeapValue → ℕ → ℕ → Value → HeapValue
 written h zero index v = h
 written h (suc cell) index v =
-    record h { objects = slice_set h.objects cell (option_map (word_set index v) (object_if (slice_get h.objects cell)))
-        }
+    record h {
+      objects = slice_set h.objects cell (option_map (word_set index v) (object_if (slice_get h.objects cell)));
+    }
 
 -- ---- the collector's turn
 

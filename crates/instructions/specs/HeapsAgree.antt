@@ -24,12 +24,12 @@ AllFrom first cells = All (λ c. first ≤ c) cells
 
 -- an object is where the account has a birth, and nowhere else; the free lists of greater cells have no smaller ones
 pub record Agree {K : Type 0} (shape : HeapShape) (a : Account) (objects : List (Option (StoredObject K))) : Type 0
-    where
-  pub fits : ShapeFits shape.small shape.medium shape.large
-  pub count : length a.cells ≡ shape.small + shape.medium + shape.large
-  pub taken : map is_taken a.cells ≡ map is_some objects
-  pub medium : AllFrom shape.small a.medium
-  pub large : AllFrom (shape.small + shape.medium) a.large
+  where
+    pub fits : ShapeFits shape.small shape.medium shape.large
+    pub count : length a.cells ≡ shape.small + shape.medium + shape.large
+    pub taken : map is_taken a.cells ≡ map is_some objects
+    pub medium : AllFrom shape.small a.medium
+    pub large : AllFrom (shape.small + shape.medium) a.large
 
 -- ---- the two errors that are made before a run
 

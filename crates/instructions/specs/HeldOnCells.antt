@@ -18,8 +18,13 @@ use Rattle.instructions.specs.Shown.{class_name, type_name}
 
 -- an object as a cell holds it, with births in place of references
 abbrev pub held_of : ℕ → Object → Held
-held_of b o = record { birth = b; kind = kind_of_contents o.contents; words = values_in o.contents; monitor = o.monitor;
-    thread = o.thread }
+held_of b o = record {
+  birth = b;
+  kind = kind_of_contents o.contents;
+  words = values_in o.contents;
+  monitor = o.monitor;
+  thread = o.thread;
+}
 
 -- what an object of this kind is
 abbrev pub held_kind : List ClassListing → Kind → ObjectKind

@@ -27,17 +27,20 @@ monitors_of frames = map (λ (f : Frame). f.monitor) frames
 -- these frames are left: their monitors are given back, and the classes that they initialise come into a state. The
 -- frames that stay are told beside it
 pub record HasLeft (program : List ClassListing) (state : ClassState) (left : List Frame) (old new : Machine) : Type 0
-    where
-  pub thread : new.thread ≡ old.thread
-  pub slots : new.slots ≡ old.slots
-  pub states : new.states.items ≡ with_states state (initialised_by program left) old.states.items
-  pub heap : new.heap ≡ all_released_in old.heap old.thread (monitors_of left)
-  pub output : new.output ≡ old.output
+  where
+    pub thread : new.thread ≡ old.thread
+    pub slots : new.slots ≡ old.slots
+    pub states : new.states.items ≡ with_states state (initialised_by program left) old.states.items
+    pub heap : new.heap ≡ all_released_in old.heap old.thread (monitors_of left)
+    pub output : new.output ≡ old.output
 
 -- a world whose objects are those of this heap, once a thread has left these frames
 abbrev pub world_left : List ClassListing → HeapValue → World → ℕ → ClassState → List Frame → World
 world_left program h w t state left = record w {
-  statics = record { fields = w.statics.fields; states = with_states state (initialised_by program left)
-      w.statics.states };
+  statics = record {
+    fields = w.statics.fields;
+    states = with_states state (initialised_by program left)
+        w.statics.states;
+  };
   objects = objects_shown program (all_released_in h t (monitors_of left)).objects;
 }

@@ -28,8 +28,12 @@ pub record Loaded : Type 0 where
 
 -- a program that has made no turn
 abbrev pub fresh : List ClassListing → Limits → HeapShape → Loaded
-fresh program limits shape = record { program = program; limits = limits; shape = shape;
-    machine = opening_on program shape }
+fresh program limits shape = record {
+  program = program;
+  limits = limits;
+  shape = shape;
+  machine = opening_on program shape;
+}
 
 -- the same after a turn of a thread
 abbrev pub after_step : Loaded → ℕ → Loaded
@@ -65,7 +69,7 @@ machine_shown program threads slots states heap output fault rows = record {
 abbrev pub state_shown : List ClassListing → Machine → ThreadsValue → Option (Fault × ℕ) → ℕ → CellMachine
 state_shown program m threads fault rows =
     machine_shown program (all_shown program threads m.thread m.frames) m.slots m.states.items m.heap m.output.items
-        fault rows
+    fault rows
 
 -- what holds of the parts: names of the program are names, no rule refuses it, each class has a state, objects have all
 -- words of their classes, the machine runs a thread that was started, and a turn makes one birth at most

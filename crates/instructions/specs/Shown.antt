@@ -67,8 +67,11 @@ contents_shown program (Array type) words = ArrayOf (type_name program type) wor
 
 abbrev pub object_shown : List ClassListing → Option (StoredObject Kind) → Object
 object_shown program None = nobody
-object_shown program (Some o) = record { contents = contents_shown program o.kind o.words; monitor = o.monitor;
-    thread = o.thread }
+object_shown program (Some o) = record {
+  contents = contents_shown program o.kind o.words;
+  monitor = o.monitor;
+  thread = o.thread;
+}
 
 -- an object stands at its reference, the number of its cell and one more
 abbrev pub objects_shown : List ClassListing → List (Option (StoredObject Kind)) → List Object

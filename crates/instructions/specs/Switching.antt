@@ -4,12 +4,12 @@ use Rattle.instructions.specs.Threads.{ThreadsValue, all_frames}
 
 -- The machine runs another thread: its frames come to it, those that it had are parked, and no other part is another.
 pub record IsSwitched (old : ThreadsValue) (machine : Machine) (t : ℕ) (new : ThreadsValue) (after : Machine) : Type 0
-    where
-  pub courses : new.courses ≡ old.courses
-  pub all : all_frames new t after.frames ≡ all_frames old machine.thread machine.frames
-  pub frames : slice_get (all_frames old machine.thread machine.frames) t ≡ Some after.frames
-  pub thread : after.thread ≡ t
-  pub slots : after.slots ≡ machine.slots
-  pub states : after.states ≡ machine.states
-  pub heap : after.heap ≡ machine.heap
-  pub output : after.output ≡ machine.output
+  where
+    pub courses : new.courses ≡ old.courses
+    pub all : all_frames new t after.frames ≡ all_frames old machine.thread machine.frames
+    pub frames : slice_get (all_frames old machine.thread machine.frames) t ≡ Some after.frames
+    pub thread : after.thread ≡ t
+    pub slots : after.slots ≡ machine.slots
+    pub states : after.states ≡ machine.states
+    pub heap : after.heap ≡ machine.heap
+    pub output : after.output ≡ machine.output

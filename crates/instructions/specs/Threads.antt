@@ -78,7 +78,7 @@ begun_if threads (Some begun) = begun_as threads begun
 abbrev pub noted_as : ThreadsValue → ℕ → Stepped → ThreadsValue
 noted_as threads thread stepped =
     begun_if (record { courses = slice_set threads.courses thread stepped.turned.course; parked = threads.parked })
-        stepped.begun
+    stepped.begun
 
 -- the numbers from one up to another
 abbrev pub numbers_up : ℕ → ℕ → List ℕ

@@ -34,11 +34,15 @@ pub ruleset directives = (word_is, end_says_nothing)
 pub line_is_no_end : (switch : Switch) (words : List (List ℕ)) (line : SwitchLine) → switch_line switch words
     ≡ Some line → is_end (Some words) ≡ false
 line_is_no_end switch [] line h = refl
-line_is_no_end switch (word ∷ []) line h = elim (bool_tells (bytes_eq word (codes ".end"))) [ inl t ↦ rw t refl |
-    inr f ↦ rw f refl ]
+line_is_no_end switch (word ∷ []) line h = elim (bool_tells (bytes_eq word (codes ".end"))) [
+  | inl t ↦ rw t refl
+  | inr f ↦ rw f refl
+]
 line_is_no_end switch (word ∷ colon ∷ []) line h = cc
 line_is_no_end switch (word ∷ colon ∷ label ∷ words) line h = elim (bool_tells (bytes_eq word (codes ".end"))) [
-    inl t ↦ rw t refl | inr f ↦ rw f refl ]
+  | inl t ↦ rw t refl
+  | inr f ↦ rw f refl
+]
 
 pub ruleset switches = (line_is_no_end)
 
@@ -53,7 +57,7 @@ record SoFar : Type 0 where
 limited : SoFar → List Part → Option Body
 limited f parts =
     body_with (option_to_list f.stack ++ stack_limits parts) (option_to_list f.locals ++ locals_limits parts) (f.rows
-        ++ catch_rows parts) (f.lines ++ code_lines parts)
+    ++ catch_rows parts) (f.lines ++ code_lines parts)
 
 -- the body of what was read so far and of a block that follows
 rest_of : SoFar → Option Switch → Option (List Statement) → Option Body
@@ -61,8 +65,12 @@ rest_of f current block = option_and_then (λ ss. option_and_then (limited f) (p
 
 -- the body of what was read so far and of statements that follow, where a switch may be open
 pub rest_from : Option ℕ → Option ℕ → List CatchRow → List TextLine → Option Switch → List Statement → Option Body
-rest_from stack locals rows lines current ss = rest_of (record { stack = stack; locals = locals; rows = rows;
-    lines = lines }) current (block_of ss)
+rest_from stack locals rows lines current ss = rest_of (record {
+  stack = stack;
+  locals = locals;
+  rows = rows;
+  lines = lines;
+}) current (block_of ss)
 
 pub rest_start : (ss : List Statement) → rest_from None None [] [] None ss ≡ first_parts ss
 unfolding rest_from rest_of limited
@@ -123,7 +131,7 @@ opens_block f switch (Some block) = refl
 pub rest_opens : (stack locals : Option ℕ) (rows : List CatchRow) (lines : List TextLine) (current : Option Switch)
     (before : List Statement) (s : Statement) (ss : List Statement) (switch : Switch) → before ≡ s ∷ ss
     → is_end s ≡ false → saying_of current s ≡ Some (opens switch) → rest_from stack locals rows lines current before
-        ≡ rest_from stack locals rows lines (Some switch) ss
+    ≡ rest_from stack locals rows lines (Some switch) ss
 unfolding rest_from
 rest_opens stack locals rows lines current before s ss switch e n h = rest_says _ current before s ss
     (Some (opens switch)) e n h ∙ opens_block _ switch (block_of ss)
@@ -143,14 +151,14 @@ part_block f g p h (Some block) = part_step f g p h (parts_from block None)
 rest_part : (f g : SoFar) (current : Option Switch) (before : List Statement) (s : Statement) (ss : List Statement)
     (p : Part) → before ≡ s ∷ ss → is_end s ≡ false → saying_of current s ≡ Some (part p)
     → ((parts : List Part) → limited f (p ∷ parts) ≡ limited g parts) → rest_of f current (block_of before)
-        ≡ rest_of g None (block_of ss)
+    ≡ rest_of g None (block_of ss)
 rest_part f g current before s ss p e n h step = rest_says f current before s ss (Some (part p)) e n h
     ∙ part_block f g p step (block_of ss)
 
 pub rest_line : (stack locals : Option ℕ) (rows : List CatchRow) (lines : List TextLine) (current : Option Switch)
     (before : List Statement) (s : Statement) (ss : List Statement) (line : TextLine) → before ≡ s ∷ ss
     → Says current s (held.Line line) → rest_from stack locals rows lines current before
-        ≡ rest_from stack locals rows (lines ++ line ∷ []) None ss
+    ≡ rest_from stack locals rows (lines ++ line ∷ []) None ss
 unfolding rest_from limited
 rest_line stack locals rows lines current before s ss line e h = rest_part _ _ current before s ss (code_line line) e
     h.0 h.1 (λ parts. rw append_assoc refl)
@@ -158,7 +166,7 @@ rest_line stack locals rows lines current before s ss line e h = rest_part _ _ c
 pub rest_row : (stack locals : Option ℕ) (rows : List CatchRow) (lines : List TextLine) (current : Option Switch)
     (before : List Statement) (s : Statement) (ss : List Statement) (row : CatchRow) → before ≡ s ∷ ss
     → Says current s (held.Row row) → rest_from stack locals rows lines current before
-        ≡ rest_from stack locals (rows ++ row ∷ []) lines None ss
+    ≡ rest_from stack locals (rows ++ row ∷ []) lines None ss
 unfolding rest_from limited
 rest_row stack locals rows lines current before s ss row e h = rest_part _ _ current before s ss (catch_row row) e h.0
     h.1 (λ parts. rw append_assoc refl)
@@ -166,7 +174,7 @@ rest_row stack locals rows lines current before s ss row e h = rest_part _ _ cur
 pub rest_stack : (stack locals : Option ℕ) (rows : List CatchRow) (lines : List TextLine) (current : Option Switch)
     (before : List Statement) (s : Statement) (ss : List Statement) (n : ℕ) → false ≡ is_some stack → before ≡ s ∷ ss
     → Says current s (held.StackLimit n) → rest_from stack locals rows lines current before
-        ≡ rest_from (Some n) locals rows lines None ss
+    ≡ rest_from (Some n) locals rows lines None ss
 unfolding rest_from limited
 rest_stack None locals rows lines current before s ss n none e h = rest_part _ _ current before s ss (stack_limit n) e
     h.0 h.1 (λ parts. refl)
@@ -175,7 +183,7 @@ rest_stack (Some k) locals rows lines current before s ss n none e h = cc
 pub rest_locals : (stack locals : Option ℕ) (rows : List CatchRow) (lines : List TextLine) (current : Option Switch)
     (before : List Statement) (s : Statement) (ss : List Statement) (n : ℕ) → false ≡ is_some locals → before ≡ s ∷ ss
     → Says current s (held.LocalsLimit n) → rest_from stack locals rows lines current before
-        ≡ rest_from stack (Some n) rows lines None ss
+    ≡ rest_from stack (Some n) rows lines None ss
 unfolding rest_from limited
 rest_locals stack None rows lines current before s ss n none e h = rest_part _ _ current before s ss (locals_limit n) e
     h.0 h.1 (λ parts. refl)
@@ -230,7 +238,7 @@ rest_locals_twice stack (Some k) rows lines current before s ss n some e h = res
 pub rest_end : (stack locals : Option ℕ) (rows : List CatchRow) (lines : List TextLine) (current : Option Switch)
     (before : List Statement) (s : Statement) (ss : List Statement) → before ≡ s ∷ ss → Says current s held.End
     → rest_from stack locals rows lines current before ≡ body_with (option_to_list stack) (option_to_list locals) rows
-        lines
+    lines
 unfolding rest_from rest_of limited
 rest_end stack locals rows lines current before s ss e h = rw (h.0, e, h.1) (simp append-nil refl)
 
@@ -242,8 +250,21 @@ pub after_other : (before : List Statement) (s : Statement) (ss : List Statement
     → after_block before ≡ after_block ss
 after_other before s ss e h = rw (e, h) refl
 
-pub ruleset bodies = (rest_start, rest_missing, rest_nothing, rest_line, rest_row, rest_opens, rest_stack,
-    rest_stack_twice, rest_locals, rest_locals_twice, rest_end, after_end, after_other)
+pub ruleset bodies = (
+  rest_start,
+  rest_missing,
+  rest_nothing,
+  rest_line,
+  rest_row,
+  rest_opens,
+  rest_stack,
+  rest_stack_twice,
+  rest_locals,
+  rest_locals_twice,
+  rest_end,
+  after_end,
+  after_other,
+)
 
 -- the body whose labels are looked at
 labels_of_parts : (block : Option (List Statement))

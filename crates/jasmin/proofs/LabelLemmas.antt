@@ -22,8 +22,10 @@ module _ {K T : Type 0} (text : K → List ℕ) where
   pub named_of : (name : List ℕ) (entries : List (K × T)) → lookup (λ k. bytes_eq name (text k)) entries
       ≡ named (rows_of entries) name
   named_of name [] = refl
-  named_of name (e ∷ entries) = elim (bool_tells (bytes_eq name (text e.0))) [ inl t ↦ rw t refl |
-      inr f ↦ rw f (named_of name entries) ]
+  named_of name (e ∷ entries) = elim (bool_tells (bytes_eq name (text e.0))) [
+    | inl t ↦ rw t refl
+    | inr f ↦ rw f (named_of name entries)
+  ]
 
   pub rows_push : (entries : List (K × T)) (k : K) (v : T) → rows_of (entries ++ (k, v) ∷ []) ≡ rows_of entries
       ++ (text k, v) ∷ []
@@ -40,8 +42,10 @@ bytes_eq_sym a b h = elim (bool_tells (bytes_eq b a)) [ inl t ↦ let e = (bytes
 under_last : (rows : List (List ℕ × ℕ)) (name : List ℕ) (n : ℕ) (more : List (List ℕ × ℕ))
     → is_some (named (rows ++ (name, n) ∷ more) name) ≡ true
 under_last [] name n more = rw (bytes_eq_refl name) refl
-under_last (row ∷ rows) name n more = elim (bool_tells (bytes_eq name row.0)) [ inl t ↦ rw t refl |
-    inr f ↦ rw f (under_last rows name n more) ]
+under_last (row ∷ rows) name n more = elim (bool_tells (bytes_eq name row.0)) [
+  | inl t ↦ rw t refl
+  | inr f ↦ rw f (under_last rows name n more)
+]
 
 and_false : (a : Bool) → (a && false) ≡ false
 and_false true = refl
@@ -61,8 +65,10 @@ given_twice (row ∷ rows) name n more h =
 named_push : (rows : List (List ℕ × ℕ)) (name other : List ℕ) (n : ℕ) → bytes_eq other name ≡ false
     → named (rows ++ (name, n) ∷ []) other ≡ named rows other
 named_push [] name other n h = rw h refl
-named_push (row ∷ rows) name other n h = elim (bool_tells (bytes_eq other row.0)) [ inl t ↦ rw t refl |
-    inr f ↦ rw f (named_push rows name other n h) ]
+named_push (row ∷ rows) name other n h = elim (bool_tells (bytes_eq other row.0)) [
+  | inl t ↦ rw t refl
+  | inr f ↦ rw f (named_push rows name other n h)
+]
 
 -- a label that was not given yet
 pub given_once : (rows : List (List ℕ × ℕ)) (name : List ℕ) (n : ℕ) → named rows name ≡ None → are_different rows ≡ true
@@ -75,8 +81,10 @@ given_once (row ∷ rows) name n h d =
           let here = rw f at h in
           elim (bool_tells (is_some (named rows row.0))) [
             | inl s ↦ let g = rw s at d in cc
-            | inr s ↦ rw (named_push rows name row.0 n (bytes_eq_sym name row.0 f),
-                s) (given_once rows name n here (rw s at d))
+            | inr s ↦ rw (
+              named_push rows name row.0 n (bytes_eq_sym name row.0 f),
+              s,
+            ) (given_once rows name n here (rw s at d))
           ]
     ]
 

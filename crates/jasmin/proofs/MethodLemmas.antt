@@ -36,11 +36,11 @@ onto_block s block (Some bs) = refl
 block_onto : (s : Statement) (ss block : List Statement) (o : Option (List Statement)) → block_of ss ≡ o → in_block s o
     ≡ Some block
     → ((b : List Statement) → block_of ss ≡ Some b → blocks_of ss
-        ≡ option_map (λ bs. b ∷ bs) (blocks_of (after_block ss)))
+    ≡ option_map (λ bs. b ∷ bs) (blocks_of (after_block ss)))
     → in_first_block s (blocks_of ss) ≡ option_map (λ bs. block ∷ bs) (blocks_of (after_block ss))
 block_onto s ss block None e g rest = cc
 block_onto s ss block (Some b) e g rest = let eq : s ∷ b ≡ block = cc in ap (in_first_block s) (rest b e)
-                                                ∙ onto_block s b (blocks_of (after_block ss)) ∙ rw eq refl
+    ∙ onto_block s b (blocks_of (after_block ss)) ∙ rw eq refl
 
 blocks_first : (ss : List Statement) (block : List Statement) → block_of ss ≡ Some block → blocks_of ss
     ≡ option_map (λ bs. block ∷ bs) (blocks_of (after_block ss))
@@ -81,7 +81,7 @@ nothing_first o = refl
 method_first : (class : ClassFlags) (s : Statement) (block : List Statement) (blocks : Option (List (List Statement)))
     (tree : Option MethodTree) → method_tree class (s ∷ block) ≡ tree
     → option_and_then (each (method_tree class)) (option_map (λ bs. (s ∷ block) ∷ bs) blocks)
-        ≡ with_first tree (option_and_then (each (method_tree class)) blocks)
+    ≡ with_first tree (option_and_then (each (method_tree class)) blocks)
 unfolding with_first
 method_first class s block None None h = refl
 method_first class s block None (Some m) h = refl
@@ -155,7 +155,7 @@ under_head class s ss head tree h m = rw (head_is_no_end class s head h) (by (bl
 pub with_method : (class : ClassFlags) (methods : List MethodTree) (before : List Statement) (s : Statement)
     (ss after : List Statement) (head : MethodHead) (m : MethodTree) → before ≡ s ∷ ss → method_of class s ≡ Some head
     → first_method head ss ≡ Some m → after ≡ after_block ss → methods_with class methods before
-        ≡ methods_with class (methods ++ m ∷ []) after
+    ≡ methods_with class (methods ++ m ∷ []) after
 unfolding methods_with with_first
 with_method class methods before s ss after head m e h f a = rw (e, a, under_head class s ss head (Some m) h f)
     (by (methods_of class (after_block ss)))
@@ -170,13 +170,15 @@ pub with_no_method : (class : ClassFlags) (methods : List MethodTree) (before : 
     → first_method head ss ≡ None → methods_with class methods before ≡ None
 with_no_method class methods before s ss head e h f =
     rw e (none_more class methods (s ∷ ss) (under_head class s ss head None h f
-        ∙ nothing_first (methods_of class (after_block ss))))
+    ∙ nothing_first (methods_of class (after_block ss))))
 
 -- the statements after a block are no more
 pub after_shorter : (ss : List Statement) → length (after_block ss) ≤ length ss
 after_shorter [] = omega arith
-after_shorter (s ∷ ss) = elim (bool_tells (is_end s)) [ inl t ↦ rw t (omega arith) |
-    inr f ↦ rw f (omega (arith, after_shorter ss)) ]
+after_shorter (s ∷ ss) = elim (bool_tells (is_end s)) [
+  | inl t ↦ rw t (omega arith)
+  | inr f ↦ rw f (omega (arith, after_shorter ss))
+]
 
 pub ruleset methods = (with_start, with_end, with_no_head, with_unread, with_method, with_no_method, after_shorter)
 

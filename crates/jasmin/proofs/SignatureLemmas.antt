@@ -30,7 +30,7 @@ pub member_is : (word path class name descriptor : List ℕ) (units : ℕ) → p
     ≡ from_parenthesis word → arguments_of (from_parenthesis word) ≡ Some units
     → class ≡ class_in path → name ≡ name_in path
     → (is_class_name class && is_method_name name && nat_le units 255) ≡ true → method_named word
-        ≡ Some (record { class = class; name = name; descriptor = descriptor })
+    ≡ Some (record { class = class; name = name; descriptor = descriptor })
 member_is word path class name descriptor units p d a c n h = let g = rw (c, n, p) at h in rw (a, g, c, n, p, d) refl
 
 pub field_no_slash : (path descriptor : List ℕ) → class_in path ≡ [] → field_named path descriptor ≡ None
@@ -38,12 +38,12 @@ field_no_slash path descriptor h = rw h refl
 
 pub field_not : (path descriptor class name : List ℕ) → class ≡ class_in path → name ≡ name_in path
     → (is_class_name class && is_field_name name && is_field_descriptor descriptor) ≡ false
-        → field_named path descriptor ≡ None
+    → field_named path descriptor ≡ None
 field_not path descriptor class name c n h = let g = rw (c, n) at h in rw g refl
 
 pub field_is : (path descriptor class name : List ℕ) → class ≡ class_in path → name ≡ name_in path
     → (is_class_name class && is_field_name name && is_field_descriptor descriptor) ≡ true → field_named path descriptor
-        ≡ Some (record { class = class; name = name; descriptor = descriptor })
+    ≡ Some (record { class = class; name = name; descriptor = descriptor })
 field_is path descriptor class name c n h = let g = rw (c, n) at h in rw (g, c, n) refl
 
 pub head_without : (class flags : ℕ) (word : List ℕ) → arguments_of (from_parenthesis word) ≡ None
@@ -53,15 +53,25 @@ head_without class flags word h = rw h refl
 pub head_not : (class flags : ℕ) (word name : List ℕ) (units : ℕ) → name ≡ before_parenthesis word
     → arguments_of (from_parenthesis word) ≡ Some units
     → (is_method_name name && nat_le (units_with_object flags units) 255 && method_flags_agree class flags) ≡ false
-        → method_head class (Some (flags, word)) ≡ None
+    → method_head class (Some (flags, word)) ≡ None
 head_not class flags word name units n a h = let g = rw n at h in rw (a, g) refl
 
 pub head_is : (class flags : ℕ) (word name descriptor : List ℕ) (units : ℕ) → name ≡ before_parenthesis word
     → descriptor ≡ from_parenthesis word → arguments_of (from_parenthesis word) ≡ Some units
     → (is_method_name name && nat_le (units_with_object flags units) 255 && method_flags_agree class flags) ≡ true
     → method_head class (Some (flags, word))
-        ≡ Some (record { flags = record { 0 = flags }; name = name; descriptor = descriptor })
+    ≡ Some (record { flags = record { 0 = flags }; name = name; descriptor = descriptor })
 head_is class flags word name descriptor units n d a h = let g = rw n at h in rw (a, g, n, d) refl
 
-pub ruleset signatures = (no_arguments, no_slash, member_not, member_is, field_no_slash, field_not, field_is,
-    head_without, head_not, head_is)
+pub ruleset signatures = (
+  no_arguments,
+  no_slash,
+  member_not,
+  member_is,
+  field_no_slash,
+  field_not,
+  field_is,
+  head_without,
+  head_not,
+  head_is,
+)

@@ -39,7 +39,7 @@ lines_none b (c ∷ cs) none =
 before_line : (b c : ℕ) (cs : List ℕ) → lines_of (c ∷ cs) ≡ without_return (take (place (c ∷ cs)) (c ∷ cs))
     ∷ lines_of (drop (place (c ∷ cs) + 1) (c ∷ cs))
     → (if b == 13 && (c == 10) then lines_of (c ∷ cs) else onto_first b (lines_of (c ∷ cs)))
-        ≡ without_return (b ∷ take (place (c ∷ cs)) (c ∷ cs)) ∷ lines_of (drop (place (c ∷ cs) + 1) (c ∷ cs))
+    ≡ without_return (b ∷ take (place (c ∷ cs)) (c ∷ cs)) ∷ lines_of (drop (place (c ∷ cs) + 1) (c ∷ cs))
 before_line b c cs rest =
     elim (eqb_tells c 10) [
       | inl t ↦ elim (eqb_tells b 13) [ inl u ↦ rw (t.0, u.0) refl | inr g ↦ rw (t.0, g.0) refl ]
@@ -91,4 +91,4 @@ without_return_drops (b ∷ []) h =
     elim (eqb_tells b 13) [ inl t ↦ rw t.0 refl | inr f ↦ let g = rw f.0 at h in cc ]
 without_return_drops (b ∷ c ∷ cs) h =
     let e = without_return_drops (c ∷ cs) (rw less_one (rw less_one at h))
-          in rw less_one (ap (λ ds. b ∷ ds) (rw less_one at e))
+    in rw less_one (ap (λ ds. b ∷ ds) (rw less_one at e))

@@ -56,9 +56,11 @@ begins_there (b ∷ bs) some =
 pub word_at : (bs : List ℕ) (n : ℕ) → Some n ≡ position is_ink bs → (runs_of bs ≡ runs_of (drop n bs))
     × (ends_word (drop n bs) ≡ false)
 word_at bs n found =
-    let at = position_some is_ink bs n found in
-    (runs_from bs ∙ ap (λ k. runs_of (drop k bs)) (sym at.0), ap (λ k. ends_word (drop k bs)) at.0
-        ∙ begins_there bs at.1)
+    let at = position_some is_ink bs n found in (
+      runs_from bs ∙ ap (λ k. runs_of (drop k bs)) (sym at.0),
+      ap (λ k. ends_word (drop k bs)) at.0
+          ∙ begins_there bs at.1,
+    )
 
 -- a line of blanks
 runs_none : (bs : List ℕ) → length bs ≤ position_or_len is_ink bs → runs_of bs ≡ []
@@ -90,7 +92,7 @@ pub cut_at_blank : (bs : List ℕ) (n : ℕ) → ends_word bs ≡ false → Some
     ≡ take n bs ∷ runs_of (drop n bs)
 cut_at_blank bs n word found =
     let at = position_some is_blank bs n found in runs_cut bs word ∙ ap (λ k. take k bs ∷ runs_of (drop k bs))
-          (sym at.0)
+    (sym at.0)
 
 one_word : (bs : List ℕ) → ends_word bs ≡ false → length bs ≤ position_or_len is_blank bs → runs_of bs ≡ bs ∷ []
 one_word [] word none = cc

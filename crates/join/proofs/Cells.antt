@@ -35,15 +35,20 @@ pub mapped_set : {A : Type 0} (f g : Cell → A) (cells : List Cell) (c b : ℕ)
 mapped_set f g [] c b x e k = absurd (cc)
 mapped_set f g (z ∷ cells) zero b x e k = rw (← e, mapped_alike f g cells (λ d. k (suc d) (λ s. absurd (omega arith))))
     refl
-mapped_set f g (z ∷ cells) (suc c) b x e k = rw (k 0 (λ s. absurd (omega arith)),
-    mapped_set f g cells c b x e (λ d n. k (suc d) (λ s. n (omega arith)))) refl
+mapped_set f g (z ∷ cells) (suc c) b x e k = rw (
+  k 0 (λ s. absurd (omega arith)),
+  mapped_set f g cells c b x e (λ d n. k (suc d) (λ s. n (omega arith))),
+) refl
 
 -- ---- worlds
 
 pub object_in_cell : (h : Naming) (cells : List Cell) (w : World) (b : ℕ) (s : InCell h cells w b)
     → object_at (on_cells h cells w) (h b) ≡ Some (named_object h s.object)
-object_in_cell h cells w b s = rw (s.named, mapped_at (held_object h w.objects) cells s.cell b s.colour s.held,
-    s.made) refl
+object_in_cell h cells w b s = rw (
+  s.named,
+  mapped_at (held_object h w.objects) cells s.cell b s.colour s.held,
+  s.made,
+) refl
 
 pub contents_in_cell : (h : Naming) (cells : List Cell) (w : World) (b : ℕ) → InCell h cells w b
     → contents_at (on_cells h cells w) (h b) ≡ named_contents h (contents_at w b)
@@ -68,18 +73,30 @@ pub put_on_cells : (h : Naming) (cells : List Cell) (w : World) (b : ℕ) (o : O
     ≡ with_object (on_cells h cells w) (h b) (named_object h o)
 put_on_cells h cells w b o named s =
     let here : held_object h (set w.objects b o) (Taken b s.colour)
-          ≡ named_object h o = rw (get-set_same w.objects b o s.object s.made) refl in
+    ≡ named_object h o = rw (get-set_same w.objects b o s.object s.made) refl in
     let all = mapped_set (held_object h w.objects) (held_object h (set w.objects b o)) cells s.cell b s.colour s.held
-          (λ d n. other_held h w.objects b o (cell_at cells d)
-          (λ a y e k. n (let p = named d a y e in let q = ap h k in let r = s.named in omega (arith, p, q, r)))) in
+    (λ d n. other_held h w.objects b o (cell_at cells d)
+    (λ a y e k. n (let p = named d a y e in let q = ap h k in let r = s.named in omega (arith, p, q, r)))) in
     rw (s.named, ← here) (ap (λ os. record (on_cells h cells w) { objects = nobody ∷ os }) all)
 
 -- a birth stands where it stood
 pub in_cell_put : (h : Naming) (cells : List Cell) (w : World) (a b : ℕ) (o : Object) → InCell h cells w a
     → InCell h cells (with_object w b o) a
 in_cell_put h cells w a b o s = elim (same_or_not b a) as (λ _. InCell h cells (with_object w b o) a) [
-  | inl e ↦ record { cell = s.cell; colour = s.colour; object = o; held = s.held; named = s.named;
-      made = (let k = s.made in rw (← e) (get-set_same w.objects a o s.object k)) }
-  | inr n ↦ record { cell = s.cell; colour = s.colour; object = s.object; held = s.held; named = s.named;
-      made = get-set_other w.objects a b o n ∙ s.made }
+  | inl e ↦ record {
+    cell = s.cell;
+    colour = s.colour;
+    object = o;
+    held = s.held;
+    named = s.named;
+    made = (let k = s.made in rw (← e) (get-set_same w.objects a o s.object k));
+  }
+  | inr n ↦ record {
+    cell = s.cell;
+    colour = s.colour;
+    object = s.object;
+    held = s.held;
+    named = s.named;
+    made = get-set_other w.objects a b o n ∙ s.made;
+  }
 ]

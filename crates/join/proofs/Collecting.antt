@@ -85,8 +85,10 @@ module _ (h : Naming) where
 
     blacken_on_cells : (b : ℕ) → InCell h a.cells w b → blacken_cell (named_account h a) (h b)
         ≡ map (blackened b) a.cells
-    blacken_on_cells b s = rw (s.named,
-        s.held) (sym (written h (blackened b) a.cells s.cell b s.colour named (black_other b) s.held
+    blacken_on_cells b s = rw (
+      s.named,
+      s.held,
+    ) (sym (written h (blackened b) a.cells s.cell b s.colour named (black_other b) s.held
         ∙ ap (set a.cells s.cell) (black b)))
       where
         go : (d : ℕ) (x : Colour) (t : Bool) → nat_eq d d ≡ t → (if t then Taken d Black else Taken d x) ≡ Taken d Black
@@ -111,9 +113,9 @@ module _ (h : Naming) where
     mark_on_cells q (b ∷ rest) k l =
         let s = k b (inl refl) in
         ap (λ rs. word_on on (named_account h a) q (h b) (map h rest) (nat_lt q (length rs)))
-            (words_on_cells h a.cells w b s)
+        (words_on_cells h a.cells w b s)
         ∙ ap (λ n. word_on on (named_account h a) q (h b) (map h rest) (nat_lt q n))
-            (length-map (words_of w.objects b) (named_ref h))
+        (length-map (words_of w.objects b) (named_ref h))
         ∙ word_step_on_cells q b rest s (λ b'. l b b' (inl refl)) _
 
     grey_in_cells : (b : ℕ) → In b a.grey → InCell h a.cells w b
@@ -126,9 +128,9 @@ module _ (h : Naming) where
     frames_tests t d j =
         let x : length on.threads ≡ length w.threads = length-map w.threads _ in
         let y : length (frames_at on t) ≡ length (frames_at w t) = ap length (frames_on_cells h a.cells w t)
-              ∙ length-map (frames_at w t) _ in
+        ∙ length-map (frames_at w t) _ in
         let z : length (entries_at (frames_at on t) d) ≡ length (entries_at (frames_at w t) d) = ap length
-              (entries_on_cells h a.cells w t d) ∙ length-map (entries_at (frames_at w t) d) _ in
+        (entries_on_cells h a.cells w t d) ∙ length-map (entries_at (frames_at w t) d) _ in
         rw (x, y, z) refl
 
     step_on_cells : h 1 ≡ 1 → h 2 ≡ 2 → (phase : Phase) → step_on shape on (named_account h a) phase
@@ -140,15 +142,15 @@ module _ (h : Naming) where
         ∙ ap (λ (r : ℕ). at_phase (shade_cell (shade_cell (named_account h a) r) (h 2)) (Statics 0)) (sym e1)
         ∙ ap (λ x. at_phase (shade_cell x (h 2)) (Statics 0)) (shade_on_cells h a w 1 named one)
         ∙ ap (λ x. at_phase x (Statics 0)) (shade_on_cells h (shade a 1) w 2 (named_shade h a 1 named)
-            (in_cell_shade h a w 1 2 two))
+        (in_cell_shade h a w 1 2 two))
     step_on_cells e1 e2 (Statics s) = ap (λ rs. statics_on on (named_account h a) s (nat_lt s (length rs)))
         (slots_on_cells h a.cells w) ∙ ap (λ n. statics_on on (named_account h a) s (nat_lt s n))
         (length-map (slots_of w) (named_ref h)) ∙ statics_on_cells s _
     step_on_cells e1 e2 (Frames t d j) = frames_tests t d j ∙ frames_step_on_cells t d j _ _ _
     step_on_cells e1 e2 (Mark q) = mark_on_cells q a.grey grey_in_cells
         (λ b b' k f. (let g = i.tidy.only_grey b k
-                            in kept_in_cell h shape w a named i b' (i.words g.0 b Grey q b' g.1 (kept-grey a.phase g.0)
-                            f)))
+        in kept_in_cell h shape w a named i b' (i.words g.0 b Grey q b' g.1 (kept-grey a.phase g.0)
+        f)))
     step_on_cells e1 e2 (Append p) = append_on_cells shape a p _
 
 -- ---- what a step does to the world on cells: nothing, but that a cell is emptied
@@ -201,15 +203,15 @@ module _ (h : Naming) (w : World) where
   swept_world shape a p Free e = refl
   swept_world shape a p (Taken b White) e =
       ap (λ os. record (on_cells h a.cells w) { objects = nobody ∷ os })
-          (sym (map-set (held_object h w.objects) a.cells p Free))
+      (sym (map-set (held_object h w.objects) a.cells p Free))
       ∙ ap (λ cells. on_cells h cells w)
-          (sym (listed_cells (with_cell a p Free) p (nat_lt p shape.small) (nat_lt p (shape.small + shape.medium))))
+      (sym (listed_cells (with_cell a p Free) p (nat_lt p shape.small) (nat_lt p (shape.small + shape.medium))))
   swept_world shape a p (Taken b Grey) e = refl
   swept_world shape a p (Taken b Black) e =
       colours a.cells (set a.cells p (Taken b White))
       (map-set (held_object h w.objects) a.cells p (Taken b White)
-          ∙ sym (map-set (held_object h w.objects) a.cells p (Taken b Black))
-          ∙ ap (map (held_object h w.objects)) (ap (set a.cells p) (sym e) ∙ set-get_or a.cells p Free))
+      ∙ sym (map-set (held_object h w.objects) a.cells p (Taken b Black))
+      ∙ ap (map (held_object h w.objects)) (ap (set a.cells p) (sym e) ∙ set-get_or a.cells p Free))
 
   append_world : (shape : HeapShape) (a : Account) (p : ℕ) (more : Bool) → nat_lt p (length a.cells) ≡ more
       → emptied (on_cells h a.cells w) p (cell_at a.cells p) ≡ on_cells h (append_step shape a p more).cells w

@@ -29,7 +29,7 @@ module _ (h : Naming) where
         → with_frame (on_cells h cells w) (site_on h cells s) (named_frame h f) ≡ on_cells h cells (with_frame w s f)
     frame_on_cells w s f =
         ap (λ fs. with_thread (on_cells h cells w) s.thread (Live (with_running fs (named_frame h f))))
-            (frames_on_cells h cells s.world s.thread)
+        (frames_on_cells h cells s.world s.thread)
         ∙ ap (λ fs. with_thread (on_cells h cells w) s.thread (Live fs)) (running_named h (frames_in s) f)
         ∙ thread_on_cells h cells w s.thread (Live (with_running (frames_in s) f))
 
@@ -65,5 +65,5 @@ module _ (h : Naming) where
     puts_on_cells after on s n v e =
         rw (e, births_named h (v ∷ []))
         (ap (λ f. Goes (with_frame (on_cells h cells after) (site_on h cells s) f) (map h (births_of (v ∷ []))))
-            (ap (λ (m : Moved). m.frame) (replaced_named h s.next s.frame n []))
+        (ap (λ (m : Moved). m.frame) (replaced_named h s.next s.frame n []))
         ∙ ap (λ w. Goes w (map h (births_of (v ∷ [])))) (frame_on_cells after s (replaced s.next s.frame n []).frame))

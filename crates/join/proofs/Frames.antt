@@ -59,9 +59,12 @@ module _ (h : Naming) where
       → called_frame method max_locals max_stack (map (named_value h) vs)
       ≡ named_frame h (called_frame method max_locals max_stack vs)
   called_named method max_locals max_stack vs =
-      rw (argument_entries_named vs, units_named h vs,
-          map-append (named_entry h) (argument_entries vs) (replicate (max_locals - units_of_all vs) Unset),
-          unset_named (max_locals - units_of_all vs)) refl
+      rw (
+        argument_entries_named vs,
+        units_named h vs,
+        map-append (named_entry h) (argument_entries vs) (replicate (max_locals - units_of_all vs) Unset),
+        unset_named (max_locals - units_of_all vs),
+      ) refl
 
   pub arguments_on_named : (n : ℕ) (stack : List Value) → arguments_on n (map (named_value h) stack)
       ≡ map (named_value h) (arguments_on n stack)
@@ -87,17 +90,17 @@ module _ (h : Naming) where
   call_named fs method max_locals max_stack n =
       let f = running_frame fs in
       ap (λ g. with_running (map (named_frame h) fs) (dropped n g) ++ called_frame method max_locals max_stack
-          (arguments_on n g.stack) ∷ []) (run_named fs)
+      (arguments_on n g.stack) ∷ []) (run_named fs)
       ∙ ap (λ vs. with_running (map (named_frame h) fs) (record (named_frame h f) { stack = vs })
-          ++ called_frame method max_locals max_stack (arguments_on n (map (named_value h) f.stack)) ∷ [])
-          (drop-map (named_value h) n f.stack)
+      ++ called_frame method max_locals max_stack (arguments_on n (map (named_value h) f.stack)) ∷ [])
+      (drop-map (named_value h) n f.stack)
       ∙ ap (λ gs. gs ++ called_frame method max_locals max_stack (arguments_on n (map (named_value h) f.stack)) ∷ [])
-          (running_named fs (dropped n f))
+      (running_named fs (dropped n f))
       ∙ ap (λ g. map (named_frame h) (with_running fs (dropped n f)) ++ g ∷ [])
-          (ap (called_frame method max_locals max_stack) (arguments_on_named n f.stack)
-          ∙ called_named method max_locals max_stack (arguments_on n f.stack))
+      (ap (called_frame method max_locals max_stack) (arguments_on_named n f.stack)
+      ∙ called_named method max_locals max_stack (arguments_on n f.stack))
       ∙ sym (map-append (named_frame h) (with_running fs (dropped n f)) (called_frame method max_locals max_stack
-          (arguments_on n f.stack) ∷ []))
+      (arguments_on n f.stack) ∷ []))
 
   -- ---- the limits of a thread
 
@@ -110,13 +113,13 @@ module _ (h : Naming) where
       → has_room_for (map (named_frame h) fs) max_locals max_stack ≡ has_room_for fs max_locals max_stack
   room_named fs max_locals max_stack =
       ap (λ (n : ℕ). nat_lt n 256 && nat_le (units_of_frames (map (named_frame h) fs) + max_locals + max_stack) 4096)
-          (length-map fs (named_frame h))
+      (length-map fs (named_frame h))
       ∙ ap (λ (n : ℕ). nat_lt (length fs) 256 && nat_le (n + max_locals + max_stack) 4096) (frame_units_named fs)
 
   pub limits_named : (fs : List Frame) → within_limits (map (named_frame h) fs) ≡ within_limits fs
   limits_named fs =
       ap (λ (n : ℕ). nat_le n 256 && nat_le (units_of_frames (map (named_frame h) fs)) 4096)
-          (length-map fs (named_frame h))
+      (length-map fs (named_frame h))
       ∙ ap (λ (n : ℕ). nat_le (length fs) 256 && nat_le n 4096) (frame_units_named fs)
 
   -- ---- the threads of a world

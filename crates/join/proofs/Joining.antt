@@ -28,8 +28,14 @@ use Rattle.join.proofs.Refusals.{refusal_on_cells}
 -- each turn of an actor keeps the join
 
 joined_counted : (h : Naming) (x : CellMachine) (m : Machine) → Joined h x m → Joined h (counted_on x) (counted_in m)
-joined_counted h x m j = record { world = ap counted j.world; account = j.account; births = j.births; named = j.named;
-    memory_error = j.memory_error; stack_error = j.stack_error }
+joined_counted h x m j = record {
+  world = ap counted j.world;
+  account = j.account;
+  births = j.births;
+  named = j.named;
+  memory_error = j.memory_error;
+  stack_error = j.stack_error;
+}
 
 module _ (program : List ClassListing) (shape : HeapShape) (limits : Limits) (on : CellMachine) (m : Machine)
     (i : Holds shape m) (bound : Bounded m.world) (joint : Joint on m) where
@@ -46,14 +52,22 @@ module _ (program : List ClassListing) (shape : HeapShape) (limits : Limits) (on
       let j = joint.joined in
       let c = completion program m.world t in
       let same : turned_on program on t (completion program on.world t)
-            ≡ turned_on program (record { world = on_cells joint.naming m.account.cells m.world;
-            account = named_account joint.naming m.account; births = next_birth m.world }) t
-            (completion_on joint.naming m.account.cells c) =
-      rw (j.world, j.account, j.births, completion_on_cells joint.naming m.account.cells program m.world reached_joined
-          t) refl in
+      ≡ turned_on program (record {
+        world = on_cells joint.naming m.account.cells m.world;
+        account = named_account joint.naming m.account;
+        births = next_birth m.world;
+      }) t
+      (completion_on joint.naming m.account.cells c) =
+      rw (
+        j.world,
+        j.account,
+        j.births,
+        completion_on_cells joint.naming m.account.cells program m.world reached_joined
+            t,
+      ) refl in
       subst (λ x. Joint x (ideal_turned program m t c)) (sym same)
       (turned_joint joint.naming shape m i j.named j.memory_error j.stack_error bound
-          (unfaulted program limits m.world t e) program t c (completion_moves program m.world t))
+      (unfaulted program limits m.world t e) program t c (completion_moves program m.world t))
 
   moved : (actor : Actor) (o : Option Turn) → refusal program limits m.world actor ≡ o
       → Joint (unless_refused_on program shape on actor o) (moved_by program shape limits m actor)
@@ -61,19 +75,25 @@ module _ (program : List ClassListing) (shape : HeapShape) (limits : Limits) (on
   moved actor (Some refused) e = rw e joint
   moved (ThreadActor t) None e =
       let r = turned t e in
-      subst (Joint _) (sym (turn_is program shape limits m t i.tidy e)) (record { naming = r.naming;
-          joined = joined_counted r.naming _ _ r.joined })
-  moved Collector None e = rw (e,
-      e) (record { naming = joint.naming;
-      joined = joined_counted joint.naming _ _ (collected_on_cells joint.naming shape on m i joint.joined) })
+      subst (Joint _) (sym (turn_is program shape limits m t i.tidy e)) (record {
+        naming = r.naming;
+        joined = joined_counted r.naming _ _ r.joined;
+      })
+  moved Collector None e = rw (
+    e,
+    e,
+  ) (record {
+    naming = joint.naming;
+    joined = joined_counted joint.naming _ _ (collected_on_cells joint.naming shape on m i joint.joined);
+  })
 
   pub joined_moves : (actor : Actor)
       → Joint (moved_on program shape limits on actor) (moved_by program shape limits m actor)
   unfolding moved_on
   joined_moves actor =
       let same : refusal program limits on.world actor
-            ≡ refusal program limits m.world actor = ap (λ w. refusal program limits w actor) joint.joined.world
-            ∙ refusal_on_cells joint.naming m.account.cells program limits m.world reached_joined actor in
+      ≡ refusal program limits m.world actor = ap (λ w. refusal program limits w actor) joint.joined.world
+      ∙ refusal_on_cells joint.naming m.account.cells program limits m.world reached_joined actor in
       subst (λ o. Joint (unless_refused_on program shape on actor o) (moved_by program shape limits m actor)) (sym same)
       (moved actor (refusal program limits m.world actor) refl)
 
@@ -91,7 +111,7 @@ module _ (program : List ClassListing) (shape : HeapShape) (limits : Limits) (on
       let outcome = outcome_if program m t words in
       let al = (turns_by program m t words (unfaulted program limits m.world t e) refl).allowed in
       let b : Bounded (next program m.world t (choice_of program m.world t outcome)).after = bounded_after joint.naming
-            shape m.world m.account joint.joined.named i (turn_change program m.world t words outcome) bound al in
+      shape m.world m.account joint.joined.named i (turn_change program m.world t words outcome) bound al in
       rw e (counted_bounded (next program m.world t (choice_of program m.world t outcome)).after b)
   bounded_moves Collector None e = rw e (counted_bounded m.world bound)
 

@@ -45,7 +45,7 @@ module _ (h : Naming) (cells : List Cell) where
   in_cell_released w t a None s = s
   in_cell_released w t a (Some b) s =
       in_cell_by w _ a (is_owner t (monitor_of w b).owner) (in_cell_if w a b (exited (monitor_of w b)) (object_at w b)
-          s) s
+      s) s
 
   module _ (named : Named h cells) where
     released_if : (w : World) (b : ℕ) (m : Monitor) (owns : Bool) → InCell h cells w b
@@ -60,7 +60,7 @@ module _ (h : Naming) (cells : List Cell) where
     released_on_cells w t (Some b) k =
         let s = k b refl in
         ap (λ (m : Monitor). if is_owner t m.owner then with_monitor_of (on_cells h cells w) (h b) (exited m)
-            else on_cells h cells w) (monitor_of_on_cells w b s)
+        else on_cells h cells w) (monitor_of_on_cells w b s)
         ∙ released_if w b (exited (monitor_of w b)) (is_owner t (monitor_of w b).owner) s
 
     in_cells_released : (w : World) (t : ℕ) (m : Option ℕ) (ms : List (Option ℕ)) → MonitorsInCells w ms

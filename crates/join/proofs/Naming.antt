@@ -127,6 +127,6 @@ module _ (h : Naming) where
       ≡ named_result h (replaced_if_room next f n vs)
   if_room_named next f n vs =
       ap (λ (k : ℕ). if nat_le k f.room then Ok (replaced next (named_frame h f) n (map (named_value h) vs))
-          else Err (Faulted StackFull)) (ap units_of_all (pushed_named n vs f.stack)
-          ∙ units_named (push_all vs (drop n f.stack)))
+      else Err (Faulted StackFull)) (ap units_of_all (pushed_named n vs f.stack)
+      ∙ units_named (push_all vs (drop n f.stack)))
       ∙ by_room next f n vs _

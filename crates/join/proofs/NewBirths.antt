@@ -46,11 +46,16 @@ module _ (h : Naming) (shape : HeapShape) (w : World) (a : Account) (named : Nam
   bounded_after c bound al b k b' e =
       let n = al.counted in
       let was : IsNew c.object (next_birth w) b' ⊎ (b' < next_birth w)
-            → b' < next_birth c.after = λ s. fresh c.object n s in
+      → b' < next_birth c.after = λ s. fresh c.object n s in
       elim (al.words b k b' e) [
         | inl s ↦ was (inr (bound b k b' s))
-        | inr f ↦ elim f [ inl s ↦ was (inl s) | inr s ↦ elim (al.writes b' s) [ inl q ↦ was (inl q) |
-            inr r ↦ was (inr (born_before b' r)) ] ]
+        | inr f ↦ elim f [
+          | inl s ↦ was (inl s)
+          | inr s ↦ elim (al.writes b' s) [
+            | inl q ↦ was (inl q)
+            | inr r ↦ was (inr (born_before b' r))
+          ]
+        ]
       ]
     where
       fresh : (object : Option ℕ) → next_birth c.after ≡ births_after object (next_birth w)
@@ -131,17 +136,23 @@ module _ (h : Naming) (shape : HeapShape) (w : World) (a : Account) (named : Nam
         let threads = threads_agree h naming_with (λ b. b < next_birth w) old_name w.threads frame_may in
         let slots = fields_agree h naming_with (λ b. b < next_birth w) old_name w.statics.fields slots_may in
         let here : held_object naming_with (w.objects ++ new ∷ []) (Taken (next_birth w) Grey)
-              ≡ new = ap (λ r. named_object naming_with (object_or_nobody r)) (get-newest w.objects new)
-              ∙ ap (λ k. record new { contents = k }) (nowhere_named naming_with new.contents empty) in
+        ≡ new = ap (λ r. named_object naming_with (object_or_nobody r)) (get-newest w.objects new)
+        ∙ ap (λ k. record new { contents = k }) (nowhere_named naming_with new.contents empty) in
         let objects = map-set (held_object naming_with (w.objects ++ new ∷ [])) a.cells c (Taken (next_birth w) Grey)
         ∙ ap (λ os. set os c (held_object naming_with (w.objects ++ new ∷ []) (Taken (next_birth w) Grey)))
-            (mapped_alike _ _ a.cells (λ d. held_alike new (cell_at a.cells d) (λ b x e. i.tidy.born d b x e)))
+        (mapped_alike _ _ a.cells (λ d. held_alike new (cell_at a.cells d) (λ b x e. i.tidy.born d b x e)))
         ∙ ap (set (map (held_object h w.objects) a.cells) c) here in
         ap (λ os. record (on_cells naming_with cells_with (with_new w new)) { objects = nobody ∷ os }) objects
-        ∙ ap (λ ts. record (on_cells naming_with cells_with (with_new w new)) { threads = ts;
-            objects = nobody ∷ set (map (held_object h w.objects) a.cells) c new }) (sym threads)
-        ∙ ap (λ fs. record (with_object (on_cells h a.cells w) (suc c) new) { statics = record { fields = fs;
-            states = w.statics.states } }) (sym slots)
+        ∙ ap (λ ts. record (on_cells naming_with cells_with (with_new w new)) {
+          threads = ts;
+          objects = nobody ∷ set (map (held_object h w.objects) a.cells) c new;
+        }) (sym threads)
+        ∙ ap (λ fs. record (with_object (on_cells h a.cells w) (suc c) new) {
+          statics = record {
+            fields = fs;
+            states = w.statics.states;
+          };
+        }) (sym slots)
 
     -- what stood in a cell stands there
     pub in_cell_with : (new : Object) (b : ℕ) → InCell h a.cells w b → InCell naming_with cells_with (with_new w new) b
@@ -157,8 +168,14 @@ module _ (h : Naming) (shape : HeapShape) (w : World) (a : Account) (named : Nam
         }
 
     pub in_cell_new : (new : Object) → InCell naming_with cells_with (with_new w new) (next_birth w)
-    in_cell_new new = record { cell = c; colour = Grey; object = new; held = came.here; named = new_name;
-        made = get-newest w.objects new }
+    in_cell_new new = record {
+      cell = c;
+      colour = Grey;
+      object = new;
+      held = came.here;
+      named = new_name;
+      made = get-newest w.objects new;
+    }
 
     pub refs_with : (bs : List ℕ) → ((b : ℕ) → In b bs → b < next_birth w) → map h bs ≡ map naming_with bs
     refs_with [] k = refl

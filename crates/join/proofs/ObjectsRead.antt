@@ -31,7 +31,7 @@ holding_from first b (cell ∷ cells) c e = by (holds_birth b cell) (holding_fro
         (t : Bool) →
         (cell_from (suc first) b cells ≡ Some c → Holding (suc first) b cells c) →
         holds_birth b cell ≡ t → (if t then Some first else cell_from (suc first) b cells) ≡ Some c
-            → Holding first b (cell ∷ cells) c
+        → Holding first b (cell ∷ cells) c
     by true further test found =
         let is : first ≡ c = cc in
         (0, omega (arith, is), held_by b cell test)
@@ -71,7 +71,7 @@ found_from first b (cell ∷ cells) (suc c) x held none = by (holds_birth b cell
 module _ (x : CellMachine) (w : World) (b : ℕ)
     (alike : (c : ℕ) (y : Colour) → cell_at x.account.cells c ≡ Taken b y → is_reached x.world (suc c) ≡ is_reached w b)
     (object : (c : ℕ) (y : Colour) → cell_at x.account.cells c ≡ Taken b y → is_reached w b ≡ true → object_in x c
-        ≡ object_at w b)
+    ≡ object_at w b)
     (cell : is_reached w b ≡ true → (c : ℕ) × ((y : Colour) × (cell_at x.account.cells c ≡ Taken b y))) where
   in_cell : (c : ℕ) (y : Colour) (t : Bool) → cell_at x.account.cells c ≡ Taken b y → is_reached w b ≡ t
       → (if t then object_in x c else None) ≡ (if t then object_at w b else None)
@@ -88,7 +88,7 @@ module _ (x : CellMachine) (w : World) (b : ℕ)
   by_cell (Some c) e =
       let held = holding b x.account.cells c e in
       ap (λ (t : Bool). if t then object_in x c else None) (alike c held.0 held.1) ∙
-          in_cell c held.0 (is_reached w b) held.1 refl
+      in_cell c held.0 (is_reached w b) held.1 refl
 
   pub shown_in_cell : object_on x b ≡ reached_object w b
   shown_in_cell = by_cell (cell_from 0 b x.account.cells) refl

@@ -31,14 +31,23 @@ two_named n (suc (suc c)) b x e = absurd (no_birth n c b x e)
 pub two_cells : (s m l : ℕ) → 2 ≤ s + m + l → (n : ℕ)
     × ((opening_account (record { small = s; medium = m; large = l })).cells ≡ Taken 1 White ∷ Taken 2 White
     ∷ replicate n Free)
-two_cells (suc (suc s)) m l two = (s + m + l, let k : suc (suc s) + m + l ≡ suc (suc (s + m + l)) = omega arith
-                                                    in rw k refl)
-two_cells (suc zero) (suc m) l two = (m + l, let k : suc zero + suc m + l ≡ suc (suc (m + l)) = omega arith
-                                                   in rw k refl)
+two_cells (suc (suc s)) m l two = (
+  s + m + l,
+  let k : suc (suc s) + m + l ≡ suc (suc (s + m + l)) = omega arith
+      in rw k refl,
+)
+two_cells (suc zero) (suc m) l two = (
+  m + l,
+  let k : suc zero + suc m + l ≡ suc (suc (m + l)) = omega arith
+      in rw k refl,
+)
 two_cells (suc zero) zero (suc l) two = (l, let k : suc zero + zero + suc l ≡ suc (suc l) = omega arith in rw k refl)
 two_cells (suc zero) zero zero two = absurd (omega arith)
-two_cells zero (suc (suc m)) l two = (m + l, let k : zero + suc (suc m) + l ≡ suc (suc (m + l)) = omega arith
-                                                   in rw k refl)
+two_cells zero (suc (suc m)) l two = (
+  m + l,
+  let k : zero + suc (suc m) + l ≡ suc (suc (m + l)) = omega arith
+      in rw k refl,
+)
 two_cells zero (suc zero) (suc l) two = (l, let k : zero + suc zero + suc l ≡ suc (suc l) = omega arith in rw k refl)
 two_cells zero (suc zero) zero two = absurd (omega arith)
 two_cells zero zero (suc (suc l)) two = (l, let k : zero + zero + suc (suc l) ≡ suc (suc l) = omega arith in rw k refl)
@@ -54,7 +63,7 @@ opening_joint program shape two =
       joined = record {
         world = refl;
         account = ap (λ grey. let a : Account = record (opening_account shape) { grey = grey }
-                                    in a) (sym (map-id (opening_account shape).grey));
+            in a) (sym (map-id (opening_account shape).grey));
         births = refl;
         named = subst (Named (λ b. b)) (sym k.1) (two_named k.0);
         memory_error = refl;

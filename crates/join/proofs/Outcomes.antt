@@ -52,7 +52,7 @@ module _ (program : List ClassListing) (shape : HeapShape) (limits : Limits) (on
       let choice = chosen m.account words in
       let e = next program m.world t choice in
       ap is_fault r.joined.world ∙ ap is_fault (ideal_world m.account (next_birth m.world) (object_of choice words) e
-          e.after.fault)
+      e.after.fault)
 
   room_same : (words : ℕ) → has_room on.account words ≡ has_room m.account words
   room_same words = ap (λ x. has_room x words) joint.joined.account ∙ room_named joint.naming m.account words
@@ -75,13 +75,13 @@ module _ (program : List ClassListing) (shape : HeapShape) (limits : Limits) (on
       ≡ outcome_of program m (Thread t)
   thread_outcome t e =
       let same : asked program on.world t ≡ asked program m.world t = ap (λ w. asked program w t) joint.joined.world
-            ∙ asked_on_cells joint.naming m.account.cells program limits m.world
-            (reached_joined program shape limits on m i bound joint) t in
+      ∙ asked_on_cells joint.naming m.account.cells program limits m.world
+      (reached_joined program shape limits on m i bound joint) t in
       ap (λ (fault : Bool). outcome_by fault (outcome_if_on on.account (asked program on.world t))) (faults_same t e)
       ∙ ap (λ words. outcome_by (is_fault (next program m.world t (chosen m.account (asked program m.world t))).after)
-          (outcome_if_on on.account words)) same
+      (outcome_if_on on.account words)) same
       ∙ ap (outcome_by (is_fault (next program m.world t (chosen m.account (asked program m.world t))).after))
-          (if_same (asked program m.world t))
+      (if_same (asked program m.world t))
       ∙ ideal_if t (asked program m.world t)
 
   outcome_same : (actor : Actor) → refusal program limits m.world actor ≡ None → outcome_on program on actor
@@ -92,14 +92,17 @@ module _ (program : List ClassListing) (shape : HeapShape) (limits : Limits) (on
   row_same : (actor : Actor) (worker : ℕ) (o : Option Turn) → refusal program limits m.world actor ≡ o
       → row_if_on program on actor worker o ≡ row_unless_refused program m actor worker o
   row_same actor worker (Some refused) e = refl
-  row_same actor worker None e = ap (λ outcome. let row : Row = record { actor = actor; outcome = outcome;
-                                                      worker = worker } in Some row) (outcome_same actor e)
+  row_same actor worker None e = ap (λ outcome. let row : Row = record {
+    actor = actor;
+    outcome = outcome;
+    worker = worker;
+  } in Some row) (outcome_same actor e)
 
   pub rows_on_cells : (actor : Actor) (worker : ℕ) → row_on program limits on actor worker
       ≡ row_by program limits m actor worker
   rows_on_cells actor worker =
       let same : refusal program limits on.world actor
-            ≡ refusal program limits m.world actor = ap (λ w. refusal program limits w actor) joint.joined.world
-            ∙ refusal_on_cells joint.naming m.account.cells program limits m.world
-            (reached_joined program shape limits on m i bound joint) actor in
+      ≡ refusal program limits m.world actor = ap (λ w. refusal program limits w actor) joint.joined.world
+      ∙ refusal_on_cells joint.naming m.account.cells program limits m.world
+      (reached_joined program shape limits on m i bound joint) actor in
       ap (row_if_on program on actor worker) same ∙ row_same actor worker (refusal program limits m.world actor) refl

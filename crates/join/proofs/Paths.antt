@@ -47,7 +47,7 @@ module _ (h : Naming) (shape : HeapShape) (w : World) (a : Account) (named : Nam
   path_on_cells b (at_root p e) = at_root p (root_on_cells p ∙ ap (named_ref h) e)
   path_on_cells b (by_word x k r e) =
       by_word (h x) k (path_on_cells x r) (word_on_cells h a.cells w x k (reached_in_cell h shape w a named i x r)
-          ∙ ap (named_ref h) e)
+      ∙ ap (named_ref h) e)
 
   -- the birth at the end of a path on cells
   abbrev Ends : ℕ → Type 0
@@ -55,12 +55,12 @@ module _ (h : Naming) (shape : HeapShape) (w : World) (a : Account) (named : Nam
 
   ends : (r : ℕ) → Reach on r → Ends r
   ends r (at_root p e) = let back = named_back h (root_at w p) r (sym (root_on_cells p) ∙ e)
-                               in (back.0, at_root p back.1, back.2)
+      in (back.0, at_root p back.1, back.2)
   ends r (by_word x k p e) =
       let from : Ends x = ends x p in
       let there : word_at on (h from.0) k ≡ Some r = subst (λ (y : ℕ). word_at on y k ≡ Some r) (sym from.2) e in
       let back = named_back h (word_at w from.0 k) r
-            (sym (word_on_cells h a.cells w from.0 k (reached_in_cell h shape w a named i from.0 from.1)) ∙ there) in
+      (sym (word_on_cells h a.cells w from.0 k (reached_in_cell h shape w a named i from.0 from.1)) ∙ there) in
       (back.0, by_word from.0 k from.1 back.1, back.2)
 
   module _ (c b : ℕ) (x : Colour) (held : cell_at a.cells c ≡ Taken b x) where

@@ -47,8 +47,11 @@ module _ (h : Naming) where
 
   frame_refs_named : (f : Frame) → frame_refs (named_frame h f) ≡ map (named_ref h) (frame_refs f)
   frame_refs_named f =
-      rw (through (named_entry h) entry_ref entry_ref_named f.locals, through (named_value h) ref_of value_ref f.stack,
-          reverse-map (named_ref h) (map ref_of f.stack))
+      rw (
+        through (named_entry h) entry_ref entry_ref_named f.locals,
+        through (named_value h) ref_of value_ref f.stack,
+        reverse-map (named_ref h) (map ref_of f.stack),
+      )
       (sym (map-append (named_ref h) (map entry_ref f.locals) (reverse (map ref_of f.stack))))
 
   frame_if : (o : Option Frame) → refs_of_frame (option_map (named_frame h) o) ≡ map (named_ref h) (refs_of_frame o)

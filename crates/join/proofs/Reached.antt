@@ -19,8 +19,14 @@ module _ (h : Naming) (shape : HeapShape) (w : World) (a : Account) (named : Nam
     (i : Invariant shape w (next_birth w) a) where
   pub in_cell_at : (c b : ℕ) (x : Colour) → cell_at a.cells c ≡ Taken b x → InCell h a.cells w b
   in_cell_at c b x e = let o = get-within w.objects b (i.tidy.born c b x e)
-                             in record { cell = c; colour = x; object = o.0; held = e; named = named c b x e;
-                             made = o.1 }
+      in record {
+        cell = c;
+        colour = x;
+        object = o.0;
+        held = e;
+        named = named c b x e;
+        made = o.1;
+      }
 
   pub kept_in_cell : (b : ℕ) → HasKept a.phase a.cells b → InCell h a.cells w b
   kept_in_cell b k = in_cell_at k.cell b k.colour k.held

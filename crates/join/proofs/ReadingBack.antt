@@ -73,8 +73,11 @@ module _ (h g : Naming) where
   entry_after UpperHalf = refl
 
   frame_after : (f : Frame) → named_frame g (named_frame h f) ≡ named_frame both f
-  frame_after f = rw (map-after (named_entry h) (named_entry g) (named_entry both) entry_after f.locals,
-      map-after (named_value h) (named_value g) (named_value both) value_after f.stack, ref_after f.monitor) refl
+  frame_after f = rw (
+    map-after (named_entry h) (named_entry g) (named_entry both) entry_after f.locals,
+    map-after (named_value h) (named_value g) (named_value both) value_after f.stack,
+    ref_after f.monitor,
+  ) refl
 
   thread_after : (t : Thread) → named_thread g (named_thread h t) ≡ named_thread both t
   thread_after (Live frames) = ap Live (map-after (named_frame h) (named_frame g) (named_frame both) frame_after frames)
@@ -104,8 +107,11 @@ entry_same (HoldsValue v) = ap HoldsValue (value_same v)
 entry_same UpperHalf = refl
 
 frame_same : (f : Frame) → named_frame (λ b. b) f ≡ f
-frame_same f = rw (map-same (named_entry (λ b. b)) entry_same f.locals,
-    map-same (named_value (λ b. b)) value_same f.stack, ref_same f.monitor) refl
+frame_same f = rw (
+  map-same (named_entry (λ b. b)) entry_same f.locals,
+  map-same (named_value (λ b. b)) value_same f.stack,
+  ref_same f.monitor,
+) refl
 
 pub thread_same : (t : Thread) → named_thread (λ b. b) t ≡ t
 thread_same (Live frames) = ap Live (map-same (named_frame (λ b. b)) frame_same frames)
@@ -134,8 +140,11 @@ module _ (h : Naming) (shape : HeapShape) (w : World) (a : Account) (named : Nam
   threads_read : map (named_thread read) (on_cells h a.cells w).threads ≡ w.threads
   threads_read =
       map-after (named_thread h) (named_thread read) (named_thread back) (thread_after h read) w.threads
-      ∙ threads_agree back (λ b. b) (Reach w) back_same w.threads (λ t d f e. record { locals = locals_known w t d f e;
-          stack = stack_known w t d f e; monitor = λ b k. monitor_known w t d b f e k })
+      ∙ threads_agree back (λ b. b) (Reach w) back_same w.threads (λ t d f e. record {
+        locals = locals_known w t d f e;
+        stack = stack_known w t d f e;
+        monitor = λ b k. monitor_known w t d b f e k;
+      })
       ∙ map-same (named_thread (λ b. b)) thread_same w.threads
 
   slots_known : AllMay (Reach w) (slots_of w)
@@ -153,7 +162,7 @@ module _ (h : Naming) (shape : HeapShape) (w : World) (a : Account) (named : Nam
   contents_read b o r made =
       contents_after h read o.contents
       ∙ contents_agree back (λ b. b) (Reach w) back_same o.contents (ref_may (Reach w) (contents_refs o.contents)
-          (λ k b' e. word_known w b k b' o r made e))
+      (λ k b' e. word_known w b k b' o r made e))
       ∙ contents_same o.contents
 
   grey_read : (bs : List ℕ) → ((b : ℕ) → In b bs → InCell h a.cells w b) → map read (map h bs) ≡ bs
@@ -172,7 +181,7 @@ module _ (h : Naming) (shape : HeapShape) (w : World) (a : Account) (named : Nam
       let s = in_cell_at h shape w a named i c b x held in
       rw (mapped_at (held_object h w.objects) a.cells c b x held, s.made)
       (ap (λ (k : Contents). let y : Object = record s.object { contents = k } in Some y)
-                                   (contents_read b s.object r s.made))
+      (contents_read b s.object r s.made))
 
 -- ---- the object of a birth
 
@@ -182,11 +191,11 @@ shown_read h shape on m j i b =
     let cells = ap (λ (x : Account). x.cells) j.account in
     shown_in_cell on m.world b
     (λ c y held. rw j.world (reached_alike h shape m.world m.account j.named i j.memory_error j.stack_error c b y
-        (rw (← cells) held)))
+    (rw (← cells) held)))
     (λ c y held e. rw (cells, j.world) (object_read h shape m.world m.account j.named i c b y (rw (← cells) held)
-        (is_reached-Reach m.world b e)))
+    (is_reached-Reach m.world b e)))
     (λ e. (let s = reached_in_cell h shape m.world m.account j.named i b (is_reached-Reach m.world b e)
-                 in (s.cell, (s.colour, rw cells s.held))))
+    in (s.cell, (s.colour, rw cells s.held))))
 
 -- ---- the whole
 
@@ -210,11 +219,14 @@ reads_back program shape limits on m i bound joint =
       rows = ap (λ (x : World). x.rows) j.world;
       births = j.births;
       account = rw j.account (account_read h shape w a j.named i);
-      reached = λ b r. (let s = reached_in_cell h shape w a j.named i b r in record { cell = s.cell; colour = s.colour;
-                              held = rw cells s.held });
+      reached = λ b r. (let s = reached_in_cell h shape w a j.named i b r in record {
+        cell = s.cell;
+        colour = s.colour;
+        held = rw cells s.held;
+      });
       objects = λ b r s. (let held = s.held
-                                in rw (cells, j.world) (object_read h shape w a j.named i s.cell b s.colour
-                                (rw (← cells) held) r));
+          in rw (cells, j.world) (object_read h shape w a j.named i s.cell b s.colour
+          (rw (← cells) held) r));
       shown = shown_read h shape on m j i;
       status = ap (status_in program) j.world ∙ status_on_cells h a.cells program limits w u;
       threads_numbered = ap thread_numbers j.world ∙ numbers_on_cells h a.cells program limits w u;

@@ -67,9 +67,9 @@ module _ (h : Naming) (cells : List Cell) where
     pub ready_on_cells : (t : ℕ) → is_ready program on t ≡ is_ready program w t
     ready_on_cells t =
         ap (λ live. is_none w.fault && live && not (waits (completion program on t)))
-            (ap lives (slice_get-map (named_thread h) w.threads t) ∙ lives_named (slice_get w.threads t))
+        (ap lives (slice_get-map (named_thread h) w.threads t) ∙ lives_named (slice_get w.threads t))
         ∙ ap (λ b. is_none w.fault && is_live w t && not b) (ap waits (completion_on_cells h cells program w u t)
-            ∙ waits_named (completion program w t))
+        ∙ waits_named (completion program w t))
 
     pub overflows_on_cells : (t : ℕ) → overflows program limits on t ≡ overflows program limits w t
     overflows_on_cells t = ap (passes limits.output w.output) (ap prints (completion_on_cells h cells program w u t)
@@ -97,20 +97,20 @@ module _ (h : Naming) (cells : List Cell) where
     pub status_on_cells : status_in program on ≡ status_in program w
     status_on_cells =
         ap (λ ns. status_by (is_some w.fault) (list_any (is_live on) ns) (list_any (is_ready program on) ns))
-            numbers_on_cells
+        numbers_on_cells
         ∙ ap (λ some. status_by (is_some w.fault) some (list_any (is_ready program on) (thread_numbers w)))
-            (any_same (is_live on) (is_live w) live_on_cells (thread_numbers w))
+        (any_same (is_live on) (is_live w) live_on_cells (thread_numbers w))
         ∙ ap (status_by (is_some w.fault) (some_lives w)) (any_same (is_ready program on) (is_ready program w)
-            ready_on_cells (thread_numbers w))
+        ready_on_cells (thread_numbers w))
 
     -- ---- refusals
 
     thread_on_cells : (t : ℕ) → thread_refusal program limits on t ≡ thread_refusal program limits w t
     thread_on_cells t =
         ap (λ ready. if ready then (if overflows program limits on t then Some OutputFull else None) else Some NotReady)
-            (ready_on_cells t)
+        (ready_on_cells t)
         ∙ ap (λ full. if is_ready program w t then (if full then Some OutputFull else None) else Some NotReady)
-            (overflows_on_cells t)
+        (overflows_on_cells t)
 
     actor_on_cells : (actor : Actor) → actor_refusal program limits on actor ≡ actor_refusal program limits w actor
     actor_on_cells (ThreadActor t) = thread_on_cells t

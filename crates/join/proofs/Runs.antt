@@ -42,7 +42,7 @@ all_keep : (program : List ClassListing) (shape : HeapShape) (limits : Limits) (
 all_keep program shape limits on m [] k = k
 all_keep program shape limits on m (actor ∷ actors) k =
     all_keep program shape limits (moved_on program shape limits on actor) (moved_by program shape limits m actor)
-        actors (turn_keeps program shape limits on m actor k)
+    actors (turn_keeps program shape limits on m actor k)
 
 run_keeps : (program : List ClassListing) (shape : HeapShape) (limits : Limits) (actors : List Actor)
     → ShapeFits shape.small shape.medium shape.large
@@ -51,8 +51,11 @@ unfolding cells_after
 run_keeps program shape limits actors fits =
     rw (machine_after-is program shape limits actors)
     (all_keep program shape limits (opening_on program shape) (opening_machine program shape) actors
-    (record { holds = opening_holds program shape fits.0; bound = opening_bounded program;
-        joint = opening_joins program shape fits }))
+    (record {
+      holds = opening_holds program shape fits.0;
+      bound = opening_bounded program;
+      joint = opening_joins program shape fits;
+    }))
 
 -- ---- what is promised of every run
 
@@ -64,7 +67,7 @@ unfolding Holds
 run_reads_back program shape limits actors fits =
     let k = run_keeps program shape limits actors fits in
     reads_back program shape limits (cells_after program shape limits actors)
-        (machine_after program shape limits actors) k.holds k.bound k.joint
+    (machine_after program shape limits actors) k.holds k.bound k.joint
 
 -- ---- a world's turn
 
@@ -92,5 +95,5 @@ turn_is_shown v on actor worker i b j =
       answer =
           ap (answer_if_on (moved_on program shape limits on actor)) (reads.refusals actor)
           ∙ answer_same v (moved_on program shape limits on actor) actor worker
-              (refusal program limits (machine_of v).world actor) (ap (λ (w : World). w.fault) joint.joined.world);
+          (refusal program limits (machine_of v).world actor) (ap (λ (w : World). w.fault) joint.joined.world);
     }

@@ -25,8 +25,8 @@ pub written : (h : Naming) (g : Cell → Cell) (cells : List Cell) (c b : ℕ) (
     ≡ set cells c (g (Taken b x))
 written h g cells c b x named same e =
     mapped_set (λ (z : Cell). z) g cells c b x e
-        (λ d n. same (cell_at cells d) (λ y k. n (let p = named d b y k
-                                                        in let q = named c b x e in omega (arith, p, q))))
+    (λ d n. same (cell_at cells d) (λ y k. n (let p = named d b y k
+    in let q = named c b x e in omega (arith, p, q))))
     ∙ ap (λ zs. set zs c (g (Taken b x))) (map-id cells)
 
 tint_by : (a b : ℕ) (t : Bool) → nat_eq a b ≡ t → (a ≡ b → ⊥) → Taken a White
@@ -79,9 +79,9 @@ module _ (h : Naming) (a : Account) (b : ℕ) where
       → shade_at (named_account h a) c (Taken b x) ≡ named_account h (shade a b)
   shaded_at named c k White e =
       ap (λ grey. record a { cells = set a.cells c (Taken b Grey); grey = grey })
-          (ap (λ (r : ℕ). map h a.grey ++ r ∷ []) (sym k) ∙ sym (map-append h a.grey (b ∷ [])))
+      (ap (λ (r : ℕ). map h a.grey ++ r ∷ []) (sym k) ∙ sym (map-append h a.grey (b ∷ [])))
       ∙ sym (shade_is (set a.cells c (Taken b Grey)) true (written h (tint b) a.cells c b White named (tint_other b) e
-          ∙ ap (set a.cells c) (tinted b)) (is_there c e _ refl))
+      ∙ ap (set a.cells c) (tinted b)) (is_there c e _ refl))
     where
       tint_if : (d : ℕ) (t : Bool) → nat_eq d d ≡ t → (if t then Taken d Grey else Taken d White) ≡ Taken d Grey
       tint_if d true e = refl
@@ -107,9 +107,9 @@ pub in_cell_shade : (h : Naming) (a : Account) (w : World) (b d : ℕ) → InCel
     → InCell h (shade a b).cells w d
 in_cell_shade h a w b d s = elim (after (shade_darker a b) s.cell d s.colour s.held) as (λ _. InCell h (shade a b).cells
     w d) [
-  | inl e ↦ record { cell = s.cell; colour = s.colour; object = s.object; held = e; named = s.named; made = s.made }
-  | inr p ↦ record { cell = s.cell; colour = Grey; object = s.object; held = p.1; named = s.named; made = s.made }
-]
+      | inl e ↦ record { cell = s.cell; colour = s.colour; object = s.object; held = e; named = s.named; made = s.made }
+      | inr p ↦ record { cell = s.cell; colour = Grey; object = s.object; held = p.1; named = s.named; made = s.made }
+    ]
 
 held_tint : (h : Naming) (os : List Object) (b : ℕ) (z : Cell) → held_object h os (tint b z) ≡ held_object h os z
 held_tint h os b Free = refl

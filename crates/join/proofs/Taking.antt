@@ -21,16 +21,16 @@ pub take_on_cells : (h : Naming) (a : Account) (words : ℕ) → take_cell (name
     ≡ option_map (named_taken h) (take_cell a words)
 take_on_cells h a words =
     let large = or_on_cells h (nat_le words 256) (λ cs. record a { large = cs })
-          (λ cs. record (named_account h a) { large = cs }) (first_cell a.large) None (λ cs. refl) in
+    (λ cs. record (named_account h a) { large = cs }) (first_cell a.large) None (λ cs. refl) in
     let medium = or_on_cells h (nat_le words 32) (λ cs. record a { medium = cs })
-          (λ cs. record (named_account h a) { medium = cs }) (first_cell a.medium)
-          (or_larger (nat_le words 256) (λ cs. record a { large = cs }) (first_cell a.large) None) (λ cs. refl) in
+    (λ cs. record (named_account h a) { medium = cs }) (first_cell a.medium)
+    (or_larger (nat_le words 256) (λ cs. record a { large = cs }) (first_cell a.large) None) (λ cs. refl) in
     let small = or_on_cells h (nat_le words 4) (λ cs. record a { small = cs })
-          (λ cs. record (named_account h a) { small = cs }) (first_cell a.small)
-          (or_larger (nat_le words 32) (λ cs. record a { medium = cs }) (first_cell a.medium)
-          (or_larger (nat_le words 256) (λ cs. record a { large = cs }) (first_cell a.large) None)) (λ cs. refl) in
+    (λ cs. record (named_account h a) { small = cs }) (first_cell a.small)
+    (or_larger (nat_le words 32) (λ cs. record a { medium = cs }) (first_cell a.medium)
+    (or_larger (nat_le words 256) (λ cs. record a { large = cs }) (first_cell a.large) None)) (λ cs. refl) in
     ap (λ o. or_larger (nat_le words 4) (λ cs. record (named_account h a) { small = cs }) (first_cell a.small)
-        (or_larger (nat_le words 32) (λ cs. record (named_account h a) { medium = cs }) (first_cell a.medium) o)) large
+    (or_larger (nat_le words 32) (λ cs. record (named_account h a) { medium = cs }) (first_cell a.medium) o)) large
     ∙ ap (λ o. or_larger (nat_le words 4) (λ cs. record (named_account h a) { small = cs }) (first_cell a.small) o)
-        medium
+    medium
     ∙ small

@@ -49,10 +49,10 @@ module _ (h : Naming) where
   way_named program class [] = refl
   way_named program class (f ∷ fs) =
       ap (λ o. way_from (named_frame h f) (map (named_frame h) fs)
-          (responds o (runs_initializer program f && not (is_error program class)))
-          (way_of program class (map (named_frame h) fs))) (handler_named program class f f.mark)
+      (responds o (runs_initializer program f && not (is_error program class)))
+      (way_of program class (map (named_frame h) fs))) (handler_named program class f f.mark)
       ∙ ap (way_from (named_frame h f) (map (named_frame h) fs) (response_of program class f))
-          (way_named program class fs)
+      (way_named program class fs)
       ∙ from_named f fs (response_of program class f) (way_of program class fs)
 
   monitors_named : (fs : List Frame) → map (λ (f : Frame). f.monitor) (map (named_frame h) fs)
@@ -114,12 +114,12 @@ module _ (h : Naming) where
     without_on_cells program w t left k =
         let states = w.statics.states in
         ap (λ cs. with_class_states
-            (released_all (on_cells h cells w) t (map (λ (f : Frame). f.monitor) (map (named_frame h) left)))
-            (with_states Failed cs states)) (initialised_named program left)
+        (released_all (on_cells h cells w) t (map (λ (f : Frame). f.monitor) (map (named_frame h) left)))
+        (with_states Failed cs states)) (initialised_named program left)
         ∙ ap (λ ms. with_class_states (released_all (on_cells h cells w) t ms)
-            (with_states Failed (initialised_by program left) states)) (monitors_named left)
+        (with_states Failed (initialised_by program left) states)) (monitors_named left)
         ∙ ap (λ v. with_class_states v (with_states Failed (initialised_by program left) states))
-            (all_released h cells named w t (map (λ (f : Frame). f.monitor) left) k)
+        (all_released h cells named w t (map (λ (f : Frame). f.monitor) left) k)
 
     -- ---- the landing
 
@@ -130,8 +130,8 @@ module _ (h : Naming) where
         (thread_on_cells h cells w t (Ended (Some class)))) q
     landed_on_cells on before w t b class (Stopped f callers) q =
         matches (ap (λ fs. record { after = with_thread (on_cells h cells w) t (Live fs); writes = [] }) frames
-            ∙ ap (λ v. record { after = v; writes = [] })
-            (thread_on_cells h cells w t (Live (reverse callers ++ failing f ∷ [])))) q
+        ∙ ap (λ v. record { after = v; writes = [] })
+        (thread_on_cells h cells w t (Live (reverse callers ++ failing f ∷ [])))) q
       where
         frames : reverse (map (named_frame h) callers) ++ named_frame h (failing f) ∷ []
             ≡ map (named_frame h) (reverse callers ++ failing f ∷ [])
@@ -145,11 +145,15 @@ module _ (h : Naming) where
             ∙ sym (map-append (named_frame h) (reverse callers) (handling b handler f ∷ []))
 
         go : (room : Bool) → Matches h cells on before t
-            (if room then record { after = with_thread (on_cells h cells w) t
-                (Live (reverse (map (named_frame h) callers) ++ handling (h b) handler (named_frame h f) ∷ []));
-                writes = h b ∷ [] } else faulted on t StackFull)
-            (if room then record { after = with_thread w t (Live (reverse callers ++ handling b handler f ∷ []));
-                writes = b ∷ [] } else faulted before t StackFull)
+            (if room then record {
+              after = with_thread (on_cells h cells w) t
+                  (Live (reverse (map (named_frame h) callers) ++ handling (h b) handler (named_frame h f) ∷ []));
+              writes = h b ∷ [];
+            } else faulted on t StackFull)
+            (if room then record {
+              after = with_thread w t (Live (reverse callers ++ handling b handler f ∷ []));
+              writes = b ∷ [];
+            } else faulted before t StackFull)
         go true = matches (ap (λ fs. record { after = with_thread (on_cells h cells w) t (Live fs); writes = h b ∷ [] })
             frames ∙ ap (λ v. record { after = v; writes = h b ∷ [] })
             (thread_on_cells h cells w t (Live (reverse callers ++ handling b handler f ∷ [])))) q
@@ -164,10 +168,10 @@ module _ (h : Naming) where
         let fs = reverse (frames_at w t) in
         let way = way_of program class fs in
         let image : reverse (frames_at (on_cells h cells w) t)
-              ≡ map (named_frame h) fs = ap reverse (frames_on_cells h cells w t)
-              ∙ reverse-map (named_frame h) (frames_at w t) in
+        ≡ map (named_frame h) fs = ap reverse (frames_on_cells h cells w t)
+        ∙ reverse-map (named_frame h) (frames_at w t) in
         let worlds = without_on_cells program w t way.left
-              (left_in_cells w program class fs (backwards w (frames_at w t) (frames_in_cells w (frames_at w t) k))) in
+        (left_in_cells w program class fs (backwards w (frames_at w t) (frames_in_cells w (frames_at w t) k))) in
         rw (class_in_cell h cells w b s, image, way_named program class fs, worlds)
         (landed_on_cells on before (without program w t way.left) t b class way.landing
-            (released_fault w t (map (λ (f : Frame). f.monitor) way.left) ∙ q))
+        (released_fault w t (map (λ (f : Frame). f.monitor) way.left) ∙ q))

@@ -75,7 +75,7 @@ module _ (h : Naming) where
     with_word_on_cells b place v s =
         ap (with_word_of (on_cells h cells w) (h b) place (named_value h v)) (object_in_cell h cells w b s)
         ∙ ap (λ c. with_object (on_cells h cells w) (h b) (record (named_object h s.object) { contents = c }))
-            (with_word_named s.object.contents place v)
+        (with_word_named s.object.contents place v)
         ∙ sym (put_on_cells h cells w b (record s.object { contents = with_word_in s.object.contents place v }) u.named
-            s)
+        s)
         ∙ ap (λ o. on_cells h cells (with_word_of w b place v o)) (sym s.made)

@@ -35,8 +35,12 @@ k = class_of (codes "K") (field (codes "x") (codes "I") ∷ []) 1 0 [] ((3, Clas
     ∷ (3, Class New (codes "K")) ∷ return ∷ []) ∷ []
 
 abbrev object : Object
-object = made_of (Instance (codes "K") (record { class = codes "K"; name = codes "x"; descriptor = codes "I";
-    value = Int (pos 0) } ∷ []))
+object = made_of (Instance (codes "K") (record {
+  class = codes "K";
+  name = codes "x";
+  descriptor = codes "I";
+  value = Int (pos 0);
+} ∷ []))
 
 abbrev stage : World → Account → ℕ → CellMachine
 stage w a births = record { world = w; account = a; births = births }

@@ -105,8 +105,8 @@ spelled_code c h =
     let front = is_u2 c.max_stack && is_u2 c.max_locals && stands in
     each (instruction_is_spelled c.instructions) (λ (i : Placed). type_is_named i.instruction)
     (λ (p : Placed) q. spelled_type p.instruction (left (operands_are_spelled p.instruction)
-        (list_all (is_pc c.instructions) (targets p.instruction)) q)) c.instructions
-        (right front own (left (front && own) rows h))
+    (list_all (is_pc c.instructions) (targets p.instruction)) q)) c.instructions
+    (right front own (left (front && own) rows h))
 
 spelled_body : (wanted : Bool) (code : Option CodeListing) → body_is_spelled wanted code ≡ true
     → types_are_named_in code ≡ true
@@ -117,7 +117,7 @@ spelled_method : (class : ℕ) (m : Method) → method_is_spelled class m ≡ tr
 spelled_method class m h =
     let body = body_is_spelled (wants_code m.flags.0) m.code in
     let front = is_u2 m.flags.0 && are_method_flags class m.flags.0 && is_method_name m.name
-          && units_fit (has m.flags.0 0x0008) (arguments_of m.descriptor) in
+    && units_fit (has m.flags.0 0x0008) (arguments_of m.descriptor) in
     spelled_body (wants_code m.flags.0) m.code (right front body h)
 
 pub spelled_is_well_named : (l : ClassListing) → is_spelled l ≡ true → is_well_named l ≡ true
@@ -127,16 +127,16 @@ spelled_is_well_named l h =
     let methods = list_all (method_is_spelled l.flags.0) l.methods in
     let head = head_is_spelled l.flags.0 l.superclass && is_class_name l.name in
     let front = head && is_class_name l.superclass && list_all is_class_name l.interfaces
-          && list_all (field_is_spelled l.flags.0) l.fields in
+    && list_all (field_is_spelled l.flags.0) l.fields in
     let parts = left (front && methods) few h in
     let above = left head (is_class_name l.superclass) (left (head && is_class_name l.superclass)
-          (list_all is_class_name l.interfaces)
+    (list_all is_class_name l.interfaces)
     (left (head && is_class_name l.superclass && list_all is_class_name l.interfaces)
-        (list_all (field_is_spelled l.flags.0) l.fields) (left front methods parts))) in
+    (list_all (field_is_spelled l.flags.0) l.fields) (left front methods parts))) in
     join (is_class_name l.name) (types_are_named l.methods) (right (head_is_spelled l.flags.0 l.superclass)
-        (is_class_name l.name) above)
+    (is_class_name l.name) above)
     (each (method_is_spelled l.flags.0) (λ (m : Method). types_are_named_in m.code) (spelled_method l.flags.0) l.methods
-        (right front methods parts))
+    (right front methods parts))
 
 -- ---- class files
 
@@ -248,7 +248,7 @@ sound_methods : (pool : List Entry) (class : ℕ) (bytes : List ℕ) (ms : List 
 sound_methods pool class bytes [] sound spells = refl
 sound_methods pool class bytes (m ∷ ms) sound spells =
     join (types_are_named_in (option_map (listed_code pool) m.code)) _
-        (sound_body pool _ _ m.code sound spells.3.code_is) (sound_methods pool class spells.1 ms sound spells.4)
+    (sound_body pool _ _ m.code sound spells.3.code_is) (sound_methods pool class spells.1 ms sound spells.4)
 
 passed_name : (pool : List Entry) (n : Option ℕ) → passes is_class_name (option_and_then (text_at pool) n) ≡ true
     → is_class_name (name_at pool (unwrap_or n 0)) ≡ true
@@ -264,7 +264,7 @@ unfolding is_well_named listing_of
 class_file_is_well_named bytes c is =
     let sound = is.head_spells.pool_is_sound in
     join (is_class_name (class_at c.head.pool c.head.class))
-        (types_are_named (map (listed_method c.head.pool) c.methods))
+    (types_are_named (map (listed_method c.head.pool) c.methods))
     (passed_name c.head.pool (class_of (entry_at c.head.pool c.head.class)) is.head_spells.following.class_spells.2)
     (sound_methods c.head.pool c.head.flags.0 is.methods_spell.body c.methods sound is.methods_spell.all)
 

@@ -36,17 +36,17 @@ found-at f (x ∷ xs) (suc n) name at = found-at f xs n name at
 pub subtype-names : (program : List ClassListing) (n above : ℕ) (c : ClassListing) (name : List ℕ)
     → slice_get (all_classes program) n ≡ Some c
     → slice_get (class_names program) above ≡ Some name → is_subtype_in (class_tables program) n above
-        ≡ is_subtype program c.name name
+    ≡ is_subtype program c.name name
 subtype-names program n above c name at other =
     read (is_below above) program n (Some c) at ∙ found-at (is_subtype program c.name) (class_names program) above name
-        other
+    other
 
 -- the class of a number has the name of the number
 pub name-at : (program : List ClassListing) (n : ℕ) → slice_get (class_names program) n
     ≡ option_map (λ (c : ClassListing). c.name) (slice_get (all_classes program) n)
 name-at program n =
     ap (λ names. slice_get names n) (sym (by program)) ∙ slice_get-map (λ (c : ClassListing). c.name)
-        (all_classes program) n
+    (all_classes program) n
   where
     by : (cs : List ClassListing) → map (λ (c : ClassListing). c.name) (cs ++ builtin_classes)
         ≡ map (λ (c : ClassListing). c.name) cs ++ map (λ (c : ClassListing). c.name) builtin_classes

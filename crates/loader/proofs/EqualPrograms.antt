@@ -5,5 +5,8 @@ use Rattle.loader.specs.EqualPrograms.{are_equal}
 
 -- `==` of programs is true exactly where they are one and the same list of listings
 pub equal-programs : (a b : List ClassListing) → are_equal a b ≡ true ↔ a ≡ b
-equal-programs a b = (same_listings a b, λ e. subst (λ (p : List ClassListing). are_equal a p ≡ true) e
-    (listings_same a))
+equal-programs a b = (
+  same_listings a b,
+  λ e. subst (λ (p : List ClassListing). are_equal a p ≡ true) e
+      (listings_same a),
+)

@@ -36,7 +36,7 @@ module _ (test : List ℕ → Bool) (program : List ClassListing) where
     one c found inside =
         let next : steps - passed ≡ suc (steps - (passed + 1)) = omega (arith, inside) in
         sym (on (steps - (passed + 1)) name c found) ∙ ap (λ (n : ℕ). list_any test (upwards n program name)) (sym next)
-            ∙ h
+        ∙ h
 
     pub upwards-found : (c : ClassListing) → Some c ≡ class_named program name → passed < steps → true ≡ test name
         → true ≡ whole
@@ -89,8 +89,8 @@ module _ {A B : Type 0} where
 
 pub wants-upwards : (program : List ClassListing) (c : ClassListing)
     → (list_any (declares_named program) (superclasses program c.name) && not (is_interface c))
-        ≡ wants_initialising program c
+    ≡ wants_initialising program c
 wants-upwards program c =
     ap (λ b. b && not (is_interface c))
     (sym (any-any declares_initializer (λ (above : ClassListing). bytes_eq above.name) program
-        (superclasses program c.name)))
+    (superclasses program c.name)))

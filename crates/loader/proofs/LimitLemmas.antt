@@ -22,7 +22,7 @@ fields_within-zero program c = refl
 
 fields_within-more : (steps : ℕ) (program : List ClassListing) (c : ClassListing) → 0 < steps
     → fields_within steps program (Some c) ≡ own_fields c + fields_within (steps - 1) program
-        (listed program c.superclass)
+    (listed program c.superclass)
 unfolding fields_within
 fields_within-more zero program c some = absurd (omega arith)
 fields_within-more (suc n) program c some = let e : suc n - 1 ≡ n = omega arith in rw e
@@ -55,7 +55,7 @@ pub inherited-fields : (steps room own : ℕ) (program : List ClassListing) (c s
     → 0 < steps
     → own ≡ own_fields c → own ≤ room → name ≡ c.superclass → Some superclass ≡ listed program name
     → nat_lt (room - own) (fields_within (steps - 1) program (Some superclass))
-        ≡ nat_lt room (fields_within steps program (Some c))
+    ≡ nat_lt room (fields_within steps program (Some c))
 inherited-fields steps room own program c superclass name some is within named found =
     nat_lt-past room own (fields_within (steps - 1) program (Some superclass)) within
     ∙ rw (fields_within-more steps program c some, ← is, ← named, ← found)
@@ -66,8 +66,14 @@ pub no_inherited-fields : (steps room own : ℕ) (program : List ClassListing) (
     → false ≡ nat_lt room (fields_within steps program (Some c))
 no_inherited-fields steps room own program c name some is within named none =
     let e : own + 0 ≡ own = omega arith in
-    rw (fields_within-more steps program c some, ← is, ← named, ← none, fields_within-none (steps - 1) program,
-        e) (nat_lt-not room own within)
+    rw (
+      fields_within-more steps program c some,
+      ← is,
+      ← named,
+      ← none,
+      fields_within-none (steps - 1) program,
+      e,
+    ) (nat_lt-not room own within)
 
 -- ---- the first class past a limit
 
@@ -80,7 +86,7 @@ pub first_past_limits-few : (program : List ClassListing) → length program ≤
 unfolding first_past_limits
 first_past_limits-few program few =
     sym (rw (take_all 256 program few, slice_get_past program 256 few)
-        (or_else-none (find (is_too_large program) program)))
+    (or_else-none (find (is_too_large program) program)))
 
 pub first_past_limits-found : (program : List ClassListing) (c : ClassListing)
     → Some c ≡ find (is_too_large program) (take 256 program)

@@ -41,13 +41,13 @@ following f (x ∷ xs) rest n =
 
 with-last : (f : Method → MethodFacts) (ms : List Method) (last : Method) (k : ℕ)
     → slice_get (map f ms ++ f last ∷ []) k
-        ≡ option_map f (or_else (slice_get ms k) (cond (k == length ms) (Some last) None))
+    ≡ option_map f (or_else (slice_get ms k) (cond (k == length ms) (Some last) None))
 with-last f [] last zero = refl
 with-last f [] last (suc k) = sym (ap (λ b. option_map f (cond b (Some last) None)) (eqb-suc-zero k))
 with-last f (m ∷ ms) last zero = refl
 with-last f (m ∷ ms) last (suc k) =
     with-last f ms last k ∙ sym (ap (λ b. option_map f (or_else (slice_get ms k) (cond b (Some last) None)))
-        (eqb-suc-suc k (length ms)))
+    (eqb-suc-suc k (length ms)))
 
 abbrev pub method_of : Option (List MethodFacts) → ℕ → Option MethodFacts
 method_of methods k = option_and_then (λ (ms : List MethodFacts). slice_get ms k) methods
@@ -58,19 +58,19 @@ pub program-facts : (program : List ClassListing) (place : MethodPlace) (c : Cla
     → facts_at (method_tables program) place ≡ option_map (method_facts program c.name) (method_at program place)
 program-facts program place c at =
     ap (λ methods. method_of methods place.method) (at-front (class_methods program) program
-        (map (own_methods program) builtin_classes) place.class c at)
+    (map (own_methods program) builtin_classes) place.class c at)
     ∙ with-last (method_facts program c.name) c.methods empty_initializer place.method
     ∙ ap (λ (class : Option ClassListing). option_map (method_facts program c.name)
-        (option_and_then (λ (d : ClassListing). method_in d place.method) class)) (sym at)
+    (option_and_then (λ (d : ClassListing). method_in d place.method) class)) (sym at)
 
 -- of one of the machine's own classes
 pub own-facts : (program : List ClassListing) (n k : ℕ) (c : ClassListing) → slice_get builtin_classes n ≡ Some c
     → facts_at (method_tables program) (record { class = length program + n; method = k })
-        ≡ option_map (method_facts program c.name) (slice_get c.methods k)
+    ≡ option_map (method_facts program c.name) (slice_get c.methods k)
 own-facts program n k c at =
     ap (λ methods. method_of methods k)
     (following (class_methods program) program (map (own_methods program) builtin_classes) n
-        ∙ slice_get-map (own_methods program) builtin_classes n
+    ∙ slice_get-map (own_methods program) builtin_classes n
     ∙ ap (option_map (own_methods program)) at)
     ∙ slice_get-map (method_facts program c.name) c.methods k
 

@@ -15,4 +15,4 @@ pub begins-at : (n : ℕ) (instructions : List Placed) (pc : ℕ)
 begins-at n [] pc = refl
 begins-at n (i ∷ is) pc =
     at_one n (i.pc == pc) (offset_from (suc (suc n)) is pc) (list_any (λ (x : Placed). x.pc == pc) is)
-        (begins-at (suc n) is pc)
+    (begins-at (suc n) is pc)

@@ -12,13 +12,13 @@ use borrow.Author.Tests.{ltb-false}
 pub place-front : {K : Type 0} (test : K → Bool) (keys : List K) (n : ℕ) (key : K) → key ≡ get_or keys (n - 1) key
     → 0 < n → n - 1 < length keys
     → cond (test key) (Some (n - 1)) (position_from test n (drop n keys))
-        ≡ position_from test (n - 1) (drop (n - 1) keys)
+    ≡ position_from test (n - 1) (drop (n - 1) keys)
 place-front {K = K} test keys n key is some inside =
     let next : suc (n - 1) ≡ n = omega arith in
     let after : n - 1 + 1 ≡ n = omega arith in
     let split : drop (n - 1) keys ≡ key ∷ drop n keys =
     drop-cons keys (n - 1) key inside ∙ ap (λ (x : K). x ∷ drop (suc (n - 1)) keys) (sym is)
-        ∙ ap (λ (m : ℕ). key ∷ drop m keys) next in
+    ∙ ap (λ (m : ℕ). key ∷ drop m keys) next in
     ap (λ (m : ℕ). cond (test key) (Some (n - 1)) (position_from test m (drop n keys))) (sym after)
     ∙ sym (ap (λ (xs : List K). position_from test (n - 1) xs) split)
 
@@ -54,7 +54,7 @@ place-or test xs = by (nat_lt (position_or_len test xs) (length xs)) refl where
       → unwrap_or (cond b (Some (position_or_len test xs)) None) (length xs) ≡ position_or_len test xs
   by true e = refl
   by false e = let past : length xs ≤ position_or_len test xs = ltb-false (position_or_len test xs) (length xs) e
-                     in omega (arith, most, past)
+      in omega (arith, most, past)
 
 -- ---- the place in a list, item by item
 
@@ -64,7 +64,7 @@ position-later test n [] = refl
 position-later test n (x ∷ xs) = by (test x) (position-later test (n + 1) xs) where
   by : (b : Bool) → position_from test (n + 1 + 1) xs ≡ option_map (λ (k : ℕ). k + 1) (position_from test (n + 1) xs)
       → cond b (Some (n + 1)) (position_from test (n + 1 + 1) xs)
-          ≡ option_map (λ (k : ℕ). k + 1) (cond b (Some n) (position_from test (n + 1) xs))
+      ≡ option_map (λ (k : ℕ). k + 1) (cond b (Some n) (position_from test (n + 1) xs))
   by true rest = refl
   by false rest = rest
 

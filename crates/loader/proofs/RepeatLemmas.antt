@@ -76,8 +76,8 @@ module _ {A : Type 0} (name : A → List ℕ) where
       → NotesNames before (take i xs)
       → i < length xs → x ≡ get_or xs i x → key.bytes.now ≡ name x
       → ((k : NameKey) → again (λ x y. bytes_eq x.bytes.now y.bytes.now) after k
-          ≡ with_one_more (λ x y. bytes_eq x.bytes.now y.bytes.now) key (again (λ x y. bytes_eq x.bytes.now y.bytes.now)
-          before) k)
+      ≡ with_one_more (λ x y. bytes_eq x.bytes.now y.bytes.now) key (again (λ x y. bytes_eq x.bytes.now y.bytes.now)
+      before) k)
       → NotesNames after (take (i + 1) xs)
   names-more before after xs i x key notes within at named noted =
       notes-more (λ x y. bytes_eq x.bytes.now y.bytes.now) has_name before after xs i x key notes within at
@@ -88,7 +88,7 @@ module _ {A : Type 0} (name : A → List ℕ) where
       → name_again repeats n ≡ nat_lt 1 (count_by (λ a. bytes_eq (name a) n) xs)
   names-all repeats xs n notes =
       ap is_again (notes (record { bytes = record { ref_ptr = (0, 0); now = n } }))
-          ∙ times-twice (count_by (λ a. bytes_eq (name a) n) xs)
+      ∙ times-twice (count_by (λ a. bytes_eq (name a) n) xs)
 
 -- ---- items with a name and a descriptor
 
@@ -117,7 +117,7 @@ module _ {A : Type 0} (name descriptor : A → List ℕ) where
       → NotesSignatures before (take i xs)
       → i < length xs → x ≡ get_or xs i x → key.0.bytes.now ≡ name x → key.1.bytes.now ≡ descriptor x
       → ((k : Signature) → again same_signature after k ≡ with_one_more same_signature key (again same_signature before)
-          k)
+      k)
       → NotesSignatures after (take (i + 1) xs)
   signatures-more before after xs i x key notes within at named described noted =
       notes-more same_signature has_signature before after xs i x key notes within at
@@ -127,16 +127,18 @@ module _ {A : Type 0} (name descriptor : A → List ℕ) where
       same_name : (k : Signature) → has_signature k x ≡ true → key.0.bytes.now ≡ k.0.bytes.now
       same_name k h =
           named ∙ (bytes_eq-Decides (name x) k.0.bytes.now).0 (and-left (bytes_eq (name x) k.0.bytes.now)
-              (bytes_eq (descriptor x) k.1.bytes.now) h)
+          (bytes_eq (descriptor x) k.1.bytes.now) h)
 
       same_descriptor : (k : Signature) → has_signature k x ≡ true → key.1.bytes.now ≡ k.1.bytes.now
       same_descriptor k h =
           described ∙ (bytes_eq-Decides (descriptor x) k.1.bytes.now).0 (and-right (bytes_eq (name x) k.0.bytes.now)
-              (bytes_eq (descriptor x) k.1.bytes.now) h)
+          (bytes_eq (descriptor x) k.1.bytes.now) h)
 
   pub signatures-all : (repeats : Repeats Signature) (xs : List A) (n d : List ℕ) → NotesSignatures repeats xs
       → signature_again repeats n d ≡ nat_lt 1 (count_by (λ a. bytes_eq (name a) n && bytes_eq (descriptor a) d) xs)
   signatures-all repeats xs n d notes =
-      ap is_again (notes (record { bytes = record { ref_ptr = (0, 0); now = n } },
-          record { bytes = record { ref_ptr = (0, 0); now = d } }))
+      ap is_again (notes (
+        record { bytes = record { ref_ptr = (0, 0); now = n } },
+        record { bytes = record { ref_ptr = (0, 0); now = d } },
+      ))
       ∙ times-twice (count_by (λ a. bytes_eq (name a) n && bytes_eq (descriptor a) d) xs)

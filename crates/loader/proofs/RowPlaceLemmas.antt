@@ -64,7 +64,7 @@ place-once : {A : Type 0} (p : A → Bool) (xs : List A) (k : ℕ) (x : A) → s
     → position p xs ≡ Some k
 place-once p xs k x at h once =
     ap (λ (n : ℕ). cond (nat_lt n (length xs)) (Some n) None)
-        (first-place p xs k x at h (ltb-false 1 (count_by p xs) once))
+    (first-place p xs k x at h (ltb-false 1 (count_by p xs) once))
     ∙ ap (λ (b : Bool). cond b (Some k) None) (lt-ltb k (length xs) (slice_get_within xs k x at))
 
 none-passes : {A : Type 0} (p : A → Bool) (xs : List A) (k : ℕ) (x : A) → find p xs ≡ None → slice_get xs k ≡ Some x
@@ -104,7 +104,7 @@ pub class-place : (program : List ClassListing) (k : ℕ) (c : ClassListing) →
 unfolding is_class_twice
 class-place program k c once at =
     place-once (is_named c.name) program k c at ((bytes_eq-Decides c.name c.name).1 refl)
-        (none-passes (is_class_twice program) program k c once at)
+    (none-passes (is_class_twice program) program k c once at)
 
 pub method-place : (program : List ClassListing) (k n : ℕ) (c : ClassListing) (m : Method)
     → find has_member_twice program ≡ None → slice_get program k ≡ Some c
@@ -116,7 +116,7 @@ method-place program k n c m once at here =
     place-once (is_method m.name m.descriptor) c.methods n m here (rw (name, descriptor) refl)
     (not-any (λ (x : Method). nat_lt 1 (count_by (is_same_method x) c.methods)) c.methods n m
     (or-right (has_field_twice c.fields) (has_method_twice c.methods) (none-passes has_member_twice program k c once
-        at)) here)
+    at)) here)
 
 front : (xs ys : List ClassListing) (k : ℕ) → k < length xs → slice_get (xs ++ ys) k ≡ slice_get xs k
 front [] ys k inside = absurd (omega arith)
@@ -135,7 +135,7 @@ place_at r = record { class = r.class; method = r.method }
 pub row-place : (program : List ClassListing) (r : RowOfNumbers) (d : Declared Method)
     → find (is_class_twice program) program ≡ None
     → find has_member_twice program ≡ None → r.class < length program → declared_at program r ≡ Some d
-        → place_of program d ≡ Some (place_at r)
+    → place_of program d ≡ Some (place_at r)
 row-place program r d classes members inside tells =
     by (slice_get program r.class) refl
     (sym (ap (option_and_then (method_in r.method)) (front program builtin_classes r.class inside)) ∙ tells)
@@ -146,17 +146,17 @@ row-place program r d classes members inside tells =
     placed c m at here =
         let methods : ClassListing → Option MethodPlace =
         λ (x : ClassListing). option_map (λ (n : ℕ). record { class = r.class; method = n })
-            (position (is_method m.name m.descriptor) x.methods) in
+        (position (is_method m.name m.descriptor) x.methods) in
         ap (option_and_then (place_in program (record { class = c.name; member = m })))
-            (class-place program r.class c classes at)
+        (class-place program r.class c classes at)
         ∙ ap (option_and_then methods) at
         ∙ ap (option_map (λ (n : ℕ). record { class = r.class; method = n })) (method-place program r.class r.method c m
-            members at here)
+        members at here)
 
     method : (c : ClassListing) → slice_get program r.class ≡ Some c → (o : Option Method)
         → slice_get c.methods r.method ≡ o
         → option_map (λ (m : Method). record { class = c.name; member = m }) o ≡ Some d → place_of program d
-            ≡ Some (place_at r)
+        ≡ Some (place_at r)
     method c at None here e = cc
     method c at (Some m) here e =
         let none : Declared Method = record { class = c.name; member = m } in

@@ -53,13 +53,17 @@ reported-none program (Some x) e = cc
 
 found-row : (program : List ClassListing) (o : Option RowOfNumbers) (s : Option (Declared Method)) (x : Declared Method)
     → option_map (declared_at program) o ≡ option_map Some s → s ≡ Some x → (r : RowOfNumbers) × (o ≡ Some r)
-        × (declared_at program r ≡ Some x)
+    × (declared_at program r ≡ Some x)
 found-row program None s x e is = absurd (none (e ∙ ap (option_map Some) is))
   where
     none : None ≡ Some (Some x) → ⊥
     none h = cc
-found-row program (Some r) s x e is = (r, refl, ap (λ (o : Option (Option (Declared Method))). unwrap_or o None) (e
-    ∙ ap (option_map Some) is))
+found-row program (Some r) s x e is = (
+  r,
+  refl,
+  ap (λ (o : Option (Option (Declared Method))). unwrap_or o None) (e
+      ∙ ap (option_map Some) is),
+)
 
 -- ---- the table of the entries of a map
 
@@ -106,11 +110,16 @@ module _ (program : List ClassListing) (class : List ℕ) where
   stands es ordered tells e h =
       let at : entry_at es e.0.0.now e.0.1.now ≡ Some e.1 =
       lookup-from_Contains (eq_by_cmp_equiv before_total) e.0 e.1 es (IsDistinct-from_sorted before (keys_of es)
-          ordered) h in
+      ordered) h in
       let reported = reported-row program e.1 (selected program class e.0.0.now e.0.1.now)
       (ap (option_map (declared_at program)) (sym at) ∙ tells e.0.0.now e.0.1.now) in
-      record { method = reported.0; tells = reported.1; named = selected-signature program class e.0.0.now e.0.1.now
-          reported.0 reported.2; is = reported.2 }
+      record {
+        method = reported.0;
+        tells = reported.1;
+        named = selected-signature program class e.0.0.now e.0.1.now
+            reported.0 reported.2;
+        is = reported.2;
+      }
 
   rise : (e f : Entry) → Stands e → Stands f → before e.0 f.0 ≡ Less
       → compared (row_of program e.1) (row_of program f.1) ≡ Less
@@ -140,10 +149,10 @@ module _ (program : List ClassListing) (class : List ℕ) where
       → Contains (map (row_of program) (values_of es)) row
   whole es tells row is =
       let found = found-row program (entry_at es row.name row.descriptor)
-            (selected program class row.name row.descriptor) row.method
+      (selected program class row.name row.descriptor) row.method
       (tells row.name row.descriptor) is in
       let place = place_from_lookup (is_at (λ (k : Key). pair_cmp row.name row.descriptor k.0.now k.1.now)) es found.0
-            found.1 in
+      found.1 in
       subst (λ (r : SelectionRow). Contains (map (row_of program) (values_of es)) r)
       (row-is program found.0 row.name row.descriptor row.method found.2
       (selected-signature program class row.name row.descriptor row.method is))
@@ -158,7 +167,7 @@ module _ (program : List ClassListing) (class : List ℕ) where
           rising = rising es ordered (recursion_from_All Stands es all);
           given = All-map (IsSelected program class) (row_of program) (values_of es)
               (All-map (λ r. IsSelected program class (row_of program r)) (λ (e : Entry). e.1) es
-                  (λ k e h. given (get_or es k e) (all k e h)));
+              (λ k e h. given (get_or es k e) (all k e h)));
           whole = whole es tells;
         };
         placed = All-map (IsPlaced program) (λ (e : Entry). e.1) es (λ k e h. placed (get_or es k e) (all k e h));
@@ -176,10 +185,12 @@ module _ (p : SelectionRow → Bool) where
           → Contains (x ∷ xs) r × (p r ≡ true)
       by true h later e =
           let is : x ≡ r = ap (λ (o : Option SelectionRow). unwrap_or o x) e
-                in ((0, omega arith, is), ap p (sym is) ∙ h)
+          in ((0, omega arith, is), ap p (sym is) ∙ h)
       by false h later e =
-          let rest = later e in let inside : rest.0.0 < length xs = rest.0.1 in ((suc rest.0.0, omega arith, rest.0.2),
-                                      rest.1)
+          let rest = later e in let inside : rest.0.0 < length xs = rest.0.1 in (
+            (suc rest.0.0, omega arith, rest.0.2),
+            rest.1,
+          )
 
   none-in : (rows : List SelectionRow) (r : SelectionRow) → find p rows ≡ None → Contains rows r → p r ≡ true → ⊥
   none-in [] r e there h = absurd (omega (arith, there.1))
@@ -219,16 +230,16 @@ module _ (program : List ClassListing) (class n d : List ℕ) where
           let descriptor : r.descriptor ≡ d = (bytes_eq-Decides r.descriptor d).0 equal.1 in
           let reported : selected program class n d ≡ Some r.method =
           sym (ap (λ (x : List ℕ). selected program class x d) name)
-              ∙ sym (ap (selected program class r.name) descriptor)
+          ∙ sym (ap (selected program class r.name) descriptor)
           ∙ All-contains (IsSelected program class) rows r table.given found.0 in
           ap (λ (x : List ℕ). Some (row_at x r.descriptor r.method)) name
-              ∙ ap (λ (x : List ℕ). Some (row_at n x r.method)) descriptor
+          ∙ ap (λ (x : List ℕ). Some (row_at n x r.method)) descriptor
           ∙ ap (option_map (row_at n d)) (sym reported ∙ is)
 
   pub lent-row : (row : Option RowOfNumbers) → option_map (declared_at program) row
       ≡ option_map Some (selected program class n d)
       → (rows : List SelectionRow) → IsSelectionTable program class rows → option_map (row_of program) row
-          ≡ row_named n d rows
+      ≡ row_named n d rows
   lent-row row tells rows table = by row tells ∙ sym (named-row rows table)
     where
       by : (row : Option RowOfNumbers) → option_map (declared_at program) row
@@ -238,5 +249,5 @@ module _ (program : List ClassListing) (class n d : List ℕ) where
       by (Some r) e =
           let reported = reported-row program r (selected program class n d) e in
           ap Some (row-is program r n d reported.0 reported.1 (selected-signature program class n d reported.0
-              reported.2))
+          reported.2))
           ∙ sym (ap (option_map (row_at n d)) reported.2)

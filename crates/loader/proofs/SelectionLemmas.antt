@@ -91,7 +91,7 @@ known-there : (old : Known) (name descriptor n d : List ℕ) → is_pair n d nam
 known-there old name descriptor n d h =
     let e = both (bytes_eq name n) (bytes_eq descriptor d) h in
     ap (λ (x : List ℕ). old x d) (sym ((bytes_eq-Decides name n).0 e.0))
-        ∙ ap (old name) (sym ((bytes_eq-Decides descriptor d).0 e.1))
+    ∙ ap (old name) (sym ((bytes_eq-Decides descriptor d).0 e.1))
 
 none-known : (o : Option RowOfNumbers) → is_some o ≡ false → o ≡ None
 none-known None h = refl
@@ -102,7 +102,7 @@ pub add-new : (old new : Known) (name descriptor : List ℕ) (row : RowOfNumbers
     → (n d : List ℕ) → new n d ≡ or_else (old n d) (row_if row (is_pair n d name descriptor))
 add-new old new name descriptor row absent updates n d =
     updates n d ∙ ap (λ (b : Bool). cond b (Some row) (old n d)) (same-key name descriptor n d)
-        ∙ by (is_pair n d name descriptor) refl
+    ∙ by (is_pair n d name descriptor) refl
   where
     by : (b : Bool) → is_pair n d name descriptor ≡ b → cond b (Some row) (old n d) ≡ or_else (old n d) (row_if row b)
     by true h = sym (ap (λ (o : Option RowOfNumbers). or_else o (Some row)) (known-there old name descriptor n d h
@@ -129,7 +129,7 @@ module _ (program : List ClassListing) (class : ℕ) (c : ClassListing) (at : sl
 
   first-tells : (i : ℕ) (ms : List Method) → drop i c.methods ≡ ms
       → option_map (declared_at program) (first_row class i n d ms)
-          ≡ option_map Some (option_map member (find (is_virtual_of n d) ms))
+      ≡ option_map Some (option_map member (find (is_virtual_of n d) ms))
   first-tells i [] e = refl
   first-tells i (m ∷ ms) e =
       let split = drop-at c.methods i m ms e in
@@ -137,9 +137,9 @@ module _ (program : List ClassListing) (class : ℕ) (c : ClassListing) (at : sl
     where
       by : (b : Bool) → declared_at program (record { class = class; method = i }) ≡ Some (member m)
           → option_map (declared_at program) (first_row class (suc i) n d ms)
-              ≡ option_map Some (option_map member (find (is_virtual_of n d) ms))
+          ≡ option_map Some (option_map member (find (is_virtual_of n d) ms))
           → option_map (declared_at program) (or_else (row_if (record { class = class; method = i }) b)
-              (first_row class (suc i) n d ms))
+          (first_row class (suc i) n d ms))
           ≡ option_map Some (option_map member (cond b (Some m) (find (is_virtual_of n d) ms)))
       by true this rest = ap Some this
       by false this rest = rest
@@ -173,7 +173,7 @@ HasSignature n d x = (x.member.name ≡ n) × (x.member.descriptor ≡ d)
 signature-of : (n d : List ℕ) (m : Method) → is_virtual_of n d m ≡ true → (m.name ≡ n) × (m.descriptor ≡ d)
 signature-of n d m h =
     let e = both (bytes_eq m.name n) (bytes_eq m.descriptor d) (both (is_pair n d m.name m.descriptor) (is_virtual m)
-          h).0 in
+    h).0 in
     ((bytes_eq-Decides m.name n).0 e.0, (bytes_eq-Decides m.descriptor d).0 e.1)
 
 declared-signature : (name n d : List ℕ) (o : Option ClassListing) (x : Declared Method)
@@ -186,7 +186,7 @@ declared-signature name n d (Some c) x e = by (virtual_of n d c) refl e
     by None h e = cc
     by (Some m) h e =
         let is : record { class = name; member = m }
-              ≡ x = ap (λ (y : Option (Declared Method)). unwrap_or y (record { class = name; member = m })) e in
+        ≡ x = ap (λ (y : Option (Declared Method)). unwrap_or y (record { class = name; member = m })) e in
         subst (HasSignature n d) is (signature-of n d m (find-passes (is_virtual_of n d) c.methods m h))
 
 first-signature : (program : List ClassListing) (n d : List ℕ) (names : List (List ℕ)) (x : Declared Method)
@@ -215,7 +215,7 @@ module _ (program : List ClassListing) (class : List ℕ) where
   abbrev pub Gathers : ℕ → List ℕ → Known → Type 0
   Gathers left next known =
       (n d : List ℕ) → or_else (option_map (declared_at program) (known n d))
-          (option_map Some (first n d (upwards left program next)))
+      (option_map Some (first n d (upwards left program next)))
       ≡ option_map Some (selected program class n d)
 
   -- the rows that are known tell what is selected
@@ -228,7 +228,7 @@ module _ (program : List ClassListing) (class : List ℕ) where
   gathers-first known none n d =
       let all : enough_steps program - 0 ≡ enough_steps program = omega arith in
       ap (λ (o : Option RowOfNumbers). or_else (option_map (declared_at program) o)
-          (option_map Some (first n d (upwards (enough_steps program - 0) program class)))) (none n d)
+      (option_map Some (first n d (upwards (enough_steps program - 0) program class)))) (none n d)
       ∙ ap (λ (k : ℕ). option_map Some (first n d (upwards k program class))) all
 
   nothing : (left : ℕ) (next : List ℕ) (n d : List ℕ) → (None ≡ class_named program next) ⊎ (left ≡ 0)
@@ -243,7 +243,7 @@ module _ (program : List ClassListing) (class : List ℕ) where
   ends left next known before over n d =
       sym (or_else-none (option_map (declared_at program) (known n d)))
       ∙ sym (ap (λ (o : Option (Declared Method)). or_else (option_map (declared_at program) (known n d))
-          (option_map Some o)) (nothing left next n d over))
+      (option_map Some o)) (nothing left next n d over))
       ∙ before n d
 
   pub gathers-missing : (steps passed : ℕ) (next : List ℕ) (known : Known) → Gathers (steps - passed) next known
@@ -256,14 +256,14 @@ module _ (program : List ClassListing) (class : List ℕ) where
 
   on : (left more : ℕ) (next n d : List ℕ) (c : ClassListing) → left ≡ suc more → class_named program next ≡ Some c
       → first n d (upwards left program next) ≡ or_else (declared_in (virtual_of n d) next (Some c))
-          (first n d (upwards more program c.superclass))
+      (first n d (upwards more program c.superclass))
   unfolding upwards
   on left more next n d c e found = rw (e, found, found) refl
 
   pub gathers-next : (steps passed number : ℕ) (next above : List ℕ) (c : ClassListing) (known new : Known)
       → Gathers (steps - passed) next known
       → passed < steps → slice_get (all_classes program) number ≡ Some c → class_named program next ≡ Some c
-          → above ≡ c.superclass
+      → above ≡ c.superclass
       → ((n d : List ℕ) → new n d ≡ or_else (known n d) (first_row number 0 n d c.methods))
       → Gathers (steps - (passed + 1)) above new
   gathers-next steps passed number next above c known new before inside at found is more n d =
@@ -272,16 +272,16 @@ module _ (program : List ClassListing) (class : List ℕ) where
       let here : Option (Declared Method) = declared_in (virtual_of n d) next (Some c) in
       let reported : Option (Option (Declared Method)) = option_map (declared_at program) (known n d) in
       ap (λ (name : List ℕ). or_else (option_map (declared_at program) (new n d))
-          (option_map Some (first n d (upwards left program name)))) is
+      (option_map Some (first n d (upwards left program name)))) is
       ∙ ap (λ (o : Option RowOfNumbers). or_else (option_map (declared_at program) o) rest) (more n d)
       ∙ ap (λ (o : Option (Option (Declared Method))). or_else o rest) (map-or_else (declared_at program) (known n d)
-          (first_row number 0 n d c.methods))
+      (first_row number 0 n d c.methods))
       ∙ ap (λ (o : Option (Option (Declared Method))). or_else (or_else reported o) rest)
       (class-tells program number c at n d
-          ∙ ap (λ (name : List ℕ). option_map Some (declared_in (virtual_of n d) name (Some c)))
-          (class-name program next c found))
+      ∙ ap (λ (name : List ℕ). option_map Some (declared_in (virtual_of n d) name (Some c)))
+      (class-name program next c found))
       ∙ or_else-assoc reported (option_map Some here) rest
       ∙ ap (or_else reported) (sym (map-or_else Some here (first n d (upwards left program c.superclass))))
       ∙ ap (λ (o : Option (Declared Method)). or_else reported (option_map Some o))
-          (sym (on (steps - passed) left next n d c (omega arith) found))
+      (sym (on (steps - passed) left next n d c (omega arith) found))
       ∙ before n d

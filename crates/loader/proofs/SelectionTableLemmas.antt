@@ -48,7 +48,7 @@ take-at cs n c at = let next : n + 1 ≡ suc n = omega arith in rw next (by cs n
 pub tables-next : (program : List ClassListing) (ts : List ClassTable) (cs : List ClassListing) (n : ℕ) (t : ClassTable)
     (c : ClassListing)
     → slice_get cs n ≡ Some c → AreTables program ts (take n cs) → IsTableOf program c.name t
-        → AreTables program (ts ++ t ∷ []) (take (n + 1) cs)
+    → AreTables program (ts ++ t ∷ []) (take (n + 1) cs)
 tables-next program ts cs n t c at are is =
     subst (AreTables program (ts ++ t ∷ [])) (sym (take-at cs n c at)) (tables-more program ts (take n cs) t c are is)
 
@@ -86,7 +86,7 @@ table-at program (y ∷ ys) [] k t c are at is inside = absurd are
 table-at program (y ∷ ys) (x ∷ xs) zero t c are at is inside =
     subst (IsTableOf program c.name) (sym is)
     (subst (λ (z : ClassListing). IsTableOf program z.name y) (ap (λ (o : Option ClassListing). unwrap_or o x) at)
-        are.0)
+    are.0)
 table-at program (y ∷ ys) (x ∷ xs) (suc k) t c are at is inside = table-at program ys xs k t c are.1 at is (omega arith)
 
 -- ---- what a slice of a list gives
@@ -95,7 +95,7 @@ pub got : {A : Type 0} (slice xs : List A) (k : ℕ) (x : A) → slice ≡ xs �
     → x ≡ get_or slice k x → Some x ≡ slice_get xs k
 got slice xs k x same inside is =
     sym (slice_get_read slice (length slice) k x refl (ltb-true k (length slice) (sym inside)) is)
-        ∙ ap (λ ys. slice_get ys k) same
+    ∙ ap (λ ys. slice_get ys k) same
 
 pub got-none : {A : Type 0} (slice xs : List A) (k : ℕ) → slice ≡ xs → false ≡ ltb k (length slice)
     → None ≡ slice_get xs k
@@ -110,7 +110,7 @@ pub rows-next : {A B : Type 0} (f : A → B) (xs : List A) (i : ℕ) (x : A) (y 
 rows-next {A = A} {B = B} f xs i x y cur more whole at inside before is longer =
     let next : i + 1 ≡ suc i = omega arith in
     let split : drop i xs ≡ x ∷ drop (suc i) xs = drop-cons xs i x inside ∙ ap (λ (z : A). z ∷ drop (suc i) xs) (sym at)
-          in
+    in
     ap (λ (k : ℕ). more ++ map f (drop k xs)) next
     ∙ ap (λ (l : List B). l ++ map f (drop (suc i) xs)) longer
     ∙ append_assoc cur (y ∷ []) (map f (drop (suc i) xs))
@@ -126,17 +126,17 @@ module _ (program : List ClassListing) (class : List ℕ) where
 
   by-keys : (known : Known) → Tells program class known → (keys : List Key)
       → map (option_map (declared_at program)) (map (λ (k : Key). known k.0.bytes.now k.1.bytes.now) keys)
-          ≡ map reported (map signature keys)
+      ≡ map reported (map signature keys)
   by-keys known tells [] = refl
   by-keys known tells (k ∷ ks) =
       ap (λ (o : Option (Option (Declared Method))). o ∷ map (option_map (declared_at program))
-          (map (λ (k : Key). known k.0.bytes.now k.1.bytes.now) ks)) (tells k.0.bytes.now k.1.bytes.now)
+      (map (λ (k : Key). known k.0.bytes.now k.1.bytes.now) ks)) (tells k.0.bytes.now k.1.bytes.now)
       ∙ ap (λ (rest : List (Option (Option (Declared Method)))). reported (signature k) ∷ rest) (by-keys known tells ks)
 
   pub by-selector : (known : Known) (keys : List Key) (rows : List (Option RowOfNumbers)) (signatures : List Signature)
       → Tells program class known
       → rows ≡ map (λ (k : Key). known k.0.bytes.now k.1.bytes.now) keys → map signature keys ≡ signatures
-          → AreBySelector program class rows signatures
+      → AreBySelector program class rows signatures
   by-selector known keys rows signatures tells are is =
       ap (map (option_map (declared_at program))) are ∙ by-keys known tells keys ∙ ap (map reported) is
 
@@ -174,7 +174,7 @@ module _ (program : List ClassListing) (class n d : List ℕ) (rows : List (Opti
   row-found row found =
       let tells : option_map (declared_at program) row ≡ option_map Some (selected program class n d) =
       ap (λ (o : Option (Option (Option (Declared Method)))). unwrap_or o None)
-          (ap (option_map (option_map (declared_at program))) found ∙ entry) in
+      (ap (option_map (option_map (declared_at program))) found ∙ entry) in
       record { reported = tells; lent = lent-row program class n d row tells }
 
   pub row-missing : None ≡ slice_get rows k → ⊥

@@ -20,17 +20,17 @@ any-map test (k ∷ ks) = ap (λ b. test (signature k) || b) (any-map test ks)
 
 map-if : (b : Bool) (ks : List Key) (k : Key)
     → map signature (if b then ks else ks ++ k ∷ []) ≡ (if b then map signature ks else map signature ks ++ signature k
-        ∷ [])
+    ∷ [])
 map-if true ks k = refl
 map-if false ks k = map-append signature ks (k ∷ [])
 
 pub with_signature-map : (ks : List Key) (k : Key)
     → map signature (if list_any (λ x. is_signature (signature k) (signature x)) ks then ks else ks ++ k ∷ [])
-        ≡ with_signature (map signature ks) (signature k)
+    ≡ with_signature (map signature ks) (signature k)
 with_signature-map ks k =
     map-if (list_any (λ x. is_signature (signature k) (signature x)) ks) ks k
     ∙ ap (λ b. if b then map signature ks else map signature ks ++ signature k ∷ [])
-        (any-map (is_signature (signature k)) ks)
+    (any-map (is_signature (signature k)) ks)
 
 prefix-map : (test : Signature → Bool) (ks : List Key) → prefix_len (λ k. test (signature k)) ks
     ≡ prefix_len test (map signature ks)
@@ -42,11 +42,11 @@ pub place-map : (test : Signature → Bool) (ks : List Key) → position (λ k. 
 place-map test ks =
     ap (λ n. cond (nat_lt n (length ks)) (Some n) None) (prefix-map (λ s. not (test s)) ks)
     ∙ ap (λ n. cond (nat_lt (position_or_len test (map signature ks)) n)
-        (Some (position_or_len test (map signature ks))) None) (sym (length-map ks signature))
+    (Some (position_or_len test (map signature ks))) None) (sym (length-map ks signature))
 
 -- the kinds of the arguments of each
 pub kinds-map : (ks : List Key)
     → map (λ (k : Key). argument_kinds k.1.bytes.now) ks ≡ map (λ (s : Signature). argument_kinds s.1)
-        (map signature ks)
+    (map signature ks)
 kinds-map [] = refl
 kinds-map (k ∷ ks) = ap (λ kinds. argument_kinds k.1.bytes.now ∷ kinds) (kinds-map ks)

@@ -69,7 +69,7 @@ abbrev pub first_row : ℕ → ℕ → List ℕ → List ℕ → List Method →
 first_row class n name descriptor [] = None
 first_row class n name descriptor (m ∷ ms) =
     or_else (row_if (record { class = class; method = n }) (is_virtual_of name descriptor m))
-        (first_row class (suc n) name descriptor ms)
+    (first_row class (suc n) name descriptor ms)
 
 -- names are compared first, then descriptors
 abbrev pub pair_cmp : List ℕ → List ℕ → List ℕ → List ℕ → Ordering

@@ -47,13 +47,20 @@ code_of stack locals first = record {
   max_stack = stack;
   max_locals = locals;
   rows = [];
-  instructions = record { pc = 0; next = 1; instruction = first } ∷ record { pc = 1; next = 2;
-      instruction = Return None } ∷ [];
+  instructions = record { pc = 0; next = 1; instruction = first } ∷ record {
+    pc = 1;
+    next = 2;
+    instruction = Return None;
+  } ∷ [];
 }
 
 abbrev method : ℕ → List ℕ → List ℕ → CodeListing → Method
-method flags name descriptor code = record { flags = record { 0 = flags }; name = name; descriptor = descriptor;
-    code = Some code }
+method flags name descriptor code = record {
+  flags = record { 0 = flags };
+  name = name;
+  descriptor = descriptor;
+  code = Some code;
+}
 
 -- a static main that does nothing
 abbrev main : Method

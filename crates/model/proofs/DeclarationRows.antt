@@ -16,12 +16,22 @@ abbrev interface_text : List ℕ → List ℕ
 interface_text members = codes ".interface E\n.super java/lang/Object\n" ++ members
 
 abbrev tree : ℕ → List (List ℕ) → List Field → Tree
-tree flags interfaces fields = record { flags = record { 0 = flags }; name = codes "E";
-    superclass = codes "java/lang/Object"; interfaces = interfaces; fields = fields; methods = [] }
+tree flags interfaces fields = record {
+  flags = record { 0 = flags };
+  name = codes "E";
+  superclass = codes "java/lang/Object";
+  interfaces = interfaces;
+  fields = fields;
+  methods = [];
+}
 
 abbrev field : ℕ → List ℕ → List ℕ → Option Constant → Field
-field flags name descriptor constant = record { flags = record { 0 = flags }; name = name; descriptor = descriptor;
-    constant = constant }
+field flags name descriptor constant = record {
+  flags = record { 0 = flags };
+  name = name;
+  descriptor = descriptor;
+  constant = constant;
+}
 
 -- ---- heads
 
@@ -29,13 +39,13 @@ field flags name descriptor constant = record { flags = record { 0 = flags }; na
 pub interface : tree_of
     (codes ".interface public a/I\n.super java/lang/Object\n.method public abstract m(J)I\n.end method\n")
     ≡ Some (record {
-  flags = record { 0 = 0x0601 };
-  name = codes "a/I";
-  superclass = codes "java/lang/Object";
-  interfaces = [];
-  fields = [];
-  methods = record { flags = record { 0 = 0x0401 }; name = codes "m"; descriptor = codes "(J)I"; body = None } ∷ [];
-})
+      flags = record { 0 = 0x0601 };
+      name = codes "a/I";
+      superclass = codes "java/lang/Object";
+      interfaces = [];
+      fields = [];
+      methods = record { flags = record { 0 = 0x0401 }; name = codes "m"; descriptor = codes "(J)I"; body = None } ∷ [];
+    })
 unfolding tree_of mnemonic_of labels_agree
 interface = refl
 

@@ -28,7 +28,7 @@ as_many (suc n) (suc m) (b ∷ bs) h k =
     let of = type_length (b ∷ bs) in
     let lt = has_byte b bs in
     ap (λ (types : List (List ℕ)). take of (b ∷ bs) ∷ types)
-        (as_many n m (drop of (b ∷ bs)) (shorter n of (b ∷ bs) h lt) (shorter m of (b ∷ bs) k lt))
+    (as_many n m (drop of (b ∷ bs)) (shorter n of (b ∷ bs) h lt) (shorter m of (b ∷ bs) k lt))
 
 pub first_type : (b : ℕ) (bs : List ℕ) → types_in (b ∷ bs) ≡ take (type_length (b ∷ bs)) (b ∷ bs)
     ∷ types_in (drop (type_length (b ∷ bs)) (b ∷ bs))
@@ -36,7 +36,7 @@ first_type b bs =
     let of = type_length (b ∷ bs) in
     let few = shorter (length bs) of (b ∷ bs) (omega arith) (has_byte b bs) in
     ap (λ (types : List (List ℕ)). take of (b ∷ bs) ∷ types) (as_many (length bs) (length (drop of (b ∷ bs)))
-        (drop of (b ∷ bs)) few (omega arith))
+    (drop of (b ∷ bs)) few (omega arith))
 
 -- a row cut after its first type, which may not end
 pub row_cut : (row first others : List ℕ) → 0 < length row → first ≡ take (min (type_length row) (length row)) row
@@ -46,4 +46,4 @@ row_cut [] first others some f o = absurd (omega (arith, some))
 row_cut (b ∷ bs) first others some f o =
     let of = type_length (b ∷ bs) in
     first_type b bs ∙ ap₂ (λ (x : List ℕ) (y : List ℕ). x ∷ types_in y) (sym (f ∙ take_min of (b ∷ bs)))
-        (sym (o ∙ drop_min of (b ∷ bs)))
+    (sym (o ∙ drop_min of (b ∷ bs)))

@@ -122,13 +122,19 @@ pub far : instruction_text (instruction.Branch (test.Always Wide) 70) ≡ codes 
 unfolding digits
 far = refl
 
-pub interface_call : instruction_text (instruction.Invoke (invocation.Interface 3) (record { class = codes "a/I";
-    name = codes "m"; descriptor = codes "(J)I" })) ≡ codes "invokeinterface a/I/m(J)I 3"
+pub interface_call : instruction_text (instruction.Invoke (invocation.Interface 3) (record {
+  class = codes "a/I";
+  name = codes "m";
+  descriptor = codes "(J)I";
+})) ≡ codes "invokeinterface a/I/m(J)I 3"
 unfolding digits
 interface_call = refl
 
-pub a_field : instruction_text (instruction.Static field_access.Put (record { class = codes "a/B"; name = codes "f";
-    descriptor = codes "[I" })) ≡ codes "putstatic a/B/f [I"
+pub a_field : instruction_text (instruction.Static field_access.Put (record {
+  class = codes "a/B";
+  name = codes "f";
+  descriptor = codes "[I";
+})) ≡ codes "putstatic a/B/f [I"
 a_field = refl
 
 -- an interface with values, and a method without code
@@ -138,11 +144,19 @@ pub interface : text_of (record {
   superclass = codes "java/lang/Object";
   interfaces = codes "a/J" ∷ codes "K" ∷ [];
   fields =
-      record { flags = record { 0 = 0x0019 }; name = codes "least"; descriptor = codes "J";
-          constant = Some (value.Long (negsuc 9223372036854775807)) }
+      record {
+        flags = record { 0 = 0x0019 };
+        name = codes "least";
+        descriptor = codes "J";
+        constant = Some (value.Long (negsuc 9223372036854775807));
+      }
       ∷ record { flags = record { 0 = 0x0099 }; name = codes "none"; descriptor = codes "La/I;"; constant = None }
-      ∷ record { flags = record { 0 = 0x0019 }; name = codes "c"; descriptor = codes "C";
-          constant = Some (value.Int (pos 65)) } ∷ [];
+      ∷ record {
+        flags = record { 0 = 0x0019 };
+        name = codes "c";
+        descriptor = codes "C";
+        constant = Some (value.Int (pos 65));
+      } ∷ [];
   methods = record { flags = record { 0 = 0x0401 }; name = codes "m"; descriptor = codes "(J)I"; code = None } ∷ [];
 }) ≡ codes ".interface public a/I\n.super java/lang/Object\n.implements a/J\n.implements K\n.field public static final least J = -9223372036854775808\n.field public static final transient none La/I;\n.field public static final c C = 65\n.method public abstract m(J)I\n.end method\n"
 unfolding text_of interface_line table_head default_text lookup_head stack_line locals_line method_flag_words

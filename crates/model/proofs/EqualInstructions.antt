@@ -35,8 +35,10 @@ module _ {A : Type 0} (eq : A → A → Bool) (same : (a b : A) → eq a b ≡ t
   same_list [] [] h = refl
   same_list [] (y ∷ ys) h = search rules
   same_list (x ∷ xs) [] h = search rules
-  same_list (x ∷ xs) (y ∷ ys) h = rw (same x y (first_so (eq x y) (pointwise eq xs ys) h),
-      same_list xs ys (second_so (eq x y) (pointwise eq xs ys) h)) refl
+  same_list (x ∷ xs) (y ∷ ys) h = rw (
+    same x y (first_so (eq x y) (pointwise eq xs ys) h),
+    same_list xs ys (second_so (eq x y) (pointwise eq xs ys) h),
+  ) refl
 
   pub same_option : (a b : Option A) → option_eq eq a b ≡ true → a ≡ b
   same_option None None h = refl
@@ -46,8 +48,11 @@ module _ {A : Type 0} (eq : A → A → Bool) (same : (a b : A) → eq a b ≡ t
 
 -- whether `==` calls two instructions equal, read off instructions that stand at one pc
 abbrev pub is_same : Listed → Listed → Bool
-is_same i j = (placed.ghosts).eq (record { pc = 0; next = 0; instruction = i }) (record { pc = 0; next = 0;
-    instruction = j })
+is_same i j = (placed.ghosts).eq (record { pc = 0; next = 0; instruction = i }) (record {
+  pc = 0;
+  next = 0;
+  instruction = j;
+})
 
 same_constant : (a b : Pushed ℤ ℤ) → is_same (Constant a) (Constant b) ≡ true → a ≡ b
 same_constant Null b h = search rules
@@ -78,7 +83,7 @@ is_constant (Long x) j h = search rules
 
 constant_is : (a : Pushed ℤ ℤ) (j : Listed) → is_same (Constant a) j ≡ true → Constant a ≡ j
 constant_is a j h = let k = is_constant a j h
-                          in ap Constant (same_constant a k.0 (shown (Constant a) j (Constant k.0) k.1 h)) ∙ sym k.1
+    in ap Constant (same_constant a k.0 (shown (Constant a) j (Constant k.0) k.1 h)) ∙ sym k.1
 
 is_local : (a : LocalAccess) (j : Listed) → is_same (Local a) j ≡ true → (b : LocalAccess) × (j ≡ Local b)
 is_local a j h = search rules
@@ -91,11 +96,11 @@ is_number CompareLongs j h = search rules
 
 local_is : (a : LocalAccess) (j : Listed) → is_same (Local a) j ≡ true → Local a ≡ j
 local_is a j h = let k = is_local a j h in ap Local (same_local_access a k.0 (shown (Local a) j (Local k.0) k.1 h))
-                       ∙ sym k.1
+    ∙ sym k.1
 
 number_is : (a : NumberOperation) (j : Listed) → is_same (Number a) j ≡ true → Number a ≡ j
 number_is a j h = let k = is_number a j h
-                        in ap Number (same_number_operation a k.0 (shown (Number a) j (Number k.0) k.1 h)) ∙ sym k.1
+    in ap Number (same_number_operation a k.0 (shown (Number a) j (Number k.0) k.1 h)) ∙ sym k.1
 
 stack_is : (a : StackOperation) (j : Listed) → is_same (Stack a) j ≡ true → Stack a ≡ j
 stack_is a j h = search (rules, same_stack_operation)

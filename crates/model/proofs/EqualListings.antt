@@ -72,8 +72,8 @@ same_method a b h =
     let n = bytes_eq a.name b.name in
     let code : a.code ≡ b.code =
     same_option (code.ghosts).eq same_code a.code b.code
-        (second_so d body (second_so n (d && body) (second_so ((method_flags.ghosts).eq a.flags b.flags)
-        (n && (d && body)) h))) in
+    (second_so d body (second_so n (d && body) (second_so ((method_flags.ghosts).eq a.flags b.flags)
+    (n && (d && body)) h))) in
     rw (flags, name, descriptor, code) refl
 
 same_names : (a b : List (List ℕ)) → pointwise bytes_eq a b ≡ true → a ≡ b

@@ -29,14 +29,25 @@ empty_pool = Utf8 (codes "E") ∷ Class 1 ∷ Utf8 (codes "java/lang/Object") �
 -- a class over Object with one method, static main()V, under these numbers
 abbrev class_with : List Entry → ℕ → ℕ → ℕ → ℕ → ℕ → CodePart → ClassPart
 class_with pool flags class superclass name descriptor code = record {
-  head = record { pool = pool; flags = record { 0 = flags }; class = class; superclass = superclass; interfaces = [];
-      fields = [] };
+  head = record {
+    pool = pool;
+    flags = record { 0 = flags };
+    class = class;
+    superclass = superclass;
+    interfaces = [];
+    fields = [];
+  };
   methods = record { flags = record { 0 = 0x0009 }; name = name; descriptor = descriptor; code = Some code } ∷ [];
 }
 
 abbrev empty_class : ClassPart
-empty_class = class_with empty_pool 0x0021 2 4 5 6 (record { name = 7; max_stack = 0; max_locals = 0;
-    instructions = record { pc = 0; next = 1; instruction = instruction.Return None } ∷ []; rows = [] })
+empty_class = class_with empty_pool 0x0021 2 4 5 6 (record {
+  name = 7;
+  max_stack = 0;
+  max_locals = 0;
+  instructions = record { pc = 0; next = 1; instruction = instruction.Return None } ∷ [];
+  rows = [];
+})
 
 pub empty_listing : Some (listing_of empty_class) ≡ listing_spelled (codes ".class public E\n.super java/lang/Object\n.method public static main()V\n.limit stack 0\n.limit locals 0\nreturn\n.end method\n")
 unfolding listing_of tree_of texts.listing_of mnemonic_of labels_agree
@@ -53,9 +64,9 @@ added_twice = refl
 abbrev sum_pool : List Entry
 sum_pool =
     Integer (pos 2147483647) ∷ Utf8 (codes "A") ∷ Class 2 ∷ Utf8 (codes "java/lang/Object") ∷ Class 4
-        ∷ Utf8 (codes "main") ∷ Utf8 (codes "()V") ∷ Utf8 (codes "Code") ∷
+    ∷ Utf8 (codes "main") ∷ Utf8 (codes "()V") ∷ Utf8 (codes "Code") ∷
     Utf8 (codes "vm/Sys") ∷ Class 9 ∷ Utf8 (codes "print") ∷ Utf8 (codes "(I)V") ∷ NameAndType 11 12 ∷ Methodref 10 13
-        ∷ []
+    ∷ []
 
 abbrev sum_class : ClassPart
 sum_class = class_with sum_pool 0x0020 3 5 6 7 (record {

@@ -47,15 +47,22 @@ abbrev program : List ClassListing
 program = class_of (codes "S") (static_field (codes "first") (codes "LS;") ∷ field (codes "next") (codes "LS;") ∷ []) 2
     0 []
     (new ∷ (3, Static Put first) ∷ (3, Static Get first) ∷ new
-        ∷ (3, InstanceField Put (member (codes "S") (codes "next") (codes "LS;"))) ∷
+    ∷ (3, InstanceField Put (member (codes "S") (codes "next") (codes "LS;"))) ∷
     new ∷ (1, Stack Pop) ∷ return ∷ []) ∷ []
 
 abbrev shape : ℕ → ℕ → ℕ → HeapShape
 shape small medium large = record { small = small; medium = medium; large = large }
 
 abbrev recorded : HeapShape → List Row → Recorded
-recorded heap rows = record { program = program; journal = record { shape = heap; limits = ample; workers = 1;
-    rows = rows } }
+recorded heap rows = record {
+  program = program;
+  journal = record {
+    shape = heap;
+    limits = ample;
+    workers = 1;
+    rows = rows;
+  };
+}
 
 abbrev done : Row
 done = record { actor = Thread 0; outcome = Done; worker = 0 }
@@ -114,8 +121,12 @@ abbrev linked : Recorded
 linked = recorded (shape 4 1 1) (made ∷ done ∷ done ∷ made ∷ done ∷ made ∷ done ∷ [])
 
 abbrev object : Value → Object
-object next = made_of (Instance (codes "S") (record { class = codes "S"; name = codes "next"; descriptor = codes "LS;";
-    value = next } ∷ []))
+object next = made_of (Instance (codes "S") (record {
+  class = codes "S";
+  name = codes "next";
+  descriptor = codes "LS;";
+  value = next;
+} ∷ []))
 
 next_of_linked : next_birth_of linked ≡ 6
 unfolding machine_of refusal next completion after_turn shade builtin_classes upwards
@@ -175,8 +186,15 @@ large_taken = refl
 
 abbrev with_slot : Value → World
 with_slot value = record (opening_world program) {
-  statics = record { fields = record { class = codes "S"; name = codes "first"; descriptor = codes "LS;";
-      value = value } ∷ []; states = [] };
+  statics = record {
+    fields = record {
+      class = codes "S";
+      name = codes "first";
+      descriptor = codes "LS;";
+      value = value;
+    } ∷ [];
+    states = [];
+  };
   objects = opening_objects ++ object (Ref (Some 4)) ∷ object (Ref (Some 3)) ∷ [];
 }
 

@@ -72,10 +72,10 @@ made_of class name descriptor p q r = rw (p, q, r) refl
 pub is_print : (m : Member) → builtin_of m ≡ Some PrintInt → m ≡ print
 is_print m h =
     let all = both (bytes_eq m.class (codes "vm/Sys") && bytes_eq m.name (codes "print"))
-          (bytes_eq m.descriptor (codes "(I)V")) (names_print m h) in
+    (bytes_eq m.descriptor (codes "(I)V")) (names_print m h) in
     let first = both (bytes_eq m.class (codes "vm/Sys")) (bytes_eq m.name (codes "print")) all.0 in
     made_of m.class m.name m.descriptor ((bytes_eq-Decides m.class (codes "vm/Sys")).0 first.0)
-        ((bytes_eq-Decides m.name (codes "print")).0 first.1) ((bytes_eq-Decides m.descriptor (codes "(I)V")).0 all.1)
+    ((bytes_eq-Decides m.name (codes "print")).0 first.1) ((bytes_eq-Decides m.descriptor (codes "(I)V")).0 all.1)
 
 -- where no class of the program has the name of its class, a reference to it is resolved to it
 sys : ClassListing
@@ -114,9 +114,9 @@ print_resolved program none =
     let named = sys_named program none in
     let s : length program + 23 ≡ suc (length program + 22) = omega arith in
     let first : superclasses program (codes "vm/Sys") ≡ codes "vm/Sys" ∷ upwards (length program + 22) program
-          sys.superclass = rw s (sys_first (length program + 22) program named) in
+    sys.superclass = rw s (sys_first (length program + 22) program named) in
     let all = ap (λ (names : List (List ℕ)). names ++ flat_map (superinterfaces program)
-          (superclasses program (codes "vm/Sys"))) first in
+    (superclasses program (codes "vm/Sys"))) first in
     found_there program (method_order program (codes "vm/Sys")) _ all named
 
 print_callee : (program : List ClassListing) → listed program (codes "vm/Sys") ≡ None
@@ -146,8 +146,8 @@ print_called s m h none = rw (is_print m h) (print_invoked s none)
 main_gives_nothing : (m : Method) → is_main m ≡ true → gives None (Some m) ≡ true
 main_gives_nothing m h =
     let e = (bytes_eq-Decides m.descriptor (codes "()V")).0
-          (both (is_static m && is_some m.code && bytes_eq m.name (codes "main")) (bytes_eq m.descriptor (codes "()V"))
-          h).1 in
+    (both (is_static m && is_some m.code && bytes_eq m.name (codes "main")) (bytes_eq m.descriptor (codes "()V"))
+    h).1 in
     ap (λ (d : List ℕ). same_result None (result_kind d)) e
 
 abbrev PassesIn : (Method → Bool) → List Method → Type 0
@@ -158,10 +158,10 @@ passes_on : (p : Method → Bool) (m : Method) (ms : List Method) (b : Bool) →
     → PassesIn p (m ∷ ms)
 passes_on p m ms true e h later =
     let at : position_or_len p (m ∷ ms) ≡ 0 = ap (λ (b : Bool). cond (not b) (1 + position_or_len p ms) 0) e
-          in (m, ap (slice_get (m ∷ ms)) at, e)
+    in (m, ap (slice_get (m ∷ ms)) at, e)
 passes_on p m ms false e h later =
     let at : position_or_len p (m ∷ ms)
-          ≡ suc (position_or_len p ms) = ap (λ (b : Bool). cond (not b) (1 + position_or_len p ms) 0) e ∙ omega arith in
+    ≡ suc (position_or_len p ms) = ap (λ (b : Bool). cond (not b) (1 + position_or_len p ms) 0) e ∙ omega arith in
     let found = later (omega (arith, at, h)) in
     (found.0, ap (slice_get (m ∷ ms)) at ∙ found.1, found.2)
 
@@ -177,8 +177,8 @@ main_has P all (c ∷ cs) place h = go (nat_lt (position_or_len is_main c.method
   where
     go : (b : Bool) → nat_lt (position_or_len is_main c.methods) (length c.methods) ≡ b
         → option_map (λ (n : ℕ). let place : MethodPlace = record { class = 0; method = n } in place)
-                                       (cond b (Some (position_or_len is_main c.methods)) None) ≡ Some place
-                                       → P (method_at (c ∷ cs) place)
+        (cond b (Some (position_or_len is_main c.methods)) None) ≡ Some place
+        → P (method_at (c ∷ cs) place)
     go false e k = absurd (cc)
     go true e k =
         let there = passes_at is_main c.methods (ltb-true (position_or_len is_main c.methods) (length c.methods) e) in
@@ -193,8 +193,8 @@ main_gives = main_has (λ (m : Option Method). gives None m ≡ true) main_gives
 main_initializes_nothing : (m : Method) → is_main m ≡ true → is_initializer_if (Some m) ≡ false
 main_initializes_nothing m h =
     let named = (both (is_static m && is_some m.code) (bytes_eq m.name (codes "main"))
-          (both (is_static m && is_some m.code && bytes_eq m.name (codes "main")) (bytes_eq m.descriptor (codes "()V"))
-          h).0).1 in
+    (both (is_static m && is_some m.code && bytes_eq m.name (codes "main")) (bytes_eq m.descriptor (codes "()V"))
+    h).0).1 in
     ap (λ (name : List ℕ). bytes_eq name (codes "<clinit>")) ((bytes_eq-Decides m.name (codes "main")).0 named)
 
 pub main_initializes : (program : List ClassListing) (place : MethodPlace) → main_in program ≡ Some place

@@ -50,7 +50,7 @@ starts b = not (b == 59) && is_ink b
 starts_from : (b : ℕ) → 33 ≤ b → b ≤ 126 → (b ≡ 59 → ⊥) → starts b ≡ true
 starts_from b low high other =
     and_from (not (b == 59)) (is_ink b) (not_from_false (b == 59) (ne_eqb b 59 other))
-        (and_from (nat_le 33 b) (nat_le b 126) (le-leb 33 b low) (le-leb b 126 high))
+    (and_from (nat_le 33 b) (nat_le b 126) (le-leb 33 b low) (le-leb b 126 high))
 
 -- a test that holds of a byte holds of its equal
 same_byte : (p : ℕ → Bool) (b c : ℕ) → (b == c) ≡ true → p c ≡ true → p b ≡ true
@@ -60,7 +60,7 @@ pub weaker : (p q : ℕ → Bool) → ((b : ℕ) → p b ≡ true → q b ≡ tr
     → list_all q bs ≡ true
 weaker p q f [] all = refl
 weaker p q f (b ∷ bs) all = let h = and_parts (p b) (list_all p bs) all
-                                  in and_from (q b) (list_all q bs) (f b h.0) (weaker p q f bs h.1)
+    in and_from (q b) (list_all q bs) (f b h.0) (weaker p q f bs h.1)
 
 pub start_is_ink : (b : ℕ) → starts b ≡ true → is_ink b ≡ true
 start_is_ink b h = (and_parts (not (b == 59)) (is_ink b) h).1
@@ -112,8 +112,10 @@ begins_starts b h =
     ]
 
 continues_starts : (b : ℕ) → continues_part b ≡ true → starts b ≡ true
-continues_starts b h = elim (or_cases (begins_part b) (is_digit b) h) [ inl part ↦ begins_starts b part |
-    inr digit ↦ digit_starts b digit ]
+continues_starts b h = elim (or_cases (begins_part b) (is_digit b) h) [
+  | inl part ↦ begins_starts b part
+  | inr digit ↦ digit_starts b digit
+]
 
 joins_by : (slash begun : Bool) (b : ℕ) → (if slash then begun else (if begun then continues_part b else begins_part b))
     ≡ true → (slash ≡ true → starts b ≡ true) → starts b ≡ true
@@ -129,24 +131,26 @@ parts_ink begun [] h = refl
 parts_ink begun (b ∷ bs) h =
     let p = and_parts (joins begun b) (are_parts (not (b == 47)) bs) h in
     and_from (is_ink b) (list_all is_ink bs) (start_is_ink b (joins_starts begun b p.0))
-        (parts_ink (not (b == 47)) bs p.1)
+    (parts_ink (not (b == 47)) bs p.1)
 
 parts_plain : (w : List ℕ) → are_parts false w ≡ true → IsPlain w
 parts_plain [] h = absurd (false≢true h)
 parts_plain (b ∷ bs) h =
     let p = and_parts (joins false b) (are_parts (not (b == 47)) bs) h
-          in plain_word b bs (joins_starts false b p.0) (parts_ink (not (b == 47)) bs p.1)
+    in plain_word b bs (joins_starts false b p.0) (parts_ink (not (b == 47)) bs p.1)
 
 pub class_name_plain : (w : List ℕ) → is_class_name w ≡ true → IsPlainName w
-class_name_plain w h = let p = and_parts (fits w) (are_parts false w) h in record { plain = parts_plain w p.1;
-                             short = p.0 }
+class_name_plain w h = let p = and_parts (fits w) (are_parts false w) h in record {
+  plain = parts_plain w p.1;
+  short = p.0;
+}
 
 part_plain : (w : List ℕ) → is_part w ≡ true → IsPlain w
 part_plain [] h = absurd (false≢true h)
 part_plain (b ∷ bs) h =
     let p = and_parts (begins_part b) (list_all continues_part bs) h in
     plain_word b bs (begins_starts b p.0) (weaker continues_part is_ink (λ c e. start_is_ink c (continues_starts c e))
-        bs p.1)
+    bs p.1)
 
 pub field_name_plain : (w : List ℕ) → is_field_name w ≡ true → IsPlainName w
 field_name_plain w h = let p = and_parts (fits w) (is_part w) h in record { plain = part_plain w p.1; short = p.0 }
@@ -193,12 +197,14 @@ both_sides p q f (b ∷ bs) before after =
 int_ink : (w : List ℕ) → is_int_type w ≡ true → list_all is_ink w ≡ true
 int_ink w h =
     elim (or_cases ((bytes_eq w (codes "B") || bytes_eq w (codes "C")) || bytes_eq w (codes "S"))
-        (bytes_eq w (codes "I")) h) [
+    (bytes_eq w (codes "I")) h) [
       | inr e ↦ letter_ink w (codes "I") e refl
       | inl h2 ↦ elim (or_cases (bytes_eq w (codes "B") || bytes_eq w (codes "C")) (bytes_eq w (codes "S")) h2) [
         | inr e ↦ letter_ink w (codes "S") e refl
         | inl h3 ↦ elim (or_cases (bytes_eq w (codes "B")) (bytes_eq w (codes "C")) h3) [
-            inl e ↦ letter_ink w (codes "B") e refl | inr e ↦ letter_ink w (codes "C") e refl ]
+          | inl e ↦ letter_ink w (codes "B") e refl
+          | inr e ↦ letter_ink w (codes "C") e refl
+        ]
       ]
     ]
 
@@ -207,20 +213,22 @@ class_ink [] h = refl
 class_ink (b ∷ bs) h =
     let ends : ℕ → Bool = λ c. c == 59 in
     let p = and_parts (b == 76 && position_or_len ends bs + 1 == length bs) (are_parts false (before_first ends bs)) h
-          in
+    in
     let q = and_parts (b == 76) (position_or_len ends bs + 1 == length bs) p.0 in
     let last = eqb-true (position_or_len ends bs + 1) (length bs) q.1 in
     let none : after_first ends bs ≡ [] = drop_all (position_or_len ends bs + 1) bs (omega (arith, last)) in
     and_from (is_ink b) (list_all is_ink bs) (same_byte is_ink b 76 q.0 refl)
     (both_sides ends is_ink (λ c e. same_byte is_ink c 59 e refl) bs (parts_ink false (before_first ends bs) p.1)
-        (rw none refl))
+    (rw none refl))
 
 element_ink : (w : List ℕ) → is_element_type w ≡ true → list_all is_ink w ≡ true
 element_ink w h =
     elim (or_cases (is_int_type w || is_long_type w) (is_class_type w) h) [
       | inr class ↦ class_ink w class
-      | inl h2 ↦ elim (or_cases (is_int_type w) (is_long_type w) h2) [ inl int ↦ int_ink w int |
-          inr long ↦ letter_ink w (codes "J") long refl ]
+      | inl h2 ↦ elim (or_cases (is_int_type w) (is_long_type w) h2) [
+        | inl int ↦ int_ink w int
+        | inr long ↦ letter_ink w (codes "J") long refl
+      ]
     ]
 
 array_ink : (w : List ℕ) → is_element_type (drop (dimensions w) w) ≡ true → list_all is_ink w ≡ true
@@ -228,8 +236,8 @@ array_ink [] h = refl
 array_ink (b ∷ bs) h =
     elim (cases_Bool (b == 91)) [
       | inl bracket ↦ let rest = rw (bracket, one_more) at h
-                            in and_from (is_ink b) (list_all is_ink bs) (same_byte is_ink b 91 bracket refl)
-                            (array_ink bs rest)
+          in and_from (is_ink b) (list_all is_ink bs) (same_byte is_ink b 91 bracket refl)
+          (array_ink bs rest)
       | inr other ↦ let here = rw other at h in element_ink (b ∷ bs) here
     ]
 
@@ -245,7 +253,7 @@ type_plain [] h = absurd (false≢true h)
 type_plain (b ∷ bs) h =
     let p = and_parts (is_ink b) (list_all is_ink bs) (type_ink (b ∷ bs) h) in
     plain_word b bs (and_from (not (b == 59)) (is_ink b) (not_from_false (b == 59) (ne_eqb b 59 (no_semicolon b bs h)))
-        p.0) p.1
+    p.0) p.1
 
 row_ink : (n : ℕ) (row : List ℕ) → length row ≤ n → list_all is_type (types_within n row) ≡ true → list_all is_ink row
     ≡ true
@@ -258,13 +266,15 @@ row_ink (suc n) (b ∷ bs) few h =
     let p = and_parts (is_type (take of row)) (list_all is_type (types_within n (drop of row))) h in
     let others = row_ink n (drop of row) (shorter n of row few (has_byte b bs)) p.1 in
     subst (λ (w : List ℕ). list_all is_ink w ≡ true) (take-append-drop of row) (inks_append (take of row) (drop of row)
-        (type_ink (take of row) p.0) others)
+    (type_ink (take of row) p.0) others)
 
 -- ---- descriptors
 
 pub field_descriptor_plain : (w : List ℕ) → is_field_descriptor w ≡ true → IsPlainName w
-field_descriptor_plain w h = let p = and_parts (fits w) (is_type w) h in record { plain = type_plain w p.1;
-                                   short = p.0 }
+field_descriptor_plain w h = let p = and_parts (fits w) (is_type w) h in record {
+  plain = type_plain w p.1;
+  short = p.0;
+}
 
 array_plain : (w : List ℕ) → is_array_descriptor w ≡ true → IsPlainName w
 array_plain [] h = absurd (false≢true h)
@@ -272,12 +282,16 @@ array_plain (b ∷ bs) h = field_descriptor_plain (b ∷ bs) (and_parts (b == 91
 
 -- what a pool's class entry names
 pub class_word_plain : (w : List ℕ) → names_class w ≡ true → IsPlainName w
-class_word_plain w h = elim (or_cases (is_class_name w) (is_array_descriptor w) h) [ inl name ↦ class_name_plain w name
-    | inr array ↦ array_plain w array ]
+class_word_plain w h = elim (or_cases (is_class_name w) (is_array_descriptor w) h) [
+  | inl name ↦ class_name_plain w name
+  | inr array ↦ array_plain w array
+]
 
 result_ink : (w : List ℕ) → is_result w ≡ true → list_all is_ink w ≡ true
-result_ink w h = elim (or_cases (bytes_eq w (codes "V")) (is_type w) h) [ inl void ↦ letter_ink w (codes "V") void refl
-    | inr type ↦ type_ink w type ]
+result_ink w h = elim (or_cases (bytes_eq w (codes "V")) (is_type w) h) [
+  | inl void ↦ letter_ink w (codes "V") void refl
+  | inr type ↦ type_ink w type
+]
 
 -- the result stands after the arguments, with the first byte or without it
 result_after : (b : ℕ) (bs : List ℕ) → (b == 41) ≡ false → result_type (b ∷ bs) ≡ after_first (λ c. c == 41) bs
@@ -289,13 +303,13 @@ method_plain (b ∷ bs) h =
     let closes : ℕ → Bool = λ c. c == 41 in
     let word = b ∷ bs in
     let p = and_parts ((b == 40 && fits word) && list_all is_type (argument_types word)) (is_result (result_type word))
-          h in
+    h in
     let q = and_parts (b == 40 && fits word) (list_all is_type (argument_types word)) p.0 in
     let r = and_parts (b == 40) (fits word) q.0 in
     let other : (b == 41) ≡ false = subst (λ (x : ℕ). (x == 41) ≡ false) (sym (eqb-true b 40 r.0)) refl in
     let before = row_ink (length (before_first closes bs)) (before_first closes bs) (omega arith) q.1 in
     let result = subst (λ (v : List ℕ). list_all is_ink v ≡ true) (result_after b bs other)
-          (result_ink (result_type word) p.1) in
+    (result_ink (result_type word) p.1) in
     record {
       plain = plain_word b bs (same_byte starts b 40 r.0 refl)
           (both_sides closes is_ink (λ c e. same_byte is_ink c 41 e refl) bs before result);
@@ -322,4 +336,4 @@ units_of_own static (Some n) h = (n, refl)
 
 pub own_descriptor_plain : (static : Bool) (w : List ℕ) → units_fit static (arguments_of w) ≡ true → IsPlainName w
 own_descriptor_plain static w h = let some = units_of_own static (arguments_of w) h
-                                        in method_descriptor_plain w some.0 some.1
+    in method_descriptor_plain w some.0 some.1

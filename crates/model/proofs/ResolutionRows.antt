@@ -23,12 +23,20 @@ abbrev pub object : List ℕ
 object = codes "java/lang/Object"
 
 abbrev method : ℕ → List ℕ → List ℕ → Method
-method flags name descriptor = record { flags = record { 0 = flags }; name = name; descriptor = descriptor;
-    code = None }
+method flags name descriptor = record {
+  flags = record { 0 = flags };
+  name = name;
+  descriptor = descriptor;
+  code = None;
+}
 
 abbrev field : ℕ → List ℕ → List ℕ → Field
-field flags name descriptor = record { flags = record { 0 = flags }; name = name; descriptor = descriptor;
-    constant = None }
+field flags name descriptor = record {
+  flags = record { 0 = flags };
+  name = name;
+  descriptor = descriptor;
+  constant = None;
+}
 
 abbrev class_of : ℕ → List ℕ → List ℕ → List (List ℕ) → List Field → List Method → ClassListing
 class_of flags name superclass interfaces fields methods = record {
@@ -186,8 +194,10 @@ fields_above =
     class_of 1 (codes "B") (codes "A") [] (x 1 ∷ []) [] ∷ []
 
 layout_of_b : layout fields_above (codes "B")
-    ≡ record { class = codes "A"; member = x 1 } ∷ record { class = codes "A";
-        member = field 1 (codes "y") (codes "J") } ∷ record { class = codes "B"; member = x 1 } ∷ []
+    ≡ record { class = codes "A"; member = x 1 } ∷ record {
+      class = codes "A";
+      member = field 1 (codes "y") (codes "J");
+    } ∷ record { class = codes "B"; member = x 1 } ∷ []
 unfolding builtin_classes upwards
 layout_of_b = refl
 

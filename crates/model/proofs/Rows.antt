@@ -159,8 +159,11 @@ wrapping_sum-full_again = refl
 
 -- the world after three turns, by its rows
 abbrev three_turns : Recorded
-three_turns = record { program = wrapping_sum; journal = record (opening wrapping_sum 1000000 11).journal
-    { rows = replicate 3 done } }
+three_turns = record {
+  program = wrapping_sum;
+  journal = record (opening wrapping_sum 1000000 11).journal
+      { rows = replicate 3 done };
+}
 
 wrapping_sum-third : run wrapping_sum 11 3 ≡ three_turns
 unfolding machine_of after_turn_by refusal next completion after_turn upwards builtin_classes int_wrap digits

@@ -40,7 +40,7 @@ rows_in-append : (xs ys : List RowRun) → rows_in (xs ++ ys) ≡ rows_in xs ++ 
 rows_in-append [] ys = refl
 rows_in-append (x ∷ xs) ys =
     ap (λ l. replicate x.times (row_of x) ++ l) (rows_in-append xs ys)
-        ∙ sym (append_assoc (replicate x.times (row_of x)) (rows_in xs) (rows_in ys))
+    ∙ sym (append_assoc (replicate x.times (row_of x)) (rows_in xs) (rows_in ys))
 
 -- a run more
 pub rows_in-push : (runs : List RowRun) (row : Row) (n : ℕ) → rows_in (runs ++ run_of row n ∷ []) ≡ rows_in runs
@@ -48,7 +48,7 @@ pub rows_in-push : (runs : List RowRun) (row : Row) (n : ℕ) → rows_in (runs 
 rows_in-push runs row n =
     rows_in-append runs (run_of row n ∷ [])
     ∙ ap (λ l. rows_in runs ++ l) (append-nil (replicate n (row_of (run_of row n)))
-        ∙ ap (replicate n) (row_of-run_of row n))
+    ∙ ap (replicate n) (row_of-run_of row n))
 
 pub AreRuns-push : (runs : List RowRun) (run : RowRun) → AreRuns runs → 1 ≤ run.times → AreRuns (runs ++ run ∷ [])
 AreRuns-push [] run are some = (some, tt)
@@ -66,11 +66,11 @@ with_times run n = record run { times = n }
 rows_in-longer : (runs : List RowRun) (i k : ℕ) (row : Row) (d : RowRun) → i + 1 ≡ length runs
     → (0 < k → row_of (get_or runs i d) ≡ row)
     → rows_in (set runs i (with_times (get_or runs i d) ((get_or runs i d).times + k))) ≡ rows_in runs
-        ++ replicate k row
+    ++ replicate k row
 rows_in-longer [] i k row d last same = absurd (omega (arith, last))
 rows_in-longer (r ∷ []) zero k row d last same =
     ap (λ l. l ++ []) (sym (replicate-append-replicate r.times k (row_of r))
-        ∙ ap (λ l. replicate r.times (row_of r) ++ l) (same_times k (row_of r) row same))
+    ∙ ap (λ l. replicate r.times (row_of r) ++ l) (same_times k (row_of r) row same))
     ∙ append-nil (replicate r.times (row_of r) ++ replicate k row)
     ∙ ap (λ l. l ++ replicate k row) (sym (append-nil (replicate r.times (row_of r))))
 rows_in-longer (r ∷ s ∷ runs) zero k row d last same = absurd (omega (arith, last))
@@ -158,7 +158,7 @@ last_at (r ∷ runs) (suc i) d are last =
     let fits = runs_fit runs are.1 in
     let both = length-append (replicate r.times (row_of r)) (rows_in runs) in
     get-following (replicate r.times (row_of r)) (rows_in runs) (length (rows_in (r ∷ runs)) - 1)
-        (length (rows_in runs) - 1) (omega (arith, fits, both, last))
+    (length (rows_in runs) - 1) (omega (arith, fits, both, last))
     ∙ last_at runs i d are.1 (omega (arith, last))
 
 -- rows that were passed are of the first run, so some are left
@@ -178,7 +178,7 @@ last_left passed runs i d are inside last =
     let left = length-drop passed (rows_in runs) in
     sym
     (get-drop passed (rows_in runs) (length (rows_in runs) - 1) (length (drop passed (rows_in runs)) - 1)
-        (omega (arith, lt, left))
+    (omega (arith, lt, left))
     ∙ last_at runs i d are last)
 
 at_replicate : (p n : ℕ) (row : Row) (rows : List Row) → p < n → drop p (replicate n row ++ rows)
@@ -194,7 +194,7 @@ next_row passed [] d inside some = absurd (omega (arith, some))
 next_row passed (run ∷ runs) d inside some =
     let more : suc passed ≡ passed + 1 = omega arith in
     at_replicate passed run.times (row_of run) (rows_in runs) inside
-        ∙ ap (λ n. row_of run ∷ drop n (rows_in (run ∷ runs))) more
+    ∙ ap (λ n. row_of run ∷ drop n (rows_in (run ∷ runs))) more
 
 pub within_first : (passed : ℕ) (runs : List RowRun) (d : RowRun) → IsWithin passed runs → 1 ≤ length runs
     → passed < (get_or runs 0 d).times

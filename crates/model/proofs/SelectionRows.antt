@@ -45,13 +45,16 @@ row-is : (name descriptor : List ℕ) (m : Declared Method) (r : SelectionRow) �
 row-is name descriptor m r n d e =
     let same : m ≡ r.method = cc in
     ap (λ (x : List ℕ). row x descriptor m) n ∙ ap (λ (x : List ℕ). row r.name x m) d
-        ∙ ap (λ (x : Declared Method). row r.name r.descriptor x) same
+    ∙ ap (λ (x : Declared Method). row r.name r.descriptor x) same
 
 found_by : (n d i v : Bool) (r : SelectionRow) → by_tests n d i v ≡ Some r.method → (n ≡ true → codes "f" ≡ r.name)
     → (d ≡ true → codes "()I" ≡ r.descriptor)
     → (i ≡ true → codes "<init>" ≡ r.name) → (v ≡ true → codes "()V" ≡ r.descriptor) → Contains rows r
-found_by true true i v r e is_f is_int is_init is_void = (1, omega arith,
-    row-is (codes "f") (codes "()I") of_a r (is_f refl) (is_int refl) e)
+found_by true true i v r e is_f is_int is_init is_void = (
+  1,
+  omega arith,
+  row-is (codes "f") (codes "()I") of_a r (is_f refl) (is_int refl) e,
+)
 found_by true false true true r e is_f is_int is_init is_void =
     (0, omega arith, row-is (codes "<init>") (codes "()V") of_object r (is_init refl) (is_void refl) e)
 found_by true false true false r e is_f is_int is_init is_void = absurd (cc)
@@ -101,17 +104,17 @@ tests_of_b : Tests (codes "B")
 unfolding builtin_classes upwards
 tests_of_b name descriptor =
     from_b-is (bytes_eq (codes "f") name) (bytes_eq (codes "()I") descriptor) (bytes_eq (codes "<init>") name)
-        (bytes_eq (codes "()V") descriptor) ∙
+    (bytes_eq (codes "()V") descriptor) ∙
     from_a-is (bytes_eq (codes "f") name) (bytes_eq (codes "()I") descriptor) (bytes_eq (codes "<init>") name)
-        (bytes_eq (codes "()V") descriptor)
+    (bytes_eq (codes "()V") descriptor)
 
 tests_of_c : Tests (codes "C")
 unfolding builtin_classes upwards
 tests_of_c name descriptor =
     from_b-is (bytes_eq (codes "f") name) (bytes_eq (codes "()I") descriptor) (bytes_eq (codes "<init>") name)
-        (bytes_eq (codes "()V") descriptor) ∙
+    (bytes_eq (codes "()V") descriptor) ∙
     from_a-is (bytes_eq (codes "f") name) (bytes_eq (codes "()I") descriptor) (bytes_eq (codes "<init>") name)
-        (bytes_eq (codes "()V") descriptor)
+    (bytes_eq (codes "()V") descriptor)
 
 -- ---- the tables
 
@@ -121,12 +124,12 @@ table_by class tests = record {
   rising = ((refl, tt), (tt, tt));
   given =
       All-cons (IsSelected private_between class) (row (codes "<init>") (codes "()V") of_object)
-          (row (codes "f") (codes "()I") of_a ∷ []) (tests (codes "<init>") (codes "()V"))
+      (row (codes "f") (codes "()I") of_a ∷ []) (tests (codes "<init>") (codes "()V"))
       (All-cons (IsSelected private_between class) (row (codes "f") (codes "()I") of_a) []
-          (tests (codes "f") (codes "()I")) (All-nil (IsSelected private_between class)));
+      (tests (codes "f") (codes "()I")) (All-nil (IsSelected private_between class)));
   whole = λ r e.
       found_by (bytes_eq (codes "f") r.name) (bytes_eq (codes "()I") r.descriptor) (bytes_eq (codes "<init>") r.name)
-          (bytes_eq (codes "()V") r.descriptor) r
+      (bytes_eq (codes "()V") r.descriptor) r
       (sym (tests r.name r.descriptor) ∙ e)
       (bytes_eq-Decides (codes "f") r.name).0 (bytes_eq-Decides (codes "()I") r.descriptor).0
       (bytes_eq-Decides (codes "<init>") r.name).0 (bytes_eq-Decides (codes "()V") r.descriptor).0;
@@ -164,7 +167,7 @@ not_private rest t =
     let private : Declared Method = record { class = codes "B"; member = f 2 } in
     let e : Some of_a ≡ Some private =
     sym (tests_of_c (codes "f") (codes "()I")) ∙ All-head (IsSelected private_between (codes "C"))
-        (row (codes "f") (codes "()I") private) rest t.given in
+    (row (codes "f") (codes "()I") private) rest t.given in
     differ (ap is_of_a e)
   where
     is_of_a : Option (Declared Method) → Bool

@@ -46,9 +46,9 @@ module _ {X : Type 0} (R : X → X → Ordering) (order : IsTotalOrder R) where
   same_sorted (x ∷ xs) [] s t to from = absurd (none x (to x (contains-head x xs)))
   same_sorted (x ∷ xs) (y ∷ ys) s t to from =
       let above_x : (z : X) → Contains xs z
-            → R x z ≡ Less = λ z h. each-of (λ z. R x z ≡ Less) xs z (sorted_head R x xs s) h in
+      → R x z ≡ Less = λ z h. each-of (λ z. R x z ≡ Less) xs z (sorted_head R x xs s) h in
       let above_y : (z : X) → Contains ys z
-            → R y z ≡ Less = λ z h. each-of (λ z. R y z ≡ Less) ys z (sorted_head R y ys t) h in
+      → R y z ≡ Less = λ z h. each-of (λ z. R y z ≡ Less) ys z (sorted_head R y ys t) h in
       let first : x ≡ y = elim (contains-cases y ys x (to x (contains-head x xs))) [
         | inl e ↦ e
         | inr x_there ↦ elim (contains-cases x xs y (from y (contains-head y ys))) [
@@ -58,9 +58,13 @@ module _ {X : Type 0} (R : X → X → Ordering) (order : IsTotalOrder R) where
       ] in
       let rest : xs ≡ ys = same_sorted xs ys (sorted_tail R x xs s) (sorted_tail R y ys t)
       (λ z h. elim (contains-cases y ys z (to z (contains-tail x xs z h))) [
-          inl e ↦ absurd (not_itself x z (first ∙ sym e) (above_x z h)) | inr there ↦ there ])
+        | inl e ↦ absurd (not_itself x z (first ∙ sym e) (above_x z h))
+        | inr there ↦ there
+      ])
       (λ z h. elim (contains-cases x xs z (from z (contains-tail y ys z h))) [
-          inl e ↦ absurd (not_itself y z (sym first ∙ sym e) (above_y z h)) | inr there ↦ there ]) in
+        | inl e ↦ absurd (not_itself y z (sym first ∙ sym e) (above_y z h))
+        | inr there ↦ there
+      ]) in
       ap (λ (l : List X). x ∷ l) rest ∙ ap (λ (z : X). z ∷ ys) first
 
 -- ---- tables

@@ -100,8 +100,11 @@ module _ {A : Type 0} (same : A → A → Bool) (tells : (x y : A) → Decides (
   has-without a b (x ∷ xs) other h =
       has-cond same (same x a) x b (without same a xs)
       (λ is_a is_b. other (sym ((tells x b).0 is_b) ∙ (tells x a).0 is_a))
-      (elim (or-cases (same x b) (has same xs b) h) [ inl here ↦ inl here | inr there ↦
-          inr (has-without a b xs other there) ])
+      (elim (or-cases (same x b) (has same xs b) h) [
+        | inl here ↦ inl here
+        | inr there ↦
+            inr (has-without a b xs other there)
+      ])
 
   inside-without : (a : A) (pool : List A) (b : A) (xs : List A) → Inside same pool b xs → Avoids a b xs
       → Inside same (without same a pool) b xs
@@ -145,9 +148,9 @@ module _ {A : Type 0} (same : A → A → Bool) (tells : (x y : A) → Decides (
         | inr following ↦
             let fewer : length (without same a pool) ≤ n = omega (arith, length-without same a pool i.0) in
             let rest : (ys : List A) × IsPath Leads following.0 ys b × Inside same pool following.0 ys
-                  × Avoids a following.0 ys = following.2 in
+            × Avoids a following.0 ys = following.2 in
             let short : Short n following.0 b =
             shortened n (without same a pool) following.0 b rest.0 fewer rest.1
-                (inside-without a pool following.0 rest.0 rest.2 rest.3) in
+            (inside-without a pool following.0 rest.0 rest.2 rest.3) in
             (following.0 ∷ short.0, (following.1, short.1), omega (arith, short.2))
       ]

@@ -42,7 +42,7 @@ sevens = Array (codes "I") (Int (pos 7) ∷ Int (pos 7) ∷ [])
 abbrev objects : List Object
 objects =
     plain_object [] ∷ plain_object (codes "java/lang/OutOfMemoryError")
-        ∷ plain_object (codes "java/lang/StackOverflowError") ∷
+    ∷ plain_object (codes "java/lang/StackOverflowError") ∷
     plain_object (codes "A") ∷
     record { contents = Instance (codes "A") (field (Some 5) ∷ []); monitor = entered; thread = Some 1 } ∷
     record { contents = sevens; monitor = free_monitor; thread = None } ∷ []
@@ -60,16 +60,31 @@ world = record {
 -- ---- the heap: birth 4 in cell 1, the array in cell 3, and cell 2 is free
 
 abbrev plain : ℕ → List ℕ → HeapCell
-plain birth class = Some (record { birth = birth; kind = OfClass class; words = []; monitor = free_monitor;
-    thread = None })
+plain birth class = Some (record {
+  birth = birth;
+  kind = OfClass class;
+  words = [];
+  monitor = free_monitor;
+  thread = None;
+})
 
 abbrev instance : Held
-instance = record { birth = 4; kind = OfClass (codes "A"); words = Ref (Some 3) ∷ []; monitor = entered;
-    thread = Some 1 }
+instance = record {
+  birth = 4;
+  kind = OfClass (codes "A");
+  words = Ref (Some 3) ∷ [];
+  monitor = entered;
+  thread = Some 1;
+}
 
 abbrev array : Held
-array = record { birth = 5; kind = OfElements (codes "I"); words = Int (pos 7) ∷ Int (pos 7) ∷ [];
-    monitor = free_monitor; thread = None }
+array = record {
+  birth = 5;
+  kind = OfElements (codes "I");
+  words = Int (pos 7) ∷ Int (pos 7) ∷ [];
+  monitor = free_monitor;
+  thread = None;
+}
 
 abbrev cells : List HeapCell
 cells = plain 1 (codes "java/lang/OutOfMemoryError") ∷ Some instance ∷ None ∷ Some array
@@ -139,20 +154,44 @@ reached b (by_word a k r e) = inr (inr (inr (by_a_word a k b e)))
 -- ---- each has a cell
 
 memory_error : HasCell cells world 1
-memory_error = record { cell = 0; held = _; object = _; is_there = refl; was_made = refl;
-    shown = record { birth = refl; kind = refl; words = refl; monitor = refl; thread = refl } }
+memory_error = record {
+  cell = 0;
+  held = _;
+  object = _;
+  is_there = refl;
+  was_made = refl;
+  shown = record { birth = refl; kind = refl; words = refl; monitor = refl; thread = refl };
+}
 
 stack_error : HasCell cells world 2
-stack_error = record { cell = 4; held = _; object = _; is_there = refl; was_made = refl;
-    shown = record { birth = refl; kind = refl; words = refl; monitor = refl; thread = refl } }
+stack_error = record {
+  cell = 4;
+  held = _;
+  object = _;
+  is_there = refl;
+  was_made = refl;
+  shown = record { birth = refl; kind = refl; words = refl; monitor = refl; thread = refl };
+}
 
 fourth : HasCell cells world 4
-fourth = record { cell = 1; held = instance; object = _; is_there = refl; was_made = refl;
-    shown = record { birth = refl; kind = refl; words = refl; monitor = refl; thread = refl } }
+fourth = record {
+  cell = 1;
+  held = instance;
+  object = _;
+  is_there = refl;
+  was_made = refl;
+  shown = record { birth = refl; kind = refl; words = refl; monitor = refl; thread = refl };
+}
 
 fifth : HasCell cells world 5
-fifth = record { cell = 3; held = array; object = _; is_there = refl; was_made = refl;
-    shown = record { birth = refl; kind = refl; words = refl; monitor = refl; thread = refl } }
+fifth = record {
+  cell = 3;
+  held = array;
+  object = _;
+  is_there = refl;
+  was_made = refl;
+  shown = record { birth = refl; kind = refl; words = refl; monitor = refl; thread = refl };
+}
 
 has_cell : (b : ℕ) → Reached b → HasCell cells world b
 has_cell b (inl e) = rw e memory_error

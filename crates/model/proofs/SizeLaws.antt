@@ -45,18 +45,27 @@ length-signed32 z = refl
 
 four_each : (pc : ℕ) (targets : List ℕ) → length (flat_map (λ t. signed w32 (offset pc t)) targets) ≡ 4 * length targets
 four_each pc [] = refl
-four_each pc (t ∷ ts) = omega (arith,
-    length-append (signed w32 (offset pc t)) (flat_map (λ u. signed w32 (offset pc u)) ts),
-    length-signed32 (offset pc t), four_each pc ts)
+four_each pc (t ∷ ts) = omega (
+  arith,
+  length-append (signed w32 (offset pc t)) (flat_map (λ u. signed w32 (offset pc u)) ts),
+  length-signed32 (offset pc t),
+  four_each pc ts,
+)
 
 eight_each : (pc : ℕ) (pairs : List (ℤ × ℕ))
     → length (flat_map (λ p. signed w32 p.0 ++ signed w32 (offset pc p.1)) pairs) ≡ 8 * length pairs
 eight_each pc [] = refl
 eight_each pc (p ∷ ps) =
     let both = length-append (signed w32 p.0) (signed w32 (offset pc p.1)) in
-    omega (arith, length-append (signed w32 p.0 ++ signed w32 (offset pc p.1))
-        (flat_map (λ q. signed w32 q.0 ++ signed w32 (offset pc q.1)) ps), both, length-signed32 p.0,
-        length-signed32 (offset pc p.1), eight_each pc ps)
+    omega (
+      arith,
+      length-append (signed w32 p.0 ++ signed w32 (offset pc p.1))
+          (flat_map (λ q. signed w32 q.0 ++ signed w32 (offset pc q.1)) ps),
+      both,
+      length-signed32 p.0,
+      length-signed32 (offset pc p.1),
+      eight_each pc ps,
+    )
 
 following : (z : ℤ) (rest : List ℕ) → length (signed w32 z ++ rest) ≡ 4 + length rest
 following z rest = omega (arith, length-append (signed w32 z) rest, length-signed32 z)
@@ -69,15 +78,26 @@ table_size pc s =
     let targets = flat_map (λ t. signed w32 (offset pc t)) s.targets in
     let high = signed w32 (table_high s) ++ targets in
     let low = signed w32 s.low ++ high in
-    omega (arith, padded pc (signed w32 (offset pc s.default) ++ low), following (offset pc s.default) low,
-        following s.low high, following (table_high s) targets, four_each pc s.targets)
+    omega (
+      arith,
+      padded pc (signed w32 (offset pc s.default) ++ low),
+      following (offset pc s.default) low,
+      following s.low high,
+      following (table_high s) targets,
+      four_each pc s.targets,
+    )
 
 lookup_size : (pc : ℕ) (s : Lookup ℕ) → length (lookup_operands pc s) ≡ pad_at pc + 8 + 8 * length s.pairs
 lookup_size pc s =
     let pairs = flat_map (λ p. signed w32 p.0 ++ signed w32 (offset pc p.1)) s.pairs in
     let count = signed w32 (pos (length s.pairs)) ++ pairs in
-    omega (arith, padded pc (signed w32 (offset pc s.default) ++ count), following (offset pc s.default) count,
-        following (pos (length s.pairs)) pairs, eight_each pc s.pairs)
+    omega (
+      arith,
+      padded pc (signed w32 (offset pc s.default) ++ count),
+      following (offset pc s.default) count,
+      following (pos (length s.pairs)) pairs,
+      eight_each pc s.pairs,
+    )
 
 -- ---- all
 
@@ -98,8 +118,12 @@ spelled pc (instruction.Local (access.Store k (local.First n))) = refl
 spelled pc (instruction.Local (access.Store k (local.Byte n))) = refl
 spelled pc (instruction.Local (access.Store k (local.Wide n))) = omega (arith, length-u2 n)
 spelled pc (instruction.Local (access.Increment (increment.Byte n z))) = omega (arith, length-signed8 z)
-spelled pc (instruction.Local (access.Increment (increment.Wide n z))) = omega (arith,
-    length-append (u2 n) (signed w16 z), length-u2 n, length-signed16 z)
+spelled pc (instruction.Local (access.Increment (increment.Wide n z))) = omega (
+  arith,
+  length-append (u2 n) (signed w16 z),
+  length-u2 n,
+  length-signed16 z,
+)
 spelled pc (instruction.Stack op) = refl
 spelled pc (instruction.Number op) = refl
 spelled pc (instruction.Branch (test.Always Narrow) target) = omega (arith, length-signed16 (offset pc target))
@@ -122,8 +146,11 @@ spelled pc (instruction.Class op n) = omega (arith, length-u2 n)
 spelled pc (instruction.Invoke invoke.Virtual n) = omega (arith, length-u2 n)
 spelled pc (instruction.Invoke invoke.Special n) = omega (arith, length-u2 n)
 spelled pc (instruction.Invoke invoke.Static n) = omega (arith, length-u2 n)
-spelled pc (instruction.Invoke (invoke.Interface count) n) = omega (arith, length-append (u2 n) (count ∷ 0 ∷ []),
-    length-u2 n)
+spelled pc (instruction.Invoke (invoke.Interface count) n) = omega (
+  arith,
+  length-append (u2 n) (count ∷ 0 ∷ []),
+  length-u2 n,
+)
 spelled pc instruction.Throw = refl
 spelled pc (instruction.Monitor op) = refl
 

@@ -27,7 +27,7 @@ any-found f (x ∷ xs) h =
     elim (or-cases (f x) (list_any f xs) h) [
       | inl here ↦ (x, inl refl, here)
       | inr there ↦ let found : (y : List ℕ) × HasName xs y × (f y ≡ true) = any-found f xs there
-                          in (found.0, inr found.1, found.2)
+          in (found.0, inr found.1, found.2)
     ]
 
 any-has : (f : List ℕ → Bool) (xs : List (List ℕ)) (x : List ℕ) → HasName xs x → f x ≡ true → list_any f xs ≡ true
@@ -100,7 +100,7 @@ names_of program = map name_of program ++ map name_of builtin_classes
 
 found-cond : (b : Bool) (c : ClassListing) (rest : Option ClassListing) (others : Bool) (x : List ℕ)
     → HasName (parents_in (cond b (Some c) rest)) x → (HasName (parents_in rest) x → others ≡ true) → (b || others)
-        ≡ true
+    ≡ true
 found-cond true c rest others x h k = refl
 found-cond false c rest others x h k = k h
 
@@ -109,7 +109,7 @@ found-named : (cs : List ClassListing) (name x : List ℕ) → HasName (parents_
 found-named [] name x h = absurd h
 found-named (c ∷ cs) name x h =
     found-cond (bytes_eq c.name name) c (find (is_named name) cs) (has bytes_eq (map name_of cs) name) x h
-        (λ k. found-named cs name x k)
+    (λ k. found-named cs name x k)
 
 found-either : (first second : Option ClassListing) (x : List ℕ) → HasName (parents_in (or_else first second)) x
     → HasName (parents_in first) x ⊎ HasName (parents_in second) x
@@ -142,8 +142,12 @@ length-map_name (c ∷ cs) = ap suc (length-map_name cs)
 
 names-length : (program : List ClassListing) → length (names_of program) ≤ length program + 23
 names-length program =
-    omega (arith, length-append (map name_of program) (map name_of builtin_classes), builtin_names,
-        length-map_name program)
+    omega (
+      arith,
+      length-append (map name_of program) (map name_of builtin_classes),
+      builtin_names,
+      length-map_name program,
+    )
 
 -- ---- the test and the relation agree
 
@@ -153,7 +157,7 @@ Subclass-is_subclass program name above h =
     let path : SomePath program name above = path_of program h in
     let short : Short bytes_eq bytes_eq-Decides (IsAbove program) (length program + 23) name above =
     shortened bytes_eq bytes_eq-Decides (IsAbove program) (length program + 23) (names_of program) name above path.0
-        (names-length program)
+    (names-length program)
     path.1 (path-inside program name above path.0 path.1) in
     path-within (length program + 23) program name above short.0 short.1 short.2
 

@@ -30,23 +30,23 @@ main_text body = codes ".class public E\n.super java/lang/Object\n.method public
 -- the smallest program
 pub smallest : listing_spelled (main_text (codes ".limit stack 0\n.limit locals 0\nreturn\n.end method\n"))
     ≡ Some (record {
-  name = codes "E";
-  flags = record { 0 = 0x0001 };
-  superclass = codes "java/lang/Object";
-  interfaces = [];
-  fields = [];
-  methods = record {
-    flags = record { 0 = 0x0009 };
-    name = codes "main";
-    descriptor = codes "()V";
-    code = Some (record {
-      max_stack = 0;
-      max_locals = 0;
-      rows = [];
-      instructions = record { pc = 0; next = 1; instruction = instruction.Return None } ∷ [];
-    });
-  } ∷ [];
-})
+      name = codes "E";
+      flags = record { 0 = 0x0001 };
+      superclass = codes "java/lang/Object";
+      interfaces = [];
+      fields = [];
+      methods = record {
+        flags = record { 0 = 0x0009 };
+        name = codes "main";
+        descriptor = codes "()V";
+        code = Some (record {
+          max_stack = 0;
+          max_locals = 0;
+          rows = [];
+          instructions = record { pc = 0; next = 1; instruction = instruction.Return None } ∷ [];
+        });
+      } ∷ [];
+    })
 unfolding tree_of listing_of mnemonic_of labels_agree
 smallest = refl
 
@@ -69,9 +69,16 @@ pub wraps : listing_spelled (codes "; a sum\n.class A\n .super\tjava/lang/Object
           record { pc = 0; next = 2; instruction = instruction.Constant (constant.Int Narrow (pos 2147483647)) }
           ∷ record { pc = 2; next = 3; instruction = instruction.Constant (constant.SmallInt One) }
           ∷ record { pc = 3; next = 4; instruction = instruction.Number (Binary number.Int Add) }
-          ∷ record { pc = 4; next = 7; instruction =
-              instruction.Invoke Static (record { class = codes "vm/Sys"; name = codes "print";
-              descriptor = codes "(I)V" }) }
+          ∷ record {
+            pc = 4;
+            next = 7;
+            instruction =
+                instruction.Invoke Static (record {
+                  class = codes "vm/Sys";
+                  name = codes "print";
+                  descriptor = codes "(I)V";
+                });
+          }
           ∷ record { pc = 7; next = 8; instruction = instruction.Return None } ∷ [];
     });
   } ∷ [];
@@ -101,8 +108,12 @@ pub labels : listing_spelled (main_text (codes ".limit stack 1\n.limit locals 0\
       rows = record { start = 0; end = 27; handler = 0; class = None } ∷ [];
       instructions =
           record { pc = 0; next = 1; instruction = instruction.Constant (constant.SmallInt Zero) }
-          ∷ record { pc = 1; next = 24; instruction =
-              instruction.TableSwitch (record { low = pos 5; targets = 0 ∷ 24 ∷ []; default = 0 }) }
+          ∷ record {
+            pc = 1;
+            next = 24;
+            instruction =
+                instruction.TableSwitch (record { low = pos 5; targets = 0 ∷ 24 ∷ []; default = 0 });
+          }
           ∷ record { pc = 24; next = 27; instruction = instruction.Branch (Always Narrow) 0 } ∷ [];
     });
   } ∷ [];

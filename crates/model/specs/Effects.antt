@@ -49,8 +49,10 @@ raised program before w t exception NoRoom = thrown program before w t 1
 
 abbrev pub effect_of : List ClassListing → World → ℕ → Choice → Completion → Effect
 effect_of program w t choice (Goes after writes) = record { after = after; writes = writes }
-effect_of program w t choice (Prints after bytes) = record { after = with_output after (after.output ++ bytes);
-    writes = [] }
+effect_of program w t choice (Prints after bytes) = record {
+  after = with_output after (after.output ++ bytes);
+  writes = [];
+}
 effect_of program w t choice (Creates next taken contents) = created program w t next taken contents choice
 effect_of program w t choice (Throws birth) = thrown program w w t birth
 effect_of program w t choice (Raises exception) = raised program w w t exception choice

@@ -26,8 +26,15 @@ pub record Frame : Type 0 where
 
 -- the frame of a method at its start, its locals all unset
 abbrev pub opening_frame : MethodPlace → ℕ → ℕ → Frame
-opening_frame method max_locals max_stack = record { method = method; pc = 0; locals = replicate max_locals Unset;
-    stack = []; room = max_stack; monitor = None; mark = Unmarked }
+opening_frame method max_locals max_stack = record {
+  method = method;
+  pc = 0;
+  locals = replicate max_locals Unset;
+  stack = [];
+  room = max_stack;
+  monitor = None;
+  mark = Unmarked;
+}
 
 -- a frame that gives back no monitor when it is left, and neither waits nor fails
 abbrev pub IsPlain : Frame → Type 0
@@ -132,8 +139,10 @@ pub record Moved : Type 0 where
 
 -- these values, bottom first, in place of the n at the top, and on to the next instruction
 abbrev pub replaced : ℕ → Frame → ℕ → List Value → Moved
-replaced next f n vs = record { frame = record f { pc = next; stack = push_all vs (drop n f.stack) };
-    writes = births_of vs }
+replaced next f n vs = record {
+  frame = record f { pc = next; stack = push_all vs (drop n f.stack) };
+  writes = births_of vs;
+}
 
 -- the same where they have room, else F2
 abbrev pub replaced_if_room : ℕ → Frame → ℕ → List Value → Result Moved Abrupt

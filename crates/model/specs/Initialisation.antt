@@ -56,7 +56,7 @@ declares_initializer c = list_any is_class_initializer c.methods
 abbrev pub wants_initialising : List ClassListing → ClassListing → Bool
 wants_initialising program c =
     list_any (λ (above : ClassListing). declares_initializer above
-        && list_any (bytes_eq above.name) (superclasses program c.name)) program
+    && list_any (bytes_eq above.name) (superclasses program c.name)) program
     && not (is_interface c)
 
 abbrev pub state_if : Bool → ClassState

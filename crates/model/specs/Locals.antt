@@ -87,8 +87,14 @@ with_local locals index (Ref r) = slice_set (freed locals index) index (Holds (R
 
 -- so many values go from the top, one is put into a local, and on to the next instruction
 abbrev pub stored : ℕ → Frame → ℕ → ℕ → Value → Moved
-stored next f n index v = record { frame = record f { pc = next; locals = with_local f.locals index v;
-    stack = drop n f.stack }; writes = births_of (v ∷ []) }
+stored next f n index v = record {
+  frame = record f {
+    pc = next;
+    locals = with_local f.locals index v;
+    stack = drop n f.stack;
+  };
+  writes = births_of (v ∷ []);
+}
 
 -- the operand that was found goes into a local, if there is one; else F4
 abbrev pub stored_if_local : ℕ → Frame → ℕ → Bool → Result Value Fault → Result Moved Abrupt

@@ -34,7 +34,7 @@ pub record Machine : Type 0 where
 abbrev pub account_step : List ClassListing → HeapShape → Machine → Actor → Outcome → Account
 account_step program shape m (Thread t) outcome =
     after_turn m.account outcome (next_birth m.world) (asked program m.world t)
-        (next program m.world t (choice_of program m.world t outcome)).writes
+    (next program m.world t (choice_of program m.world t outcome)).writes
 account_step program shape m Collector outcome = collected shape m.world m.account
 
 abbrev pub account_unless_refused : List ClassListing → HeapShape → Machine → Actor → Outcome → Option Turn → Account
@@ -86,8 +86,11 @@ outcome_of program m Collector = Done
 
 abbrev pub row_unless_refused : List ClassListing → Machine → Actor → ℕ → Option Turn → Option Row
 row_unless_refused program m actor worker (Some refused) = None
-row_unless_refused program m actor worker None = Some (record { actor = actor; outcome = outcome_of program m actor;
-    worker = worker })
+row_unless_refused program m actor worker None = Some (record {
+  actor = actor;
+  outcome = outcome_of program m actor;
+  worker = worker;
+})
 
 -- the row that an actor's turn makes, if it makes one
 abbrev pub row_by : List ClassListing → Limits → Machine → Actor → ℕ → Option Row

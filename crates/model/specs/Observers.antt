@@ -90,7 +90,7 @@ is_running Faulted = false
 abbrev pub output_full_of : Recorded → Bool
 output_full_of v =
     is_running (status_of v) && nat_lt (ideal v).rows v.journal.limits.steps
-        && list_any (is_held_by_output v.program v.journal.limits (ideal v)) (thread_numbers (ideal v))
+    && list_any (is_held_by_output v.program v.journal.limits (ideal v)) (thread_numbers (ideal v))
 
 -- ---- class states
 

@@ -31,8 +31,16 @@ empty_initializer = record {
   flags = record { 0 = 8 };
   name = codes "<clinit>";
   descriptor = codes "()V";
-  code = Some (record { max_stack = 0; max_locals = 0; rows = []; instructions = record { pc = 0; next = 1;
-      instruction = Return None } ∷ [] });
+  code = Some (record {
+    max_stack = 0;
+    max_locals = 0;
+    rows = [];
+    instructions = record {
+      pc = 0;
+      next = 1;
+      instruction = Return None;
+    } ∷ [];
+  });
 }
 
 -- past the last method of a class stands its empty initializer

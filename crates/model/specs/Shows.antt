@@ -87,8 +87,11 @@ abbrev pub frame_with : Frame → Option (List Entry) → Option (List Value) �
 frame_with f None stack monitor = None
 frame_with f (Some locals) None monitor = None
 frame_with f (Some locals) (Some stack) None = None
-frame_with f (Some locals) (Some stack) (Some monitor) = Some (record f { locals = locals; stack = stack;
-    monitor = monitor })
+frame_with f (Some locals) (Some stack) (Some monitor) = Some (record f {
+  locals = locals;
+  stack = stack;
+  monitor = monitor;
+})
 
 abbrev pub frame_read : List HeapCell → Frame → Option Frame
 frame_read cells f = frame_with f (all_read (entry_read cells) f.locals) (all_read (value_read cells) f.stack)

@@ -100,12 +100,17 @@ failing f = record f { stack = []; mark = Failing }
 -- F2, as of the world before, where the handler's stack has no room
 abbrev pub landed : World → World → ℕ → ℕ → List ℕ → Landing → Effect
 landed before w t birth class Unhandled = record { after = with_thread w t (Ended (Some class)); writes = [] }
-landed before w t birth class (Stopped f callers) = record { after = with_thread w t
-    (Live (reverse callers ++ failing f ∷ [])); writes = [] }
+landed before w t birth class (Stopped f callers) = record {
+  after = with_thread w t
+      (Live (reverse callers ++ failing f ∷ []));
+  writes = [];
+}
 landed before w t birth class (Handled handler f callers) =
     if nat_le 1 f.room
-    then record { after = with_thread w t (Live (reverse callers ++ handling birth handler f ∷ []));
-        writes = birth ∷ [] }
+    then record {
+      after = with_thread w t (Live (reverse callers ++ handling birth handler f ∷ []));
+      writes = birth ∷ [];
+    }
     else faulted before t StackFull
 
 -- the classes whose initializers are among these frames
@@ -116,7 +121,7 @@ initialised_by program frames = map (λ (f : Frame). f.method.class) (filter (ru
 abbrev pub without : List ClassListing → World → ℕ → List Frame → World
 without program w t left =
     with_class_states (released_all w t (map (λ (f : Frame). f.monitor) left))
-        (with_states Failed (initialised_by program left) w.statics.states)
+    (with_states Failed (initialised_by program left) w.statics.states)
 
 abbrev pub unwound : List ClassListing → World → World → ℕ → ℕ → List ℕ → Way → Effect
 unwound program before w t birth class way = landed before (without program w t way.left) t birth class way.landing

@@ -54,8 +54,12 @@ abbrev pub slot_at : World → ℕ → Value
 slot_at w slot = value_at w.statics.fields slot
 
 abbrev pub with_slot : World → ℕ → Value → World
-with_slot w slot v = record w { statics = record { fields = with_value_at w.statics.fields slot v;
-    states = w.statics.states } }
+with_slot w slot v = record w {
+  statics = record {
+    fields = with_value_at w.statics.fields slot v;
+    states = w.statics.states;
+  };
+}
 
 -- ---- objects: a word is a field or an element
 

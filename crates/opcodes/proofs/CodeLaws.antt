@@ -55,7 +55,7 @@ stands-below pc (x ∷ xs) bytes t stand (inl e) =
 stands-below pc (x ∷ xs) bytes t stand (inr p) =
     let begins = stand.1 in
     let size : length bytes ≡ length (spelling pc x.instruction) + length stand.0 = ap length begins.bytes_are
-          ∙ length-append (spelling pc x.instruction) stand.0 in
+    ∙ length-append (spelling pc x.instruction) stand.0 in
     let next = begins.next in
     let below = stands-below x.next xs stand.0 t stand.2 p in omega arith
 
@@ -74,19 +74,19 @@ landed : (starts : List Bool) (items : List Located) → Marks starts items → 
     ≡ true → AllByRecursion (λ x. AllByRecursion (IsPc items) (targets x.instruction)) items
 landed starts items marks e =
     let each = all-of-map (λ i. lands starts i ≡ true) (λ (x : Located). x.instruction) items
-          (each-true (lands starts) (instructions_of items) e) in
+    (each-true (lands starts) (instructions_of items) e) in
     all-map (λ x. lands starts x.instruction ≡ true) (λ x. AllByRecursion (IsPc items) (targets x.instruction)) items
     (λ x land. all-map (λ t. is_start starts t ≡ true) (IsPc items) (targets x.instruction) (λ t s. (marks t).0 s)
-        (each-true (is_start starts) (targets x.instruction) land)) each
+    (each-true (is_start starts) (targets x.instruction) land)) each
 
 pub code-lands : (bytes : List ℕ) (items : List Located) (starts : List Bool) → Marks starts items → IsCode bytes items
     → all_land starts (instructions_of items) ≡ true
 code-lands bytes items starts marks code =
     true-each (lands starts) (instructions_of items) (map-of-all (λ i. lands starts i ≡ true)
-        (λ (x : Located). x.instruction) items
+    (λ (x : Located). x.instruction) items
     (all-map (λ x. AllByRecursion (IsPc items) (targets x.instruction)) (λ x. lands starts x.instruction ≡ true) items
     (λ x land. true-each (is_start starts) (targets x.instruction) (all-map (IsPc items) (λ t. is_start starts t ≡ true)
-        (targets x.instruction) (λ t p. (marks t).1 p) land)) code.land))
+    (targets x.instruction) (λ t p. (marks t).1 p) land)) code.land))
 
 pub lands-real : (starts : List Bool) (is : List Instr) → length starts ≤ 65535 → all_land starts is ≡ true
     → AllByRecursion Real is
@@ -94,12 +94,12 @@ lands-real starts is few e =
     all-map (λ i. lands starts i ≡ true) Real is
     (λ i land. all-map (λ t. is_start starts t ≡ true) (λ t. t < 65535) (targets i)
     (λ t s. let below = start-below starts t s in omega arith) (each-true (is_start starts) (targets i) land))
-                  (each-true (lands starts) is e)
+    (each-true (lands starts) is e)
 
 pub is-code : (bytes : List ℕ) (items : List Located) (starts : List Bool) → (AreReal items → StandFrom 0 items bytes)
     → Marks starts items → length starts ≤ length bytes → 1 ≤ length bytes → length bytes ≤ 65535
     → all_land starts (instructions_of items) ≡ true → IsCode bytes items
 is-code bytes items starts stand marks len some few e =
     let real : AreReal items = all-of-map Real (λ (x : Located). x.instruction) items
-          (lands-real starts (instructions_of items) (omega arith) e) in
+    (lands-real starts (instructions_of items) (omega arith) e) in
     record { stand = stand real; some = some; few = few; land = landed starts items marks e }

@@ -131,9 +131,9 @@ pub goes_on : (bytes rest after : List ℕ) (items : List Located) (starts marke
     → 0 < length rest
     → instruction_at (length bytes - length rest) rest ≡ Ok (i, after)
     → ((k : ℕ) → is_start marked k ≡ cond (eqb k (length bytes - length rest)) true (is_start starts k)) → length marked
-        ≡ length bytes - length rest + 1
+    ≡ length bytes - length rest + 1
     → IsRead bytes rest items starts
-        → IsRead bytes after (items ++ placed (length bytes - length rest) (length bytes - length after) i ∷ []) marked
+    → IsRead bytes after (items ++ placed (length bytes - length rest) (length bytes - length after) i ∷ []) marked
 goes_on bytes rest after items starts marked i some read marks len was =
     let pc = length bytes - length rest in
     let x = placed pc (length bytes - length after) i in
@@ -148,10 +148,13 @@ goes_on bytes rest after items starts marked i some read marks len was =
           let parts = all-append (λ y. Real y.instruction) items (x ∷ []) real in
           let front = taken.front parts.1.0 in
           let size : length rest ≡ length (spelling pc i) + length after = ap length front.parts
-                ∙ length-append (spelling pc i) after in
+          ∙ length-append (spelling pc i) after in
           let next : length bytes - length after ≡ pc + length (spelling pc i) = omega arith in
-          rw append_assoc (was.found parts.0 (x ∷ more) (after,
-              record { at = refl; fits = front.fits; bytes_are = front.parts; next = next }, stand));
+          rw append_assoc (was.found parts.0 (x ∷ more) (
+            after,
+            record { at = refl; fits = front.fits; bytes_are = front.parts; next = next },
+            stand,
+          ));
       only = λ all real stand.
           let m = was.only all real stand in
           let f = first-of pc m.0 rest some m.2 m.3 in
@@ -159,15 +162,18 @@ goes_on bytes rest after items starts marked i some read marks len was =
           let i-is : f.head.instruction ≡ i = ap (λ (p : Instr × List ℕ). p.0) same in
           let after-is : f.after ≡ after = ap (λ (p : Instr × List ℕ). p.1) same in
           let size : length rest ≡ length (spelling pc f.head.instruction) + length f.after = ap length
-                f.begins.bytes_are ∙ length-append (spelling pc f.head.instruction) f.after in
+          f.begins.bytes_are ∙ length-append (spelling pc f.head.instruction) f.after in
           let following : length f.after ≡ length after = ap length after-is in
           let next-is : f.head.next ≡ length bytes - length after = let n = f.begins.next in omega arith in
           let head-is : f.head ≡ x = located-is f.head pc (length bytes - length after) i f.begins.at next-is i-is in
           let all-is : all ≡ (items ++ x ∷ []) ++ f.tail = m.1 ∙ ap (λ (xs : List Located). items ++ xs) (f.more_is
-                ∙ ap (λ (y : Located). y ∷ f.tail) head-is) ∙ sym (append_assoc items (x ∷ []) f.tail) in
-          (f.tail, all-is, f.real,
-              subst (λ (p : ℕ). StandFrom p f.tail after) next-is
-              (subst (λ (r : List ℕ). StandFrom f.head.next f.tail r) after-is f.stands));
+          ∙ ap (λ (y : Located). y ∷ f.tail) head-is) ∙ sym (append_assoc items (x ∷ []) f.tail) in (
+            f.tail,
+            all-is,
+            f.real,
+            subst (λ (p : ℕ). StandFrom p f.tail after) next-is
+                (subst (λ (r : List ℕ). StandFrom f.head.next f.tail r) after-is f.stands),
+          );
       starts_are = λ k. (
         λ h. elim (chosen (eqb k pc) true (is_start starts k) true (sym (marks k) ∙ h)) [
           | inl t ↦ let e : k ≡ pc = eqb-true k pc t.0 in rw e (pc-last items x)
@@ -193,8 +199,8 @@ read-fails e bytes rest items starts some fails was all real stand =
 stands-empty : (pc : ℕ) (more : List Located) (rest : List ℕ) → length rest ≡ 0 → StandFrom pc more rest → more ≡ []
 stands-empty pc [] rest none stand = refl
 stands-empty pc (x ∷ xs) rest none stand = let size : length rest
-                                                 ≡ suc (length (operands pc x.instruction ++ stand.0)) = ap length
-                                                 stand.1.bytes_are in absurd (omega arith)
+    ≡ suc (length (operands pc x.instruction ++ stand.0)) = ap length
+    stand.1.bytes_are in absurd (omega arith)
 
 pub is_all : (bytes rest : List ℕ) (items : List Located) (starts : List Bool) → length rest ≡ 0
     → IsRead bytes rest items starts → AreReal items → StandFrom 0 items bytes

@@ -50,10 +50,10 @@ follows pc (x ∷ xs) (y ∷ ys) a b back p q e =
     let f = follows x.next xs ys p.0 q.0 back p.2 stands h.1 in
     let text : b ≡ spelling pc x.instruction ++ q.0 = q.1.bytes_are ∙ ap (λ i. spelling pc i ++ q.0) h.0 in
     let whole : b ≡ a ++ f.rest = text ∙ ap (λ (r : List ℕ). spelling pc x.instruction ++ r) f.bytes_are
-          ∙ sym (append_assoc (spelling pc x.instruction) p.0 f.rest)
-          ∙ ap (λ (r : List ℕ). r ++ f.rest) (sym p.1.bytes_are) in
+    ∙ sym (append_assoc (spelling pc x.instruction) p.0 f.rest)
+    ∙ ap (λ (r : List ℕ). r ++ f.rest) (sym p.1.bytes_are) in
     let size : length a ≡ length (spelling pc x.instruction) + length p.0 = ap length p.1.bytes_are
-          ∙ length-append (spelling pc x.instruction) p.0 in
+    ∙ length-append (spelling pc x.instruction) p.0 in
     let end : x.next + length p.0 ≡ pc + length a = let n = p.1.next in omega arith in
     record {
       more = f.more;
@@ -83,13 +83,15 @@ stand-push pc at [] a i at-is stand fits =
 stand-push pc at (x ∷ xs) a i at-is stand fits =
     let begins = stand.1 in
     let size : length a ≡ length (spelling pc x.instruction) + length stand.0 = ap length begins.bytes_are
-          ∙ length-append (spelling pc x.instruction) stand.0 in
+    ∙ length-append (spelling pc x.instruction) stand.0 in
     let end : at ≡ x.next + length stand.0 = let n = begins.next in omega arith in
     let text = spelling at i in
     let both : a ++ text ≡ spelling pc x.instruction ++ (stand.0 ++ text) = ap (λ (r : List ℕ). r ++ text)
-          begins.bytes_are ∙ append_assoc (spelling pc x.instruction) stand.0 text in
-    (stand.0 ++ text, record { at = begins.at; fits = begins.fits; bytes_are = both; next = begins.next },
-        stand-push x.next at xs stand.0 i end stand.2 fits)
+    begins.bytes_are ∙ append_assoc (spelling pc x.instruction) stand.0 text in (
+      stand.0 ++ text,
+      record { at = begins.at; fits = begins.fits; bytes_are = both; next = begins.next },
+      stand-push x.next at xs stand.0 i end stand.2 fits,
+    )
 
 -- ---- a loop over the instructions
 
@@ -105,22 +107,29 @@ begun is out starts none empty =
     record {
       short = omega arith;
       marked = omega arith;
-      spelled = record { items = []; instructions_are = refl; stands = none; starts_are = λ k. rw empty (λ h. absurd cc,
-          λ p. absurd p) };
+      spelled = record {
+        items = [];
+        instructions_are = refl;
+        stands = none;
+        starts_are = λ k. rw empty (
+          λ h. absurd cc,
+          λ p. absurd p,
+        );
+      };
     }
 
 pub goes_on : (is : List Instr) (k : ℕ) (i : Instr) (out new : List ℕ) (starts marked : List Bool) → take (k + 1) is
     ≡ take k is ++ i ∷ []
     → Fits (length out) i → new ≡ out ++ spelling (length out) i → length new ≤ 65535
     → ((j : ℕ) → is_start marked j ≡ cond (eqb j (length out)) true (is_start starts j)) → length marked
-        ≡ length out + 1
+    ≡ length out + 1
     → IsWritten is k out starts → IsWritten is (k + 1) new marked
 goes_on is k i out new starts marked split fits new-is few marks len was =
     let pc = length out in
     let x = placed pc (pc + length (spelling pc i)) i in
     let s = was.spelled in
     let size : length new ≡ length out + suc (length (operands pc i)) = ap length new-is
-          ∙ length-append out (spelling pc i) in
+    ∙ length-append out (spelling pc i) in
     record {
       short = few;
       marked = omega arith;
@@ -156,11 +165,11 @@ next-of pc i others (x ∷ xs) out rest bytes pc-is split stand e =
     let at : 0 + length out ≡ pc = omega arith in
     let begins = stand.1 in
     let size : length rest ≡ length (spelling (0 + length out) x.instruction) + length stand.0 = ap length
-          begins.bytes_are ∙ length-append (spelling (0 + length out) x.instruction) stand.0 in
+    begins.bytes_are ∙ length-append (spelling (0 + length out) x.instruction) stand.0 in
     let all : length bytes ≡ length out + length rest = ap length split ∙ length-append out rest in
     let text : length (spelling (0 + length out) x.instruction)
-          ≡ length (spelling pc i) = ap (λ (q : ℕ). length (spelling q x.instruction)) at
-          ∙ ap (λ j. length (spelling pc j)) same in
+    ≡ length (spelling pc i) = ap (λ (q : ℕ). length (spelling q x.instruction)) at
+    ∙ ap (λ j. length (spelling pc j)) same in
     record {
       fits = subst (λ j. Fits pc j) same (subst (λ (q : ℕ). Fits q x.instruction) at begins.fits);
       long = omega (arith, size, all, text);
@@ -172,7 +181,7 @@ pub has_next : (is : List Instr) (k : ℕ) (i : Instr) (others : List Instr) (ou
 has_next is k i others out starts bytes all split was code e =
     let s = was.spelled in
     let parts : instructions_of all ≡ instructions_of s.items ++ drop k is = e ∙ sym (take-append-drop k is)
-          ∙ ap (λ (xs : List Instr). xs ++ drop k is) (sym s.instructions_are) in
+    ∙ ap (λ (xs : List Instr). xs ++ drop k is) (sym s.instructions_are) in
     let f = follows 0 s.items all out bytes (drop k is) s.stands code.stand parts in
     next-of (length out) i others f.more out f.rest bytes refl f.bytes_are f.stands (f.instructions_are ∙ split)
 
@@ -182,7 +191,7 @@ pub too_long : (is : List Instr) (k : ℕ) (i : Instr) (others : List Instr) (ou
 too_long is k i others out new starts split was new-is long bytes all code e =
     let n = has_next is k i others out starts bytes all split was code e in
     let size : length new ≡ length out + length (spelling (length out) i) = ap length new-is
-          ∙ length-append out (spelling (length out) i) in
+    ∙ length-append out (spelling (length out) i) in
     let few = code.few in
     absurd (omega (arith, n.long, size, few))
 
@@ -198,18 +207,22 @@ pub same-code : (is : List Instr) (out : List ℕ) (starts : List Bool)
     ≡ is → (all ≡ s.items) × (out ≡ bytes)
 same-code is out starts s bytes all stand e =
     let parts : instructions_of all ≡ instructions_of s.items ++ [] = e ∙ sym s.instructions_are
-          ∙ sym (append-nil (instructions_of s.items)) in
+    ∙ sym (append-nil (instructions_of s.items)) in
     let f = follows 0 s.items all out bytes [] s.stands stand parts in
-    let n = none-more (0 + length out) f.more f.rest f.stands f.instructions_are in
-    (f.items_are ∙ ap (λ (xs : List Located). s.items ++ xs) n.0 ∙ append-nil s.items,
-        sym (f.bytes_are ∙ ap (λ (r : List ℕ). out ++ r) n.1 ∙ append-nil out))
+    let n = none-more (0 + length out) f.more f.rest f.stands f.instructions_are in (
+      f.items_are ∙ ap (λ (xs : List Located). s.items ++ xs) n.0 ∙ append-nil s.items,
+      sym (f.bytes_are ∙ ap (λ (r : List ℕ). out ++ r) n.1 ∙ append-nil out),
+    )
 
 pub spelled-code : (is : List Instr) (out : List ℕ) (starts : List Bool) → IsSpelled is out starts
     → length starts ≤ length out → 1 ≤ length out → length out ≤ 65535 → all_land starts is ≡ true
     → (items : List Located) × IsCode out items × (instructions_of items ≡ is)
-spelled-code is out starts s len some few land =
-    (s.items, is-code out s.items starts (λ real. s.stands) s.starts_are len some few
-        (ap (all_land starts) s.instructions_are ∙ land), s.instructions_are)
+spelled-code is out starts s len some few land = (
+  s.items,
+  is-code out s.items starts (λ real. s.stands) s.starts_are len some few
+      (ap (all_land starts) s.instructions_are ∙ land),
+  s.instructions_are,
+)
 
 pub spelled-lands : (is : List Instr) (out : List ℕ) (starts : List Bool) (bytes : List ℕ) (all : List Located)
     → IsSpelled is out starts → IsCode bytes all → instructions_of all ≡ is → all_land starts is ≡ true
@@ -237,9 +250,9 @@ stand-same : (pc : ℕ) (a b : List Located) (bytes : List ℕ) → AreReal a �
     → StandFrom pc b bytes → a ≡ b
 stand-same pc [] [] bytes r s p q = refl
 stand-same pc [] (y ∷ ys) bytes r s p q = let none : [] ≡ spelling pc y.instruction ++ q.0 = sym p ∙ q.1.bytes_are
-                                                in absurd cc
+    in absurd cc
 stand-same pc (x ∷ xs) [] bytes r s p q = let none : [] ≡ spelling pc x.instruction ++ p.0 = sym q ∙ p.1.bytes_are
-                                                in absurd cc
+    in absurd cc
 stand-same pc (x ∷ xs) (y ∷ ys) bytes r s p q =
     let one = ap (instruction_at pc) p.1.bytes_are ∙ instruction-again pc x.instruction p.0 p.1.fits r.0 in
     let two = ap (instruction_at pc) q.1.bytes_are ∙ instruction-again pc y.instruction q.0 q.1.fits s.0 in
@@ -247,9 +260,9 @@ stand-same pc (x ∷ xs) (y ∷ ys) bytes r s p q =
     let head : x ≡ y = begins-same pc x y bytes bytes p.0 q.0 p.1 q.1 (ap (λ (z : Instr × List ℕ). z.0) same) in
     let rest : p.0 ≡ q.0 = ap (λ (z : Instr × List ℕ). z.1) same in
     let tail : StandFrom y.next xs q.0 = subst (λ (z : Located). StandFrom z.next xs q.0) head
-          (subst (λ (t : List ℕ). StandFrom x.next xs t) rest p.2) in
+    (subst (λ (t : List ℕ). StandFrom x.next xs t) rest p.2) in
     ap (λ (z : Located). z ∷ xs) head
-        ∙ ap (λ (zs : List Located). y ∷ zs) (stand-same y.next xs ys q.0 r.1 s.1 tail q.2)
+    ∙ ap (λ (zs : List Located). y ∷ zs) (stand-same y.next xs ys q.0 r.1 s.1 tail q.2)
 
 pub one-list : (bytes : List ℕ) (a b : List Located) → IsCode bytes a → IsCode bytes b → a ≡ b
 one-list bytes a b p q = stand-same 0 a b bytes (code-real bytes a p) (code-real bytes b q) p.stand q.stand

@@ -61,8 +61,10 @@ pub record Takes (bytes text rest : List ℕ) : Type 0 where
   pub rest_fits : IsBytes rest
 
 pub Takes-then : (a x b y c : List ℕ) → Takes a x b → Takes b y c → Takes a (x ++ y) c
-Takes-then a x b y c p q = record { parts = p.parts ∙ ap (λ (t : List ℕ). x ++ t) q.parts ∙ sym (append_assoc x y c);
-    rest_fits = q.rest_fits }
+Takes-then a x b y c p q = record {
+  parts = p.parts ∙ ap (λ (t : List ℕ). x ++ t) q.parts ∙ sym (append_assoc x y c);
+  rest_fits = q.rest_fits;
+}
 
 pub Takes-shorter : (a x b : List ℕ) → Takes a x b → length b ≤ length a
 Takes-shorter a x b t = let e = ap length t.parts in omega (arith, e, length-append x b)
@@ -108,34 +110,43 @@ wide32 = record {
 number_takes : (w : Width) (wide : IsWide w) (bytes : List ℕ) (n : ℕ) (rest : List ℕ) → IsBytes bytes
     → number_at w bytes ≡ Ok (n, rest) → Takes bytes (to_be_bytes w n) rest × (n < 2 ^ bits w)
 number_takes w wide bytes n rest fits e =
-    let g = guard_ok (ltb (length bytes) (byte_len w)) error.Operand (from_be_bytes w (take (byte_len w) bytes),
-          drop (byte_len w) bytes) (n, rest) e in
+    let g = guard_ok (ltb (length bytes) (byte_len w)) error.Operand (
+      from_be_bytes w (take (byte_len w) bytes),
+      drop (byte_len w) bytes,
+    ) (n, rest) e in
     let long : byte_len w ≤ length bytes = ltb-false _ _ g.0 in
     let n-is : from_be_bytes w (take (byte_len w) bytes) ≡ n = ap (λ (p : ℕ × List ℕ). p.0) g.1 in
     let rest-is : drop (byte_len w) bytes ≡ rest = ap (λ (p : ℕ × List ℕ). p.1) g.1 in
     let front : to_be_bytes w n
-          ≡ take (byte_len w) bytes = rw (← n-is)
-          (wide.back (take (byte_len w) bytes) (omega (arith, length-take (byte_len w) bytes))
-          (IsBytes-take (byte_len w) bytes fits)) in
-    (record { parts = rw (front, ← rest-is) (sym (take-append-drop (byte_len w) bytes));
-        rest_fits = rw (← rest-is) (IsBytes-drop (byte_len w) bytes fits) },
-        rw (← n-is) (wide.below (take (byte_len w) bytes) (IsBytes-take (byte_len w) bytes fits)))
+    ≡ take (byte_len w) bytes = rw (← n-is)
+    (wide.back (take (byte_len w) bytes) (omega (arith, length-take (byte_len w) bytes))
+    (IsBytes-take (byte_len w) bytes fits)) in (
+      record {
+        parts = rw (front, ← rest-is) (sym (take-append-drop (byte_len w) bytes));
+        rest_fits = rw (← rest-is) (IsBytes-drop (byte_len w) bytes fits);
+      },
+      rw (← n-is) (wide.below (take (byte_len w) bytes) (IsBytes-take (byte_len w) bytes fits)),
+    )
 
 number_again : (w : Width) (wide : IsWide w) (n : ℕ) (rest : List ℕ) → n < 2 ^ bits w
     → number_at w (to_be_bytes w n ++ rest) ≡ Ok (n, rest)
 number_again w wide n rest lt =
     let len = wide.len n in
     let long : ltb (length (to_be_bytes w n ++ rest)) (byte_len w)
-          ≡ false = le-ltb _ _ (omega (arith, length-append (to_be_bytes w n) rest)) in
-    rw (long, take_at (to_be_bytes w n) rest (byte_len w) len, drop_at (to_be_bytes w n) rest (byte_len w) len,
-        wide.again n lt) refl
+    ≡ false = le-ltb _ _ (omega (arith, length-append (to_be_bytes w n) rest)) in
+    rw (
+      long,
+      take_at (to_be_bytes w n) rest (byte_len w) len,
+      drop_at (to_be_bytes w n) rest (byte_len w) len,
+      wide.again n lt,
+    ) refl
 
 pub byte_takes : (bytes : List ℕ) (n : ℕ) (rest : List ℕ) → IsBytes bytes → byte_at bytes ≡ Ok (n, rest)
     → Takes bytes (n ∷ []) rest × (n < 2 ^ 8)
 byte_takes [] n rest fits e = absurd cc
 byte_takes (b ∷ bytes) n rest fits e =
     subst (λ (x : ℕ × List ℕ). Takes (b ∷ bytes) (x.0 ∷ []) x.1 × (x.0 < 2 ^ 8)) (ok_is (b, bytes) (n, rest) e)
-        (record { parts = refl; rest_fits = IsBytes-rest b bytes fits }, fits 0)
+    (record { parts = refl; rest_fits = IsBytes-rest b bytes fits }, fits 0)
 
 pub u2_takes : (bytes : List ℕ) (n : ℕ) (rest : List ℕ) → IsBytes bytes → number_at w16 bytes ≡ Ok (n, rest)
     → Takes bytes (u2 n) rest × (n < 2 ^ 16)
@@ -154,9 +165,9 @@ signed_takes w wide bytes z rest fits e =
     let t = number_takes w wide bytes a.0.0 a.0.1 fits a.1 in
     let back : cast_unsigned w (cast_signed w a.0.0) ≡ a.0.0 = of_z-to_z w a.0.0 t.1 in
     let parts : Takes bytes (to_be_bytes w (cast_unsigned w (cast_signed w a.0.0))) a.0.1 = subst
-          (λ (n : ℕ). Takes bytes (to_be_bytes w n) a.0.1) (sym back) t.0 in
+    (λ (n : ℕ). Takes bytes (to_be_bytes w n) a.0.1) (sym back) t.0 in
     subst (λ (x : ℤ × List ℕ). Takes bytes (to_be_bytes w (cast_unsigned w x.0)) x.1 × FitsSigned w x.0)
-        (ok_is (cast_signed w a.0.0, a.0.1) (z, rest) a.2) (parts, sfits_to_z (record { fits = t.1 }))
+    (ok_is (cast_signed w a.0.0, a.0.1) (z, rest) a.2) (parts, sfits_to_z (record { fits = t.1 }))
 
 pub signed_again : (w : Width) → IsWide w → (z : ℤ) (rest : List ℕ) → FitsSigned w z → signed_at w (signed w z ++ rest)
     ≡ Ok (z, rest)

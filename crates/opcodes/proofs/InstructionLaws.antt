@@ -43,8 +43,11 @@ use Rattle.opcodes.proofs.SwitchLaws.{lookup-again}
 
 always : {pc code : ℕ} {bytes : List ℕ} {i : Instr} {rest : List ℕ} → IsRead pc code i bytes rest
     → Reads pc code bytes (i, rest)
-always {pc} {code} {bytes} {i} {rest} r = record { shorter = Takes-shorter bytes (operands pc i) rest r.takes;
-    rest_fits = r.takes.rest_fits; read = λ real. r }
+always {pc} {code} {bytes} {i} {rest} r = record {
+  shorter = Takes-shorter bytes (operands pc i) rest r.takes;
+  rest_fits = r.takes.rest_fits;
+  read = λ real. r;
+}
 
 named-takes : (pc : ℕ) (what : Named) (n : ℕ) (bytes rest : List ℕ) → Takes bytes (u2 n) rest → n < 2 ^ 16
     → IsRead pc (opcode (by_name what 0)) (by_name what n) bytes rest
@@ -63,14 +66,19 @@ increment-takes : (pc : ℕ) (bytes : List ℕ) (x : Instr × List ℕ) → IsBy
 unfolding increment_at
 increment-takes pc bytes x fits e =
     let a = bind_ok (byte_at bytes) (λ n. signed_at w8 n.1
-          >>= λ z. Ok (instruction.Local (access.Increment (increment.Byte n.0 z.0)), z.1)) x e in
-    let b = bind_ok (signed_at w8 a.0.1) (λ z. Ok (instruction.Local (access.Increment (increment.Byte a.0.0 z.0)),
-          z.1)) x a.2 in
+    >>= λ z. Ok (instruction.Local (access.Increment (increment.Byte n.0 z.0)), z.1)) x e in
+    let b = bind_ok (signed_at w8 a.0.1) (λ z. Ok (
+      instruction.Local (access.Increment (increment.Byte a.0.0 z.0)),
+      z.1,
+    )) x a.2 in
     let s = byte_takes bytes a.0.0 a.0.1 fits a.1 in
     let t = signed_takes w8 wide8 a.0.1 b.0.0 b.0.1 s.0.rest_fits b.1 in
     subst (Reads pc 132 bytes) (ok_is (instruction.Local (access.Increment (increment.Byte a.0.0 b.0.0)), b.0.1) x b.2)
-    (always (record { takes = Takes-then bytes (a.0.0 ∷ []) a.0.1 (signed w8 b.0.0) b.0.1 s.0 t.0; fits = (s.1, t.1);
-        opcode_is = refl }))
+    (always (record {
+      takes = Takes-then bytes (a.0.0 ∷ []) a.0.1 (signed w8 b.0.0) b.0.1 s.0 t.0;
+      fits = (s.1, t.1);
+      opcode_is = refl;
+    }))
 
 zero-takes : (n count last : ℕ) (rest : List ℕ) (x : Instr × List ℕ) → ends_with_zero n count last rest ≡ Ok x
     → (last ≡ 0) × (x ≡ (instruction.Invoke (invoke.Interface count) n, rest))
@@ -82,9 +90,9 @@ interface-takes : (pc : ℕ) (bytes : List ℕ) (x : Instr × List ℕ) → IsBy
 unfolding interface_at
 interface-takes pc bytes x fits e =
     let a = bind_ok (number_at w16 bytes) (λ n. byte_at n.1 >>= λ count. byte_at count.1
-          >>= λ last. ends_with_zero n.0 count.0 last.0 last.1) x e in
+    >>= λ last. ends_with_zero n.0 count.0 last.0 last.1) x e in
     let b = bind_ok (byte_at a.0.1) (λ count. byte_at count.1 >>= λ last. ends_with_zero a.0.0 count.0 last.0 last.1) x
-          a.2 in
+    a.2 in
     let c = bind_ok (byte_at b.0.1) (λ last. ends_with_zero a.0.0 b.0.0 last.0 last.1) x b.2 in
     let z = zero-takes a.0.0 b.0.0 c.0.0 c.0.1 x c.2 in
     let r = u2_takes bytes a.0.0 a.0.1 fits a.1 in
@@ -103,8 +111,11 @@ type-takes : (n : ℕ) (p : Option Primitive) (rest : List ℕ) (x : Instr × Li
     → new_array p rest ≡ Ok x → (type : Primitive) × (primitive_number type ≡ n)
     × (x ≡ (instruction.Array (array.New type), rest))
 type-takes n None rest x h e = absurd cc
-type-takes n (Some type) rest x h e = (type, primitives-take n type h,
-    sym (ok_is (instruction.Array (array.New type), rest) x e))
+type-takes n (Some type) rest x h e = (
+  type,
+  primitives-take n type h,
+  sym (ok_is (instruction.Array (array.New type), rest) x e),
+)
 
 new_array-takes : (pc : ℕ) (bytes : List ℕ) (x : Instr × List ℕ) → IsBytes bytes → new_array_at bytes ≡ Ok x
     → Reads pc 188 bytes x
@@ -147,16 +158,22 @@ form-takes pc b (Some (layout.Store k)) bytes x h fits e =
     (record { tail = u2 a.0.0; operands_are = ap (λ c. c ∷ u2 a.0.0) code; takes = s.0; fits = s.1; opcode_is = refl })
 form-takes pc b (Some layout.Increment) bytes x h fits e =
     let a = bind_ok (number_at w16 bytes) (λ n. signed_at w16 n.1
-          >>= λ z. Ok (instruction.Local (access.Increment (increment.Wide n.0 z.0)), z.1)) x e in
-    let c = bind_ok (signed_at w16 a.0.1) (λ z. Ok (instruction.Local (access.Increment (increment.Wide a.0.0 z.0)),
-          z.1)) x a.2 in
+    >>= λ z. Ok (instruction.Local (access.Increment (increment.Wide n.0 z.0)), z.1)) x e in
+    let c = bind_ok (signed_at w16 a.0.1) (λ z. Ok (
+      instruction.Local (access.Increment (increment.Wide a.0.0 z.0)),
+      z.1,
+    )) x a.2 in
     let s = u2_takes bytes a.0.0 a.0.1 fits a.1 in
     let t = signed_takes w16 wide16 a.0.1 c.0.0 c.0.1 s.0.rest_fits c.1 in
     let code = layout_of-takes b layout.Increment h in
     subst (WideForm pc b bytes) (ok_is (instruction.Local (access.Increment (increment.Wide a.0.0 c.0.0)), c.0.1) x c.2)
-    (record { tail = u2 a.0.0 ++ signed w16 c.0.0; operands_are = ap (λ d. d ∷ u2 a.0.0 ++ signed w16 c.0.0) code;
-        takes = Takes-then bytes (u2 a.0.0) a.0.1 (signed w16 c.0.0) c.0.1 s.0 t.0; fits = (s.1, t.1);
-        opcode_is = refl })
+    (record {
+      tail = u2 a.0.0 ++ signed w16 c.0.0;
+      operands_are = ap (λ d. d ∷ u2 a.0.0 ++ signed w16 c.0.0) code;
+      takes = Takes-then bytes (u2 a.0.0) a.0.1 (signed w16 c.0.0) c.0.1 s.0 t.0;
+      fits = (s.1, t.1);
+      opcode_is = refl;
+    })
 form-takes pc b (Some (layout.Branch t)) bytes x h fits e = absurd cc
 form-takes pc b (Some (layout.Named what)) bytes x h fits e = absurd cc
 form-takes pc b (Some layout.InvokeInterface) bytes x h fits e = absurd cc
@@ -172,8 +189,11 @@ wide-takes pc bytes x fits e =
     let a = bind_ok (byte_at bytes) (λ b. wide_form_at (layout_of b.0) b.1) x e in
     let s = byte_takes bytes a.0.0 a.0.1 fits a.1 in
     let f = form-takes pc a.0.0 (layout_of a.0.0) a.0.1 x refl s.0.rest_fits a.2 in
-    always (record { takes = rw f.operands_are (Takes-then bytes (a.0.0 ∷ []) a.0.1 f.tail x.1 s.0 f.takes);
-        fits = f.fits; opcode_is = f.opcode_is })
+    always (record {
+      takes = rw f.operands_are (Takes-then bytes (a.0.0 ∷ []) a.0.1 f.tail x.1 s.0 f.takes);
+      fits = f.fits;
+      opcode_is = f.opcode_is;
+    })
 
 layout-takes : (pc : ℕ) (l : Layout) (bytes : List ℕ) (x : Instr × List ℕ) → IsBytes bytes → layout_at pc l bytes ≡ Ok x
     → Reads pc (opcode_of l) bytes x
@@ -182,34 +202,34 @@ layout-takes pc layout.Byte bytes x fits e =
     let a = bind_ok (signed_at w8 bytes) (λ z. Ok (instruction.Constant (constant.Byte z.0), z.1)) x e in
     let s = signed_takes w8 wide8 bytes a.0.0 a.0.1 fits a.1 in
     subst (Reads pc 16 bytes) (ok_is (instruction.Constant (constant.Byte a.0.0), a.0.1) x a.2)
-        (always (record { takes = s.0; fits = s.1; opcode_is = refl }))
+    (always (record { takes = s.0; fits = s.1; opcode_is = refl }))
 layout-takes pc layout.Short bytes x fits e =
     let a = bind_ok (signed_at w16 bytes) (λ z. Ok (instruction.Constant (constant.Short z.0), z.1)) x e in
     let s = signed_takes w16 wide16 bytes a.0.0 a.0.1 fits a.1 in
     subst (Reads pc 17 bytes) (ok_is (instruction.Constant (constant.Short a.0.0), a.0.1) x a.2)
-        (always (record { takes = s.0; fits = s.1; opcode_is = refl }))
+    (always (record { takes = s.0; fits = s.1; opcode_is = refl }))
 layout-takes pc layout.NarrowInt bytes x fits e =
     let a = bind_ok (byte_at bytes) (λ n. Ok (instruction.Constant (constant.Int width.Narrow n.0), n.1)) x e in
     let s = byte_takes bytes a.0.0 a.0.1 fits a.1 in
     subst (Reads pc 18 bytes) (ok_is (instruction.Constant (constant.Int width.Narrow a.0.0), a.0.1) x a.2)
-        (always (record { takes = s.0; fits = s.1; opcode_is = refl }))
+    (always (record { takes = s.0; fits = s.1; opcode_is = refl }))
 layout-takes pc (layout.Load k) bytes x fits e =
     let a = bind_ok (byte_at bytes) (λ n. Ok (instruction.Local (access.Load k (local.Byte n.0)), n.1)) x e in
     let s = byte_takes bytes a.0.0 a.0.1 fits a.1 in
     subst (Reads pc (load_opcode k) bytes) (ok_is (instruction.Local (access.Load k (local.Byte a.0.0)), a.0.1) x a.2)
-        (always (record { takes = s.0; fits = s.1; opcode_is = refl }))
+    (always (record { takes = s.0; fits = s.1; opcode_is = refl }))
 layout-takes pc (layout.Store k) bytes x fits e =
     let a = bind_ok (byte_at bytes) (λ n. Ok (instruction.Local (access.Store k (local.Byte n.0)), n.1)) x e in
     let s = byte_takes bytes a.0.0 a.0.1 fits a.1 in
     subst (Reads pc (store_opcode k) bytes) (ok_is (instruction.Local (access.Store k (local.Byte a.0.0)), a.0.1) x a.2)
-        (always (record { takes = s.0; fits = s.1; opcode_is = refl }))
+    (always (record { takes = s.0; fits = s.1; opcode_is = refl }))
 layout-takes pc layout.Increment bytes x fits e = increment-takes pc bytes x fits e
 layout-takes pc (layout.Branch t) bytes x fits e = branch-takes pc t bytes x fits e
 layout-takes pc (layout.Named what) bytes x fits e =
     let a = bind_ok (number_at w16 bytes) (λ n. Ok (by_name what n.0, n.1)) x e in
     let s = u2_takes bytes a.0.0 a.0.1 fits a.1 in
     subst (Reads pc (opcode (by_name what 0)) bytes) (ok_is (by_name what a.0.0, a.0.1) x a.2)
-        (always (named-takes pc what a.0.0 bytes a.0.1 s.0 s.1))
+    (always (named-takes pc what a.0.0 bytes a.0.1 s.0 s.1))
 layout-takes pc layout.InvokeInterface bytes x fits e = interface-takes pc bytes x fits e
 layout-takes pc layout.NewArray bytes x fits e = new_array-takes pc bytes x fits e
 layout-takes pc layout.TableSwitch bytes x fits e = table-takes pc bytes x fits e
@@ -228,8 +248,11 @@ by_opcode-takes pc b None bytes x h fits e = by_layout-takes pc b (layout_of b) 
 by_opcode-takes pc b (Some i) bytes x h fits e =
     let t = bare_of-takes b i h in
     subst (Reads pc b bytes) (ok_is (i, bytes) x e)
-    (always (record { takes = record { parts = rw t.nothing refl; rest_fits = fits }; fits = t.fits pc;
-        opcode_is = t.opcode_is }))
+    (always (record {
+      takes = record { parts = rw t.nothing refl; rest_fits = fits };
+      fits = t.fits pc;
+      opcode_is = t.opcode_is;
+    }))
 
 -- an instruction and what is after it are the bytes
 pub record IsFront (pc : ℕ) (i : Instr) (bytes rest : List ℕ) : Type 0 where
@@ -272,8 +295,10 @@ with_layout pc l rest x h = rw (layout-is_not_bare l, layout-again l) h
 named-again : (pc : ℕ) (what : Named) (n : ℕ) (rest : List ℕ) → n < 2 ^ 16
     → instruction_at pc (opcode (by_name what 0) ∷ (u2 n ++ rest)) ≡ Ok (by_name what n, rest)
 unfolding layout_at
-named-again pc what n rest lt = with_layout pc (layout.Named what) (u2 n ++ rest) (by_name what n,
-    rest) (rw (u2_again n rest lt) refl)
+named-again pc what n rest lt = with_layout pc (layout.Named what) (u2 n ++ rest) (
+  by_name what n,
+  rest,
+) (rw (u2_again n rest lt) refl)
 
 wide-again : (pc : ℕ) (l : Layout) (rest : List ℕ) (x : Instr × List ℕ) → wide_form_at (Some l) rest ≡ Ok x
     → instruction_at pc (196 ∷ opcode_of l ∷ rest) ≡ Ok x
@@ -313,15 +338,19 @@ access-again pc (access.Store k (local.Byte n)) rest fits = with_layout pc (layo
 access-again pc (access.Store k (local.Wide n)) rest fits = wide-again pc (layout.Store k) (u2 n ++ rest)
     (instruction.Local (access.Store k (local.Wide n)), rest) (rw (u2_again n rest fits) refl)
 access-again pc (access.Increment (increment.Byte n z)) rest fits = with_layout pc layout.Increment
-    (n ∷ (signed w8 z ++ rest)) (instruction.Local (access.Increment (increment.Byte n z)),
-    rest) (rw (signed_again w8 wide8 z rest fits.1) refl)
+    (n ∷ (signed w8 z ++ rest)) (
+      instruction.Local (access.Increment (increment.Byte n z)),
+      rest,
+    ) (rw (signed_again w8 wide8 z rest fits.1) refl)
 access-again pc (access.Increment (increment.Wide n z)) rest fits =
     let read : wide_form_at (Some layout.Increment) (u2 n ++ (signed w16 z ++ rest))
-          ≡ Ok (instruction.Local (access.Increment (increment.Wide n z)),
-          rest) = rw (u2_again n (signed w16 z ++ rest) fits.0, signed_again w16 wide16 z rest fits.1) refl in
+    ≡ Ok (
+      instruction.Local (access.Increment (increment.Wide n z)),
+      rest,
+    ) = rw (u2_again n (signed w16 z ++ rest) fits.0, signed_again w16 wide16 z rest fits.1) refl in
     ap (λ (bytes : List ℕ). instruction_at pc (196 ∷ 132 ∷ bytes)) (append_assoc (u2 n) (signed w16 z) rest)
-        ∙ wide-again pc layout.Increment (u2 n ++ (signed w16 z ++ rest))
-        (instruction.Local (access.Increment (increment.Wide n z)), rest) read
+    ∙ wide-again pc layout.Increment (u2 n ++ (signed w16 z ++ rest))
+    (instruction.Local (access.Increment (increment.Wide n z)), rest) read
 
 array-again : (pc : ℕ) (op : ArrayOperation ℕ) (rest : List ℕ) → ArrayFits op
     → instruction_at pc (spelling pc (instruction.Array op) ++ rest) ≡ Ok (instruction.Array op, rest)
@@ -341,10 +370,10 @@ invoke-again pc invoke.Special n rest fits = named-again pc named.InvokeSpecial 
 invoke-again pc invoke.Static n rest fits = named-again pc named.InvokeStatic n rest fits
 invoke-again pc (invoke.Interface count) n rest fits =
     let read : layout_at pc layout.InvokeInterface (u2 n ++ (count ∷ 0 ∷ rest))
-          ≡ Ok (instruction.Invoke (invoke.Interface count) n, rest) = rw (u2_again n (count ∷ 0 ∷ rest) fits.0) refl in
+    ≡ Ok (instruction.Invoke (invoke.Interface count) n, rest) = rw (u2_again n (count ∷ 0 ∷ rest) fits.0) refl in
     ap (λ (bytes : List ℕ). instruction_at pc (185 ∷ bytes)) (append_assoc (u2 n) (count ∷ 0 ∷ []) rest)
-        ∙ with_layout pc layout.InvokeInterface (u2 n ++ (count ∷ 0 ∷ rest))
-        (instruction.Invoke (invoke.Interface count) n, rest) read
+    ∙ with_layout pc layout.InvokeInterface (u2 n ++ (count ∷ 0 ∷ rest))
+    (instruction.Invoke (invoke.Interface count) n, rest) read
 
 pub instruction-again : (pc : ℕ) (i : Instr) (rest : List ℕ) → Fits pc i → Real i
     → instruction_at pc (spelling pc i ++ rest) ≡ Ok (i, rest)

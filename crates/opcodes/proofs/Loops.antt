@@ -37,15 +37,15 @@ unfolding pad_at
 pad_at-suc n [] rest b e z = absurd cc
 pad_at-suc n (zero ∷ bytes) rest b e z = ap (λ (p : ℕ × List ℕ). pad_at n p.1) (ok_is (0, bytes) (b, rest) e)
 pad_at-suc n (suc a ∷ bytes) rest b e z = let s : suc a
-                                                ≡ b = ap (λ (p : ℕ × List ℕ). p.0) (ok_is (suc a, bytes) (b, rest) e)
-                                                in absurd (omega arith)
+    ≡ b = ap (λ (p : ℕ × List ℕ). p.0) (ok_is (suc a, bytes) (b, rest) e)
+    in absurd (omega arith)
 
 pad_at-other : (n : ℕ) (bytes rest : List ℕ) (b : ℕ) → byte_at bytes ≡ Ok (b, rest) → b ≢ 0 → pad_at (suc n) bytes
     ≡ Err error.Switch
 unfolding pad_at
 pad_at-other n [] rest b e z = absurd cc
 pad_at-other n (zero ∷ bytes) rest b e z = let s : 0 ≡ b = ap (λ (p : ℕ × List ℕ). p.0) (ok_is (0, bytes) (b, rest) e)
-                                                 in absurd (z (sym s))
+    in absurd (z (sym s))
 pad_at-other n (suc a ∷ bytes) rest b e z = refl
 
 pad_at-fails : (e : OpError) (n : ℕ) (bytes : List ℕ) → Fails e (byte_at bytes) → Fails e (pad_at (suc n) bytes)
@@ -80,7 +80,7 @@ pub pad_ends : (e : OpError) (count i : ℕ) (bytes : List ℕ) (total : Result 
 pad_ends e count i bytes total lt h so_far =
     let k : count - i ≡ suc (count - (i + 1)) = omega arith in
     fails-is e (pad_at (suc (count - (i + 1))) bytes) total (ap (λ n. pad_at n bytes) (sym k) ∙ so_far)
-        (pad_at-fails e (count - (i + 1)) bytes h)
+    (pad_at-fails e (count - (i + 1)) bytes h)
 
 pub pad_done : (count i : ℕ) (bytes : List ℕ) (total : Result (List ℕ) OpError) → count ≤ i → pad_at (count - i) bytes
     ≡ total → total ≡ Ok bytes
@@ -104,13 +104,15 @@ regroup front n (Err f) = refl
 pub targets_go_on : (front : List ℕ) (pc count i : ℕ) (bytes : List ℕ) (z : ℤ) (after : List ℕ)
     (total : Result (List ℕ × List ℕ) OpError) → i < count → signed_at w32 bytes ≡ Ok (z, after)
     → with_front front (targets_at pc (count - i) bytes) ≡ total
-        → with_front (front ++ landing pc z ∷ []) (targets_at pc (count - (i + 1)) after) ≡ total
+    → with_front (front ++ landing pc z ∷ []) (targets_at pc (count - (i + 1)) after) ≡ total
 unfolding targets_at
 targets_go_on front pc count i bytes z after total lt h so_far =
     let k : count - i ≡ suc (count - (i + 1)) = omega arith in
     let one : with_front front (targets_at pc (count - i) bytes)
-          ≡ with_front (front ++ landing pc z ∷ []) (targets_at pc (count - (i + 1)) after) = rw (k,
-          h) (regroup front (landing pc z) (targets_at pc (count - (i + 1)) after)) in
+    ≡ with_front (front ++ landing pc z ∷ []) (targets_at pc (count - (i + 1)) after) = rw (
+      k,
+      h,
+    ) (regroup front (landing pc z) (targets_at pc (count - (i + 1)) after)) in
     sym one ∙ so_far
 
 pub targets_end : (e : OpError) (front : List ℕ) (pc count i : ℕ) (bytes : List ℕ)
@@ -120,10 +122,10 @@ unfolding targets_at
 targets_end e front pc count i bytes total lt h so_far =
     let k : count - i ≡ suc (count - (i + 1)) = omega arith in
     let one = fails-then e (signed_at w32 bytes) (λ z. targets_at pc (count - (i + 1)) z.1
-          >>= λ others. Ok (landing pc z.0 ∷ others.0, others.1)) h in
+    >>= λ others. Ok (landing pc z.0 ∷ others.0, others.1)) h in
     let two = fails-then e (targets_at pc (suc (count - (i + 1))) bytes) (λ x. Ok (front ++ x.0, x.1)) one in
     fails-is e (with_front front (targets_at pc (suc (count - (i + 1))) bytes)) total
-        (ap (λ n. with_front front (targets_at pc n bytes)) (sym k) ∙ so_far) two
+    (ap (λ n. with_front front (targets_at pc n bytes)) (sym k) ∙ so_far) two
 
 pub targets_done : (front : List ℕ) (pc count i : ℕ) (bytes : List ℕ) (total : Result (List ℕ × List ℕ) OpError)
     → count ≤ i → with_front front (targets_at pc (count - i) bytes) ≡ total → total ≡ Ok (front, bytes)
@@ -131,7 +133,7 @@ unfolding targets_at
 targets_done front pc count i bytes total le so_far =
     let k : count - i ≡ 0 = omega arith in
     let one : with_front front (targets_at pc (count - i) bytes)
-          ≡ Ok (front, bytes) = rw k (ap (λ (ns : List ℕ). Ok (ns, bytes)) (append-nil front)) in
+    ≡ Ok (front, bytes) = rw k (ap (λ (ns : List ℕ). Ok (ns, bytes)) (append-nil front)) in
     sym so_far ∙ one
 
 -- ---- pairs
@@ -143,13 +145,17 @@ pub pairs_go_on : (front : Pairs) (pc : ℕ) (before : Option ℤ) (count i : �
     (middle : List ℕ) (z : ℤ) (after : List ℕ) (total : Result (Pairs × List ℕ) OpError) → i < count
     → signed_at w32 bytes ≡ Ok (key, middle) → rises before key ≡ true → signed_at w32 middle ≡ Ok (z, after)
     → with_front front (pairs_at pc before (count - i) bytes) ≡ total
-        → with_front (front ++ (key, landing pc z) ∷ []) (pairs_at pc (Some key) (count - (i + 1)) after) ≡ total
+    → with_front (front ++ (key, landing pc z) ∷ []) (pairs_at pc (Some key) (count - (i + 1)) after) ≡ total
 unfolding pairs_at
 pairs_go_on front pc before count i bytes key middle z after total lt h up h2 so_far =
     let k : count - i ≡ suc (count - (i + 1)) = omega arith in
     let one : with_front front (pairs_at pc before (count - i) bytes) ≡ with_front (front ++ (key, landing pc z) ∷ [])
-          (pairs_at pc (Some key) (count - (i + 1)) after) = rw (k, h, up,
-          h2) (regroup front (key, landing pc z) (pairs_at pc (Some key) (count - (i + 1)) after)) in
+    (pairs_at pc (Some key) (count - (i + 1)) after) = rw (
+      k,
+      h,
+      up,
+      h2,
+    ) (regroup front (key, landing pc z) (pairs_at pc (Some key) (count - (i + 1)) after)) in
     sym one ∙ so_far
 
 pub pairs_end : (e : OpError) (front : Pairs) (pc : ℕ) (before : Option ℤ) (count i : ℕ) (bytes : List ℕ)
@@ -160,11 +166,11 @@ pairs_end e front pc before count i bytes total lt h so_far =
     let n = count - (i + 1) in
     let k : count - i ≡ suc n = omega arith in
     let one = fails-then e (signed_at w32 bytes) (λ key. cond (rises before key.0) (signed_at w32 key.1
-          >>= λ z. pairs_at pc (Some key.0) n z.1 >>= λ others. Ok ((key.0, landing pc z.0) ∷ others.0, others.1))
-          (Err error.Switch)) h in
+    >>= λ z. pairs_at pc (Some key.0) n z.1 >>= λ others. Ok ((key.0, landing pc z.0) ∷ others.0, others.1))
+    (Err error.Switch)) h in
     let two = fails-then e (pairs_at pc before (suc n) bytes) (λ x. Ok (front ++ x.0, x.1)) one in
     fails-is e (with_front front (pairs_at pc before (suc n) bytes)) total
-        (ap (λ m. with_front front (pairs_at pc before m bytes)) (sym k) ∙ so_far) two
+    (ap (λ m. with_front front (pairs_at pc before m bytes)) (sym k) ∙ so_far) two
 
 pub pairs_stop : (front : Pairs) (pc : ℕ) (before : Option ℤ) (count i : ℕ) (bytes : List ℕ) (key : ℤ) (middle : List ℕ)
     (total : Result (Pairs × List ℕ) OpError) → i < count
@@ -185,13 +191,13 @@ pairs_break e front pc before count i bytes key middle total lt h up h2 so_far =
     let n = count - (i + 1) in
     let k : count - i ≡ suc n = omega arith in
     let one = fails-then e (signed_at w32 middle) (λ z. pairs_at pc (Some key) n z.1
-          >>= λ others. Ok ((key, landing pc z.0) ∷ others.0, others.1)) h2 in
+    >>= λ others. Ok ((key, landing pc z.0) ∷ others.0, others.1)) h2 in
     let same : pairs_at pc before (suc n) bytes ≡ (signed_at w32 middle >>= λ z. pairs_at pc (Some key) n z.1
-          >>= λ others. Ok ((key, landing pc z.0) ∷ others.0, others.1)) = rw (h, up) refl in
+    >>= λ others. Ok ((key, landing pc z.0) ∷ others.0, others.1)) = rw (h, up) refl in
     let two = fails-then e (pairs_at pc before (suc n) bytes) (λ x. Ok (front ++ x.0, x.1))
-          (fails-is e _ _ (sym same) one) in
+    (fails-is e _ _ (sym same) one) in
     fails-is e (with_front front (pairs_at pc before (suc n) bytes)) total
-        (ap (λ m. with_front front (pairs_at pc before m bytes)) (sym k) ∙ so_far) two
+    (ap (λ m. with_front front (pairs_at pc before m bytes)) (sym k) ∙ so_far) two
 
 pub pairs_done : (front : Pairs) (pc : ℕ) (before : Option ℤ) (count i : ℕ) (bytes : List ℕ)
     (total : Result (Pairs × List ℕ) OpError) → count ≤ i → with_front front (pairs_at pc before (count - i) bytes)
@@ -200,7 +206,7 @@ unfolding pairs_at
 pairs_done front pc before count i bytes total le so_far =
     let k : count - i ≡ 0 = omega arith in
     let one : with_front front (pairs_at pc before (count - i) bytes)
-          ≡ Ok (front, bytes) = rw k (ap (λ (ns : Pairs). Ok (ns, bytes)) (append-nil front)) in
+    ≡ Ok (front, bytes) = rw k (ap (λ (ns : Pairs). Ok (ns, bytes)) (append-nil front)) in
     sym so_far ∙ one
 
 pub int_lt-not : (a b : ℤ) → b ≤ℤ a → int_lt a b ≡ false
@@ -212,10 +218,16 @@ pub table_fails : (e : OpError) (pc count : ℕ) (bytes r0 r1 r2 r3 : List ℕ) 
     → pad_at (3 - pc % 4) bytes ≡ Ok r0 → signed_at w32 r0 ≡ Ok (default, r1) → signed_at w32 r1 ≡ Ok (low, r2)
     → signed_at w32 r2 ≡ Ok (high, r3)
     → int_lt high low ≡ false → count ≡ table_len low high → Fails e (targets_at pc count r3)
-        → Fails e (table_at pc bytes)
+    → Fails e (table_at pc bytes)
 unfolding table_at
 table_fails e pc count bytes r0 r1 r2 r3 default low high h0 h1 h2 h3 up n h =
     let fails = fails-then e (targets_at pc (table_len low high) r3)
-          (λ targets. Ok (instruction.TableSwitch (record { low = low; targets = targets.0;
-          default = landing pc default }), targets.1)) (rw n at h) in
+    (λ targets. Ok (
+      instruction.TableSwitch (record {
+        low = low;
+        targets = targets.0;
+        default = landing pc default;
+      }),
+      targets.1,
+    )) (rw n at h) in
     fails-is e _ (table_at pc bytes) (sym (rw (h0, h1, h2, h3, up) refl)) fails

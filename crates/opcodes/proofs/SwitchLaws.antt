@@ -72,16 +72,21 @@ branch-takes pc t bytes x fits e =
     (record {
       shorter = Takes-shorter bytes (signed (branch_width t) a.0.0) a.0.1 s.0;
       rest_fits = s.0.rest_fits;
-      read = λ real. let same = landing-takes pc a.0.0 real.0 in record { takes = rw (← same) s.0;
-                           fits = rw (← same) s.1; opcode_is = refl };
+      read = λ real. let same = landing-takes pc a.0.0 real.0 in record {
+        takes = rw (← same) s.0;
+        fits = rw (← same) s.1;
+        opcode_is = refl;
+      };
     })
 
 pub branch-again : (pc : ℕ) (t : Test) (target : ℕ) (rest : List ℕ) → FitsSigned (branch_width t) (offset pc target)
     → target < 65535 → branch_at pc t (signed (branch_width t) (offset pc target) ++ rest)
     ≡ Ok (instruction.Branch t target, rest)
 unfolding branch_at
-branch-again pc t target rest fits lt = rw (signed_again (branch_width t) (branch_wide t) (offset pc target) rest fits,
-    landing-again pc target lt) refl
+branch-again pc t target rest fits lt = rw (
+  signed_again (branch_width t) (branch_wide t) (offset pc target) rest fits,
+  landing-again pc target lt,
+) refl
 
 -- ---- pads
 
@@ -89,7 +94,7 @@ pub pad-takes : (n : ℕ) (bytes rest : List ℕ) → IsBytes bytes → pad_at n
     → Takes bytes (replicate n 0) rest
 unfolding pad_at
 pad-takes zero bytes rest fits e = let same = ok_is bytes rest e
-                                         in record { parts = same; rest_fits = rw (← same) fits }
+    in record { parts = same; rest_fits = rw (← same) fits }
 pad-takes (suc n) [] rest fits e = absurd cc
 pad-takes (suc n) (zero ∷ bytes) rest fits e =
     let t = pad-takes n bytes rest (IsBytes-rest 0 bytes fits) e in
@@ -117,11 +122,17 @@ TargetsTaken pc n bytes x = (length x.1 ≤ length bytes) × (length x.0 ≡ n) 
 pub targets-take : (pc n : ℕ) (bytes : List ℕ) (x : List ℕ × List ℕ) → IsBytes bytes → targets_at pc n bytes ≡ Ok x
     → TargetsTaken pc n bytes x
 unfolding targets_at
-targets-take pc zero bytes x fits e = subst (TargetsTaken pc 0 bytes) (ok_is ([], bytes) x e) (omega arith, refl, fits,
-    λ real. (record { parts = refl; rest_fits = fits }, tt))
+targets-take pc zero bytes x fits e = subst (TargetsTaken pc 0 bytes) (ok_is ([], bytes) x e) (
+  omega arith,
+  refl,
+  fits,
+  λ real. (record { parts = refl; rest_fits = fits }, tt),
+)
 targets-take pc (suc n) bytes x fits e =
-    let a = bind_ok (signed_at w32 bytes) (λ z. targets_at pc n z.1 >>= λ others. Ok (landing pc z.0 ∷ others.0,
-          others.1)) x e in
+    let a = bind_ok (signed_at w32 bytes) (λ z. targets_at pc n z.1 >>= λ others. Ok (
+      landing pc z.0 ∷ others.0,
+      others.1,
+    )) x e in
     let b = bind_ok (targets_at pc n a.0.1) (λ others. Ok (landing pc a.0.0 ∷ others.0, others.1)) x a.2 in
     let s = signed_takes w32 wide32 bytes a.0.0 a.0.1 fits a.1 in
     let others = targets-take pc n a.0.1 b.0 s.0.rest_fits b.1 in
@@ -143,11 +154,14 @@ unfolding targets_at
 targets-again pc [] rest fits real = refl
 targets-again pc (t ∷ ts) rest fits real =
     let regrouped : flat_map (spelled pc) (t ∷ ts) ++ rest ≡ spelled pc t ++ (flat_map (spelled pc) ts ++ rest) = ap
-          (λ (x : List ℕ). x ++ rest) (flat_map-cons (spelled pc) t ts)
-          ∙ append_assoc (spelled pc t) (flat_map (spelled pc) ts) rest in
+    (λ (x : List ℕ). x ++ rest) (flat_map-cons (spelled pc) t ts)
+    ∙ append_assoc (spelled pc t) (flat_map (spelled pc) ts) rest in
     ap (targets_at pc (suc (length ts))) regrouped
-        ∙ rw (signed_again w32 wide32 (offset pc t) (flat_map (spelled pc) ts ++ rest) fits.0,
-        targets-again pc ts rest fits.1 real.1, landing-again pc t real.0) refl
+    ∙ rw (
+      signed_again w32 wide32 (offset pc t) (flat_map (spelled pc) ts ++ rest) fits.0,
+      targets-again pc ts rest fits.1 real.1,
+      landing-again pc t real.0,
+    ) refl
 
 -- ---- tableswitch
 
@@ -182,21 +196,21 @@ pub table-takes : (pc : ℕ) (bytes : List ℕ) (x : Instr × List ℕ) → IsBy
 unfolding table_at
 table-takes pc bytes x fits e =
     let finish : ℤ → ℤ → List ℕ × List ℕ
-          → Result (Instr × List ℕ) OpError = λ default low ts. Ok
-          (instruction.TableSwitch (record { low = low; targets = ts.0; default = landing pc default }), ts.1) in
+    → Result (Instr × List ℕ) OpError = λ default low ts. Ok
+    (instruction.TableSwitch (record { low = low; targets = ts.0; default = landing pc default }), ts.1) in
     let a = bind_ok (pad_at (3 - pc % 4) bytes) (λ rest. signed_at w32 rest >>= λ default. signed_at w32 default.1
-          >>= λ low. signed_at w32 low.1 >>= λ high. cond (int_lt high.0 low.0) (Err error.Switch)
-          (targets_at pc (table_len low.0 high.0) high.1 >>= finish default.0 low.0)) x e in
+    >>= λ low. signed_at w32 low.1 >>= λ high. cond (int_lt high.0 low.0) (Err error.Switch)
+    (targets_at pc (table_len low.0 high.0) high.1 >>= finish default.0 low.0)) x e in
     let b = bind_ok (signed_at w32 a.0) (λ default. signed_at w32 default.1 >>= λ low. signed_at w32 low.1
-          >>= λ high. cond (int_lt high.0 low.0) (Err error.Switch) (targets_at pc (table_len low.0 high.0) high.1
-          >>= finish default.0 low.0)) x a.2 in
+    >>= λ high. cond (int_lt high.0 low.0) (Err error.Switch) (targets_at pc (table_len low.0 high.0) high.1
+    >>= finish default.0 low.0)) x a.2 in
     let c = bind_ok (signed_at w32 b.0.1) (λ low. signed_at w32 low.1
-          >>= λ high. cond (int_lt high.0 low.0) (Err error.Switch) (targets_at pc (table_len low.0 high.0) high.1
-          >>= finish b.0.0 low.0)) x b.2 in
+    >>= λ high. cond (int_lt high.0 low.0) (Err error.Switch) (targets_at pc (table_len low.0 high.0) high.1
+    >>= finish b.0.0 low.0)) x b.2 in
     let d = bind_ok (signed_at w32 c.0.1) (λ high. cond (int_lt high.0 c.0.0) (Err error.Switch)
-          (targets_at pc (table_len c.0.0 high.0) high.1 >>= finish b.0.0 c.0.0)) x c.2 in
+    (targets_at pc (table_len c.0.0 high.0) high.1 >>= finish b.0.0 c.0.0)) x c.2 in
     let g = guard_then (int_lt d.0.0 c.0.0) error.Switch (targets_at pc (table_len c.0.0 d.0.0) d.0.1
-          >>= finish b.0.0 c.0.0) x d.2 in
+    >>= finish b.0.0 c.0.0) x d.2 in
     let f = bind_ok (targets_at pc (table_len c.0.0 d.0.0) d.0.1) (finish b.0.0 c.0.0) x g.1 in
     let t0 = pad-takes (3 - pc % 4) bytes a.0 fits a.1 in
     let t1 = signed_takes w32 wide32 a.0 b.0.0 b.0.1 t0.rest_fits b.1 in
@@ -208,27 +222,34 @@ table-takes pc bytes x fits e =
     let l2 = Takes-shorter b.0.1 (signed w32 c.0.0) c.0.1 t2.0 in
     let l3 = Takes-shorter c.0.1 (signed w32 d.0.0) d.0.1 t3.0 in
     subst (Reads pc 170 bytes)
-        (ok_is (instruction.TableSwitch (record { low = c.0.0; targets = f.0.0; default = landing pc b.0.0 }),
-        f.0.1) x f.2)
+    (ok_is (
+      instruction.TableSwitch (record { low = c.0.0; targets = f.0.0; default = landing pc b.0.0 }),
+      f.0.1,
+    ) x f.2)
     (record {
       shorter = omega (arith, l0, l1, l2, l3, ts.0);
       rest_fits = ts.2;
       read = λ real.
           let t4 = ts.3 real.1 in
           let high : c.0.0 +ℤ pos (length f.0.0) -ℤ pos 1
-                ≡ d.0.0 = high-is c.0.0 d.0.0 (length f.0.0) (not_under d.0.0 c.0.0 g.0) ts.1 in
+          ≡ d.0.0 = high-is c.0.0 d.0.0 (length f.0.0) (not_under d.0.0 c.0.0 g.0) ts.1 in
           let same = landing-takes pc b.0.0 real.0 in
           let e3 = Takes-then c.0.1 (signed w32 d.0.0) d.0.1 (flat_map (spelled pc) f.0.0) f.0.1 t3.0 t4.0 in
           let e2 = Takes-then b.0.1 (signed w32 c.0.0) c.0.1 (signed w32 d.0.0 ++ flat_map (spelled pc) f.0.0) f.0.1
-                t2.0 e3 in
+          t2.0 e3 in
           let e1 = Takes-then a.0 (signed w32 b.0.0) b.0.1 (signed w32 c.0.0
-                ++ (signed w32 d.0.0 ++ flat_map (spelled pc) f.0.0)) f.0.1 t1.0 e2 in
+          ++ (signed w32 d.0.0 ++ flat_map (spelled pc) f.0.0)) f.0.1 t1.0 e2 in
           let e0 = Takes-then bytes (pad pc) a.0 (signed w32 b.0.0
-                ++ (signed w32 c.0.0 ++ (signed w32 d.0.0 ++ flat_map (spelled pc) f.0.0))) f.0.1 t0 e1 in
+          ++ (signed w32 c.0.0 ++ (signed w32 d.0.0 ++ flat_map (spelled pc) f.0.0))) f.0.1 t0 e1 in
           record {
             takes = rw (high, ← same) e0;
-            fits = record { some = omega (arith, ts.1); low = t2.1; high = rw high t3.1; default = rw (← same) t1.1;
-                targets = t4.1 };
+            fits = record {
+              some = omega (arith, ts.1);
+              low = t2.1;
+              high = rw high t3.1;
+              default = rw (← same) t1.1;
+              targets = t4.1;
+            };
             opcode_is = refl;
           };
     })
@@ -244,9 +265,9 @@ pub table-again : (pc : ℕ) (s : Table ℕ) (rest : List ℕ) → TableFits pc 
 unfolding table_at
 table-again pc s rest fits real =
     let le : int_lt (table_high s) s.low
-          ≡ false = not_under-is (table_high s) s.low (let some = fits.some in omega (arith, ints)) in
+    ≡ false = not_under-is (table_high s) s.low (let some = fits.some in omega (arith, ints)) in
     let regrouped = append4 (pad pc) (spelled pc s.default) (signed w32 s.low) (signed w32 (table_high s))
-          (flat_map (spelled pc) s.targets) rest in
+    (flat_map (spelled pc) s.targets) rest in
     ap (table_at pc) regrouped ∙ rw (
       pad-again (3 - pc % 4) (spelled pc s.default
           ++ (signed w32 s.low ++ (signed w32 (table_high s) ++ (flat_map (spelled pc) s.targets ++ rest)))),
@@ -299,18 +320,23 @@ then_else false r d y e = absurd cc
 pub pairs-take : (pc : ℕ) (before : Option ℤ) (n : ℕ) (bytes : List ℕ) (x : List (ℤ × ℕ) × List ℕ) → IsBytes bytes
     → pairs_at pc before n bytes ≡ Ok x → PairsTaken pc before n bytes x
 unfolding pairs_at
-pairs-take pc before zero bytes x fits e = subst (PairsTaken pc before 0 bytes) (ok_is ([], bytes) x e) (omega arith,
-    refl, rises_from-nil before, fits, λ real. (record { parts = refl; rest_fits = fits }, tt))
+pairs-take pc before zero bytes x fits e = subst (PairsTaken pc before 0 bytes) (ok_is ([], bytes) x e) (
+  omega arith,
+  refl,
+  rises_from-nil before,
+  fits,
+  λ real. (record { parts = refl; rest_fits = fits }, tt),
+)
 pairs-take pc before (suc n) bytes x fits e =
     let a = bind_ok (signed_at w32 bytes) (λ key. cond (rises before key.0) (signed_at w32 key.1
-          >>= λ z. pairs_at pc (Some key.0) n z.1 >>= λ others. Ok ((key.0, landing pc z.0) ∷ others.0, others.1))
-          (Err error.Switch)) x e in
+    >>= λ z. pairs_at pc (Some key.0) n z.1 >>= λ others. Ok ((key.0, landing pc z.0) ∷ others.0, others.1))
+    (Err error.Switch)) x e in
     let g = then_else (rises before a.0.0) (signed_at w32 a.0.1 >>= λ z. pairs_at pc (Some a.0.0) n z.1
-          >>= λ others. Ok ((a.0.0, landing pc z.0) ∷ others.0, others.1)) error.Switch x a.2 in
+    >>= λ others. Ok ((a.0.0, landing pc z.0) ∷ others.0, others.1)) error.Switch x a.2 in
     let b = bind_ok (signed_at w32 a.0.1) (λ z. pairs_at pc (Some a.0.0) n z.1
-          >>= λ others. Ok ((a.0.0, landing pc z.0) ∷ others.0, others.1)) x g.1 in
+    >>= λ others. Ok ((a.0.0, landing pc z.0) ∷ others.0, others.1)) x g.1 in
     let c = bind_ok (pairs_at pc (Some a.0.0) n b.0.1) (λ others. Ok ((a.0.0, landing pc b.0.0) ∷ others.0, others.1)) x
-          b.2 in
+    b.2 in
     let s = signed_takes w32 wide32 bytes a.0.0 a.0.1 fits a.1 in
     let t = signed_takes w32 wide32 a.0.1 b.0.0 b.0.1 s.0.rest_fits b.1 in
     let others = pairs-take pc (Some a.0.0) n b.0.1 c.0 t.0.rest_fits c.1 in
@@ -326,7 +352,7 @@ pairs-take pc before (suc n) bytes x fits e =
           let more = others.4 real.1 in
           let first = Takes-then bytes (signed w32 a.0.0) a.0.1 (signed w32 b.0.0) b.0.1 s.0 t.0 in
           let both = Takes-then bytes (signed w32 a.0.0 ++ signed w32 b.0.0) b.0.1 (flat_map (pair pc) c.0.0) c.0.1
-                first more.0 in
+          first more.0 in
           (rw (flat_map-cons, ← same) both, ((s.1, rw (← same) t.1), more.1)),
     )
 
@@ -338,9 +364,9 @@ pairs-again pc before [] rest fits real up = refl
 pairs-again pc before (p ∷ ps) rest fits real up =
     let h = rises_from-head before p ps up in
     let regrouped : flat_map (pair pc) (p ∷ ps) ++ rest ≡ signed w32 p.0
-          ++ (signed w32 (offset pc p.1) ++ (flat_map (pair pc) ps ++ rest)) = ap (λ (x : List ℕ). x ++ rest)
-          (flat_map-cons (pair pc) p ps) ∙ append_assoc (pair pc p) (flat_map (pair pc) ps) rest
-          ∙ append_assoc (signed w32 p.0) (signed w32 (offset pc p.1)) (flat_map (pair pc) ps ++ rest) in
+    ++ (signed w32 (offset pc p.1) ++ (flat_map (pair pc) ps ++ rest)) = ap (λ (x : List ℕ). x ++ rest)
+    (flat_map-cons (pair pc) p ps) ∙ append_assoc (pair pc p) (flat_map (pair pc) ps) rest
+    ∙ append_assoc (signed w32 p.0) (signed w32 (offset pc p.1)) (flat_map (pair pc) ps ++ rest) in
     ap (pairs_at pc before (suc (length ps))) regrouped ∙ rw (
       signed_again w32 wide32 p.0 (signed w32 (offset pc p.1) ++ (flat_map (pair pc) ps ++ rest)) fits.0.0,
       h.0,
@@ -357,17 +383,17 @@ pub lookup-takes : (pc : ℕ) (bytes : List ℕ) (x : Instr × List ℕ) → IsB
 unfolding lookup_at
 lookup-takes pc bytes x fits e =
     let finish : ℤ → List (ℤ × ℕ) × List ℕ
-          → Result (Instr × List ℕ) OpError = λ default ps. Ok
-          (instruction.LookupSwitch (record { pairs = ps.0; default = landing pc default }), ps.1) in
+    → Result (Instr × List ℕ) OpError = λ default ps. Ok
+    (instruction.LookupSwitch (record { pairs = ps.0; default = landing pc default }), ps.1) in
     let a = bind_ok (pad_at (3 - pc % 4) bytes) (λ rest. signed_at w32 rest >>= λ default. signed_at w32 default.1
-          >>= λ count. cond (int_lt count.0 (pos 0)) (Err error.Switch) (pairs_at pc None (unsigned_abs count.0) count.1
-          >>= finish default.0)) x e in
+    >>= λ count. cond (int_lt count.0 (pos 0)) (Err error.Switch) (pairs_at pc None (unsigned_abs count.0) count.1
+    >>= finish default.0)) x e in
     let b = bind_ok (signed_at w32 a.0) (λ default. signed_at w32 default.1 >>= λ count. cond (int_lt count.0 (pos 0))
-          (Err error.Switch) (pairs_at pc None (unsigned_abs count.0) count.1 >>= finish default.0)) x a.2 in
+    (Err error.Switch) (pairs_at pc None (unsigned_abs count.0) count.1 >>= finish default.0)) x a.2 in
     let c = bind_ok (signed_at w32 b.0.1) (λ count. cond (int_lt count.0 (pos 0)) (Err error.Switch)
-          (pairs_at pc None (unsigned_abs count.0) count.1 >>= finish b.0.0)) x b.2 in
+    (pairs_at pc None (unsigned_abs count.0) count.1 >>= finish b.0.0)) x b.2 in
     let g = guard_then (int_lt c.0.0 (pos 0)) error.Switch (pairs_at pc None (unsigned_abs c.0.0) c.0.1
-          >>= finish b.0.0) x c.2 in
+    >>= finish b.0.0) x c.2 in
     let f = bind_ok (pairs_at pc None (unsigned_abs c.0.0) c.0.1) (finish b.0.0) x g.1 in
     let t0 = pad-takes (3 - pc % 4) bytes a.0 fits a.1 in
     let t1 = signed_takes w32 wide32 a.0 b.0.0 b.0.1 t0.rest_fits b.1 in
@@ -376,8 +402,10 @@ lookup-takes pc bytes x fits e =
     let l0 = Takes-shorter bytes (pad pc) a.0 t0 in
     let l1 = Takes-shorter a.0 (signed w32 b.0.0) b.0.1 t1.0 in
     let l2 = Takes-shorter b.0.1 (signed w32 c.0.0) c.0.1 t2.0 in
-    subst (Reads pc 171 bytes) (ok_is (instruction.LookupSwitch (record { pairs = f.0.0; default = landing pc b.0.0 }),
-        f.0.1) x f.2)
+    subst (Reads pc 171 bytes) (ok_is (
+      instruction.LookupSwitch (record { pairs = f.0.0; default = landing pc b.0.0 }),
+      f.0.1,
+    ) x f.2)
     (record {
       shorter = omega (arith, l0, l1, l2, ps.0);
       rest_fits = ps.3;
@@ -388,9 +416,9 @@ lookup-takes pc bytes x fits e =
           let few : FitsSigned w32 (pos (length f.0.0)) = rw count t2.1 in
           let e2 = Takes-then b.0.1 (signed w32 c.0.0) c.0.1 (flat_map (pair pc) f.0.0) f.0.1 t2.0 t3.0 in
           let e1 = Takes-then a.0 (signed w32 b.0.0) b.0.1 (signed w32 c.0.0 ++ flat_map (pair pc) f.0.0) f.0.1 t1.0 e2
-                in
+          in
           let e0 = Takes-then bytes (pad pc) a.0 (signed w32 b.0.0 ++ (signed w32 c.0.0 ++ flat_map (pair pc) f.0.0))
-                f.0.1 t0 e1 in
+          f.0.1 t0 e1 in
           record {
             takes = rw (count, ← same) e0;
             fits = record { few = few.sfits; default = rw (← same) t1.1; pairs = t3.1; rising = ps.2 };
@@ -420,9 +448,10 @@ pub keys-more : (before : Option ℤ) (ps : List (ℤ × ℕ)) (i : ℕ) (P : Ty
     → RisesFrom (Some (get_or ps i (pos 0, 0)).0) (drop (i + 1) ps) ↔ P
 keys-more before ps i P lt up so_far =
     let p = get_or ps i (pos 0, 0) in
-    let split : drop i ps ≡ p ∷ drop (i + 1) ps = rw (add-one, drop-cons ps i (pos 0, 0)) refl in
-    (λ more. so_far.0 (rw split (rises_from-cons before p.0 p.1 (drop (i + 1) ps) up more)),
-        λ h. (rises_from-head before p (drop (i + 1) ps) (rw split at (so_far.1 h))).1)
+    let split : drop i ps ≡ p ∷ drop (i + 1) ps = rw (add-one, drop-cons ps i (pos 0, 0)) refl in (
+      λ more. so_far.0 (rw split (rises_from-cons before p.0 p.1 (drop (i + 1) ps) up more)),
+      λ h. (rises_from-head before p (drop (i + 1) ps) (rw split at (so_far.1 h))).1,
+    )
 
 -- five pieces written one after another
 pub pieces : (o0 o1 o2 o3 o4 o5 p q r s t : List ℕ) → o1 ≡ o0 ++ p → o2 ≡ o1 ++ q → o3 ≡ o2 ++ r → o4 ≡ o3 ++ s

@@ -126,13 +126,25 @@ constants_and_loads-bare = (
                                                   (
                                                     record { opcode_is = refl; nothing = λ pc. refl; fits = λ pc. tt },
                                                     (
-                                                      record { opcode_is = refl; nothing = λ pc. refl;
-                                                          fits = λ pc. tt },
+                                                      record {
+                                                        opcode_is = refl;
+                                                        nothing = λ pc. refl;
+                                                        fits = λ pc. tt;
+                                                      },
                                                       (
-                                                        record { opcode_is = refl; nothing = λ pc. refl;
-                                                            fits = λ pc. tt },
-                                                        (record { opcode_is = refl; nothing = λ pc. refl;
-                                                            fits = λ pc. tt }, tt),
+                                                        record {
+                                                          opcode_is = refl;
+                                                          nothing = λ pc. refl;
+                                                          fits = λ pc. tt;
+                                                        },
+                                                        (
+                                                          record {
+                                                            opcode_is = refl;
+                                                            nothing = λ pc. refl;
+                                                            fits = λ pc. tt;
+                                                          },
+                                                          tt,
+                                                        ),
                                                       ),
                                                     ),
                                                   ),
@@ -215,8 +227,10 @@ stores_and_stack-bare = (
                                                   record { opcode_is = refl; nothing = λ pc. refl; fits = λ pc. tt },
                                                   (
                                                     record { opcode_is = refl; nothing = λ pc. refl; fits = λ pc. tt },
-                                                    (record { opcode_is = refl; nothing = λ pc. refl; fits = λ pc. tt },
-                                                        tt),
+                                                    (
+                                                      record { opcode_is = refl; nothing = λ pc. refl; fits = λ pc. tt },
+                                                      tt,
+                                                    ),
                                                   ),
                                                 ),
                                               ),
@@ -298,11 +312,17 @@ numbers_and_returns-bare = (
                                                   (
                                                     record { opcode_is = refl; nothing = λ pc. refl; fits = λ pc. tt },
                                                     (
-                                                      record { opcode_is = refl; nothing = λ pc. refl;
-                                                          fits = λ pc. tt },
+                                                      record {
+                                                        opcode_is = refl;
+                                                        nothing = λ pc. refl;
+                                                        fits = λ pc. tt;
+                                                      },
                                                       (
-                                                        record { opcode_is = refl; nothing = λ pc. refl;
-                                                            fits = λ pc. tt },
+                                                        record {
+                                                          opcode_is = refl;
+                                                          nothing = λ pc. refl;
+                                                          fits = λ pc. tt;
+                                                        },
                                                         (
                                                           record { opcode_is = refl; nothing = λ pc. refl; fits = λ pc. tt },
                                                           (
@@ -364,7 +384,7 @@ pub bare_of-takes : (b : ℕ) (i : Instr) → bare_of b ≡ Some i → IsBare b 
 unfolding bare_of
 bare_of-takes b i e =
     elim (chosen (ltb b 54) (entry_at constants_and_loads b) (cond (ltb b 96) (entry_at stores_and_stack b)
-        (entry_at numbers_and_returns b)) (Some i) e) [
+    (entry_at numbers_and_returns b)) (Some i) e) [
       | inl h ↦ entry IsBare constants_and_loads constants_and_loads-bare b i h.1
       | inr h ↦ elim (chosen (ltb b 96) (entry_at stores_and_stack b) (entry_at numbers_and_returns b) (Some i) h.1) [
         | inl k ↦ entry IsBare stores_and_stack stores_and_stack-bare b i k.1
@@ -389,18 +409,88 @@ opcode_of layout.LookupSwitch = 171
 opcode_of layout.Wide = 196
 
 low_layouts-opcodes : Each (λ b l. opcode_of l ≡ b) low_layouts
-low_layouts-opcodes = (refl,
-    (refl, (refl, (refl, (refl,
-    (refl, (refl, (refl, (refl,
-    (refl, (refl, (refl, (refl,
-    (refl, (refl, (refl, (refl,
-    (refl, (refl, (refl, (refl, (refl, (refl, (refl, (refl, (refl, (refl, tt)))))))))))))))))))))))))))
+low_layouts-opcodes = (
+  refl,
+  (
+    refl,
+    (
+      refl,
+      (
+        refl,
+        (
+          refl,
+          (
+            refl,
+            (
+              refl,
+              (
+                refl,
+                (
+                  refl,
+                  (
+                    refl,
+                    (
+                      refl,
+                      (
+                        refl,
+                        (
+                          refl,
+                          (
+                            refl,
+                            (
+                              refl,
+                              (
+                                refl,
+                                (
+                                  refl,
+                                  (refl, (refl, (refl, (refl, (refl, (refl, (refl, (refl, (refl, (refl, tt)))))))))),
+                                ),
+                              ),
+                            ),
+                          ),
+                        ),
+                      ),
+                    ),
+                  ),
+                ),
+              ),
+            ),
+          ),
+        ),
+      ),
+    ),
+  ),
+)
 
 high_layouts-opcodes : Each (λ b l. opcode_of l ≡ b) high_layouts
-high_layouts-opcodes = (refl,
-    (refl, (refl, (refl, (refl,
-    (refl, (refl, (refl, (refl,
-    (refl, (refl, (refl, (refl, (refl, (refl, (refl, (refl, (refl, (refl, tt)))))))))))))))))))
+high_layouts-opcodes = (
+  refl,
+  (
+    refl,
+    (
+      refl,
+      (
+        refl,
+        (
+          refl,
+          (
+            refl,
+            (
+              refl,
+              (
+                refl,
+                (
+                  refl,
+                  (refl, (refl, (refl, (refl, (refl, (refl, (refl, (refl, (refl, (refl, tt)))))))))),
+                ),
+              ),
+            ),
+          ),
+        ),
+      ),
+    ),
+  ),
+)
 
 pub layout_of-takes : (b : ℕ) (l : Layout) → layout_of b ≡ Some l → opcode_of l ≡ b
 unfolding layout_of

@@ -35,10 +35,12 @@ numbered-append : (n : ℕ) (es : List Entry) (e : Entry) → numbered n (es ++ 
     ++ (e, n + sum_by numbers_of es) ∷ []
 numbered-append n [] e = ap (λ k. (e, k) ∷ []) (omega arith)
 numbered-append n (x ∷ es) e =
-    let sum : n + numbers_of x + sum_by numbers_of es ≡ n + sum_by numbers_of (x ∷ es) = omega (arith,
-          sum_by-cons numbers_of x es) in
+    let sum : n + numbers_of x + sum_by numbers_of es ≡ n + sum_by numbers_of (x ∷ es) = omega (
+      arith,
+      sum_by-cons numbers_of x es,
+    ) in
     ap (λ ps. (x, n) ∷ ps) (numbered-append (n + numbers_of x) es e
-        ∙ ap (λ k. numbered (n + numbers_of x) es ++ (e, k) ∷ []) sum)
+    ∙ ap (λ k. numbered (n + numbers_of x) es ++ (e, k) ∷ []) sum)
 
 pub count_more : (es : List Entry) (e : Entry) → pool_count (es ++ e ∷ []) ≡ pool_count es + numbers_of e
 count_more es e = omega (arith, sum_by-append numbers_of es (e ∷ []), sum_by-cons numbers_of e [])
@@ -71,7 +73,7 @@ among e (p ∷ ps) = by (is_same e p.0) refl (among e ps)
     by : (b : Bool) → is_same e p.0 ≡ b → MatchOption (lookup (is_same e) ps) (is_among e (keys_of ps) ≡ false)
         (λ v. is_among e (keys_of ps) ≡ true)
         → MatchOption (lookup (is_same e) (p ∷ ps)) (is_among e (keys_of (p ∷ ps)) ≡ false)
-            (λ v. is_among e (keys_of (p ∷ ps)) ≡ true)
+        (λ v. is_among e (keys_of (p ∷ ps)) ≡ true)
     by true h rest = rw h refl
     by false h rest = rw h rest
 
@@ -93,7 +95,7 @@ after_under : (e : Entry) (slots : List (Option Entry)) (i : ℕ) → slice_get 
 after_under (Utf8 text) slots i = next_get (Some (Utf8 text)) slots i
 after_under (Integer z) slots i = next_get (Some (Integer z)) slots i
 after_under (Long z) slots i = let k : 2 + i ≡ suc (suc i) = omega arith
-                                     in ap (slice_get (Some (Long z) ∷ None ∷ slots)) k
+    in ap (slice_get (Some (Long z) ∷ None ∷ slots)) k
 after_under (Class name) slots i = next_get (Some (Class name)) slots i
 after_under (Fieldref class member) slots i = next_get (Some (Fieldref class member)) slots i
 after_under (Methodref class member) slots i = next_get (Some (Methodref class member)) slots i
@@ -186,10 +188,10 @@ pub fills : (slots : Slots) (p : Entry × ℕ) (rest : List (Entry × ℕ)) (ent
     → has_bytes p.0 ≡ true → Filling slots (p ∷ rest) entries → Filling (slots ++ under p.0 []) rest entries
 fills slots p rest entries fits good f =
     let es : entries_in (slots ++ under p.0 []) ≡ entries_in slots ++ p.0 ∷ [] = entries_in-append slots (under p.0 [])
-          ∙ ap (λ fs. entries_in slots ++ fs) (entries_in-slots_of (p.0 ∷ [])) in
+    ∙ ap (λ fs. entries_in slots ++ fs) (entries_in-slots_of (p.0 ∷ [])) in
     let are : AreSlots (slots ++ under p.0 []) =
     ap (λ (s : Slots). s ++ under p.0 []) f.0
-        ∙ ap (λ (s : Slots). None ∷ s) (sym (slots_of-append (entries_in slots) (p.0 ∷ [])) ∙ ap slots_of (sym es)) in (
+    ∙ ap (λ (s : Slots). None ∷ s) (sym (slots_of-append (entries_in slots) (p.0 ∷ [])) ∙ ap slots_of (sym es)) in (
       are,
       ap (λ fs. fs ++ keys_of rest) es ∙ append_assoc (entries_in slots) (p.0 ∷ []) (keys_of rest) ∙ f.1,
       subst (AllByRecursion EntryFits) (sym es) (AllByRecursion-push (entries_in slots) p.0 f.2 fits),

@@ -38,8 +38,10 @@ pub record Takes (bytes text rest : List ℕ) : Type 0 where
   pub rest_fits : IsBytes rest
 
 pub Takes-then : (a x b y c : List ℕ) → Takes a x b → Takes b y c → Takes a (x ++ y) c
-Takes-then a x b y c p q = record { parts = p.parts ∙ ap (λ (t : List ℕ). x ++ t) q.parts ∙ sym (append_assoc x y c);
-    rest_fits = q.rest_fits }
+Takes-then a x b y c p q = record {
+  parts = p.parts ∙ ap (λ (t : List ℕ). x ++ t) q.parts ∙ sym (append_assoc x y c);
+  rest_fits = q.rest_fits;
+}
 
 pub Takes-nothing : (bytes : List ℕ) → IsBytes bytes → Takes bytes [] bytes
 Takes-nothing bytes fits = record { parts = refl; rest_fits = fits }
@@ -51,7 +53,7 @@ pub byte_takes : (bytes : List ℕ) (b : ℕ) (rest : List ℕ) → IsBytes byte
 byte_takes [] b rest fits e = absurd cc
 byte_takes (a ∷ bytes) b rest fits e =
     subst (λ (p : ℕ × List ℕ). Takes (a ∷ bytes) (p.0 ∷ []) p.1 × (p.0 < 256)) (ok_is (a, bytes) (b, rest) e)
-        (record { parts = refl; rest_fits = IsBytes-rest a bytes fits }, fits 0)
+    (record { parts = refl; rest_fits = IsBytes-rest a bytes fits }, fits 0)
 
 -- ---- numbers
 
@@ -89,28 +91,37 @@ wide64 = record {
 pub number_takes : (w : Width) (wide : IsWide w) (bytes : List ℕ) (n : ℕ) (rest : List ℕ) → IsBytes bytes
     → number_at w bytes ≡ Ok (n, rest) → Takes bytes (to_be_bytes w n) rest × (n < 2 ^ bits w)
 number_takes w wide bytes n rest fits e =
-    let g = guard_ok (ltb (length bytes) (byte_len w)) Short (Ok (from_be_bytes w (take (byte_len w) bytes),
-          drop (byte_len w) bytes)) (n, rest) e in
+    let g = guard_ok (ltb (length bytes) (byte_len w)) Short (Ok (
+      from_be_bytes w (take (byte_len w) bytes),
+      drop (byte_len w) bytes,
+    )) (n, rest) e in
     let long : byte_len w ≤ length bytes = ltb-false _ _ g.0 in
     let same = ok_is (from_be_bytes w (take (byte_len w) bytes), drop (byte_len w) bytes) (n, rest) g.1 in
     let n-is : from_be_bytes w (take (byte_len w) bytes) ≡ n = ap (λ (p : ℕ × List ℕ). p.0) same in
     let rest-is : drop (byte_len w) bytes ≡ rest = ap (λ (p : ℕ × List ℕ). p.1) same in
     let front : to_be_bytes w n
-          ≡ take (byte_len w) bytes = rw (← n-is)
-          (wide.back (take (byte_len w) bytes) (omega (arith, length-take (byte_len w) bytes))
-          (IsBytes-take (byte_len w) bytes fits)) in
-    (record { parts = rw (front, ← rest-is) (sym (take-append-drop (byte_len w) bytes));
-        rest_fits = rw (← rest-is) (IsBytes-drop (byte_len w) bytes fits) },
-        rw (← n-is) (wide.below (take (byte_len w) bytes) (IsBytes-take (byte_len w) bytes fits)))
+    ≡ take (byte_len w) bytes = rw (← n-is)
+    (wide.back (take (byte_len w) bytes) (omega (arith, length-take (byte_len w) bytes))
+    (IsBytes-take (byte_len w) bytes fits)) in (
+      record {
+        parts = rw (front, ← rest-is) (sym (take-append-drop (byte_len w) bytes));
+        rest_fits = rw (← rest-is) (IsBytes-drop (byte_len w) bytes fits);
+      },
+      rw (← n-is) (wide.below (take (byte_len w) bytes) (IsBytes-take (byte_len w) bytes fits)),
+    )
 
 pub number_again : (w : Width) (wide : IsWide w) (n : ℕ) (rest : List ℕ) → n < 2 ^ bits w
     → number_at w (to_be_bytes w n ++ rest) ≡ Ok (n, rest)
 number_again w wide n rest lt =
     let len = wide.len n in
     let long : ltb (length (to_be_bytes w n ++ rest)) (byte_len w)
-          ≡ false = le-ltb _ _ (omega (arith, length-append (to_be_bytes w n) rest)) in
-    rw (long, take_at (to_be_bytes w n) rest (byte_len w) len, drop_at (to_be_bytes w n) rest (byte_len w) len,
-        wide.again n lt) refl
+    ≡ false = le-ltb _ _ (omega (arith, length-append (to_be_bytes w n) rest)) in
+    rw (
+      long,
+      take_at (to_be_bytes w n) rest (byte_len w) len,
+      drop_at (to_be_bytes w n) rest (byte_len w) len,
+      wide.again n lt,
+    ) refl
 
 pub signed_takes : (w : Width) (wide : IsWide w) (bytes : List ℕ) (z : ℤ) (rest : List ℕ) → IsBytes bytes
     → signed_at w bytes ≡ Ok (z, rest) → Takes bytes (to_be_bytes w (cast_unsigned w z)) rest × FitsSigned w z
@@ -119,7 +130,7 @@ signed_takes w wide bytes z rest fits e =
     let t = number_takes w wide bytes b.0.0 b.0.1 fits b.1 in
     let back : cast_unsigned w (cast_signed w b.0.0) ≡ b.0.0 = of_z-to_z w b.0.0 t.1 in
     subst (λ (p : ℤ × List ℕ). Takes bytes (to_be_bytes w (cast_unsigned w p.0)) p.1 × FitsSigned w p.0)
-        (ok_is (cast_signed w b.0.0, b.0.1) (z, rest) b.2)
+    (ok_is (cast_signed w b.0.0, b.0.1) (z, rest) b.2)
     (subst (λ k. Takes bytes (to_be_bytes w k) b.0.1) (sym back) t.0, to_z-Fits w b.0.0 (record { fits = t.1 }))
 
 pub signed_again : (w : Width) (wide : IsWide w) (z : ℤ) (rest : List ℕ) → FitsSigned w z
@@ -136,12 +147,13 @@ taken_takes len bytes text rest fits e =
     let g = guard_ok (ltb (length bytes) len) Short (Ok (take len bytes, drop len bytes)) (text, rest) e in
     let long : len ≤ length bytes = ltb-false _ _ g.0 in
     subst (λ (p : List ℕ × List ℕ). Takes bytes p.0 p.1 × (length p.0 ≡ len))
-        (ok_is (take len bytes, drop len bytes) (text, rest) g.1)
-    (record { parts = sym (take-append-drop len bytes); rest_fits = IsBytes-drop len bytes fits },
-        omega (arith, length-take len bytes))
+    (ok_is (take len bytes, drop len bytes) (text, rest) g.1) (
+      record { parts = sym (take-append-drop len bytes); rest_fits = IsBytes-drop len bytes fits },
+      omega (arith, length-take len bytes),
+    )
 
 pub taken_again : (text rest : List ℕ) → taken (length text) (text ++ rest) ≡ Ok (text, rest)
 taken_again text rest =
     let long : ltb (length (text ++ rest)) (length text) ≡ false = le-ltb _ _ (omega (arith, length-append text rest))
-          in
+    in
     rw (long, take_at text rest (length text) refl, drop_at text rest (length text) refl) refl

@@ -57,7 +57,7 @@ Follows true n bytes x = 1 ≤ n → (slots : Slots) × (x.0 ≡ None ∷ slots)
 read_one : (e : Entry) (n : ℕ) (bytes after : List ℕ) (slots : Slots) (rest : List ℕ) → numbers_of e ≡ 1
     → ((s : Slots) → under e s ≡ Some e ∷ s)
     → Takes bytes (entry_bytes e) after → EntryFits e → Read n after slots rest
-        → Read (suc n) bytes (Some e ∷ slots) rest
+    → Read (suc n) bytes (Some e ∷ slots) rest
 read_one e n bytes after slots rest one alone t fits r = record {
   slots_are = ap (λ (s : Slots). Some e ∷ s) r.slots_are ∙ sym (alone (slots_of (entries_in slots)));
   takes = Takes-then bytes (entry_bytes e) after (flat_map entry_bytes (entries_in slots)) rest t r.takes;
@@ -102,8 +102,12 @@ follows : (second : Bool) (n : ℕ) (bytes : List ℕ) (x : Slots × List ℕ) �
     ≡ Ok x → Follows second n bytes x
 unfolding slots_from
 follows false zero bytes x fits e =
-    subst (λ (y : Slots × List ℕ). Read 0 bytes y.0 y.1) (ok_is ([], bytes) x e) (record { slots_are = refl;
-        takes = Takes-nothing bytes fits; fits = tt; numbers = refl })
+    subst (λ (y : Slots × List ℕ). Read 0 bytes y.0 y.1) (ok_is ([], bytes) x e) (record {
+      slots_are = refl;
+      takes = Takes-nothing bytes fits;
+      fits = tt;
+      numbers = refl;
+    })
 follows true zero bytes x fits e = λ some. absurd (omega arith)
 follows true (suc n) bytes x fits e = λ some.
     let b = bind_ok (slots_from false n bytes) (λ others. Ok (None ∷ others.0, others.1)) x e in
@@ -111,16 +115,16 @@ follows true (suc n) bytes x fits e = λ some.
     let k : n ≡ suc n - 1 = omega arith in
     let made : Slots × List ℕ = (None ∷ b.0.0, b.0.1) in
     subst (λ (y : Slots × List ℕ). (slots : Slots) × (y.0 ≡ None ∷ slots) × Read (suc n - 1) bytes slots y.1)
-        (ok_is made x b.2) (b.0.0, refl, subst (λ m. Read m bytes b.0.0 b.0.1) k r)
+    (ok_is made x b.2) (b.0.0, refl, subst (λ m. Read m bytes b.0.0 b.0.1) k r)
 follows false (suc n) bytes x fits e =
     let a = bind_ok (entry_from (suc n) bytes) (λ first. slots_from (is_long first.0) n first.1
-          >>= λ others. Ok (Some first.0 ∷ others.0, others.1)) x e in
+    >>= λ others. Ok (Some first.0 ∷ others.0, others.1)) x e in
     let b = bind_ok (slots_from (is_long a.0.0) n a.0.1) (λ others. Ok (Some a.0.0 ∷ others.0, others.1)) x a.2 in
     let t = entry_takes (suc n) bytes a.0 (omega arith) fits a.1 in
     let f = follows (is_long a.0.0) n a.0.1 b.0 t.0.rest_fits b.1 in
     let made : Slots × List ℕ = (Some a.0.0 ∷ b.0.0, b.0.1) in
     subst (λ (y : Slots × List ℕ). Read (suc n) bytes y.0 y.1) (ok_is made x b.2)
-        (joined a.0.0 n bytes a.0.1 b.0 t.0 t.1 t.2 f)
+    (joined a.0.0 n bytes a.0.1 b.0 t.0 t.1 t.2 f)
 
 pub slots_read : (n : ℕ) (bytes : List ℕ) (x : Slots × List ℕ) → IsBytes bytes → slots_from false n bytes ≡ Ok x
     → Read n bytes x.0 x.1
@@ -129,21 +133,24 @@ slots_read n bytes x fits e = follows false n bytes x fits e
 again_one : (e : Entry) (k : ℕ) (after : List ℕ) (slots : Slots) (rest : List ℕ) → numbers_of e ≡ 1 → is_long e ≡ false
     → EntryFits e
     → slots_from false k after ≡ Ok (slots, rest) → slots_from false (1 + k) (entry_bytes e ++ after)
-        ≡ Ok (Some e ∷ slots, rest)
+    ≡ Ok (Some e ∷ slots, rest)
 unfolding slots_from
 again_one e k after slots rest one short fits h =
     let p : 1 + k ≡ suc k = omega arith in
-    ap (λ m. slots_from false m (entry_bytes e ++ after)) p ∙ rw (entry_again (suc k) e after fits (omega arith), short,
-        h) refl
+    ap (λ m. slots_from false m (entry_bytes e ++ after)) p ∙ rw (
+      entry_again (suc k) e after fits (omega arith),
+      short,
+      h,
+    ) refl
 
 again_long : (z : _) (k : ℕ) (after : List ℕ) (slots : Slots) (rest : List ℕ) → EntryFits (Long z)
     → slots_from false k after ≡ Ok (slots, rest) → slots_from false (2 + k) (entry_bytes (Long z) ++ after)
-        ≡ Ok (Some (Long z) ∷ None ∷ slots, rest)
+    ≡ Ok (Some (Long z) ∷ None ∷ slots, rest)
 unfolding slots_from
 again_long z k after slots rest fits h =
     let p : 2 + k ≡ suc (suc k) = omega arith in
     ap (λ m. slots_from false m (entry_bytes (Long z) ++ after)) p
-        ∙ rw (entry_again (suc (suc k)) (Long z) after fits (omega arith), h) refl
+    ∙ rw (entry_again (suc (suc k)) (Long z) after fits (omega arith), h) refl
 
 again_cons : (e : Entry) (k : ℕ) (after : List ℕ) (slots : Slots) (rest : List ℕ) → EntryFits e
     → slots_from false k after ≡ Ok (slots, rest) → slots_from false (numbers_of e + k) (entry_bytes e ++ after)
@@ -168,7 +175,7 @@ slots_again [] rest fits = refl
 slots_again (e ∷ es) rest fits =
     rw (sum_by-cons numbers_of e es, append_assoc (entry_bytes e) (flat_map entry_bytes es) rest)
     (again_cons e (sum_by numbers_of es) (flat_map entry_bytes es ++ rest) (slots_of es) rest fits.0
-        (slots_again es rest fits.1))
+    (slots_again es rest fits.1))
 
 -- ---- entries after their count
 
@@ -179,8 +186,10 @@ pub entries_take : (bytes : List ℕ) (x : List Entry × List ℕ) → IsBytes b
     → Takes bytes (pool_bytes x.0) x.1 × PoolFits x.0
 unfolding entries_from
 entries_take bytes x fits e =
-    let a = bind_ok (number_at w16 bytes) (λ count. counted count.0 count.1 >>= λ slots. Ok (entries_in slots.0,
-          slots.1)) x e in
+    let a = bind_ok (number_at w16 bytes) (λ count. counted count.0 count.1 >>= λ slots. Ok (
+      entries_in slots.0,
+      slots.1,
+    )) x e in
     let b = bind_ok (counted a.0.0 a.0.1) (λ slots. Ok (entries_in slots.0, slots.1)) x a.2 in
     let g = guard_ok (eqb a.0.0 0) Index (slots_from false (a.0.0 - 1) a.0.1) b.0 b.1 in
     let some = eqb-false a.0.0 0 g.0 in
@@ -189,10 +198,12 @@ entries_take bytes x fits e =
     let count : pool_count (entries_in b.0.0) ≡ a.0.0 = omega (arith, r.numbers, some) in
     let both = Takes-then bytes (u2 a.0.0) a.0.1 (flat_map entry_bytes (entries_in b.0.0)) b.0.1 t.0 r.takes in
     let whole : Takes bytes (pool_bytes (entries_in b.0.0)) b.0.1 = subst
-          (λ k. Takes bytes (u2 k ++ flat_map entry_bytes (entries_in b.0.0)) b.0.1) (sym count) both in
+    (λ k. Takes bytes (u2 k ++ flat_map entry_bytes (entries_in b.0.0)) b.0.1) (sym count) both in
     let made : List Entry × List ℕ = (entries_in b.0.0, b.0.1) in
-    subst (λ (y : List Entry × List ℕ). Takes bytes (pool_bytes y.0) y.1 × PoolFits y.0) (ok_is made x b.2) (whole,
-        (omega (arith, count, t.1), r.fits))
+    subst (λ (y : List Entry × List ℕ). Takes bytes (pool_bytes y.0) y.1 × PoolFits y.0) (ok_is made x b.2) (
+      whole,
+      (omega (arith, count, t.1), r.fits),
+    )
 
 pub entries_again : (es : List Entry) (rest : List ℕ) → PoolFits es → entries_from (pool_bytes es ++ rest)
     ≡ Ok (es, rest)
@@ -201,13 +212,13 @@ entries_again es rest fits =
     let n = sum_by numbers_of es in
     let body = flat_map entry_bytes es ++ rest in
     let regrouped : pool_bytes es ++ rest ≡ u2 (pool_count es) ++ body = append_assoc (u2 (pool_count es))
-          (flat_map entry_bytes es) rest in
+    (flat_map entry_bytes es) rest in
     let some : eqb (1 + n) 0 ≡ false = ne_eqb _ _ (omega arith) in
     let less : (1 + n) - 1 ≡ n = omega arith in
     let read : counted (1 + n) body ≡ Ok (slots_of es, rest) = rw some refl ∙ ap (λ m. slots_from false m body) less
-          ∙ slots_again es rest fits.1 in
+    ∙ slots_again es rest fits.1 in
     ap entries_from regrouped ∙ rw (number_again w16 wide16 (pool_count es) body fits.0, read, entries_in-slots_of es)
-        refl
+    refl
 
 -- ---- pools
 
@@ -219,7 +230,7 @@ pub sound_from : (pool es : List Entry) → first_fault pool es ≡ None
     → AllByRecursion (λ e. entry_fault pool e ≡ None) es
 sound_from pool [] h = tt
 sound_from pool (e ∷ es) h = let p = neither (entry_fault pool e) (first_fault pool es) h
-                                   in (p.0, sound_from pool es p.1)
+    in (p.0, sound_from pool es p.1)
 
 pub faultless : (pool es : List Entry) → AllByRecursion (λ e. entry_fault pool e ≡ None) es → first_fault pool es ≡ None
 faultless pool [] h = refl
@@ -236,8 +247,11 @@ pool_takes bytes x fits e =
     let b = bind_ok (entries_from bytes) (λ pool. unless (first_fault pool.0 pool.0) pool) x e in
     let u = unless_ok (first_fault b.0.0 b.0.0) b.0 x b.2 in
     let t = entries_take bytes b.0 fits b.1 in
-    subst (λ (y : List Entry × List ℕ). Takes bytes (pool_bytes y.0) y.1 × PoolFits y.0 × AreSound y.0) u.1 (t.0, t.1,
-        sound_from b.0.0 b.0.0 u.0)
+    subst (λ (y : List Entry × List ℕ). Takes bytes (pool_bytes y.0) y.1 × PoolFits y.0 × AreSound y.0) u.1 (
+      t.0,
+      t.1,
+      sound_from b.0.0 b.0.0 u.0,
+    )
 
 pub pool_again : (es : List Entry) (rest : List ℕ) → PoolFits es → AreSound es → pool_from (pool_bytes es ++ rest)
     ≡ Ok (es, rest)
@@ -253,7 +267,7 @@ slots_of_read count bytes slots rest fits e =
     let r = slots_read (count - 1) bytes b.0 fits b.1 in
     let made : Slots × List ℕ = (None ∷ b.0.0, b.0.1) in
     subst (λ (y : Slots × List ℕ). AreSlots y.0) (ok_is made (slots, rest) b.2)
-        (ap (λ (s : Slots). None ∷ s) r.slots_are)
+    (ap (λ (s : Slots). None ∷ s) r.slots_are)
 
 pub slots_fit : (count : ℕ) (bytes : List ℕ) (slots : Slots) (rest : List ℕ) → count < 2 ^ 16 → 0 < count
     → IsBytes bytes → slots_after None (slots_from false (count - 1) bytes) ≡ Ok (slots, rest)
@@ -262,8 +276,10 @@ slots_fit count bytes slots rest small some fits e =
     let b = bind_ok (slots_from false (count - 1) bytes) (λ x. Ok (None ∷ x.0, x.1)) (slots, rest) e in
     let r = slots_read (count - 1) bytes b.0 fits b.1 in
     let made : Slots × List ℕ = (None ∷ b.0.0, b.0.1) in
-    subst (λ (y : Slots × List ℕ). PoolFits (entries_in y.0)) (ok_is made (slots, rest) b.2) (omega (arith, r.numbers),
-        r.fits)
+    subst (λ (y : Slots × List ℕ). PoolFits (entries_in y.0)) (ok_is made (slots, rest) b.2) (
+      omega (arith, r.numbers),
+      r.fits,
+    )
 
 -- ---- what a reader found
 

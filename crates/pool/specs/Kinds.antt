@@ -9,9 +9,14 @@ use Rattle.pool.specs.declared.kinds.TextKind.{TextKind}
 
 -- each test of a text
 abbrev pub kind_of : List ℕ → TextKind
-kind_of text = record { class_name = is_class_name text; array = is_array_descriptor text;
-    field_name = is_field_name text; method_name = is_method_name text; field_descriptor = is_field_descriptor text;
-    units = arguments_of text }
+kind_of text = record {
+  class_name = is_class_name text;
+  array = is_array_descriptor text;
+  field_name = is_field_name text;
+  method_name = is_method_name text;
+  field_descriptor = is_field_descriptor text;
+  units = arguments_of text;
+}
 
 -- the tests of what stands under a number, if it is a text
 abbrev pub slot_kind : Option Entry → Option TextKind

@@ -44,7 +44,7 @@ module _ (program : List ClassListing) (acyclic : IsAcyclic program) where
       by : (b : Bool) → is_subclass program p c.name ≡ b → b ≡ false
       by true e =
           absurd (differ (is_on_cycle program c) (any-has (λ parent. is_subclass program parent c.name) (parents_of c) p
-              h e)
+          h e)
           (none-fails (is_on_cycle program) (is_named name) program c acyclic (sym is)))
       by false e = refl
 
@@ -52,17 +52,17 @@ module _ (program : List ClassListing) (acyclic : IsAcyclic program) where
       → rank program p < rank program name
   rank-less name p c is h =
       count-less (λ (d : ClassListing). is_subclass program p d.name) (λ (d : ClassListing). is_subclass program name
-          d.name)
+      d.name)
       (λ d below. Subclass-is_subclass program name d.name
       (through p (parent (subst (λ (names : List (List ℕ)). HasName names p) (sym (parents-listed program name c is))
-          h))
+      h))
       (is_subclass-Subclass program p d.name below)))
       program
       (found-any (is_named name) (λ (d : ClassListing). is_subclass program name d.name
-          && not (is_subclass program p d.name)) program c (sym is)
+      && not (is_subclass program p d.name)) program c (sym is)
       (alone (is_subclass program name c.name) (is_subclass program p c.name)
       (Subclass-is_subclass program name c.name (subst (λ (n : List ℕ). Subclass program name n)
-          (sym (named-listed program name c is)) same))
+      (sym (named-listed program name c is)) same))
       (apart name p c is h)))
     where
       alone : (a b : Bool) → a ≡ true → b ≡ false → (a && not b) ≡ true
@@ -73,7 +73,7 @@ module _ (program : List ClassListing) (acyclic : IsAcyclic program) where
   rank-interface : (name i : List ℕ) → HasName (interfaces_named program name) i → rank program i < rank program name
   rank-interface name i h =
       by (listed program name) refl (subst (λ (names : List (List ℕ)). HasName names i)
-          (interfaces_named-listed program name) h)
+      (interfaces_named-listed program name) h)
     where
       by : (c : Option ClassListing) → listed program name ≡ c → HasName (interfaces_in c) i
           → rank program i < rank program name
@@ -90,21 +90,21 @@ module _ (program : List ClassListing) (acyclic : IsAcyclic program) where
 
   from-next : (steps : ℕ) (names : List (List ℕ))
       → interfaces_from (suc steps) program names
-          ≡ flat_map (λ name. name ∷ interfaces_from steps program (interfaces_named program name)) names
+      ≡ flat_map (λ name. name ∷ interfaces_from steps program (interfaces_named program name)) names
   unfolding interfaces_from
   from-next steps names = refl
 
   stable : (steps : ℕ) (name : List ℕ) → rank program name ≤ steps
       → interfaces_from (suc steps) program (interfaces_named program name) ≡
-          interfaces_from steps program (interfaces_named program name)
+      interfaces_from steps program (interfaces_named program name)
   stable zero name few =
       nothing (interfaces_named program name)
       (λ i h. let less : rank program i < rank program name = rank-interface name i h
-                    in absurd (omega (arith, less, few)))
+      in absurd (omega (arith, less, few)))
   stable (suc n) name few =
       from-next (suc n) (interfaces_named program name)
       ∙ same-each (λ i. i ∷ interfaces_from (suc n) program (interfaces_named program i)) (λ i. i ∷
-          interfaces_from n program (interfaces_named program i))
+      interfaces_from n program (interfaces_named program i))
       (interfaces_named program name)
       (λ i h.
       let less : rank program i < rank program name = rank-interface name i h in
@@ -114,11 +114,11 @@ module _ (program : List ClassListing) (acyclic : IsAcyclic program) where
   -- where no class is above itself, one step more gives nothing more
   pub enough : (name : List ℕ)
       → flat_map (λ i. i ∷ interfaces_from (enough_steps program) program (interfaces_named program i))
-          (interfaces_named program name)
+      (interfaces_named program name)
       ≡ interfaces_from (enough_steps program) program (interfaces_named program name)
   enough name =
       let few : rank program name ≤ length program = count-all (λ (c : ClassListing). is_subclass program name c.name)
-            program in
+      program in
       sym (from-next (enough_steps program) (interfaces_named program name))
       ∙ stable (enough_steps program) name (omega (arith, few))
 
@@ -139,7 +139,7 @@ module _ (program : List ClassListing) where
   own-parent all name p None is h = absurd h
   own-parent all name p (Some c) is (inl e) =
       subst IsUnlisted e (all-found (λ (c : ClassListing). is_none (listed program c.superclass)) (is_named name)
-          builtin_classes c all is)
+      builtin_classes c all is)
   own-parent all name p (Some c) is (inr h) = absurd h
 
   unlisted-parent : IsApart → (name p : List ℕ) (c : Option ClassListing) → listed program name ≡ c → is_none c ≡ true
@@ -147,7 +147,7 @@ module _ (program : List ClassListing) where
       → IsUnlisted p
   unlisted-parent all name p None is none h =
       own-parent all name p (builtin name) refl (subst (λ (names : List (List ℕ)). HasName names p)
-          (parents_in-builtin name) h)
+      (parents_in-builtin name) h)
   unlisted-parent all name p (Some c) is none h = cc
 
   unlisted-above : IsApart → {name above : List ℕ} → Subclass program name above → IsUnlisted name → IsUnlisted above

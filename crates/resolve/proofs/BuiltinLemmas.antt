@@ -15,12 +15,14 @@ superclass_if b one other = option_map (λ (c : ClassListing). c.superclass) (co
 
 superclass_if-cond : (b : Bool) (one other : Option ClassListing)
     → superclass_if b one other ≡ cond b (option_map (λ (c : ClassListing). c.superclass) one)
-        (option_map (λ (c : ClassListing). c.superclass) other)
+    (option_map (λ (c : ClassListing). c.superclass) other)
 superclass_if-cond true one other = refl
 superclass_if-cond false one other = refl
 
 pub option_map-find : (cs : List ClassListing) (name : List ℕ)
     → option_map (λ (c : ClassListing). c.superclass) (find (is_named name) cs) ≡ superclass_in cs name
 option_map-find [] name = refl
-option_map-find (c ∷ cs) name = rw (superclass_if-cond (bytes_eq c.name name) (Some c) (find (is_named name) cs),
-    option_map-find cs name)
+option_map-find (c ∷ cs) name = rw (
+  superclass_if-cond (bytes_eq c.name name) (Some c) (find (is_named name) cs),
+  option_map-find cs name,
+)

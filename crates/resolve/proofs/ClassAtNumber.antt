@@ -31,7 +31,7 @@ names-joined (c ∷ cs) more = ap (λ names. c.name ∷ names) (names-joined cs 
 
 find-named : (name : List ℕ) (cs more : List ClassListing)
     → find (λ (c : ClassListing). bytes_eq name c.name) (cs ++ more)
-        ≡ or_else (find (is_named name) cs) (find (is_named name) more)
+    ≡ or_else (find (is_named name) cs) (find (is_named name) more)
 find-named name [] [] = refl
 find-named name [] (c ∷ more) =
     ap (λ b. cond b (Some c) (find (λ (x : ClassListing). bytes_eq name x.name) more)) (turned name c.name)
@@ -50,9 +50,9 @@ pub class_at_number : (program : List ClassListing) (name : List ℕ)
     → option_and_then (slice_get (all_classes program)) (class_number program name) ≡ class_named program name
 class_at_number program name =
     ap (λ names. option_and_then (slice_get (all_classes program)) (position (bytes_eq name) names))
-        (names-joined program builtin_classes)
+    (names-joined program builtin_classes)
     ∙ ap (option_and_then (slice_get (all_classes program)))
-        (position-map (bytes_eq name) name_of (all_classes program))
+    (position-map (bytes_eq name) name_of (all_classes program))
     ∙ place-found (λ (c : ClassListing). bytes_eq name c.name) (all_classes program)
     ∙ find-named name program builtin_classes
 
@@ -81,4 +81,4 @@ number_inside program name (Some n) is =
     let many : length (map name_of program ++ map name_of builtin_classes) ≡ length (all_classes program) =
     ap length (names-joined program builtin_classes) ∙ length-names (all_classes program) in
     subst (λ (m : ℕ). n < m) many (place-inside (bytes_eq name) (map name_of program ++ map name_of builtin_classes) n
-        is)
+    is)

@@ -47,7 +47,7 @@ find-last : (cs : List ClassListing) (c : ClassListing) (name : List ℕ) → fi
 find-last [] c name = refl
 find-last (x ∷ xs) c name =
     ap (cond (bytes_eq x.name name) (Some x)) (find-last xs c name)
-        ∙ sym (or-cond (bytes_eq x.name name) x (find (is_named name) xs) (alone c name))
+    ∙ sym (or-cond (bytes_eq x.name name) x (find (is_named name) xs) (alone c name))
 
 map-cond : {A B : Type 0} (f : A → B) (b : Bool) (x : A) (y : Option A) → option_map f (cond b (Some x) y)
     ≡ cond b (Some (f x)) (option_map f y)
@@ -57,7 +57,7 @@ map-cond f false x y = refl
 module _ {K C : Type 0} (text : K → List ℕ) (class : C → ClassListing) where
   found-last : (entries : List (K × C)) (k : K) (c : C) (name : List ℕ) → text k ≡ (class c).name
       → found_in text class (entries ++ (k, c) ∷ []) name
-          ≡ or_else (found_in text class entries name) (alone (class c) name)
+      ≡ or_else (found_in text class entries name) (alone (class c) name)
   found-last [] k c name is =
       map-cond class (bytes_eq name (text k)) c None
       ∙ ap (λ b. cond b (Some (class c)) None) (ap (bytes_eq name) is ∙ turned name (class c).name)
@@ -66,7 +66,7 @@ module _ {K C : Type 0} (text : K → List ℕ) (class : C → ClassListing) whe
       ∙ ap (cond (bytes_eq name (text e.0)) (Some (class e.1))) (found-last es k c name is)
       ∙ sym (or-cond (bytes_eq name (text e.0)) (class e.1) (found_in text class es name) (alone (class c) name))
       ∙ ap (λ x. or_else x (alone (class c) name))
-          (sym (map-cond class (bytes_eq name (text e.0)) e.1 (lookup (λ x. bytes_eq name (text x)) es)))
+      (sym (map-cond class (bytes_eq name (text e.0)) e.1 (lookup (λ x. bytes_eq name (text x)) es)))
 
   -- the entries find what a list of classes has
   abbrev pub Finds : List (K × C) → List ClassListing → Type 0
@@ -77,7 +77,7 @@ module _ {K C : Type 0} (text : K → List ℕ) (class : C → ClassListing) whe
       → Finds (entries ++ (k, c) ∷ []) (cs ++ class c ∷ [])
   finds-new entries cs k c so is name =
       found-last entries k c name is ∙ ap (λ x. or_else x (alone (class c) name)) (so name)
-          ∙ sym (find-last cs (class c) name)
+      ∙ sym (find-last cs (class c) name)
 
   or-some : (x : Option ClassListing) (y : Option ClassListing) → (x ≡ None → ⊥) → or_else x y ≡ x
   or-some None y some = absurd (some refl)
@@ -93,7 +93,7 @@ module _ {K C : Type 0} (text : K → List ℕ) (class : C → ClassListing) whe
       same (inl t) =
           let is : c.name ≡ name = (bytes_eq-Decides c.name name).0 t in
           or-some (find (is_named name) cs) (alone c name) (λ none. known (ap (found_in text class entries) is ∙ so name
-              ∙ none))
+          ∙ none))
       same (inr f) = rw f (or_none (find (is_named name) cs))
 
 pub take-next : {A : Type 0} (cs : List A) (n : ℕ) (c : A) → c ≡ get_or cs n c → n < length cs → take (n + 1) cs
@@ -139,12 +139,12 @@ slice-there (x ∷ xs) (suc n) c is inside = slice-there xs n c is (omega arith)
 module _ {K C : Type 0} (text : K → List ℕ) (class : C → ClassListing) (number : C → ℕ) (program : List ClassListing)
     (entries : List (K × C))
     (name : List ℕ) (c : C) (index : IsIndex text class number program entries) (found : Some c
-        ≡ lookup (λ k. bytes_eq name (text k)) entries) where
+    ≡ lookup (λ k. bytes_eq name (text k)) entries) where
   placed : slice_get program (number c) ≡ Some (class c)
   placed =
       subst (λ (x : Option C). IfSome x (λ c. slice_get program (number c) ≡ Some (class c))) (sym found)
       (All-lookup (λ c. slice_get program (number c) ≡ Some (class c)) (λ k. bytes_eq name (text k)) entries
-          index.placed)
+      index.placed)
 
   pub numbered : slice_get program (number c) ≡ listed program name
   numbered = placed ∙ ap (option_map class) found ∙ index.finds name

@@ -45,7 +45,7 @@ once-from : (names ys xs : List (List ℕ)) → with_names names (with_names ys 
 once-from names ys [] = refl
 once-from names ys (x ∷ xs) =
     once-from names (with_name ys x) xs ∙ ap (λ (zs : List (List ℕ)). with_names zs xs)
-        (one-more names ys x (has_name ys x) refl)
+    (one-more names ys x (has_name ys x) refl)
 
 -- names that stand there once are as good as all of them
 pub once : (names xs : List (List ℕ)) → with_names names (with_names [] xs) ≡ with_names names xs
@@ -91,11 +91,11 @@ module _ (program : List ClassListing) (acyclic : IsAcyclic program) where
 
   with-entry : (names : List (List ℕ)) (name : List ℕ) (list : Option (List (List ℕ))) → IsEntry program name list
       → (is_some list || is_none (listed program name)) ≡ true → with_names names (with_list name list)
-          ≡ with_names names (After steps program name)
+      ≡ with_names names (After steps program name)
   with-entry names name None entry settled =
       ap (λ (more : List (List ℕ)). with_names names (name ∷ more))
       (sym (none-is steps program name
-          (sym (ap (option_map (interfaces_once steps program)) (unlisted (listed program name) settled)))))
+      (sym (ap (option_map (interfaces_once steps program)) (unlisted (listed program name) settled)))))
     where
       unlisted : (c : Option ClassListing) → is_none c ≡ true → c ≡ None
       unlisted None h = refl
@@ -107,25 +107,25 @@ module _ (program : List ClassListing) (acyclic : IsAcyclic program) where
   with-entries : (lists : Lists) (names more : List (List ℕ)) → AreLists program lists
       → list_all (is_settled program lists) more ≡ true
       → with_names names (flat_map (λ name. with_list name (lists name)) more)
-          ≡ with_names names (flat_map (After steps program) more)
+      ≡ with_names names (flat_map (After steps program) more)
   with-entries lists names [] are settled = refl
   with-entries lists names (x ∷ more) are settled =
       names-append names (with_list x (lists x)) (flat_map (λ name. with_list name (lists name)) more)
       ∙ ap (λ (ns : List (List ℕ)). with_names ns (flat_map (λ name. with_list name (lists name)) more))
       (with-entry names x (lists x) (are x)
-          (and-left (is_settled program lists x) (list_all (is_settled program lists) more) settled))
+      (and-left (is_settled program lists x) (list_all (is_settled program lists) more) settled))
       ∙ with-entries lists (with_names names (After steps program x)) more are
-          (and-right (is_settled program lists x) (list_all (is_settled program lists) more) settled)
+      (and-right (is_settled program lists x) (list_all (is_settled program lists) more) settled)
       ∙ sym (names-append names (After steps program x) (flat_map (After steps program) more))
 
   made-right : (lists : Lists) (name : List ℕ) (c : ClassListing) (list : List (List ℕ)) → AreLists program lists
       → Some c ≡ listed program name
       → list_all (is_settled program lists) c.interfaces ≡ true
-          → list ≡ with_names [] (flat_map (λ name. with_list name (lists name)) c.interfaces)
+      → list ≡ with_names [] (flat_map (λ name. with_list name (lists name)) c.interfaces)
       → Some list ≡ option_map (interfaces_once steps program) (listed program name)
   made-right lists name c list are is settled made =
       let own : interfaces_named program name ≡ c.interfaces = interfaces_named-listed program name ∙ ap
-            interfaces_in (sym is) in
+      interfaces_in (sym is) in
       ap (λ (l : List (List ℕ)). Some l)
       (made ∙ with-entries lists [] c.interfaces are settled
       ∙ ap (λ (names : List (List ℕ)). with_names [] (flat_map (After steps program) names)) (sym own)
@@ -145,11 +145,11 @@ module _ (lists : Lists) where
   pub next-following : (found names : List (List ℕ)) (n : ℕ) (name : List ℕ) → name ≡ get_or names n name
       → n < length names
       → with_names (with_names found (with_list name (lists name))) (all_following lists (drop (n + 1) names))
-          ≡ with_names found (all_following lists (drop n names))
+      ≡ with_names found (all_following lists (drop n names))
   next-following found names n name is inside =
       sym (names-append found (with_list name (lists name)) (all_following lists (drop (n + 1) names)))
       ∙ ap (λ (ns : List (List ℕ)). with_names found (all_following lists ns))
-          (sym (drop_more names n name inside ∙ ap (λ x. x ∷ drop (n + 1) names) (sym is)))
+      (sym (drop_more names n name inside ∙ ap (λ x. x ∷ drop (n + 1) names) (sym is)))
 
   pub none-following : (found names : List (List ℕ)) (n : ℕ) → length names ≤ n
       → found ≡ with_names found (all_following lists (drop n names))
@@ -207,7 +207,7 @@ module _ (program : List ClassListing) (lists : Lists) where
           ready-ends are name c is ready,
           λ acyclic. made-right program acyclic lists name c list are is
               (and-right (is_settled program lists c.superclass) (list_all (is_settled program lists) c.interfaces)
-                  (ready-settled name c is ready)) made,
+              (ready-settled name c is ready)) made,
         )
 
         by : (b : Bool) → bytes_eq name x ≡ b → IsEntry program x (cond b (Some list) (lists x))
@@ -220,12 +220,12 @@ module _ (program : List ClassListing) (lists : Lists) where
         (λ d none. kept (bytes_eq name d.name) (lists d.name) (ap is_none (sym (updates d.name)) ∙ none))
         program
         (found-any (is_named name) (λ (d : ClassListing). is_none (lists d.name) && not (is_none (more d.name))) program
-            c (sym is)
+        c (sym is)
         (both-true (is_none (lists c.name)) (not (is_none (more c.name)))
         (ap (λ (n : List ℕ). is_none (lists n)) (named-listed program name c is) ∙ ready-none name c is ready)
         (ap (λ (n : List ℕ). not (is_none (more n))) (named-listed program name c is)
         ∙ ap (λ o. not (is_none o)) (updates name ∙ ap (λ b. cond b (Some list) (lists name))
-            ((bytes_eq-Decides name name).1 refl)))))
+        ((bytes_eq-Decides name name).1 refl)))))
       where
         kept : (b : Bool) (old : Option (List (List ℕ))) → is_none (cond b (Some list) old) ≡ true → is_none old ≡ true
         kept true old h = cc
@@ -234,88 +234,87 @@ module _ (program : List ClassListing) (lists : Lists) where
 -- ---- where no class is ready, but none is above itself, each has its list
 
 module _ (program : List ClassListing) (lists : Lists) (full : AreFull program lists) (acyclic : IsAcyclic program)
-    where
-  not-ready : (name : List ℕ) (c : ClassListing) → Some c ≡ listed program name
-      → is_class_ready program lists name (Some c) ≡ false
-  not-ready name c is =
-      ap (is_class_ready program lists name) is
-      ∙ ap (is_ready program lists) (sym (named-listed program name c is))
-      ∙ none-fails (λ (c : ClassListing). is_ready program lists c.name) (is_named name) program c full (sym is)
+  where
+    not-ready : (name : List ℕ) (c : ClassListing) → Some c ≡ listed program name
+        → is_class_ready program lists name (Some c) ≡ false
+    not-ready name c is =
+        ap (is_class_ready program lists name) is
+        ∙ ap (is_ready program lists) (sym (named-listed program name c is))
+        ∙ none-fails (λ (c : ClassListing). is_ready program lists c.name) (is_named name) program c full (sym is)
 
-  unsettled : (list : Option (List (List ℕ))) (c : Option ClassListing) → (is_some list || is_none c) ≡ false
-      → (is_none list ≡ true) × ((d : ClassListing) × (Some d ≡ c))
-  unsettled None None h = cc
-  unsettled None (Some c) h = (refl, (c, refl))
-  unsettled (Some list) c h = cc
+    unsettled : (list : Option (List (List ℕ))) (c : Option ClassListing) → (is_some list || is_none c) ≡ false
+        → (is_none list ≡ true) × ((d : ClassListing) × (Some d ≡ c))
+    unsettled None None h = cc
+    unsettled None (Some c) h = (refl, (c, refl))
+    unsettled (Some list) c h = cc
 
-  descent : (k : ℕ) (name : List ℕ) (c : ClassListing) → Some c ≡ listed program name → rank program name < k
-      → is_none (lists name) ≡ true → ⊥
-  descent zero name c is few none = omega (arith, few)
-  descent (suc k) name c is few none =
-      elim (and-false (is_none (lists name)) (list_all (is_settled program lists) (parents_of c)) (not-ready name c is))
-          [
-        | inl there ↦ differ (is_none (lists name)) none there
-        | inr waiting ↦
-            let found : (p : List ℕ) × HasName (parents_of c) p × (is_settled program lists p ≡ false) =
-            not-all (is_settled program lists) (parents_of c) waiting in
-            let open-parent : (is_none (lists found.0) ≡ true)
-                  × ((d : ClassListing) × (Some d ≡ listed program found.0)) =
-            unsettled (lists found.0) (listed program found.0) found.2 in
-            let less : rank program found.0 < rank program name = rank-less program acyclic name found.0 c is found.1 in
-            descent k found.0 open-parent.1.0 open-parent.1.1 (omega (arith, less, few)) open-parent.0
-      ]
-    where
-      differ : (b : Bool) → b ≡ true → b ≡ false → ⊥
-      differ b p q = cc
+    descent : (k : ℕ) (name : List ℕ) (c : ClassListing) → Some c ≡ listed program name → rank program name < k
+        → is_none (lists name) ≡ true → ⊥
+    descent zero name c is few none = omega (arith, few)
+    descent (suc k) name c is few none =
+        elim (and-false (is_none (lists name)) (list_all (is_settled program lists) (parents_of c)) (not-ready name c is)) [
+          | inl there ↦ differ (is_none (lists name)) none there
+          | inr waiting ↦
+              let found : (p : List ℕ) × HasName (parents_of c) p × (is_settled program lists p ≡ false) =
+              not-all (is_settled program lists) (parents_of c) waiting in
+              let open-parent : (is_none (lists found.0) ≡ true)
+              × ((d : ClassListing) × (Some d ≡ listed program found.0)) =
+              unsettled (lists found.0) (listed program found.0) found.2 in
+              let less : rank program found.0 < rank program name = rank-less program acyclic name found.0 c is found.1 in
+              descent k found.0 open-parent.1.0 open-parent.1.1 (omega (arith, less, few)) open-parent.0
+        ]
+      where
+        differ : (b : Bool) → b ≡ true → b ≡ false → ⊥
+        differ b p q = cc
 
-  pub lists-are : AreLists program lists → (name : List ℕ) → lists name
-      ≡ option_map (interfaces_once (enough_steps program) program) (listed program name)
-  lists-are are name = by (lists name) refl (are name) (listed program name) refl
-    where
-      by : (list : Option (List (List ℕ))) → lists name ≡ list → IsEntry program name list → (c : Option ClassListing)
-          → listed program name ≡ c
-          → list ≡ option_map (interfaces_once (enough_steps program) program) c
-      by None e entry None is = refl
-      by None e entry (Some c) is = absurd (descent (suc (rank program name)) name c (sym is) (omega arith)
-          (ap is_none e))
-      by (Some list) e entry c is = entry.1 acyclic ∙ ap (option_map (interfaces_once (enough_steps program) program))
-          is
+    pub lists-are : AreLists program lists → (name : List ℕ) → lists name
+        ≡ option_map (interfaces_once (enough_steps program) program) (listed program name)
+    lists-are are name = by (lists name) refl (are name) (listed program name) refl
+      where
+        by : (list : Option (List (List ℕ))) → lists name ≡ list → IsEntry program name list → (c : Option ClassListing)
+            → listed program name ≡ c
+            → list ≡ option_map (interfaces_once (enough_steps program) program) c
+        by None e entry None is = refl
+        by None e entry (Some c) is = absurd (descent (suc (rank program name)) name c (sym is) (omega arith)
+            (ap is_none e))
+        by (Some list) e entry c is = entry.1 acyclic ∙ ap (option_map (interfaces_once (enough_steps program) program))
+            is
 
-  -- a class that is missed is there by its name
-  missed : (cs : List ClassListing) → list_all (λ (c : ClassListing). is_some (lists c.name)) cs ≡ false
-      → ((name : List ℕ) → list_any (is_named name) cs ≡ true → (c : ClassListing) × (Some c ≡ listed program name)) → ⊥
-  missed [] all named = cc
-  missed (c ∷ cs) all named =
-      elim (and-false (is_some (lists c.name)) (list_all (λ (c : ClassListing). is_some (lists c.name)) cs) all) [
-        | inl here ↦
-            let first : (d : ClassListing) × (Some d ≡ listed program c.name) =
-            named c.name (ap (λ b. b || list_any (is_named c.name) cs) ((bytes_eq-Decides c.name c.name).1 refl)) in
-            descent (suc (rank program c.name)) c.name first.0 first.1 (omega arith) (ap not here)
-        | inr there ↦ missed cs there
-            (λ name h. named name (or-right (is_named name c) (list_any (is_named name) cs) h))
-      ]
+    -- a class that is missed is there by its name
+    missed : (cs : List ClassListing) → list_all (λ (c : ClassListing). is_some (lists c.name)) cs ≡ false
+        → ((name : List ℕ) → list_any (is_named name) cs ≡ true → (c : ClassListing) × (Some c ≡ listed program name)) → ⊥
+    missed [] all named = cc
+    missed (c ∷ cs) all named =
+        elim (and-false (is_some (lists c.name)) (list_all (λ (c : ClassListing). is_some (lists c.name)) cs) all) [
+          | inl here ↦
+              let first : (d : ClassListing) × (Some d ≡ listed program c.name) =
+              named c.name (ap (λ b. b || list_any (is_named c.name) cs) ((bytes_eq-Decides c.name c.name).1 refl)) in
+              descent (suc (rank program c.name)) c.name first.0 first.1 (omega arith) (ap not here)
+          | inr there ↦ missed cs there
+              (λ name h. named name (or-right (is_named name c) (list_any (is_named name) cs) h))
+        ]
 
-  any-listed : (cs : List ClassListing) (name : List ℕ) → list_any (is_named name) cs ≡ true → (c : ClassListing)
-      × (Some c ≡ find (is_named name) cs)
-  any-listed [] name h = cc
-  any-listed (c ∷ cs) name h = by (is_named name c) h (λ rest. any-listed cs name rest)
-    where
-      by : (b : Bool) → (b || list_any (is_named name) cs) ≡ true
-          → (list_any (is_named name) cs ≡ true → (d : ClassListing) × (Some d ≡ find (is_named name) cs))
-          → (d : ClassListing) × (Some d ≡ cond b (Some c) (find (is_named name) cs))
-      by true k rest = (c, refl)
-      by false k rest = rest k
+    any-listed : (cs : List ClassListing) (name : List ℕ) → list_any (is_named name) cs ≡ true → (c : ClassListing)
+        × (Some c ≡ find (is_named name) cs)
+    any-listed [] name h = cc
+    any-listed (c ∷ cs) name h = by (is_named name c) h (λ rest. any-listed cs name rest)
+      where
+        by : (b : Bool) → (b || list_any (is_named name) cs) ≡ true
+            → (list_any (is_named name) cs ≡ true → (d : ClassListing) × (Some d ≡ find (is_named name) cs))
+            → (d : ClassListing) × (Some d ≡ cond b (Some c) (find (is_named name) cs))
+        by true k rest = (c, refl)
+        by false k rest = rest k
 
-  pub none-missed : list_all (λ (c : ClassListing). is_some (lists c.name)) program ≡ false → ⊥
-  none-missed all = missed program all (λ name h. any-listed program name h)
+    pub none-missed : list_all (λ (c : ClassListing). is_some (lists c.name)) program ≡ false → ⊥
+    none-missed all = missed program all (λ name h. any-listed program name h)
 
 -- ---- where each class has its list, and no two have one name, none is above itself
 
 pub no-cycle : (program : List ClassListing) (lists : Lists) → AreLists program lists
     → list_all (λ (c : ClassListing). is_none (listed program c.superclass)) builtin_classes ≡ true
-        → (cs : List ClassListing)
+    → (cs : List ClassListing)
     → list_all (λ (c : ClassListing). is_some (lists c.name)) cs ≡ true → AreFirst program cs
-        → find (is_on_cycle program) cs ≡ None
+    → find (is_on_cycle program) cs ≡ None
 no-cycle program lists are apart [] all first = refl
 no-cycle program lists are apart (c ∷ cs) all first =
     ap (λ b. cond b (Some c) (find (is_on_cycle program) cs))
@@ -343,7 +342,7 @@ first-next program n c first is inside place =
 
 pub missed-cycle : (program : List ClassListing) (lists : Lists) → AreFull program lists
     → list_all (λ (c : ClassListing). is_some (lists c.name)) program ≡ false
-        → true ≡ is_some (find (is_on_cycle program) program)
+    → true ≡ is_some (find (is_on_cycle program) program)
 missed-cycle program lists full missed-one = by (find (is_on_cycle program) program) refl
   where
     by : (c : Option ClassListing) → find (is_on_cycle program) program ≡ c → true ≡ is_some c

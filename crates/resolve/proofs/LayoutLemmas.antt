@@ -40,14 +40,14 @@ module _ (program : List ClassListing) (steps passed : ℕ) (name : List ℕ) (i
   pub gather-next : (above : List ℕ) (c : ClassListing) (more : List (Declared Field))
       → Some c ≡ class_named program name → c.name ≡ name → passed < steps
       → more ≡ items ++ reverse (fields_in c.name c.fields) → above ≡ c.superclass
-          → Gathers program steps (passed + 1) above more whole
+      → Gathers program steps (passed + 1) above more whole
   gather-next above c more found named inside e is =
       let n : ℕ = steps - (passed + 1) in
       let one : steps - passed ≡ suc n = omega (arith, inside) in
       let rest : List (Declared Field) = flat_map (fields_last_first program) (upwards n program c.superclass) in
       let own : fields_last_first program name ≡ reverse (fields_in c.name c.fields) =
       ap (λ (o : Option ClassListing). reverse (instance_fields_in name o)) (sym found)
-          ∙ ap (λ (m : List ℕ). reverse (instance_fields_in m (Some c))) (sym named) in
+      ∙ ap (λ (m : List ℕ). reverse (instance_fields_in m (Some c))) (sym named) in
       ap (λ (m : List ℕ). more ++ flat_map (fields_last_first program) (upwards n program m)) is
       ∙ ap (λ (l : List (Declared Field)). l ++ rest) e ∙ append_assoc items (reverse (fields_in c.name c.fields)) rest
       ∙ ap (λ (l : List (Declared Field)). items ++ (l ++ rest)) (sym own)

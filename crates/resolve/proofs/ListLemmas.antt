@@ -47,7 +47,7 @@ module _ {A : Type 0} (f g : A → Bool) (all : (x : A) → f x ≡ true → g x
   count-less [] h = cc
   count-less (x ∷ xs) h =
       by (f x) (g x) (all x) (count-le xs) (or-cases (g x && not (f x)) (list_any (λ y. g y && not (f y)) xs) h)
-          (λ there. count-less xs there)
+      (λ there. count-less xs there)
     where
       differ : false ≡ true → ⊥
       differ e = cc
@@ -138,7 +138,7 @@ not-all f (y ∷ ys) h =
     elim (and-false (f y) (list_all f ys) h) [
       | inl here ↦ (y, inl refl, here)
       | inr there ↦ let found : (x : List ℕ) × HasName ys x × (f x ≡ false) = not-all f ys there
-                          in (found.0, inr found.1, found.2)
+          in (found.0, inr found.1, found.2)
     ]
 
 pub same-each : (f g : List ℕ → List (List ℕ)) (names : List (List ℕ)) → ((i : List ℕ) → HasName names i → f i ≡ g i)

@@ -38,14 +38,14 @@ module _ {M : Type 0} where
       → option_copied r ≡ found_under entries name descriptor
       → ((n d : List ℕ) → at more n d ≡ cond (bytes_eq name n && bytes_eq descriptor d) (Some member) (at entries n d))
       → (n d : List ℕ) → found_under more n d
-          ≡ or_else (found_under entries n d) (cond (bytes_eq name n && bytes_eq descriptor d) (Some member.now) None)
+      ≡ or_else (found_under entries n d) (cond (bytes_eq name n && bytes_eq descriptor d) (Some member.now) None)
   added-first entries more name descriptor member r none got updates n d =
       ap value (updates n d)
       ∙ added (bytes_eq name n && bytes_eq descriptor d) (at entries n d) member
       (λ same.
       let is : name ≡ n = (bytes_eq-Decides name n).0 (and-left (bytes_eq name n) (bytes_eq descriptor d) same) in
       let says : descriptor ≡ d = (bytes_eq-Decides descriptor d).0 (and-right (bytes_eq name n) (bytes_eq descriptor d)
-            same) in
+      same) in
       ap (λ (x : List ℕ). found_under entries x d) (sym is)
       ∙ ap (found_under entries name) (sym says)
       ∙ no-value r (found_under entries name descriptor) none got)
@@ -68,7 +68,7 @@ module _ {M : Type 0} where
       → Finds test entries (take i xs)
       → x ≡ get_or xs i x → i < length xs
       → ((n d : List ℕ) → found_under more n d ≡ or_else (found_under entries n d) (cond (test n d x) (Some x) None))
-          → Finds test more (take (i + 1) xs)
+      → Finds test more (take (i + 1) xs)
   found-more test entries more xs i x finds is inside adds n d =
       adds n d
       ∙ ap (λ o. or_else o (cond (test n d x) (Some x) None)) (finds n d)
@@ -85,7 +85,7 @@ module _ {M : Type 0} where
   found-same test entries xs i x finds is inside fails =
       found-more test entries entries xs i x finds is inside
       (λ n d. or-none (found_under entries n d) ∙ ap (λ b. or_else (found_under entries n d) (cond b (Some x) None))
-          (sym (fails n d)))
+      (sym (fails n d)))
 
   pub found-all : (test : List ℕ → List ℕ → M → Bool) (entries : Signed M) (xs : List M) (i : ℕ)
       → Finds test entries (take i xs) → length xs ≤ i → Finds test entries xs
@@ -94,14 +94,14 @@ module _ {M : Type 0} where
   -- the same of a member with this name and descriptor
   pub added-named : (entries more : Signed M) (a b name descriptor : List ℕ) (x : M) → a ≡ name → b ≡ descriptor
       → ((n d : List ℕ) → found_under more n d
-          ≡ or_else (found_under entries n d) (cond (bytes_eq a n && bytes_eq b d) (Some x) None))
+      ≡ or_else (found_under entries n d) (cond (bytes_eq a n && bytes_eq b d) (Some x) None))
       → (n d : List ℕ) → found_under more n d
-          ≡ or_else (found_under entries n d) (cond (bytes_eq name n && bytes_eq descriptor d) (Some x) None)
+      ≡ or_else (found_under entries n d) (cond (bytes_eq name n && bytes_eq descriptor d) (Some x) None)
   added-named entries more a b name descriptor x is says adds n d =
       adds n d
       ∙ ap (λ (k : List ℕ). or_else (found_under entries n d) (cond (bytes_eq k n && bytes_eq b d) (Some x) None)) is
       ∙ ap (λ (k : List ℕ). or_else (found_under entries n d) (cond (bytes_eq name n && bytes_eq k d) (Some x) None))
-          says
+      says
 
 pub and-passes : (b v : Bool) → v ≡ true → b ≡ (b && v)
 and-passes true v e = sym e

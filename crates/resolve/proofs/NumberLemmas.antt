@@ -115,12 +115,12 @@ module _ {K C : Type 0} (text : K → List ℕ) (class : C → ClassListing) (nu
   number-some c at =
       let one : Some (class c) ≡ listed program name = ap (option_map class) at ∙ index.finds name in
       let named : (class c).name ≡ name = subst (λ (o : Option ClassListing). HasName name o) (sym one)
-            (found name program) in
+      (found name program) in
       let place : position (bytes_eq (class c).name) (map name_of program) ≡ Some (number c) =
       subst (λ (x : Option C). IfSome x (λ c. position (bytes_eq (class c).name) (map name_of program)
-          ≡ Some (number c))) (sym at)
+      ≡ Some (number c))) (sym at)
       (All-lookup (λ c. position (bytes_eq (class c).name) (map name_of program) ≡ Some (number c))
-          (λ k. bytes_eq name (text k)) entries index.first) in
+      (λ k. bytes_eq name (text k)) entries index.first) in
       sym place ∙ ap (λ (n : List ℕ). position (bytes_eq n) (map name_of program)) named
 
   pub number-none : None ≡ lookup (λ k. bytes_eq name (text k)) entries
@@ -188,7 +188,7 @@ pub number-there : (program : List ClassListing) (name : List ℕ) (n : ℕ)
     → Some n ≡ class_number program name
 number-there program name n found =
     ap (λ (o : Option ℕ). or_else o (place_after (length (map name_of program))
-        (position (bytes_eq name) (map name_of builtin_classes)))) found
+    (position (bytes_eq name) (map name_of builtin_classes)))) found
     ∙ sym (position-append (bytes_eq name) (map name_of program) (map name_of builtin_classes))
 
 pub number-own : (program : List ClassListing) (name : List ℕ) → None ≡ position (bytes_eq name) (map name_of program)
@@ -196,5 +196,5 @@ pub number-own : (program : List ClassListing) (name : List ℕ) → None ≡ po
 number-own program name none =
     ap (λ (n : ℕ). place_after n (position (bytes_eq name) (map name_of builtin_classes))) (sym (length-names program))
     ∙ ap (λ (o : Option ℕ). or_else o (place_after (length (map name_of program))
-        (position (bytes_eq name) (map name_of builtin_classes)))) none
+    (position (bytes_eq name) (map name_of builtin_classes)))) none
     ∙ sym (position-append (bytes_eq name) (map name_of program) (map name_of builtin_classes))

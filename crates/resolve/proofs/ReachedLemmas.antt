@@ -33,7 +33,7 @@ map-if now false ks k = map-append now ks k
 
 pub with_name-map : {K : Type 0} (now : K → List ℕ) (ks : List K) (k : K)
     → map now (if list_any (λ x. bytes_eq (now k) (now x)) ks then ks else ks ++ k ∷ [])
-        ≡ with_name (map now ks) (now k)
+    ≡ with_name (map now ks) (now k)
 with_name-map now ks k =
     map-if now (list_any (λ x. bytes_eq (now k) (now x)) ks) ks k
     ∙ ap (λ b. if b then map now ks else map now ks ++ now k ∷ []) (has-map now (now k) ks)
@@ -55,7 +55,7 @@ any-found f (x ∷ xs) h =
     elim (or-cases (f x) (list_any f xs) h) [
       | inl here ↦ (x, inl refl, here)
       | inr there ↦ let found : (y : List ℕ) × HasName xs y × (f y ≡ true) = any-found f xs there
-                          in (found.0, inr found.1, found.2)
+          in (found.0, inr found.1, found.2)
     ]
 
 pub any-has : (f : List ℕ → Bool) (xs : List (List ℕ)) (x : List ℕ) → HasName xs x → f x ≡ true → list_any f xs ≡ true
@@ -155,7 +155,7 @@ adds_all names (name ∷ more) =
 
 pub parents_named-builtin : (program : List ClassListing) (name superclass : List ℕ) → None ≡ listed program name
     → Some superclass ≡ option_map (λ (c : ClassListing). c.superclass) (builtin name) → superclass ∷ []
-        ≡ parents_named program name
+    ≡ parents_named program name
 parents_named-builtin program name superclass none found = rw (← none, parents_in-builtin name, ← found)
 
 -- ---- what is reached so far
@@ -180,8 +180,10 @@ in-take [] extra next name x e h = cc
 in-take (y ∷ ys) extra zero name x e (inl is) = inr cc
 in-take (y ∷ ys) extra zero name x e (inr h) = absurd h
 in-take (y ∷ ys) extra (suc n) name x e (inl is) = inl (inl is)
-in-take (y ∷ ys) extra (suc n) name x e (inr h) = elim (in-take ys extra n name x e h) [ inl there ↦ inl (inr there) |
-    inr is ↦ inr is ]
+in-take (y ∷ ys) extra (suc n) name x e (inr h) = elim (in-take ys extra n name x e h) [
+  | inl there ↦ inl (inr there)
+  | inr is ↦ inr is
+]
 
 in-slice : (names : List (List ℕ)) (next : ℕ) (name : List ℕ) → slice_get names next ≡ Some name → HasName names name
 in-slice [] next name e = cc
@@ -195,8 +197,11 @@ pub reached-next : (program : List ClassListing) (start names : List (List ℕ))
 reached-next program start names next name so e =
     let one_more : suc next ≡ next + 1 = omega arith in
     subst (λ (n : ℕ). IsReached program start (with_names names (parents_named program name)) n) one_more
-    (record { sound = λ x h. above x (more.only x h); kept = λ x h. in-extension names all more.extends x (so.kept x h);
-        closed = λ x y h p. parents x y h p })
+    (record {
+      sound = λ x h. above x (more.only x h);
+      kept = λ x h. in-extension names all more.extends x (so.kept x h);
+      closed = λ x y h p. parents x y h p;
+    })
   where
     all : List (List ℕ)
     all = with_names names (parents_named program name)
@@ -219,7 +224,7 @@ reached-next program start names next name so e =
     parents x y h p =
         passed x y
         (in-take names more.extends.0 next name x e (subst (λ (xs : List (List ℕ)). HasName (take (suc next) xs) x)
-            more.extends.1 h)) p
+        more.extends.1 h)) p
 
 -- ---- what is reached in the end
 
@@ -262,14 +267,14 @@ reached-all program start names next so few above =
     to h =
         let one : IsAboveOne program start above = so.sound above (has-HasName names above h) in
         any-has (λ name. is_subclass program name above) start one.0 one.1 (Subclass-is_subclass program one.0 above
-            one.2)
+        one.2)
 
     back : is_one_below program start above ≡ true → has_name names above ≡ true
     back h =
         let found : (s : List ℕ) × HasName start s
-              × (is_subclass program s above ≡ true) = any-found (λ name. is_subclass program name above) start h in
+        × (is_subclass program s above ≡ true) = any-found (λ name. is_subclass program name above) start h in
         HasName-has names above (within-reached (length program + 23) program names found.0 above closed
-            (so.kept found.0 found.1) found.2)
+        (so.kept found.0 found.1) found.2)
 
 -- ---- what begins with one name, and with the parents of a class
 

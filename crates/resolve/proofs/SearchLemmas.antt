@@ -86,10 +86,12 @@ module _ {M : Type 0} (program : List ClassListing) (member : ClassListing → O
   walk-on : (order : List ℕ → List (List ℕ)) (steps more : ℕ) (name : List ℕ) (c : ClassListing)
       → Some c ≡ class_named program name → steps ≡ suc more
       → first (flat_map order (upwards steps program name))
-          ≡ or_else (first (order name)) (first (flat_map order (upwards more program c.superclass)))
+      ≡ or_else (first (order name)) (first (flat_map order (upwards more program c.superclass)))
   unfolding upwards
-  walk-on order steps more name c found e = rw (e,
-      ← found) (first_append (order name) (flat_map order (upwards more program c.superclass)))
+  walk-on order steps more name c found e = rw (
+    e,
+    ← found,
+  ) (first_append (order name) (flat_map order (upwards more program c.superclass)))
 
   walk-missing : (order : List ℕ → List (List ℕ)) (steps : ℕ) (name : List ℕ) → None ≡ class_named program name
       → None ≡ first (flat_map order (upwards steps program name))
@@ -109,7 +111,7 @@ module _ {M : Type 0} (program : List ClassListing) (member : ClassListing → O
   pub walk-found : (order : List ℕ → List (List ℕ)) (steps passed : ℕ) (name : List ℕ) (c : ClassListing)
       (x : Declared M) (whole : Option (Declared M))
       → Walks order steps passed name whole → Some c ≡ class_named program name → passed < steps
-          → Some x ≡ first (order name) → Some x ≡ whole
+      → Some x ≡ first (order name) → Some x ≡ whole
   walk-found order steps passed name c x whole walks found inside here =
       let more : ℕ = steps - (passed + 1) in
       ap (λ (o : Option (Declared M)). or_else o (first (flat_map order (upwards more program c.superclass)))) here
@@ -118,7 +120,7 @@ module _ {M : Type 0} (program : List ClassListing) (member : ClassListing → O
   pub walk-next : (order : List ℕ → List (List ℕ)) (steps passed : ℕ) (name above : List ℕ) (c : ClassListing)
       (whole : Option (Declared M))
       → Walks order steps passed name whole → Some c ≡ class_named program name → passed < steps
-          → None ≡ first (order name) → above ≡ c.superclass
+      → None ≡ first (order name) → above ≡ c.superclass
       → Walks order steps (passed + 1) above whole
   walk-next order steps passed name above c whole walks found inside here is =
       let more : ℕ = steps - (passed + 1) in

@@ -35,13 +35,13 @@ module _ (program : List ClassListing) (steps passed : ℕ) (name above : List �
       let n : ℕ = steps - (passed + 1) in
       let one : steps - passed ≡ suc n = omega (arith, inside) in
       ap (list_any (bytes_eq above)) (sym (on n c found))
-          ∙ ap (λ (m : ℕ). list_any (bytes_eq above) (upwards m program name)) (sym one) ∙ h
+      ∙ ap (λ (m : ℕ). list_any (bytes_eq above) (upwards m program name)) (sym one) ∙ h
 
   pub seek-here : (c : ClassListing) → Some c ≡ class_named program name → passed < steps → bytes_eq above name ≡ true
       → true ≡ whole
   seek-here c found inside e =
       ap (λ (b : Bool). b || list_any (bytes_eq above) (upwards (steps - (passed + 1)) program c.superclass)) (sym e)
-          ∙ stepped c found inside
+      ∙ stepped c found inside
 
   pub seek-next : (next : List ℕ) (c : ClassListing) → Some c ≡ class_named program name → passed < steps
       → bytes_eq above name ≡ false

@@ -127,7 +127,7 @@ module _ (program : List ClassListing) (name above : List ℕ) where
     pub walk-here : bytes_eq next above ≡ true → true ≡ is_subclass program name above
     walk-here here =
         sym (Subclass-is_subclass program name above (subst (λ (x : List ℕ). Subclass program name x)
-            ((bytes_eq-Decides next above).0 here) so.below))
+        ((bytes_eq-Decides next above).0 here) so.below))
 
     pub walk-through : is_one_below program (interfaces_named program next) above ≡ true
         → true ≡ is_subclass program name above
@@ -137,21 +137,21 @@ module _ (program : List ClassListing) (name above : List ℕ) where
         sym (Subclass-is_subclass program name above
         (through next so.below
         (through found.0 (parent (interface-parent (class_named program next) found.0 found.1))
-            (is_subclass-Subclass program found.0 above found.2))))
+        (is_subclass-Subclass program found.0 above found.2))))
 
     further : (n : ℕ) → is_within (suc n) program next above ≡ true → bytes_eq next above ≡ false
         → (p : List ℕ) × HasName (parents_named program next) p × (is_within n program p above ≡ true)
     unfolding is_within
     further n h other =
         elim (or-cases (bytes_eq next above) (list_any (λ p. is_within n program p above) (parents_named program next))
-            h) [
+        h) [
           | inl here ↦ absurd (differ program name above (bytes_eq next above) here other)
           | inr there ↦ any-found (λ p. is_within n program p above) (parents_named program next) there
         ]
 
     left-further : passed < steps → bytes_eq next above ≡ false → is_subclass program name above ≡ true
         → (p : List ℕ) × HasName (parents_named program next) p × (is_within (steps - (passed + 1)) program p above
-            ≡ true)
+        ≡ true)
     left-further inside other h =
         let one : steps - passed ≡ suc (steps - (passed + 1)) = omega (arith, inside) in
         further (steps - (passed + 1)) (subst (λ (n : ℕ). is_within n program next above ≡ true) one (so.left h)) other
@@ -159,7 +159,7 @@ module _ (program : List ClassListing) (name above : List ℕ) where
     pub walk-next : (s : List ℕ) → passed < steps → Some s ≡ superclass_of (class_named program next)
         → bytes_eq next above ≡ false
         → is_one_below program (interfaces_named program next) above ≡ false
-            → IsWalked program name above steps (passed + 1) s
+        → IsWalked program name above steps (passed + 1) s
     walk-next s inside is other apart =
         record {
           below = through next so.below (parent (superclass-parent (class_named program next) s is));
@@ -176,7 +176,7 @@ module _ (program : List ClassListing) (name above : List ℕ) where
                   absurd (differ program name above (is_one_below program (interfaces_named program next) above)
                   (any-has (λ i. is_subclass program i above) (interfaces_named program next) found.0 interface
                   (Subclass-is_subclass program found.0 above (is_within-Subclass (steps - (passed + 1)) program found.0
-                      above found.2)))
+                  above found.2)))
                   apart)
             ]
 
@@ -186,10 +186,10 @@ module _ (program : List ClassListing) (name above : List ℕ) where
         same-bool false (is_subclass program name above) (λ h. cc)
         (λ h.
         let found : (p : List ℕ) × HasName (parents_named program next) p
-              × (is_within (steps - (passed + 1)) program p above ≡ true) =
+        × (is_within (steps - (passed + 1)) program p above ≡ true) =
         left-further inside other h in
         absurd (subst (λ (names : List (List ℕ)). HasName names found.0) (no-parents (class_named program next) none)
-            found.1))
+        found.1))
 
     pub walk-over : steps ≤ passed → bytes_eq next above ≡ is_subclass program name above
     unfolding is_within

@@ -16,7 +16,7 @@ LeftThere program steps passed name whole = is_there_within (steps - passed) pro
 
 there-on : (program : List ClassListing) (steps more : ℕ) (name : List ℕ) → steps ≡ suc more
     → is_there_within steps program name ≡ type_is_there (is_some (class_named program name))
-        (λ element. is_there_within more program element) (element_of name)
+    (λ element. is_there_within more program element) (element_of name)
 unfolding is_there_within
 there-on program steps more name e = rw e refl
 
@@ -25,7 +25,7 @@ pub there-class : (program : List ClassListing) (steps passed : ℕ) (name : Lis
     → passed < steps → None ≡ element_of name → is_some (class_named program name) ≡ whole
 there-class program steps passed name whole left inside e =
     ap (type_is_there (is_some (class_named program name)) (λ element. is_there_within (steps - (passed + 1)) program
-        element)) e
+    element)) e
     ∙ sym (there-on program (steps - passed) (steps - (passed + 1)) name (omega arith)) ∙ left
 
 pub there-number : (program : List ClassListing) (steps passed : ℕ) (name : List ℕ) (whole : Bool) (letter : ℕ)
@@ -33,7 +33,7 @@ pub there-number : (program : List ClassListing) (steps passed : ℕ) (name : Li
     → passed < steps → Some (Number letter) ≡ element_of name → true ≡ whole
 there-number program steps passed name whole letter left inside e =
     ap (type_is_there (is_some (class_named program name)) (λ element. is_there_within (steps - (passed + 1)) program
-        element)) e
+    element)) e
     ∙ sym (there-on program (steps - passed) (steps - (passed + 1)) name (omega arith)) ∙ left
 
 pub there-next : (program : List ClassListing) (steps passed : ℕ) (name element : List ℕ) (whole : Bool)
@@ -41,7 +41,7 @@ pub there-next : (program : List ClassListing) (steps passed : ℕ) (name elemen
     → passed < steps → Some (Reference element) ≡ element_of name → LeftThere program steps (passed + 1) element whole
 there-next program steps passed name element whole left inside e =
     ap (type_is_there (is_some (class_named program name)) (λ element. is_there_within (steps - (passed + 1)) program
-        element)) e
+    element)) e
     ∙ sym (there-on program (steps - passed) (steps - (passed + 1)) name (omega arith)) ∙ left
 
 pub there-over : (program : List ClassListing) (steps passed : ℕ) (name : List ℕ) (whole : Bool)
@@ -67,13 +67,13 @@ abbrev pub Compares : List ClassListing → List ℕ → List ℕ → ((List ℕ
 Compares program name above answer =
     (elements : List ℕ → List ℕ → Bool)
     → answer elements ≡ types_compare (is_subclass program name above) (bytes_eq above (codes "java/lang/Object"))
-        elements (element_of name) (element_of above)
+    elements (element_of name) (element_of above)
 
 module _ (program : List ClassListing) (steps passed : ℕ) (name above : List ℕ) (whole : Bool)
     (left : LeftBelow program steps passed name above whole) where
   below-on : (more : ℕ) → steps - passed ≡ suc more
       → types_compare (is_subclass program name above) (bytes_eq above (codes "java/lang/Object"))
-          (λ n m. is_subtype_within more program n m) (element_of name) (element_of above) ≡ whole
+      (λ n m. is_subtype_within more program n m) (element_of name) (element_of above) ≡ whole
   unfolding is_subtype_within
   below-on more e = sym (ap (λ (n : ℕ). is_subtype_within n program name above) e) ∙ left
 

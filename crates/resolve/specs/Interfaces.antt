@@ -62,7 +62,7 @@ abbrev pub IsEntry : List ClassListing → List ℕ → Option (List (List ℕ))
 IsEntry program name None = Unit {0}
 IsEntry program name (Some list) =
     Ends program name × (IsAcyclic program → Some list ≡ option_map (interfaces_once (enough_steps program) program)
-        (listed program name))
+    (listed program name))
 
 -- each list was made after those of the parents; where no class is above itself, it has the superinterfaces in the
 -- order of the search

@@ -25,21 +25,21 @@ abbrev pub IsAdded : {M : Type 0} → Signed M → Signed M → List ℕ → Lis
 IsAdded before after name descriptor member =
     (n d : List ℕ)
     → found_under after n d
-        ≡ or_else (found_under before n d) (cond (bytes_eq name n && bytes_eq descriptor d) (Some member) None)
+    ≡ or_else (found_under before n d) (cond (bytes_eq name n && bytes_eq descriptor d) (Some member) None)
 
 -- the first of these fields of each name and descriptor
 abbrev pub FieldsAre : List Field → Signed Field → Type 0
 FieldsAre fields entries =
     (name descriptor : List ℕ)
     → found_under entries name descriptor
-        ≡ find (λ (f : Field). bytes_eq f.name name && bytes_eq f.descriptor descriptor) fields
+    ≡ find (λ (f : Field). bytes_eq f.name name && bytes_eq f.descriptor descriptor) fields
 
 -- the first of these methods of each name and descriptor
 abbrev pub MethodsAre : List Method → Signed Method → Type 0
 MethodsAre methods entries =
     (name descriptor : List ℕ)
     → found_under entries name descriptor
-        ≡ find (λ (m : Method). bytes_eq m.name name && bytes_eq m.descriptor descriptor) methods
+    ≡ find (λ (m : Method). bytes_eq m.name name && bytes_eq m.descriptor descriptor) methods
 
 -- the same of those that are neither static nor private
 abbrev pub VirtualsAre : List Method → Signed Method → Type 0
@@ -47,7 +47,7 @@ VirtualsAre methods entries =
     (name descriptor : List ℕ)
     → found_under entries name descriptor
     ≡ find (λ (m : Method). bytes_eq m.name name && bytes_eq m.descriptor descriptor
-        && not (is_static m || is_private m)) methods
+    && not (is_static m || is_private m)) methods
 
 -- the members of a class: its fields, its methods, and those methods that are neither static nor private
 pub record AreMembers (c : ClassListing) (fields : Signed Field) (methods virtuals : Signed Method) : Type 0 where

@@ -29,10 +29,10 @@ pub words-filled : (slots after : List Slot) (base count : ℕ) (slot : Slot) �
     ++ replicate count (value_of slot) ++ drop (base + count) (map value_of slots)
 words-filled slots after base count slot is =
     let whole : map value_of after ≡ map value_of (take base slots ++ replicate count slot)
-          ++ map value_of (drop (base + count) slots) = ap (map value_of) is
-          ∙ map-append value_of (take base slots ++ replicate count slot) (drop (base + count) slots) in
+    ++ map value_of (drop (base + count) slots) = ap (map value_of) is
+    ∙ map-append value_of (take base slots ++ replicate count slot) (drop (base + count) slots) in
     let front : map value_of (take base slots ++ replicate count slot) ≡ map value_of (take base slots)
-          ++ map value_of (replicate count slot) = map-append value_of (take base slots) (replicate count slot) in
+    ++ map value_of (replicate count slot) = map-append value_of (take base slots) (replicate count slot) in
     whole ∙ rw (front, same-words count slot, take-map, drop-map)
 
 -- the values of some words in the middle
@@ -61,21 +61,21 @@ next_written old vs now base n v d written fits within is =
     let first : length (take base old) ≡ base = length-take-le base old (omega arith) in
     let some : length (take n vs) ≡ n = length-take-le n vs (omega arith) in
     let front : length (take base old ++ take n vs)
-          ≡ base + n = omega (arith, length-append (take base old) (take n vs), first, some) in
+    ≡ base + n = omega (arith, length-append (take base old) (take n vs), first, some) in
     let long = written.long in
     let one : set now (base + n) v ≡ take (base + n) now ++ v ∷ [] ++ drop (base + n + 1) now = rw add-one
-          (set_split now (base + n) v (omega arith)
-          ∙ sym (append_assoc (take (base + n) now) (v ∷ []) (drop (suc (base + n)) now))) in
+    (set_split now (base + n) v (omega arith)
+    ∙ sym (append_assoc (take (base + n) now) (v ∷ []) (drop (suc (base + n)) now))) in
     let head : take (base + n) now ≡ take base old ++ take n vs = ap (take (base + n)) written.items
-          ∙ take_at (take base old ++ take n vs) (drop (base + n) old) (base + n) front in
+    ∙ take_at (take base old ++ take n vs) (drop (base + n) old) (base + n) front in
     let tail : drop (base + n + 1) now ≡ drop (base + (n + 1)) old =
     ap (drop (base + n + 1)) written.items
     ∙ (sym (drop-drop 1 (base + n) (take base old ++ take n vs ++ drop (base + n) old))
-        ∙ (ap (drop 1) (drop_at (take base old ++ take n vs) (drop (base + n) old) (base + n) front)
-        ∙ drop-drop 1 (base + n) old))
+    ∙ (ap (drop 1) (drop_at (take base old ++ take n vs) (drop (base + n) old) (base + n) front)
+    ∙ drop-drop 1 (base + n) old))
     ∙ ap (λ m. drop m old) (omega arith) in
     let more : take (n + 1) vs ≡ take n vs ++ v ∷ [] = take_more vs n d within
-          ∙ ap (λ (w : Value). take n vs ++ w ∷ []) (sym is) in
+    ∙ ap (λ (w : Value). take n vs ++ w ∷ []) (sym is) in
     record {
       items = one ∙ rw (head, tail, more, append_assoc (take base old) (take n vs) (v ∷ [])) refl;
       long = length-set now (base + n) v ∙ long;

@@ -44,5 +44,7 @@ field_from pool class bytes = do
   name ← tested_from pool is_field_name flags.1
   type ← tested_from pool is_field_descriptor name.1
   constant ← constants_from pool (has flags.0 0x0008) type.0.1 type.1
-  Ok (record { flags = record { 0 = flags.0 }; name = name.0.0; descriptor = type.0.0; constant = constant.0 },
-      constant.1)
+  Ok (
+    record { flags = record { 0 = flags.0 }; name = name.0.0; descriptor = type.0.0; constant = constant.0 },
+    constant.1,
+  )

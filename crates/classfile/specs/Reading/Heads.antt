@@ -32,8 +32,18 @@ after_from pool bytes = do
   superclass ← class_from pool class.1
   interfaces ← list_from (class_from pool) superclass.1
   fields ← list_from (field_from pool flags.0) interfaces.1
-  Ok (record { pool = pool; flags = record { 0 = flags.0 }; class = class.0; superclass = superclass.0; interfaces =
-      interfaces.0; fields = fields.0 }, fields.1)
+  Ok (
+    record {
+      pool = pool;
+      flags = record { 0 = flags.0 };
+      class = class.0;
+      superclass = superclass.0;
+      interfaces =
+          interfaces.0;
+      fields = fields.0;
+    },
+    fields.1,
+  )
 
 unfoldable pub head_from : List ℕ → Reads HeadPart
 head_from bytes = do

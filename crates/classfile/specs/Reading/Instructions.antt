@@ -34,7 +34,7 @@ unfoldable pub decoded : List ℕ → Result (List Located) OpError
 decoded bytes =
     if nat_le 1 (length bytes) && nat_le (length bytes) 65535
     then (items_from (length bytes) 0 bytes >>= λ items. if list_all (lands_among items) items then Ok items
-        else Err error.Branch)
+    else Err error.Branch)
     else Err error.Length
 
 -- faulty code as a faulty attribute

@@ -24,7 +24,7 @@ end_is (word ∷ []) e = absurd (no_more (bytes_eq word (codes ".end")) e)
 end_is (word ∷ next ∷ []) e =
     let parts = and_parts (bytes_eq word (codes ".end")) (bytes_eq next (codes "method")) e in
     ap₂ (λ a b. a ∷ b ∷ []) ((bytes_eq-Decides word (codes ".end")).0 parts.0)
-        ((bytes_eq-Decides next (codes "method")).0 parts.1)
+    ((bytes_eq-Decides next (codes "method")).0 parts.1)
 end_is (word ∷ next ∷ other ∷ words) e = absurd (no_more (bytes_eq word (codes ".end")) e)
   where
     no_more : (b : Bool) → (b && false) ≡ true → ⊥
@@ -67,7 +67,7 @@ none_ends [] current ps e = refl
 none_ends (s ∷ ss) current ps e =
     let more = rest_said (saying_of current s) (parts_from ss) ps e in
     and_from (not (is_end s)) (list_all (λ s. not (is_end s)) ss) (not_end (is_end s) (saying_of current s)
-        (parts_from ss) ps (end_says current s) e) (none_ends ss more.0 more.1 more.2)
+    (parts_from ss) ps (end_says current s) e) (none_ends ss more.0 more.1 more.2)
 
 -- ---- blocks
 
@@ -83,4 +83,4 @@ block_read [] rest blocks e f = ap (option_map (λ bs. [] ∷ bs)) f
 block_read (s ∷ ss) rest blocks e f =
     let parts = and_parts (not (is_end s)) (list_all (λ s. not (is_end s)) ss) e in
     block_step (is_end s) s ss blocks (blocks_of (ss ++ (Some end_words ∷ rest))) parts.0
-        (block_read ss rest blocks parts.1 f)
+    (block_read ss rest blocks parts.1 f)

@@ -50,7 +50,7 @@ labels_read : (b : Bool) (pc : ℕ) (ss : List Statement) (ps : List Part) → p
 labels_read false pc ss ps small e = e
 labels_read true pc ss ps small e =
     said_then (code_line (Label (label pc))) ((label pc ++ codes ":") ∷ []) ss (given_said pc (omega (arith, small)))
-        ∙ ap (part_before (code_line (Label (label pc)))) e
+    ∙ ap (part_before (code_line (Label (label pc)))) e
 
 -- an instruction that is read back
 abbrev is_readable : Placed → Bool
@@ -74,14 +74,14 @@ lines_read pcs pc (p ∷ ps) s small e =
     let rest = statements_from pcs p.next ps in
     let line = Instruction (with_targets label p.instruction) in
     let following : parts_from (map Some instruction ++ map Some rest) None
-          ≡ Some (code_line line ∷ map code_line (lines_back pcs p.next ps)) =
+    ≡ Some (code_line line ∷ map code_line (lines_back pcs p.next ps)) =
     instruction_back table_back lookup_back p.instruction (map Some rest) one.0 one.1
-        ∙ ap (part_before (code_line line)) (lines_read pcs p.next ps h.others small parts.1) in
+    ∙ ap (part_before (code_line line)) (lines_read pcs p.next ps h.others small parts.1) in
     ap (λ xs. parts_from xs None) (map-append Some (given ++ instruction) rest
-        ∙ ap (λ xs. xs ++ map Some rest) (map-append Some given instruction) ∙ append_assoc (map Some given) (map Some
-        instruction) (map Some rest))
+    ∙ ap (λ xs. xs ++ map Some rest) (map-append Some given instruction) ∙ append_assoc (map Some given) (map Some
+    instruction) (map Some rest))
     ∙ labels_read (is_named pcs p.pc) p.pc (map Some instruction ++ map Some rest) (code_line line
-        ∷ map code_line (lines_back pcs p.next ps)) (omega (arith, at, risen, small)) following
+    ∷ map code_line (lines_back pcs p.next ps)) (omega (arith, at, risen, small)) following
     ∙ ap Some (sym (map-append code_line (label_back (is_named pcs p.pc) p.pc) (line ∷ lines_back pcs p.next ps)))
 
 -- ---- rows
@@ -110,18 +110,25 @@ row_fits ps r s small e =
     let start = bound_inside 0 ps r.start s row.start in
     let end = bound_inside 0 ps r.end s row.end in
     let handler = pc_inside 0 ps r.handler s row.handler in
-    record { start = omega (arith, start, small); end = omega (arith, end, small);
-        handler = omega (arith, handler.1, small); class = row.class }
+    record {
+      start = omega (arith, start, small);
+      end = omega (arith, end, small);
+      handler = omega (arith, handler.1, small);
+      class = row.class;
+    }
 
 row_said : (r : ExceptionRow) → RowFits r → said_by (row_words r) ≡ Some (part (catch_row (row_back r)))
 row_said r fit =
     let start = fit.start in
     let end = fit.end in
     let handler = fit.handler in
-    rw (label_is_part r.start (omega (arith, start)), label_is_part r.end (omega (arith, end)),
-        label_is_part r.handler (omega (arith, handler)))
+    rw (
+      label_is_part r.start (omega (arith, start)),
+      label_is_part r.end (omega (arith, end)),
+      label_is_part r.handler (omega (arith, handler)),
+    )
     (ap (λ o. option_map (λ row. part (catch_row row))
-        (option_map (row_with (label r.start) (label r.end) (label r.handler)) o)) (catch_back r.class fit.class))
+    (option_map (row_with (label r.start) (label r.end) (label r.handler)) o)) (catch_back r.class fit.class))
 
 abbrev row_parts : List ExceptionRow → List Part
 row_parts rs = map (λ (r : ExceptionRow). catch_row (row_back r)) rs
@@ -133,7 +140,7 @@ rows_read ps [] ss parts s small e h = h
 rows_read ps (r ∷ rs) ss parts s small e h =
     let both = and_parts (row_is_spelled ps r) (list_all (row_is_spelled ps) rs) e in
     said_then (catch_row (row_back r)) (row_words r) (map Some (map row_words rs) ++ ss)
-        (row_said r (row_fits ps r s small both.0))
+    (row_said r (row_fits ps r s small both.0))
     ∙ ap (part_before (catch_row (row_back r))) (rows_read ps rs ss parts s small both.1 h)
 
 -- ---- parts
@@ -173,10 +180,10 @@ lines_of (r ∷ rs) lines = lines_of rs lines
 
 body_from : (stack locals : ℕ) (rs : List ExceptionRow) (lines : List TextLine)
     → body_of_parts (stack_limit stack ∷ locals_limit locals ∷ row_parts rs ++ map code_line lines)
-        ≡ Some (record { max_stack = stack; max_locals = locals; rows = map row_back rs; lines = lines })
+    ≡ Some (record { max_stack = stack; max_locals = locals; rows = map row_back rs; lines = lines })
 body_from stack locals rs lines =
     ap₂ (λ a b. body_with (stack ∷ a) (locals ∷ b) (catch_rows (row_parts rs ++ map code_line lines))
-        (code_lines (row_parts rs ++ map code_line lines))) (stack_of rs lines) (locals_of rs lines)
+    (code_lines (row_parts rs ++ map code_line lines))) (stack_of rs lines) (locals_of rs lines)
     ∙ ap₂ (λ a b. body_with (stack ∷ []) (locals ∷ []) a b) (rows_of rs lines) (lines_of rs lines)
 
 -- ---- a body
@@ -193,8 +200,8 @@ readable_from all s small p e =
     let parts = and_parts (operands_are_spelled p.instruction) (list_all (is_pc all) (targets p.instruction)) e in
     and_from (operands_are_spelled p.instruction) (list_all fits_label (targets p.instruction)) parts.0
     (all_from (is_pc all) fits_label (λ n at. let inside = pc_inside 0 all n s at
-                                                    in le-leb n 65535 (omega (arith, inside.1, small)))
-                                                    (targets p.instruction) parts.1)
+    in le-leb n 65535 (omega (arith, inside.1, small)))
+    (targets p.instruction) parts.1)
 
 abbrev pub parts_back : CodeListing → List Part
 parts_back c = stack_limit c.max_stack ∷ locals_limit c.max_locals ∷ row_parts c.rows
@@ -208,20 +215,20 @@ parts_read c s small =
     let code = map Some (statements_from (named_pcs c) 0 ps) in
     let rows = map Some (map row_words c.rows) in
     let code_is : parts_from code None ≡ Some (map code_line lines) = lines_read (named_pcs c) 0 ps s.stands small
-          (all_from (instruction_is_spelled ps) is_readable (readable_from ps s.stands small) ps s.each) in
+    (all_from (instruction_is_spelled ps) is_readable (readable_from ps s.stands small) ps s.each) in
     let rows_are : parts_from (rows ++ code) None ≡ Some (row_parts c.rows ++ map code_line lines) = rows_read ps c.rows
-          code (map code_line lines) s.stands small s.rows code_is in
+    code (map code_line lines) s.stands small s.rows code_is in
     ap (λ xs. parts_of (Some (stack_words c.max_stack) ∷ Some (locals_words c.max_locals) ∷ xs))
-        (map-append Some (map row_words c.rows) (statements_from (named_pcs c) 0 ps))
+    (map-append Some (map row_words c.rows) (statements_from (named_pcs c) 0 ps))
     ∙ said_then (stack_limit c.max_stack) (stack_words c.max_stack) (Some (locals_words c.max_locals) ∷ rows ++ code)
-        (stack_said c.max_stack s.stack)
+    (stack_said c.max_stack s.stack)
     ∙ ap (part_before (stack_limit c.max_stack)) (said_then (locals_limit c.max_locals) (locals_words c.max_locals)
-        (rows ++ code) (locals_said c.max_locals s.locals) ∙ ap (part_before (locals_limit c.max_locals)) rows_are)
+    (rows ++ code) (locals_said c.max_locals s.locals) ∙ ap (part_before (locals_limit c.max_locals)) rows_are)
 
 pub body_again : (c : CodeListing) → SpelledCode c → end_from 0 c.instructions ≤ 65535
     → body_of (map Some (code_statements c)) ≡ Some (body_back c)
 body_again c s small =
     ap (λ o. option_and_then agreeing (option_and_then body_of_parts o)) (parts_read c s small)
     ∙ ap (option_and_then agreeing) (body_from c.max_stack c.max_locals c.rows
-        (lines_back (named_pcs c) 0 c.instructions))
+    (lines_back (named_pcs c) 0 c.instructions))
     ∙ rw (labels_agree_back c s small) refl

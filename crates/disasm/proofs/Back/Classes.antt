@@ -45,7 +45,7 @@ spelled_head flags superclass e =
     let two = and_parts (is_u2 flags && agree) (not (has flags 0x0020)) one.0 in
     let three = and_parts (is_u2 flags) agree two.0 in
     let four = and_parts (bit_and flags 0xf9ce == 0 && (not (has flags 0x0200) || has flags 0x0400))
-          (class_flags_agree flags) three.1 in
+    (class_flags_agree flags) three.1 in
     let five = and_parts (bit_and flags 0xf9ce == 0) (not (has flags 0x0200) || has flags 0x0400) four.0 in
     record { small = three.0; bits = five.0; abstract_is = five.1; agree = four.1; plain = two.1; object = one.1 }
 
@@ -67,9 +67,14 @@ class_read : (flags : ClassFlags) (name superclass : List ℕ) → SpelledHead f
 class_read flags name superclass s good unset =
     let one = lacks_more flags.0 0xf9ce 0x0020 s.bits (false_from_not (has flags.0 0x0020) s.plain) in
     let none = lacks_more flags.0 0xf9ee 0x0200 one unset in
-    ap class_head (flags_read class_flags flags.0 name (0, refl, refl, refl,
-        (4, refl, refl, refl, (10, refl, refl, refl, tt))) refl
-        ∙ ap (λ n. Some (n, name)) (kept_whole flags.0 0x0411 0xfbee s.small refl none))
+    ap class_head (flags_read class_flags flags.0 name (
+      0,
+      refl,
+      refl,
+      refl,
+      (4, refl, refl, refl, (10, refl, refl, refl, tt)),
+    ) refl
+    ∙ ap (λ n. Some (n, name)) (kept_whole flags.0 0x0411 0xfbee s.small refl none))
     ∙ rw (good, s.agree) refl
 
 second_from : (a b : Bool) → (not a || b) ≡ true → a ≡ true → b ≡ true
@@ -89,10 +94,10 @@ interface_read flags name superclass s good set =
     let one = lacks_more flags.0 0xf9ce 0x0020 s.bits (false_from_not (has flags.0 0x0020) s.plain) in
     let none = lacks_more flags.0 0xf9ee 0x0010 one no_final in
     let both : bit_and flags.0 0x0600 ≡ 0x0600 = and_over_or flags.0 0x0200 0x0400
-          ∙ ap₂ bit_or (bit_kept flags.0 9 set) (bit_kept flags.0 10 abstract_too) in
+    ∙ ap₂ bit_or (bit_kept flags.0 9 set) (bit_kept flags.0 10 abstract_too) in
     let whole : bit_or (bit_and flags.0 0x0001) 0x0600 ≡ flags.0 =
     ap (bit_or (bit_and flags.0 0x0001)) (sym both) ∙ sym (and_over_or flags.0 0x0001 0x0600)
-        ∙ kept_whole flags.0 0x0601 0xf9fe s.small refl none in
+    ∙ kept_whole flags.0 0x0601 0xf9fe s.small refl none in
     ap interface_head (flags_read interface_flags flags.0 name (0, refl, refl, refl, tt) refl)
     ∙ rw good (ap (λ n. let f : ClassFlags = record { 0 = n } in Some (head_with f name)) whole)
 
@@ -171,26 +176,26 @@ class_back l e small =
     let fs = map Some (map field_words l.fields) in
     let ms = map Some (flat_map method_statements l.methods) in
     let statements : map Some (map interface_words l.interfaces
-          ++ (map field_words l.fields ++ flat_map method_statements l.methods)) ≡ is ++ (fs ++ ms) =
+    ++ (map field_words l.fields ++ flat_map method_statements l.methods)) ≡ is ++ (fs ++ ms) =
     map-append Some (map interface_words l.interfaces) (map field_words l.fields
-        ++ flat_map method_statements l.methods)
+    ++ flat_map method_statements l.methods)
     ∙ ap (λ xs. is ++ xs) (map-append Some (map field_words l.fields) (flat_map method_statements l.methods)) in
     let stop = interfaces_stop l.fields l.methods in
     let lead = interfaces_lead l.interfaces in
     let interfaces : interfaces_of (is ++ (fs ++ ms))
-          ≡ Some l.interfaces = ap (each interface_of) (led_all (codes ".implements") is (fs ++ ms) lead stop) ∙
-          interfaces_read l.interfaces s.interfaces in
+    ≡ Some l.interfaces = ap (each interface_of) (led_all (codes ".implements") is (fs ++ ms) lead stop) ∙
+    interfaces_read l.interfaces s.interfaces in
     let fields : fields_of l.flags (fs ++ ms) ≡ Some l.fields = ap (each (field_of l.flags))
-          (led_all (codes ".field") fs ms (fields_lead l.fields) (fields_stop l.methods))
-          ∙ fields_read l.flags l.fields s.fields in
+    (led_all (codes ".field") fs ms (fields_lead l.fields) (fields_stop l.methods))
+    ∙ fields_read l.flags l.fields s.fields in
     let methods : methods_of l.flags (after_led (codes ".field") (fs ++ ms)) ≡ Some (map method_back l.methods) =
     ap (methods_of l.flags) (following_all (codes ".field") fs ms (fields_lead l.fields) (fields_stop l.methods))
-        ∙ methods_read l.flags l.methods s.methods small in
+    ∙ methods_read l.flags l.methods s.methods small in
     ap (λ xs. class_tree (Some (class_words (has l.flags.0 0x0200) l.flags.0 l.name) ∷ Some (super_words l.superclass)
-        ∷ xs)) statements
+    ∷ xs)) statements
     ∙ ap (λ o. super_under o (Some (super_words l.superclass) ∷ is ++ (fs ++ ms)))
-        (head_read l.flags l.name l.superclass (has l.flags.0 0x0200) h s.name refl)
+    (head_read l.flags l.name l.superclass (has l.flags.0 0x0200) h s.name refl)
     ∙ ap (λ o. members_under head o (is ++ (fs ++ ms))) (super_read l.flags l.superclass h s.superclass)
     ∙ ap₂ (λ o xs. members_after head l.superclass o xs)
-        interfaces (following_all (codes ".implements") is (fs ++ ms) lead stop)
+    interfaces (following_all (codes ".implements") is (fs ++ ms) lead stop)
     ∙ ap₂ (tree_with head l.superclass (Some l.interfaces)) fields methods

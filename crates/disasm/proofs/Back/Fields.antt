@@ -61,13 +61,13 @@ next_taken flags word next third words e = by (bytes_eq third (codes "=")) e
 taken : (name descriptor : List ℕ) (last : List (List ℕ)) → is_no_sign name ≡ true → is_no_sign descriptor ≡ true
     → (flags : ℕ) (word : List ℕ) (words : List (List ℕ)) → list_all is_no_sign words ≡ true
     → words_declared (Some flags) (word ∷ words ++ (name ∷ descriptor ∷ last))
-        ≡ words_declared (with_flag flags (named field_flags word)) (words ++ (name ∷ descriptor ∷ last))
+    ≡ words_declared (with_flag flags (named field_flags word)) (words ++ (name ∷ descriptor ∷ last))
 taken name descriptor last n d flags word [] e = next_taken flags word name descriptor last d
 taken name descriptor last n d flags word (x ∷ []) e = next_taken flags word x name (descriptor ∷ last) n
 taken name descriptor last n d flags word (x ∷ y ∷ words) e =
     let parts = and_parts (is_no_sign x) (list_all is_no_sign (y ∷ words)) e in
     next_taken flags word x y (words ++ (name ∷ descriptor ∷ last))
-        (and_parts (is_no_sign y) (list_all is_no_sign words) parts.1).0
+    (and_parts (is_no_sign y) (list_all is_no_sign words) parts.1).0
 
 begun : (words : List (List ℕ)) → heads.field_words words ≡ words_declared (Some 0) words
 begun [] = refl
@@ -77,17 +77,31 @@ begun (word ∷ next ∷ words) = refl
 words_read : (flags : ℕ) (name descriptor : List ℕ) (last : List (List ℕ)) → is_no_sign name ≡ true
     → is_no_sign descriptor ≡ true → is_u2 flags ≡ true → (bit_and flags 0xff20 == 0) ≡ true
     → heads.field_words (flags_words field_flags flags ++ (name ∷ descriptor ∷ last))
-        ≡ declared (Some flags) name descriptor last
+    ≡ declared (Some flags) name descriptor last
 words_read flags name descriptor last n d small none =
     let all = flags_words field_flags flags ++ (name ∷ descriptor ∷ last) in
     begun all
     ∙ ap (λ k. words_declared (Some k) all) (sym (and_zero_r flags))
     ∙ rows_read words_declared field_flags is_no_sign (name ∷ descriptor ∷ last) (taken name descriptor last n d) flags
-        0 field_flags
-    (0, refl, refl, refl,
-        (1, refl, refl, refl,
-        (2, refl, refl, refl,
-        (3, refl, refl, refl, (4, refl, refl, refl, (6, refl, refl, refl, (7, refl, refl, refl, tt))))))) refl
+    0 field_flags (
+      0,
+      refl,
+      refl,
+      refl,
+      (
+        1,
+        refl,
+        refl,
+        refl,
+        (
+          2,
+          refl,
+          refl,
+          refl,
+          (3, refl, refl, refl, (4, refl, refl, refl, (6, refl, refl, refl, (7, refl, refl, refl, tt)))),
+        ),
+      ),
+    ) refl
     ∙ ap (λ k. declared (Some k) name descriptor last) (kept_whole flags 0x00df 0xff20 small refl none)
 
 -- ---- values
@@ -111,12 +125,12 @@ value_back static d None e = refl
 value_back static d (Some (value.Int z)) e =
     let one = and_parts (static && is_int_type d) (is_int z) e in
     rw one.0 (ap (λ n. option_map Some (option_map value.Int n)) (signed_back 2147483647 2147483647 z (omega arith)
-        (omega arith) one.1))
+    (omega arith) one.1))
 value_back static d (Some (value.Long z)) e =
     let one = and_parts (static && is_long_type d) (is_long z) e in
     let two = and_parts static (is_long_type d) one.0 in
     rw (long_no_int d two.1, two.0, two.1) (ap (λ n. option_map Some (option_map value.Long n))
-        (signed_back 9223372036854775807 9223372036854775807 z (omega arith) (omega arith) one.1))
+    (signed_back 9223372036854775807 9223372036854775807 z (omega arith) (omega arith) one.1))
 
 -- ---- fields
 
@@ -142,15 +156,22 @@ spelled_field class f e =
 
 field_read : (class : ClassFlags) (f : Field) → SpelledField class.0 f → field_of class (Some (field_words f)) ≡ Some f
 field_read class f s =
-    let words : FieldWords = record { flags = f.flags.0; name = f.name; descriptor = f.descriptor;
-          value = words_of f.constant } in
+    let words : FieldWords = record {
+      flags = f.flags.0;
+      name = f.name;
+      descriptor = f.descriptor;
+      value = words_of f.constant;
+    } in
     ap (option_and_then (field_spelled class.0))
     (words_read f.flags.0 f.name f.descriptor (value_words f.constant) (other_by is_field_name f.name refl s.name)
-        (other_by is_field_descriptor f.descriptor refl s.descriptor) s.flags s.bits
+    (other_by is_field_descriptor f.descriptor refl s.descriptor) s.flags s.bits
     ∙ value_declared f.flags.0 f.name f.descriptor f.constant)
-    ∙ rw (s.name, s.descriptor,
-        s.agree) (ap (option_map (field_with words)) (value_back (has f.flags.0 0x0008) f.descriptor f.constant
-        s.value))
+    ∙ rw (
+      s.name,
+      s.descriptor,
+      s.agree,
+    ) (ap (option_map (field_with words)) (value_back (has f.flags.0 0x0008) f.descriptor f.constant
+    s.value))
 
 pub fields_read : (class : ClassFlags) (fs : List Field) → list_all (field_is_spelled class.0) fs ≡ true
     → each (field_of class) (map Some (map field_words fs)) ≡ Some fs

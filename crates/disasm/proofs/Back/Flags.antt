@@ -23,7 +23,7 @@ pub and_over_or : (a b c : ℕ) → bit_and a (bit_or b c) ≡ bit_or (bit_and a
 and_over_or a b c =
     same_from_bits (bit_and a (bit_or b c)) (bit_or (bit_and a b) (bit_and a c))
     (λ i. bit_at_and a (bit_or b c) i ∙ ap (min (bit_at a i)) (bit_at_or b c i)
-        ∙ lattice (bit_at a i) (bit_at b i) (bit_at c i)
+    ∙ lattice (bit_at a i) (bit_at b i) (bit_at c i)
     ∙ sym (bit_at_or (bit_and a b) (bit_and a c) i ∙ ap₂ max (bit_at_and a b i) (bit_at_and a c i)))
 
 -- a bit that is set is the whole of what is kept of it
@@ -57,9 +57,9 @@ pub kept_whole : (flags all others : ℕ) → nat_le flags 65535 ≡ true → bi
 kept_whole flags all others small whole none =
     let le = leb-true flags 65535 small in
     let kept : bit_and flags (bit_or all others) ≡ flags = ap (bit_and flags) whole ∙ and_mask flags 16
-          ∙ omega (arith, le) in
+    ∙ omega (arith, le) in
     sym (and_over_or flags all others ∙ ap (bit_or (bit_and flags all)) (eqb-true (bit_and flags others) 0 none)
-        ∙ or_zero_r (bit_and flags all)) ∙ kept
+    ∙ or_zero_r (bit_and flags all)) ∙ kept
 
 -- ---- the words of a table
 
@@ -80,7 +80,7 @@ rows_pass plain flags [] e = refl
 rows_pass plain flags (row ∷ rows) e =
     let parts = and_parts (plain row.0) (list_all (λ r. plain r.0) rows) e in
     all_joined plain (flag_words flags row) (flags_words rows flags) (one (has flags row.1) parts.0)
-        (rows_pass plain flags rows parts.1)
+    (rows_pass plain flags rows parts.1)
   where
     one : (b : Bool) → plain row.0 ≡ true → list_all plain (if b then row.0 ∷ [] else []) ≡ true
     one true e = and_from (plain row.0) true e refl
@@ -90,17 +90,17 @@ rows_pass plain flags (row ∷ rows) e =
 module _ {R : Type 0} (reads : Option ℕ → List (List ℕ) → R) (table : List (List ℕ × ℕ)) (plain : List ℕ
     → Bool) (last : List (List ℕ))
     (takes : (flags : ℕ) (word : List ℕ) (words : List (List ℕ)) → list_all plain words ≡ true
-        → reads (Some flags) (word ∷ words ++ last) ≡ reads (with_flag flags (named table word)) (words ++ last)) where
+    → reads (Some flags) (word ∷ words ++ last) ≡ reads (with_flag flags (named table word)) (words ++ last)) where
   row_read : (flags mask : ℕ) (row : List ℕ × ℕ) (words : List (List ℕ)) (k : ℕ) → row.1 ≡ 2 ^ k → bit_and mask row.1
       ≡ 0 → named table row.0 ≡ Some row.1 → list_all plain words ≡ true
       → reads (Some (bit_and flags mask)) (flag_words flags row ++ (words ++ last))
-          ≡ reads (Some (bit_and flags (bit_or mask row.1))) (words ++ last)
+      ≡ reads (Some (bit_and flags (bit_or mask row.1))) (words ++ last)
   row_read flags mask row words k power apart means pass = by (has flags row.1) refl
     where
       kept : has flags row.1 ≡ true → bit_or (bit_and flags mask) row.1 ≡ bit_and flags (bit_or mask row.1)
       kept e =
           ap (bit_or (bit_and flags mask)) (power ∙ sym (bit_kept flags k (ap (has flags) (sym power) ∙ e))
-              ∙ ap (bit_and flags) (sym power)) ∙ sym (and_over_or flags mask row.1)
+          ∙ ap (bit_and flags) (sym power)) ∙ sym (and_over_or flags mask row.1)
 
       new : has (bit_and flags mask) row.1 ≡ false
       new = bit_none (bit_and flags mask) row.1 (and_assoc row.1 flags mask ∙ ap (bit_and flags) apart
@@ -117,7 +117,7 @@ module _ {R : Type 0} (reads : Option ℕ → List (List ℕ) → R) (table : Li
   pub rows_read : (flags mask : ℕ) (rows : List (List ℕ × ℕ)) → RowsFit table mask rows → list_all (λ r. plain r.0) rows
       ≡ true
       → reads (Some (bit_and flags mask)) (flags_words rows flags ++ last)
-          ≡ reads (Some (bit_and flags (bits_of mask rows))) last
+      ≡ reads (Some (bit_and flags (bits_of mask rows))) last
   rows_read flags mask [] fit pass = refl
   rows_read flags mask (row ∷ rows) fit pass =
       let parts = and_parts (plain row.0) (list_all (λ r. plain r.0) rows) pass in
@@ -134,7 +134,7 @@ flagged_words table o (word ∷ words) = flagged table o word words
 taken : (table : List (List ℕ × ℕ)) (name : List ℕ) (flags : ℕ) (word : List ℕ) (words : List (List ℕ))
     → list_all (λ w. true) words ≡ true
     → flagged_words table (Some flags) (word ∷ words ++ name ∷ [])
-        ≡ flagged_words table (with_flag flags (named table word)) (words ++ name ∷ [])
+    ≡ flagged_words table (with_flag flags (named table word)) (words ++ name ∷ [])
 taken table name flags word [] e = refl
 taken table name flags word (w ∷ ws) e = refl
 
@@ -148,5 +148,5 @@ pub flags_read : (table : List (List ℕ × ℕ)) (flags : ℕ) (name : List ℕ
     → flags_and_word table (flags_words table flags ++ name ∷ []) ≡ Some (bit_and flags (bits_of 0 table), name)
 flags_read table flags name fit pass =
     begun table (flags_words table flags ++ name ∷ [])
-        ∙ ap (λ n. flagged_words table (Some n) (flags_words table flags ++ name ∷ [])) (sym (and_zero_r flags))
+    ∙ ap (λ n. flagged_words table (Some n) (flags_words table flags ++ name ∷ [])) (sym (and_zero_r flags))
     ∙ rows_read (flagged_words table) table (λ w. true) (name ∷ []) (taken table name) flags 0 table fit pass

@@ -74,8 +74,8 @@ plain_from false false false false true h = absurd cc
 is_plain : (word : List ℕ) → not (is_other word) ≡ true → Plain word
 is_plain word e =
     let p = plain_from (bytes_eq word (codes ".limit")) (bytes_eq word (codes ".catch"))
-          (bytes_eq word (codes "tableswitch")) (bytes_eq word (codes "lookupswitch")) (bytes_eq word (codes "wide")) e
-          in
+    (bytes_eq word (codes "tableswitch")) (bytes_eq word (codes "lookupswitch")) (bytes_eq word (codes "wide")) e
+    in
     record { limit = p.0; catch = p.1; table = p.2; lookup = p.3; wide = p.4 }
 
 -- an instruction after its mnemonic
@@ -141,29 +141,29 @@ constant_back (constant.SmallInt n) e = said_plainly _ [] (mnemonic.SmallInt n) 
 constant_back (constant.SmallLong n) e = said_plainly _ [] (mnemonic.SmallLong n) (begin.small_long_begins n)
 constant_back (constant.Byte z) e =
     one_said (codes "bipush") (signed_decimal z ∷ []) mnemonic.Byte (instruction.Constant (constant.Byte z))
-        begin.byte_begins
+    begin.byte_begins
     (ap (option_map (λ n. instruction.Constant (constant.Byte n))) (signed_back 127 127 z (omega arith) (omega arith)
-        e))
+    e))
 constant_back (constant.Short z) e =
     one_said (codes "sipush") (signed_decimal z ∷ []) mnemonic.Short (instruction.Constant (constant.Short z))
-        begin.short_begins
+    begin.short_begins
     (ap (option_map (λ n. instruction.Constant (constant.Short n))) (signed_back 32767 32767 z (omega arith)
-        (omega arith) e))
+    (omega arith) e))
 constant_back (constant.Int width.Narrow z) e =
     one_said (codes "ldc") (signed_decimal z ∷ []) (mnemonic.Int width.Narrow)
-        (instruction.Constant (constant.Int width.Narrow z)) begin.narrow_begins
+    (instruction.Constant (constant.Int width.Narrow z)) begin.narrow_begins
     (ap (option_map (λ n. instruction.Constant (constant.Int width.Narrow n)))
-        (signed_back 2147483647 2147483647 z (omega arith) (omega arith) e))
+    (signed_back 2147483647 2147483647 z (omega arith) (omega arith) e))
 constant_back (constant.Int width.Wide z) e =
     one_said (codes "ldc_w") (signed_decimal z ∷ []) (mnemonic.Int width.Wide)
-        (instruction.Constant (constant.Int width.Wide z)) begin.wide_begins
+    (instruction.Constant (constant.Int width.Wide z)) begin.wide_begins
     (ap (option_map (λ n. instruction.Constant (constant.Int width.Wide n)))
-        (signed_back 2147483647 2147483647 z (omega arith) (omega arith) e))
+    (signed_back 2147483647 2147483647 z (omega arith) (omega arith) e))
 constant_back (constant.Long z) e =
     one_said (codes "ldc2_w") (signed_decimal z ∷ []) mnemonic.Long (instruction.Constant (constant.Long z))
-        begin.long_begins
+    begin.long_begins
     (ap (option_map (λ n. instruction.Constant (constant.Long n))) (signed_back 9223372036854775807 9223372036854775807
-        z (omega arith) (omega arith) e))
+    z (omega arith) (omega arith) e))
 
 -- ---- locals
 
@@ -178,45 +178,45 @@ local_back (access.Load k («local».First n)) e = said_plainly _ []
     (mnemonic.FirstLocal (access.Load k («local».First n))) (begin.first_load_begins k n)
 local_back (access.Load k («local».Byte n)) e =
     one_said _ (decimal n ∷ []) (mnemonic.Local (accessed.Load k)) (instruction.Local (access.Load k («local».Byte n)))
-        (begin.load_begins k)
+    (begin.load_begins k)
     (ap (λ o. option_map instruction.Local (option_map (λ m. access.Load k (local_form width.Narrow m)) o))
-        (byte_index n e) ∙ rw e refl)
+    (byte_index n e) ∙ rw e refl)
 local_back (access.Load k («local».Wide n)) e =
     wide_said _ (decimal n ∷ []) (mnemonic.Local (accessed.Load k)) (instruction.Local (access.Load k («local».Wide n)))
-        (begin.load_begins k)
+    (begin.load_begins k)
     (ap (λ o. option_map instruction.Local (option_map (λ m. access.Load k (local_form width.Wide m)) o))
-        (natural_to_back 65535 n (omega arith) e))
+    (natural_to_back 65535 n (omega arith) e))
 local_back (access.Store k («local».First n)) e = said_plainly _ []
     (mnemonic.FirstLocal (access.Store k («local».First n))) (begin.first_store_begins k n)
 local_back (access.Store k («local».Byte n)) e =
     one_said _ (decimal n ∷ []) (mnemonic.Local (accessed.Store k))
-        (instruction.Local (access.Store k («local».Byte n))) (begin.store_begins k)
+    (instruction.Local (access.Store k («local».Byte n))) (begin.store_begins k)
     (ap (λ o. option_map instruction.Local (option_map (λ m. access.Store k (local_form width.Narrow m)) o))
-        (byte_index n e) ∙ rw e refl)
+    (byte_index n e) ∙ rw e refl)
 local_back (access.Store k («local».Wide n)) e =
     wide_said _ (decimal n ∷ []) (mnemonic.Local (accessed.Store k))
-        (instruction.Local (access.Store k («local».Wide n))) (begin.store_begins k)
+    (instruction.Local (access.Store k («local».Wide n))) (begin.store_begins k)
     (ap (λ o. option_map instruction.Local (option_map (λ m. access.Store k (local_form width.Wide m)) o))
-        (natural_to_back 65535 n (omega arith) e))
+    (natural_to_back 65535 n (omega arith) e))
 local_back (access.Increment (increment.Byte n z)) e =
     let parts = and_parts (nat_le n 255) (is_byte z) e in
     let ends = and_parts (int_le (negsuc 127) z) (int_le z (pos 127)) parts.1 in
     one_said (codes "iinc") (decimal n ∷ signed_decimal z ∷ []) (mnemonic.Local accessed.Increment)
-        (instruction.Local (access.Increment (increment.Byte n z))) begin.increment_begins
+    (instruction.Local (access.Increment (increment.Byte n z))) begin.increment_begins
     (ap₂ (λ a b. option_map instruction.Local (option_map access.Increment (increment_with width.Narrow a b)))
-        (byte_index n parts.0) (signed_back 32767 32767 z (omega arith) (omega arith) (short_from z parts.1))
+    (byte_index n parts.0) (signed_back 32767 32767 z (omega arith) (omega arith) (short_from z parts.1))
     ∙ rw (parts.0, ends.0, ends.1) refl)
   where
     short_from : (z : ℤ) → is_byte z ≡ true → is_short z ≡ true
     short_from (pos n) e = let small = leb-true n 127 e in le-leb n 32767 (omega arith)
     short_from (negsuc n) e = let small = leb-true n 127 (and_parts (nat_le n 127) true e).0
-                                    in and_from (nat_le n 32767) true (le-leb n 32767 (omega arith)) refl
+        in and_from (nat_le n 32767) true (le-leb n 32767 (omega arith)) refl
 local_back (access.Increment (increment.Wide n z)) e =
     let parts = and_parts (is_u2 n) (is_short z) e in
     wide_said (codes "iinc") (decimal n ∷ signed_decimal z ∷ []) (mnemonic.Local accessed.Increment)
-        (instruction.Local (access.Increment (increment.Wide n z))) begin.increment_begins
+    (instruction.Local (access.Increment (increment.Wide n z))) begin.increment_begins
     (ap₂ (λ a b. option_map instruction.Local (option_map access.Increment (increment_with width.Wide a b)))
-        (natural_to_back 65535 n (omega arith) parts.0) (signed_back 32767 32767 z (omega arith) (omega arith) parts.1))
+    (natural_to_back 65535 n (omega arith) parts.0) (signed_back 32767 32767 z (omega arith) (omega arith) parts.1))
 
 -- ---- the other instructions
 
@@ -224,11 +224,11 @@ array_back : (o : ArrayOperation (List ℕ)) → operands_are_spelled (instructi
     → Says (Some (instruction.Array o)) (array_words o)
 array_back (array.New p) e =
     one_said (codes "newarray") (primitive_name p ∷ []) mnemonic.NewArray (instruction.Array (array.New p))
-        begin.new_array_begins
+    begin.new_array_begins
     (ap (option_map (λ q. instruction.Array (array.New q))) (primitive_back p))
 array_back (array.NewOf c) e =
     one_said (codes "anewarray") (c ∷ []) mnemonic.NewArrayOf (instruction.Array (array.NewOf c))
-        begin.new_array_of_begins
+    begin.new_array_of_begins
     (ap (option_map (λ d. instruction.Array (array.NewOf d))) (type_back c e))
 array_back array.Length e = said_plainly (codes "arraylength") [] mnemonic.ArrayLength begin.array_length_begins
 array_back (array.Load k) e = said_plainly _ [] (mnemonic.ArrayLoad k) (begin.array_load_begins k)
@@ -238,19 +238,19 @@ call_back : (how : Invocation) (m : Member) → count_is_spelled how ≡ true �
     → Says (Some (instruction.Invoke how m)) (call_words how m)
 call_back invocation.Virtual m c e =
     one_said (codes "invokevirtual") (method_word m ∷ []) (mnemonic.Invoke invocation.Virtual) (instruction.Invoke
-        invocation.Virtual m) begin.virtual_begins
+    invocation.Virtual m) begin.virtual_begins
     (ap (option_map (λ n. instruction.Invoke invocation.Virtual n)) (method_back m e))
 call_back invocation.Special m c e =
     one_said (codes "invokespecial") (method_word m ∷ []) (mnemonic.Invoke invocation.Special) (instruction.Invoke
-        invocation.Special m) begin.special_begins
+    invocation.Special m) begin.special_begins
     (ap (option_map (λ n. instruction.Invoke invocation.Special n)) (method_back m e))
 call_back invocation.Static m c e =
     one_said (codes "invokestatic") (method_word m ∷ []) (mnemonic.Invoke invocation.Static) (instruction.Invoke
-        invocation.Static m) begin.static_call_begins
+    invocation.Static m) begin.static_call_begins
     (ap (option_map (λ n. instruction.Invoke invocation.Static n)) (method_back m e))
 call_back (invocation.Interface n) m c e =
     one_said (codes "invokeinterface") (method_word m ∷ decimal n ∷ []) mnemonic.InvokeInterface
-        (instruction.Invoke (invocation.Interface n) m) begin.interface_begins
+    (instruction.Invoke (invocation.Interface n) m) begin.interface_begins
     (ap₂ interface_call (method_back m e) (count_back 1 255 n (omega arith) c))
 
 branch_back : (t : Test) (pc : ℕ) → nat_le pc 65535 ≡ true
@@ -258,7 +258,7 @@ branch_back : (t : Test) (pc : ℕ) → nat_le pc 65535 ≡ true
 branch_back t pc e =
     let small = leb-true pc 65535 e in
     one_said (test_name t) (label pc ∷ []) (mnemonic.Branch t) (instruction.Branch t (label pc)) (begin.test_begins t)
-        (ap (option_map (λ l. instruction.Branch t l)) (label_back pc (omega (arith, small))))
+    (ap (option_map (λ l. instruction.Branch t l)) (label_back pc (omega (arith, small))))
 
 -- what a statement says, and then the others
 pub one_part : (w : Written) (words : List (List ℕ)) (ss : List Statement) → Says (Some w) words
@@ -276,9 +276,9 @@ ReadBack i ss = parts_from (map Some (instruction_statements i) ++ ss) None
 pub instruction_back : ((t : Table ℕ) (ss : List Statement) → table_is_spelled t ≡ true
     → list_all fits_label (targets (instruction.TableSwitch t)) ≡ true → ReadBack (instruction.TableSwitch t) ss)
     → ((l : Lookup ℕ) (ss : List Statement) → lookup_is_spelled l ≡ true
-        → list_all fits_label (targets (instruction.LookupSwitch l)) ≡ true → ReadBack (instruction.LookupSwitch l) ss)
+    → list_all fits_label (targets (instruction.LookupSwitch l)) ≡ true → ReadBack (instruction.LookupSwitch l) ss)
     → (i : Listed) (ss : List Statement) → operands_are_spelled i ≡ true → list_all fits_label (targets i) ≡ true
-        → ReadBack i ss
+    → ReadBack i ss
 instruction_back tables lookups instruction.Nop ss e f = one_part
     instruction.Nop (codes "nop" ∷ []) ss (said_plainly (codes "nop") [] mnemonic.Nop begin.nop_begins)
 instruction_back tables lookups (instruction.Constant c) ss e f = one_part (instruction.Constant c) (constant_words c)
@@ -298,18 +298,18 @@ instruction_back tables lookups (instruction.Return k) ss e f = one_part (instru
 instruction_back tables lookups (instruction.Static a m) ss e f =
     one_part (instruction.Static a m) (static_words (access_name a) m) ss
     (one_said (access_name a ++ codes "static") (field_path m ∷ m.descriptor ∷ []) (mnemonic.Static a)
-        (instruction.Static a m) (begin.static_begins a) (ap (option_map (λ n. instruction.Static a n))
-        (field_back m e)))
+    (instruction.Static a m) (begin.static_begins a) (ap (option_map (λ n. instruction.Static a n))
+    (field_back m e)))
 instruction_back tables lookups (instruction.Field a m) ss e f =
     one_part (instruction.Field a m) (object_words (access_name a) m) ss
     (one_said (access_name a ++ codes "field") (field_path m ∷ m.descriptor ∷ []) (mnemonic.Field a)
-        (instruction.Field a m) (begin.field_begins a) (ap (option_map (λ n. instruction.Field a n)) (field_back m e)))
+    (instruction.Field a m) (begin.field_begins a) (ap (option_map (λ n. instruction.Field a n)) (field_back m e)))
 instruction_back tables lookups (instruction.Array o) ss e f = one_part (instruction.Array o) (array_words o) ss
     (array_back o e)
 instruction_back tables lookups (instruction.Class o c) ss e f =
     one_part (instruction.Class o c) (class_name o ∷ c ∷ []) ss
     (one_said (class_name o) (c ∷ []) (mnemonic.Class o) (instruction.Class o c) (begin.class_begins o)
-        (ap (option_map (λ d. instruction.Class o d)) (class_operand o c e)))
+    (ap (option_map (λ d. instruction.Class o d)) (class_operand o c e)))
 instruction_back tables lookups (instruction.Invoke how m) ss e f =
     let parts = and_parts (count_is_spelled how) (method_is_named m) e in
     one_part (instruction.Invoke how m) (call_words how m) ss (call_back how m parts.0 parts.1)

@@ -41,10 +41,10 @@ pub record SpelledCode (c : CodeListing) : Type 0 where
 pub spelled_code : (c : CodeListing) → code_is_spelled c ≡ true → SpelledCode c
 spelled_code c e =
     let one = and_parts (is_u2 c.max_stack && is_u2 c.max_locals && stand_from 0 c.instructions
-          && list_all (instruction_is_spelled c.instructions) c.instructions) (list_all (row_is_spelled c.instructions)
-          c.rows) e in
+    && list_all (instruction_is_spelled c.instructions) c.instructions) (list_all (row_is_spelled c.instructions)
+    c.rows) e in
     let two = and_parts (is_u2 c.max_stack && is_u2 c.max_locals && stand_from 0 c.instructions)
-          (list_all (instruction_is_spelled c.instructions) c.instructions) one.0 in
+    (list_all (instruction_is_spelled c.instructions) c.instructions) one.0 in
     let three = and_parts (is_u2 c.max_stack && is_u2 c.max_locals) (stand_from 0 c.instructions) two.0 in
     let four = and_parts (is_u2 c.max_stack) (is_u2 c.max_locals) three.0 in
     record { stack = four.0; locals = four.1; stands = three.1; each = two.1; rows = one.1 }
@@ -95,13 +95,13 @@ targets_stand c s =
     let pcs = named_pcs c in
     let ps = c.instructions in
     all_from (λ (p : Placed). list_all (is_named pcs) (placed_targets p) && instruction_is_spelled ps p)
-        (λ (p : Placed). list_all (is_target pcs ps) (targets p.instruction))
+    (λ (p : Placed). list_all (is_target pcs ps) (targets p.instruction))
     (λ p e.
     let parts = and_parts (list_all (is_named pcs) (placed_targets p)) (instruction_is_spelled ps p) e in
     all_and (is_named pcs) (is_pc ps) (targets p.instruction) parts.0 (and_parts (operands_are_spelled p.instruction)
-        (list_all (is_pc ps) (targets p.instruction)) parts.1).1)
+    (list_all (is_pc ps) (targets p.instruction)) parts.1).1)
     ps (all_and (λ (p : Placed). list_all (is_named pcs) (placed_targets p)) (instruction_is_spelled ps) ps
-        (asked_targets c) s.each)
+    (asked_targets c) s.each)
 
 -- a row whose pcs are named, as a text spells it
 abbrev is_row : CodeListing → ExceptionRow → Bool
@@ -124,8 +124,12 @@ asked_row c r e =
     let parts = and_parts (list_all (is_named pcs) (row_pcs r)) (row_is_spelled c.instructions r) e in
     let one = and_parts (is_named pcs r.start) (list_all (is_named pcs) (r.end ∷ r.handler ∷ [])) parts.0 in
     let two = and_parts (is_named pcs r.end) (list_all (is_named pcs) (r.handler ∷ [])) one.1 in
-    record { start = one.0; end = two.0; handler = (and_parts (is_named pcs r.handler) true two.1).0;
-        spelled = spelled_row c.instructions r parts.1 }
+    record {
+      start = one.0;
+      end = two.0;
+      handler = (and_parts (is_named pcs r.handler) true two.1).0;
+      spelled = spelled_row c.instructions r parts.1;
+    }
 
 -- ---- code
 
@@ -140,7 +144,7 @@ row_is : (f : List ℕ → ℕ) (r : ExceptionRow) → f (label r.start) ≡ r.s
 row_is f r a b d =
     let made : ℕ → ℕ → ℕ → ExceptionRow = λ x y z. record { start = x; end = y; handler = z; class = r.class } in
     ap (λ x. made x (f (label r.end)) (f (label r.handler))) a ∙ ap (λ y. made r.start y (f (label r.handler))) b
-        ∙ ap (λ z. made r.start r.end z) d
+    ∙ ap (λ z. made r.start r.end z) d
 
 rows_back : (c : CodeListing) → SpelledCode c → end_from 0 c.instructions ≤ 65535
     → map (row_with (pc_of 0 (lines_back (named_pcs c) 0 c.instructions))) (map row_back c.rows) ≡ c.rows
@@ -152,7 +156,7 @@ rows_back c s small =
     (λ r e.
     let a = asked_row c r e in
     let edge : (n : ℕ) → is_named pcs n ≡ true → is_bound ps n ≡ true → f (label n)
-          ≡ n = λ n x y. found_by c s small n (and_from (is_named pcs n) (is_bound ps n) x y) in
+    ≡ n = λ n x y. found_by c s small n (and_from (is_named pcs n) (is_bound ps n) x y) in
     row_is f r (edge r.start a.start a.spelled.start) (edge r.end a.end a.spelled.end)
     (edge r.handler a.handler (or_left (is_pc ps r.handler) (end_from 0 ps == r.handler) a.spelled.handler)))
     c.rows (rows_stand c s)
@@ -164,21 +168,25 @@ instructions_back c s small =
     let pcs = named_pcs c in
     let ps = c.instructions in
     placed_back (pc_of 0 (lines_back pcs 0 ps)) (is_target pcs ps)
-        (λ n e. found_by c s small n (target_edge pcs ps n e)) pcs 0 ps s.stands (targets_stand c s)
+    (λ n e. found_by c s small n (target_edge pcs ps n e)) pcs 0 ps s.stands (targets_stand c s)
 
 code_is : (c : CodeListing) (rows : List ExceptionRow) (ps : List Placed) → rows ≡ c.rows → ps ≡ c.instructions
     → record { max_stack = c.max_stack; max_locals = c.max_locals; rows = rows; instructions = ps } ≡ c
-code_is c rows ps a b = ap₂ (λ x y. let d : CodeListing = record { max_stack = c.max_stack; max_locals = c.max_locals;
-                                          rows = x; instructions = y } in d) a b
+code_is c rows ps a b = ap₂ (λ x y. let d : CodeListing = record {
+  max_stack = c.max_stack;
+  max_locals = c.max_locals;
+  rows = x;
+  instructions = y;
+} in d) a b
 
 code_back : (narrow : List ℤ) (c : CodeListing) → SpelledCode c → end_from 0 c.instructions ≤ 65535
     → list_all (is_among narrow) (numbers_of_code (Some c)) ≡ true → code_listing narrow (body_back c) ≡ c
 code_back narrow c s small among =
     let lines = lines_back (named_pcs c) 0 c.instructions in
     ap (code_with (body_back c)) (unwidened_lines narrow lines (ap (list_all (is_among narrow)) (used_code (Some c))
-        ∙ among))
+    ∙ among))
     ∙ code_is c (map (row_with (pc_of 0 lines)) (map row_back c.rows)) (placed_from (pc_of 0 lines) 0 lines)
-        (rows_back c s small) (instructions_back c s small)
+    (rows_back c s small) (instructions_back c s small)
 
 -- ---- methods
 
@@ -188,7 +196,7 @@ body_again : (narrow : List ℤ) (wanted : Bool) (o : Option CodeListing) → bo
 body_again narrow wanted None e small among = refl
 body_again narrow wanted (Some c) e small among =
     ap Some (code_back narrow c (spelled_code c (and_parts wanted (code_is_spelled c) e).1)
-        (leb-true (end_from 0 c.instructions) 65535 small) among)
+    (leb-true (end_from 0 c.instructions) 65535 small) among)
 
 -- ---- the labels of code
 
@@ -201,16 +209,18 @@ labels_agree_back c s small =
     let lines = lines_back pcs 0 ps in
     let leads : (n : ℕ) → is_target pcs ps n ≡ true → leads_on (labels_in lines) (count_in lines) (label n) ≡ true =
     λ n e. let parts = and_parts (is_named pcs n) (is_pc ps n) e in label_leads pcs 0 0 ps n s.stands small parts.0
-                 parts.1 in
+    parts.1 in
     rw (
       labels_differ pcs 0 0 ps s.stands small,
       lines_agree (labels_in lines) (count_in lines) (is_target pcs ps) leads pcs 0 ps (targets_stand c s),
       rows_agree (labels_in lines) (count_in lines) (is_row c)
           (λ r e.
           let a = asked_row c r e in
-          rw (label_given pcs 0 0 ps r.start s.stands small a.start a.spelled.start,
-              label_given pcs 0 0 ps r.end s.stands small a.end a.spelled.end,
-              label_leads pcs 0 0 ps r.handler s.stands small a.handler a.spelled.handler) refl)
+          rw (
+            label_given pcs 0 0 ps r.start s.stands small a.start a.spelled.start,
+            label_given pcs 0 0 ps r.end s.stands small a.end a.spelled.end,
+            label_leads pcs 0 0 ps r.handler s.stands small a.handler a.spelled.handler,
+          ) refl)
           c.rows (rows_stand c s),
     ) refl
 
@@ -230,7 +240,7 @@ spelled_method class m e =
     let agree = are_method_flags class m.flags.0 in
     let units = units_fit (has m.flags.0 0x0008) (arguments_of m.descriptor) in
     let one = and_parts (flags && agree && is_method_name m.name && units)
-          (body_is_spelled (wants_code m.flags.0) m.code) e in
+    (body_is_spelled (wants_code m.flags.0) m.code) e in
     let two = and_parts (flags && agree && is_method_name m.name) units one.0 in
     let three = and_parts (flags && agree) (is_method_name m.name) two.0 in
     let four = and_parts flags agree three.0 in
@@ -255,9 +265,9 @@ spelled_class l e =
     let methods = list_all (method_is_spelled l.flags.0) l.methods in
     let few = nat_le (length (different (ldc_numbers l.methods))) 255 in
     let one = and_parts (head && is_class_name l.name && is_class_name l.superclass && interfaces && fields && methods)
-          few e in
+    few e in
     let two = and_parts (head && is_class_name l.name && is_class_name l.superclass && interfaces && fields) methods
-          one.0 in
+    one.0 in
     let three = and_parts (head && is_class_name l.name && is_class_name l.superclass && interfaces) fields two.0 in
     let four = and_parts (head && is_class_name l.name && is_class_name l.superclass) interfaces three.0 in
     let five = and_parts (head && is_class_name l.name) (is_class_name l.superclass) four.0 in
@@ -280,10 +290,14 @@ methods_back narrow class (m ∷ ms) e small among =
     let spelled = and_parts (method_is_spelled class m) (list_all (method_is_spelled class) ms) e in
     let fit = and_parts (code_fits m.code) (list_all (λ n. code_fits n.code) ms) small in
     let used = all_parts (is_among narrow) (numbers_of_code m.code) (ldc_numbers ms) among in
-    let made : Option CodeListing → Method = λ o. record { flags = m.flags; name = m.name; descriptor = m.descriptor;
-          code = o } in
+    let made : Option CodeListing → Method = λ o. record {
+      flags = m.flags;
+      name = m.name;
+      descriptor = m.descriptor;
+      code = o;
+    } in
     ap₂ (λ o rest. made o ∷ rest) (body_again narrow (wants_code m.flags.0) m.code
-        (spelled_method class m spelled.0).body fit.0 used.0) (methods_back narrow class ms spelled.1 fit.1 used.1)
+    (spelled_method class m spelled.0).body fit.0 used.0) (methods_back narrow class ms spelled.1 fit.1 used.1)
 
 narrow_back : (ms : List Method) → length (different (ldc_numbers ms)) ≤ 255 → narrow_numbers (map method_back ms)
     ≡ different (ldc_numbers ms)
@@ -295,8 +309,14 @@ pub listing_back : (l : ClassListing) → is_spelled l ≡ true → pcs_fit l �
 unfolding tree_back listing_of pcs_fit
 listing_back l e small =
     let s = spelled_class l e in
-    let made : List Method → ClassListing = λ ms. record { name = l.name; flags = l.flags; superclass = l.superclass;
-          interfaces = l.interfaces; fields = l.fields; methods = ms } in
+    let made : List Method → ClassListing = λ ms. record {
+      name = l.name;
+      flags = l.flags;
+      superclass = l.superclass;
+      interfaces = l.interfaces;
+      fields = l.fields;
+      methods = ms;
+    } in
     ap made (ap (λ narrow. map (method_listing narrow) (map method_back l.methods)) (narrow_back l.methods s.few)
     ∙ methods_back (different (ldc_numbers l.methods)) l.flags.0 l.methods s.methods small
-        (all_among (ldc_numbers l.methods)))
+    (all_among (ldc_numbers l.methods)))

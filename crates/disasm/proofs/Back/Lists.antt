@@ -13,7 +13,7 @@ all_and a b (x ∷ xs) e f =
     let first = and_parts (a x) (list_all a xs) e in
     let other = and_parts (b x) (list_all b xs) f in
     and_from (a x && b x) (list_all (λ y. a y && b y) xs) (and_from (a x) (b x) first.0 other.0)
-        (all_and a b xs first.1 other.1)
+    (all_and a b xs first.1 other.1)
 
 pub all_from : {A : Type 0} (a b : A → Bool) → ((x : A) → a x ≡ true → b x ≡ true) → (xs : List A) → list_all a xs
     ≡ true → list_all b xs ≡ true

@@ -38,12 +38,31 @@ method_flags_read : (class flags : ℕ) (word : List ℕ) → is_u2 flags ≡ tr
     → flags_and_word method_flags (flags_words method_flags flags ++ word ∷ []) ≡ Some (flags, word)
 method_flags_read class flags word small agree =
     let parts = and_parts (bit_and flags 0xfac0 == 0) (method_flags_agree class flags) agree in
-    flags_read method_flags flags word
-    (0, refl, refl, refl,
-        (1, refl, refl, refl,
-        (2, refl, refl, refl,
-        (3, refl, refl, refl,
-        (4, refl, refl, refl, (5, refl, refl, refl, (8, refl, refl, refl, (10, refl, refl, refl, tt)))))))) refl
+    flags_read method_flags flags word (
+      0,
+      refl,
+      refl,
+      refl,
+      (
+        1,
+        refl,
+        refl,
+        refl,
+        (
+          2,
+          refl,
+          refl,
+          refl,
+          (
+            3,
+            refl,
+            refl,
+            refl,
+            (4, refl, refl, refl, (5, refl, refl, refl, (8, refl, refl, refl, (10, refl, refl, refl, tt)))),
+          ),
+        ),
+      ),
+    ) refl
     ∙ ap (λ n. Some (n, word)) (kept_whole flags 0x053f 0xfac0 small refl parts.0)
 
 units_few : (static : Bool) (o : Option ℕ) → units_fit static o ≡ true → fits_units o ≡ true
@@ -54,7 +73,7 @@ units_few false (Some units) e = let small = leb-true (units + 1) 255 e in le-le
 spelled_back : (class : ℕ) (m : Method) (o : Option ℕ) → is_method_name m.name ≡ true
     → units_fit (has m.flags.0 0x0008) o ≡ true → method_flags_agree class m.flags.0 ≡ true
     → method_spelled class m.flags.0 m.name m.descriptor o
-        ≡ Some (record { flags = m.flags; name = m.name; descriptor = m.descriptor })
+    ≡ Some (record { flags = m.flags; name = m.name; descriptor = m.descriptor })
 spelled_back class m None name units agree = absurd cc
 spelled_back class m (Some units) name fit agree = rw (name, fit, agree) refl
 
@@ -67,7 +86,7 @@ head_back class m s =
     let agree = and_parts (bit_and m.flags.0 0xfac0 == 0) (method_flags_agree class.0 m.flags.0) s.agree in
     ap (method_head class.0) (method_flags_read class.0 m.flags.0 word s.flags s.agree)
     ∙ ap₂ (λ n d. method_spelled class.0 m.flags.0 n d (arguments_of d)) (before_back m.name m.descriptor none fit)
-        (from_back m.name m.descriptor none fit)
+    (from_back m.name m.descriptor none fit)
     ∙ spelled_back class.0 m (arguments_of m.descriptor) s.name s.units agree.1
 
 -- ---- methods with code and without
@@ -88,12 +107,12 @@ has_both flags a b = by (has flags a) (has flags b) refl refl
         let some = is_positive (bit_and flags a) e in
         let more = le_or_l (bit_and flags a) (bit_and flags b) in
         ap (λ n. not (n == 0)) (and_over_or flags a b) ∙ positive_is (bit_or (bit_and flags a) (bit_and flags b))
-            (omega (arith, some, more))
+        (omega (arith, some, more))
     by false true e f =
         let some = is_positive (bit_and flags b) f in
         let more = le_or_r (bit_and flags a) (bit_and flags b) in
         ap (λ n. not (n == 0)) (and_over_or flags a b) ∙ positive_is (bit_or (bit_and flags a) (bit_and flags b))
-            (omega (arith, some, more))
+        (omega (arith, some, more))
     by false false e f = bit_none flags (bit_or a b) (and_over_or flags a b
         ∙ ap₂ bit_or (bit_clear flags a e) (bit_clear flags b f))
 
@@ -121,10 +140,10 @@ under_head m false None w e small = ap (λ (b : Bool). if b then method_without 
 under_head m false (Some c) w e small = absurd cc
 under_head m true (Some c) w e small =
     ap (λ (b : Bool). if b then method_without (head_of m) (map Some (code_statements c))
-        else option_map (method_with (head_of m)) (body_of (map Some (code_statements c)))) (wants_none m.flags.0
-        ∙ ap not w)
+    else option_map (method_with (head_of m)) (body_of (map Some (code_statements c)))) (wants_none m.flags.0
+    ∙ ap not w)
     ∙ ap (option_map (method_with (head_of m)))
-        (body_again c (spelled_code c e) (leb-true (end_from 0 c.instructions) 65535 small))
+    (body_again c (spelled_code c e) (leb-true (end_from 0 c.instructions) 65535 small))
 
 abbrev block : Method → List Statement
 block m = Some (method_words m) ∷ map Some (body_statements m.code)
@@ -142,15 +161,15 @@ body_ends_not wanted None e small = refl
 body_ends_not wanted (Some c) e small =
     let parts = and_parts wanted (code_is_spelled c) e in
     none_ends (map Some (code_statements c)) None (parts_back c)
-        (parts_read c (spelled_code c parts.1) (leb-true (end_from 0 c.instructions) 65535 small))
+    (parts_read c (spelled_code c parts.1) (leb-true (end_from 0 c.instructions) 65535 small))
 
 methods_split : (m : Method) (ms : List Method) → map Some (flat_map method_statements (m ∷ ms)) ≡ block m
     ++ (Some end_words ∷ map Some (flat_map method_statements ms))
 methods_split m ms =
     ap (λ xs. Some (method_words m) ∷ xs)
     (map-append Some (body_statements m.code ++ end_words ∷ []) (flat_map method_statements ms)
-        ∙ ap (λ xs. xs ++ map Some (flat_map method_statements ms)) (map-append Some (body_statements m.code)
-        (end_words ∷ []))
+    ∙ ap (λ xs. xs ++ map Some (flat_map method_statements ms)) (map-append Some (body_statements m.code)
+    (end_words ∷ []))
     ∙ append_assoc (map Some (body_statements m.code)) (Some end_words ∷ []) (map Some (flat_map method_statements ms)))
 
 blocks_read : (class : ℕ) (ms : List Method) → list_all (method_is_spelled class) ms ≡ true
@@ -163,7 +182,7 @@ blocks_read class (m ∷ ms) e small =
     let s = spelled_method class m parts.0 in
     ap blocks_of (methods_split m ms)
     ∙ block_read (block m) (map Some (flat_map method_statements ms)) (map block ms)
-        (body_ends_not (wants_code m.flags.0) m.code s.body fit.0) (blocks_read class ms parts.1 fit.1)
+    (body_ends_not (wants_code m.flags.0) m.code s.body fit.0) (blocks_read class ms parts.1 fit.1)
 
 each_read : (class : ClassFlags) (ms : List Method) → list_all (method_is_spelled class.0) ms ≡ true
     → list_all (λ m. code_fits m.code) ms ≡ true → each (method_tree class) (map block ms) ≡ Some (map method_back ms)

@@ -50,7 +50,7 @@ use Rattle.jasmin.specs.Words.{word_of}
 abbrev pub is_other : List ℕ → Bool
 is_other word =
     bytes_eq word (codes ".limit") || bytes_eq word (codes ".catch") || bytes_eq word (codes "tableswitch")
-        || bytes_eq word (codes "lookupswitch") || bytes_eq word (codes "wide")
+    || bytes_eq word (codes "lookupswitch") || bytes_eq word (codes "wide")
 
 -- a word that begins an instruction, by its mnemonic
 pub record Begins (word : List ℕ) (m : Mnemonic) : Type 0 where
@@ -418,8 +418,37 @@ throw_said = throw_begins.says
 pub monitor_said : (o : MonitorOperation) → word_of (mnemonic.Monitor o) ≡ monitor_name o
 monitor_said o = (monitor_begins o).says
 
-pub ruleset said = (nop_said, null_said, small_int_said, small_long_said, byte_said, short_said, narrow_said, wide_said,
-    long_said, load_said, first_load_said, store_said, first_store_said, increment_said, stack_said, number_said,
-    test_said, return_said, static_said, field_said, new_array_said, new_array_of_said, array_length_said,
-    array_load_said, array_store_said, class_said, virtual_said, special_said, static_call_said, interface_said,
-    throw_said, monitor_said)
+pub ruleset said = (
+  nop_said,
+  null_said,
+  small_int_said,
+  small_long_said,
+  byte_said,
+  short_said,
+  narrow_said,
+  wide_said,
+  long_said,
+  load_said,
+  first_load_said,
+  store_said,
+  first_store_said,
+  increment_said,
+  stack_said,
+  number_said,
+  test_said,
+  return_said,
+  static_said,
+  field_said,
+  new_array_said,
+  new_array_of_said,
+  array_length_said,
+  array_load_said,
+  array_store_said,
+  class_said,
+  virtual_said,
+  special_said,
+  static_call_said,
+  interface_said,
+  throw_said,
+  monitor_said,
+)

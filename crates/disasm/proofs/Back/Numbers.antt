@@ -32,7 +32,7 @@ still_positive [] d e f = absurd cc
 still_positive (x ∷ ds) d e f =
     let parts = and_parts (is_digit x && not (x == 48)) (list_all is_digit ds) e in
     and_from (is_digit x && not (x == 48)) (list_all is_digit (ds ++ d ∷ [])) parts.0
-        (all_joined is_digit ds (d ∷ []) parts.1 (and_from (is_digit d) true f refl))
+    (all_joined is_digit ds (d ∷ []) parts.1 (and_from (is_digit d) true f refl))
 
 positive_digit : (d : ℕ) → 0 < d → d < 10 → is_positive_numeral ((48 + d) ∷ []) ≡ true
 positive_digit d some small = rw (digit_is d small, ne_eqb (48 + d) 48 (λ e. absurd (omega (arith, e)))) refl
@@ -41,8 +41,11 @@ one_digit : (n : ℕ) → n < 10 → Digits n ((48 + n) ∷ [])
 one_digit n small = record {
   each = and_from (is_digit (48 + n)) true (digit_is n small) refl;
   value = omega arith;
-  begins = elim (cases_eq n 0) [ inl zero ↦ inl (zero, ap (λ k. (48 + k) ∷ []) zero) | inr other ↦
-      inr (omega (arith, other), positive_digit n (omega (arith, other)) small) ];
+  begins = elim (cases_eq n 0) [
+    | inl zero ↦ inl (zero, ap (λ k. (48 + k) ∷ []) zero)
+    | inr other ↦
+        inr (omega (arith, other), positive_digit n (omega (arith, other)) small)
+  ];
 }
 
 positive_begins : (n : ℕ) (ds : List ℕ) → 0 < n → Digits n ds → is_positive_numeral ds ≡ true
@@ -67,8 +70,10 @@ each_digit n small = (digits_of n small).each
 -- ---- numbers
 
 positive_back : (n : ℕ) (ds : List ℕ) → decimal_from 0 ds ≡ n → is_positive_numeral ds ≡ true → natural_of ds ≡ Some n
-positive_back n ds value positive = elim (bool (bytes_eq ds (codes "0"))) [ inl e ↦ rw (e, value) refl |
-    inr e ↦ rw (e, positive, value) refl ]
+positive_back n ds value positive = elim (bool (bytes_eq ds (codes "0"))) [
+  | inl e ↦ rw (e, value) refl
+  | inr e ↦ rw (e, positive, value) refl
+]
   where
     bool : (b : Bool) → (b ≡ true) ⊎ (b ≡ false)
     bool true = inl refl
@@ -99,8 +104,10 @@ negative_back n small =
     rw (positive_begins (suc n) (decimal (suc n)) (omega arith) h) (ap (λ k. Some (neg_ℤ (pos k))) h.value)
 
 pub natural_to_back : (high n : ℕ) → high < 10 ^ 64 → nat_le n high ≡ true → natural_to high (decimal n) ≡ Some n
-natural_to_back high n big small = let le = leb-true n high small in rw (natural_back n (omega (arith, big, le)),
-                                         small) refl
+natural_to_back high n big small = let le = leb-true n high small in rw (
+  natural_back n (omega (arith, big, le)),
+  small,
+) refl
 
 in_range : (low high z : ℤ) (word : List ℕ) → number_of word ≡ Some z → (int_le low z && int_le z high) ≡ true
     → number_in low high word ≡ Some z
@@ -147,6 +154,6 @@ pub number_other : (z : ℤ) (w : ℕ) (ws : List ℕ) → (int_le (negsuc 21474
     → is_digit w ≡ false → (45 == w) ≡ false → bytes_eq (signed_decimal z) (w ∷ ws) ≡ false
 number_other (pos n) w ws e f g =
     let below = not_above n 2147483647 (and_parts (int_le (negsuc 2147483647) (pos n)) (int_le (pos n) (pos 2147483647))
-          e).1 in
+    e).1 in
     digits_other (decimal n) w ws (each_digit n (omega (arith, below))) f
 number_other (negsuc n) w ws e f g = rw g refl

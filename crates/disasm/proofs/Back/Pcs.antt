@@ -201,8 +201,10 @@ step pc next i rest n e = ap (λ k. pc_of k rest (label n)) (ap (λ k. pc + k) (
 pub other_bound : (p : Placed) (ps : List Placed) (n : ℕ) → is_bound_from p.pc (p ∷ ps) n ≡ true → (p.pc ≡ n → ⊥)
     → is_bound_from p.next ps n ≡ true
 other_bound p ps n e other = elim (or_cases (is_pc (p ∷ ps) n) (end_from p.next ps == n) e) [
-  | inl one ↦ elim (or_cases (p.pc == n) (is_pc ps n) one) [ inl same ↦ absurd (other (eqb-true p.pc n same)) |
-      inr two ↦ rw two refl ]
+  | inl one ↦ elim (or_cases (p.pc == n) (is_pc ps n) one) [
+    | inl same ↦ absurd (other (eqb-true p.pc n same))
+    | inr two ↦ rw two refl
+  ]
   | inr two ↦ or_right (is_pc ps n) (end_from p.next ps == n) two
 ]
 
@@ -211,7 +213,7 @@ pub pc_found : (pcs : List ℕ) (pc : ℕ) (ps : List Placed) (n : ℕ) → stan
 pc_found pcs pc [] n s small named at =
     let same : pc ≡ n = eqb-true pc n at in
     ap (λ lines. pc_of pc lines (label n)) (sym (append-nil (label_back (is_named pcs pc) pc)))
-        ∙ here (is_named pcs pc) pc pc n [] (ap (is_named pcs) same ∙ named) refl same
+    ∙ here (is_named pcs pc) pc pc n [] (ap (is_named pcs) same ∙ named) refl same
 pc_found pcs pc (p ∷ ps) n s small named at =
     let h = first_of pc p ps s in
     let lines = Instruction (with_targets label p.instruction) ∷ lines_back pcs p.next ps in
@@ -223,7 +225,7 @@ pc_found pcs pc (p ∷ ps) n s small named at =
       | inr other ↦ elsewhere (is_named pcs p.pc) pc p.pc n lines
           (label_other p.pc n (omega (arith, small, risen, same_pc)) (omega (arith, small, inside)) other)
           ∙ step pc p.next p.instruction (lines_back pcs p.next ps) n h.next
-              ∙ pc_found pcs p.next ps n h.others small named (other_bound p ps n at other)
+          ∙ pc_found pcs p.next ps n h.others small named (other_bound p ps n at other)
     ]
 
 -- ---- what labels lead back to
@@ -232,7 +234,7 @@ pairs_targets : (good : ℕ → Bool) (pairs : List (ℤ × ℕ)) → list_all g
     → list_all (λ (p : ℤ × ℕ). good p.1) pairs ≡ true
 pairs_targets good [] e = refl
 pairs_targets good (p ∷ ps) e = let parts = and_parts (good p.1) (list_all good (map (λ q. q.1) ps)) e
-                                      in rw (parts.0, pairs_targets good ps parts.1) refl
+    in rw (parts.0, pairs_targets good ps parts.1) refl
 
 module _ (f : List ℕ → ℕ) (good : ℕ → Bool) (back : (n : ℕ) → good n ≡ true → f (label n) ≡ n) where
   pub targets_back : (i : Listed) → list_all good (targets i) ≡ true → with_targets f (with_targets label i) ≡ i
@@ -245,12 +247,12 @@ module _ (f : List ℕ → ℕ) (good : ℕ → Bool) (back : (n : ℕ) → good
   targets_back (instruction.TableSwitch t) e =
       let parts = all_parts good t.targets (t.default ∷ []) e in
       ap₂ (λ xs d. instruction.TableSwitch (record { low = t.low; targets = xs; default = d }))
-          (map_again label f good back t.targets parts.0) (back t.default (and_parts (good t.default) true parts.1).0)
+      (map_again label f good back t.targets parts.0) (back t.default (and_parts (good t.default) true parts.1).0)
   targets_back (instruction.LookupSwitch l) e =
       let parts = all_parts good (map (λ p. p.1) l.pairs) (l.default ∷ []) e in
       ap₂ (λ xs d. instruction.LookupSwitch (record { pairs = xs; default = d }))
       (map_again (λ (p : ℤ × ℕ). (p.0, label p.1)) (λ (p : ℤ × List ℕ). (p.0, f p.1)) (λ (p : ℤ × ℕ). good p.1)
-          (λ p g. ap (λ n. (p.0, n)) (back p.1 g)) l.pairs (pairs_targets good l.pairs parts.0))
+      (λ p g. ap (λ n. (p.0, n)) (back p.1 g)) l.pairs (pairs_targets good l.pairs parts.0))
       (back l.default (and_parts (good l.default) true parts.1).0)
   targets_back (instruction.Return k) e = refl
   targets_back (instruction.Static a m) e = refl
@@ -277,11 +279,11 @@ module _ (f : List ℕ → ℕ) (good : ℕ → Bool) (back : (n : ℕ) → good
   placed_back pcs pc (p ∷ ps) s e =
       let h = first_of pc p ps s in
       let parts = and_parts (list_all good (targets p.instruction))
-            (list_all (λ q. list_all good (targets q.instruction)) ps) e in
+      (list_all (λ q. list_all good (targets q.instruction)) ps) e in
       let i = with_targets label p.instruction in
       let rest = lines_back pcs p.next ps in
       let next : p.next ≡ pc + size_at pc i = h.next ∙ ap (λ k. pc + k) (sym (size_back label pc p.instruction)) in
       unlabelled (is_named pcs p.pc) pc p.pc (Instruction i ∷ rest)
       ∙ ap₂ (λ x xs. x ∷ xs) (placed_is pc (pc + size_at pc i) (with_targets f i) p h.at next
-          (targets_back p.instruction parts.0)) (ap (λ k. placed_from f k rest) (sym next)
-          ∙ placed_back pcs p.next ps h.others parts.1)
+      (targets_back p.instruction parts.0)) (ap (λ k. placed_from f k rest) (sym next)
+      ∙ placed_back pcs p.next ps h.others parts.1)

@@ -52,13 +52,13 @@ pair_said : (pairs : List (ℤ × List ℕ)) (p : ℤ × ℕ) → is_int p.0 ≡
     → saying_of (Some (lookup pairs)) (Some (pair_words p)) ≡ Some (opens (lookup (pairs ++ (p.0, label p.1) ∷ [])))
 pair_said pairs p key small =
     ap (λ o. option_map said_in (option_and_then (line_before (lookup pairs) (signed_decimal p.0)) o))
-        (label_read p.1 small)
+    (label_read p.1 small)
     ∙ ap (λ (b : Bool). option_map said_in (if b then option_map ends (with_default (lookup pairs) (label p.1))
-        else option_map goes_on
-        (with_pair (lookup pairs) (number_in (negsuc 2147483647) (pos 2147483647) (signed_decimal p.0)) (label p.1))))
+    else option_map goes_on
+    (with_pair (lookup pairs) (number_in (negsuc 2147483647) (pos 2147483647) (signed_decimal p.0)) (label p.1))))
     (number_other p.0 100 (codes "efault") key refl refl)
     ∙ ap (λ o. option_map said_in (option_map goes_on (with_pair (lookup pairs) o (label p.1))))
-        (signed_back 2147483647 2147483647 p.0 (omega arith) (omega arith) key)
+    (signed_back 2147483647 2147483647 p.0 (omega arith) (omega arith) key)
 
 -- ---- a table
 
@@ -69,22 +69,22 @@ table_written low first labels n =
 table_lines : (low : ℤ) (first : List ℕ) (labels : List (List ℕ)) (ts : List ℕ) (n : ℕ) (ss : List Statement)
     → list_all fits_label ts ≡ true → fits_label n ≡ true
     → parts_from (map Some (map target_words ts ++ default_words n ∷ []) ++ ss) (Some (table low (first ∷ labels)))
-        ≡ part_before (code_line (Instruction (table_written low first (labels ++ map label ts) n)))
-        (parts_from ss None)
+    ≡ part_before (code_line (Instruction (table_written low first (labels ++ map label ts) n)))
+    (parts_from ss None)
 table_lines low first labels [] n ss small last =
     next_said (table low (first ∷ labels)) (part (code_line (Instruction (table_written low first labels n))))
-        (default_words n) ss
+    (default_words n) ss
     (default_said (table low (first ∷ labels)) (table_written low first labels n) n last refl)
     ∙ ap (λ xs. part_before (code_line (Instruction (table_written low first xs n))) (parts_from ss None))
-        (sym (append-nil labels))
+    (sym (append-nil labels))
 table_lines low first labels (t ∷ ts) n ss small last =
     let parts = and_parts (fits_label t) (list_all fits_label ts) small in
     next_said (table low (first ∷ labels)) (opens (table low (first ∷ labels ++ label t ∷ []))) (target_words t)
-        (map Some (map target_words ts ++ default_words n ∷ []) ++ ss)
+    (map Some (map target_words ts ++ default_words n ∷ []) ++ ss)
     (target_said low (first ∷ labels) t parts.0)
     ∙ table_lines low first (labels ++ label t ∷ []) ts n ss parts.1 last
     ∙ ap (λ xs. part_before (code_line (Instruction (table_written low first xs n))) (parts_from ss None))
-        (append_assoc labels (label t ∷ []) (map label ts))
+    (append_assoc labels (label t ∷ []) (map label ts))
 
 table_head : (low : ℤ) → is_int low ≡ true → said_by (table_words low) ≡ Some (opens (table low []))
 table_head low e = ap (λ o. option_map opens (option_map (λ n. table n []) o))
@@ -97,9 +97,9 @@ table_targets low [] n ss key some small last = absurd cc
 table_targets low (t ∷ ts) n ss key some small last =
     let parts = and_parts (fits_label t) (list_all fits_label ts) small in
     ap (λ o. parts_by o (parts_from (Some (target_words t) ∷ map Some (map target_words ts ++ default_words n ∷ [])
-        ++ ss))) (table_head low key)
+    ++ ss))) (table_head low key)
     ∙ next_said (table low []) (opens (table low (label t ∷ []))) (target_words t)
-        (map Some (map target_words ts ++ default_words n ∷ []) ++ ss) (target_said low [] t parts.0)
+    (map Some (map target_words ts ++ default_words n ∷ []) ++ ss) (target_said low [] t parts.0)
     ∙ table_lines low (label t) [] ts n ss parts.1 last
 
 pub table_back : (t : Table ℕ) (ss : List Statement) → table_is_spelled t ≡ true
@@ -120,20 +120,20 @@ labelled ps = map (λ (p : ℤ × ℕ). (p.0, label p.1)) ps
 lookup_lines : (pairs : List (ℤ × List ℕ)) (ps : List (ℤ × ℕ)) (n : ℕ) (ss : List Statement)
     → list_all (λ p. is_int p.0) ps ≡ true → list_all fits_label (map (λ p. p.1) ps) ≡ true → fits_label n ≡ true
     → parts_from (map Some (map pair_words ps ++ default_words n ∷ []) ++ ss) (Some (lookup pairs))
-        ≡ part_before (code_line (Instruction (lookup_written (pairs ++ labelled ps) n))) (parts_from ss None)
+    ≡ part_before (code_line (Instruction (lookup_written (pairs ++ labelled ps) n))) (parts_from ss None)
 lookup_lines pairs [] n ss keys small last =
     next_said (lookup pairs) (part (code_line (Instruction (lookup_written pairs n)))) (default_words n) ss
-        (default_said (lookup pairs) (lookup_written pairs n) n last refl)
+    (default_said (lookup pairs) (lookup_written pairs n) n last refl)
     ∙ ap (λ xs. part_before (code_line (Instruction (lookup_written xs n))) (parts_from ss None))
-        (sym (append-nil pairs))
+    (sym (append-nil pairs))
 lookup_lines pairs (p ∷ ps) n ss keys small last =
     let key = and_parts (is_int p.0) (list_all (λ q. is_int q.0) ps) keys in
     let fit = and_parts (fits_label p.1) (list_all fits_label (map (λ q. q.1) ps)) small in
     next_said (lookup pairs) (opens (lookup (pairs ++ (p.0, label p.1) ∷ []))) (pair_words p)
-        (map Some (map pair_words ps ++ default_words n ∷ []) ++ ss) (pair_said pairs p key.0 fit.0)
+    (map Some (map pair_words ps ++ default_words n ∷ []) ++ ss) (pair_said pairs p key.0 fit.0)
     ∙ lookup_lines (pairs ++ (p.0, label p.1) ∷ []) ps n ss key.1 fit.1 last
     ∙ ap (λ xs. part_before (code_line (Instruction (lookup_written xs n))) (parts_from ss None))
-        (append_assoc pairs ((p.0, label p.1) ∷ []) (labelled ps))
+    (append_assoc pairs ((p.0, label p.1) ∷ []) (labelled ps))
 
 pub lookup_back : (l : Lookup ℕ) (ss : List Statement) → lookup_is_spelled l ≡ true
     → list_all fits_label (targets (instruction.LookupSwitch l)) ≡ true → ReadBack (instruction.LookupSwitch l) ss

@@ -60,7 +60,7 @@ absent pcs k pc (p ∷ ps) n s small before =
     let next = h.next in
     skipped (is_named pcs p.pc) k p.pc n (Instruction (with_targets label p.instruction) ∷ lines_back pcs p.next ps)
     (label_other n p.pc (omega (arith, small, risen, before)) (omega (arith, small, risen, at))
-        (λ e. absurd (omega (arith, e, at, before))))
+    (λ e. absurd (omega (arith, e, at, before))))
     ∙ absent pcs (k + 1) p.next ps n h.others small (omega (arith, next, before))
 
 apart : (b : Bool) (k at : ℕ) (lines : List TextLine) → named (labels_from k lines) (label at) ≡ None
@@ -78,7 +78,7 @@ labels_differ pcs k pc (p ∷ ps) s small =
     let next = h.next in
     let some = size_some pc p.instruction in
     apart (is_named pcs p.pc) k p.pc (Instruction (with_targets label p.instruction) ∷ lines_back pcs p.next ps)
-        (absent pcs (k + 1) p.next ps p.pc h.others small (omega (arith, at, next, some)))
+    (absent pcs (k + 1) p.next ps p.pc h.others small (omega (arith, at, next, some)))
     (labels_differ pcs (k + 1) p.next ps h.others small)
 
 -- ---- labels that are used
@@ -106,9 +106,11 @@ label_leads pcs k pc (p ∷ ps) n s small asked at =
           (omega (arith, more, count))
       | inr other ↦
           let later : is_pc ps n ≡ true = elim (or_cases (p.pc == n) (is_pc ps n) at) [
-                inl same ↦ absurd (other (sym (eqb-true p.pc n same))) | inr two ↦ two ] in
+            | inl same ↦ absurd (other (sym (eqb-true p.pc n same)))
+            | inr two ↦ two
+          ] in
           ap₂ is_before count (skipped (is_named pcs p.pc) k p.pc n lines
-              (label_other n p.pc (omega (arith, small, inside.1)) (omega (arith, small, risen, same_pc)) other))
+          (label_other n p.pc (omega (arith, small, inside.1)) (omega (arith, small, risen, same_pc)) other))
           ∙ label_leads pcs (k + 1) p.next ps n h.others small asked later
     ]
 
@@ -118,7 +120,7 @@ pub label_given : (pcs : List ℕ) (k pc : ℕ) (ps : List Placed) (n : ℕ) →
 label_given pcs k pc [] n s small asked at =
     let same : pc ≡ n = eqb-true pc n at in
     ap (λ lines. is_some (named (labels_from k lines) (label n))) (sym (append-nil (label_back (is_named pcs pc) pc)))
-        ∙ ap is_some (met (is_named pcs pc) k pc n [] (ap (is_named pcs) same ∙ asked) (sym same))
+    ∙ ap is_some (met (is_named pcs pc) k pc n [] (ap (is_named pcs) same ∙ asked) (sym same))
 label_given pcs k pc (p ∷ ps) n s small asked at =
     let h = first_of pc p ps s in
     let lines = Instruction (with_targets label p.instruction) ∷ lines_back pcs p.next ps in
@@ -150,8 +152,8 @@ module _ (labels : List (List ℕ × ℕ)) (count : ℕ) (good : ℕ → Bool) (
   pair_leads (p ∷ ps) e =
       let parts = and_parts (good p.1) (list_all good (map (λ (q : ℤ × ℕ). q.1) ps)) e in
       and_from (leads_on labels count (label p.1))
-          (list_all (leads_on labels count) (map (λ (q : ℤ × List ℕ). q.1) (map (λ (q : ℤ × ℕ). (q.0, label q.1)) ps)))
-          (leads p.1 parts.0) (pair_leads ps parts.1)
+      (list_all (leads_on labels count) (map (λ (q : ℤ × List ℕ). q.1) (map (λ (q : ℤ × ℕ). (q.0, label q.1)) ps)))
+      (leads p.1 parts.0) (pair_leads ps parts.1)
 
   instruction_agrees : (i : Listed) → list_all good (targets i) ≡ true
       → list_all (leads_on labels count) (targets_of (with_targets label i)) ≡ true
@@ -165,14 +167,14 @@ module _ (labels : List (List ℕ × ℕ)) (count : ℕ) (good : ℕ → Bool) (
   instruction_agrees (instruction.TableSwitch t) e =
       let parts = all_parts good t.targets (t.default ∷ []) e in
       and_from (leads_on labels count (label t.default)) (list_all (leads_on labels count) (map label t.targets))
-          (leads t.default (and_parts (good t.default) true parts.1).0)
+      (leads t.default (and_parts (good t.default) true parts.1).0)
       (all_mapped label good (leads_on labels count) leads t.targets parts.0)
   instruction_agrees (instruction.LookupSwitch l) e =
       let parts = all_parts good (map (λ p. p.1) l.pairs) (l.default ∷ []) e in
       and_from (leads_on labels count (label l.default))
-          (list_all (leads_on labels count)
-          (map (λ (q : ℤ × List ℕ). q.1) (map (λ (q : ℤ × ℕ). (q.0, label q.1)) l.pairs)))
-          (leads l.default (and_parts (good l.default) true parts.1).0) (pair_leads l.pairs parts.0)
+      (list_all (leads_on labels count)
+      (map (λ (q : ℤ × List ℕ). q.1) (map (λ (q : ℤ × ℕ). (q.0, label q.1)) l.pairs)))
+      (leads l.default (and_parts (good l.default) true parts.1).0) (pair_leads l.pairs parts.0)
   instruction_agrees (instruction.Return k) e = refl
   instruction_agrees (instruction.Static a m) e = refl
   instruction_agrees (instruction.Field a m) e = refl
@@ -194,12 +196,12 @@ module _ (labels : List (List ℕ × ℕ)) (count : ℕ) (good : ℕ → Bool) (
       (sym (append-nil (label_back (is_named pcs pc) pc))) ∙ labelled (is_named pcs pc) pc []
   lines_agree pcs pc (p ∷ ps) e =
       let parts = and_parts (list_all good (targets p.instruction))
-            (list_all (λ q. list_all good (targets q.instruction)) ps) e in
+      (list_all (λ q. list_all good (targets q.instruction)) ps) e in
       let i = with_targets label p.instruction in
       labelled (is_named pcs p.pc) p.pc (Instruction i ∷ lines_back pcs p.next ps)
       ∙ and_from (list_all (leads_on labels count) (targets_of i))
-          (list_all (line_agrees labels count) (lines_back pcs p.next ps)) (instruction_agrees p.instruction parts.0)
-          (lines_agree pcs p.next ps parts.1)
+      (list_all (line_agrees labels count) (lines_back pcs p.next ps)) (instruction_agrees p.instruction parts.0)
+      (lines_agree pcs p.next ps parts.1)
 
 pub rows_agree : (labels : List (List ℕ × ℕ)) (count : ℕ) (good : ExceptionRow → Bool)
     → ((r : ExceptionRow) → good r ≡ true → row_agrees labels count (row_back r) ≡ true) → (rs : List ExceptionRow)

@@ -68,7 +68,7 @@ used_back pcs pc [] = used_end (is_named pcs pc) pc
 used_back pcs pc (p ∷ ps) =
     let rest = lines_back pcs p.next ps in
     used_label (is_named pcs p.pc) p.pc (Instruction (with_targets label p.instruction) ∷ rest)
-        ∙ used_instruction p.instruction (used_in rest)
+    ∙ used_instruction p.instruction (used_in rest)
     ∙ ap (λ zs. narrow_number p.instruction ++ zs) (used_back pcs p.next ps)
 
 pub used_code : (o : Option CodeListing) → used_in_body (option_map body_back o) ≡ numbers_of_code o
@@ -111,7 +111,7 @@ among_each : (all zs : List ℤ) → ((z : ℤ) → is_among zs z ≡ true → i
 among_each all [] f = refl
 among_each all (x ∷ zs) f =
     and_from (is_among all x) (list_all (is_among all) zs)
-        (f x (or_left (int_eq x x) (is_among zs x) ((Decides-int_eq x x).1 refl)))
+    (f x (or_left (int_eq x x) (is_among zs x) ((Decides-int_eq x x).1 refl)))
     (among_each all zs (λ z e. f z (or_right (int_eq x z) (is_among zs z) e)))
 
 pub all_among : (zs : List ℤ) → list_all (is_among (different zs)) zs ≡ true
@@ -128,8 +128,8 @@ module _ (narrow : List ℤ) where
   unwidened_constant (constant.Byte n) zs e = (refl, e)
   unwidened_constant (constant.Short n) zs e = (refl, e)
   unwidened_constant (constant.Int Narrow n) zs e = let parts = and_parts (is_among narrow n)
-                                                          (list_all (is_among narrow) zs) e
-                                                          in (rw (parts.0) refl, parts.1)
+      (list_all (is_among narrow) zs) e
+      in (rw (parts.0) refl, parts.1)
   unwidened_constant (constant.Int Wide n) zs e = (refl, e)
   unwidened_constant (constant.Long n) zs e = (refl, e)
 
@@ -137,7 +137,7 @@ module _ (narrow : List ℤ) where
       → (widened narrow i ≡ i) × (list_all (is_among narrow) zs ≡ true)
   unwidened instruction.Nop zs e = (refl, e)
   unwidened (instruction.Constant c) zs e = let both = unwidened_constant c zs e
-                                                  in (ap (λ x. instruction.Constant x) both.0, both.1)
+      in (ap (λ x. instruction.Constant x) both.0, both.1)
   unwidened (instruction.Local a) zs e = (refl, e)
   unwidened (instruction.Stack o) zs e = (refl, e)
   unwidened (instruction.Number o) zs e = (refl, e)

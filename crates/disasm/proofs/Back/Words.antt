@@ -60,7 +60,7 @@ none_reversed q [] e = refl
 none_reversed q (x ∷ xs) e =
     let parts = and_parts (q x) (list_all q xs) e in
     ap (list_all q) (reverse-append (x ∷ []) xs) ∙ all_joined q (reverse xs) (x ∷ []) (none_reversed q xs parts.1)
-        (and_from (q x) true parts.0 refl)
+    (and_from (q x) true parts.0 refl)
 
 not_twice : (b : Bool) → not (not b) ≡ b
 not_twice true = refl
@@ -79,7 +79,7 @@ after_slash : (class name : List ℕ) → none_is (λ b. b == 47) name ≡ true
 after_slash class name e =
     let q : ℕ → Bool = λ b. not (b == 47) in
     ap (prefix_len q) (reverse-append class (47 ∷ name) ∙ ap (λ xs. xs ++ reverse class) (reverse-append (47 ∷ []) name)
-        ∙ append_assoc (reverse name) (47 ∷ []) (reverse class))
+    ∙ append_assoc (reverse name) (47 ∷ []) (reverse class))
     ∙ passed q (reverse name) 47 (reverse class) (none_reversed q name e) refl ∙ length-reverse name
 
 path_length : (class name : List ℕ) → length (class ++ (47 ∷ name)) ≡ length class + 1 + length name
@@ -90,7 +90,7 @@ class_back class name e =
     let a = path_length class name in
     let b = after_slash class name e in
     let n : length (class ++ (47 ∷ name)) - suffix_len (λ b. not (b == 47)) (class ++ (47 ∷ name)) - 1
-          ≡ length class = rw (a, b) (omega arith) in
+    ≡ length class = rw (a, b) (omega arith) in
     ap (λ k. take k (class ++ (47 ∷ name))) n ∙ take-append_seam class (47 ∷ name)
 
 pub name_back : (class name : List ℕ) → none_is (λ b. b == 47) name ≡ true → name_in (class ++ (47 ∷ name)) ≡ name
@@ -98,15 +98,17 @@ name_back class name e =
     let a = path_length class name in
     let b = after_slash class name e in
     let n : length (class ++ (47 ∷ name)) - suffix_len (λ b. not (b == 47)) (class ++ (47 ∷ name))
-          ≡ length class + 1 = rw (a, b) (omega arith) in
+    ≡ length class + 1 = rw (a, b) (omega arith) in
     ap (λ k. drop k (class ++ (47 ∷ name))) n ∙ drop-append-add class (47 ∷ name) 1
 
 -- ---- bytes of names
 
 -- a byte that fails a test stands in no word whose bytes pass it
 fails_not : (test : ℕ → Bool) (k : ℕ) → test k ≡ false → (b : ℕ) → test b ≡ true → not (b == k) ≡ true
-fails_not test k f b e = elim (cases_eq b k) [ inl same ↦ absurd (both (sym e ∙ ap test same ∙ f)) |
-    inr other ↦ not_from_false (b == k) (ne_eqb b k other) ]
+fails_not test k f b e = elim (cases_eq b k) [
+  | inl same ↦ absurd (both (sym e ∙ ap test same ∙ f))
+  | inr other ↦ not_from_false (b == k) (ne_eqb b k other)
+]
   where
     both : true ≡ false → ⊥
     both e = cc
@@ -116,7 +118,7 @@ none_in_parts begun [] e = refl
 none_in_parts begun (b ∷ bs) e =
     let parts = and_parts (joins begun b) (are_parts (not (b == 47)) bs) e in
     and_from (not (b == 40)) (none_is (λ c. c == 40) bs) (joined begun b parts.0)
-        (none_in_parts (not (b == 47)) bs parts.1)
+    (none_in_parts (not (b == 47)) bs parts.1)
   where
     joined : (begun : Bool) (b : ℕ) → joins begun b ≡ true → not (b == 40) ≡ true
     joined true b e = fails_not (joins true) 40 refl b e
@@ -131,7 +133,7 @@ none_in_part k [] f g e = refl
 none_in_part k (b ∷ bs) f g e =
     let parts = and_parts (begins_part b) (list_all continues_part bs) e in
     and_from (not (b == k)) (none_is (λ c. c == k) bs) (fails_not begins_part k g b parts.0)
-        (all_from continues_part (λ c. not (c == k)) (fails_not continues_part k f) bs parts.1)
+    (all_from continues_part (λ c. not (c == k)) (fails_not continues_part k f) bs parts.1)
 
 none_in_field : (k : ℕ) (word : List ℕ) → continues_part k ≡ false → begins_part k ≡ false → is_field_name word ≡ true
     → none_is (λ b. b == k) word ≡ true
@@ -147,20 +149,22 @@ pub none_in_method : (k : ℕ) (word : List ℕ) → continues_part k ≡ false 
 none_in_method k word f g
     init clinit e = elim (or_cases (bytes_eq word (codes "<init>") || bytes_eq word (codes "<clinit>"))
     (is_field_name word) e) [
-  | inl special ↦ elim (or_cases (bytes_eq word (codes "<init>")) (bytes_eq word (codes "<clinit>")) special) [
-    | inl one ↦ spelled_so (λ w. none_is (λ b. b == k) w ≡ true) word (codes "<init>") one init
-    | inr two ↦ spelled_so (λ w. none_is (λ b. b == k) w ≡ true) word (codes "<clinit>") two clinit
-  ]
-  | inr plain ↦ none_in_field k word f g plain
-]
+      | inl special ↦ elim (or_cases (bytes_eq word (codes "<init>")) (bytes_eq word (codes "<clinit>")) special) [
+        | inl one ↦ spelled_so (λ w. none_is (λ b. b == k) w ≡ true) word (codes "<init>") one init
+        | inr two ↦ spelled_so (λ w. none_is (λ b. b == k) w ≡ true) word (codes "<clinit>") two clinit
+      ]
+      | inr plain ↦ none_in_field k word f g plain
+    ]
 
 -- ---- descriptors after names
 
 -- a method's descriptor begins with a parenthesis
 begins_so : (descriptor : List ℕ) → fits_units (arguments_of descriptor) ≡ true → (bs : List ℕ) × (descriptor ≡ 40 ∷ bs)
 begins_so [] e = absurd cc
-begins_so (b ∷ bs) e = elim (cases_eq b 40) [ inl same ↦ (bs, ap (λ c. c ∷ bs) same) |
-    inr other ↦ absurd (none (rw (ne_eqb b 40 other) at e)) ]
+begins_so (b ∷ bs) e = elim (cases_eq b 40) [
+  | inl same ↦ (bs, ap (λ c. c ∷ bs) same)
+  | inr other ↦ absurd (none (rw (ne_eqb b 40 other) at e))
+]
   where
     none : false ≡ true → ⊥
     none e = cc
@@ -194,14 +198,14 @@ method_back m e =
     let two = and_parts (is_method_name m.name) (fits_units (arguments_of m.descriptor)) one.1 in
     let path = m.class ++ (47 ∷ m.name) in
     let none = all_joined (λ b. not (b == 40)) m.class (47 ∷ m.name) (none_in_class m.class one.0)
-          (none_in_method 40 m.name refl refl refl refl two.0) in
+    (none_in_method 40 m.name refl refl refl refl two.0) in
     let whole : method_word m ≡ path ++ m.descriptor = sym (append_assoc m.class (47 ∷ m.name) m.descriptor) in
     let slash = none_in_method 47 m.name refl refl refl refl two.0 in
     ap method_named whole
     ∙ ap₂ (λ p d. member_spelled (class_in p) (name_in p) d (arguments_of d)) (before_back path m.descriptor none two.1)
-        (from_back path m.descriptor none two.1)
+    (from_back path m.descriptor none two.1)
     ∙ ap₂ (λ c n. member_spelled c n m.descriptor (arguments_of m.descriptor)) (class_back m.class m.name slash)
-        (name_back m.class m.name slash)
+    (name_back m.class m.name slash)
     ∙ units_back m (arguments_of m.descriptor) one.0 two.0 two.1
 
 pub field_back : (m : Member) → field_is_named m ≡ true → field_named (field_path m) m.descriptor ≡ Some m

@@ -36,11 +36,11 @@ module _ (pool : List Entry) where
   stands pc (x ∷ items) bytes s =
       let begins = s.1 in
       let next : x.next ≡ pc + size_at pc (listed pool x.instruction) = begins.next
-            ∙ ap (λ (n : ℕ). pc + n) (sym (listed_size pool pc x.instruction)) in
+      ∙ ap (λ (n : ℕ). pc + n) (sym (listed_size pool pc x.instruction)) in
       and_from (x.pc == pc && x.next == pc + size_at pc (listed pool x.instruction))
-          (stand_from x.next (map (placed pool) items))
+      (stand_from x.next (map (placed pool) items))
       (and_from (x.pc == pc) (x.next == pc + size_at pc (listed pool x.instruction)) (eq-eqb x.pc pc begins.at)
-          (eq-eqb x.next (pc + size_at pc (listed pool x.instruction)) next))
+      (eq-eqb x.next (pc + size_at pc (listed pool x.instruction)) next))
       (stands x.next items s.0 s.2)
 
   ends : (pc : ℕ) (items : List Located) (bytes : List ℕ) → StandFrom pc items bytes
@@ -48,14 +48,21 @@ module _ (pool : List Entry) where
   ends pc [] bytes s = omega (arith, ap (λ (b : List ℕ). length b) s)
   ends pc (x ∷ items) bytes s =
       let begins = s.1 in
-      omega (arith, ends x.next items s.0 s.2, begins.next, ap (λ (b : List ℕ). length b) begins.bytes_are,
-          length-append (spelling pc x.instruction) s.0)
+      omega (
+        arith,
+        ends x.next items s.0 s.2,
+        begins.next,
+        ap (λ (b : List ℕ). length b) begins.bytes_are,
+        length-append (spelling pc x.instruction) s.0,
+      )
 
   pub each_fits : (pc : ℕ) (items : List Located) (bytes : List ℕ) → StandFrom pc items bytes
       → AllByRecursion (λ x. Fits x.pc x.instruction) items
   each_fits pc [] bytes s = tt
-  each_fits pc (x ∷ items) bytes s = (subst (λ (n : ℕ). Fits n x.instruction) (sym s.1.at) s.1.fits,
-      each_fits x.next items s.0 s.2)
+  each_fits pc (x ∷ items) bytes s = (
+    subst (λ (n : ℕ). Fits n x.instruction) (sym s.1.at) s.1.fits,
+    each_fits x.next items s.0 s.2,
+  )
 
   -- ---- and name one another
 
@@ -99,18 +106,18 @@ module _ (pool : List Entry) where
         → AllByRecursion (λ x. Fits x.pc x.instruction) rest → AllByRecursion (λ x. is_sound pool x.instruction ≡ true)
         rest
         → AllByRecursion (λ x. AllByRecursion (IsPc items) (bytecode.targets x.instruction)) rest
-            → list_all (λ p. operand_is_sayable p.instruction) (map (placed pool) rest) ≡ true
-            → list_all (instruction_is_spelled ps) (map (placed pool) rest) ≡ true
+        → list_all (λ p. operand_is_sayable p.instruction) (map (placed pool) rest) ≡ true
+        → list_all (instruction_is_spelled ps) (map (placed pool) rest) ≡ true
     instructions_spelled [] entries sound fits kinds land say = refl
     instructions_spelled (x ∷ rest) entries sound fits kinds land say =
         let says = and_parts (operand_is_sayable (listed pool x.instruction))
-              (list_all (λ p. operand_is_sayable p.instruction) (map (placed pool) rest)) say in
+        (list_all (λ p. operand_is_sayable p.instruction) (map (placed pool) rest)) say in
         and_from (instruction_is_spelled ps (placed pool x))
-            (list_all (instruction_is_spelled ps) (map (placed pool) rest))
+        (list_all (instruction_is_spelled ps) (map (placed pool) rest))
         (and_from (operands_are_spelled (listed pool x.instruction))
-            (list_all (is_pc ps) (targets (listed pool x.instruction)))
+        (list_all (is_pc ps) (targets (listed pool x.instruction)))
         (operands_spelled pool x.pc x.instruction entries sound fits.0 kinds.0 says.0)
-            (targets_are x.instruction land.0))
+        (targets_are x.instruction land.0))
         (instructions_spelled rest entries sound fits.1 kinds.1 land.1 says.1)
 
   all_agree : (items : List Located) → AllByRecursion (λ x. Fits x.pc x.instruction) items
@@ -135,17 +142,17 @@ module _ (pool : List Entry) where
       let ps = map (placed pool) c.instructions in
       let rows = map (listed_row pool) c.rows in
       let says = and_parts (list_all (λ p. operand_is_sayable p.instruction) ps) (list_all (row_is_spelled ps) rows) say
-            in
+      in
       let one = is_u2 c.max_stack && is_u2 c.max_locals in
       let two = one && stand_from 0 ps in
       let three = two && list_all (instruction_is_spelled ps) ps in
       and_from three (list_all (row_is_spelled ps) rows)
       (and_from two (list_all (instruction_is_spelled ps) ps)
       (and_from one (stand_from 0 ps) (and_from (is_u2 c.max_stack) (is_u2 c.max_locals)
-          (two_bytes c.max_stack s.stack_fits) (two_bytes c.max_locals s.locals_fit))
-          (stands 0 c.instructions s.code s.is_code.stand))
+      (two_bytes c.max_stack s.stack_fits) (two_bytes c.max_locals s.locals_fit))
+      (stands 0 c.instructions s.code s.is_code.stand))
       (instructions_spelled c.instructions c.instructions entries sound
-          (each_fits 0 c.instructions s.code s.is_code.stand) s.sound s.is_code.land says.0))
+      (each_fits 0 c.instructions s.code s.is_code.stand) s.sound s.is_code.land says.0))
       says.1
 
   pub code_made : (info : List ℕ) (c : CodePart) → SpellsCode pool info c → code_assembles (listed_code pool c) ≡ true
@@ -154,13 +161,13 @@ module _ (pool : List Entry) where
       let fits = each_fits 0 c.instructions s.code s.is_code.stand in
       let size : end_from 0 ps ≡ length s.code = ends 0 c.instructions s.code s.is_code.stand ∙ omega arith in
       let right : size_is_right (end_from 0 ps) ≡ true = ap size_is_right size
-            ∙ and_from (nat_le 1 (length s.code)) (nat_le (length s.code) 65535)
-            (le-leb 1 (length s.code) s.is_code.some) (le-leb (length s.code) 65535 s.is_code.few) in
+      ∙ and_from (nat_le 1 (length s.code)) (nat_le (length s.code) 65535)
+      (le-leb 1 (length s.code) s.is_code.some) (le-leb (length s.code) 65535 s.is_code.few) in
       let switches = list_all (λ p. switch_agrees p.instruction) ps in
       let ways = list_all (λ p. reaches p.pc p.instruction) ps in
       let rows : length (map (listed_row pool) c.rows) ≡ length c.rows = length-map c.rows (listed_row pool) in
       and_from (switches && size_is_right (end_from 0 ps) && ways)
-          (is_countable (length (map (listed_row pool) c.rows)))
+      (is_countable (length (map (listed_row pool) c.rows)))
       (and_from (switches && size_is_right (end_from 0 ps)) ways (and_from switches (size_is_right (end_from 0 ps))
-          (all_agree c.instructions fits) right) (all_near c.instructions fits))
+      (all_agree c.instructions fits) right) (all_near c.instructions fits))
       (ap is_countable rows ∙ two_bytes (length c.rows) s.rows_few)

@@ -45,7 +45,7 @@ operand_is (instruction.Class op c) h = refl
 operand_is (instruction.Invoke how m) h =
     let both = and_parts (count_is_spelled how) (method_is_named m) h in
     and_from (is_class_name m.class) (count_is_sayable how)
-        (and_parts (is_class_name m.class) (is_method m.name m.descriptor) both.1).0 (count_is how both.0)
+    (and_parts (is_class_name m.class) (is_method m.name m.descriptor) both.1).0 (count_is how both.0)
 operand_is instruction.Throw h = refl
 operand_is (instruction.Monitor op) h = refl
 
@@ -56,8 +56,8 @@ code_is c h =
     let two = and_parts _ (list_all (instruction_is_spelled ps) ps) one.0 in
     and_from (list_all (λ p. operand_is_sayable p.instruction) ps) (list_all (row_is_spelled ps) c.rows)
     (all_from (instruction_is_spelled ps) (λ (p : Placed). operand_is_sayable p.instruction)
-        (λ p g. operand_is p.instruction (and_parts (operands_are_spelled p.instruction)
-        (list_all (is_pc ps) (targets p.instruction)) g).0) ps two.1)
+    (λ p g. operand_is p.instruction (and_parts (operands_are_spelled p.instruction)
+    (list_all (is_pc ps) (targets p.instruction)) g).0) ps two.1)
     one.1
 
 body_is : (wanted : Bool) (o : Option CodeListing) → body_is_spelled wanted o ≡ true → body_is_sayable o ≡ true

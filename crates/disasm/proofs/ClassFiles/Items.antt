@@ -66,26 +66,43 @@ entry_takes pool (NameAndType name descriptor) = refl
 
 entries_take : (pool es : List Entry) → sum_by numbers_taken (map (item_of pool) es) ≡ sum_by numbers_of es
 entries_take pool [] = refl
-entries_take pool (e ∷ es) = omega (arith, sum_by-cons numbers_taken (item_of pool e) (map (item_of pool) es),
-    sum_by-cons numbers_of e es, entry_takes pool e, entries_take pool es)
+entries_take pool (e ∷ es) = omega (
+  arith,
+  sum_by-cons numbers_taken (item_of pool e) (map (item_of pool) es),
+  sum_by-cons numbers_of e es,
+  entry_takes pool e,
+  entries_take pool es,
+)
 
 one_more : (items : List Item) (x : Item) → items_count (with_item items x) ≤ items_count items + numbers_taken x
 one_more items x = elim (cases_Bool (is_item_of items x)) [
   | inl t ↦ omega (arith, ap items_count (item_known items x t))
-  | inr f ↦ omega (arith, ap items_count (item_new items x f), sum_by-append numbers_taken items (x ∷ []),
-      sum_by-cons numbers_taken x [])
+  | inr f ↦ omega (
+    arith,
+    ap items_count (item_new items x f),
+    sum_by-append numbers_taken items (x ∷ []),
+    sum_by-cons numbers_taken x [],
+  )
 ]
 
 each_once : (items xs : List Item) → items_count (with_items items xs) ≤ items_count items + sum_by numbers_taken xs
 each_once items [] = omega arith
-each_once items (x ∷ xs) = omega (arith, one_more items x, each_once (with_item items x) xs,
-    sum_by-cons numbers_taken x xs)
+each_once items (x ∷ xs) = omega (
+  arith,
+  one_more items x,
+  each_once (with_item items x) xs,
+  sum_by-cons numbers_taken x xs,
+)
 
 -- what all stands in a pool takes no more than the pool
 pub no_larger : (pool : List Entry) (xs : List Item) → are_items_of (items_of pool) xs ≡ true
     → items_count (with_items [] xs) ≤ pool_count pool
-no_larger pool xs all = omega (arith, count_is_less xs (items_of pool) all, each_once [] (items_of pool),
-    entries_take pool pool)
+no_larger pool xs all = omega (
+  arith,
+  count_is_less xs (items_of pool) all,
+  each_once [] (items_of pool),
+  entries_take pool pool,
+)
 
 -- ---- what parts of a class file name
 
@@ -154,11 +171,11 @@ module _ (pool : List Entry) where
   call_said : (how : Invocation) (n : ℕ) → AreSound pool → is_sound_invocation pool how n ≡ true
       → AreSaid (call_items how (member_at pool n))
   call_said invocation.Virtual n sound kind = let u = method_under pool n sound kind
-                                                    in member_said is_method _ (member_at pool n) u.0 u.1
+      in member_said is_method _ (member_at pool n) u.0 u.1
   call_said invocation.Special n sound kind = let u = method_under pool n sound kind
-                                                    in member_said is_method _ (member_at pool n) u.0 u.1
+      in member_said is_method _ (member_at pool n) u.0 u.1
   call_said invocation.Static n sound kind = let u = method_under pool n sound kind
-                                                   in member_said is_method _ (member_at pool n) u.0 u.1
+      in member_said is_method _ (member_at pool n) u.0 u.1
   call_said (invocation.Interface count) n sound
       kind = let u = interface_under pool n sound kind in member_said is_method _ (member_at pool n) u.0 u.1
 
@@ -191,7 +208,7 @@ module _ (pool : List Entry) where
   instructions_said [] entries sound kinds = refl
   instructions_said (x ∷ items) entries sound kinds =
       both_said (instruction_items (listed pool x.instruction)) (flat_map placed_items (map (placed pool) items))
-          (instruction_said x.instruction entries sound kinds.0) (instructions_said items entries sound kinds.1)
+      (instruction_said x.instruction entries sound kinds.0) (instructions_said items entries sound kinds.1)
 
   caught_said : (n : ℕ) (none : Bool) → AreSound pool → (none || has_tag pool 7 n) ≡ true
       → AreSaid (catch_items (if none then None else Some (class_at pool n)))
@@ -203,7 +220,7 @@ module _ (pool : List Entry) where
   rows_said [] sound fit = refl
   rows_said (r ∷ rows) sound fit =
       both_said (row_items (listed_row pool r)) (flat_map row_items (map (listed_row pool) rows))
-          (caught_said r.class (r.class == 0) sound fit.0.kind) (rows_said rows sound fit.1)
+      (caught_said r.class (r.class == 0) sound fit.0.kind) (rows_said rows sound fit.1)
 
   -- a text that is known
   known_said : (test : List ℕ → Bool) (text : List ℕ) (n : ℕ) → ((other : List ℕ) → test other ≡ true → other ≡ text)
@@ -220,18 +237,18 @@ module _ (pool : List Entry) where
       let instructions = flat_map placed_items (map (placed pool) c.instructions) in
       let rows = flat_map row_items (map (listed_row pool) c.rows) in
       more_said (text_item (codes "Code")) (instructions ++ rows) (known_said is_code_name (codes "Code") c.name
-          (λ t h. (bytes_eq-Decides t (codes "Code")).0 h) stand.1.named)
+      (λ t h. (bytes_eq-Decides t (codes "Code")).0 h) stand.1.named)
       (both_said instructions rows (instructions_said c.instructions entries sound s.sound)
-          (rows_said c.rows sound s.rows_fit))
+      (rows_said c.rows sound s.rows_fit))
 
   method_said : (class : ℕ) (m : MethodPart) → AllByRecursion EntryFits pool → AreSound pool → MethodStands pool class m
       → AreSaid (method_items (listed_method pool m))
   method_said class m entries sound stand =
       let named = text_under is_method_name pool m.name stand.name_is in
       let typed = text_under (λ text. units_fit (has m.flags.0 0x0008) (arguments_of text)) pool m.descriptor
-            stand.descriptor_is in
+      stand.descriptor_is in
       more_said (text_item (name_at pool m.name)) (text_item (name_at pool m.descriptor)
-          ∷ code_items (option_map (listed_code pool) m.code)) named.said
+      ∷ code_items (option_map (listed_code pool) m.code)) named.said
       (more_said (text_item (name_at pool m.descriptor)) (code_items (option_map (listed_code pool) m.code)) typed.said
       (body_said (wants_code m.flags.0) m.code entries sound (standing_code pool class m stand)))
 
@@ -240,7 +257,7 @@ module _ (pool : List Entry) where
   methods_said class [] entries sound all = refl
   methods_said class (m ∷ ms) entries sound all =
       both_said (method_items (listed_method pool m)) (flat_map method_items (map (listed_method pool) ms))
-          (method_said class m entries sound all.0) (methods_said class ms entries sound all.1)
+      (method_said class m entries sound all.0) (methods_said class ms entries sound all.1)
 
   -- ---- fields
 
@@ -264,10 +281,10 @@ module _ (pool : List Entry) where
   value_said static type None h = refl
   value_said static type (Some c) h =
       let parts = and_parts (passes (is_constant_value static) (text_at pool c.name))
-            (is_value_of type (entry_at pool c.value)) h in
+      (is_value_of type (entry_at pool c.value)) h in
       let name = known_said (is_constant_value static) (codes "ConstantValue") c.name
-            (λ t g. (bytes_eq-Decides t (codes "ConstantValue")).0
-            (and_parts static (bytes_eq t (codes "ConstantValue")) g).1) parts.0 in
+      (λ t g. (bytes_eq-Decides t (codes "ConstantValue")).0
+      (and_parts static (bytes_eq t (codes "ConstantValue")) g).1) parts.0 in
       entry_said type c.value (entry_at pool c.value) refl name parts.1
 
   field_said : (class : ℕ) (f : FieldEntry) → FieldStands pool class f → AreSaid (field_items (listed_field pool f))
@@ -275,13 +292,13 @@ module _ (pool : List Entry) where
       let static = has f.flags.0 0x0008 in
       let value = option_and_then (λ (c : ConstantValue). value_of (entry_at pool c.value)) f.constant in
       let one = and_parts _ (passes (is_type pool static f.constant) (text_at pool f.descriptor))
-            (standing_field pool class f stand) in
+      (standing_field pool class f stand) in
       let named = text_under is_field_name pool f.name stand.name_is in
       let typed = text_under (is_type pool static f.constant) pool f.descriptor one.1 in
       more_said (text_item (name_at pool f.name)) (text_item (name_at pool f.descriptor) ∷ value_items value) named.said
       (more_said (text_item (name_at pool f.descriptor)) (value_items value) typed.said
       (value_said static (name_at pool f.descriptor) f.constant
-          (and_parts _ (is_constant pool static (name_at pool f.descriptor) f.constant) typed.good).1))
+      (and_parts _ (is_constant pool static (name_at pool f.descriptor) f.constant) typed.good).1))
 
   pub fields_said : (class : ℕ) (fs : List FieldEntry) → AllByRecursion (FieldStands pool class) fs
       → AreSaid (flat_map field_items (map (listed_field pool) fs))

@@ -37,7 +37,7 @@ module _ (pool : List Entry) where
   classes_spelled [] sound all = refl
   classes_spelled (n ∷ ns) sound all =
       and_from (is_class_name (class_at pool n)) (list_all is_class_name (map (class_at pool) ns))
-          (plain_under pool n sound all.0.1).0 (classes_spelled ns sound all.1)
+      (plain_under pool n sound all.0.1).0 (classes_spelled ns sound all.1)
 
   methods_spelled : (class plain : ℕ) (ms : List MethodPart) → has plain 0x0200 ≡ has class 0x0200
       → AllByRecursion EntryFits pool → AreSound pool → AllByRecursion (MethodStands pool class) ms
@@ -46,11 +46,11 @@ module _ (pool : List Entry) where
   methods_spelled class plain [] same entries sound all say = refl
   methods_spelled class plain (m ∷ ms) same entries sound all say =
       let says = and_parts (body_is_sayable (option_map (listed_code pool) m.code))
-            (list_all method_is_sayable (map (listed_method pool) ms)) say in
+      (list_all method_is_sayable (map (listed_method pool) ms)) say in
       and_from (method_is_spelled plain (listed_method pool m))
-          (list_all (method_is_spelled plain) (map (listed_method pool) ms))
+      (list_all (method_is_spelled plain) (map (listed_method pool) ms))
       (method_spelled pool class plain m same entries sound all.0 says.0) (methods_spelled class plain ms same entries
-          sound all.1 says.1)
+      sound all.1 says.1)
 
   codes_stand : (class : ℕ) (ms : List MethodPart) → AllByRecursion (MethodStands pool class) ms
       → AllByRecursion (λ m. CodesStand pool (wants_code m.flags.0) m.code) ms
@@ -67,7 +67,7 @@ module _ (pool : List Entry) where
   methods_made class [] all = refl
   methods_made class (m ∷ ms) all =
       and_from (method_assembles (listed_method pool m)) (list_all method_assembles (map (listed_method pool) ms))
-          (body_made (wants_code m.flags.0) m.code (standing_code pool class m all.0)) (methods_made class ms all.1)
+      (body_made (wants_code m.flags.0) m.code (standing_code pool class m all.0)) (methods_made class ms all.1)
 
 -- a class file's listing is one that a text spells, but for what no text can say
 pub file_is_spelled : (c : ClassPart) → IsClass c → is_sayable (listing_of c) ≡ true → is_spelled (listing_of c) ≡ true
@@ -117,9 +117,9 @@ file_said c is =
     let methods = flat_map method_items l.methods in
     let interfaces = flat_map class_items l.interfaces in
     both_said pool (class_items l.name) (class_items l.superclass ++ (interfaces ++ (fields ++ methods)))
-        (plain_said pool c.head.class sound h.class)
+    (plain_said pool c.head.class sound h.class)
     (both_said pool (class_items l.superclass) (interfaces ++ (fields ++ methods))
-        (plain_said pool c.head.superclass sound h.superclass)
+    (plain_said pool c.head.superclass sound h.superclass)
     (both_said pool interfaces (fields ++ methods) (plains_said pool c.head.interfaces sound h.interfaces)
     (both_said pool fields methods (fields_said pool c.head.flags.0 c.head.fields h.fields)
     (methods_said pool c.head.flags.0 c.methods entries sound (standing_methods c is).1))))
@@ -128,8 +128,11 @@ small_pool : (c : ClassPart) → IsClass c → is_countable (pool_size (listing_
 unfolding pool_size
 small_pool c is =
     le-leb (pool_size (listing_of c)) 65535
-        (omega (arith, no_larger c.head.pool (listing_items (listing_of c)) (file_said c is),
-        is.1.head_spells.pool_fits.0))
+    (omega (
+      arith,
+      no_larger c.head.pool (listing_items (listing_of c)) (file_said c is),
+      is.1.head_spells.pool_fits.0,
+    ))
 
 mapped : {A B : Type 0} (f : A → B) (xs : List A) → length xs < 2 ^ 16 → is_countable (length (map f xs)) ≡ true
 mapped f xs few = ap is_countable (length-map xs f) ∙ two_bytes (length xs) few
@@ -150,7 +153,7 @@ file_assembles c is =
     (and_from three (is_countable (length l.methods))
     (and_from two (is_countable (length l.fields))
     (and_from one (is_countable (length l.interfaces)) (methods_made pool c.head.flags.0 c.methods methods.1)
-        (mapped (class_at pool) c.head.interfaces h.few))
+    (mapped (class_at pool) c.head.interfaces h.few))
     (mapped (listed_field pool) c.head.fields h.count))
     (mapped (listed_method pool) c.methods methods.0))
     (small_pool c is)

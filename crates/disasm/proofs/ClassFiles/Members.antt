@@ -46,7 +46,7 @@ flags_still flags =
     let final : has (bit_and flags 0xffdf) 0x0010 ≡ has flags 0x0010 = without_super flags 0x0010 refl in
     let abstract : has (bit_and flags 0xffdf) 0x0400 ≡ has flags 0x0400 = without_super flags 0x0400 refl in
     let others : bit_and (bit_and flags 0xffdf) 0xf9ce ≡ bit_and flags 0xf9ce = and_assoc 0xf9ce flags 0xffdf
-          ∙ ap (bit_and flags) refl in
+    ∙ ap (bit_and flags) refl in
     rw (final, abstract, others, interface_still flags) refl
 
 no_super : (flags : ℕ) → not (has (bit_and flags 0xffdf) 0x0020) ≡ true
@@ -63,7 +63,7 @@ head_spelled flags superclass fits agree say =
     let short : is_u2 plain ≡ true = two_bytes plain (omega (arith, fits, and_le_l flags 0xffdf)) in
     and_from (is_u2 plain && are_class_flags plain && not (has plain 0x0020)) (superclass_is_sayable plain superclass)
     (and_from (is_u2 plain && are_class_flags plain) (not (has plain 0x0020))
-        (and_from (is_u2 plain) (are_class_flags plain) short (flags_still flags ∙ agree)) (no_super flags))
+    (and_from (is_u2 plain) (are_class_flags plain) short (flags_still flags ∙ agree)) (no_super flags))
     say
 
 -- ---- fields
@@ -78,10 +78,10 @@ module _ (pool : List Entry) where
       → value_is_spelled static type (value_of o) ≡ true
   entry_spelled static type n (Some (Integer z)) at entries is kind =
       and_from (static && is_int_type type) (is_int z) (and_from static (is_int_type type) is kind)
-          (int_is z (entry_meets EntryFits pool n (Integer z) entries at))
+      (int_is z (entry_meets EntryFits pool n (Integer z) entries at))
   entry_spelled static type n (Some (Long z)) at entries is kind =
       and_from (static && is_long_type type) (is_long z) (and_from static (is_long_type type) is kind)
-          (long_is z (entry_meets EntryFits pool n (Long z) entries at))
+      (long_is z (entry_meets EntryFits pool n (Long z) entries at))
   entry_spelled static type n (Some (Utf8 text)) at entries is kind = refl
   entry_spelled static type n (Some (Class name)) at entries is kind = refl
   entry_spelled static type n (Some (Fieldref class member)) at entries is kind = refl
@@ -96,9 +96,9 @@ module _ (pool : List Entry) where
   value_spelled static type None entries h = refl
   value_spelled static type (Some c) entries h =
       let parts = and_parts (passes (is_constant_value static) (text_at pool c.name))
-            (is_value_of type (entry_at pool c.value)) h in
+      (is_value_of type (entry_at pool c.value)) h in
       entry_spelled static type c.value (entry_at pool c.value) refl entries
-          (is_static static (text_at pool c.name) parts.0) parts.1
+      (is_static static (text_at pool c.name) parts.0) parts.1
 
   pub field_spelled : (class plain : ℕ) (f : FieldEntry) → has plain 0x0200 ≡ has class 0x0200
       → AllByRecursion EntryFits pool → FieldStands pool class f → field_is_spelled plain (listed_field pool f) ≡ true
@@ -109,18 +109,18 @@ module _ (pool : List Entry) where
       let type = name_at pool f.descriptor in
       let value = option_and_then (λ (c : ConstantValue). value_of (entry_at pool c.value)) f.constant in
       let one = and_parts (are_field_flags class f.flags.0 && passes is_field_name (text_at pool f.name))
-            (passes (is_type pool static f.constant) (text_at pool f.descriptor)) is in
+      (passes (is_type pool static f.constant) (text_at pool f.descriptor)) is in
       let two = and_parts (are_field_flags class f.flags.0) (passes is_field_name (text_at pool f.name)) one.0 in
       let named = text_under is_field_name pool f.name two.1 in
       let typed = text_under (is_type pool static f.constant) pool f.descriptor one.1 in
       let both = and_parts (is_field_descriptor type) (is_constant pool static type f.constant) typed.good in
       let agree : are_field_flags plain f.flags.0 ≡ true = rw same two.0 in
       and_from (is_u2 f.flags.0 && are_field_flags plain f.flags.0 && is_field_name name && is_field_descriptor type)
-          (value_is_spelled static type value)
+      (value_is_spelled static type value)
       (and_from (is_u2 f.flags.0 && are_field_flags plain f.flags.0 && is_field_name name) (is_field_descriptor type)
       (and_from (is_u2 f.flags.0 && are_field_flags plain f.flags.0) (is_field_name name)
-          (and_from (is_u2 f.flags.0) (are_field_flags plain f.flags.0) (two_bytes f.flags.0 stand.flags_fit) agree)
-          named.good)
+      (and_from (is_u2 f.flags.0) (are_field_flags plain f.flags.0) (two_bytes f.flags.0 stand.flags_fit) agree)
+      named.good)
       both.0)
       (value_spelled static type f.constant entries both.1)
 
@@ -130,8 +130,8 @@ module _ (pool : List Entry) where
   fields_spelled class plain [] same entries all = refl
   fields_spelled class plain (f ∷ fs) same entries all =
       and_from (field_is_spelled plain (listed_field pool f))
-          (list_all (field_is_spelled plain) (map (listed_field pool) fs)) (field_spelled class plain f same entries
-          all.0) (fields_spelled class plain fs same entries all.1)
+      (list_all (field_is_spelled plain) (map (listed_field pool) fs)) (field_spelled class plain f same entries
+      all.0) (fields_spelled class plain fs same entries all.1)
 
   -- ---- methods
 
@@ -154,12 +154,12 @@ module _ (pool : List Entry) where
       let typed = text_under (λ text. units_fit static (arguments_of text)) pool m.descriptor stand.descriptor_is in
       let agree : are_method_flags plain m.flags.0 ≡ true = rw same stand.flags_agree in
       and_from (is_u2 m.flags.0 && are_method_flags plain m.flags.0 && is_method_name name
-          && units_fit static (arguments_of type))
-          (body_is_spelled (wants_code m.flags.0) (option_map (listed_code pool) m.code))
+      && units_fit static (arguments_of type))
+      (body_is_spelled (wants_code m.flags.0) (option_map (listed_code pool) m.code))
       (and_from (is_u2 m.flags.0 && are_method_flags plain m.flags.0 && is_method_name name)
-          (units_fit static (arguments_of type))
+      (units_fit static (arguments_of type))
       (and_from (is_u2 m.flags.0 && are_method_flags plain m.flags.0) (is_method_name name)
-          (and_from (is_u2 m.flags.0) (are_method_flags plain m.flags.0) (two_bytes m.flags.0 stand.flags_fit) agree)
-          named.good)
+      (and_from (is_u2 m.flags.0) (are_method_flags plain m.flags.0) (two_bytes m.flags.0 stand.flags_fit) agree)
+      named.good)
       typed.good)
       (body_spelled (wants_code m.flags.0) m.code entries sound (standing_code pool class m stand) say)

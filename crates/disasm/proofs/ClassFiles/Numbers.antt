@@ -73,7 +73,7 @@ few_pass p (z ∷ zs) ks each =
     elim (cases_Bool (p z)) [
       | inl t ↦
           let there : is_among ks z ≡ true = each z (or_left (int_eq z z) (is_among zs z) ((Decides-int_eq z z).1 refl))
-                t in
+          t in
           let rest = few_pass both zs (filter other ks) (λ y h good.
           let parts = and_parts (other y) (p y) good in
           let apart : int_eq z y ≡ false = unequal (int_eq z y) parts.0 in
@@ -81,7 +81,7 @@ few_pass p (z ∷ zs) ks each =
           rw t (omega (arith, rest, twice, one_gone z ks there))
       | inr f ↦
           let rest = few_pass both zs ks (λ y h good. each y (or_right (int_eq z y) (is_among zs y) h)
-                (and_parts (other y) (p y) good).1) in
+          (and_parts (other y) (p y) good).1) in
           rw f (omega (arith, rest, twice))
     ]
   where
@@ -103,8 +103,11 @@ among_all ks (z ∷ zs) y all h =
     ]
 
 few_different : (ks zs : List ℤ) → list_all (is_among ks) zs ≡ true → length (different zs) ≤ length ks
-few_different ks zs all = omega (arith, few_pass (λ y. true) zs ks (λ y h good. among_all ks zs y all h),
-    ap (λ (ys : List ℤ). length ys) (all_pass (different zs)))
+few_different ks zs all = omega (
+  arith,
+  few_pass (λ y. true) zs ks (λ y h good. among_all ks zs y all h),
+  ap (λ (ys : List ℤ). length ys) (all_pass (different zs)),
+)
 
 -- ---- the ints under numbers of one byte
 
@@ -133,8 +136,12 @@ slot_has_one None = omega arith
 
 slots_have : (slots : List (Option Entry)) → length (flat_map int_slot slots) ≤ length slots
 slots_have [] = omega arith
-slots_have (s ∷ slots) = omega (arith, length-append (int_slot s) (flat_map int_slot slots), slot_has_one s,
-    slots_have slots)
+slots_have (s ∷ slots) = omega (
+  arith,
+  length-append (int_slot s) (flat_map int_slot slots),
+  slot_has_one s,
+  slots_have slots,
+)
 
 among_after : (xs ys : List ℤ) (z : ℤ) → is_among ys z ≡ true → is_among (xs ++ ys) z ≡ true
 among_after [] ys z h = h
@@ -148,7 +155,7 @@ in_slots (s ∷ slots) zero i z below h = absurd (omega (arith, below))
 in_slots (s ∷ slots) (suc k) zero z below h =
     let is : s ≡ Some (Integer z) = cc in
     ap (λ (o : Option Entry). is_among (int_slot o ++ flat_map int_slot (take k slots)) z) is
-        ∙ or_left (int_eq z z) (is_among (flat_map int_slot (take k slots)) z) ((Decides-int_eq z z).1 refl)
+    ∙ or_left (int_eq z z) (is_among (flat_map int_slot (take k slots)) z) ((Decides-int_eq z z).1 refl)
 in_slots (s ∷ slots) (suc k) (suc i) z below h =
     among_after (int_slot s) (flat_map int_slot (take k slots)) z (in_slots slots k i z (omega (arith, below)) h)
 
@@ -183,7 +190,7 @@ module _ (pool : List Entry) where
   constant_is_small (constant.Int Narrow n) fits kind =
       let t = int_tag (entry_at pool n) kind in
       and_from (IsSmall (int_of (entry_at pool n))) true (ap (λ (o : Option Entry). IsSmall (int_of o)) t.1 ∙
-          int_is_small n t.0 fits t.1) refl
+      int_is_small n t.0 fits t.1) refl
   constant_is_small (constant.Int Wide n) fits kind = refl
   constant_is_small (constant.Long n) fits kind = refl
 
@@ -212,7 +219,7 @@ module _ (pool : List Entry) where
   numbers_are_small [] fits kinds = refl
   numbers_are_small (x ∷ items) fits kinds =
       all_joined IsSmall (narrow_number (listed pool x.instruction)) (flat_map (λ p. narrow_number p.instruction)
-          (map (placed pool) items))
+      (map (placed pool) items))
       (number_is_small x.pc x.instruction fits.0 kinds.0) (numbers_are_small items fits.1 kinds.1)
 
   body_is_small : (wanted : Bool) (o : Option CodePart) → CodesStand pool wanted o
@@ -227,7 +234,7 @@ module _ (pool : List Entry) where
   methods_are_small [] all = refl
   methods_are_small (m ∷ ms) all =
       all_joined IsSmall (numbers_of_code (option_map (listed_code pool) m.code))
-          (ldc_numbers (map (listed_method pool) ms))
+      (ldc_numbers (map (listed_method pool) ms))
       (body_is_small (wants_code m.flags.0) m.code all.0) (methods_are_small ms all.1)
 
   pub few_numbers : (ms : List MethodPart) → AllByRecursion (λ m. CodesStand pool (wants_code m.flags.0) m.code) ms
@@ -235,4 +242,4 @@ module _ (pool : List Entry) where
   few_numbers ms all =
       let numbers = ldc_numbers (map (listed_method pool) ms) in
       le-leb (length (different numbers)) 255
-          (omega (arith, few_different (small_ints pool) numbers (methods_are_small ms all), few_ints pool))
+      (omega (arith, few_different (small_ints pool) numbers (methods_are_small ms all), few_ints pool))

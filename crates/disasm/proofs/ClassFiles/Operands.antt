@@ -102,17 +102,19 @@ pub int_under : (pool : List Entry) (n : ℕ) → AllByRecursion EntryFits pool 
     → (is_int (int_of (entry_at pool n)) ≡ true) × IsSaid pool (int_item (int_of (entry_at pool n)))
 int_under pool n fits h =
     let t = int_tag (entry_at pool n) h in
-    let same : int_of (entry_at pool n) ≡ t.0 = ap int_of t.1 in
-    (ap is_int same ∙ int_is t.0 (entry_meets EntryFits pool n (Integer t.0) fits t.1),
-        ap (λ (z : ℤ). is_item_of (items_of pool) (int_item z)) same ∙ is_said pool n (Integer t.0) t.1)
+    let same : int_of (entry_at pool n) ≡ t.0 = ap int_of t.1 in (
+      ap is_int same ∙ int_is t.0 (entry_meets EntryFits pool n (Integer t.0) fits t.1),
+      ap (λ (z : ℤ). is_item_of (items_of pool) (int_item z)) same ∙ is_said pool n (Integer t.0) t.1,
+    )
 
 pub long_under : (pool : List Entry) (n : ℕ) → AllByRecursion EntryFits pool → has_tag pool 5 n ≡ true
     → (is_long (long_of (entry_at pool n)) ≡ true) × IsSaid pool (long_item (long_of (entry_at pool n)))
 long_under pool n fits h =
     let t = long_tag (entry_at pool n) h in
-    let same : long_of (entry_at pool n) ≡ t.0 = ap long_of t.1 in
-    (ap is_long same ∙ long_is t.0 (entry_meets EntryFits pool n (Long t.0) fits t.1),
-        ap (λ (z : ℤ). is_item_of (items_of pool) (long_item z)) same ∙ is_said pool n (Long t.0) t.1)
+    let same : long_of (entry_at pool n) ≡ t.0 = ap long_of t.1 in (
+      ap is_long same ∙ long_is t.0 (entry_meets EntryFits pool n (Long t.0) fits t.1),
+      ap (λ (z : ℤ). is_item_of (items_of pool) (long_item z)) same ∙ is_said pool n (Long t.0) t.1,
+    )
 
 pub field_under : (pool : List Entry) (n : ℕ) → AreSound pool → has_tag pool 9 n ≡ true
     → MemberUnder is_field pool (member_at pool n) × IsSaid pool (field_item (member_at pool n))
@@ -230,7 +232,7 @@ operands_spelled pool pc (instruction.Invoke how n) entries sound fits kind say 
     let m = member_at pool n in
     let both = and_parts (is_class_name m.class) (count_is_sayable how) say in
     and_from (count_is_spelled how) (method_is_named m) (count_spelled how n fits both.1)
-        (and_from (is_class_name m.class) (is_method m.name m.descriptor) both.0 (method_is pool how n sound kind))
+    (and_from (is_class_name m.class) (is_method m.name m.descriptor) both.0 (method_is pool how n sound kind))
 operands_spelled pool pc instruction.Throw entries sound fits kind say = refl
 operands_spelled pool pc (instruction.Monitor op) entries sound fits kind say = refl
 

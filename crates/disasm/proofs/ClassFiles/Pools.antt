@@ -146,7 +146,7 @@ pub class_under : (pool : List Entry) (n : ℕ) → AreSound pool → has_tag po
 class_under pool n sound h =
     let c = class_tag (entry_at pool n) h in
     let named : class_at pool n ≡ name_at pool c.0 = ap (λ (o : Option Entry). name_at pool (unwrap_or (class_of o) 0))
-          c.1 in
+    c.1 in
     let t = class_text (text_at pool c.0) (entry_meets (λ e. entry_fault pool e ≡ None) pool n (Class c.0) sound c.1) in
     record {
       good = ap names_class named ∙ t.1;
@@ -168,8 +168,10 @@ plain_number pool (Some k) h = (passed is_class_name (text_at pool k) h).1
 -- the number of a class that is no array
 pub plain_under : (pool : List Entry) (n : ℕ) → AreSound pool → is_class pool n ≡ true
     → (is_class_name (class_at pool n) ≡ true) × ClassUnder pool n
-plain_under pool n sound h = (plain_number pool (class_of (entry_at pool n)) h,
-    class_under pool n sound (class_number pool (entry_at pool n) h))
+plain_under pool n sound h = (
+  plain_number pool (class_of (entry_at pool n)) h,
+  class_under pool n sound (class_number pool (entry_at pool n) h),
+)
 
 -- ---- members
 
@@ -185,7 +187,7 @@ pub record MemberUnder (test : List ℕ → List ℕ → Bool) (pool : List Entr
 abbrev Named : List Entry → (List ℕ → List ℕ → Bool) → Option ℕ → Option (ℕ × ℕ) → Type 0
 Named pool test class pair =
     (k : ℕ) × (p : ℕ × ℕ) × (class ≡ Some k) × (pair ≡ Some p) × (texts_fault test (text_at pool p.0) (text_at pool p.1)
-        ≡ None)
+    ≡ None)
 
 faultless : (pool : List Entry) (test : List ℕ → List ℕ → Bool) (class : Option ℕ) (pair : Option (ℕ × ℕ))
     → member_fault pool test class pair ≡ None → Named pool test class pair
@@ -217,13 +219,13 @@ member_under test pool class member sound h =
     let two = pair_kind (entry_at pool member) p f.3 in
     let c = class_under pool class sound (ap (λ (o : Option Entry). eqb (tag_of o) 7) owner) in
     let t = pair_texts (text_at pool p.0) (text_at pool p.1) (entry_meets (λ e. entry_fault pool e ≡ None) pool member
-          (NameAndType p.0 p.1) sound two) in
+    (NameAndType p.0 p.1) sound two) in
     let same : unwrap_or (name_and_type_of (entry_at pool member)) (0, 0)
-          ≡ p = ap (λ (o : Option (ℕ × ℕ)). unwrap_or o (0, 0)) f.3 in
+    ≡ p = ap (λ (o : Option (ℕ × ℕ)). unwrap_or o (0, 0)) f.3 in
     let name : name_at pool (unwrap_or (name_and_type_of (entry_at pool member)) (0, 0)).0
-          ≡ name_at pool p.0 = ap (λ (x : ℕ × ℕ). name_at pool x.0) same in
+    ≡ name_at pool p.0 = ap (λ (x : ℕ × ℕ). name_at pool x.0) same in
     let type : name_at pool (unwrap_or (name_and_type_of (entry_at pool member)) (0, 0)).1
-          ≡ name_at pool p.1 = ap (λ (x : ℕ × ℕ). name_at pool x.1) same in
+    ≡ name_at pool p.1 = ap (λ (x : ℕ × ℕ). name_at pool x.1) same in
     record {
       good = ap (λ (x : ℕ × ℕ). test (name_at pool x.0) (name_at pool x.1)) same
           ∙ member_texts test (name_at pool p.0) (name_at pool p.1) (text_at pool p.0) (text_at pool p.1) t.0 t.1 f.4;

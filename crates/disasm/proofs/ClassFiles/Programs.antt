@@ -134,10 +134,10 @@ module _ (program : List ClassListing) (named : are_named program ≡ true) wher
   no_field : (m : Member) → class_named program m.class ≡ None → resolved_field program m ≡ None
   no_field m e =
       ap (λ (steps : ℕ). first_declared program (field_of m.name m.descriptor)
-          (flat_map (λ class. class ∷ superinterfaces program class) (upwards steps program m.class))) enough
+      (flat_map (λ class. class ∷ superinterfaces program class) (upwards steps program m.class))) enough
       ∙ ap (λ (names : List (List ℕ)). first_declared program (field_of m.name m.descriptor)
-          (flat_map (λ class. class ∷ superinterfaces program class) names))
-          (nothing_above (length program + 22) m.class e)
+      (flat_map (λ class. class ∷ superinterfaces program class) names))
+      (nothing_above (length program + 22) m.class e)
 
   field_there : (m : Member) (o : Option ClassListing) → class_named program m.class ≡ o
       → is_some (resolved_field program m) ≡ true → is_class_name m.class ≡ true
@@ -165,26 +165,26 @@ module _ (program : List ClassListing) (named : are_named program ≡ true) wher
   call_is invocation.Virtual m h =
       let one = and_parts (names_class program m && not (is_initializer m.name)) (finds_instance program m) h in
       and_from (is_class_name m.class) true
-          (class_there m.class (and_parts (names_class program m) (not (is_initializer m.name)) one.0).0) refl
+      (class_there m.class (and_parts (names_class program m) (not (is_initializer m.name)) one.0).0) refl
   call_is invocation.Special m h =
       let one = and_parts (names_class program m && not (bytes_eq m.name (codes "<clinit>"))) (finds_instance program m)
-            h in
+      h in
       and_from (is_class_name m.class) true
-          (class_there m.class (and_parts (names_class program m) (not (bytes_eq m.name (codes "<clinit>"))) one.0).0)
-          refl
+      (class_there m.class (and_parts (names_class program m) (not (bytes_eq m.name (codes "<clinit>"))) one.0).0)
+      refl
   call_is invocation.Static m h =
       let one = and_parts (names_class program m && not (is_initializer m.name)) _ h in
       and_from (is_class_name m.class) true
-          (class_there m.class (and_parts (names_class program m) (not (is_initializer m.name)) one.0).0) refl
+      (class_there m.class (and_parts (names_class program m) (not (is_initializer m.name)) one.0).0) refl
   call_is (invocation.Interface count) m h =
       let found = is_interface_found (class_named program m.class) in
       let three = and_parts (found && not (is_initializer m.name) && finds_instance program m)
-            (count == argument_units m.descriptor + 1) h in
+      (count == argument_units m.descriptor + 1) h in
       let two = and_parts (found && not (is_initializer m.name)) (finds_instance program m) three.0 in
       let one = and_parts found (not (is_initializer m.name)) two.0 in
       let number = eqb-true count (argument_units m.descriptor + 1) three.1 in
       and_from (is_class_name m.class) (nat_le 1 count) (interface_there m.class one.0)
-          (le-leb 1 count (omega (arith, number)))
+      (le-leb 1 count (omega (arith, number)))
 
   operand_is : (i : Listed) → resolves program i ≡ true → operand_is_sayable i ≡ true
   operand_is instruction.Nop h = refl
@@ -222,17 +222,17 @@ module _ (program : List ClassListing) (named : are_named program ≡ true) wher
       within steps k = elim (or_cases (bytes_eq name (codes "java/lang/Throwable"))
           (list_any (λ parent. is_within steps program parent (codes "java/lang/Throwable"))
           (parents_named program name)) k) [
-        | inl same ↦ ap is_class_name ((bytes_eq-Decides name (codes "java/lang/Throwable")).0 same) ∙ refl
-        | inr below ↦ there name (parents (λ parent. is_within steps program parent (codes "java/lang/Throwable"))
-            (class_named program name) below)
-      ]
+            | inl same ↦ ap is_class_name ((bytes_eq-Decides name (codes "java/lang/Throwable")).0 same) ∙ refl
+            | inr below ↦ there name (parents (λ parent. is_within steps program parent (codes "java/lang/Throwable"))
+                (class_named program name) below)
+          ]
 
   catch_is : (o : Option (List ℕ)) → is_no_throwable program o ≡ false → catch_is_plain o ≡ true → catch_is_spelled o
       ≡ true
   catch_is None h plain = refl
   catch_is (Some name) h plain =
       and_from (is_class_name name) (not (bytes_eq name (codes "all")))
-          (throwable_there name (reported_true (is_subclass program name (codes "java/lang/Throwable")) h)) plain
+      (throwable_there name (reported_true (is_subclass program name (codes "java/lang/Throwable")) h)) plain
 
   last_end : (p : Placed) (ps : List Placed) → end_of (slice_get (p ∷ ps) (length ps)) ≡ end_from p.next ps
   last_end p [] = refl
@@ -243,7 +243,7 @@ module _ (program : List ClassListing) (named : are_named program ≡ true) wher
   length_is c (p ∷ ps) e =
       let at : length (p ∷ ps) - 1 ≡ length ps = omega arith in
       ap (λ (xs : List Placed). end_of (slice_get xs (length xs - 1))) e ∙ ap (λ (n : ℕ). end_of (slice_get (p ∷ ps) n))
-          at ∙ last_end p ps
+      at ∙ last_end p ps
 
   bound_is : (c : CodeListing) (n : ℕ) → (is_instruction c n || n == code_length c) ≡ true → is_bound c.instructions n
       ≡ true
@@ -252,7 +252,7 @@ module _ (program : List ClassListing) (named : are_named program ≡ true) wher
     | inr last ↦
         or_right (is_pc c.instructions n) (end_from 0 c.instructions == n)
         (eq-eqb (end_from 0 c.instructions) n (sym (length_is c c.instructions refl)
-            ∙ sym (eqb-true n (code_length c) last)))
+        ∙ sym (eqb-true n (code_length c) last)))
   ]
 
   row_is : (c : CodeListing) (r : ExceptionRow) → not (is_bad_row program c r) ≡ true → catch_is_plain r.class ≡ true
@@ -263,14 +263,14 @@ module _ (program : List ClassListing) (named : are_named program ≡ true) wher
       let two = one && is_instruction c r.handler in
       let last = is_instruction c r.end || r.end == code_length c in
       let parts = or_parts (not (two && last)) (is_no_throwable program r.class)
-            (reported_false (is_bad_row program c r) h) in
+      (reported_false (is_bad_row program c r) h) in
       let bounds = and_parts two last (reported_true (two && last) parts.0) in
       let handled = and_parts one (is_instruction c r.handler) bounds.0 in
       let begun = and_parts (nat_lt r.start r.end) (is_instruction c r.start) handled.0 in
       and_from (is_bound ps r.start && is_bound ps r.end && is_pc ps r.handler) (catch_is_spelled r.class)
       (and_from (is_bound ps r.start && is_bound ps r.end) (is_pc ps r.handler)
       (and_from (is_bound ps r.start) (is_bound ps r.end) (or_left (is_pc ps r.start) (end_from 0 ps == r.start)
-          begun.1) (bound_is c r.end bounds.1))
+      begun.1) (bound_is c r.end bounds.1))
       handled.1)
       (catch_is r.class parts.1 plain)
 
@@ -285,14 +285,14 @@ module _ (program : List ClassListing) (named : are_named program ≡ true) wher
   code_is c names rows plain =
       let ps = c.instructions in
       let found = or_parts (list_any (λ (i : Placed). not (resolves program i.instruction)) ps)
-            (list_any (λ (r : ExceptionRow). not (catch_resolves program r.class)) c.rows) names in
+      (list_any (λ (r : ExceptionRow). not (catch_resolves program r.class)) c.rows) names in
       let each = none_any (λ (i : Placed). not (resolves program i.instruction)) ps found.0 in
       and_from (list_all (λ p. operand_is_sayable p.instruction) ps) (list_all (row_is_spelled ps) c.rows)
       (all_both (λ (i : Placed). not (not (resolves program i.instruction)))
-          (λ (i : Placed). not (not (resolves program i.instruction)))
-          (λ (p : Placed). operand_is_sayable p.instruction) (λ i h k. resolved i h) ps each each)
+      (λ (i : Placed). not (not (resolves program i.instruction)))
+      (λ (p : Placed). operand_is_sayable p.instruction) (λ i h k. resolved i h) ps each each)
       (all_both (λ (r : ExceptionRow). not (is_bad_row program c r)) (λ (r : ExceptionRow). catch_is_plain r.class)
-          (row_is_spelled ps) (row_is c) c.rows (none_any (is_bad_row program c) c.rows rows) plain)
+      (row_is_spelled ps) (row_is c) c.rows (none_any (is_bad_row program c) c.rows rows) plain)
 
   body_is : (o : Option CodeListing) → is_unresolved_in program o ≡ false → has_bad_row_in program o ≡ false
       → body_is_plain o ≡ true → body_is_sayable o ≡ true
@@ -308,16 +308,16 @@ module _ (program : List ClassListing) (named : are_named program ≡ true) wher
       let b = or_parts (has_bad_row_in program m.code) (list_any (λ k. has_bad_row_in program k.code) ms) rows in
       let c = and_parts (body_is_plain m.code) (list_all (λ k. body_is_plain k.code) ms) plain in
       and_from (method_is_sayable m) (list_all method_is_sayable ms) (body_is m.code a.0 b.0 c.0)
-          (methods_are ms a.1 b.1 c.1)
+      (methods_are ms a.1 b.1 c.1)
 
   pub class_is_sayable : (l : ClassListing) → has_unresolved program l ≡ false → has_bad_row program l ≡ false
       → is_plain l ≡ true → is_sayable l ≡ true
   unfolding has_unresolved has_bad_row is_plain is_sayable
   class_is_sayable l names rows plain =
       let parts = and_parts (superclass_is_sayable l.flags.0 l.superclass)
-            (list_all (λ m. body_is_plain m.code) l.methods) plain in
+      (list_all (λ m. body_is_plain m.code) l.methods) plain in
       and_from (superclass_is_sayable l.flags.0 l.superclass) (list_all method_is_sayable l.methods) parts.0
-          (methods_are l.methods names rows parts.1)
+      (methods_are l.methods names rows parts.1)
 
   -- ---- programs
 
@@ -370,4 +370,4 @@ module _ (program : List ClassListing) (named : are_named program ≡ true) wher
       let h = both_none (refused_by UnresolvedReference (find (has_unresolved program) program)) rows g.1 in
       let i = both_none (refused_by BadExceptionRow (find (has_bad_row program) program)) limits h.1 in
       each_is_sayable program (nobody UnresolvedReference (has_unresolved program) program h.0)
-          (nobody BadExceptionRow (has_bad_row program) program i.0) plain
+      (nobody BadExceptionRow (has_bad_row program) program i.0) plain

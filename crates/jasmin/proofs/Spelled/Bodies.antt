@@ -50,31 +50,31 @@ limit_fits : (words : List (List ℕ)) → IfSome (limit_of words) PartFits
 limit_fits [] = tt
 limit_fits (word ∷ words) =
     of_test PartFits (bytes_eq word (codes "stack"))
-        (option_map stack_limit (option_and_then (natural_to 65535) (only words)))
+    (option_map stack_limit (option_and_then (natural_to 65535) (only words)))
     (if bytes_eq word (codes "locals") then option_map locals_limit (option_and_then (natural_to 65535) (only words))
-        else None)
+    else None)
     (λ t. of_map PartFits stack_limit (option_and_then (natural_to 65535) (only words))
-        (of_any (λ n. is_u2 n ≡ true) (natural_to 65535) (only words) (natural_fits 65535)))
+    (of_any (λ n. is_u2 n ≡ true) (natural_to 65535) (only words) (natural_fits 65535)))
     (λ f. of_test PartFits (bytes_eq word (codes "locals"))
-        (option_map locals_limit (option_and_then (natural_to 65535) (only words))) None
+    (option_map locals_limit (option_and_then (natural_to 65535) (only words))) None
     (λ t. of_map PartFits locals_limit (option_and_then (natural_to 65535) (only words))
-        (of_any (λ n. is_u2 n ≡ true) (natural_to 65535) (only words) (natural_fits 65535)))
+    (of_any (λ n. is_u2 n ≡ true) (natural_to 65535) (only words) (natural_fits 65535)))
     (λ g. tt))
 
 catch_class_fits : (word : List ℕ) → IfSome (catch_class word) (λ c. catch_is_spelled c ≡ true)
 catch_class_fits word =
     of_test (λ c. catch_is_spelled c ≡ true) (bytes_eq word (codes "all")) (Some None)
-        (option_map Some (class_named word))
+    (option_map Some (class_named word))
     (λ t. refl)
     (λ f. of_map (λ c. catch_is_spelled c ≡ true) Some (class_named word)
     (of_if (λ c. catch_is_spelled (Some c) ≡ true) (is_class_name word) word
-        (λ t. and_true (is_class_name word) (not (bytes_eq word (codes "all"))) t (rw f refl))))
+    (λ t. and_true (is_class_name word) (not (bytes_eq word (codes "all"))) t (rw f refl))))
 
 catch_fits : (words : List (List ℕ)) → IfSome (catch_of words) RowFits
 catch_fits (class ∷ from ∷ start ∷ to ∷ end ∷ using ∷ handler ∷ []) =
     of_test RowFits
     (bytes_eq from (codes "from") && bytes_eq to (codes "to") && bytes_eq using (codes "using") && is_part start
-        && is_part end && is_part handler)
+    && is_part end && is_part handler)
     (option_map (row_with start end handler) (catch_class class)) None
     (λ t. of_map RowFits (row_with start end handler) (catch_class class) (catch_class_fits class))
     (λ f. tt)
@@ -92,14 +92,14 @@ said_fits (word ∷ words) =
     of_test SayingFits (bytes_eq word (codes ".limit")) (option_map part (limit_of words)) _
     (λ t. of_map SayingFits part (limit_of words) (limit_fits words))
     (λ f. of_test SayingFits (bytes_eq word (codes ".catch")) (option_map (λ row. part (catch_row row))
-        (catch_of words)) _
+    (catch_of words)) _
     (λ t. of_map SayingFits (λ row. part (catch_row row)) (catch_of words) (catch_fits words))
     (λ f. of_test SayingFits (bytes_eq word (codes "tableswitch")) (option_map opens (table_begins words)) _
     (λ t. of_map SayingFits opens (table_begins words) (table_fits words))
     (λ f. of_test SayingFits (bytes_eq word (codes "lookupswitch")) (option_map opens (lookup_begins words)) _
     (λ t. of_map SayingFits opens (lookup_begins words) (lookup_fits words))
     (λ f. of_map SayingFits (λ line. part (code_line line)) (line_of (label_of word) word words)
-        (text_line_fits (label_of word) word words)))))
+    (text_line_fits (label_of word) word words)))))
 
 said_in_fits : (line : SwitchLine) → SwitchLineFits line → SayingFits (said_in line)
 said_in_fits (goes_on s) h = h
@@ -117,11 +117,11 @@ saying_fits (Some switch) s h =
 
 by_fits : (said : Option Saying) (rest : Option Switch → Option (List Part)) → IfSome said SayingFits
     → ((current : Option Switch) → IfSome current SwitchFits → IfSome (rest current) (AllByRecursion PartFits))
-        → IfSome (parts_by said rest) (AllByRecursion PartFits)
+    → IfSome (parts_by said rest) (AllByRecursion PartFits)
 by_fits None rest h k = tt
 by_fits (Some (part p)) rest h k =
     of_map (AllByRecursion PartFits) (λ parts. p ∷ parts) (rest None)
-        (IfSome_then (rest None) (k None tt) (λ parts all. (h, all)))
+    (IfSome_then (rest None) (k None tt) (λ parts all. (h, all)))
 by_fits (Some (opens s)) rest h k = k (Some s) h
 
 parts_fit : (ss : List Statement) (current : Option Switch) → IfSome current SwitchFits
@@ -195,5 +195,5 @@ body_fits ss =
     of_then BodyFits agreeing (option_and_then body_of_parts (parts_from ss None))
     (IfSome_then (option_and_then body_of_parts (parts_from ss None))
     (of_then PartsFit body_of_parts (parts_from ss None) (IfSome_then (parts_from ss None) (parts_fit ss None tt)
-        of_parts_fits))
+    of_parts_fits))
     agreeing_fits)

@@ -54,23 +54,23 @@ tree_is_spelled t h =
     let methods = map (method_listing (narrow_numbers t.methods)) t.methods in
     let a = and_true (head_is_spelled class t.superclass) (is_class_name t.name) h.head h.name in
     let b = and_true (head_is_spelled class t.superclass && is_class_name t.name) (is_class_name t.superclass) a
-          h.superclass in
+    h.superclass in
     let c = and_true (head_is_spelled class t.superclass && is_class_name t.name && is_class_name t.superclass)
-          (list_all is_class_name t.interfaces) b h.interfaces in
+    (list_all is_class_name t.interfaces) b h.interfaces in
     let d = and_true (head_is_spelled class t.superclass && is_class_name t.name && is_class_name t.superclass
-          && list_all is_class_name t.interfaces)
+    && list_all is_class_name t.interfaces)
     (list_all (field_is_spelled class) t.fields) c h.fields in
     let e = and_true
     (head_is_spelled class t.superclass && is_class_name t.name && is_class_name t.superclass
-        && list_all is_class_name t.interfaces && list_all (field_is_spelled class) t.fields)
+    && list_all is_class_name t.interfaces && list_all (field_is_spelled class) t.fields)
     (list_all (method_is_spelled class) methods) d (methods_spelled class (narrow_numbers t.methods) t.methods
-        h.methods) in
+    h.methods) in
     and_true
     (head_is_spelled class t.superclass && is_class_name t.name && is_class_name t.superclass
-        && list_all is_class_name t.interfaces && list_all (field_is_spelled class) t.fields
+    && list_all is_class_name t.interfaces && list_all (field_is_spelled class) t.fields
     && list_all (method_is_spelled class) methods)
     (nat_le (length (different (ldc_numbers methods))) 255) e (at_most (length (different (ldc_numbers methods)))
-        (few_numbers t.methods))
+    (few_numbers t.methods))
 
 -- ---- the head of a class or of an interface
 
@@ -91,8 +91,10 @@ class_head_fits None h = tt
 class_head_fits (Some (flags, name)) h =
     let bits = both_true (is_u2 flags) (bit_and flags 0xfbee == 0) h in
     let none = same_from (bit_and flags 0xfbee) 0 bits.1 in
-    of_if HeadFits (is_class_name name && class_flags_agree flags) (record { flags = record { 0 = flags };
-        name = name })
+    of_if HeadFits (is_class_name name && class_flags_agree flags) (record {
+      flags = record { 0 = flags };
+      name = name;
+    })
     (λ t.
     let parts = both_true (is_class_name name) (class_flags_agree flags) t in
     record {
@@ -102,7 +104,7 @@ class_head_fits (Some (flags, name)) h =
           (and_true (bit_and flags 0xf9ce == 0) (not (has flags 0x0200) || has flags 0x0400)
           (ap (λ n. n == 0) (part_of_none flags 0xfbee 0xf9ce refl none refl))
           (or_left (not (has flags 0x0200)) (has flags 0x0400)
-              (ap not (other_bits flags 0xfbee 0x0200 none refl refl))))
+          (ap not (other_bits flags 0xfbee 0x0200 none refl refl))))
           parts.1;
       no_super = other_bits flags 0xfbee 0x0020 none refl refl;
       name = parts.0;
@@ -116,9 +118,9 @@ interface_flags_fit : (flags : ℕ) → bit_and flags 0xfffe ≡ 0 → are_class
 interface_flags_fit flags none =
     let all = bit_or flags 0x0600 in
     let abstract_set : has all 0x0400 ≡ true = ap (λ n. not (n == 0)) (sym (and_assoc 0x0400 all 0x0600)
-          ∙ ap (λ n. bit_and n 0x0400) (and_or_self 0x0600 flags)) in
+    ∙ ap (λ n. bit_and n 0x0400) (and_or_self 0x0600 flags)) in
     let final_not : has all 0x0010 ≡ false = none_has all 0x0010 (and_or_apart 0x0010 flags 0x0600 refl
-          ∙ part_of_none flags 0xfffe 0x0010 refl none refl) in
+    ∙ part_of_none flags 0xfffe 0x0010 refl none refl) in
     and_true (bit_and all 0xf9ce == 0 && (not (has all 0x0200) || has all 0x0400)) (class_flags_agree all)
     (and_true (bit_and all 0xf9ce == 0) (not (has all 0x0200) || has all 0x0400)
     (ap (λ n. n == 0) (and_or_apart 0xf9ce flags 0x0600 refl ∙ part_of_none flags 0xfffe 0xf9ce refl none refl))
@@ -148,9 +150,9 @@ head_fits (Some (word ∷ words)) =
     (if bytes_eq word (codes ".interface") then interface_head (flags_and_word interface_flags words) else None)
     (λ t. class_head_fits (flags_and_word class_flags words) (flags_lack 0xfbee class_flags refl words refl refl))
     (λ f. of_test HeadFits (bytes_eq word (codes ".interface")) (interface_head (flags_and_word interface_flags words))
-        None
+    None
     (λ t. interface_head_fits (flags_and_word interface_flags words) (flags_lack 0xfffe
-        interface_flags refl words refl refl))
+    interface_flags refl words refl refl))
     (λ g. tt))
 
 -- ---- what it extends
@@ -163,15 +165,15 @@ SuperFits class name = (is_class_name name && (not (has class 0x0200) || bytes_e
 super_fits : (class : ClassFlags) (s : Statement) → IfSome (super_of class s) (SuperFits class.0)
 super_fits class s =
     of_any (SuperFits class.0) (λ words. option_and_then (superclass_named class.0) (only words))
-        (following (codes ".super") s)
+    (following (codes ".super") s)
     (λ words. of_any (SuperFits class.0) (superclass_named class.0) (only words)
     (λ name. of_if (SuperFits class.0) (is_class_name name
-        && (not (has class.0 0x0200) || bytes_eq name (codes "java/lang/Object"))) name (λ t. t)))
+    && (not (has class.0 0x0200) || bytes_eq name (codes "java/lang/Object"))) name (λ t. t)))
 
 interface_fits : (s : Statement) → IfSome (interface_of s) (λ c. is_class_name c ≡ true)
 interface_fits s =
     of_any (λ c. is_class_name c ≡ true) (λ words. option_and_then class_named (only words))
-        (following (codes ".implements") s)
+    (following (codes ".implements") s)
     (λ words. of_any (λ c. is_class_name c ≡ true) class_named (only words) class_fits)
 
 interfaces_fit : (ss : List Statement) → IfSome (interfaces_of ss) (AllByRecursion (λ c. is_class_name c ≡ true))
@@ -182,14 +184,14 @@ interfaces_fit ss = of_all (λ c. is_class_name c ≡ true) interface_of (led_by
 with_members : (head : ClassHead) (super : List ℕ) (is : Option (List (List ℕ))) (fs : Option (List Field))
     (ms : Option (List MethodTree)) → HeadFits head → SuperFits head.flags.0 super
     → IfSome is (AllByRecursion (λ c. is_class_name c ≡ true)) → IfSome fs (AllByRecursion (FieldFits head.flags.0))
-        → IfSome ms (AllByRecursion (MethodFits head.flags.0))
+    → IfSome ms (AllByRecursion (MethodFits head.flags.0))
     → IfSome (tree_with head super is fs ms) TreeFits
 with_members head super None fs ms h s i f m = tt
 with_members head super (Some is) None ms h s i f m = tt
 with_members head super (Some is) (Some fs) None h s i f m = tt
 with_members head super (Some is) (Some fs) (Some ms) h s i f m =
     let parts = both_true (is_class_name super) (not (has head.flags.0 0x0200)
-          || bytes_eq super (codes "java/lang/Object")) s in
+    || bytes_eq super (codes "java/lang/Object")) s in
     record {
       head = and_true (is_u2 head.flags.0 && are_class_flags head.flags.0 && not (has head.flags.0 0x0020))
           (not (has head.flags.0 0x0200) || bytes_eq super (codes "java/lang/Object"))
@@ -210,7 +212,7 @@ members_fit head (Some super) ss h s =
     let after_interfaces = after_led (codes ".implements") ss in
     let methods = after_led (codes ".field") after_interfaces in
     with_members head super (interfaces_of ss) (fields_of head.flags after_interfaces) (methods_of head.flags methods) h
-        s
+    s
     (interfaces_fit ss) (fields_fit head.flags after_interfaces) (methods_fit head.flags methods)
 
 under_fits : (head : Option ClassHead) (ss : List Statement) → IfSome head HeadFits

@@ -41,9 +41,9 @@ module _ (ps : List Placed) (f : List ℕ → ℕ) (labels : List (List ℕ × �
   pairs_land [] h = refl
   pairs_land (pair ∷ pairs) h =
       let parts = both_true (leads_on labels count pair.1) (list_all (leads_on labels count) (map (λ p. p.1) pairs)) h
-            in
+      in
       and_true (is_pc ps (f pair.1))
-          (list_all (is_pc ps) (map (λ (p : ℤ × ℕ). p.1) (map (λ (p : ℤ × List ℕ). (p.0, f p.1)) pairs)))
+      (list_all (is_pc ps) (map (λ (p : ℤ × ℕ). p.1) (map (λ (p : ℤ × List ℕ). (p.0, f p.1)) pairs)))
       (step pair.1 parts.0) (pairs_land pairs parts.1)
 
   and_last : (pcs : List ℕ) (pc : ℕ) → list_all (is_pc ps) pcs ≡ true → is_pc ps pc ≡ true
@@ -64,9 +64,9 @@ module _ (ps : List Placed) (f : List ℕ → ℕ) (labels : List (List ℕ × �
       and_last (map f t.targets) (f t.default) (names_land t.targets parts.1) (step t.default parts.0)
   targets_land (LookupSwitch l) h =
       let parts = both_true (leads_on labels count l.default)
-            (list_all (leads_on labels count) (map (λ p. p.1) l.pairs)) h in
+      (list_all (leads_on labels count) (map (λ p. p.1) l.pairs)) h in
       and_last (map (λ (p : ℤ × ℕ). p.1) (map (λ (p : ℤ × List ℕ). (p.0, f p.1)) l.pairs)) (f l.default)
-          (pairs_land l.pairs parts.1) (step l.default parts.0)
+      (pairs_land l.pairs parts.1) (step l.default parts.0)
   targets_land (Return kind) h = refl
   targets_land (Static a m) h = refl
   targets_land (Field a m) h = refl
@@ -83,21 +83,21 @@ module _ (ps : List Placed) (f : List ℕ → ℕ) (labels : List (List ℕ × �
   placed_fit pc (line.Label l ∷ lines) all h = placed_fit pc lines all.1 h
   placed_fit pc (line.Instruction i ∷ lines) all h =
       let parts = both_true (list_all (leads_on labels count) (targets_of i))
-            (list_all (line_agrees labels count) lines) h in
+      (list_all (line_agrees labels count) lines) h in
       and_true (operands_are_spelled (with_targets f i) && list_all (is_pc ps) (targets (with_targets f i)))
-          (list_all (instruction_is_spelled ps) (placed_from f (pc + size_at pc i) lines))
+      (list_all (instruction_is_spelled ps) (placed_from f (pc + size_at pc i) lines))
       (and_true (operands_are_spelled (with_targets f i)) (list_all (is_pc ps) (targets (with_targets f i))) (all.0 f)
-          (targets_land i parts.0))
+      (targets_land i parts.0))
       (placed_fit (pc + size_at pc i) lines all.1 parts.1)
 
   row_fits : (row : CatchRow) → RowFits row → row_agrees labels count row ≡ true → row_is_spelled ps (row_with f row)
       ≡ true
   row_fits row h agree =
       let outer = both_true (is_given labels row.start && is_given labels row.end) (leads_on labels count row.handler)
-            agree in
+      agree in
       let inner = both_true (is_given labels row.start) (is_given labels row.end) outer.0 in
       and_true (is_bound ps (f row.start) && is_bound ps (f row.end) && is_pc ps (f row.handler))
-          (catch_is_spelled row.class)
+      (catch_is_spelled row.class)
       (and_true (is_bound ps (f row.start) && is_bound ps (f row.end)) (is_pc ps (f row.handler))
       (and_true (is_bound ps (f row.start)) (is_bound ps (f row.end)) (bound row.start inner.0) (bound row.end inner.1))
       (step row.handler outer.1))
@@ -109,7 +109,7 @@ module _ (ps : List Placed) (f : List ℕ → ℕ) (labels : List (List ℕ × �
   rows_fit (row ∷ rows) all h =
       let parts = both_true (row_agrees labels count row) (list_all (row_agrees labels count) rows) h in
       and_true (row_is_spelled ps (row_with f row)) (list_all (row_is_spelled ps) (map (row_with f) rows))
-          (row_fits row all.0 parts.0) (rows_fit rows all.1 parts.1)
+      (row_fits row all.0 parts.0) (rows_fit rows all.1 parts.1)
 
 code_fits : (body : Body) (lines : List TextLine) → PartsFit body → AllByRecursion LineFits lines
     → labels_agree body.rows lines ≡ true → code_is_spelled (code_with body lines) ≡ true
@@ -120,23 +120,23 @@ code_fits body lines parts all agree =
     let labels = labels_in lines in
     let count = count_in lines in
     let step : (name : List ℕ) → leads_on labels count name ≡ true → is_pc ps (f name)
-          ≡ true = λ name h. at_pc f 0 0 lines name h in
+    ≡ true = λ name h. at_pc f 0 0 lines name h in
     let bound : (name : List ℕ) → is_given labels name ≡ true → is_bound ps (f name)
-          ≡ true = λ name h. at_bound f 0 0 lines name h in
+    ≡ true = λ name h. at_bound f 0 0 lines name h in
     let outer = both_true (are_different labels && list_all (line_agrees labels count) lines)
-          (list_all (row_agrees labels count) body.rows) agree in
+    (list_all (row_agrees labels count) body.rows) agree in
     let inner = both_true (are_different labels) (list_all (line_agrees labels count) lines) outer.0 in
     and_true
     (is_u2 body.max_stack && is_u2 body.max_locals && stand_from 0 ps && list_all (instruction_is_spelled ps) ps)
     (list_all (row_is_spelled ps) (map (row_with f) body.rows))
     (and_true (is_u2 body.max_stack && is_u2 body.max_locals && stand_from 0 ps)
-        (list_all (instruction_is_spelled ps) ps)
+    (list_all (instruction_is_spelled ps) ps)
     (and_true (is_u2 body.max_stack && is_u2 body.max_locals) (stand_from 0 ps)
-        (and_true (is_u2 body.max_stack) (is_u2 body.max_locals) parts.stack parts.locals) (placed_stand f 0 lines))
+    (and_true (is_u2 body.max_stack) (is_u2 body.max_locals) parts.stack parts.locals) (placed_stand f 0 lines))
     (placed_fit ps f labels count step bound 0 lines all inner.1))
     (rows_fit ps f labels count step bound body.rows parts.rows outer.1)
 
 pub body_is_code : (narrow : List ℤ) (body : Body) → BodyFits body → code_is_spelled (code_listing narrow body) ≡ true
 body_is_code narrow body h =
     code_fits body (map (widened_line narrow) body.lines) h.parts (lines_kept narrow body.lines h.parts.lines)
-        (agree_kept narrow body.rows body.lines ∙ h.agree)
+    (agree_kept narrow body.rows body.lines ∙ h.agree)

@@ -52,16 +52,16 @@ value_fits static descriptor words =
     of_test (λ v. value_is_spelled static descriptor (Some v) ≡ true) (static && is_int_type descriptor)
     (option_map value.Int (only_number (negsuc 2147483647) (pos 2147483647) words))
     (if static && is_long_type descriptor
-        then option_map value.Long (only_number (negsuc 9223372036854775807) (pos 9223372036854775807) words) else None)
+    then option_map value.Long (only_number (negsuc 9223372036854775807) (pos 9223372036854775807) words) else None)
     (λ t. of_map (λ v. value_is_spelled static descriptor (Some v) ≡ true) value.Int
-        (only_number (negsuc 2147483647) (pos 2147483647) words)
+    (only_number (negsuc 2147483647) (pos 2147483647) words)
     (IfSome_then (only_number (negsuc 2147483647) (pos 2147483647) words)
-        (only_number_fits (negsuc 2147483647) (pos 2147483647) words)
+    (only_number_fits (negsuc 2147483647) (pos 2147483647) words)
     (λ z k. and_true (static && is_int_type descriptor) (is_int z) t k)))
     (λ f. of_test (λ v. value_is_spelled static descriptor (Some v) ≡ true) (static && is_long_type descriptor)
     (option_map value.Long (only_number (negsuc 9223372036854775807) (pos 9223372036854775807) words)) None
     (λ t. of_map (λ v. value_is_spelled static descriptor (Some v) ≡ true) value.Long
-        (only_number (negsuc 9223372036854775807) (pos 9223372036854775807) words)
+    (only_number (negsuc 9223372036854775807) (pos 9223372036854775807) words)
     (IfSome_then (only_number (negsuc 9223372036854775807) (pos 9223372036854775807) words)
     (only_number_fits (negsuc 9223372036854775807) (pos 9223372036854775807) words)
     (λ z k. and_true (static && is_long_type descriptor) (is_long z) t k)))
@@ -84,32 +84,32 @@ spelled_fits : (class : ℕ) (f : FieldWords) → lacks 0xff20 f.flags ≡ true
 spelled_fits class f h =
     let bits = both_true (is_u2 f.flags) (bit_and f.flags 0xff20 == 0) h in
     of_test (FieldFits class) (is_field_name f.name && is_field_descriptor f.descriptor
-        && field_flags_agree class f.flags)
+    && field_flags_agree class f.flags)
     (option_map (field_with f) (constant_of (has f.flags 0x0008) f.descriptor f.value)) None
     (λ t.
     let outer = both_true (is_field_name f.name && is_field_descriptor f.descriptor) (field_flags_agree class f.flags) t
-          in
+    in
     let inner = both_true (is_field_name f.name) (is_field_descriptor f.descriptor) outer.0 in
     let flags = and_true (is_u2 f.flags) (are_field_flags class f.flags) bits.0
-          (and_true (bit_and f.flags 0xff20 == 0) (field_flags_agree class f.flags) bits.1 outer.1) in
+    (and_true (bit_and f.flags 0xff20 == 0) (field_flags_agree class f.flags) bits.1 outer.1) in
     let name = and_true (is_u2 f.flags && are_field_flags class f.flags) (is_field_name f.name) flags inner.0 in
     let type = and_true (is_u2 f.flags && are_field_flags class f.flags && is_field_name f.name)
-          (is_field_descriptor f.descriptor) name inner.1 in
+    (is_field_descriptor f.descriptor) name inner.1 in
     of_map (FieldFits class) (field_with f) (constant_of (has f.flags 0x0008) f.descriptor f.value)
     (IfSome_then (constant_of (has f.flags 0x0008) f.descriptor f.value)
-        (constant_fits (has f.flags 0x0008) f.descriptor f.value)
+    (constant_fits (has f.flags 0x0008) f.descriptor f.value)
     (λ c k.
     and_true (is_u2 f.flags && are_field_flags class f.flags && is_field_name f.name
-        && is_field_descriptor f.descriptor)
+    && is_field_descriptor f.descriptor)
     (value_is_spelled (has f.flags 0x0008) f.descriptor c) type k)))
     (λ g. tt)
 
 field_fits : (class : ClassFlags) (s : Statement) → IfSome (field_of class s) (FieldFits class.0)
 field_fits class s =
     of_any (FieldFits class.0) (λ words. option_and_then (field_spelled class.0) (field_words words))
-        (following (codes ".field") s)
+    (following (codes ".field") s)
     (λ words. of_then (FieldFits class.0) (field_spelled class.0) (field_words words)
-        (IfSome_then (field_words words) (words_lack words) (spelled_fits class.0)))
+    (IfSome_then (field_words words) (words_lack words) (spelled_fits class.0)))
 
 pub fields_fit : (class : ClassFlags) (ss : List Statement)
     → IfSome (fields_of class ss) (AllByRecursion (FieldFits class.0))

@@ -19,8 +19,10 @@ pub same_from : (a b : ℕ) → (a == b) ≡ true → a ≡ b
 same_from a b h = elim (eqb_tells a b) [ inl t ↦ t.1 | inr f ↦ absurd (let k : true ≡ false = sym h ∙ f.0 in cc) ]
 
 pub small_from : (n : ℕ) → is_u2 n ≡ true → n < 2 ^ 16
-small_from n h = elim (leb_tells n 65535) [ inl t ↦ omega arith |
-    inr f ↦ absurd (let k : true ≡ false = sym h ∙ f.0 in cc) ]
+small_from n h = elim (leb_tells n 65535) [
+  | inl t ↦ omega arith
+  | inr f ↦ absurd (let k : true ≡ false = sym h ∙ f.0 in cc)
+]
 
 pub small_is : (n : ℕ) → n < 2 ^ 16 → is_u2 n ≡ true
 small_is n h = elim (leb_tells n 65535) [ inl t ↦ t.0 | inr f ↦ absurd (omega arith) ]
@@ -31,7 +33,7 @@ with_bit_lacks mask flags bit h k =
     let parts = both_true (is_u2 flags) (bit_and flags mask == 0) h in
     let of_bit = both_true (is_u2 bit) (bit_and bit mask == 0) k in
     let same : bit_and (bit_or flags bit) mask ≡ bit_and flags mask = and_or_apart mask flags bit
-          (same_from (bit_and bit mask) 0 of_bit.1) in
+    (same_from (bit_and bit mask) 0 of_bit.1) in
     and_true (is_u2 (bit_or flags bit)) (bit_and (bit_or flags bit) mask == 0)
     (small_is (bit_or flags bit) (or_of_16 flags bit (small_from flags parts.0) (small_from bit of_bit.0)))
     (ap (λ n. n == 0) same ∙ parts.1)
@@ -50,7 +52,7 @@ module _ (mask : ℕ) (table : List (List ℕ × ℕ)) (rows : list_all (λ row.
   flagged_lacks (Some flags) word [] h = h
   flagged_lacks (Some flags) word (next ∷ words) h =
       flagged_lacks (with_flag flags (named table word)) next words (with_flag_lacks mask flags (named table word) h
-          (in_table (lacks mask) table word rows))
+      (in_table (lacks mask) table word rows))
 
   -- the flags in front of a word
   pub flags_lack : (words : List (List ℕ)) → nat_le 0 65535 ≡ true → bit_and 0 mask ≡ 0
@@ -94,7 +96,8 @@ pub wants : (flags : ℕ) → wants_code flags ≡ not (has flags 0x0500)
 wants flags =
     neither (has flags 0x0400) (has flags 0x0100) (has flags 0x0500)
     (λ h.
-    let none = has_none flags 0x0500 h in
-    (none_has flags 0x0400 (part_of_none flags 0x0500 0x0400 refl none refl),
-        none_has flags 0x0100 (part_of_none flags 0x0500 0x0100 refl none refl)))
+    let none = has_none flags 0x0500 h in (
+      none_has flags 0x0400 (part_of_none flags 0x0500 0x0400 refl none refl),
+      none_has flags 0x0100 (part_of_none flags 0x0500 0x0100 refl none refl),
+    ))
     (λ h k. none_has flags 0x0500 (both_none flags 0x0400 0x0100 (has_none flags 0x0400 h) (has_none flags 0x0100 k)))

@@ -75,7 +75,7 @@ access_fits width «local».Increment words =
     of_map (λ a. access_is_spelled a ≡ true) access.Increment (option_and_then (increment_of width) (both words))
     (of_any (λ i. increment_is_spelled i ≡ true) (increment_of width) (both words)
     (λ p. both_fit width (natural_to 65535 p.0) (number_in (negsuc 32767) (pos 32767) p.1) (natural_fits 65535 p.0)
-        (number_fits (negsuc 32767) (pos 32767) p.1)))
+    (number_fits (negsuc 32767) (pos 32767) p.1)))
 
 -- ---- mnemonics
 
@@ -113,7 +113,7 @@ unfolding mnemonic_of stands
 mnemonic_stands word =
     in_table stands
     (constant_mnemonics ++ local_mnemonics ++ stack_mnemonics ++ number_mnemonics ++ branch_mnemonics ++ call_mnemonics
-        ++ object_mnemonics ++ array_mnemonics)
+    ++ object_mnemonics ++ array_mnemonics)
     word refl
 
 -- ---- instructions
@@ -151,24 +151,24 @@ instruction_fits (SmallLong n) words h = alone_fits (instruction.Constant (const
 instruction_fits Byte words h =
     of_map Fits (λ z. instruction.Constant (constant.Byte z)) (only_number (negsuc 127) (pos 127) words)
     (IfSome_then (only_number (negsuc 127) (pos 127) words) (only_number_fits (negsuc 127) (pos 127) words)
-        (λ z k. λ f. k))
+    (λ z k. λ f. k))
 instruction_fits Short words h =
     of_map Fits (λ z. instruction.Constant (constant.Short z)) (only_number (negsuc 32767) (pos 32767) words)
     (IfSome_then (only_number (negsuc 32767) (pos 32767) words) (only_number_fits (negsuc 32767) (pos 32767) words)
-        (λ z k. λ f. k))
+    (λ z k. λ f. k))
 instruction_fits (Int width) words h =
     of_map Fits (λ z. instruction.Constant (constant.Int width z)) (only_number (negsuc 2147483647) (pos 2147483647)
-        words)
+    words)
     (IfSome_then (only_number (negsuc 2147483647) (pos 2147483647) words)
-        (only_number_fits (negsuc 2147483647) (pos 2147483647) words) (λ z k. λ f. k))
+    (only_number_fits (negsuc 2147483647) (pos 2147483647) words) (λ z k. λ f. k))
 instruction_fits Long words h =
     of_map Fits (λ z. instruction.Constant (constant.Long z)) (only_number (negsuc 9223372036854775807)
-        (pos 9223372036854775807) words)
+    (pos 9223372036854775807) words)
     (IfSome_then (only_number (negsuc 9223372036854775807) (pos 9223372036854775807) words)
     (only_number_fits (negsuc 9223372036854775807) (pos 9223372036854775807) words) (λ z k. λ f. k))
 instruction_fits (Local m) words h =
     of_map Fits instruction.Local (local_by Narrow m words)
-        (IfSome_then (local_by Narrow m words) (access_fits Narrow m words) (λ a k. λ f. k))
+    (IfSome_then (local_by Narrow m words) (access_fits Narrow m words) (λ a k. λ f. k))
 instruction_fits (FirstLocal a) words h = alone_fits (instruction.Local a) words (λ f. h)
 instruction_fits (Stack op) words h = alone_fits (instruction.Stack op) words (λ f. refl)
 instruction_fits (Number op) words h = alone_fits (instruction.Number op) words (λ f. refl)
@@ -183,27 +183,27 @@ instruction_fits (Field a) words h = of_map Fits (λ m. instruction.Field a m) (
 instruction_fits NewArray words h =
     of_map Fits (λ p. instruction.Array (array.New p)) (option_and_then (named primitives) (only words))
     (of_each (λ p. Fits (instruction.Array (array.New p))) (option_and_then (named primitives) (only words))
-        (λ p. λ f. refl))
+    (λ p. λ f. refl))
 instruction_fits NewArrayOf words h =
     of_map Fits (λ c. instruction.Array (array.NewOf c)) (option_and_then type_named (only words))
     (of_any (λ c. Fits (instruction.Array (array.NewOf c))) type_named (only words)
-        (λ w. IfSome_then (type_named w) (type_fits w) (λ c k. λ f. k)))
+    (λ w. IfSome_then (type_named w) (type_fits w) (λ c k. λ f. k)))
 instruction_fits ArrayLength words h = alone_fits (instruction.Array array.Length) words (λ f. refl)
 instruction_fits (ArrayLoad kind) words h = alone_fits (instruction.Array (array.Load kind)) words (λ f. refl)
 instruction_fits (ArrayStore kind) words h = alone_fits (instruction.Array (array.Store kind)) words (λ f. refl)
 instruction_fits (Class op) words h =
     of_map Fits (λ c. instruction.Class op c) (option_and_then (operand_of op) (only words))
     (of_any (λ c. Fits (instruction.Class op c)) (operand_of op) (only words)
-        (λ w. IfSome_then (operand_of op w) (operand_fits op w) (λ c k. λ f. k)))
+    (λ w. IfSome_then (operand_of op w) (operand_fits op w) (λ c k. λ f. k)))
 instruction_fits (Invoke how) words h =
     of_map Fits (λ m. instruction.Invoke how m) (option_and_then method_named (only words))
     (of_any (λ m. Fits (instruction.Invoke how m)) method_named (only words)
     (λ w. IfSome_then (method_named w) (method_fits w) (λ m k. λ f. and_true (count_is_spelled how) (method_is_named m)
-        h k)))
+    h k)))
 instruction_fits InvokeInterface words h =
     of_any Fits (λ p. interface_call (method_named p.0) (number_in (pos 1) (pos 255) p.1)) (both words)
     (λ p. interface_fits (method_named p.0) (number_in (pos 1) (pos 255) p.1) (method_fits p.0)
-        (number_fits (pos 1) (pos 255) p.1))
+    (number_fits (pos 1) (pos 255) p.1))
 instruction_fits Throw words h = alone_fits instruction.Throw words (λ f. refl)
 instruction_fits (Monitor op) words h = alone_fits (instruction.Monitor op) words (λ f. refl)
 
@@ -221,7 +221,7 @@ pub words_fit : (words : List (List ℕ)) → IfSome (instruction_of words) Fits
 words_fit [] = tt
 words_fit (word ∷ words) =
     of_test Fits (bytes_eq word (codes "wide")) (wide_instruction words) (option_and_then (λ m. instruction_by m words)
-        (mnemonic_of word))
+    (mnemonic_of word))
     (λ t. wide_word_fits words)
     (λ f. of_then Fits (λ m. instruction_by m words) (mnemonic_of word)
-        (IfSome_then (mnemonic_of word) (mnemonic_stands word) (λ m k. instruction_fits m words k)))
+    (IfSome_then (mnemonic_of word) (mnemonic_stands word) (λ m k. instruction_fits m words k)))

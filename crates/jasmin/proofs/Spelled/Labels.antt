@@ -64,9 +64,9 @@ module _ (f : List ℕ → ℕ) where
   placed_stand pc (line.Label l ∷ lines) = placed_stand pc lines
   placed_stand pc (line.Instruction i ∷ lines) =
       and_true ((pc == pc) && (pc + size_at pc i) == (pc + size_at pc (with_targets f i)))
-          (stand_from (pc + size_at pc i) (placed_from f (pc + size_at pc i) lines))
+      (stand_from (pc + size_at pc i) (placed_from f (pc + size_at pc i) lines))
       (and_true (pc == pc) ((pc + size_at pc i) == (pc + size_at pc (with_targets f i))) (same_number pc)
-          (rw (same_size f pc i) (same_number (pc + size_at pc i))))
+      (rw (same_size f pc i) (same_number (pc + size_at pc i))))
       (placed_stand (pc + size_at pc i) lines)
 
   -- ---- where an instruction follows
@@ -87,7 +87,7 @@ module _ (f : List ℕ → ℕ) where
   follows_or_ends pc (line.Label l ∷ lines) = follows_or_ends pc lines
   follows_or_ends pc (line.Instruction i ∷ lines) =
       or_left ((pc == pc) || is_pc (placed_from f (pc + size_at pc i) lines) pc)
-          (end_from (pc + size_at pc i) (placed_from f (pc + size_at pc i) lines) == pc)
+      (end_from (pc + size_at pc i) (placed_from f (pc + size_at pc i) lines) == pc)
       (or_left (pc == pc) (is_pc (placed_from f (pc + size_at pc i) lines) pc) (same_number pc))
 
   -- ---- labels
@@ -103,12 +103,12 @@ module _ (f : List ℕ → ℕ) where
       ]
   at_pc n pc (line.Instruction i ∷ lines) name h =
       or_right (pc == pc_of (pc + size_at pc i) lines name) (is_pc (placed_from f (pc + size_at pc i) lines)
-          (pc_of (pc + size_at pc i) lines name))
+      (pc_of (pc + size_at pc i) lines name))
       (at_pc (n + 1) (pc + size_at pc i) lines name h)
 
   pub at_bound : (n pc : ℕ) (lines : List TextLine) (name : List ℕ) → is_some (named (labels_from n lines) name) ≡ true
       → (is_pc (placed_from f pc lines) (pc_of pc lines name)
-          || (end_from pc (placed_from f pc lines) == pc_of pc lines name)) ≡ true
+      || (end_from pc (placed_from f pc lines) == pc_of pc lines name)) ≡ true
   at_bound n pc [] name h = absurd cc
   at_bound n pc (line.Label l ∷ lines) name h =
       elim (bool_tells (bytes_eq l name)) [
@@ -117,7 +117,7 @@ module _ (f : List ℕ → ℕ) where
       ]
   at_bound n pc (line.Instruction i ∷ lines) name h =
       further (pc == pc_of (pc + size_at pc i) lines name) (is_pc (placed_from f (pc + size_at pc i) lines)
-          (pc_of (pc + size_at pc i) lines name))
+      (pc_of (pc + size_at pc i) lines name))
       (end_from (pc + size_at pc i) (placed_from f (pc + size_at pc i) lines) == pc_of (pc + size_at pc i) lines name)
       (at_bound (n + 1) (pc + size_at pc i) lines name h)
     where

@@ -40,11 +40,11 @@ spelled_fits class flags name descriptor None e h = tt
 spelled_fits class flags name descriptor (Some units) e h =
     let bits = both_true (is_u2 flags) (bit_and flags 0xfac0 == 0) h in
     of_if (HeadFits class) (is_method_name name && nat_le (units_with_object flags units) 255
-        && method_flags_agree class flags)
+    && method_flags_agree class flags)
     (record { flags = record { 0 = flags }; name = name; descriptor = descriptor })
     (λ t.
     let outer = both_true (is_method_name name && nat_le (units_with_object flags units) 255)
-          (method_flags_agree class flags) t in
+    (method_flags_agree class flags) t in
     let inner = both_true (is_method_name name) (nat_le (units_with_object flags units) 255) outer.0 in
     record {
       small = bits.0;
@@ -58,14 +58,14 @@ found_fits : (class : ℕ) (found : Option (ℕ × List ℕ)) → IfSome found (
 found_fits class None h = tt
 found_fits class (Some (flags, word)) h =
     spelled_fits class flags (before_parenthesis word) (from_parenthesis word) (arguments_of (from_parenthesis word))
-        refl h
+    refl h
 
 head_fits : (class : ClassFlags) (s : Statement) → IfSome (method_of class s) (HeadFits class.0)
 head_fits class s =
     of_any (HeadFits class.0) (λ words. method_head class.0 (flags_and_word method_flags words))
-        (following (codes ".method") s)
+    (following (codes ".method") s)
     (λ words. found_fits class.0 (flags_and_word method_flags words) (flags_lack 0xfac0 method_flags refl words refl
-        refl))
+    refl))
 
 -- ---- methods
 
@@ -75,15 +75,19 @@ MethodFits class m = (narrow : List ℤ) → method_is_spelled class (method_lis
 
 with_code : (class : ℕ) (head : MethodHead) (code : Option CodeListing) → HeadFits class head
     → body_is_spelled (wants_code head.flags.0) code ≡ true
-    → method_is_spelled class (record { flags = head.flags; name = head.name; descriptor = head.descriptor;
-        code = code }) ≡ true
+    → method_is_spelled class (record {
+      flags = head.flags;
+      name = head.name;
+      descriptor = head.descriptor;
+      code = code;
+    }) ≡ true
 with_code class head code h k =
     and_true
     (is_u2 head.flags.0 && are_method_flags class head.flags.0 && is_method_name head.name
-        && units_fit (has head.flags.0 0x0008) (arguments_of head.descriptor))
+    && units_fit (has head.flags.0 0x0008) (arguments_of head.descriptor))
     (body_is_spelled (wants_code head.flags.0) code)
     (and_true (is_u2 head.flags.0 && are_method_flags class head.flags.0 && is_method_name head.name)
-        (units_fit (has head.flags.0 0x0008) (arguments_of head.descriptor))
+    (units_fit (has head.flags.0 0x0008) (arguments_of head.descriptor))
     (and_true (is_u2 head.flags.0 && are_method_flags class head.flags.0) (is_method_name head.name)
     (and_true (is_u2 head.flags.0) (are_method_flags class head.flags.0) h.small h.flags) h.name) h.units)
     k
@@ -98,17 +102,17 @@ with_body : (class : ℕ) (head : MethodHead) → HeadFits class head → has he
 with_body class head h e body b narrow =
     with_code class head (Some (code_listing narrow body)) h
     (and_true (wants_code head.flags.0) (code_is_spelled (code_listing narrow body)) (wants head.flags.0 ∙ ap not e)
-        (body_is_code narrow body b))
+    (body_is_code narrow body b))
 
 under_fits : (class : ℕ) (head : Option MethodHead) (ss : List Statement) → IfSome head (HeadFits class)
     → IfSome (method_under head ss) (MethodFits class)
 under_fits class None ss h = tt
 under_fits class (Some head) ss h =
     of_test (MethodFits class) (has head.flags.0 0x0500) (method_without head ss)
-        (option_map (method_with head) (body_of ss))
+    (option_map (method_with head) (body_of ss))
     (without_fits class head ss h)
     (λ e. of_map (MethodFits class) (method_with head) (body_of ss) (IfSome_then (body_of ss) (body_fits ss)
-        (with_body class head h e)))
+    (with_body class head h e)))
 
 method_fits : (class : ClassFlags) (ss : List Statement) → IfSome (method_tree class ss) (MethodFits class.0)
 method_fits class [] = tt
@@ -125,5 +129,5 @@ pub methods_spelled : (class : ℕ) (narrow : List ℤ) (ms : List MethodTree) �
 methods_spelled class narrow [] all = refl
 methods_spelled class narrow (m ∷ ms) all =
     and_true (method_is_spelled class (method_listing narrow m))
-        (list_all (method_is_spelled class) (map (method_listing narrow) ms)) (all.0 narrow)
-        (methods_spelled class narrow ms all.1)
+    (list_all (method_is_spelled class) (map (method_listing narrow) ms)) (all.0 narrow)
+    (methods_spelled class narrow ms all.1)

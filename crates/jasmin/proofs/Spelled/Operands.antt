@@ -43,7 +43,7 @@ field_spelled_fits : (class name descriptor : List ℕ)
 field_spelled_fits class name descriptor =
     of_if (λ m. field_is_named m ≡ true) (is_class_name class && is_field_name name && is_field_descriptor descriptor)
     (record { class = class; name = name; descriptor = descriptor })
-        (regrouped (is_class_name class) (is_field_name name) (is_field_descriptor descriptor))
+    (regrouped (is_class_name class) (is_field_name name) (is_field_descriptor descriptor))
 
 pub field_fits : (path descriptor : List ℕ) → IfSome (field_named path descriptor) (λ m. field_is_named m ≡ true)
 field_fits path descriptor = field_spelled_fits (class_in path) (name_in path) descriptor
@@ -55,7 +55,7 @@ member_fits class name descriptor (Some units) e =
     of_if (λ m. method_is_named m ≡ true) (is_class_name class && is_method_name name && nat_le units 255)
     (record { class = class; name = name; descriptor = descriptor })
     (λ h. subst (λ a. (is_class_name class && (is_method_name name && fits_units a)) ≡ true) (sym e)
-        (regrouped (is_class_name class) (is_method_name name) (nat_le units 255) h))
+    (regrouped (is_class_name class) (is_method_name name) (nat_le units 255) h))
 
 pub method_fits : (word : List ℕ) → IfSome (method_named word) (λ m. method_is_named m ≡ true)
 method_fits word = member_fits (class_in (before_parenthesis word)) (name_in (before_parenthesis word))

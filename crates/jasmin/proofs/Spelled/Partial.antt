@@ -64,7 +64,7 @@ in_table p [] word h = tt
 in_table p (row ∷ rows) word h =
     let parts = both_true (p row.1) (list_all (λ row. p row.1) rows) h in
     of_test (λ a. p a ≡ true) (bytes_eq word row.0) (Some row.1) (named rows word) (λ t. parts.0) (λ f.
-        in_table p rows word parts.1)
+    in_table p rows word parts.1)
 
 -- what each of a list says
 pub of_all : {A B : Type 0} (P : B → Type 0) (said : A → Option B) (xs : List A) → ((x : A) → IfSome (said x) P)

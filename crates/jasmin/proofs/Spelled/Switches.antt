@@ -61,10 +61,10 @@ pair_fits (lookup pairs) (Some key) label h k =
 before_fits : (s : Switch) (word label : List ℕ) → SwitchFits s → IfSome (line_before s word label) LineFits
 before_fits s word label h =
     of_test LineFits (bytes_eq word (codes "default")) (option_map ends (with_default s label))
-        (option_map goes_on (with_pair s (key_of word) label))
+    (option_map goes_on (with_pair s (key_of word) label))
     (λ t. of_map LineFits ends (with_default s label) (default_fits s label h))
     (λ f. of_map LineFits goes_on (with_pair s (key_of word) label)
-        (pair_fits s (key_of word) label h (number_fits (negsuc 2147483647) (pos 2147483647) word)))
+    (pair_fits s (key_of word) label h (number_fits (negsuc 2147483647) (pos 2147483647) word)))
 
 pub line_fits : (s : Switch) (words : List (List ℕ)) → SwitchFits s → IfSome (switch_line s words) LineFits
 line_fits s [] h = tt

@@ -107,8 +107,11 @@ module _ (narrow : List ℤ) where
   pub agree_kept : (rows : List CatchRow) (lines : List TextLine) → labels_agree rows (map (widened_line narrow) lines)
       ≡ labels_agree rows lines
   unfolding labels_agree
-  agree_kept rows lines = rw (labels_kept 0 lines, count_kept 0 lines,
-      all_agree_kept (labels_in lines) (count_in lines) lines) refl
+  agree_kept rows lines = rw (
+    labels_kept 0 lines,
+    count_kept 0 lines,
+    all_agree_kept (labels_in lines) (count_in lines) lines,
+  ) refl
 
   -- ---- the numbers that stay with `ldc`
 
@@ -119,7 +122,9 @@ module _ (narrow : List ℤ) where
   constant_among (constant.Byte n) = refl
   constant_among (constant.Short n) = refl
   constant_among (constant.Int Narrow n) = elim (bool_tells (is_among narrow n)) [
-      inl t ↦ rw t (and_true (is_among narrow n) true t refl) | inr f ↦ rw f refl ]
+    | inl t ↦ rw t (and_true (is_among narrow n) true t refl)
+    | inr f ↦ rw f refl
+  ]
   constant_among (constant.Int Wide n) = refl
   constant_among (constant.Long n) = refl
 
@@ -149,13 +154,13 @@ module _ (narrow : List ℤ) where
 
   lines_among : (f : List ℕ → ℕ) (pc : ℕ) (lines : List TextLine)
       → list_all (is_among narrow) (flat_map (λ (p : Placed). narrow_number p.instruction)
-          (placed_from f pc (map (widened_line narrow) lines))) ≡ true
+      (placed_from f pc (map (widened_line narrow) lines))) ≡ true
   lines_among f pc [] = refl
   lines_among f pc (line.Label l ∷ lines) = lines_among f pc lines
   lines_among f pc (line.Instruction i ∷ lines) =
       both_among (narrow_number (with_targets f (widened narrow i)))
       (flat_map (λ (p : Placed). narrow_number p.instruction) (placed_from f (pc + size_at pc (widened narrow i))
-          (map (widened_line narrow) lines)))
+      (map (widened_line narrow) lines)))
       (instruction_among f i) (lines_among f (pc + size_at pc (widened narrow i)) lines)
 
   body_among : (body : Option Body)
@@ -168,7 +173,7 @@ module _ (narrow : List ℤ) where
   methods_among [] = refl
   methods_among (m ∷ ms) =
       both_among (numbers_of_code (option_map (code_listing narrow) m.body))
-          (ldc_numbers (map (method_listing narrow) ms)) (body_among m.body) (methods_among ms)
+      (ldc_numbers (map (method_listing narrow) ms)) (body_among m.body) (methods_among ms)
 
 -- ---- different numbers among others are no more than those
 
@@ -213,7 +218,9 @@ still_apart p (z ∷ zs) h =
 
 unequal : (z y : ℤ) → int_eq z y ≡ false → int_eq y z ≡ false
 unequal z y h = elim (bool_tells (int_eq y z)) [
-    inl t ↦ (let k = (Decides-int_eq z y).1 (sym ((Decides-int_eq y z).0 t)) in cc) | inr f ↦ f ]
+  | inl t ↦ (let k = (Decides-int_eq z y).1 (sym ((Decides-int_eq y z).0 t)) in cc)
+  | inr f ↦ f
+]
 
 gone : (z : ℤ) (zs : List ℤ) → is_among (filter (λ y. not (int_eq z y)) zs) z ≡ false
 gone z [] = refl
@@ -227,8 +234,10 @@ gone z (y ∷ zs) =
 different_apart : (zs : List ℤ) → Apart (different zs)
 unfolding Apart
 different_apart [] = tt
-different_apart (z ∷ zs) = (gone z (different zs),
-    still_apart (λ y. not (int_eq z y)) (different zs) (different_apart zs))
+different_apart (z ∷ zs) = (
+  gone z (different zs),
+  still_apart (λ y. not (int_eq z y)) (different zs) (different_apart zs),
+)
 
 all_kept : (p q : ℤ → Bool) (zs : List ℤ) → list_all p zs ≡ true → list_all p (filter q zs) ≡ true
 all_kept p q [] h = refl
@@ -244,7 +253,7 @@ all_different p [] h = refl
 all_different p (z ∷ zs) h =
     let parts = both_true (p z) (list_all p zs) h in
     and_true (p z) (list_all p (filter (λ y. not (int_eq z y)) (different zs))) parts.0
-        (all_kept p (λ y. not (int_eq z y)) (different zs) (all_different p zs parts.1))
+    (all_kept p (λ y. not (int_eq z y)) (different zs) (all_different p zs parts.1))
 
 -- without one number
 nothing_lost : (k : ℤ) (zs : List ℤ) → is_among zs k ≡ false → length zs ≤ length (filter (but k) zs)
@@ -281,8 +290,11 @@ others_among k ks (z ∷ zs) h =
 no_more : (ks zs : List ℤ) → Apart zs → list_all (is_among ks) zs ≡ true → length zs ≤ length ks
 no_more [] [] apart h = omega arith
 no_more [] (z ∷ zs) apart h = absurd cc
-no_more (k ∷ ks) zs apart h = omega (arith, one_lost k zs apart,
-    no_more ks (filter (but k) zs) (still_apart (but k) zs apart) (others_among k ks zs h))
+no_more (k ∷ ks) zs apart h = omega (
+  arith,
+  one_lost k zs apart,
+  no_more ks (filter (but k) zs) (still_apart (but k) zs apart) (others_among k ks zs h),
+)
 
 few : (xs : List ℤ) → length (take 255 xs) ≤ 255
 few xs = omega (arith, length-take 255 xs)
@@ -293,6 +305,6 @@ few_numbers ms =
     let numbers = ldc_numbers (map (method_listing (narrow_numbers ms)) ms) in
     let most : length (different numbers) ≤ length (narrow_numbers ms) =
     no_more (narrow_numbers ms) (different numbers) (different_apart numbers)
-        (all_different (is_among (narrow_numbers ms)) numbers (methods_among (narrow_numbers ms) ms)) in
+    (all_different (is_among (narrow_numbers ms)) numbers (methods_among (narrow_numbers ms) ms)) in
     let least : length (narrow_numbers ms) ≤ 255 = few (different (used_in_methods ms)) in
     omega arith

@@ -86,9 +86,9 @@ module _ (h : Naming) (cells : List Cell) (s : Site) (u : ReachedInCells h cells
   place_on_cells kind z b k =
       ap (λ c. if_array (is_array_of kind c) (indexed (h b) (index_in z c))) (contents_in_cell h cells s.world b k)
       ∙ ap (λ is. if_array is (indexed (h b) (index_in z (named_contents h (contents_at s.world b)))))
-          (is_array_named h kind (contents_at s.world b))
+      (is_array_named h kind (contents_at s.world b))
       ∙ ap (λ o. if_array (is_array_of kind (contents_at s.world b)) (indexed (h b) o))
-          (index_named h z (contents_at s.world b))
+      (index_named h z (contents_at s.world b))
 
   got_on_cells : (b : ℕ) → InCell h cells s.world b → (is : Bool) (o : Option ℕ)
       → element_got image (if_array is (indexed (h b) o)) ≡ image_of (element_got s (if_array is (indexed b o)))
@@ -96,8 +96,8 @@ module _ (h : Naming) (cells : List Cell) (s : Site) (u : ReachedInCells h cells
   got_on_cells b k true None = refl
   got_on_cells b k true (Some place) =
       ap (λ v. moves_in image.world image (replaced s.next image.frame 2 (v ∷ [])))
-          (ap (λ c. word_of c place) (contents_in_cell h cells s.world b k)
-          ∙ word_named h (contents_at s.world b) place)
+      (ap (λ c. word_of c place) (contents_in_cell h cells s.world b k)
+      ∙ word_named h (contents_at s.world b) place)
       ∙ ap (moves_in image.world image) (replaced_named h s.next s.frame 2 (word_of (contents_at s.world b) place ∷ []))
       ∙ moves_on_cells h cells s.world s (replaced s.next s.frame 2 (word_of (contents_at s.world b) place ∷ []))
 
@@ -106,7 +106,7 @@ module _ (h : Naming) (cells : List Cell) (s : Site) (u : ReachedInCells h cells
       ≡ image_of (element_got s (element_place s.world kind z r))
   load_on_cells kind z None k = refl
   load_on_cells kind z (Some b) k = let t = u.reached b (k b refl) in ap (element_got image) (place_on_cells kind z b t)
-                                          ∙ got_on_cells b t _ _
+      ∙ got_on_cells b t _ _
 
   may_on_cells : (c : Contents) (v : Value) → AllMay (Reach s.world) (map ref_of (v ∷ []))
       → may_hold image (named_contents h c) (named_value h v) ≡ may_hold s c v
@@ -121,7 +121,7 @@ module _ (h : Naming) (cells : List Cell) (s : Site) (u : ReachedInCells h cells
   if_on_cells storage v b place k true =
       puts_on_cells h cells (with_word s.world b place (kept storage v)) _ s 3 v
       (ap (with_word image.world (h b) place) (kept_named h storage v) ∙ with_word_on_cells h cells s.world u b place
-          (kept storage v) k)
+      (kept storage v) k)
   if_on_cells storage v b place k false = refl
 
   put_on_cells : (storage : Storage) (v : Value) → AllMay (Reach s.world) (map ref_of (v ∷ [])) → (b : ℕ)
@@ -132,7 +132,7 @@ module _ (h : Naming) (cells : List Cell) (s : Site) (u : ReachedInCells h cells
   put_on_cells storage v m b k true None = refl
   put_on_cells storage v m b k true (Some place) =
       ap (put_if image storage (named_value h v) (h b, place)) (ap (λ c. may_hold image c (named_value h v))
-          (contents_in_cell h cells s.world b k) ∙ may_on_cells (contents_at s.world b) v m)
+      (contents_in_cell h cells s.world b k) ∙ may_on_cells (contents_at s.world b) v m)
       ∙ if_on_cells storage v b place k (may_hold s (contents_at s.world b) v)
 
   store_on_cells : (kind : ElementKind) (z : ℤ) (v : Value) → AllMay (Reach s.world) (map ref_of (v ∷ []))
@@ -141,8 +141,8 @@ module _ (h : Naming) (cells : List Cell) (s : Site) (u : ReachedInCells h cells
       ≡ image_of (element_put s (storage_in kind) v (element_place s.world kind z r))
   store_on_cells kind z v m None k = refl
   store_on_cells kind z v m (Some b) k = let t = u.reached b (k b refl)
-                                               in ap (element_put image (storage_in kind) (named_value h v))
-                                               (place_on_cells kind z b t) ∙ put_on_cells (storage_in kind) v m b t _ _
+      in ap (element_put image (storage_in kind) (named_value h v))
+      (place_on_cells kind z b t) ∙ put_on_cells (storage_in kind) v m b t _ _
 
   -- ---- the instructions
 
@@ -173,9 +173,9 @@ module _ (h : Naming) (cells : List Cell) (s : Site) (u : ReachedInCells h cells
         let rest = both (int_on (drop 1 s.frame.stack)) (ref_on (drop 2 s.frame.stack)) in
         let inner = both-second (value_on wanted s.frame.stack) rest p k in
         store_on_cells kind p.1.0 p.0 (value_on-known (Reach s.world) wanted s.frame.stack p.0
-            (stack_known s.world s.thread _ s.frame e) (both-first (value_on wanted s.frame.stack) rest p k))
+        (stack_known s.world s.thread _ s.frame e) (both-first (value_on wanted s.frame.stack) rest p k))
         p.1.1 (λ b q. known 2 b (both-second (int_on (drop 1 s.frame.stack)) (ref_on (drop 2 s.frame.stack)) p.1 inner
-            ∙ ap Ok q))
+        ∙ ap Ok q))
 
     ints_named : (n : ℕ) → int_on (drop n image.frame.stack) ≡ renamed h (λ (z : ℤ). z) (int_on (drop n s.frame.stack))
     ints_named n = ap int_on (drop-map (named_value h) n s.frame.stack) ∙ int_on_named h (drop n s.frame.stack)
@@ -194,14 +194,21 @@ module _ (h : Naming) (cells : List Cell) (s : Site) (u : ReachedInCells h cells
     array_on_cells Length = rw (ref_on_named h s.frame.stack) (measured_on_cells (ref_on s.frame.stack)
         (λ b k. known 0 b k))
     array_on_cells (Load kind) =
-        rw (ints_named 0, ref_below_named h 1 s.frame.stack,
-            pair_named h (λ (z : ℤ). z) (named_ref h) (int_on s.frame.stack) (ref_on (drop 1 s.frame.stack)))
+        rw (
+          ints_named 0,
+          ref_below_named h 1 s.frame.stack,
+          pair_named h (λ (z : ℤ). z) (named_ref h) (int_on s.frame.stack) (ref_on (drop 1 s.frame.stack)),
+        )
         (loaded_on_cells kind _ refl)
     array_on_cells (Store kind) =
         let wanted = storage_kind (storage_in kind) in
         let stack = s.frame.stack in
-        rw (value_on_named h wanted stack, ints_named 1, ref_below_named h 2 stack,
-            pair_named h (λ (z : ℤ). z) (named_ref h) (int_on (drop 1 stack)) (ref_on (drop 2 stack)),
-            pair_named h (named_value h)
-            int_ref (value_on wanted stack) (both (int_on (drop 1 stack)) (ref_on (drop 2 stack))))
+        rw (
+          value_on_named h wanted stack,
+          ints_named 1,
+          ref_below_named h 2 stack,
+          pair_named h (λ (z : ℤ). z) (named_ref h) (int_on (drop 1 stack)) (ref_on (drop 2 stack)),
+          pair_named h (named_value h)
+              int_ref (value_on wanted stack) (both (int_on (drop 1 stack)) (ref_on (drop 2 stack))),
+        )
         (stored_on_cells kind _ refl)

@@ -81,7 +81,7 @@ module _ (h : Naming) where
     refs_on_cells identity stack m (Err e) k = refl
     refs_on_cells identity stack m (Ok p) k = ap Ok (identity_on_cells identity p.1 p.0
         (λ b e. ref_on-known (Reach w) (drop 1 stack) b (may_drop stack m)
-            (both-second (ref_on stack) (ref_on (drop 1 stack)) p k ∙ ap Ok e))
+        (both-second (ref_on stack) (ref_on (drop 1 stack)) p k ∙ ap Ok e))
         (λ b e. ref_on-known (Reach w) stack b m (both-first (ref_on stack) (ref_on (drop 1 stack)) p k ∙ ap Ok e)))
       where
         may_drop : (vs : List Value) → AllMay (Reach w) (map ref_of vs) → AllMay (Reach w) (map ref_of (drop 1 vs))
@@ -101,7 +101,11 @@ module _ (h : Naming) where
     branched_on_cells next (Always width) target f m = ap Ok (replaced_named h target f 0 [])
     branched_on_cells next (Zero comparison) target f m = rw (int_on_named h f.stack) (branched_named next target f 1 _)
     branched_on_cells next (Ints comparison) target f m = rw (two_ints_named f.stack) (branched_named next target f 2 _)
-    branched_on_cells next (Refs identity) target f m = rw (two_refs_named f.stack,
-        refs_on_cells identity f.stack m _ refl) (branched_named next target f 2 _)
-    branched_on_cells next (Null identity) target f m = rw (ref_on_named h f.stack,
-        null_named identity (ref_on f.stack)) (branched_named next target f 1 _)
+    branched_on_cells next (Refs identity) target f m = rw (
+      two_refs_named f.stack,
+      refs_on_cells identity f.stack m _ refl,
+    ) (branched_named next target f 2 _)
+    branched_on_cells next (Null identity) target f m = rw (
+      ref_on_named h f.stack,
+      null_named identity (ref_on f.stack),
+    ) (branched_named next target f 1 _)

@@ -31,7 +31,7 @@ module _ (h : Naming) (cells : List Cell) (s : Site) (u : ReachedInCells h cells
   prints_on_cells bytes (Err fault) = refl
   prints_on_cells bytes (Ok z) =
       ap (λ f. Prints (with_frame image.world image f) (bytes z))
-          (ap (λ m. m.frame) (replaced_named h s.next s.frame 1 []))
+      (ap (λ m. m.frame) (replaced_named h s.next s.frame 1 []))
       ∙ ap (λ w. Prints w (bytes z)) (frame_on_cells h cells s.world s (replaced s.next s.frame 1 []).frame)
 
   pub builtin_on_cells : running (frames_in s) ≡ Some s.frame → (builtin : Builtin) → builtin_call image builtin

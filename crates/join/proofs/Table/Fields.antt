@@ -46,31 +46,31 @@ module _ (h : Naming) (cells : List Cell) (s : Site) (u : ReachedInCells h cells
       ≡ field_place s member b
   place_on_cells member b k =
       ap (λ class. if_subclass (is_subtype s.program class member.class) (word_place image member (h b)))
-          (class_in_cell h cells s.world b k)
+      (class_in_cell h cells s.world b k)
       ∙ ap (λ c. if_subclass (is_subtype s.program (class_at s.world b) member.class)
-          (option_and_then (λ (field : Declared Field). field_index (fields_in c) field)
-          (resolved_field s.program member))) (contents_in_cell h cells s.world b k)
+      (option_and_then (λ (field : Declared Field). field_index (fields_in c) field)
+      (resolved_field s.program member))) (contents_in_cell h cells s.world b k)
       ∙ ap (if_subclass (is_subtype s.program (class_at s.world b) member.class))
-          (place_in (contents_at s.world b) (resolved_field s.program member))
+      (place_in (contents_at s.world b) (resolved_field s.program member))
 
   got_on_cells : (b : ℕ) → InCell h cells s.world b → (place : Option ℕ) → word_got image (h b) place
       ≡ completion_on h cells (word_got s b place)
   got_on_cells b k None = refl
   got_on_cells b k (Some place) =
       ap (λ v. completes image (replaced_if_room s.next (named_frame h s.frame) 1 (v ∷ [])))
-          (ap (λ c. word_of c place) (contents_in_cell h cells s.world b k)
-          ∙ word_named h (contents_at s.world b) place)
+      (ap (λ c. word_of c place) (contents_in_cell h cells s.world b k)
+      ∙ word_named h (contents_at s.world b) place)
       ∙ ap (completes image) (if_room_named h s.next s.frame 1 (word_of (contents_at s.world b) place ∷ []))
       ∙ completes_on_cells h cells u.stack_error s
-          (replaced_if_room s.next s.frame 1 (word_of (contents_at s.world b) place ∷ []))
+      (replaced_if_room s.next s.frame 1 (word_of (contents_at s.world b) place ∷ []))
 
   field_got_on_cells : (member : Member) (r : Result (Option ℕ) Fault) → ((b : ℕ) → r ≡ Ok (Some b) → Reach s.world b)
       → field_got image member (renamed h (named_ref h) r) ≡ completion_on h cells (field_got s member r)
   field_got_on_cells member (Err fault) k = refl
   field_got_on_cells member (Ok None) k = refl
   field_got_on_cells member (Ok (Some b)) k = let t = u.reached b (k b refl)
-                                                    in ap (word_got image (h b)) (place_on_cells member b t)
-                                                    ∙ got_on_cells b t (field_place s member b)
+      in ap (word_got image (h b)) (place_on_cells member b t)
+      ∙ got_on_cells b t (field_place s member b)
 
   put_at_on_cells : (descriptor : List ℕ) (v : Value) (b : ℕ) → InCell h cells s.world b → (place : Option ℕ)
       → word_put image descriptor (named_value h v) (h b) place
@@ -79,15 +79,15 @@ module _ (h : Naming) (cells : List Cell) (s : Site) (u : ReachedInCells h cells
   put_at_on_cells descriptor v b k (Some place) =
       puts_on_cells h cells (with_word s.world b place (kept (storage_of descriptor) v)) _ s 2 v
       (ap (with_word (on_cells h cells s.world) (h b) place) (kept_named h (storage_of descriptor) v)
-          ∙ with_word_on_cells h cells s.world u b place (kept (storage_of descriptor) v) k)
+      ∙ with_word_on_cells h cells s.world u b place (kept (storage_of descriptor) v) k)
 
   put_in_on_cells : (member : Member) (v : Value) (r : Option ℕ) → ((b : ℕ) → r ≡ Some b → Reach s.world b)
       → field_put_in image member (named_value h v) (named_ref h r) ≡ completion_on h cells (field_put_in s member v r)
   put_in_on_cells member v None k = refl
   put_in_on_cells member v (Some b) k = let t = u.reached b (k b refl)
-                                              in ap (word_put image member.descriptor (named_value h v) (h b))
-                                              (place_on_cells member b t)
-                                              ∙ put_at_on_cells member.descriptor v b t (field_place s member b)
+      in ap (word_put image member.descriptor (named_value h v) (h b))
+      (place_on_cells member b t)
+      ∙ put_at_on_cells member.descriptor v b t (field_place s member b)
 
   abbrev pair : Value × Option ℕ → Value × Option ℕ
   pair p = (named_value h p.0, named_ref h p.1)
@@ -110,9 +110,12 @@ module _ (h : Naming) (cells : List Cell) (s : Site) (u : ReachedInCells h cells
   field_on_cells e Put member =
       let kind = descriptor_kind member.descriptor in
       let stack = s.frame.stack in
-      rw (value_on_named h kind stack, ref_below_named h 1 stack,
-          pair_named h (named_value h) (named_ref h) (value_on kind stack) (ref_on (drop 1 stack)))
+      rw (
+        value_on_named h kind stack,
+        ref_below_named h 1 stack,
+        pair_named h (named_value h) (named_ref h) (value_on kind stack) (ref_on (drop 1 stack)),
+      )
       (field_put_on_cells member (both (value_on kind stack) (ref_on (drop 1 stack)))
-          (λ p k b q. ref_on-known (Reach s.world) (drop 1 stack) b
-          (may_drop stack (stack_known s.world s.thread _ s.frame e))
-          (both-second (value_on kind stack) (ref_on (drop 1 stack)) p k ∙ ap Ok q)))
+      (λ p k b q. ref_on-known (Reach s.world) (drop 1 stack) b
+      (may_drop stack (stack_known s.world s.thread _ s.frame e))
+      (both-second (value_on kind stack) (ref_on (drop 1 stack)) p k ∙ ap Ok q)))

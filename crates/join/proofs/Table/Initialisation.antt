@@ -38,7 +38,7 @@ module _ (h : Naming) where
       let place = initializer_place program class in
       map-append (named_frame h) (started_at program place) (initializer_frames program classes)
       ∙ ap (λ fs. fs ++ map (named_frame h) (initializer_frames program classes))
-          (framed_named place (code_at program place))
+      (framed_named place (code_at program place))
       ∙ ap (λ fs. started_at program place ++ fs) (initializers_named program classes)
 
   waiting_named : (fs : List Frame) → callers_waiting (map (named_frame h) fs)
@@ -61,15 +61,15 @@ module _ (h : Naming) where
         let new = initializer_frames s.program classes in
         ap (λ fs. fs ++ callers_waiting new) (frames_on_cells h cells s.world s.thread)
         ∙ ap (λ fs. map (named_frame h) (frames_in s) ++ fs)
-            (ap callers_waiting (sym (initializers_named s.program classes)) ∙ waiting_named new)
+        (ap callers_waiting (sym (initializers_named s.program classes)) ∙ waiting_named new)
         ∙ sym (map-append (named_frame h) (frames_in s) (callers_waiting new))
 
     claims_if : (within : Bool) (classes : List ℕ) (frames : List Frame) →
         (if within then Goes (with_class_states (with_thread image.world s.thread (Live (map (named_frame h) frames)))
-            (with_states (Running s.thread) classes (states_in s))) [] else raises StackOverflow)
+        (with_states (Running s.thread) classes (states_in s))) [] else raises StackOverflow)
         ≡ image_of (if within
-            then Goes (with_class_states (with_thread s.world s.thread (Live frames))
-            (with_states (Running s.thread) classes (states_in s))) [] else raises StackOverflow)
+        then Goes (with_class_states (with_thread s.world s.thread (Live frames))
+        (with_states (Running s.thread) classes (states_in s))) [] else raises StackOverflow)
     claims_if true classes frames = ap
         (λ w. Goes (with_class_states w (with_states (Running s.thread) classes (states_in s))) [])
         (thread_on_cells h cells s.world s.thread (Live frames))
@@ -79,9 +79,9 @@ module _ (h : Naming) where
         → claims_with image classes (map (named_frame h) frames) ≡ image_of (claims_with s classes frames)
     claims_with_on_cells classes frames =
         ap (λ (within : Bool). if within
-            then Goes (with_class_states (with_thread image.world s.thread (Live (map (named_frame h) frames)))
-            (with_states (Running s.thread) classes (states_in s))) [] else raises StackOverflow)
-            (limits_named h frames)
+        then Goes (with_class_states (with_thread image.world s.thread (Live (map (named_frame h) frames)))
+        (with_states (Running s.thread) classes (states_in s))) [] else raises StackOverflow)
+        (limits_named h frames)
         ∙ claims_if (within_limits frames) classes frames
 
     claims_on_cells : (classes : List ℕ) (x y : Completion) → x ≡ image_of y → claims image classes x
@@ -90,7 +90,7 @@ module _ (h : Naming) where
     claims_on_cells (class ∷ classes) x y e =
         ap (claims_with image (class ∷ classes)) (claimed_named (class ∷ classes))
         ∙ claims_with_on_cells (class ∷ classes) (frames_in s
-            ++ callers_waiting (initializer_frames s.program (class ∷ classes)))
+        ++ callers_waiting (initializer_frames s.program (class ∷ classes)))
 
     own_if : (own : Bool) (x y : Completion) → x ≡ image_of y → (if own then x else Waits)
         ≡ image_of (if own then y else Waits)

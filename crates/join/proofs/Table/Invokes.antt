@@ -61,9 +61,9 @@ module _ (h : Naming) where
   pops_named [] stack = refl
   pops_named (kind ∷ kinds) stack =
       ap (λ o. option_or o (fault_in_pops kinds (drop 1 (map (named_value h) stack))))
-          (ap result_err (value_on_named h kind stack) ∙ fault_named (value_on kind stack))
+      (ap result_err (value_on_named h kind stack) ∙ fault_named (value_on kind stack))
       ∙ ap (option_or (result_err (value_on kind stack))) (ap (fault_in_pops kinds) (drop-map (named_value h) 1 stack)
-          ∙ pops_named kinds (drop 1 stack))
+      ∙ pops_named kinds (drop 1 stack))
 
   -- ---- frames
 
@@ -133,7 +133,7 @@ module _ (h : Naming) where
         ≡ map (named_frame h) (guarded o (frames_of_call (frames_in s) c.place c.code.max_locals c.code.max_stack n))
     frames_same c n o =
         ap (λ fs. guarded (named_ref h o) (frames_of_call fs c.place c.code.max_locals c.code.max_stack n))
-            (frames_on_cells h cells s.world s.thread)
+        (frames_on_cells h cells s.world s.thread)
         ∙ ap (guarded (named_ref h o)) (call_named h (frames_in s) c.place c.code.max_locals c.code.max_stack n)
         ∙ guarded_named o (frames_of_call (frames_in s) c.place c.code.max_locals c.code.max_stack n)
 
@@ -141,14 +141,14 @@ module _ (h : Naming) where
         ++ option_to_list (named_ref h o) ≡ map h (births_of (arguments_on n s.frame.stack) ++ option_to_list o)
     writes_same n o =
         ap (λ bs. bs ++ option_to_list (named_ref h o)) (ap births_of (arguments_on_named h n s.frame.stack)
-            ∙ births_named h (arguments_on n s.frame.stack))
+        ∙ births_named h (arguments_on n s.frame.stack))
         ∙ ap (λ bs. map h (births_of (arguments_on n s.frame.stack)) ++ bs) (listed_named o)
         ∙ sym (map-append h (births_of (arguments_on n s.frame.stack)) (option_to_list o))
 
     abbrev entering : Site → ℕ → Option ℕ → CodedMethod → Completion
     entering r n o c =
         Goes (with_thread (world_entered r o) r.thread
-            (Live (guarded o (frames_of_call (frames_in r) c.place c.code.max_locals c.code.max_stack n))))
+        (Live (guarded o (frames_of_call (frames_in r) c.place c.code.max_locals c.code.max_stack n))))
         (births_of (arguments_on n r.frame.stack) ++ option_to_list o)
 
     entering_on_cells : (c : CodedMethod) (n : ℕ) (o : Option ℕ) → Known o → entering image n (named_ref h o) c
@@ -157,7 +157,7 @@ module _ (h : Naming) where
         let gs = guarded o (frames_of_call (frames_in s) c.place c.code.max_locals c.code.max_stack n) in
         rw (entered_on_cells o k, frames_same c n o, writes_same n o)
         (ap (λ w. Goes w (map h (births_of (arguments_on n s.frame.stack) ++ option_to_list o)))
-            (thread_on_cells h cells (world_entered s o) s.thread (Live gs)))
+        (thread_on_cells h cells (world_entered s o) s.thread (Live gs)))
 
     enters_frame_on_cells : (m : Member) (o : Option ℕ) (c : CodedMethod) → Known o → enters_frame (call_image m o) c
         ≡ image_of (enters_frame (call m o) c)
@@ -165,12 +165,12 @@ module _ (h : Naming) where
         ap (λ (n : ℕ). entering image n (method_monitor (call_image m o) c) c) (operands_named m o)
         ∙ ap (λ r. entering image (operands_in (call m o)) r c) (monitor_named m o c)
         ∙ entering_on_cells c (operands_in (call m o)) (method_monitor (call m o) c)
-            (monitor_reached (is_synchronized c.method) o k)
+        (monitor_reached (is_synchronized c.method) o k)
 
     by_tests : (x y : Completion) (may room full : Bool) → x ≡ image_of y →
         (if not may then Waits else if not room then raises StackOverflow else if full then Faults MonitorLimit else x)
         ≡ image_of (if not may then Waits else if not room then raises StackOverflow else if full
-            then Faults MonitorLimit else y)
+        then Faults MonitorLimit else y)
     by_tests x y false room full q = refl
     by_tests x y true false full q = raises_on_cells h cells u.stack_error StackOverflow
     by_tests x y true true true q = refl
@@ -183,18 +183,18 @@ module _ (h : Naming) where
         ap (λ r. option_map_or (monitor_of image.world) r free_monitor) (monitor_named m o c)
         ∙ monitor_same (method_monitor (call m o) c) (monitor_reached (is_synchronized c.method) o k) in
         let room : has_room_for (frames_in image) c.code.max_locals c.code.max_stack
-              ≡ has_room_for (frames_in s) c.code.max_locals c.code.max_stack =
+        ≡ has_room_for (frames_in s) c.code.max_locals c.code.max_stack =
         ap (λ fs. has_room_for fs c.code.max_locals c.code.max_stack) (frames_on_cells h cells s.world s.thread)
         ∙ room_named h (frames_in s) c.code.max_locals c.code.max_stack in
         ap (λ (x : Monitor). if not (may_enter s.thread x.owner) then Waits
-            else if not (has_room_for (frames_in image) c.code.max_locals c.code.max_stack) then raises StackOverflow
-            else if is_full x then Faults MonitorLimit else enters_frame (call_image m o) c) monitor
+        else if not (has_room_for (frames_in image) c.code.max_locals c.code.max_stack) then raises StackOverflow
+        else if is_full x then Faults MonitorLimit else enters_frame (call_image m o) c) monitor
         ∙ ap (λ (is : Bool). if not (may_enter s.thread (monitor_for (call m o) c).owner) then Waits else if not is
-            then raises StackOverflow else if is_full (monitor_for (call m o) c) then Faults MonitorLimit
-            else enters_frame (call_image m o) c) room
+        then raises StackOverflow else if is_full (monitor_for (call m o) c) then Faults MonitorLimit
+        else enters_frame (call_image m o) c) room
         ∙ by_tests (enters_frame (call_image m o) c) (enters_frame (call m o) c)
-            (may_enter s.thread (monitor_for (call m o) c).owner) (has_room_for (frames_in s) c.code.max_locals
-            c.code.max_stack) (is_full (monitor_for (call m o) c)) (enters_frame_on_cells m o c k)
+        (may_enter s.thread (monitor_for (call m o) c).owner) (has_room_for (frames_in s) c.code.max_locals
+        c.code.max_stack) (is_full (monitor_for (call m o) c)) (enters_frame_on_cells m o c k)
 
     called_on_cells : (m : Member) (o : Option ℕ) (callee : Callee) → Known o → called (call_image m o) callee
         ≡ image_of (called (call m o) callee)
@@ -228,8 +228,8 @@ module _ (h : Naming) where
     on_on_cells m method image_method q (Ok (Some b)) k =
         let t = u.reached b (k b refl) in
         ap (λ class. if not (is_subtype s.program class m.class) then Faults WrongClass
-            else called (call_image m (Some b)) (callee_of s.program (image_method (h b))))
-            (class_in_cell h cells s.world b t)
+        else called (call_image m (Some b)) (callee_of s.program (image_method (h b))))
+        (class_in_cell h cells s.world b t)
         ∙ by_class (is_subtype s.program (class_at s.world b) m.class) _ _
         (ap (λ d. called (call_image m (Some b)) (callee_of s.program d)) (q b t)
         ∙ called_on_cells m (Some b) (callee_of s.program (method b)) (λ c z. k c (ap Ok z)))
@@ -240,10 +240,10 @@ module _ (h : Naming) where
     object_on_cells m method image_method q =
         pops_on_cells m _ _
         (ap (called_on image m image_method) (ap ref_on (drop-map (named_value h) (arguments_in m) s.frame.stack)
-            ∙ ref_on_named h (drop (arguments_in m) s.frame.stack))
+        ∙ ref_on_named h (drop (arguments_in m) s.frame.stack))
         ∙ on_on_cells m method image_method q (ref_on (drop (arguments_in m) s.frame.stack))
-            (λ b k. ref_on-known (Reach s.world) (drop (arguments_in m) s.frame.stack) b
-            (below_known s.world s.thread (arguments_in m) s.frame e) k))
+        (λ b k. ref_on-known (Reach s.world) (drop (arguments_in m) s.frame.stack) b
+        (below_known s.world s.thread (arguments_in m) s.frame e) k))
 
     -- ---- the four invokes
 

@@ -43,8 +43,11 @@ module _ (h : Naming) where
 
   pub local_at_named : (kind : Kind) (es : List Entry) (index : ℕ) → local_at kind (entries es) index
       ≡ renamed h (named_value h) (local_at kind es index)
-  local_at_named kind es index = rw (has_named kind es index, slice_get-map (named_entry h) es
-      index) (if_local_named kind (has_local kind es index) (slice_get es index))
+  local_at_named kind es index = rw (
+    has_named kind es index,
+    slice_get-map (named_entry h) es
+        index,
+  ) (if_local_named kind (has_local kind es index) (slice_get es index))
 
   half_named : (es : List Entry) (index : ℕ) (o : Option Entry) → without_half (entries es)
       index (option_map (named_entry h) o) ≡ entries (without_half es index o)
@@ -67,16 +70,19 @@ module _ (h : Naming) where
       ap (λ xs. set (set (freed xs (index + 1)) index (Holds (Long z))) (index + 1) UpperHalf) (freed_named es index)
       ∙ ap (λ xs. set (set xs index (Holds (Long z))) (index + 1) UpperHalf) (freed_named (freed es index) (index + 1))
       ∙ ap (λ xs. set xs (index + 1) UpperHalf) (sym (map-set (named_entry h) (freed (freed es index) (index + 1))
-          index (Holds (Long z))))
+      index (Holds (Long z))))
       ∙ sym (map-set (named_entry h) (set (freed (freed es index) (index + 1)) index (Holds (Long z))) (index + 1)
-          UpperHalf)
+      UpperHalf)
   with_local_named es index (Ref r) = ap (λ xs. set xs index (named_entry h (Holds (Ref r)))) (freed_named es index)
       ∙ sym (map-set (named_entry h) (freed es index) index (Holds (Ref r)))
 
   stored_named : (next : ℕ) (f : Frame) (n index : ℕ) (v : Value) → stored next (named_frame h f) n
       index (named_value h v) ≡ named_moved h (stored next f n index v)
-  stored_named next f n index v = rw (with_local_named f.locals index v, drop-map (named_value h) n f.stack,
-      births_named h (v ∷ [])) refl
+  stored_named next f n index v = rw (
+    with_local_named f.locals index v,
+    drop-map (named_value h) n f.stack,
+    births_named h (v ∷ []),
+  ) refl
 
   store_if_named : (next : ℕ) (f : Frame) (index : ℕ) (has : Bool) (r : Result Value Fault)
       → stored_if_local next (named_frame h f) index has (renamed h (named_value h) r)
@@ -105,9 +111,11 @@ module _ (h : Naming) where
       ≡ named_result h (local next access f)
   local_named next (Load kind place) f = ap (loaded_on next (named_frame h f))
       (local_at_named kind f.locals (local_index place)) ∙ loaded_named next f _
-  local_named next (Store kind place) f = rw (has_named kind f.locals (local_index place),
-      value_on_named h kind f.stack) (store_if_named next f (local_index place) _ _)
+  local_named next (Store kind place) f = rw (
+    has_named kind f.locals (local_index place),
+    value_on_named h kind f.stack,
+  ) (store_if_named next f (local_index place) _ _)
   local_named next (Incremented i) f =
       ap (incremented_on next (named_frame h f) (increment_index i) (increment_amount i))
-          (ap as_int (local_at_named IntKind f.locals (increment_index i)) ∙ int_same _)
+      (ap as_int (local_at_named IntKind f.locals (increment_index i)) ∙ int_same _)
       ∙ incremented_named next f (increment_index i) (increment_amount i) _

@@ -51,12 +51,12 @@ module _ (h : Naming) (cells : List Cell) where
     operates_on_cells Enter b k =
         ap (enters image (h b)) (monitor_of_on_cells h cells s.world b k)
         ∙ enter_on_cells _ _ _ _ (moved_on_cells (with_monitor_of s.world b (entered s.thread (monitor_of s.world b))) _
-            (with_monitor_on_cells h cells s.world b (entered s.thread (monitor_of s.world b)) u.named k))
+        (with_monitor_on_cells h cells s.world b (entered s.thread (monitor_of s.world b)) u.named k))
     operates_on_cells Exit b k =
         ap (exits image (h b)) (monitor_of_on_cells h cells s.world b k)
         ∙ exit_on_cells _ _ (is_owner s.thread (monitor_of s.world b).owner)
-            (moved_on_cells (with_monitor_of s.world b (exited (monitor_of s.world b))) _
-            (with_monitor_on_cells h cells s.world b (exited (monitor_of s.world b)) u.named k))
+        (moved_on_cells (with_monitor_of s.world b (exited (monitor_of s.world b))) _
+        (with_monitor_on_cells h cells s.world b (exited (monitor_of s.world b)) u.named k))
 
     there_on_cells : (operation : MonitorOperation) (b : ℕ) (there : Bool) → InCell h cells s.world b
         → operates_if image operation (h b) there ≡ completion_on h cells (operates_if s operation b there)

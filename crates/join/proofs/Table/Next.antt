@@ -84,7 +84,7 @@ module _ (h : Naming) (cells : List Cell) where
     instruction_on_cells f (Some i) e =
         let s : Site = record { program = program; world = w; thread = t; frame = f; next = i.next } in
         after_initialising_on_cells h cells s u.stack_error (class_used program i.instruction) _ _
-            (family_on_cells s u e i.instruction)
+        (family_on_cells s u e i.instruction)
 
     mark_on_cells : (f : Frame) (mark : Mark) → running (frames_at w t) ≡ Some f
         → at_mark program (on_cells h cells w) t (named_frame h f) mark

@@ -46,8 +46,8 @@ module _ (h : Naming) where
     left_on_cells =
         let class = s.frame.method.class in
         ap (λ w. initialised_if w class (runs_initializer s.program s.frame)) (released_on_cells h cells u.named s.world
-            s.thread s.frame.monitor (λ b k. u.reached b (monitor_known s.world s.thread (length (frames_in s) - 1) b
-            s.frame e k)))
+        s.thread s.frame.monitor (λ b k. u.reached b (monitor_known s.world s.thread (length (frames_in s) - 1) b
+        s.frame e k)))
         ∙ initialised_on_cells (released s.world s.thread s.frame.monitor) class (runs_initializer s.program s.frame)
       where
         initialised_on_cells : (w : World) (class : ℕ) (is : Bool) → initialised_if (on_cells h cells w) class is
@@ -63,12 +63,12 @@ module _ (h : Naming) where
     resumes_on_cells (Err abrupt) = abruptly_on_cells h cells u.stack_error abrupt
     resumes_on_cells (Ok m) =
         ap (λ w. Goes (with_thread w s.thread (Live (with_running (callers (frames_in image)) (named_frame h m.frame))))
-            (map h m.writes)) left_on_cells
+        (map h m.writes)) left_on_cells
         ∙ ap (λ fs. Goes (with_thread (on_cells h cells (left_world s)) s.thread (Live fs)) (map h m.writes))
-            (ap (λ fs. with_running fs (named_frame h m.frame)) callers_on_cells
-            ∙ running_named h (callers (frames_in s)) m.frame)
+        (ap (λ fs. with_running fs (named_frame h m.frame)) callers_on_cells
+        ∙ running_named h (callers (frames_in s)) m.frame)
         ∙ ap (λ w. Goes w (map h m.writes)) (thread_on_cells h cells (left_world s) s.thread
-            (Live (with_running (callers (frames_in s)) m.frame)))
+        (Live (with_running (callers (frames_in s)) m.frame)))
 
     resumed_named : (f : Frame) (result : Option Value) (runs : Bool)
         → resumed image (named_frame h f) (option_map (named_value h) result) runs

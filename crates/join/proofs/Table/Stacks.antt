@@ -51,8 +51,11 @@ module _ (h : Naming) where
   below_named : (u : Units) (vs : List Value) (r : Result (List Value) Fault)
       → with_group_below u (named vs) (renamed h named r) ≡ renamed h pair (with_group_below u vs r)
   below_named u vs (Err e) = refl
-  below_named u vs (Ok upper) = rw (length-map upper (named_value h), drop-map (named_value h) (length upper) vs,
-      group_named u (drop (length upper) vs))
+  below_named u vs (Ok upper) = rw (
+    length-map upper (named_value h),
+    drop-map (named_value h) (length upper) vs,
+    group_named u (drop (length upper) vs),
+  )
       (pair_named h named named (Ok upper) (group_on u (drop (length upper) vs)))
 
   groups_named : (u l : Units) (vs : List Value) → groups_on u l (named vs) ≡ renamed h pair (groups_on u l vs)
@@ -73,15 +76,22 @@ module _ (h : Naming) where
   inserted_named : (next : ℕ) (f : Frame) (r : Result (List Value × List Value) Fault)
       → inserted_on next (named_frame h f) (renamed h pair r) ≡ named_result h (inserted_on next f r)
   inserted_named next f (Err e) = refl
-  inserted_named next f (Ok groups) = rw (length-map groups.0 (named_value h), length-map groups.1 (named_value h),
-      ← map-append (named_value h) groups.0 groups.1, ← map-append (named_value h) (groups.0 ++ groups.1) groups.0)
+  inserted_named next f (Ok groups) = rw (
+    length-map groups.0 (named_value h),
+    length-map groups.1 (named_value h),
+    ← map-append (named_value h) groups.0 groups.1,
+    ← map-append (named_value h) (groups.0 ++ groups.1) groups.0,
+  )
       (if_room_named h next f (length groups.0 + length groups.1) (groups.0 ++ groups.1 ++ groups.0))
 
   swapped_named : (next : ℕ) (f : Frame) (r : Result (List Value × List Value) Fault)
       → swapped_on next (named_frame h f) (renamed h pair r) ≡ named_result h (swapped_on next f r)
   swapped_named next f (Err e) = refl
-  swapped_named next f (Ok groups) = rw (length-map groups.0 (named_value h), length-map groups.1 (named_value h),
-      ← map-append (named_value h) groups.0 groups.1)
+  swapped_named next f (Ok groups) = rw (
+    length-map groups.0 (named_value h),
+    length-map groups.1 (named_value h),
+    ← map-append (named_value h) groups.0 groups.1,
+  )
       (ap Ok (replaced_named h next f (length groups.0 + length groups.1) (groups.0 ++ groups.1)))
 
   pub rearranged_named : (next : ℕ) (operation : StackOperation) (f : Frame)

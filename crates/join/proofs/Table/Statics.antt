@@ -37,7 +37,7 @@ module _ (h : Naming) (cells : List Cell) (s : Site) (u : ReachedInCells h cells
   got_on_cells None = refl
   got_on_cells (Some slot) =
       ap (λ v. completes image (replaced_if_room s.next image.frame 0 (v ∷ [])))
-          (value_named h s.world.statics.fields slot)
+      (value_named h s.world.statics.fields slot)
       ∙ ap (completes image) (if_room_named h s.next s.frame 0 (slot_at s.world slot ∷ []))
       ∙ completes_on_cells h cells u.stack_error s (replaced_if_room s.next s.frame 0 (slot_at s.world slot ∷ []))
 
@@ -55,7 +55,7 @@ module _ (h : Naming) (cells : List Cell) (s : Site) (u : ReachedInCells h cells
   put_on_cells descriptor (Ok v) (Some slot) =
       puts_on_cells h cells (with_slot s.world slot (kept (storage_of descriptor) v)) _ s 1 v
       (ap (with_slot image.world slot) (kept_named h (storage_of descriptor) v)
-          ∙ with_slot_on_cells slot (kept (storage_of descriptor) v))
+      ∙ with_slot_on_cells slot (kept (storage_of descriptor) v))
 
   pub static_on_cells : (access : Access) (member : Member) → static_accessed image access member
       ≡ completion_on h cells (static_accessed s access member)
@@ -63,7 +63,7 @@ module _ (h : Naming) (cells : List Cell) (s : Site) (u : ReachedInCells h cells
       ∙ got_on_cells (slot_of s member)
   static_on_cells Put member =
       ap (static_put image member.descriptor (value_on (descriptor_kind member.descriptor) image.frame.stack))
-          (slot_on_cells (resolved_field s.program member))
+      (slot_on_cells (resolved_field s.program member))
       ∙ ap (λ r. static_put image member.descriptor r (slot_of s member))
-          (value_on_named h (descriptor_kind member.descriptor) s.frame.stack)
+      (value_on_named h (descriptor_kind member.descriptor) s.frame.stack)
       ∙ put_on_cells member.descriptor (value_on (descriptor_kind member.descriptor) s.frame.stack) (slot_of s member)

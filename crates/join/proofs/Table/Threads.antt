@@ -63,11 +63,11 @@ module _ (h : Naming) where
     added_on_cells b o t writes k =
         let f = (replaced s.next s.frame 1 []).frame in
         ap (λ w. Goes (with_more (with_frame w image (replaced s.next image.frame 1 []).frame) (named_thread h t))
-            (map h writes)) (numbered_on_cells b o k)
+        (map h writes)) (numbered_on_cells b o k)
         ∙ ap (λ g. Goes (with_more (with_frame (on_cells h cells (numbered s.world b o)) image g) (named_thread h t))
-            (map h writes)) (ap (λ m. m.frame) (replaced_named h s.next s.frame 1 []))
+        (map h writes)) (ap (λ m. m.frame) (replaced_named h s.next s.frame 1 []))
         ∙ ap (λ w. Goes (with_more w (named_thread h t)) (map h writes)) (frame_on_cells h cells (numbered s.world b o)
-            s f)
+        s f)
         ∙ ap (λ w. Goes w (map h writes)) (more_on_cells (with_frame (numbered s.world b o) s f) t)
 
     begins_on_cells : (b : ℕ) (o : Object) (callee : Callee) → InCell h cells s.world b
@@ -76,9 +76,9 @@ module _ (h : Naming) where
     begins_on_cells b o (Own builtin) k = added_on_cells b o (Ended None) [] k
     begins_on_cells b o (Coded m) k =
         ap (λ f. thread_added image (h b) (named_object h o) (Live (f ∷ [])) (h b ∷ []))
-            (called_named h m.place m.code.max_locals m.code.max_stack (Ref (Some b) ∷ []))
+        (called_named h m.place m.code.max_locals m.code.max_stack (Ref (Some b) ∷ []))
         ∙ added_on_cells b o (Live (called_frame m.place m.code.max_locals m.code.max_stack (Ref (Some b) ∷ []) ∷ []))
-            (b ∷ []) k
+        (b ∷ []) k
 
     start_on_cells : (x y : Completion) (was full : Bool) → x ≡ image_of y → start_if x was full
         ≡ image_of (start_if y was full)
@@ -91,23 +91,23 @@ module _ (h : Naming) where
     starts_on_cells b k =
         let o = k.object in
         ap (λ n. start_if (begins image (h b) (named_object h o)
-            (callee_of s.program (selected s.program (class_of (named_contents h o.contents)) (codes "run")
-            (codes "()V")))) (is_some o.thread) (nat_le 64 n)) threads_length
+        (callee_of s.program (selected s.program (class_of (named_contents h o.contents)) (codes "run")
+        (codes "()V")))) (is_some o.thread) (nat_le 64 n)) threads_length
         ∙ ap (λ class. start_if
-            (begins image (h b) (named_object h o)
-            (callee_of s.program (selected s.program class (codes "run") (codes "()V")))) (is_some o.thread)
-            (nat_le 64 (length s.world.threads))) (class_named h o.contents)
+        (begins image (h b) (named_object h o)
+        (callee_of s.program (selected s.program class (codes "run") (codes "()V")))) (is_some o.thread)
+        (nat_le 64 (length s.world.threads))) (class_named h o.contents)
         ∙ start_on_cells _ _ (is_some o.thread) (nat_le 64 (length s.world.threads))
-            (begins_on_cells b o (callee_of s.program (selected s.program (class_of o.contents) (codes "run")
-            (codes "()V"))) k)
+        (begins_on_cells b o (callee_of s.program (selected s.program (class_of o.contents) (codes "run")
+        (codes "()V"))) k)
 
     pub started_on_cells : (r : Result (Option ℕ) Fault) → ((b : ℕ) → r ≡ Ok (Some b) → Reach s.world b)
         → started image (renamed h (named_ref h) r) ≡ image_of (started s r)
     started_on_cells (Err fault) k = refl
     started_on_cells (Ok None) k = refl
     started_on_cells (Ok (Some b)) k = let t = u.reached b (k b refl)
-                                             in ap (starts image (h b)) (object_in_cell h cells s.world b t)
-                                             ∙ starts_on_cells b t ∙ ap (λ o. image_of (starts s b o)) (sym t.made)
+        in ap (starts image (h b)) (object_in_cell h cells s.world b t)
+        ∙ starts_on_cells b t ∙ ap (λ o. image_of (starts s b o)) (sym t.made)
 
     -- ---- a thread's end is waited for
 
@@ -133,6 +133,6 @@ module _ (h : Naming) where
     joined_on_cells (Ok (Some b)) k =
         let t = u.reached b (k b refl) in
         ap (λ live. if live then Waits else does_nothing image) (ap (λ o. has_live_thread image.world (thread_if o))
-            (object_in_cell h cells s.world b t) ∙ has_on_cells t.object.thread
-            ∙ ap (λ o. has_live_thread s.world (thread_if o)) (sym t.made))
+        (object_in_cell h cells s.world b t) ∙ has_on_cells t.object.thread
+        ∙ ap (λ o. has_live_thread s.world (thread_if o)) (sym t.made))
         ∙ join_on_cells (has_live_thread s.world (thread_if (object_at s.world b)))

@@ -54,7 +54,7 @@ pub callee_may : (P : ℕ → Type 0) (method : MethodPlace) (max_locals max_sta
 callee_may P method max_locals max_stack vs h =
     let n = max_locals - units_of_all vs in
     let locals : AllMay P (map entry_ref (argument_entries vs ++ replicate n Unset)) = rw (map-append entry_ref
-          (argument_entries vs) (replicate n Unset)) (may_both P _ _ (arguments_may P vs h) (unset_may P n)) in
+    (argument_entries vs) (replicate n Unset)) (may_both P _ _ (arguments_may P vs h) (unset_may P n)) in
     may_both P (map entry_ref (argument_entries vs ++ replicate n Unset)) [] locals tt
 
 pub call_moves : (P : ℕ → Type 0) (frames : List Frame) (method : MethodPlace) (max_locals max_stack n : ℕ)
@@ -66,7 +66,7 @@ call_moves P frames method max_locals max_stack n h =
     let k = length frames - 1 in
     let same = length-set frames k g in
     frames_push P frames (set frames k g) (called_frame method max_locals max_stack (arguments_on n f.stack))
-        (omega arith)
+    (omega arith)
     (refs_new P [] _ (callee_may P method max_locals max_stack (arguments_on n f.stack) h)) (λ b e. absurd (cc))
     (frames_set_or P frames k _ g (dropped_moves P f n))
 
@@ -79,16 +79,23 @@ may_forward Q (r ∷ rs) h = rw (reverse-append (r ∷ []) rs) (may_both Q (reve
 
 map-reverse : (vs : List Value) → map ref_of (reverse vs) ≡ reverse (map ref_of vs)
 map-reverse [] = refl
-map-reverse (v ∷ vs) = rw (reverse-append (v ∷ []) vs, map-append ref_of (reverse vs) (v ∷ []),
-    reverse-append (ref_of v ∷ []) (map ref_of vs), map-reverse vs) refl
+map-reverse (v ∷ vs) = rw (
+  reverse-append (v ∷ []) vs,
+  map-append ref_of (reverse vs) (v ∷ []),
+  reverse-append (ref_of v ∷ []) (map ref_of vs),
+  map-reverse vs,
+) refl
 
 -- so many operands at the top
 pub operands_known : (w : World) (t n : ℕ) (f : Frame) → running (frames_at w t) ≡ Some f
     → AllMay (Reach w) (map ref_of (take n f.stack))
 operands_known w t n f e =
     let all = stack_known w t _ f e in
-    let cut : AllMay (Reach w) (map ref_of (take n f.stack) ++ map ref_of (drop n f.stack)) = rw (← map-append ref_of
-          (take n f.stack) (drop n f.stack), take-append-drop n f.stack) all in
+    let cut : AllMay (Reach w) (map ref_of (take n f.stack) ++ map ref_of (drop n f.stack)) = rw (
+      ← map-append ref_of
+          (take n f.stack) (drop n f.stack),
+      take-append-drop n f.stack,
+    ) all in
     may_left (Reach w) (map ref_of (take n f.stack)) (map ref_of (drop n f.stack)) cut
 
 -- and those below them
@@ -96,8 +103,11 @@ pub below_known : (w : World) (t n : ℕ) (f : Frame) → running (frames_at w t
     → AllMay (Reach w) (map ref_of (drop n f.stack))
 below_known w t n f e =
     let all = stack_known w t _ f e in
-    let cut : AllMay (Reach w) (map ref_of (take n f.stack) ++ map ref_of (drop n f.stack)) = rw (← map-append ref_of
-          (take n f.stack) (drop n f.stack), take-append-drop n f.stack) all in
+    let cut : AllMay (Reach w) (map ref_of (take n f.stack) ++ map ref_of (drop n f.stack)) = rw (
+      ← map-append ref_of
+          (take n f.stack) (drop n f.stack),
+      take-append-drop n f.stack,
+    ) all in
     may_right (Reach w) (map ref_of (take n f.stack)) (map ref_of (drop n f.stack)) cut
 
 pub arguments_known : (w : World) (t n : ℕ) (f : Frame) → running (frames_at w t) ≡ Some f

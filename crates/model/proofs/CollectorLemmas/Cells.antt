@@ -80,8 +80,10 @@ untint b (Taken a Grey) h = cc
 untint b (Taken a Black) h = cc
 
 pub tinted_not_white : (b : ℕ) (cells : List Cell) → NotWhite (map (tint b) cells) b
-tinted_not_white b cells = record { never = λ c h. untint b (cell_at cells c) (sym (cell_at-map (tint b) refl cells c)
-    ∙ h) }
+tinted_not_white b cells = record {
+  never = λ c h. untint b (cell_at cells c) (sym (cell_at-map (tint b) refl cells c)
+      ∙ h);
+}
 
 -- each cell is as before, or held the birth white and now holds it grey
 pub record Darker (b : ℕ) (old new : List Cell) : Type 0 where
@@ -146,8 +148,10 @@ or_false false t e = (refl, e)
 pub white_where : (b : ℕ) (cells : List Cell) → has_white b cells ≡ true → (c : ℕ) × (cell_at cells c ≡ Taken b White)
 white_where b [] e = absurd (cc)
 white_where b (x ∷ xs) e =
-    elim (or_true (is_white b x) (has_white b xs) e) [ inl h ↦ (0, white_by b x h) |
-        inr h ↦ (let r = white_where b xs h in (suc r.0, r.1)) ]
+    elim (or_true (is_white b x) (has_white b xs) e) [
+      | inl h ↦ (0, white_by b x h)
+      | inr h ↦ (let r = white_where b xs h in (suc r.0, r.1))
+    ]
 
 nowhere : (b : ℕ) (cells : List Cell) → has_white b cells ≡ false → (c : ℕ) → cell_at cells c ≡ Taken b White → ⊥
 nowhere b [] e c h = cc

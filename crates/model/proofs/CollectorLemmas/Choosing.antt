@@ -75,8 +75,14 @@ created_on_lawful w t next taken contents (Some f) e h = created_if_room w t nex
 -- ---- something is thrown that is there
 
 there : (w : World) (P : ℕ → Type 0) → Kept P w (next_birth w) w
-there w P = record { fault = refl; rows = refl; threads = refl; fields = refl; made = refl;
-    objects = objects_same P w.objects }
+there w P = record {
+  fault = refl;
+  rows = refl;
+  threads = refl;
+  fields = refl;
+  made = refl;
+  objects = objects_same P w.objects;
+}
 
 no_room_lawful : (program : List ClassListing) (w : World) (t : ℕ)
     → Lawful w None (effect_of program w t NewObject (Throws 1))
@@ -108,10 +114,10 @@ raised_lawful : (program : List ClassListing) (w : World) (states : List ClassSt
     choice)
 raised_lawful program w states t exception NewObject =
     thrown_lawful program w (with_new (with_class_states w states) (plain_object (exception_class exception))) (Some 0)
-        t (next_birth w) refl (inl refl) (one_more w states (exception_class exception))
+    t (next_birth w) refl (inl refl) (one_more w states (exception_class exception))
 raised_lawful program w states t exception NoRoom =
     thrown_lawful program w (with_class_states w states) None t 1 refl (inr (memory_error_known w))
-        (λ P. states_keep P w w (next_birth w) states (there w P))
+    (λ P. states_keep P w w (next_birth w) states (there w P))
 
 -- ---- whatever an instruction comes to
 
@@ -123,12 +129,22 @@ none_made NoRoom = refl
 -- what is printed is no place
 printed_moves : (w after : World) (output : List ℕ) → Moves w (record { after = after; object = None; writes = [] })
     → Moves w (record { after = record after { output = output }; object = None; writes = [] })
-printed_moves w after output m = record { counted = m.counted; statics = m.statics; threads = m.threads;
-    objects = m.objects; writes = m.writes }
+printed_moves w after output m = record {
+  counted = m.counted;
+  statics = m.statics;
+  threads = m.threads;
+  objects = m.objects;
+  writes = m.writes;
+}
 
 nothing_moves : (w : World) → Moves w (record { after = w; object = None; writes = [] })
-nothing_moves w = record { counted = refl; statics = refs_same _ _; threads = threads_same _ w.threads;
-    objects = objects_same _ w.objects; writes = λ b k. absurd k }
+nothing_moves w = record {
+  counted = refl;
+  statics = refs_same _ _;
+  threads = threads_same _ w.threads;
+  objects = objects_same _ w.objects;
+  writes = λ b k. absurd k;
+}
 
 pub effect_lawful : (program : List ClassListing) (w : World) (t : ℕ) (choice : Choice) (c : Completion)
     → CompletionMoves w c → Lawful w (object_of choice (asks c)) (effect_of program w t choice c)

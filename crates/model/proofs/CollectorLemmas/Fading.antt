@@ -63,8 +63,12 @@ module _ (L : ℕ → Type 0) where
 
   pub darker_fades : (s : ℕ) (phase : Phase) (b : ℕ) (old new : List Cell) → Darker b old new → (L b → ⊥)
       → Fades s phase old → Fades s phase new
-  darker_fades s phase b old new d never f = record { at = λ c a x e l. elim (before d c a x e) [ inl k ↦ f.at c a x k l
-      | inr k ↦ absurd (never (rw k.0 at l)) ] }
+  darker_fades s phase b old new d never f = record {
+    at = λ c a x e l. elim (before d c a x e) [
+      | inl k ↦ f.at c a x k l
+      | inr k ↦ absurd (never (rw k.0 at l))
+    ];
+  }
 
   -- a root is shaded
   root_fades : (s : ℕ) (w : World) (a : Account) (p : Place) (r : Option ℕ) (phase : Phase) → root_at w p ≡ r → Apart w
@@ -84,17 +88,17 @@ module _ (L : ℕ → Type 0) where
   statics_fades : (s : ℕ) (w : World) (a : Account) (i : ℕ) (more : Bool) → Apart w → Fades s (Statics i) a.cells
       → Fades s (statics_step w a i more).phase (statics_step w a i more).cells
   statics_fades s w a i true h f = let k = root_fades s w a (Slot i) (root_at w (Slot i)) (Statics i) refl h f
-                                         in record { at = k.at }
+      in record { at = k.at }
   statics_fades s w a i false h f = record { at = f.at }
 
   frames_fades : (s : ℕ) (w : World) (a : Account) (t d j : ℕ) (x y z : Bool) → Apart w → Fades s (Frames t d j) a.cells
       → Fades s (frames_step w a t d j x y z).phase (frames_step w a t d j x y z).cells
   frames_fades s w a t d j true true true h f = let k = root_fades s w a (FrameEntry t d j)
-                                                      (root_at w (FrameEntry t d j)) (Frames t d j) refl h f
-                                                      in record { at = k.at }
+      (root_at w (FrameEntry t d j)) (Frames t d j) refl h f
+      in record { at = k.at }
   frames_fades s w a t d j true true false h f = let k = root_fades s w a (MethodMonitor t d)
-                                                       (root_at w (MethodMonitor t d)) (Frames t d j) refl h f
-                                                       in record { at = k.at }
+      (root_at w (MethodMonitor t d)) (Frames t d j) refl h f
+      in record { at = k.at }
   frames_fades s w a t d j true false z h f = record { at = f.at }
   frames_fades s w a t d j false y z h f = record { at = f.at }
 
@@ -113,7 +117,7 @@ module _ (L : ℕ → Type 0) where
   word_fades zero w a q y (Some b) e i h f = record { at = λ c a x k l. tt }
   word_fades (suc s) w a q y (Some b) e i h f =
       let k = darker_fades (suc s) (Mark q) b a.cells (shade a b).cells (shade_darker a b)
-            (λ l. front_not_lost s q y a.cells i f (h.words y q b e l)) f in
+      (λ l. front_not_lost s q y a.cells i f (h.words y q b e l)) f in
       record { at = k.at }
 
   black_fades : (s : ℕ) (cells : List Cell) (q y : ℕ) → (c : ℕ) × (cell_at cells c ≡ Taken y Grey)
@@ -139,8 +143,10 @@ module _ (L : ℕ → Type 0) where
   mark_fades : (s : ℕ) (w : World) (a : Account) (q : ℕ) (grey : List ℕ) → ((b c : ℕ) → cell_at a.cells c ≡ Taken b Grey
       → In b grey) → ((b : ℕ) → In b grey → (c : ℕ) × (cell_at a.cells c ≡ Taken b Grey)) → Apart w
       → Fades s (Mark q) a.cells → Fades s (mark_step w a q grey).phase (mark_step w a q grey).cells
-  mark_fades s w a q [] listed only h f = record { at = λ c b x k l. mark_end_by s a.cells listed c b x k
-      (f.at c b x k l) }
+  mark_fades s w a q [] listed only h f = record {
+    at = λ c b x k l. mark_end_by s a.cells listed c b x k
+        (f.at c b x k l);
+  }
   mark_fades s w a q (y ∷ rest) listed only h f = go (nat_lt q (length (words_of w.objects y)))
     where
       go : (more : Bool) → Fades s (word_step w a q y rest more).phase (word_step w a q y rest more).cells
@@ -170,18 +176,21 @@ module _ (L : ℕ → Type 0) where
 
   swept_fades : (shape : HeapShape) (s : ℕ) (a : Account) (p : ℕ) (x : Cell) → cell_at a.cells p ≡ x
       → Fades s (Append p) a.cells → Fades s (Append (p + 1)) (swept shape a p x).cells
-  swept_fades shape s a p Free e f = record { at = λ c b y k l. unswept_on s p c y
-      (λ h. let z = ap (cell_at a.cells) h in cc) (f.at c b y k l) }
+  swept_fades shape s a p Free e f = record {
+    at = λ c b y k l. unswept_on s p c y
+        (λ h. let z = ap (cell_at a.cells) h in cc) (f.at c b y k l);
+  }
   swept_fades shape s a p (Taken b White) e f = record {
     at = λ c d y k l. (
         let o = freed_before a.cells p (taken_within a.cells p b White e) c d y
-              (rw (listed_cells (with_cell a p Free) p _ _) at k) in
+        (rw (listed_cells (with_cell a p Free) p _ _) at k) in
         unswept_on s p c y o.0 (f.at c d y o.1 l));
   }
-  swept_fades shape s a p (Taken b Grey) e f = record { at = λ c d y k l. unswept_on s p c y
-      (λ h. (let z = ap (cell_at a.cells) h in let same : y ≡ Grey = cc
-                                                     in grey_gone s p c (rw same at (f.at c d y k l)))) (f.at c d y k l)
-                                                     }
+  swept_fades shape s a p (Taken b Grey) e f = record {
+    at = λ c d y k l. unswept_on s p c y
+        (λ h. (let z = ap (cell_at a.cells) h in let same : y ≡ Grey = cc
+        in grey_gone s p c (rw same at (f.at c d y k l)))) (f.at c d y k l);
+  }
   swept_fades shape s a p (Taken b Black) e f = record {
     at = λ c d y k l. elim (white_before a.cells p b e c d y k) [
       | inl o ↦ (rw o.2 (black_to_white s p c (p + 1)
@@ -204,9 +213,11 @@ module _ (L : ℕ → Type 0) where
       (append_step shape a p more).cells
   append_fades shape s a p true e f = swept_fades shape s a p (cell_at a.cells p) refl f
   append_fades shape s a p false e
-      f = record { at = λ c b x k l. (let lt = taken_within a.cells c b x k
-                                            in let le = ltb-false p (length a.cells) e
-                                                     in cycle_end s p c x (omega arith) (f.at c b x k l)) }
+      f = record {
+        at = λ c b x k l. (let lt = taken_within a.cells c b x k
+            in let le = ltb-false p (length a.cells) e
+            in cycle_end s p c x (omega arith) (f.at c b x k l));
+      }
 
   -- ---- each step
 

@@ -19,8 +19,10 @@ module _ (L : ℕ → Type 0) where
 
   written_not_lost : (w : World) (c : Change) (b : ℕ) → Allowed w c → Apart L w → ((x : ℕ) → L x → x < next_birth w)
       → In b c.writes → L b → ⊥
-  written_not_lost w c b h a old k l = elim (h.writes b k) [ inl s ↦ new_not_lost c.object (next_birth w) b old s l |
-      inr r ↦ not_reached L w b a r l ]
+  written_not_lost w c b h a old k l = elim (h.writes b k) [
+    | inl s ↦ new_not_lost c.object (next_birth w) b old s l
+    | inr r ↦ not_reached L w b a r l
+  ]
 
   fresh_not_lost : (w : World) (c : Change) (b : ℕ) → Allowed w c → Apart L w → ((x : ℕ) → L x → x < next_birth w)
       → Fresh w c b → L b → ⊥
@@ -31,8 +33,10 @@ module _ (L : ℕ → Type 0) where
       → Apart L c.after
   apart_after w c h a old = record {
     roots = λ p b e l. elim (h.roots p b e) [ inl o ↦ a.roots p b o l | inr f ↦ fresh_not_lost w c b h a old f l ];
-    words = λ x k b e l. elim (h.words x k b e) [ inl o ↦ a.words x k b o l |
-        inr f ↦ absurd (fresh_not_lost w c b h a old f l) ];
+    words = λ x k b e l. elim (h.words x k b e) [
+      | inl o ↦ a.words x k b o l
+      | inr f ↦ absurd (fresh_not_lost w c b h a old f l)
+    ];
   }
 
   all_fades : (s : ℕ) (bs : List ℕ) (a : Account) → ((b : ℕ) → In b bs → L b → ⊥) → Fades L s a.phase a.cells
@@ -40,17 +44,17 @@ module _ (L : ℕ → Type 0) where
   all_fades s [] a n f = f
   all_fades s (b ∷ bs) a n f =
       all_fades s bs (shade a b) (λ x k. n x (inr k))
-          (rw (shade_phase a b) (darker_fades L s a.phase b a.cells (shade a b).cells (shade_darker a b)
-          (n b (inl refl)) f))
+      (rw (shade_phase a b) (darker_fades L s a.phase b a.cells (shade a b).cells (shade_darker a b)
+      (n b (inl refl)) f))
 
   here_fades : (shape : HeapShape) (s n c : ℕ) (a b : Account) → Takes shape n a c b → ((x : ℕ) → L x → x < n)
       → Fades L s a.phase a.cells → Fades L s b.phase (set b.cells c (Taken n Grey))
   here_fades shape s n c a b t old f = rw t.is (record {
     at = λ d y x k l. elim (came_before n c Grey a.cells (set a.cells c (Taken n Grey))
         (came_here n c Grey a.cells t.within t.was_free) d y x k) [
-      | inl o ↦ (let lt = old y l in let o1 = o.1 in absurd (omega arith))
-      | inr o ↦ f.at d y x o l
-    ];
+          | inl o ↦ (let lt = old y l in let o1 = o.1 in absurd (omega arith))
+          | inr o ↦ f.at d y x o l
+        ];
   })
 
   placed_fades : (shape : HeapShape) (s n words : ℕ) (a : Account) (o : Option (ℕ × Account)) → take_cell a words ≡ o

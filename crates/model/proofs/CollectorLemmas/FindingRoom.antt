@@ -48,8 +48,14 @@ released_all_fault w v t (monitor ∷ monitors) k = released_all_fault w (releas
     (released_keeps _ w v (next_birth w) t monitor k)
 
 left_fault : (w : World) (t : ℕ) (monitors : List (Option ℕ)) → (released_all w t monitors).fault ≡ w.fault
-left_fault w t monitors = released_all_fault w w t monitors (record { fault = refl; rows = refl; threads = refl;
-    fields = refl; made = refl; objects = objects_same _ w.objects })
+left_fault w t monitors = released_all_fault w w t monitors (record {
+  fault = refl;
+  rows = refl;
+  threads = refl;
+  fields = refl;
+  made = refl;
+  objects = objects_same _ w.objects;
+})
 
 landed_fault : (before w : World) (t birth : ℕ) (class : List ℕ) (l : Landing) → w.fault ≡ None
     → is_fault (landed before w t birth class l).after ≡ true → landed before w t birth class l
@@ -70,7 +76,7 @@ thrown_fault program before w t birth n e =
     let class = class_at w birth in
     let way = way_of program class (reverse (frames_at w t)) in
     landed_fault before (without program w t way.left) t birth class way.landing
-        (left_fault w t (map (λ (f : Frame). f.monitor) way.left) ∙ n) e
+    (left_fault w t (map (λ (f : Frame). f.monitor) way.left) ∙ n) e
 
 created_with_fault : (w : World) (t : ℕ) (contents : Contents) (r : Result Moved Abrupt) → w.fault ≡ None
     → is_fault (created_with w t contents r).after ≡ true → created_with w t contents r ≡ faulted w t StackFull
@@ -99,7 +105,7 @@ one_effect program w t (Raises exception) h n e g = thrown_fault program w
 one_effect program w t (Denies states) h n e g =
     let v = with_class_states w states in
     thrown_fault program w (with_new v (plain_object (exception_class NoClassDefFound))) t (next_birth w) n e
-        ∙ sym (thrown_fault program w v t 1 n g)
+    ∙ sym (thrown_fault program w v t 1 n g)
 one_effect program w t (Faults fault) h n e g = refl
 one_effect program w t Waits h n e g = refl
 
@@ -162,15 +168,23 @@ chooses_by_room program shape limits n m t h e = by_asked (asked program m.world
     by_has words s true r k = record {
       choice = NewObject;
       goes = k ∙ ap counted (outcome_goes program m.world t NewObject Object none refl);
-      by_room = (λ z. absurd (cc),
-          λ l. (let a = l.asks in let same : l.words ≡ words = cc
-                                        in absurd (l.none (rw same ((room_is_listed shape n m.account words h).1 r)))));
+      by_room = (
+        λ z. absurd (cc),
+        λ l. (let a = l.asks in let same : l.words ≡ words = cc
+            in absurd (l.none (rw same ((room_is_listed shape n m.account words h).1 r)))),
+      );
     }
     by_has words s false r k = record {
       choice = NoRoom;
       goes = k ∙ ap counted (outcome_goes program m.world t NoRoom FoundNoRoom none refl);
-      by_room = (λ z. record { words = words; asks = s;
-          none = λ x. (let y = (room_is_listed shape n m.account words h).0 x in cc) }, λ l. refl);
+      by_room = (
+        λ z. record {
+          words = words;
+          asks = s;
+          none = λ x. (let y = (room_is_listed shape n m.account words h).0 x in cc);
+        },
+        λ l. refl,
+      );
     }
 
     by_asked : (o : Option ℕ) → asked program m.world t ≡ o → (moved_by program shape limits m (Thread t)).world

@@ -67,9 +67,11 @@ swept_held : (shape : HeapShape) (a : Account) (p : ℕ) (x : Cell) → cell_at 
     → cell_at (swept shape a p x).cells c ≡ Taken b y → Held a.cells c b
 unfolding Held
 swept_held shape a p Free h c b y e = (y, e)
-swept_held shape a p (Taken x White) h c b y e = (y,
-    (freed_before a.cells p (taken_within a.cells p x White h) c b y (rw (listed_cells (with_cell a p Free) p _ _) at
-    e)).1)
+swept_held shape a p (Taken x White) h c b y e = (
+  y,
+  (freed_before a.cells p (taken_within a.cells p x White h) c b y (rw (listed_cells (with_cell a p Free) p _ _) at
+      e)).1,
+)
 swept_held shape a p (Taken x Grey) h c b y e = (y, e)
 swept_held shape a p (Taken x Black) h c b y e = white_held a.cells p x h c b y e
 
@@ -83,7 +85,7 @@ pub step_held : (shape : HeapShape) (w : World) (a : Account) (phase : Phase) (c
     → cell_at (step_in shape w a phase).cells c ≡ Taken b y → Held a.cells c b
 unfolding Held
 step_held shape w a Idle c b y e = let k = held_before (shade_darker (shade a 1) 2) c b y e
-                                         in held_before (shade_darker a 1) c b k.0 k.1
+    in held_before (shade_darker a 1) c b k.0 k.1
 step_held shape w a (Statics s) c b y e = statics_held w a s (nat_lt s (length (slots_of w))) c b y e
 step_held shape w a (Frames t d j) c b y e = frames_held w a t d j _ _ _ c b y e
 step_held shape w a (Mark q) c b y e = mark_held w a q a.grey c b y e

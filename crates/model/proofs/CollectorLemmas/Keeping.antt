@@ -24,10 +24,13 @@ swept_kept : (shape : HeapShape) (a : Account) (p : ℕ) (z : Cell) → cell_at 
 unfolding KeptBefore
 swept_kept shape a p Free e c b x h k = (x, h, kept_back p c x (λ s. let r = ap (cell_at a.cells) s in cc) k)
 swept_kept shape a p (Taken d White) e c b x h k = let o = freed_before a.cells p (taken_within a.cells p d White e) c b
-                                                         x (rw (listed_cells (with_cell a p Free) p _ _) at h)
-                                                         in (x, o.1, kept_back p c x o.0 k)
-swept_kept shape a p (Taken d Grey) e c b White h k = (White, h,
-    kept_back p c White (λ s. let r = ap (cell_at a.cells) s in cc) k)
+    x (rw (listed_cells (with_cell a p Free) p _ _) at h)
+    in (x, o.1, kept_back p c x o.0 k)
+swept_kept shape a p (Taken d Grey) e c b White h k = (
+  White,
+  h,
+  kept_back p c White (λ s. let r = ap (cell_at a.cells) s in cc) k,
+)
 swept_kept shape a p (Taken d Grey) e c b Grey h k = (Grey, h, tt)
 swept_kept shape a p (Taken d Grey) e c b Black h k = (Black, h, tt)
 swept_kept shape a p (Taken d Black) e c b x h k = elim (white_before a.cells p d e c b x h) [
@@ -40,8 +43,11 @@ append_kept : (shape : HeapShape) (a : Account) (p : ℕ) (more : Bool) → nat_
     → Kept (append_step shape a p more).phase c x → KeptBefore (Append p) a c b
 unfolding KeptBefore
 append_kept shape a p true e c b x h k = swept_kept shape a p (cell_at a.cells p) refl c b x h k
-append_kept shape a p false e c b x h k = (x, h,
-    passed x (let lt = taken_within a.cells c b x h in let le = ltb-false p (length a.cells) e in omega arith))
+append_kept shape a p false e c b x h k = (
+  x,
+  h,
+  passed x (let lt = taken_within a.cells c b x h in let le = ltb-false p (length a.cells) e in omega arith),
+)
   where
     passed : (y : Colour) → c < p → Kept (Append p) c y
     passed White l = l

@@ -32,17 +32,19 @@ all_back shape w n (x ∷ xs) a k i d b h =
     let first = k x (inl refl) in
     shade_back shape n a x i.tidy first d b
     (all_back shape w n xs (shade a x) (λ y m. kept_in_shade a x y (k y (inr m))) (shade_keeps shape w n a x first i) d
-        b h)
+    b h)
 
 here_back : (shape : HeapShape) (n c : ℕ) (a e : Account) → Takes shape n a c e → (d b : ℕ)
     → HeldKept (record e { cells = set e.cells c (Taken n Grey); grey = e.grey ++ n ∷ [] }) d b
     → (b ≡ n) ⊎ HeldKept a d b
 unfolding HeldKept
 here_back shape n c a e t d b h =
-    let k : HeldKept (record (relisted a t.small t.medium t.large) { cells = set a.cells c (Taken n Grey);
-          grey = a.grey ++ n ∷ [] }) d b = rw t.is at h in
+    let k : HeldKept (record (relisted a t.small t.medium t.large) {
+      cells = set a.cells c (Taken n Grey);
+      grey = a.grey ++ n ∷ [];
+    }) d b = rw t.is at h in
     elim (came_before n c Grey a.cells (set a.cells c (Taken n Grey)) (came_here n c Grey a.cells t.within t.was_free) d
-        b k.0 k.1) [
+    b k.0 k.1) [
       | inl s ↦ inl s.1
       | inr s ↦ inr (k.0, s, k.2)
     ]
@@ -68,6 +70,8 @@ changed_kept shape w a c room h i d b k =
     let e = new_object a n c.object in
     let o = opened shape w c.object a room i in
     let written = λ (x : ℕ) (m : In x c.writes). elim (h.writes x m) as (λ _. HasKept e.phase e.cells x) [
-          inl s ↦ (o.new x s).kept | inr r ↦ o.old x (reach_kept shape w n a x i r) ] in
+      | inl s ↦ (o.new x s).kept
+      | inr r ↦ o.old x (reach_kept shape w n a x i r)
+    ] in
     object_back shape n c.object a room i.tidy d b (all_back shape w (births_after c.object n) c.writes e written o.inv
-        d b k)
+    d b k)

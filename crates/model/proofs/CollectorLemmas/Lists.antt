@@ -20,6 +20,7 @@ In-push_cases (x ∷ xs) y b (inr h) = elim (In-push_cases xs y b h) [ inl r ↦
 
 pub Distinct-push : (xs : List ℕ) (y : ℕ) → Distinct xs → (In y xs → ⊥) → Distinct (xs ++ y ∷ [])
 Distinct-push [] y d h = (λ k. k, tt)
-Distinct-push (x ∷ xs) y d h =
-    (λ k. elim (In-push_cases xs y x k) [ inl r ↦ d.0 r | inr e ↦ h (inl (sym e)) ],
-        Distinct-push xs y d.1 (λ k. h (inr k)))
+Distinct-push (x ∷ xs) y d h = (
+  λ k. elim (In-push_cases xs y x k) [ inl r ↦ d.0 r | inr e ↦ h (inl (sym e)) ],
+  Distinct-push xs y d.1 (λ k. h (inr k)),
+)

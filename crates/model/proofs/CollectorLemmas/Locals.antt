@@ -63,9 +63,9 @@ with_local_moves P locals index (Long z) h =
     let one = freed locals index in
     let two = freed one (index + 1) in
     let m = refs_trans P (map entry_ref locals) (map entry_ref one) (map entry_ref two) (freed_moves P locals
-          index) (freed_moves P one (index + 1)) in
+    index) (freed_moves P one (index + 1)) in
     then_set P locals (set two index (Holds (Long z))) (index + 1) UpperHalf (λ b e. absurd (cc)) (then_set P locals two
-        index (Holds (Long z)) h m)
+    index (Holds (Long z)) h m)
 
 -- ---- their number stays
 
@@ -90,7 +90,7 @@ length-with_local locals index (Long z) =
     let one = freed locals index in
     let two = freed one (index + 1) in
     length-set (set two index (Holds (Long z))) (index + 1) UpperHalf ∙ length-set two index (Holds (Long z))
-        ∙ length-freed one (index + 1) ∙ length-freed locals index
+    ∙ length-freed one (index + 1) ∙ length-freed locals index
 
 -- ---- a store
 
@@ -98,9 +98,11 @@ pub stored_moves : (P : ℕ → Type 0) (next : ℕ) (f : Frame) (n index : ℕ)
     → ((b : ℕ) → ref_of v ≡ Some b → P b) → FrameMoves P f (stored next f n index v).frame
 stored_moves P next f n index v h =
     let e = length-map f.locals entry_ref ∙ sym (length-with_local f.locals index v)
-          ∙ sym (length-map (with_local f.locals index v) entry_ref) in
-    (refs_both P (map entry_ref f.locals) (map entry_ref (with_local f.locals index v)) _ _ e
-        (with_local_moves P f.locals index v h) (stack_pushed P n f.stack [] tt), λ b k. inl k)
+    ∙ sym (length-map (with_local f.locals index v) entry_ref) in (
+      refs_both P (map entry_ref f.locals) (map entry_ref (with_local f.locals index v)) _ _ e
+          (with_local_moves P f.locals index v h) (stack_pushed P n f.stack [] tt),
+      λ b k. inl k,
+    )
 
 pub stored_lawful : (w : World) (next : ℕ) (f : Frame) (n index : ℕ) (v : Value)
     → ((b : ℕ) → ref_of v ≡ Some b → Reach w b) → ResultMoves w f (Ok (stored next f n index v))

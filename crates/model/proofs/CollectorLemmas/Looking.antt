@@ -65,11 +65,19 @@ pub look_keeps : (shape : HeapShape) (w : World) (n : ℕ) (a : Account) (phase 
     → Invariant shape w n a → Invariant shape w n (at_phase a phase)
 look_keeps shape w n a phase old new s i = record {
   tidy = tidy-phase shape n a phase i.tidy;
-  roots = λ p b e. (let k = i.roots p b e in record { cell = k.cell; colour = k.colour; held = k.held;
-                          kept = looking_kept phase new k.cell k.colour });
+  roots = λ p b e. (let k = i.roots p b e in record {
+    cell = k.cell;
+    colour = k.colour;
+    held = k.held;
+    kept = looking_kept phase new k.cell k.colour;
+  });
   words = λ c b x k b' h q e. (let k = i.words c b x k b' h (looking_kept a.phase old c x) e
-                                     in record { cell = k.cell; colour = k.colour; held = k.held;
-                                     kept = looking_kept phase new k.cell k.colour });
+      in record {
+        cell = k.cell;
+        colour = k.colour;
+        held = k.held;
+        kept = looking_kept phase new k.cell k.colour;
+      });
   scanned = s;
   unblack = λ c b h u. i.unblack c b h (looking_unblack a.phase old c);
   marked = λ c b k b' m h e. absurd (looking_mark phase new m);
@@ -83,8 +91,10 @@ pub shade_root : (shape : HeapShape) (w : World) (n : ℕ) (a : Account) (phase 
     ≡ Some b → Scanned a.phase q ⊎ (q ≡ p)) → Invariant shape w n a
     → Invariant shape w n (at_phase (shade_ref a r) phase)
 shade_root shape w n a phase p None e old new s i =
-    look_keeps shape w n a phase old new (λ q b h f. elim (s q b h f) [ inl o ↦ i.scanned q b o f |
-        inr k ↦ (let r = ap (root_at w) k in absurd (cc)) ]) i
+    look_keeps shape w n a phase old new (λ q b h f. elim (s q b h f) [
+      | inl o ↦ i.scanned q b o f
+      | inr k ↦ (let r = ap (root_at w) k in absurd (cc))
+    ]) i
 shade_root shape w n a phase p (Some c) e old new s i =
     look_keeps shape w n (shade a c) phase (rw (shade_phase a c) old) new
     (λ q b h f. elim (s q b h f) [
@@ -107,8 +117,10 @@ slots_end : (w : World) (s : ℕ) → length (slots_of w) ≤ s → (q : Place) 
 slots_end w s l MemoryError b h e = tt
 slots_end w s l StackError b h e = tt
 slots_end w s l (Slot i) b h e = let k = slot_within w i b e in omega arith
-slots_end w s l (FrameEntry t d j) b h e = absurd (elim h [ inl k ↦ omega arith |
-    inr k ↦ elim k [ inl r ↦ omega arith | inr r ↦ omega arith ] ])
+slots_end w s l (FrameEntry t d j) b h e = absurd (elim h [
+  | inl k ↦ omega arith
+  | inr k ↦ elim k [ inl r ↦ omega arith | inr r ↦ omega arith ]
+])
 slots_end w s l (MethodMonitor t d) b h e = absurd (elim h [ inl k ↦ omega arith | inr k ↦ omega arith ])
 
 statics_by : (shape : HeapShape) (w : World) (n : ℕ) (a : Account) (s : ℕ) (more : Bool)
@@ -116,10 +128,10 @@ statics_by : (shape : HeapShape) (w : World) (n : ℕ) (a : Account) (s : ℕ) (
     → Invariant shape w n (statics_step w a s more)
 statics_by shape w n a s true e f i =
     shade_root shape w n a (Statics (s + 1)) (Slot s) (root_at w (Slot s)) refl (rw f tt) tt
-        (λ q b h r. rw f (slot_next s q h)) i
+    (λ q b h r. rw f (slot_next s q h)) i
 statics_by shape w n a s false e f i =
     look_keeps shape w n a (Frames 0 0 0) (rw f tt) tt
-        (λ p b h r. i.scanned p b (rw f (slots_end w s (ltb-false s (length (slots_of w)) e) p b h r)) r) i
+    (λ p b h r. i.scanned p b (rw f (slots_end w s (ltb-false s (length (slots_of w)) e) p b h r)) r) i
 
 pub statics_keeps : (shape : HeapShape) (w : World) (n : ℕ) (a : Account) (s : ℕ) → a.phase ≡ Statics s
     → Invariant shape w n a → Invariant shape w n (step_in shape w a (Statics s))
@@ -143,8 +155,8 @@ idle_keeps shape w n a f i =
     look_keeps shape w n (shade (shade a 1) 2) (Statics 0) (rw (shade_phase (shade a 1) 2, shade_phase a 1, f) tt) tt
     (λ q b h r. elim (idle_next q h) [
       | inl e ↦ (let k = ap (root_at w) e in let s : b ≡ 1 = cc
-                                                   in rw s (darker_not_white (shade_darker (shade a 1) 2) 1
-                                                   (shade_not_white a 1)))
+          in rw s (darker_not_white (shade_darker (shade a 1) 2) 1
+          (shade_not_white a 1)))
       | inr e ↦ (let k = ap (root_at w) e in let s : b ≡ 2 = cc in rw s (shade_not_white (shade a 1) 2))
     ])
     two

@@ -27,8 +27,12 @@ in_mark a grey q = record a { grey = grey; phase = Mark q }
 
 kept_of_not_white : (cells : List Cell) (b q : ℕ) → HasKept (Mark q) cells b → NotWhite cells b
     → HasKept (Append 0) cells b
-kept_of_not_white cells b q k n = record { cell = k.cell; colour = k.colour; held = k.held;
-    kept = dark k.colour k.held }
+kept_of_not_white cells b q k n = record {
+  cell = k.cell;
+  colour = k.colour;
+  held = k.held;
+  kept = dark k.colour k.held;
+}
   where
     dark : (x : Colour) → cell_at cells k.cell ≡ Taken b x → Kept (Append 0) k.cell x
     dark White h = absurd (n.never k.cell h)
@@ -66,8 +70,12 @@ mark_on : (shape : HeapShape) (w : World) (n : ℕ) (a : Account) (grey : List �
 mark_on shape w n a grey q r f g i = record {
   tidy = tidy-phase shape n (in_mark a grey q) (Mark r) i.tidy;
   roots = λ p b e. (let k = i.roots p b e in record { cell = k.cell; colour = k.colour; held = k.held; kept = tt });
-  words = λ c b x k b' h kept e. (let k = i.words c b x k b' h tt e in record { cell = k.cell; colour = k.colour;
-                                        held = k.held; kept = tt });
+  words = λ c b x k b' h kept e. (let k = i.words c b x k b' h tt e in record {
+    cell = k.cell;
+    colour = k.colour;
+    held = k.held;
+    kept = tt;
+  });
   scanned = λ p b s e. i.scanned p b tt e;
   unblack = λ c b h u. u;
   marked = λ c b k b' m h e. i.marked c b k b' tt h e;
@@ -100,14 +108,14 @@ word_keeps shape w n a q y rest (Some x) e i =
     let p = i.tidy.only_grey y (inl refl) in
     let j = shade_keeps shape w n m x (i.words p.0 y Grey q x p.1 tt e) i in
     mark_on shape w n (record a { cells = map (tint x) a.cells }) (grey_after (has_white x a.cells) (y ∷ rest) x) q
-        (q + 1)
+    (q + 1)
     (λ b k b' f h. (
     let g = front_cases q y rest x (has_white x a.cells) b k f in
     let c : (k < q) ⊎ (k ≡ q) = (let lt = g.1 in grind arith) in
     elim c [
       | inl l ↦ darker_not_white (shade_darker m x) b' (i.front b k b' (g.0, l) h)
       | inr s ↦ (let g0 = g.0 in let z = ap₂ (word_at w) g0 s
-                                       in let same : b' ≡ x = cc in rw same (shade_not_white m x))
+          in let same : b' ≡ x = cc in rw same (shade_not_white m x))
     ]))
     (begun_cases (q + 1) y rest x (has_white x a.cells))
     j
@@ -181,8 +189,12 @@ black_kept cells b q a k = elim (blackened_taken b cells k.cell a k.colour k.hel
 ]
 
 black_not_white : (cells : List Cell) (b a : ℕ) → NotWhite cells a → NotWhite (map (blackened b) cells) a
-black_not_white cells b a n = record { never = λ c e. elim (blackened_before b cells c a White e) [
-    inl s ↦ n.never c s.0 | inr s ↦ (let z = s.1 in cc) ] }
+black_not_white cells b a n = record {
+  never = λ c e. elim (blackened_before b cells c a White e) [
+    | inl s ↦ n.never c s.0
+    | inr s ↦ (let z = s.1 in cc)
+  ];
+}
 
 black_keeps : (shape : HeapShape) (w : World) (n : ℕ) (a : Account) (q y : ℕ) (rest : List ℕ)
     → length (words_of w.objects y) ≤ q → Invariant shape w n (in_mark a (y ∷ rest) q)
@@ -191,14 +203,14 @@ black_keeps shape w n a q y rest l i = record {
   tidy = tidy-black shape n a y q rest i.tidy;
   roots = λ p b e. black_kept a.cells y q b (i.roots p b e);
   words = λ c b x k b' h kept e. (let p = blackened_held y a.cells c b x h
-                                        in black_kept a.cells y q b' (i.words c b p.0 k b' p.1 tt e));
+      in black_kept a.cells y q b' (i.words c b p.0 k b' p.1 tt e));
   scanned = λ p b s e. black_not_white a.cells y b (i.scanned p b tt e);
   unblack = λ c b h u. u;
   marked = λ c b k b' m h e. elim (blackened_before y a.cells c b Black h) [
     | inl s ↦ black_not_white a.cells y b' (i.marked c b k b' tt s.0 e)
     | inr s ↦ (let lt = word_within w b k b' e in let same = ap (words_of w.objects) s.0
-                                                        in black_not_white a.cells y b'
-                                                        (i.front b k b' (s.0, omega (arith, ap length same)) e))
+        in black_not_white a.cells y b'
+        (i.front b k b' (s.0, omega (arith, ap length same)) e))
   ];
   front = λ b k b' f e. absurd (none_fronted rest b k f);
   begun = mark_begins rest;

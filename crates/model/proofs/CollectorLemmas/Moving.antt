@@ -165,18 +165,27 @@ frames_taken P (f ∷ fs) (suc k) = (refs_same P (frame_refs f), λ b e. inl e, 
 pub frames_from : (P : ℕ → Type 0) (fs hs : List Frame) → FramesMove P [] hs → FramesMove P fs hs
 frames_from P fs [] k = tt
 frames_from P [] (h ∷ hs) k = k
-frames_from P (f ∷ fs) (h ∷ hs) k = (refs_from P (frame_refs f) (frame_refs h) k.0, ref_from P f.monitor h.monitor k.1,
-    frames_from P fs hs k.2)
+frames_from P (f ∷ fs) (h ∷ hs) k = (
+  refs_from P (frame_refs f) (frame_refs h) k.0,
+  ref_from P f.monitor h.monitor k.1,
+  frames_from P fs hs k.2,
+)
 
 -- one change after another
 pub frames_trans : (P : ℕ → Type 0) (fs gs hs : List Frame) → FramesMove P fs gs → FramesMove P gs hs
     → FramesMove P fs hs
 frames_trans P fs gs [] a b = tt
 frames_trans P fs [] (h ∷ hs) a b = frames_from P fs (h ∷ hs) b
-frames_trans P [] (g ∷ gs) (h ∷ hs) a b = (refs_trans P [] (frame_refs g) (frame_refs h) a.0 b.0,
-    ref_trans P None g.monitor h.monitor a.1 b.1, frames_trans P [] gs hs a.2 b.2)
-frames_trans P (f ∷ fs) (g ∷ gs) (h ∷ hs) a b = (refs_trans P (frame_refs f) (frame_refs g) (frame_refs h) a.0 b.0,
-    ref_trans P f.monitor g.monitor h.monitor a.1 b.1, frames_trans P fs gs hs a.2 b.2)
+frames_trans P [] (g ∷ gs) (h ∷ hs) a b = (
+  refs_trans P [] (frame_refs g) (frame_refs h) a.0 b.0,
+  ref_trans P None g.monitor h.monitor a.1 b.1,
+  frames_trans P [] gs hs a.2 b.2,
+)
+frames_trans P (f ∷ fs) (g ∷ gs) (h ∷ hs) a b = (
+  refs_trans P (frame_refs f) (frame_refs g) (frame_refs h) a.0 b.0,
+  ref_trans P f.monitor g.monitor h.monitor a.1 b.1,
+  frames_trans P fs gs hs a.2 b.2,
+)
 
 -- ---- threads
 

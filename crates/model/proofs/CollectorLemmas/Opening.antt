@@ -49,13 +49,18 @@ numbers-within (suc n) first c (inr h) = let k = numbers-within n (first + 1) c 
 
 numbers-all : (n first c : ℕ) → first ≤ c → c < first + n → In c (numbers_up first n)
 numbers-all zero first c l u = absurd (omega arith)
-numbers-all (suc n) first c l u = elim (same_or_not first c) [ inl e ↦ inl e | inr ne ↦
-    inr (numbers-all n (first + 1) c (grind arith) (omega arith)) ]
+numbers-all (suc n) first c l u = elim (same_or_not first c) [
+  | inl e ↦ inl e
+  | inr ne ↦
+      inr (numbers-all n (first + 1) c (grind arith) (omega arith))
+]
 
 numbers-distinct : (n first : ℕ) → Distinct (numbers_up first n)
 numbers-distinct zero first = tt
-numbers-distinct (suc n) first = (λ h. let k = numbers-within n (first + 1) first h in omega arith,
-                                             numbers-distinct n (first + 1))
+numbers-distinct (suc n) first = (
+  λ h. let k = numbers-within n (first + 1) first h in omega arith,
+  numbers-distinct n (first + 1),
+)
 
 length-numbers : (n first : ℕ) → length (numbers_up first n) ≡ n
 length-numbers zero first = refl
@@ -132,8 +137,10 @@ begins shape two =
       is = placed_is shape 1 o 0 White room.0 t room.1;
       tidy = t.tidy White (omega arith);
       memory = (c, came.here);
-      white = λ e y x k. elim (came_before 1 c White _ _ came e y x k) [ inl s ↦ s.2 |
-          inr s ↦ absurd (no_birth _ e y x s) ];
+      white = λ e y x k. elim (came_before 1 c White _ _ came e y x k) [
+        | inl s ↦ s.2
+        | inr s ↦ absurd (no_birth _ e y x s)
+      ];
       left = (let l = t.left in omega arith);
     }
 
@@ -146,8 +153,14 @@ second_is shape a b r t e f = rw e (placed_is shape 2 b 0 White r t f)
 opens : (shape : HeapShape) → 2 ≤ shape.small + shape.medium + shape.large → Opens shape (opening_account shape)
 opens shape two =
     let f = begins shape two in
-    let o : Account = record { cells = f.cells; small = f.small; medium = f.medium; large = f.large; grey = [];
-          phase = Idle } in
+    let o : Account = record {
+      cells = f.cells;
+      small = f.small;
+      medium = f.medium;
+      large = f.large;
+      grey = [];
+      phase = Idle;
+    } in
     let room = room_for_none o f.small f.medium f.large f.left in
     let t = takes shape 2 o 0 room.0 room.1 f.tidy in
     let c = room.0.0 in
@@ -176,12 +189,14 @@ opening_nowhere_led program =
     let initializers = initializer_frames program (first_claim program) in
     waiting_move Nowhere (main ++ initializers)
     (both_move Nowhere main initializers (main_moves Nowhere program (main_in program))
-        (initializers_move Nowhere program (first_claim program)))
+    (initializers_move Nowhere program (first_claim program)))
 
 no_entry : (frames : List Frame) (d j b : ℕ) → FramesMove Nowhere [] frames → ref_at (entries_at frames d) j ≡ Some b
     → ⊥
 no_entry frames d j b h e = elim (refs-at Nowhere [] (entries_at frames d) j b (entries-at Nowhere [] frames d h) e) [
-    inl l ↦ cc | inr n ↦ n ]
+  | inl l ↦ cc
+  | inr n ↦ n
+]
 
 no_monitor : (frames : List Frame) (d b : ℕ) → FramesMove Nowhere [] frames → monitor_at frames d ≡ Some b → ⊥
 no_monitor frames d b h e = elim (monitor-at Nowhere [] frames d h b e) [ inl l ↦ cc | inr n ↦ n ]

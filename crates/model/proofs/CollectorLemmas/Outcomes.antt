@@ -51,8 +51,10 @@ counted_word w x k b e = e
 
 pub counted_keeps : (shape : HeapShape) (w : World) (n : ℕ) (a : Account) → Invariant shape w n a
     → Invariant shape (counted w) n a
-counted_keeps shape w n a i = world_keeps shape w (counted w) n a (record { roots = λ p b e. inl (counted_root w p b e);
-    words = λ x k b e. inl (counted_word w x k b e) }) i
+counted_keeps shape w n a i = world_keeps shape w (counted w) n a (record {
+  roots = λ p b e. inl (counted_root w p b e);
+  words = λ x k b e. inl (counted_word w x k b e);
+}) i
 
 -- ---- what a lawful effect may do
 
@@ -61,12 +63,12 @@ fault_allowed : (w : World) (t : ℕ) (fault : FaultKind)
     → Allowed w (record { after = with_fault w t fault; object = None; writes = [] })
 fault_allowed w t fault = allowed_from_moves w (record { after = with_fault w t fault; object = None; writes = [] })
     (record {
-  counted = refl;
-  statics = refs_same _ _;
-  threads = threads_same _ w.threads;
-  objects = objects_same _ w.objects;
-  writes = λ b k. absurd k;
-})
+      counted = refl;
+      statics = refs_same _ _;
+      threads = threads_same _ w.threads;
+      objects = objects_same _ w.objects;
+      writes = λ b k. absurd k;
+    })
 
 -- the recorded fault of an effect
 faulty : (w : World) (e : Effect) → w.fault ≡ None → e.after.fault ≡ w.fault → is_fault e.after ≡ true → ⊥
@@ -100,9 +102,9 @@ turn_change program w t words outcome = record {
 
 -- what a turn that isn't refused has
 pub record Turns (program : List ClassListing) (m : Machine) (t : ℕ) (words : Option ℕ) (outcome : Outcome) : Type 0
-    where
-  pub allowed : Allowed m.world (turn_change program m.world t words outcome)
-  pub room : RoomFor (taken_by outcome words) m.account
+  where
+    pub allowed : Allowed m.world (turn_change program m.world t words outcome)
+    pub room : RoomFor (taken_by outcome words) m.account
 
 -- a fault, which some choice of a thread's turn led to
 faulting_by : (program : List ClassListing) (m : Machine) (t : ℕ) (words : Option ℕ) (choice : Choice) → m.world.fault
@@ -117,15 +119,18 @@ faulting_by program m t words NoneHasRoom n e false f = lawful_fault m.world _ _
 fault_turns : (program : List ClassListing) (m : Machine) (t : ℕ) (words : Option ℕ) (choice : Choice) → m.world.fault
     ≡ None → is_fault (next program m.world t choice).after ≡ true → Turns program m t words Fault
 fault_turns program m t words choice n e =
-    record { allowed = faulting_by program m t words choice n e (is_fault (next program m.world t NewObject).after)
-        refl; room = tt }
+    record {
+      allowed = faulting_by program m t words choice n e (is_fault (next program m.world t NewObject).after)
+          refl;
+      room = tt;
+    }
 
 unasked_by : (program : List ClassListing) (m : Machine) (t : ℕ) → m.world.fault ≡ None → asked program m.world t ≡ None
     → (f : Bool) → is_fault (next program m.world t NewObject).after ≡ f → Turns program m t None (outcome_by f Done)
 unasked_by program m t n e true f = fault_turns program m t None NewObject n f
 unasked_by program m t n e false f =
     let l : Lawful m.world None (next program m.world t NewObject) = rw e at (next_lawful program m.world t NewObject)
-          in
+    in
     record { allowed = lawful_done m.world None _ l f; room = tt }
 
 -- a cell has room
@@ -135,15 +140,18 @@ roomy_by : (program : List ClassListing) (m : Machine) (t words : ℕ) → m.wor
 roomy_by program m t words n e room true f = fault_turns program m t (Some words) NewObject n f
 roomy_by program m t words n e room false f =
     let l : Lawful m.world (Some words) (next program m.world t NewObject) = rw e at
-          (next_lawful program m.world t NewObject) in
+    (next_lawful program m.world t NewObject) in
     record { allowed = lawful_done m.world (Some words) _ l f; room = room }
 
 -- none has
 full_by : (program : List ClassListing) (m : Machine) (t words : ℕ) → m.world.fault ≡ None → (f : Bool)
     → is_fault (next program m.world t NoneHasRoom).after ≡ f → Turns program m t (Some words) (outcome_by f NoRoom)
 full_by program m t words n true f = fault_turns program m t (Some words) NoneHasRoom n f
-full_by program m t words n false f = record { allowed = lawful_either m.world _
-    (next_lawful program m.world t NoneHasRoom); room = tt }
+full_by program m t words n false f = record {
+  allowed = lawful_either m.world _
+      (next_lawful program m.world t NoneHasRoom);
+  room = tt;
+}
 
 asked_by : (program : List ClassListing) (m : Machine) (t words : ℕ) → m.world.fault ≡ None → asked program m.world t
     ≡ Some words → (room : Bool) → has_room m.account words ≡ room
@@ -163,14 +171,14 @@ pub turn_keeps : (program : List ClassListing) (shape : HeapShape) (m : Machine)
     → outcome ≡ outcome_if program m t (asked program m.world t) → m.world.fault ≡ None
     → Invariant shape m.world (next_birth m.world) m.account
     → Invariant shape (counted (next program m.world t (choice_of program m.world t outcome)).after)
-        (next_birth (next program m.world t (choice_of program m.world t outcome)).after)
-        (after_turn m.account outcome (next_birth m.world) (asked program m.world t)
-        (next program m.world t (choice_of program m.world t outcome)).writes)
+    (next_birth (next program m.world t (choice_of program m.world t outcome)).after)
+    (after_turn m.account outcome (next_birth m.world) (asked program m.world t)
+    (next program m.world t (choice_of program m.world t outcome)).writes)
 turn_keeps program shape m t outcome is n i =
     let words = asked program m.world t in
     let c = turn_change program m.world t words outcome in
     let h : Turns program m t words outcome = rw is (turns_by program m t words n refl) in
     rw (after_is m.world m.account outcome words c.after
-        (next program m.world t (choice_of program m.world t outcome)).writes)
+    (next program m.world t (choice_of program m.world t outcome)).writes)
     (counted_keeps shape c.after (next_birth c.after) (changed m.world m.account c)
-        (changed_keeps shape m.world m.account c h.room h.allowed i))
+    (changed_keeps shape m.world m.account c h.room h.allowed i))

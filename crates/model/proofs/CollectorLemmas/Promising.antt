@@ -42,7 +42,7 @@ unfolding Holds
 always_chosen program shape limits actors fits t e =
     let m = machine_after program shape limits actors in
     chooses_by_room program shape limits (next_birth m.world) m t (machine_holds program shape limits actors
-        fits.0).tidy e
+    fits.0).tidy e
 
 pub always_shown : Always (λ shape m. Shows (heap_of m.account m.world) m.world)
 unfolding Holds

@@ -53,7 +53,7 @@ some-passes f n (r ∷ rs) h =
     elim (or-cases (f r) (list_any f rs) h) [
       | inl here ↦ first r here
       | inr there ↦ let found : (b : ℕ) × Among rs b × (f (Some b) ≡ true) = some-passes f n rs there
-                          in (found.0, inr found.1, found.2)
+          in (found.0, inr found.1, found.2)
     ]
   where
     first : (r : Option ℕ) → f r ≡ true → (b : ℕ) × Among (r ∷ rs) b × (f (Some b) ≡ true)
@@ -107,7 +107,7 @@ listed-thread (x ∷ ts) b h =
     elim (among-cases (roots_of_thread x) (flat_map roots_of_thread ts) b h) [
       | inl here ↦ (0, listed-frame (frames_of (Some x)) b here)
       | inr there ↦ let rest : (t : ℕ) × AtFrame (frames_of (slice_get ts t)) b = listed-thread ts b there
-                          in (suc rest.0, rest.1)
+          in (suc rest.0, rest.1)
     ]
 
 root-listed : (w : World) (p : Place) (b : ℕ) → root_at w p ≡ Some b → Among (roots_of w) b
@@ -117,8 +117,10 @@ root-listed w StackError b e = inr (inl e)
 root-listed w (Slot s) b e =
     inr (inr (among-left (slots_of w) (flat_map roots_of_thread w.threads) b (among-at (slots_of w) s b e)))
 root-listed w (FrameEntry t d j) b e =
-    inr (inr (among-right (slots_of w) (flat_map roots_of_thread w.threads) b (thread-listed w.threads t b (d,
-        inr (j, e)))))
+    inr (inr (among-right (slots_of w) (flat_map roots_of_thread w.threads) b (thread-listed w.threads t b (
+      d,
+      inr (j, e),
+    ))))
 root-listed w (MethodMonitor t d) b e =
     inr (inr (among-right (slots_of w) (flat_map roots_of_thread w.threads) b (thread-listed w.threads t b (d, inl e))))
 
@@ -132,9 +134,9 @@ listed-root w b (inr (inl e)) = (StackError, e)
 listed-root w b (inr (inr h)) =
     elim (among-cases (slots_of w) (flat_map roots_of_thread w.threads) b h) [
       | inl slot ↦ let found : (s : ℕ) × (ref_at (slots_of w) s ≡ Some b) = at-among (slots_of w) b slot
-                         in (Slot found.0, found.1)
+          in (Slot found.0, found.1)
       | inr frame ↦ let found : (t : ℕ) × AtFrame (frames_at w t) b = listed-thread w.threads b frame in
-                          in_frame found.0 found.1.0 found.1.1
+          in_frame found.0 found.1.0 found.1.1
     ]
   where
     in_frame : (t d : ℕ) → (monitor_at (frames_at w t) d ≡ Some b) ⊎ ((j : ℕ)
@@ -159,7 +161,7 @@ leads-Reach (suc n) w b a h r =
           let found : (c : ℕ) × Among (words_of w.objects a) c × (leads_within n w b (Some c) ≡ true) =
           some-passes (leads_within n w b) (at_null n w b) (words_of w.objects a) there in
           let word : (k : ℕ) × (ref_at (words_of w.objects a) k ≡ Some found.0) = at-among (words_of w.objects a)
-                found.0 found.1 in
+          found.0 found.1 in
           leads-Reach n w b found.0 found.2 (by_word a word.0 r word.1)
     ]
 
@@ -174,9 +176,15 @@ FromRoot w b = (a : ℕ) × IsRoot w a × ((xs : List ℕ) × IsPath (Leads w) a
 path_of : (w : World) {b : ℕ} → Reach w b → FromRoot w b
 path_of w (at_root {b = b} p e) = (b, (p, e), ([], refl))
 path_of w (by_word {b = b} a k r e) =
-    let before : FromRoot w a = path_of w r in
-    (before.0, before.1, (before.2.0 ++ b ∷ [], path-append (Leads w) before.0 a b before.2.0 (b ∷ []) before.2.1
-        ((k, e), refl)))
+    let before : FromRoot w a = path_of w r in (
+      before.0,
+      before.1,
+      (
+        before.2.0 ++ b ∷ [],
+        path-append (Leads w) before.0 a b before.2.0 (b ∷ []) before.2.1
+            ((k, e), refl),
+      ),
+    )
 
 -- the births before a number
 abbrev births_below : ℕ → List ℕ
@@ -209,7 +217,7 @@ path-leads zero w a b (x ∷ xs) p few = absurd (omega arith)
 path-leads (suc n) w a b (x ∷ xs) p few =
     or-right (nat_eq a b) (list_any (leads_within n w b) (words_of w.objects a))
     (passes-some (leads_within n w b) (words_of w.objects a) x (among-at (words_of w.objects a) p.0.0 x p.0.1)
-        (path-leads n w x b xs p.1 (omega arith)))
+    (path-leads n w x b xs p.1 (omega arith)))
 
 -- ---- the test and the relation agree
 
@@ -228,9 +236,9 @@ Reach-is_reached w b r =
     let few : length (births_below (next_birth w)) ≤ next_birth w = omega (arith, length-births (next_birth w)) in
     let short : Short nat_eq Decides-eqb (Leads w) (next_birth w) path.0 b =
     shortened nat_eq Decides-eqb (Leads w) (next_birth w) (births_below (next_birth w)) path.0 b path.2.0 few path.2.1
-        (path-inside w path.0 b path.2.0 path.2.1) in
+    (path-inside w path.0 b path.2.0 path.2.1) in
     passes-some (leads_within (next_birth w) w b) (roots_of w) path.0 (root-listed w path.1.0 path.0 path.1.1)
-        (path-leads (next_birth w) w path.0 b short.0 short.1 short.2)
+    (path-leads (next_birth w) w path.0 b short.0 short.1 short.2)
 
 pub reached_agrees : (w : World) (b : ℕ) → Reach w b ↔ IsTrue (is_reached w b)
 reached_agrees w b = (Reach-is_reached w b, is_reached-Reach w b)

@@ -33,20 +33,24 @@ record Fading (L : ℕ → Type 0) (s : ℕ) (m : Machine) : Type 0 where
   old : (x : ℕ) → L x → x < next_birth m.world
 
 counted_apart : (L : ℕ → Type 0) (w : World) → Apart L w → Apart L (counted w)
-counted_apart L w h = record { roots = λ p b e l. h.roots p b (counted_root w p b e) l;
-    words = λ x k b e l. h.words x k b (counted_word w x k b e) l }
+counted_apart L w h = record {
+  roots = λ p b e l. h.roots p b (counted_root w p b e) l;
+  words = λ x k b e l. h.words x k b (counted_word w x k b e) l;
+}
 
 -- a thread's turn
 changed_on : (L : ℕ → Type 0) (s : ℕ) (program : List ClassListing) (shape : HeapShape) (m : Machine) (t : ℕ)
     → m.world.fault ≡ None → Invariant shape m.world (next_birth m.world) m.account → Fading L s m
-    → Fading L s (record { world = counted (turn_change program m.world t (asked program m.world t)
-    (outcome_of program m (Thread t))).after;
-    account = changed m.world m.account (turn_change program m.world t (asked program m.world t)
-    (outcome_of program m (Thread t))) })
+    → Fading L s (record {
+      world = counted (turn_change program m.world t (asked program m.world t)
+          (outcome_of program m (Thread t))).after;
+      account = changed m.world m.account (turn_change program m.world t (asked program m.world t)
+          (outcome_of program m (Thread t)));
+    })
 changed_on L s program shape m t n i f =
     let c = turn_change program m.world t (asked program m.world t) (outcome_of program m (Thread t)) in
     let h : Turns program m t (asked program m.world t) (outcome_of program m (Thread t)) = turns_by program m t
-          (asked program m.world t) n refl in
+    (asked program m.world t) n refl in
     record {
       apart = counted_apart L c.after (apart_after L m.world c h.allowed f.apart f.old);
       fades = changed_fades L shape s m.world m.account c h.room i.tidy h.allowed f.apart f.old f.fades;
@@ -59,9 +63,12 @@ row_on : (L : ℕ → Type 0) (s : ℕ) (program : List ClassListing) (shape : H
 unfolding Holds
 row_on L s program shape limits m actor (Some refused) e i f = f
 row_on L s program shape limits m (Thread t) None e i f =
-    rw (e, after_is m.world m.account (outcome_of program m (Thread t)) (asked program m.world t)
-        (next program m.world t (choice_of program m.world t (outcome_of program m (Thread t)))).after
-        (next program m.world t (choice_of program m.world t (outcome_of program m (Thread t)))).writes)
+    rw (
+      e,
+      after_is m.world m.account (outcome_of program m (Thread t)) (asked program m.world t)
+          (next program m.world t (choice_of program m.world t (outcome_of program m (Thread t)))).after
+          (next program m.world t (choice_of program m.world t (outcome_of program m (Thread t)))).writes,
+    )
     (changed_on L s program shape m t (unfaulted program limits m.world t e) i f)
 row_on L s program shape limits m Collector None e i f = rw e (record {
   apart = counted_apart L m.world f.apart;
@@ -82,8 +89,8 @@ fading_all : (L : ℕ → Type 0) (program : List ClassListing) (shape : HeapSha
 fading_all L program shape limits [] s m i f = f
 fading_all L program shape limits (actor ∷ actors) s m i f =
     fading_all L program shape limits actors (ended_if s m actor (refusal program limits m.world actor))
-        (moved_by program shape limits m actor) (moved_keeps program shape limits m actor i)
-        (fading_on L s program shape limits m actor i f)
+    (moved_by program shape limits m actor) (moved_keeps program shape limits m actor i)
+    (fading_on L s program shape limits m actor i f)
 
 -- ---- from the moment at which it is lost
 
@@ -121,7 +128,7 @@ reclaims_in_two program shape limits m later i = λ b c x phase l e k. (
     let s = ended program shape limits 0 m later in
     let two : s ≡ suc (suc (s - 2)) = omega arith in
     gone_by s (s - 2) (moved_by_all program shape limits m later) (Lost m.world) c b x two
-        (fading_all (Lost m.world) program shape limits later 0 m i (fading_start m phase)) l k)
+    (fading_all (Lost m.world) program shape limits later 0 m i (fading_start m phase)) l k)
 
 pub always_reclaims : AlwaysReclaims
 always_reclaims program shape limits first later fits = reclaims_in_two program shape limits

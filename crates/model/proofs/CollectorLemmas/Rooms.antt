@@ -39,16 +39,16 @@ room_listed shape n a words h r = go _ _ refl refl r.fits
         → words ≤ (if small then 4 else if medium then 32 else 256) → IsTrue (has_room a words)
     go true medium e f le =
         listed_gives _ a.small _ r.cell (h.small.listed r.cell (omega arith) (ltb-true _ _ e) r.is_free)
-            (nat_le words 4) (le-leb words 4 le)
+        (nat_le words 4) (le-leb words 4 le)
     go false true e f le =
         larger_gives _ a.small _ (nat_le words 4) (
         listed_gives _ a.medium _ r.cell (h.medium.listed r.cell (ltb-false _ _ e) (ltb-true _ _ f) r.is_free)
-            (nat_le words 32) (le-leb words 32 le))
+        (nat_le words 32) (le-leb words 32 le))
     go false false e f le =
         larger_gives _ a.small _ (nat_le words 4) (
         larger_gives _ a.medium _ (nat_le words 32) (
         listed_gives _ a.large _ r.cell (h.large.listed r.cell (ltb-false _ _ f) r.within r.is_free) (nat_le words 256)
-            (le-leb words 256 le)))
+        (le-leb words 256 le)))
 
 -- ---- what a list has is a free cell of its size
 

@@ -98,8 +98,8 @@ machine_of-turns v (actor ∷ actors) =
     let stays = turn_stays v actor 0 in
     machine_of-turns after actors
     ∙ same_run after.program v.program after.journal.shape v.journal.shape after.journal.limits v.journal.limits
-        (machine_of after) (moved_by v.program v.journal.shape v.journal.limits (machine_of v) actor) stays.program
-        stays.shape stays.limits (machine_of-turn v actor 0) actors
+    (machine_of after) (moved_by v.program v.journal.shape v.journal.limits (machine_of v) actor) stays.program
+    stays.shape stays.limits (machine_of-turn v actor 0) actors
 
 pub machine_after-is : (program : List ClassListing) (shape : HeapShape) (limits : Limits) (actors : List Actor)
     → machine_after program shape limits actors ≡ moved_by_all program shape limits (opening_machine program shape)

@@ -22,8 +22,11 @@ entry_next t d j (Slot i) h = inl tt
 entry_next t d j (FrameEntry u e i) (inl h) = inl (inl h)
 entry_next t d j (FrameEntry u e i) (inr (inl h)) = inl (inr (inl h))
 entry_next t d j (FrameEntry u e i) (inr (inr h)) = let k : (i < j) ⊎ (i ≡ j) = grind arith
-                                                          in elim k [ inl l ↦ inl (inr (inr (h.0, h.1, l))) | inr s ↦
-                                                          inr cc ]
+    in elim k [
+      | inl l ↦ inl (inr (inr (h.0, h.1, l)))
+      | inr s ↦
+          inr cc
+    ]
 entry_next t d j (MethodMonitor u e) h = inl h
 
 monitor_next : (w : World) (t d j : ℕ) → length (entries_at (frames_at w t) d) ≤ j → (q : Place) (b : ℕ)
@@ -39,8 +42,8 @@ monitor_next w t d j l (FrameEntry u f i) b (inr (inl h)) e =
     elim k [
       | inl s ↦ inl (inr (inl (h.0, s)))
       | inr s ↦ (let same : entries_at (frames_at w u) f
-                       ≡ entries_at (frames_at w t)
-                       d = (let r = h.0 in cc) in inl (inr (inr (h.0, s, omega (arith, ap length same)))))
+          ≡ entries_at (frames_at w t)
+          d = (let r = h.0 in cc) in inl (inr (inr (h.0, s, omega (arith, ap length same)))))
     ]
 monitor_next w t d j l (FrameEntry u f i) b (inr (inr h)) e = absurd (omega arith)
 monitor_next w t d j l (MethodMonitor u f) b (inl h) e = inl (inl h)
@@ -74,9 +77,9 @@ threads_end w t d j l MemoryError b e = tt
 threads_end w t d j l StackError b e = tt
 threads_end w t d j l (Slot i) b e = tt
 threads_end w t d j l (FrameEntry u f i) b e = let k = thread_within w u f (entry_within (frames_at w u) f i b e) in
-                                                     inl (omega arith)
+    inl (omega arith)
 threads_end w t d j l (MethodMonitor u f) b e = let k = thread_within w u f (monitor_within (frames_at w u) f b e) in
-                                                      inl (omega arith)
+    inl (omega arith)
 
 -- every root was looked at: marking begins
 pub none_fronted : (grey : List ℕ) (b k : ℕ) → Fronted (Mark 0) grey b k → ⊥
@@ -94,7 +97,7 @@ mark_start shape w n a l s i = record {
   tidy = tidy-phase shape n a (Mark 0) i.tidy;
   roots = λ p b e. (let k = i.roots p b e in record { cell = k.cell; colour = k.colour; held = k.held; kept = tt });
   words = λ c b x k b' h q e. (let k = i.words c b x k b' h (looking_kept a.phase l c x) e
-                                     in record { cell = k.cell; colour = k.colour; held = k.held; kept = tt });
+      in record { cell = k.cell; colour = k.colour; held = k.held; kept = tt });
   scanned = λ p b h e. i.scanned p b (s p b e) e;
   unblack = λ c b h u. u;
   marked = λ c b k b' m h e. absurd (i.unblack c b h (looking_unblack a.phase l c));
@@ -108,13 +111,13 @@ frames_by : (shape : HeapShape) (w : World) (n : ℕ) (a : Account) (t d j : ℕ
     → Invariant shape w n (frames_step w a t d j x y z)
 frames_by shape w n a t d j true true true ex ey ez f i =
     shade_root shape w n a (Frames t d (j + 1)) (FrameEntry t d j) (root_at w (FrameEntry t d j)) refl (rw f tt) tt
-        (λ q b h r. rw f (entry_next t d j q h)) i
+    (λ q b h r. rw f (entry_next t d j q h)) i
 frames_by shape w n a t d j true true false ex ey ez f i =
     shade_root shape w n a (Frames t (d + 1) 0) (MethodMonitor t d) (root_at w (MethodMonitor t d)) refl (rw f tt) tt
-        (λ q b h r. rw f (monitor_next w t d j (ltb-false j _ ez) q b h r)) i
+    (λ q b h r. rw f (monitor_next w t d j (ltb-false j _ ez) q b h r)) i
 frames_by shape w n a t d j true false z ex ey ez f i =
     look_keeps shape w n a (Frames (t + 1) 0 0) (rw f tt) tt
-        (λ p b h r. i.scanned p b (rw f (frames_end w t d j (ltb-false d _ ey) p b h r)) r) i
+    (λ p b h r. i.scanned p b (rw f (frames_end w t d j (ltb-false d _ ey) p b h r)) r) i
 frames_by shape w n a t d j false y z ex ey ez f i =
     mark_start shape w n a (rw f tt) (λ p b r. rw f (threads_end w t d j (ltb-false t _ ex) p b r)) i
 

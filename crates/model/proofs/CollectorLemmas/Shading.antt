@@ -25,7 +25,7 @@ pub reach_kept : (shape : HeapShape) (w : World) (n : ℕ) (a : Account) (b : �
     → HasKept a.phase a.cells b
 reach_kept shape w n a b i (at_root p e) = i.roots p b e
 reach_kept shape w n a b i (by_word x k r e) = let h = reach_kept shape w n a x i r
-                                                     in i.words h.cell x h.colour k b h.held h.kept e
+    in i.words h.cell x h.colour k b h.held h.kept e
 
 abbrev pub grey_after : Bool → List ℕ → ℕ → List ℕ
 grey_after t grey b = if t then grey ++ b ∷ [] else grey
@@ -38,11 +38,15 @@ one_colour shape n a h c d b x y e f = let s = h.one c d b x y e f in cc (ap (ce
 listed-shade : (shape : HeapShape) (n : ℕ) (a : Account) (b : ℕ) (t : Bool) → has_white b a.cells ≡ t → Tidy shape n a
     → (y c : ℕ) → cell_at (map (tint b) a.cells) c ≡ Taken y Grey → In y (grey_after t a.grey b)
 listed-shade shape n a b true e h y c k =
-    elim (before (tinted_darker b a.cells) c y Grey k) [ inl s ↦ In-left a.grey (b ∷ []) y (h.listed y c s) |
-        inr s ↦ rw s.0 (In-last a.grey b) ]
+    elim (before (tinted_darker b a.cells) c y Grey k) [
+      | inl s ↦ In-left a.grey (b ∷ []) y (h.listed y c s)
+      | inr s ↦ rw s.0 (In-last a.grey b)
+    ]
 listed-shade shape n a b false e h y c k =
-    elim (before (tinted_darker b a.cells) c y Grey k) [ inl s ↦ h.listed y c s |
-        inr s ↦ absurd ((white_nowhere b a.cells e).never c s.2) ]
+    elim (before (tinted_darker b a.cells) c y Grey k) [
+      | inl s ↦ h.listed y c s
+      | inr s ↦ absurd ((white_nowhere b a.cells e).never c s.2)
+    ]
 
 stays_grey : (b : ℕ) (cells : List Cell) (y : ℕ) → (c : ℕ) × (cell_at cells c ≡ Taken y Grey) → (c : ℕ)
     × (cell_at (map (tint b) cells) c ≡ Taken y Grey)
@@ -51,13 +55,17 @@ stays_grey b cells y p = elim (after (tinted_darker b cells) p.0 y Grey p.1) [ i
 turns_grey : (b : ℕ) (cells : List Cell) → (c : ℕ) × (cell_at cells c ≡ Taken b White) → (c : ℕ)
     × (cell_at (map (tint b) cells) c ≡ Taken b Grey)
 turns_grey b cells p = elim (after (tinted_darker b cells) p.0 b White p.1) [
-    inl s ↦ absurd ((tinted_not_white b cells).never p.0 s) | inr s ↦ (p.0, s.1) ]
+  | inl s ↦ absurd ((tinted_not_white b cells).never p.0 s)
+  | inr s ↦ (p.0, s.1)
+]
 
 only-shade : (shape : HeapShape) (n : ℕ) (a : Account) (b : ℕ) (t : Bool) → has_white b a.cells ≡ t → Tidy shape n a
     → (y : ℕ) → In y (grey_after t a.grey b) → (c : ℕ) × (cell_at (map (tint b) a.cells) c ≡ Taken y Grey)
 only-shade shape n a b true e h y k =
-    elim (In-push_cases a.grey b y k) [ inl r ↦ stays_grey b a.cells y (h.only_grey y r) |
-        inr s ↦ rw s (turns_grey b a.cells (white_where b a.cells e)) ]
+    elim (In-push_cases a.grey b y k) [
+      | inl r ↦ stays_grey b a.cells y (h.only_grey y r)
+      | inr s ↦ rw s (turns_grey b a.cells (white_where b a.cells e))
+    ]
 only-shade shape n a b false e h y k = stays_grey b a.cells y (h.only_grey y k)
 
 once-shade : (shape : HeapShape) (n : ℕ) (a : Account) (b : ℕ) (t : Bool) → has_white b a.cells ≡ t → Tidy shape n a
@@ -87,7 +95,7 @@ tidy-shade shape n a b t e h =
     record {
       sized = length-cells (tint b) a.cells ∙ h.sized;
       one = λ c c' y x z k l. (let p = held_before d c y x k
-                                     in let q = held_before d c' y z l in h.one c c' y p.0 q.0 p.1 q.1);
+          in let q = held_before d c' y z l in h.one c c' y p.0 q.0 p.1 q.1);
       some = λ c x k. (let p = held_before d c 0 x k in h.some c p.0 p.1);
       born = λ c y x k. (let p = held_before d c y x k in h.born c y p.0 p.1);
       listed = listed-shade shape n a b t e h;
@@ -147,7 +155,7 @@ shade_keeps shape w n a b k i =
       tidy = tidy-shade shape n a b t refl i.tidy;
       roots = λ p b' e. darker_kept d a.phase b' (i.roots p b' e);
       words = λ c x y j b' e kept f. (let o = kept_before shape n a b i.tidy k c x y e kept
-                                            in darker_kept d a.phase b' (i.words c x o.0 j b' o.1 o.2 f));
+          in darker_kept d a.phase b' (i.words c x o.0 j b' o.1 o.2 f));
       scanned = λ p b' s e. darker_not_white d b' (i.scanned p b' s e);
       unblack = λ c x e u. i.unblack c x (black_before b a.cells c x e) u;
       marked = λ c x j b' m e f. darker_not_white d b' (i.marked c x j b' m (black_before b a.cells c x e) f);

@@ -67,9 +67,9 @@ birth_placed cells w (Taken a x) b e = go (object_at w a) refl
   where
     go : (o : Option Object) → object_at w a ≡ o → (y : Colour) × (Taken a x ≡ Taken b y)
     go None s = (let k : option_map (λ (held : Held). held.birth) (option_map (placed_object cells a) None)
-                       ≡ Some b = rw s at e in absurd (cc))
+        ≡ Some b = rw s at e in absurd (cc))
     go (Some o) s = (let k : option_map (λ (held : Held). held.birth) (option_map (placed_object cells a) (Some o))
-                           ≡ Some b = rw s at e in (x, cc))
+        ≡ Some b = rw s at e in (x, cc))
 
 birth_at : (w : World) (all cells : List Cell) (c b : ℕ) → birth_in (map (placed_cell all w) cells) c ≡ Some b
     → (x : Colour) × (cell_at cells c ≡ Taken b x)
@@ -165,7 +165,7 @@ module _ (shape : HeapShape) (w : World) (a : Account) (i : Invariant shape w (n
 
   object_of : (b : ℕ) → Reach w b → (o : Object) × (object_at w b ≡ Some o)
   object_of b r = let k = reach_kept shape w (next_birth w) a b i r
-                        in made w.objects b (i.tidy.born k.cell b k.colour k.held)
+      in made w.objects b (i.tidy.born k.cell b k.colour k.held)
 
   held_home : (b : ℕ) (r : Reach w b) → held_in heap_cells (home a.cells b)
       ≡ Some (placed_object a.cells b (object_of b r).0)
@@ -174,7 +174,7 @@ module _ (shape : HeapShape) (w : World) (a : Account) (i : Invariant shape w (n
       let h = home_holds a.cells k.cell b k.colour k.held in
       let o = object_of b r in
       cell_mapped (placed_cell a.cells w) a.cells (home a.cells b) b h.0 h.1 ∙ ap (option_map (placed_object a.cells b))
-          o.1
+      o.1
 
   homed : (b : ℕ) → Reach w b → Homed heap_cells a.cells b
   homed b r = ap (option_map (λ (held : Held). held.birth)) (held_home b r)
@@ -226,5 +226,5 @@ module _ (shape : HeapShape) (w : World) (a : Account) (i : Invariant shape w (n
     births = refl;
     objects = has_cell;
     one = λ c d b e f. (let x = birth_at w a.cells a.cells c b e
-                              in let y = birth_at w a.cells a.cells d b f in i.tidy.one c d b x.0 y.0 x.1 y.1);
+        in let y = birth_at w a.cells a.cells d b f in i.tidy.one c d b x.0 y.0 x.1 y.1);
   }

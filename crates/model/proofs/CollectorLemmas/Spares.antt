@@ -46,7 +46,9 @@ spare-set cells p b x first past free lt n h = record {
       ∙ h.unused c k;
   fits = h.fits;
   listed = λ c l u k. elim (cell_at-set_cases cells p c (Taken b x) lt) [
-      inl s ↦ (let z = s.1 in absurd (cc)) | inr s ↦ h.listed c l u (sym s.1 ∙ k) ];
+    | inl s ↦ (let z = s.1 in absurd (cc))
+    | inr s ↦ h.listed c l u (sym s.1 ∙ k)
+  ];
   once = h.once;
 }
 
@@ -73,8 +75,10 @@ spare-freed cells p first past free lt n l u h = record {
     | inr s ↦ elim (In-push_cases free p c k) [ inl r ↦ s.1 ∙ h.unused c r | inr e ↦ absurd (s.0 e) ]
   ];
   fits = λ c k. elim (In-push_cases free p c k) [ inl r ↦ h.fits c r | inr s ↦ rw s (l, u) ];
-  listed = λ c m v k. elim (cell_at-set_cases cells p c Free lt) [ inl s ↦ rw s.0 (In-last free p) |
-      inr s ↦ In-left free (p ∷ []) c (h.listed c m v (sym s.1 ∙ k)) ];
+  listed = λ c m v k. elim (cell_at-set_cases cells p c Free lt) [
+    | inl s ↦ rw s.0 (In-last free p)
+    | inr s ↦ In-left free (p ∷ []) c (h.listed c m v (sym s.1 ∙ k))
+  ];
   once = Distinct-push free p h.once (unfree cells p first past free n h);
 }
 

@@ -52,30 +52,35 @@ stack-pushed : (vs stack : List Value) → stack_refs (push_all vs stack) ≡ st
 stack-pushed [] stack = sym (append-nil (stack_refs stack))
 stack-pushed (v ∷ vs) stack =
     stack-pushed vs (v ∷ stack) ∙ ap (λ r. r ++ map ref_of vs) (reverse-append (ref_of v ∷ []) (map ref_of stack))
-        ∙ append_assoc (stack_refs stack) (ref_of v ∷ []) (map ref_of vs)
+    ∙ append_assoc (stack_refs stack) (ref_of v ∷ []) (map ref_of vs)
 
 stack-split : (n : ℕ) (stack : List Value) → stack_refs stack ≡ stack_refs (drop n stack) ++ stack_refs (take n stack)
 stack-split n stack =
     ap stack_refs (sym (take-append-drop n stack)) ∙ ap reverse (map-append ref_of (take n stack) (drop n stack))
-        ∙ reverse-append (map ref_of (take n stack)) (map ref_of (drop n stack))
+    ∙ reverse-append (map ref_of (take n stack)) (map ref_of (drop n stack))
 
 pub stack_pushed : (P : ℕ → Type 0) (n : ℕ) (stack vs : List Value) → AllMay P (map ref_of vs)
     → RefsMove P (reverse (map ref_of stack)) (reverse (map ref_of (push_all vs (drop n stack))))
 stack_pushed P n stack vs h =
     rw (stack-split n stack, stack-pushed vs (drop n stack)) (refs_pushed P (stack_refs (drop n stack))
-        (stack_refs (take n stack)) (map ref_of vs) h)
+    (stack_refs (take n stack)) (map ref_of vs) h)
 
 pub replaced_moves : (P : ℕ → Type 0) (next : ℕ) (f : Frame) (n : ℕ) (vs : List Value) → AllMay P (map ref_of vs)
     → FrameMoves P f (replaced next f n vs).frame
-replaced_moves P next f n vs h = (refs_after P (map entry_ref f.locals) _ _ (stack_pushed P n f.stack vs h), λ b e.
-    inl e)
+replaced_moves P next f n vs h = (
+  refs_after P (map entry_ref f.locals) _ _ (stack_pushed P n f.stack vs h),
+  λ b e.
+      inl e,
+)
 
 -- what is pushed was reachable
 pub replaced_lawful : (w : World) (next : ℕ) (f : Frame) (n : ℕ) (vs : List Value) → AllMay (Reach w) (map ref_of vs)
     → ResultMoves w f (Ok (replaced next f n vs))
-replaced_lawful w next f n vs h =
-    (replaced_moves (λ b. ⊥ ⊎ In b (births_of vs)) next f n vs (may_births vs (λ b. ⊥ ⊎ In b (births_of vs)) (λ b k.
-        inr k)), in_births vs (Reach w) h)
+replaced_lawful w next f n vs h = (
+  replaced_moves (λ b. ⊥ ⊎ In b (births_of vs)) next f n vs (may_births vs (λ b. ⊥ ⊎ In b (births_of vs)) (λ b k.
+      inr k)),
+  in_births vs (Reach w) h,
+)
 
 pub if_room_lawful : (w : World) (next : ℕ) (f : Frame) (n : ℕ) (vs : List Value) → AllMay (Reach w) (map ref_of vs)
     → ResultMoves w f (replaced_if_room next f n vs)

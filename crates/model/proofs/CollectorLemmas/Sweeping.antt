@@ -36,14 +36,22 @@ leave_keeps : (shape : HeapShape) (w : World) (n : ℕ) (a : Account) (p : ℕ)
     → Invariant shape w n (at_phase a (Append p)) → Invariant shape w n (at_phase a (Append (p + 1)))
 leave_keeps shape w n a p no_white no_black i = record {
   tidy = tidy-phase shape n (at_phase a (Append p)) (Append (p + 1)) i.tidy;
-  roots = λ q b e. (let k = i.roots q b e in record { cell = k.cell; colour = k.colour; held = k.held;
-                          kept = kept_on p k.cell k.colour k.kept });
+  roots = λ q b e. (let k = i.roots q b e in record {
+    cell = k.cell;
+    colour = k.colour;
+    held = k.held;
+    kept = kept_on p k.cell k.colour k.kept;
+  });
   words = λ c b x k b' h kept e. (let m = i.words c b x k b' h (back c b x h kept) e
-                                        in record { cell = m.cell; colour = m.colour; held = m.held;
-                                        kept = kept_on p m.cell m.colour m.kept });
+      in record {
+        cell = m.cell;
+        colour = m.colour;
+        held = m.held;
+        kept = kept_on p m.cell m.colour m.kept;
+      });
   scanned = λ q b s e. absurd s;
   unblack = λ c b h u. (let ne : c ≡ p → ⊥ = (λ e. let s = ap (cell_at a.cells) e in no_black b (sym s ∙ h))
-                                                         in i.unblack c b h (unblack_back p c ne u));
+      in i.unblack c b h (unblack_back p c ne u));
   marked = λ c b k b' m h e. absurd m;
   front = λ b k b' f e. absurd f;
   begun = tt;
@@ -59,7 +67,9 @@ leave_keeps shape w n a p no_white no_black i = record {
 pub freed_before : (cells : List Cell) (p : ℕ) → p < length cells → (c a : ℕ) (x : Colour)
     → cell_at (set cells p Free) c ≡ Taken a x → (c ≡ p → ⊥) × (cell_at cells c ≡ Taken a x)
 freed_before cells p lt c a x k = elim (cell_at-set_cases cells p c Free lt) [
-    inl s ↦ (let z = s.1 in absurd (cc)) | inr s ↦ (s.0, (let z = s.1 in cc)) ]
+  | inl s ↦ (let z = s.1 in absurd (cc))
+  | inr s ↦ (s.0, (let z = s.1 in cc))
+]
 
 freed_after : (cells : List Cell) (p b : ℕ) (v : Colour) → cell_at cells p ≡ Taken b v → (c a : ℕ) (x : Colour)
     → (x ≡ v → ⊥) → cell_at cells c ≡ Taken a x → cell_at (set cells p Free) c ≡ Taken a x
@@ -71,8 +81,13 @@ grey_white e = cc
 
 -- an account whose cell p was given back
 abbrev freed : Account → ℕ → List ℕ → List ℕ → List ℕ → Account
-freed a p small medium large = record a { cells = set a.cells p Free; small = small; medium = medium; large = large;
-    phase = Append (p + 1) }
+freed a p small medium large = record a {
+  cells = set a.cells p Free;
+  small = small;
+  medium = medium;
+  large = large;
+  phase = Append (p + 1);
+}
 
 tidy-freed : (shape : HeapShape) (n : ℕ) (a : Account) (p b : ℕ) (s m l : List ℕ) → cell_at a.cells p ≡ Taken b White
     → Spare (set a.cells p Free) 0 shape.small s → Spare (set a.cells p Free) shape.small (shape.small + shape.medium) m
@@ -97,8 +112,12 @@ freed_kept : (cells : List Cell) (p b a : ℕ) → cell_at cells p ≡ Taken b W
     → HasKept (Append (p + 1)) (set cells p Free) a
 freed_kept cells p b a e k =
     let ne : k.cell ≡ p → ⊥ = (λ s. not_here k.colour s k.held k.kept) in
-    record { cell = k.cell; colour = k.colour; held = rw (cell_at-set_other cells p k.cell Free ne) k.held;
-        kept = kept_on p k.cell k.colour k.kept }
+    record {
+      cell = k.cell;
+      colour = k.colour;
+      held = rw (cell_at-set_other cells p k.cell Free ne) k.held;
+      kept = kept_on p k.cell k.colour k.kept;
+    }
   where
     not_here : (x : Colour) → k.cell ≡ p → cell_at cells k.cell ≡ Taken a x → Kept (Append p) k.cell x → ⊥
     not_here White s h kept = omega arith
@@ -141,29 +160,29 @@ freed_by shape w n a p b x y ex ey e i = go x y ex ey
         let below = ltb-true p _ ex in
         let list = spare-freed a.cells p _ _ a.small within taken (omega arith) below i.tidy.small in
         freed_keeps shape w n a p b (a.small ++ p ∷ []) a.medium a.large e (tidy-freed shape n a p b (a.small ++ p ∷ [])
-            a.medium a.large e list (spare-unfit a.cells p Free _ _ a.medium
-            (λ k. let l = k.0 in omega arith) i.tidy.medium)
-                        (spare-unfit a.cells p Free _ _ a.large
-                        (λ k. let l = k.0 in omega arith) i.tidy.large) i.tidy) i
+        a.medium a.large e list (spare-unfit a.cells p Free _ _ a.medium
+        (λ k. let l = k.0 in omega arith) i.tidy.medium)
+        (spare-unfit a.cells p Free _ _ a.large
+        (λ k. let l = k.0 in omega arith) i.tidy.large) i.tidy) i
     go false true ex ey =
         let above = ltb-false p _ ex in
         let below = ltb-true p _ ey in
         let list = spare-freed a.cells p _ _ a.medium within taken above below i.tidy.medium in
         freed_keeps shape w n a p b a.small (a.medium ++ p ∷ []) a.large e (tidy-freed shape n a p b a.small (a.medium
-            ++ p ∷ []) a.large e (spare-unfit a.cells p Free _ _ a.small
-            (λ k. let u = k.1 in omega arith) i.tidy.small) list
-                        (spare-unfit a.cells p Free _ _ a.large
-                        (λ k. let l = k.0 in omega arith) i.tidy.large) i.tidy) i
+        ++ p ∷ []) a.large e (spare-unfit a.cells p Free _ _ a.small
+        (λ k. let u = k.1 in omega arith) i.tidy.small) list
+        (spare-unfit a.cells p Free _ _ a.large
+        (λ k. let l = k.0 in omega arith) i.tidy.large) i.tidy) i
     go false false ex ey =
         let above = ltb-false p _ ey in
         let past : p < shape.small + shape.medium + shape.large = (let
-              s = i.tidy.sized in let lt = within in omega arith) in
+        s = i.tidy.sized in let lt = within in omega arith) in
         let list = spare-freed a.cells p _ _ a.large within taken above past i.tidy.large in
         freed_keeps shape w n a p b a.small a.medium (a.large ++ p ∷ []) e (tidy-freed shape n a p b a.small a.medium
-            (a.large ++ p ∷ []) e
-            (spare-unfit a.cells p Free _ _ a.small
-            (λ k. let u = k.1 in omega arith) i.tidy.small) (spare-unfit a.cells p Free _ _ a.medium
-                        (λ k. let u = k.1 in omega arith) i.tidy.medium) list i.tidy) i
+        (a.large ++ p ∷ []) e
+        (spare-unfit a.cells p Free _ _ a.small
+        (λ k. let u = k.1 in omega arith) i.tidy.small) (spare-unfit a.cells p Free _ _ a.medium
+        (λ k. let u = k.1 in omega arith) i.tidy.medium) list i.tidy) i
 
 -- ---- a black cell turns white
 
@@ -171,12 +190,16 @@ pub white_before : (cells : List Cell) (p b : ℕ) → cell_at cells p ≡ Taken
     → cell_at (set cells p (Taken b White)) c ≡ Taken a x → ((c ≡ p) × (a ≡ b) × (x ≡ White)) ⊎ ((c ≡ p → ⊥)
     × (cell_at cells c ≡ Taken a x))
 white_before cells p b e c a x k = elim (cell_at-set_cases cells p c (Taken b White) (taken_within cells p b Black e)) [
-    inl s ↦ (let z = s.1 in inl (s.0, cc, cc)) | inr s ↦ inr (s.0, (let z = s.1 in cc)) ]
+  | inl s ↦ (let z = s.1 in inl (s.0, cc, cc))
+  | inr s ↦ inr (s.0, (let z = s.1 in cc))
+]
 
 pub white_held : (cells : List Cell) (p b : ℕ) → cell_at cells p ≡ Taken b Black → (c a : ℕ) (x : Colour)
     → cell_at (set cells p (Taken b White)) c ≡ Taken a x → (y : Colour) × (cell_at cells c ≡ Taken a y)
 white_held cells p b e c a x k = elim (white_before cells p b e c a x k) [
-    inl s ↦ (let s0 = s.0 in let s1 = s.1 in let z = ap (cell_at cells) s0 in (Black, cc)) | inr s ↦ (x, s.1) ]
+  | inl s ↦ (let s0 = s.0 in let s1 = s.1 in let z = ap (cell_at cells) s0 in (Black, cc))
+  | inr s ↦ (x, s.1)
+]
 
 abbrev whitened : Account → ℕ → ℕ → Account
 whitened a p b = record a { cells = set a.cells p (Taken b White); phase = Append (p + 1) }
@@ -193,10 +216,15 @@ tidy-whitened shape n a p b e h =
       some = λ c x k. h.some c (held c 0 x k).0 (held c 0 x k).1;
       born = λ c y x k. h.born c y (held c y x k).0 (held c y x k).1;
       listed = λ y c k. elim (white_before a.cells p b e c y Grey k) [
-          inl s ↦ (let z = s.2 in absurd (cc)) | inr s ↦ h.listed y c s.1 ];
+        | inl s ↦ (let z = s.2 in absurd (cc))
+        | inr s ↦ h.listed y c s.1
+      ];
       only_grey = λ y k. (let q = h.only_grey y k
-                                in (q.0, rw (cell_at-set_other a.cells p q.0 (Taken b White)
-                                (λ s. let z = ap (cell_at a.cells) s in let g = q.1 in cc)) (q.1)));
+          in (
+            q.0,
+            rw (cell_at-set_other a.cells p q.0 (Taken b White)
+                (λ s. let z = ap (cell_at a.cells) s in let g = q.1 in cc)) (q.1),
+          ));
       once = h.once;
       small = spare-set a.cells p b White _ _ a.small within taken h.small;
       medium = spare-set a.cells p b White _ _ a.medium within taken h.medium;
@@ -205,10 +233,9 @@ tidy-whitened shape n a p b e h =
 
 whitened_kept : (cells : List Cell) (p b a : ℕ) → cell_at cells p ≡ Taken b Black → HasKept (Append p) cells a
     → HasKept (Append (p + 1)) (set cells p (Taken b White)) a
-whitened_kept cells p b a e k = elim (cell_at-set_cases cells p k.cell (Taken b White) (taken_within cells p b Black e))
-    [
+whitened_kept cells p b a e k = elim (cell_at-set_cases cells p k.cell (Taken b White) (taken_within cells p b Black e)) [
   | inl s ↦ (let s0 = s.0 in let s1 = s.1 in let z = ap (cell_at cells) s0
-                                                   in let hh = k.held in let same : b ≡ a = cc in
+      in let hh = k.held in let same : b ≡ a = cc in
       record { cell = k.cell; colour = White; held = rw (← same) s.1; kept = omega arith })
   | inr s ↦ record { cell = k.cell; colour = k.colour; held = s.1 ∙ k.held; kept = kept_on p k.cell k.colour k.kept }
 ]
@@ -231,7 +258,9 @@ whitened_keeps shape w n a p b e i = record {
       r);
   scanned = λ q x s r. absurd s;
   unblack = λ c x h u. elim (white_before a.cells p b e c x Black h) [
-      inl s ↦ (let z = s.2 in cc) | inr s ↦ i.unblack c x s.1 (unblack_back p c s.0 u) ];
+    | inl s ↦ (let z = s.2 in cc)
+    | inr s ↦ i.unblack c x s.1 (unblack_back p c s.0 u)
+  ];
   marked = λ c x k b' m h r. absurd m;
   front = λ x k b' f r. absurd f;
   begun = tt;
@@ -245,7 +274,7 @@ append_end shape w n a p l i = record {
   tidy = tidy-phase shape n (at_phase a (Append p)) Idle i.tidy;
   roots = λ q b e. (let k = i.roots q b e in record { cell = k.cell; colour = k.colour; held = k.held; kept = tt });
   words = λ c b x k b' h kept e. (let m = i.words c b x k b' h (all_kept c b x h) e
-                                        in record { cell = m.cell; colour = m.colour; held = m.held; kept = tt });
+      in record { cell = m.cell; colour = m.colour; held = m.held; kept = tt });
   scanned = λ q b s e. absurd s;
   unblack = λ c b h u. (let lt = taken_within a.cells c b Black h in i.unblack c b h (omega arith));
   marked = λ c b k b' m h e. absurd m;

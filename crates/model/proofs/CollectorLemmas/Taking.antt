@@ -31,7 +31,9 @@ came_before n c colour old new h d b x e = elim (h.at d) [ inl s ↦ inl (s.0, c
 pub came_after : (n c : ℕ) (colour : Colour) (old new : List Cell) → Came n c colour old new → (d b : ℕ) (x : Colour)
     → cell_at old d ≡ Taken b x → cell_at new d ≡ Taken b x
 came_after n c colour old new h d b x e = elim (h.at d) [
-    inl s ↦ (let k = ap (cell_at old) s.0 in let r = h.was in absurd (cc)) | inr s ↦ cc ]
+  | inl s ↦ (let k = ap (cell_at old) s.0 in let r = h.was in absurd (cc))
+  | inr s ↦ cc
+]
 
 pub came_here : (n c : ℕ) (colour : Colour) (cells : List Cell) → c < length cells → cell_at cells c ≡ Free
     → Came n c colour cells (set cells c (Taken n colour))
@@ -47,10 +49,14 @@ one-came : (n c : ℕ) (colour : Colour) (old new : List Cell) → Came n c colo
     → (d e b : ℕ) (x y : Colour) → cell_at new d ≡ Taken b x → cell_at new e ≡ Taken b y → d ≡ e
 one-came n c colour old new h born one d e b x y k l =
     elim (came_before n c colour old new h d b x k) [
-      | inl s ↦ elim (came_before n c colour old new h e b y l) [ inl r ↦ cc |
-          inr r ↦ (let lt = born e b y r in absurd (omega arith)) ]
+      | inl s ↦ elim (came_before n c colour old new h e b y l) [
+        | inl r ↦ cc
+        | inr r ↦ (let lt = born e b y r in absurd (omega arith))
+      ]
       | inr s ↦ elim (came_before n c colour old new h e b y l) [
-          inl r ↦ (let lt = born d b x s in absurd (omega arith)) | inr r ↦ one d e b x y s r ]
+        | inl r ↦ (let lt = born d b x s in absurd (omega arith))
+        | inr r ↦ one d e b x y s r
+      ]
     ]
 
 -- the grey list after a birth of this colour came
@@ -67,24 +73,32 @@ listed-came : (shape : HeapShape) (n : ℕ) (a : Account) (c : ℕ) (colour : Co
     → Came n c colour a.cells (set a.cells c (Taken n colour)) → Tidy shape n a → (b d : ℕ)
     → cell_at (set a.cells c (Taken n colour)) d ≡ Taken b Grey → In b (grey_with colour a.grey n)
 listed-came shape n a c White came h b d k = elim (came_before n c White _ _ came d b Grey k) [
-    inl s ↦ (let z = s.2 in absurd (cc)) | inr s ↦ h.listed b d s ]
+  | inl s ↦ (let z = s.2 in absurd (cc))
+  | inr s ↦ h.listed b d s
+]
 listed-came shape n a c Grey came h b d k = elim (came_before n c Grey _ _ came d b Grey k) [
-    inl s ↦ rw s.1 (In-last a.grey n) | inr s ↦ In-left a.grey (n ∷ []) b (h.listed b d s) ]
+  | inl s ↦ rw s.1 (In-last a.grey n)
+  | inr s ↦ In-left a.grey (n ∷ []) b (h.listed b d s)
+]
 listed-came shape n a c Black came h b d k = elim (came_before n c Black _ _ came d b Grey k) [
-    inl s ↦ (let z = s.2 in absurd (cc)) | inr s ↦ h.listed b d s ]
+  | inl s ↦ (let z = s.2 in absurd (cc))
+  | inr s ↦ h.listed b d s
+]
 
 stays_grey : (shape : HeapShape) (n : ℕ) (a : Account) (c : ℕ) (colour : Colour)
     → Came n c colour a.cells (set a.cells c (Taken n colour)) → Tidy shape n a → (b : ℕ) → In b a.grey → (d : ℕ)
     × (cell_at (set a.cells c (Taken n colour)) d ≡ Taken b Grey)
 stays_grey shape n a c colour came h b k = let p = h.only_grey b k
-                                                 in (p.0, came_after n c colour _ _ came p.0 b Grey p.1)
+    in (p.0, came_after n c colour _ _ came p.0 b Grey p.1)
 
 only-came : (shape : HeapShape) (n : ℕ) (a : Account) (c : ℕ) (colour : Colour)
     → Came n c colour a.cells (set a.cells c (Taken n colour)) → Tidy shape n a → (b : ℕ)
     → In b (grey_with colour a.grey n) → (d : ℕ) × (cell_at (set a.cells c (Taken n colour)) d ≡ Taken b Grey)
 only-came shape n a c White came h b k = stays_grey shape n a c White came h b k
 only-came shape n a c Grey came h b k = elim (In-push_cases a.grey n b k) [
-    inl r ↦ stays_grey shape n a c Grey came h b r | inr e ↦ (c, rw e came.here) ]
+  | inl r ↦ stays_grey shape n a c Grey came h b r
+  | inr e ↦ (c, rw e came.here)
+]
 only-came shape n a c Black came h b k = stays_grey shape n a c Black came h b k
 
 once-came : (shape : HeapShape) (n : ℕ) (a : Account) (colour : Colour) → Tidy shape n a
@@ -107,9 +121,13 @@ tidy-came shape n a c colour s m l le f lt small medium large h =
       sized = length-set a.cells c (Taken n colour) ∙ h.sized;
       one = one-came n c colour a.cells new came h.born h.one;
       some = λ d x k. elim (came_before n c colour a.cells new came d 0 x k) [
-          inl s ↦ (let z = s.1 in omega arith) | inr s ↦ h.some d x s ];
+        | inl s ↦ (let z = s.1 in omega arith)
+        | inr s ↦ h.some d x s
+      ];
       born = λ d b x k. elim (came_before n c colour a.cells new came d b x k) [
-          inl s ↦ (let z = s.1 in omega arith) | inr s ↦ (let l = h.born d b x s in omega arith) ];
+        | inl s ↦ (let z = s.1 in omega arith)
+        | inr s ↦ (let l = h.born d b x s in omega arith)
+      ];
       listed = listed-came shape n a c colour came h;
       only_grey = only-came shape n a c colour came h;
       once = once-came shape n a colour h;
@@ -155,9 +173,9 @@ takes_small shape n a c cs e h =
       tidy = λ colour le. tidy-came shape n a c colour cs a.medium a.large le (list.unused c (inl refl)) within
           (spare-taken a.cells c n colour _ _ cs within list)
           (spare-unfit a.cells c (Taken n colour) _ _ a.medium
-              (λ k. let u = fit.1 in let l = k.0 in omega arith) h.medium)
+          (λ k. let u = fit.1 in let l = k.0 in omega arith) h.medium)
           (spare-unfit a.cells c (Taken n colour) _ _ a.large
-              (λ k. let u = fit.1 in let l = k.0 in omega arith) h.large) h;
+          (λ k. let u = fit.1 in let l = k.0 in omega arith) h.large) h;
       was_free = list.unused c (inl refl);
       within = within;
       left = (let k = ap length e in omega arith);
@@ -176,10 +194,10 @@ takes_medium shape n a c cs e h =
       is = refl;
       tidy = λ colour le. tidy-came shape n a c colour a.small cs a.large le (list.unused c (inl refl)) within
           (spare-unfit a.cells c (Taken n colour) _ _ a.small
-              (λ k. let l = fit.0 in let u = k.1 in omega arith) h.small)
+          (λ k. let l = fit.0 in let u = k.1 in omega arith) h.small)
           (spare-taken a.cells c n colour _ _ cs within list)
           (spare-unfit a.cells c (Taken n colour) _ _ a.large
-              (λ k. let u = fit.1 in let l = k.0 in omega arith) h.large) h;
+          (λ k. let u = fit.1 in let l = k.0 in omega arith) h.large) h;
       was_free = list.unused c (inl refl);
       within = within;
       left = (let k = ap length e in omega arith);
@@ -189,7 +207,7 @@ takes_large : (shape : HeapShape) (n : ℕ) (a : Account) (c : ℕ) (cs : List �
     → Takes shape n a c (record a { large = cs })
 takes_large shape n a c cs e h =
     let list : Spare a.cells (shape.small + shape.medium) (shape.small + shape.medium + shape.large) (c ∷ cs) = rw e at
-          h.large in
+    h.large in
     let fit = list.fits c (inl refl) in
     let within : c < length a.cells = (let s = h.sized in let u = fit.1 in omega arith) in
     record {
@@ -199,9 +217,9 @@ takes_large shape n a c cs e h =
       is = refl;
       tidy = λ colour le. tidy-came shape n a c colour a.small a.medium cs le (list.unused c (inl refl)) within
           (spare-unfit a.cells c (Taken n colour) _ _ a.small
-              (λ k. let l = fit.0 in let u = k.1 in omega arith) h.small)
+          (λ k. let l = fit.0 in let u = k.1 in omega arith) h.small)
           (spare-unfit a.cells c (Taken n colour) _ _ a.medium
-              (λ k. let l = fit.0 in let u = k.1 in omega arith) h.medium)
+          (λ k. let l = fit.0 in let u = k.1 in omega arith) h.medium)
           (spare-taken a.cells c n colour _ _ cs within list) h;
       was_free = list.unused c (inl refl);
       within = within;

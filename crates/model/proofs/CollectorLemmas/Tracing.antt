@@ -29,10 +29,14 @@ starts_kept (Append p) c Black h = tt
 traced_kept : (shape : HeapShape) (w : World) (n : ℕ) (a : Account) (b : ℕ) → Invariant shape w n a → Traced w a b
     → HasKept a.phase a.cells b
 traced_kept shape w n a b i (from_root p e) = i.roots p b e
-traced_kept shape w n a b i (from_cell c x e s) = record { cell = c; colour = x; held = e;
-    kept = starts_kept a.phase c x s }
+traced_kept shape w n a b i (from_cell c x e s) = record {
+  cell = c;
+  colour = x;
+  held = e;
+  kept = starts_kept a.phase c x s;
+}
 traced_kept shape w n a b i (over y k t e) = let h = traced_kept shape w n a y i t
-                                                   in i.words h.cell y h.colour k b h.held h.kept e
+    in i.words h.cell y h.colour k b h.held h.kept e
 
 -- a white cell of a reachable birth is one that appending has passed
 late_white : (shape : HeapShape) (w : World) (n : ℕ) (a : Account) (p c b : ℕ)
@@ -53,8 +57,10 @@ either_by : (shape : HeapShape) (w : World) (n : ℕ) (a : Account) (grey : List
     → NotEmpty grey ⊎ ((b : ℕ) → Reach w b → NotWhite a.cells b)
 either_by shape w n a (x ∷ xs) phase i m = inl tt
 either_by shape w n a [] (Mark q) i m =
-    inr (λ b r. record { never = λ c e. (let lt = late_white shape w n (record a { grey = [] }) 0 c b
-                                               (mark_end shape w n a q i) r e in omega arith) })
+    inr (λ b r. record {
+      never = λ c e. (let lt = late_white shape w n (record a { grey = [] }) 0 c b
+          (mark_end shape w n a q i) r e in omega arith);
+    })
 either_by shape w n a [] Idle i m = absurd m
 either_by shape w n a [] (Statics s) i m = absurd m
 either_by shape w n a [] (Frames t d j) i m = absurd m
@@ -68,6 +74,6 @@ three_colours shape w n a i = record {
   front = i.front;
   either = either_by shape w n a a.grey a.phase i;
   late = λ p c b e r h. (let j : Invariant shape w n (at_phase a (Append p)) = rw (← e) i
-                               in late_white shape w n a p c b j r h);
+      in late_white shape w n a p c b j r h);
   traced = λ b t. traced_kept shape w n a b i t;
 }

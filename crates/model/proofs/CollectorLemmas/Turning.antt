@@ -48,12 +48,20 @@ world_keeps shape w v n a f i = record {
 
 came_kept : (n c : ℕ) (old new : List Cell) → Came n c Grey old new → (phase : Phase) (b : ℕ) → HasKept phase old b
     → HasKept phase new b
-came_kept n c old new h phase b k = record { cell = k.cell; colour = k.colour;
-    held = came_after n c Grey old new h k.cell b k.colour k.held; kept = k.kept }
+came_kept n c old new h phase b k = record {
+  cell = k.cell;
+  colour = k.colour;
+  held = came_after n c Grey old new h k.cell b k.colour k.held;
+  kept = k.kept;
+}
 
 came_not_white : (n c : ℕ) (old new : List Cell) → Came n c Grey old new → (b : ℕ) → NotWhite old b → NotWhite new b
-came_not_white n c old new h b k = record { never = λ d e. elim (came_before n c Grey old new h d b White e) [
-    inl s ↦ (let z = s.2 in cc) | inr s ↦ k.never d s ] }
+came_not_white n c old new h b k = record {
+  never = λ d e. elim (came_before n c Grey old new h d b White e) [
+    | inl s ↦ (let z = s.2 in cc)
+    | inr s ↦ k.never d s
+  ];
+}
 
 -- after the new birth came
 pub record Opened (shape : HeapShape) (w : World) (object : Option ℕ) (a b : Account) : Type 0 where
@@ -65,7 +73,7 @@ pub record Opened (shape : HeapShape) (w : World) (object : Option ℕ) (a b : A
 some_birth : (shape : HeapShape) (w : World) (n : ℕ) (a : Account) → Invariant shape w n a → 1 ≤ n
 unfolding root_at
 some_birth shape w n a i = let k = i.roots MemoryError 1 refl
-                                 in let lt = i.tidy.born k.cell 1 k.colour k.held in omega arith
+    in let lt = i.tidy.born k.cell 1 k.colour k.held in omega arith
 
 -- the new birth has no words yet
 came_keeps : (shape : HeapShape) (w : World) (n c : ℕ) (a : Account) (s m l : List ℕ)
@@ -80,20 +88,28 @@ came_keeps shape w n c a s m l came tidy none i =
       tidy = tidy;
       roots = λ p b r. kept b (i.roots p b r);
       words = λ d b x k b' h q f. elim (came_before n c Grey a.cells new came d b x h) [
-          inl s ↦ absurd (none k b' (rw s.1 at f)) | inr s ↦ kept b' (i.words d b x k b' s q f) ];
+        | inl s ↦ absurd (none k b' (rw s.1 at f))
+        | inr s ↦ kept b' (i.words d b x k b' s q f)
+      ];
       scanned = λ p b s r. light b (i.scanned p b s r);
       unblack = λ d b h u. elim (came_before n c Grey a.cells new came d b Black h) [
-          inl s ↦ (let z = s.2 in cc) | inr s ↦ i.unblack d b s u ];
+        | inl s ↦ (let z = s.2 in cc)
+        | inr s ↦ i.unblack d b s u
+      ];
       marked = λ d b k b' m h f. elim (came_before n c Grey a.cells new came d b Black h) [
-          inl s ↦ (let z = s.2 in absurd (cc)) | inr s ↦ light b' (i.marked d b k b' m s f) ];
+        | inl s ↦ (let z = s.2 in absurd (cc))
+        | inr s ↦ light b' (i.marked d b k b' m s f)
+      ];
       front = λ x k b' f h. light b' (i.front x k b' (fronted_before a.phase a.grey n true x k i.begun f) h);
       begun = begun_after a.phase a.grey n true i.begun;
     }
 
 opened_here : (shape : HeapShape) (w : World) (words c : ℕ) (a b : Account) → Takes shape (next_birth w) a c b
     → Invariant shape w (next_birth w) a
-    → Opened shape w (Some words) a (record b { cells = set b.cells c (Taken (next_birth w) Grey);
-    grey = b.grey ++ next_birth w ∷ [] })
+    → Opened shape w (Some words) a (record b {
+      cells = set b.cells c (Taken (next_birth w) Grey);
+      grey = b.grey ++ next_birth w ∷ [];
+    })
 opened_here shape w words c a b t i =
     let n = next_birth w in
     let base = relisted a t.small t.medium t.large in
@@ -105,8 +121,10 @@ opened_here shape w words c a b t i =
           (λ k x e. (let lt = words_made w n k x e in omega arith)) i;
       new = λ x s. rw s (record {
         kept = record { cell = c; colour = Grey; held = came.here; kept = kept-grey a.phase c };
-        not_white = record { never = λ d k. (let z = one_colour shape (n + 1) (came_in base c n Grey) tidy c d n Grey
-                                                   White came.here k in cc) };
+        not_white = record {
+          never = λ d k. (let z = one_colour shape (n + 1) (came_in base c n Grey) tidy c d n Grey
+              White came.here k in cc);
+        };
       });
       old = λ x k. kept x k;
     })
@@ -135,11 +153,15 @@ changed_keeps shape w a c room h i =
     let o = opened shape w c.object a room i in
     let e = shade_all b c.writes in
     let written = λ (x : ℕ) (k : In x c.writes). elim (h.writes x k) as (λ _. HasKept b.phase b.cells x) [
-          inl s ↦ (o.new x s).kept | inr r ↦ o.old x (reach_kept shape w n a x i r) ] in
+      | inl s ↦ (o.new x s).kept
+      | inr r ↦ o.old x (reach_kept shape w n a x i r)
+    ] in
     let shaded = shade_all_keeps shape w (births_after c.object n) c.writes b written o.inv in
     let safe = λ (x : ℕ) (f : Fresh w c x). elim f as (λ _. Safe e x) [
-      | inl s ↦ record { kept = kept_in_all c.writes b x (o.new x s).kept;
-          not_white = not_white_in_all c.writes b x (o.new x s).not_white }
+      | inl s ↦ record {
+        kept = kept_in_all c.writes b x (o.new x s).kept;
+        not_white = not_white_in_all c.writes b x (o.new x s).not_white;
+      }
       | inr k ↦ record { kept = kept_in_all c.writes b x (written x k); not_white = shaded_not_white c.writes b x k }
     ] in
     let follows : Follows w c.after e = record {

@@ -72,7 +72,7 @@ pub released_keeps : (P : ℕ → Type 0) (w v : World) (n t : ℕ) (monitor : O
 released_keeps P w v n t None k = k
 released_keeps P w v n t (Some birth) k =
     kept_if P w _ v n (is_owner t (monitor_of v birth).owner)
-        (with_monitor_keeps P w v n birth (exited (monitor_of v birth)) k) k
+    (with_monitor_keeps P w v n birth (exited (monitor_of v birth)) k) k
 
 all_keep : (P : ℕ → Type 0) (w v : World) (n t : ℕ) (monitors : List (Option ℕ)) → Kept P w n v
     → Kept P w n (released_all v t monitors)
@@ -83,16 +83,24 @@ all_keep P w v n t (monitor ∷ monitors) k = all_keep P w (released v t monitor
 -- class states are no places
 pub states_keep : (P : ℕ → Type 0) (w v : World) (n : ℕ) (states : List ClassState) → Kept P w n v
     → Kept P w n (with_class_states v states)
-states_keep P w v n states k = record { fault = k.fault; rows = k.rows; threads = k.threads; fields = k.fields;
-    made = k.made; objects = k.objects }
+states_keep P w v n states k = record {
+  fault = k.fault;
+  rows = k.rows;
+  threads = k.threads;
+  fields = k.fields;
+  made = k.made;
+  objects = k.objects;
+}
 
 -- ---- frames are left
 
 handling_moves : (P : ℕ → Type 0) (birth handler : ℕ) (f : Frame) → P birth → FrameMoves P f (handling birth handler f)
 handling_moves P birth handler f h =
-    let may : AllMay P (Some birth ∷ []) = (λ b e. (let s : b ≡ birth = cc in rw s h), tt) in
-    (refs_after P (map entry_ref f.locals) (reverse (map ref_of f.stack)) (Some birth ∷ [])
-        (refs_new P _ (Some birth ∷ []) may), λ b e. inl e)
+    let may : AllMay P (Some birth ∷ []) = (λ b e. (let s : b ≡ birth = cc in rw s h), tt) in (
+      refs_after P (map entry_ref f.locals) (reverse (map ref_of f.stack)) (Some birth ∷ [])
+          (refs_new P _ (Some birth ∷ []) may),
+      λ b e. inl e,
+    )
 
 failing_moves : (P : ℕ → Type 0) (f : Frame) → FrameMoves P f (failing f)
 failing_moves P f = (refs_after P (map entry_ref f.locals) (reverse (map ref_of f.stack)) [] tt, λ b e. inl e)
@@ -124,7 +132,7 @@ lands_here P Q birth f fs Fails way p h =
     let m = failing_moves Q f in frames_above Q (reverse fs) (f ∷ []) (failing f ∷ []) (m.0, m.1, tt)
 lands_here P Q birth f fs (Handles handler) way p h =
     let m = handling_moves P birth handler f p in frames_above P (reverse fs) (f ∷ []) (handling birth handler f ∷ [])
-          (m.0, m.1, tt)
+    (m.0, m.1, tt)
 
 -- frames stand innermost first
 lands : (P Q : ℕ → Type 0) (program : List ClassListing) (class : List ℕ) (birth : ℕ) (fs : List Frame) → P birth
@@ -132,7 +140,7 @@ lands : (P Q : ℕ → Type 0) (program : List ClassListing) (class : List ℕ) 
 lands P Q program class birth [] p = tt
 lands P Q program class birth (f ∷ fs) p =
     rw (reverse-append (f ∷ []) fs) (lands_here P Q birth f fs (response_of program class f) (way_of program class fs) p
-        (lands P Q program class birth fs p))
+    (lands P Q program class birth fs p))
 
 reverse-twice : (fs : List Frame) → reverse (reverse fs) ≡ fs
 reverse-twice [] = refl
@@ -200,7 +208,7 @@ without_keeps : (P : ℕ → Type 0) (program : List ClassListing) (w v : World)
 without_keeps P program w v n t left k =
     let monitors = map (λ (f : Frame). f.monitor) left in
     states_keep P w (released_all v t monitors) n (with_states Failed (initialised_by program left) v.statics.states)
-        (all_keep P w v n t monitors k)
+    (all_keep P w v n t monitors k)
 
 -- the throwable was reachable, or it is the new object; the threads are those of the world before
 pub thrown_lawful : (program : List ClassListing) (w v : World) (object : Option ℕ) (t birth : ℕ) → v.threads
@@ -215,6 +223,6 @@ thrown_lawful program w v object t birth e known k =
     let way = way_of program class fs in
     let same : reverse fs ≡ frames_at w t = reverse-twice (frames_at v t) ∙ ap (λ ts. frames_of (slice_get ts t)) e in
     let l : LandsIn P Q birth (frames_at w t) way.landing = rw (← same)
-          (lands P Q program class birth fs (inr (inl refl))) in
+    (lands P Q program class birth fs (inr (inl refl))) in
     landed_lawful w (without program v t way.left) object t birth class way.landing known l
-        (λ R. without_keeps R program w v (births_after object (next_birth w)) t way.left (k R))
+    (λ R. without_keeps R program w v (births_after object (next_birth w)) t way.left (k R))

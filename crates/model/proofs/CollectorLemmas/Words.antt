@@ -247,4 +247,4 @@ opening_nowhere [] = tt
 opening_nowhere (c ∷ cs) =
     rw (map-append field_ref (opening_slots_of c) (opening_slots cs))
     (nowhere_both (map field_ref (opening_slots_of c)) (map field_ref (opening_slots cs))
-        (class_nowhere c.name (filter is_static_field c.fields)) (opening_nowhere cs))
+    (class_nowhere c.name (filter is_static_field c.fields)) (opening_nowhere cs))

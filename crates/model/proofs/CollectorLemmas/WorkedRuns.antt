@@ -36,8 +36,11 @@ program stack = record {
       max_stack = stack;
       max_locals = 1;
       rows = [];
-      instructions = record { pc = 0; next = 1; instruction = Push Null } ∷ record { pc = 1; next = 2;
-          instruction = Return None } ∷ [];
+      instructions = record { pc = 0; next = 1; instruction = Push Null } ∷ record {
+        pc = 1;
+        next = 2;
+        instruction = Return None;
+      } ∷ [];
     });
   } ∷ [];
 } ∷ []
@@ -58,8 +61,14 @@ unfolding moved_by refusal next completion after_turn shade collected root_at wo
 one_cycle = refl
 
 before_cycle : (machine_after (program 1) two_small (limits 100) (collector 11)).account
-    ≡ record { cells = Taken 1 White ∷ Taken 2 White ∷ []; small = []; medium = []; large = []; grey = [];
-    phase = Append 2 }
+    ≡ record {
+      cells = Taken 1 White ∷ Taken 2 White ∷ [];
+      small = [];
+      medium = [];
+      large = [];
+      grey = [];
+      phase = Append 2;
+    }
 unfolding machine_after machine_of after_turn_by refusal next completion after_turn shade collected root_at word_at
 before_cycle = refl
 

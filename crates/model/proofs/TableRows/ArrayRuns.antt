@@ -42,7 +42,7 @@ newarray_int = (2, Array (New AllInts))
 abbrev bytes : List ClassListing
 bytes = class_of (codes "A") [] 4 0 []
     ((1, Constant (SmallInt Two)) ∷ (2, Array (New Bytes)) ∷ (1, Stack Dup) ∷ iconst_0 ∷ (3, Constant (Short (pos 200)))
-        ∷
+    ∷
     (1, Array (Store ByteElement)) ∷ iconst_0 ∷ (1, Array (Load ByteElement)) ∷ print ∷ return ∷ []) ∷ []
 
 abbrev bytes_run : Machine
@@ -64,8 +64,11 @@ five = class_of (codes "A") [] 1 0 [] ((2, Constant (Byte (pos 5))) ∷ newarray
 abbrev five_run : Recorded
 five_run = after_turns (opened five (small 64) ample) (thread 2)
 
-five-rows : five_run.journal.rows ≡ record { actor = Thread 0; outcome = Done; worker = 0 } ∷ record { actor = Thread 0;
-    outcome = NoRoom; worker = 0 } ∷ []
+five-rows : five_run.journal.rows ≡ record { actor = Thread 0; outcome = Done; worker = 0 } ∷ record {
+  actor = Thread 0;
+  outcome = NoRoom;
+  worker = 0;
+} ∷ []
 unfolding machine_of after_turn_by refusal next completion after_turn shade
 five-rows = refl
 

@@ -59,13 +59,14 @@ main_class name stack locals code methods = class name object_class [] (method 9
 abbrev recursion : List ClassListing
 recursion = main_class (codes "S") 0 0 (invoke Static (codes "S") (codes "f") (codes "()V") ∷ return ∷ []) (
     method 9 (codes "f") (codes "()V") 0 0 (invoke Static (codes "S") (codes "f") (codes "()V") ∷ return ∷ []) ∷ [])
-        ∷ []
+    ∷ []
 
 -- main and so many frames of f, all at their invoke, after as many turns
 abbrev deep : ℕ → World
-deep n = record (opening_world recursion)
-    { threads = Live (frame (place 0 0) 0 [] [] 0 None ∷ replicate n (frame (place 0 1) 0 [] [] 0 None)) ∷ [];
-    rows = n }
+deep n = record (opening_world recursion) {
+  threads = Live (frame (place 0 0) 0 [] [] 0 None ∷ replicate n (frame (place 0 1) 0 [] [] 0 None)) ∷ [];
+  rows = n;
+}
 
 deep_32 : after 32 recursion (opening_world recursion) ≡ deep 32
 unfolding refusal next completion builtin_classes upwards interfaces_from is_within is_subtype_within int_wrap digits
@@ -101,14 +102,18 @@ deep_255 = refl
 
 -- 255 calls, and the last turn
 too_deep : after 1 recursion (deep 255)
-    ≡ record (opening_world recursion) { threads = Ended (Some (codes "java/lang/StackOverflowError")) ∷ [];
-    rows = 256 }
+    ≡ record (opening_world recursion) {
+      threads = Ended (Some (codes "java/lang/StackOverflowError")) ∷ [];
+      rows = 256;
+    }
 unfolding refusal next completion builtin_classes upwards interfaces_from is_within is_subtype_within int_wrap digits
 too_deep = refl
 
 deep_all : run 256 recursion
-    ≡ record (opening_world recursion) { threads = Ended (Some (codes "java/lang/StackOverflowError")) ∷ [];
-    rows = 256 }
+    ≡ record (opening_world recursion) {
+      threads = Ended (Some (codes "java/lang/StackOverflowError")) ∷ [];
+      rows = 256;
+    }
 deep_all =
     let w = opening_world recursion in
     let to_64 = more 32 32 recursion w (deep 32) (deep 64) deep_32 deep_64 in
@@ -128,7 +133,7 @@ gives flags n = method flags (codes "f") (codes "()I") 1 1 (iconst n ∷ ireturn
 abbrev past_private : List ClassListing
 past_private =
     main_class (codes "M") 1 0 (new (codes "C") ∷ invoke Virtual (codes "A") (codes "f") (codes "()I") ∷ print ∷ return
-        ∷ []) [] ∷
+    ∷ []) [] ∷
     class (codes "A") object_class [] (gives 1 One ∷ []) ∷
     class (codes "B") (codes "A") [] (gives 2 Two ∷ []) ∷
     class (codes "C") (codes "B") [] [] ∷ []
@@ -146,10 +151,10 @@ past_private-end = refl
 abbrev by_special : List ClassListing
 by_special =
     main_class (codes "M") 1 0 (new (codes "C") ∷ invoke Virtual (codes "B") (codes "g") (codes "()I") ∷ print ∷ return
-        ∷ []) [] ∷
+    ∷ []) [] ∷
     class (codes "A") object_class [] (gives 1 One ∷ []) ∷
     class (codes "B") (codes "A") [] (method 1 (codes "g") (codes "()I") 1 1 (aload_0 ∷
-        invoke Special (codes "A") (codes "f") (codes "()I") ∷ ireturn ∷ []) ∷ []) ∷
+    invoke Special (codes "A") (codes "f") (codes "()I") ∷ ireturn ∷ []) ∷ []) ∷
     class (codes "C") (codes "B") [] (gives 1 Three ∷ []) ∷ []
 
 by_special-output : (run 9 by_special).output ≡ codes "1\n"
@@ -166,7 +171,7 @@ by_special-end = refl
 abbrev no_method : List ClassListing
 no_method =
     main_class (codes "M") 1 0 (new (codes "D")
-        ∷ (5, Invoke (Interface 1) (member (codes "J") (codes "f") (codes "()V"))) ∷ return ∷ []) [] ∷
+    ∷ (5, Invoke (Interface 1) (member (codes "J") (codes "f") (codes "()V"))) ∷ return ∷ []) [] ∷
     class (codes "D") object_class (codes "J" ∷ []) [] ∷
     interface (codes "J") (abstract_method (codes "f") (codes "()V") ∷ []) ∷ []
 
@@ -198,7 +203,9 @@ no_throwable-stays = refl
 abbrev wrong_return : List ClassListing
 wrong_return = main_class (codes "M") 1 0 (ireturn ∷ []) [] ∷ []
 
-wrong_return-faulted : run 2 wrong_return ≡ record (opening_world wrong_return) { fault = Some (WrongReturn, 0);
-    rows = 1 }
+wrong_return-faulted : run 2 wrong_return ≡ record (opening_world wrong_return) {
+  fault = Some (WrongReturn, 0);
+  rows = 1;
+}
 unfolding refusal next completion builtin_classes upwards interfaces_from is_within is_subtype_within int_wrap digits
 wrong_return-faulted = refl

@@ -36,8 +36,12 @@ k = class_of (codes "K") (field (codes "x") (codes "I") ∷ []) 1 0 [] ((3, Clas
     ∷ return ∷ []) ∷ []
 
 abbrev object : Value → Object
-object value = made_of (Instance (codes "K") (record { class = codes "K"; name = codes "x"; descriptor = codes "I";
-    value = value } ∷ []))
+object value = made_of (Instance (codes "K") (record {
+  class = codes "K";
+  name = codes "x";
+  descriptor = codes "I";
+  value = value;
+} ∷ []))
 
 abbrev moved : Machine → List Actor → Machine
 moved = moved_by_all k (small 3) ample
@@ -101,7 +105,7 @@ drop4-drop5 = refl
 pub drop-run : moved drop0 (thread 2 ++ collector 14 ++ collector 10 ++ collector 1 ++ collector 1) ≡ drop5
 drop-run =
     then k (small 3) ample drop0 drop1 drop5 (thread 2) (collector 14 ++ collector 10 ++ collector 1 ++ collector 1)
-        drop0-drop1
+    drop0-drop1
     (then k (small 3) ample drop1 drop2 drop5 (collector 14) (collector 10 ++ collector 1 ++ collector 1) drop1-drop2
     (then k (small 3) ample drop2 drop3 drop5 (collector 10) (collector 1 ++ collector 1) drop2-drop3
     (then k (small 3) ample drop3 drop4 drop5 (collector 1) (collector 1) drop3-drop4

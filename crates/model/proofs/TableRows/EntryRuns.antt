@@ -75,10 +75,10 @@ goes_on program w v writes c f l r =
     let ready : is_ready program w 0 ≡ true =
     ap (λ (o : Option (Fault × ℕ)). is_none o && is_live w 0 && not (waits (completion program w 0))) f
     ∙ ap (λ (b : Bool). true && b && not (waits (completion program w 0))) l ∙ ap (λ (x : Completion). not (waits x)) c
-        in
+    in
     let free : thread_refusal program ample w 0 ≡ None =
     ap (λ (b : Bool). if b then (if overflows program ample w 0 then Some OutputFull else None) else Some NotReady)
-        ready
+    ready
     ∙ ap (λ (x : Completion). if passes ample.output w.output (prints x) then Some OutputFull else None) c in
     let unrefused : refusal program ample w (Thread 0) ≡ None =
     ap (λ (o : Option (Fault × ℕ)). refusal_after program ample w (Thread 0) o) f
@@ -99,11 +99,11 @@ loop : (n r : ℕ) → r < 999998 → n < 65535 → after 3 entries (top n r) �
 loop n r h k =
     let one = loads n r (lt-leb 1000000 r (omega (arith, h))) in
     let two = goes_on entries (entered 5 (Ref (Some 3) ∷ []) (Some 0) n (r + 1)) (entered 6 [] (Some 0) (n + 1) (r + 1))
-          [] (enters n (r + 1) (lt-leb 65535 n k)) refl refl (lt-leb 1000000 (r + 1) (omega (arith, h))) in
+    [] (enters n (r + 1) (lt-leb 65535 n k)) refl refl (lt-leb 1000000 (r + 1) (omega (arith, h))) in
     let three = goes_back (n + 1) (r + 1 + 1) (lt-leb 1000000 (r + 1 + 1) (omega (arith, h))) in
     more 1 2 entries (top n r) (entered 5 (Ref (Some 3) ∷ []) (Some 0) n (r + 1)) (top (n + 1) (r + 1 + 1 + 1)) one
-        (more 1 1 entries (entered 5 (Ref (Some 3) ∷ []) (Some 0) n (r + 1)) (entered 6 [] (Some 0) (n + 1) (r + 1 + 1))
-        (top (n + 1) (r + 1 + 1 + 1)) two three)
+    (more 1 1 entries (entered 5 (Ref (Some 3) ∷ []) (Some 0) n (r + 1)) (entered 6 [] (Some 0) (n + 1) (r + 1 + 1))
+    (top (n + 1) (r + 1 + 1 + 1)) two three)
 
 -- ---- so many loops
 
@@ -118,8 +118,8 @@ loops (suc k) n r h g =
     let b : n + suc k ≡ n + 1 + k = omega arith in
     let c : r + suc k * 3 ≡ r + 1 + 1 + 1 + k * 3 = omega arith in
     rw (b, c, a) (more 3 (k * 3) entries (top n r) (top (n + 1) (r + 1 + 1 + 1))
-        (top (n + 1 + k) (r + 1 + 1 + 1 + k * 3)) (loop n r (omega (arith, h, g)) (omega (arith, h, g)))
-        (loops k (n + 1) (r + 1 + 1 + 1) (omega (arith, h)) (omega (arith, g))))
+    (top (n + 1 + k) (r + 1 + 1 + 1 + k * 3)) (loop n r (omega (arith, h, g)) (omega (arith, h, g)))
+    (loops k (n + 1) (r + 1 + 1 + 1) (omega (arith, h)) (omega (arith, g))))
 
 -- ---- all rows
 

@@ -66,7 +66,7 @@ caught =
     throwing ∷
     class (codes "Q") (codes "P") [] [] ∷
     class (codes "R") (codes "Q") [] (catching (row 0 1 0 None ∷ []) (initializer 1 (iconst_2 ∷ print ∷ return ∷ []))
-        ∷ []) ∷ []
+    ∷ []) ∷ []
 
 abbrev caught_claimed : Played
 caught_claimed = played
@@ -82,7 +82,7 @@ caught-claim = refl
 abbrev caught_failed : Played
 caught_failed = played
     (world (Live (at 0 0 3 (Ref (Some 3) ∷ []) 1 ∷ []) ∷ []) [] (Initialised ∷ Failed ∷ Failed ∷ Failed ∷ []) []
-        (plain_object error ∷ []) 3)
+    (plain_object error ∷ []) 3)
     two_free (done 1 ++ Some GotObject ∷ done 1)
 
 caught-fails : plays caught (small 5) caught_claimed (zeros 2) ≡ caught_failed
@@ -110,7 +110,7 @@ below rows =
 abbrev below_played : List Frame → List Object → ℕ → Account → List (Option Outcome) → Played
 below_played frames objects rows account outcomes = played
     (world (Live (at 0 0 0 [] 1 ∷ waiting (at 2 0 0 [] 1) ∷ frames) ∷ []) (holding (codes "P") 0 ∷ []) (Initialised
-        ∷ Running 0 ∷ Running 0 ∷ []) [] objects rows)
+    ∷ Running 0 ∷ Running 0 ∷ []) [] objects rows)
     account outcomes
 
 abbrev below_divides : Played
@@ -155,7 +155,7 @@ below-ends = refl
 below-run : plays (below []) (small 5) (opens (below []) (small 5)) (zeros 5) ≡ below_ended
 below-run =
     and_then (below []) (small 5) (opens (below []) (small 5)) below_divides below_ended (zeros 3) (zeros 2)
-        (below-divides [])
+    (below-divides [])
     (and_then (below []) (small 5) below_divides below_marked below_ended (zeros 1) (zeros 1) below-marked below-ends)
 
 -- the row of a marked frame isn't tried any more
@@ -176,7 +176,7 @@ once-ends = refl
 abbrev ended_without_room : Account → List Object → ℕ → List (Option Outcome) → Played
 ended_without_room account objects rows outcomes = played
     (world (Ended (Some out_of_memory) ∷ []) (holding (codes "P") 0 ∷ []) (Initialised ∷ Failed ∷ Failed ∷ []) []
-        objects rows)
+    objects rows)
     account outcomes
 
 below-no_error : plays (below []) (small 3) (opens (below []) (small 3)) (zeros 5)
@@ -198,7 +198,7 @@ abbrev sharing : List ClassListing
 sharing =
     plain (codes "M") (main 1 (getstatic (codes "P") ∷ pop ∷ return ∷ []) ∷ []) ∷
     class (codes "T") (codes "java/lang/Thread") [] (method 1 (codes "run") (codes "()V") 1 1 (getstatic (codes "P")
-        ∷ pop ∷ return ∷ []) ∷ []) ∷
+    ∷ pop ∷ return ∷ []) ∷ []) ∷
     dividing [] ∷ []
 
 abbrev shared_world : List Thread → ClassState → List Object → ℕ → World
@@ -210,7 +210,7 @@ shared_world threads state objects rows = world threads (holding (codes "P") 0 �
 abbrev sharing_marked : Played
 sharing_marked = played
     (shared_world (Live (at 0 0 0 [] 1 ∷ failed (at 2 0 2 [] 2) ∷ [])
-        ∷ Live (frame (place 1 0) 0 (Holds (Ref (Some 3)) ∷ []) [] 1 None ∷ []) ∷ []) (Running 0) [] 0)
+    ∷ Live (frame (place 1 0) 0 (Holds (Ref (Some 3)) ∷ []) [] 1 None ∷ []) ∷ []) (Running 0) [] 0)
     (cells (Taken 3 Grey ∷ Taken 4 Grey ∷ Free ∷ Free ∷ []) (4 ∷ 5 ∷ []) (3 ∷ 4 ∷ [])) []
 
 -- its first turn is refused, and its next finds a class that failed

@@ -48,7 +48,7 @@ stopped w = counted (with_fault w 0 StackFull)
 abbrev main_over : List Sized → List Sized → ClassListing
 main_over code callee =
     plain (codes "E") (catching (row 0 3 4 None ∷ []) (main 0 code) ∷ method 9 (codes "f") (codes "()V") 2 0 callee
-        ∷ [])
+    ∷ [])
 
 abbrev standing : List Frame → ℕ → World
 standing frames rows = world (Live frames ∷ []) [] (Initialised ∷ []) [] [] rows
@@ -92,7 +92,7 @@ in_callee-run : plays in_callee (small 2) (opens in_callee (small 2)) (0 ∷ 0 �
     ≡ played (stopped called) filled (done 1 ++ Some Fault ∷ [])
 in_callee-run =
     and_then in_callee (small 2) (opens in_callee (small 2)) (played called filled (done 1)) _ (0 ∷ []) (0 ∷ [])
-        in_callee-called in_callee-faults
+    in_callee-called in_callee-faults
 
 -- with a third cell the object is made
 in_callee-made : plays in_callee (small 3) (played called (cells (Free ∷ []) (2 ∷ []) []) (done 1)) (0 ∷ [])
@@ -124,7 +124,7 @@ dividing-run : plays dividing (small 2) (opens dividing (small 2)) (0 ∷ 0 ∷ 
     ≡ played (stopped divides) filled (done 3 ++ Some Fault ∷ [])
 dividing-run =
     and_then dividing (small 2) (opens dividing (small 2)) (played divides filled (done 3)) _ (0 ∷ 0 ∷ 0 ∷ []) (0 ∷ [])
-        dividing-called dividing-faults
+    dividing-called dividing-faults
 
 -- with a third cell too, the exception comes to no handler: no cell is taken
 dividing-room : plays dividing (small 3) (played divides (cells (Free ∷ []) (2 ∷ []) []) (done 3)) (0 ∷ [])
@@ -161,7 +161,7 @@ denied-room = refl
 abbrev erring : World
 erring = world
     (Live (at 0 0 0 [] 0 ∷ waiting (at 2 0 0 [] 0) ∷ at 1 0 3 (Ref (Some 3) ∷ []) 1 ∷ []) ∷ []) [] (Initialised
-        ∷ Running 0 ∷ Running 0 ∷ []) []
+    ∷ Running 0 ∷ Running 0 ∷ []) []
     (plain_object error ∷ []) 2
 
 erring-run : plays failing (small 3) (played erring one_taken []) (0 ∷ [])
@@ -190,7 +190,7 @@ got-subclass = refl
 abbrev odd_world : ℕ → List Value → ℕ → ℕ → World
 odd_world pc stack room rows =
     world (Live (at 0 0 pc stack room ∷ []) ∷ []) [] (Initialised ∷ Initialised ∷ Initialised ∷ Initialised ∷ []) []
-        (plain_object (codes "D") ∷ []) rows
+    (plain_object (codes "D") ∷ []) rows
 
 abbrev wrong_class : World → World
 wrong_class w = counted (with_fault w 0 WrongClass)

@@ -47,12 +47,16 @@ abbrev k : List ClassListing
 k = class_of (codes "K") (field (codes "x") (codes "I") ∷ []) 2 1 []
     ((3, Class New (codes "K")) ∷ (1, Local (Store RefKind (First Zero))) ∷ aload_0 ∷ (2, Constant (Byte (pos 5))) ∷
     (3, Field Put (member (codes "K") (codes "x") (codes "I"))) ∷ aload_0
-        ∷ (3, Field Get (member (codes "K") (codes "x") (codes "I"))) ∷
+    ∷ (3, Field Get (member (codes "K") (codes "x") (codes "I"))) ∷
     print ∷ return ∷ []) ∷ []
 
 abbrev object : Value → Object
-object value = made_of (Instance (codes "K") (record { class = codes "K"; name = codes "x"; descriptor = codes "I";
-    value = value } ∷ []))
+object value = made_of (Instance (codes "K") (record {
+  class = codes "K";
+  name = codes "x";
+  descriptor = codes "I";
+  value = value;
+} ∷ []))
 
 abbrev moved : Machine → List Actor → Machine
 moved = moved_by_all k (small 3) ample
@@ -126,9 +130,9 @@ first5-first6 = refl
 pub first-run : moved first0 (collector 8 ++ thread 1 ++ collector 2 ++ collector 5 ++ thread 4 ++ thread 4) ≡ first6
 first-run =
     then k (small 3) ample first0 first1 first6 (collector 8) (thread 1 ++ collector 2 ++ collector 5 ++ thread 4
-        ++ thread 4) first0-first1
+    ++ thread 4) first0-first1
     (then k (small 3) ample first1 first2 first6 (thread 1) (collector 2 ++ collector 5 ++ thread 4 ++ thread 4)
-        first1-first2
+    first1-first2
     (then k (small 3) ample first2 first3 first6 (collector 2) (collector 5 ++ thread 4 ++ thread 4) first2-first3
     (then k (small 3) ample first3 first4 first6 (collector 5) (thread 4 ++ thread 4) first3-first4
     (then k (small 3) ample first4 first5 first6 (thread 4) (thread 4) first4-first5
@@ -188,7 +192,7 @@ second3-second4 = refl
 pub second-run : moved second0 ((collector 9 ++ thread 1) ++ collector 4 ++ thread 4 ++ thread 4) ≡ second4
 second-run =
     then k (small 3) ample second0 second1 second4 (collector 9 ++ thread 1) (collector 4 ++ thread 4 ++ thread 4)
-        second0-second1
+    second0-second1
     (then k (small 3) ample second1 second2 second4 (collector 4) (thread 4 ++ thread 4) second1-second2
     (then k (small 3) ample second2 second3 second4 (thread 4) (thread 4) second2-second3
     second3-second4))

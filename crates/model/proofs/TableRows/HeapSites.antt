@@ -20,12 +20,20 @@ use Rattle.model.specs.Completions.Completion.{Goes, Prints, Creates, Throws, Ra
 -- ---- the classes: K over P, and K implements I
 
 abbrev static_field : List ℕ → List ℕ → Option Constant → Field
-static_field name descriptor constant = record { flags = record { 0 = 8 }; name = name; descriptor = descriptor;
-    constant = constant }
+static_field name descriptor constant = record {
+  flags = record { 0 = 8 };
+  name = name;
+  descriptor = descriptor;
+  constant = constant;
+}
 
 abbrev instance_field : List ℕ → List ℕ → Field
-instance_field name descriptor = record { flags = record { 0 = 0 }; name = name; descriptor = descriptor;
-    constant = None }
+instance_field name descriptor = record {
+  flags = record { 0 = 0 };
+  name = name;
+  descriptor = descriptor;
+  constant = None;
+}
 
 abbrev class_with : List ℕ → List ℕ → List (List ℕ) → List Field → ClassListing
 class_with name superclass interfaces fields = record {
@@ -41,10 +49,10 @@ abbrev pub classes : List ClassListing
 classes =
     class_with (codes "P") (codes "java/lang/Object") []
     (static_field (codes "s") (codes "S") (Some (IntConstant (pos 40000))) ∷ instance_field (codes "x") (codes "I")
-        ∷ []) ∷
+    ∷ []) ∷
     class_with (codes "K") (codes "P") (codes "I" ∷ [])
     (static_field (codes "b") (codes "B") (Some (IntConstant (pos 200))) ∷ static_field (codes "c") (codes "C")
-        (Some (IntConstant (negsuc 0))) ∷
+    (Some (IntConstant (negsuc 0))) ∷
     instance_field (codes "y") (codes "B") ∷ static_field (codes "j") (codes "J") (Some (LongConstant (pos 5))) ∷
     static_field (codes "r") (codes "LK;") None ∷ static_field (codes "i") (codes "I") None ∷
     instance_field (codes "l") (codes "J") ∷ instance_field (codes "n") (codes "LK;") ∷ []) ∷
@@ -87,13 +95,20 @@ objects_of (c ∷ cs) = made_of c ∷ objects_of cs
 abbrev before_all : List Object → List Object
 before_all objects = record { contents = Instance [] []; monitor = free_monitor; thread = None } ∷
     made_of (Instance (codes "java/lang/OutOfMemoryError") [])
-        ∷ made_of (Instance (codes "java/lang/StackOverflowError") []) ∷ objects
+    ∷ made_of (Instance (codes "java/lang/StackOverflowError") []) ∷ objects
 
 -- ---- the site: a stack, top first, with so much room
 
 abbrev frame : ℕ → List Value → Frame
-frame room stack = record { method = record { class = 0; method = 0 }; pc = 0; locals = []; stack = stack; room = room;
-    monitor = None; mark = Unmarked }
+frame room stack = record {
+  method = record { class = 0; method = 0 };
+  pc = 0;
+  locals = [];
+  stack = stack;
+  room = room;
+  monitor = None;
+  mark = Unmarked;
+}
 
 abbrev pub world : ℕ → List Value → World
 world room stack = record {

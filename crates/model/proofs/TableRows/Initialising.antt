@@ -169,7 +169,7 @@ deep used =
     plain (codes "M") (
     main 0 (invokestatic (codes "M") (codes "f") ∷ return ∷ []) ∷
     catching (row 3 6 6 None ∷ []) (method 9 (codes "f") (codes "()V") 1 0 (invokestatic (codes "M") (codes "f")
-        ∷ getstatic used ∷ pop ∷ return ∷ [])) ∷ []) ∷
+    ∷ getstatic used ∷ pop ∷ return ∷ [])) ∷ []) ∷
     with_x (plain (codes "K") (empty 0 ∷ [])) ∷
     with_x (class (codes "L") (codes "K") [] (empty 0 ∷ [])) ∷ []
 

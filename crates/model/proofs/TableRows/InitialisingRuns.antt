@@ -239,7 +239,7 @@ again-stops = refl
 abbrev again_failed : Played
 again_failed = played
     (again_world (at 0 0 7 (Ref (Some 4) ∷ []) 1 ∷ []) Failed (plain_object arithmetic ∷ plain_object
-        in_initializer ∷ []) 5)
+    in_initializer ∷ []) 5)
     (cells (Taken 3 Grey ∷ Taken 4 Grey ∷ Free ∷ []) (4 ∷ []) (3 ∷ 4 ∷ []))
     (done 3 ++ Some GotObject ∷ Some GotObject ∷ [])
 
@@ -251,7 +251,7 @@ again-fails = refl
 abbrev again_ended : Played
 again_ended = played
     (world (Ended (Some no_class) ∷ []) (holding (codes "P") 0 ∷ []) (Initialised ∷ Failed ∷ []) []
-        (plain_object arithmetic ∷ plain_object in_initializer ∷ plain_object no_class ∷ []) 7)
+    (plain_object arithmetic ∷ plain_object in_initializer ∷ plain_object no_class ∷ []) 7)
     (cells (Taken 3 Grey ∷ Taken 4 Grey ∷ Taken 5 Grey ∷ []) [] (3 ∷ 4 ∷ 5 ∷ []))
     (done 3 ++ Some GotObject ∷ Some GotObject ∷ Some Done ∷ Some GotObject ∷ [])
 
@@ -269,7 +269,7 @@ again-run =
 abbrev scarce_failed : Played
 scarce_failed = played
     (again_world (at 0 0 7 (Ref (Some 4) ∷ []) 1 ∷ []) Failed (plain_object arithmetic ∷ plain_object
-        in_initializer ∷ []) 5)
+    in_initializer ∷ []) 5)
     (cells (Taken 3 Grey ∷ Taken 4 Grey ∷ []) [] (3 ∷ 4 ∷ []))
     (done 3 ++ Some GotObject ∷ Some GotObject ∷ [])
 
@@ -281,7 +281,7 @@ scarce-fails = refl
 abbrev scarce_ended : Played
 scarce_ended = played
     (world (Ended (Some out_of_memory) ∷ []) (holding (codes "P") 0 ∷ []) (Initialised ∷ Failed ∷ []) []
-        (plain_object arithmetic ∷ plain_object in_initializer ∷ []) 7)
+    (plain_object arithmetic ∷ plain_object in_initializer ∷ []) 7)
     (cells (Taken 3 Grey ∷ Taken 4 Grey ∷ []) [] (3 ∷ 4 ∷ []))
     (done 3 ++ Some GotObject ∷ Some GotObject ∷ Some Done ∷ Some NoRoom ∷ [])
 
@@ -299,10 +299,10 @@ scarce-run = and_then again (small 4) (opens again (small 4)) scarce_failed scar
 abbrev meeting : List ClassListing
 meeting =
     plain (codes "M") (main 1 (new (codes "T") ∷ (3, Invoke Virtual (member (codes "T") (codes "start") (codes "()V")))
-        ∷ getstatic (codes "I") ∷ print ∷ return ∷ []) ∷ []) ∷
+    ∷ getstatic (codes "I") ∷ print ∷ return ∷ []) ∷ []) ∷
     with_x (plain (codes "I") (initializer 1 (bipush 9 ∷ putstatic (codes "I") ∷ return ∷ []) ∷ [])) ∷
     class (codes "T") (codes "java/lang/Thread") [] (method 1 (codes "run") (codes "()V") 1 1 (getstatic (codes "I")
-        ∷ print ∷ return ∷ []) ∷ []) ∷ []
+    ∷ print ∷ return ∷ []) ∷ []) ∷ []
 
 -- thread 1 stands at its getstatic
 abbrev run_begins : Thread
@@ -311,7 +311,7 @@ run_begins = Live (frame (place 2 0) 0 (Holds (Ref (Some 3)) ∷ []) [] 1 None �
 abbrev meeting_played : List Thread → ℕ → ClassState → List ℕ → ℕ → List (Option Outcome) → Played
 meeting_played threads n state output rows outcomes = played
     (world threads (holding (codes "I") n ∷ []) (Initialised ∷ state ∷ Initialised ∷ []) output
-        (object (codes "T") None 0 (Some 1) ∷ []) rows)
+    (object (codes "T") None 0 (Some 1) ∷ []) rows)
     two_free
     outcomes
 
@@ -369,11 +369,11 @@ meeting-run : plays meeting (small 5) (opens meeting (small 5)) (0 ∷ 0 ∷ 0 �
     ∷ []) ≡ meeting_ended
 meeting-run =
     and_then meeting (small 5) (opens meeting (small 5)) meeting_started meeting_ended (zeros 2) (0 ∷ 1 ∷ 0 ∷ 0 ∷ 1 ∷ 0
-        ∷ 1 ∷ 1 ∷ 1 ∷ 0 ∷ 0 ∷ 0 ∷ []) meeting-starts
+    ∷ 1 ∷ 1 ∷ 1 ∷ 0 ∷ 0 ∷ 0 ∷ []) meeting-starts
     (and_then meeting (small 5) meeting_started meeting_claimed meeting_ended (0 ∷ 1 ∷ []) (0 ∷ 0 ∷ 1 ∷ 0 ∷ 1 ∷ 1 ∷ 1
-        ∷ 0 ∷ 0 ∷ 0 ∷ []) meeting-claims
+    ∷ 0 ∷ 0 ∷ 0 ∷ []) meeting-claims
     (and_then meeting (small 5) meeting_claimed meeting_initialised meeting_ended (0 ∷ 0 ∷ 1 ∷ 0 ∷ []) (1 ∷ 1 ∷ 1 ∷ 0
-        ∷ 0 ∷ 0 ∷ []) meeting-initialises meeting-ends))
+    ∷ 0 ∷ 0 ∷ []) meeting-initialises meeting-ends))
 
 -- ---- each of two threads initialises a class, and wants the other's: neither is ever ready again
 
@@ -384,7 +384,7 @@ abbrev locking : List ClassListing
 locking =
     plain (codes "M") (main 1 (getstatic (codes "A") ∷ pop ∷ return ∷ []) ∷ []) ∷
     class (codes "T") (codes "java/lang/Thread") [] (method 1 (codes "run") (codes "()V") 1 1 (getstatic (codes "B")
-        ∷ pop ∷ return ∷ []) ∷ []) ∷
+    ∷ pop ∷ return ∷ []) ∷ []) ∷
     wanting (codes "B") (plain (codes "A") []) ∷
     wanting (codes "A") (plain (codes "B") []) ∷ []
 
@@ -393,7 +393,7 @@ abbrev locking_world : List Frame → List Frame → ClassState → ClassState �
 locking_world of_0 of_1 a b rows = world
     (Live (at 0 0 0 [] 1 ∷ of_0) ∷ Live (frame (place 1 0) 0 (Holds (Ref (Some 3)) ∷ []) [] 1 None ∷ of_1) ∷ [])
     (holding (codes "A") 0 ∷ holding (codes "B") 0 ∷ []) (Initialised ∷ Initialised ∷ a ∷ b ∷ []) []
-        (object (codes "T") None 0 (Some 1) ∷ []) rows
+    (object (codes "T") None 0 (Some 1) ∷ []) rows
 
 abbrev locked : World
 locked = locking_world (at 2 0 0 [] 1 ∷ []) (at 3 0 0 [] 1 ∷ []) (Running 0) (Running 1) 2
@@ -432,7 +432,7 @@ between-claim = refl
 abbrev between_above : Played
 between_above = played
     (world (Live (at 0 0 0 [] 1 ∷ at 3 0 0 [] 1 ∷ []) ∷ []) [] (Initialised ∷ Initialised ∷ Initialised ∷ Running 0
-        ∷ []) (codes "1\n") [] 5)
+    ∷ []) (codes "1\n") [] 5)
     three_free (done 5)
 
 between-first : plays between (small 5) between_claimed (zeros 4) ≡ between_above
@@ -443,7 +443,7 @@ between-first = refl
 abbrev between_ended : Played
 between_ended = played
     (world (Ended None ∷ []) [] (Initialised ∷ Initialised ∷ Initialised ∷ Initialised ∷ []) (codes "1\n2\n")
-        (plain_object (codes "R") ∷ []) 11)
+    (plain_object (codes "R") ∷ []) 11)
     two_free
     (done 8 ++ Some GotObject ∷ done 2)
 
@@ -455,6 +455,6 @@ between-later = refl
 between-run : plays between (small 5) (opens between (small 5)) (zeros 11) ≡ between_ended
 between-run =
     and_then between (small 5) (opens between (small 5)) between_claimed between_ended (zeros 1) (zeros 10)
-        between-claim
+    between-claim
     (and_then between (small 5) between_claimed between_above between_ended (zeros 4) (zeros 6) between-first
-        between-later)
+    between-later)

@@ -74,7 +74,7 @@ standing frames owner count = world (Live frames ∷ []) (object c owner count N
 abbrev called_in : List Frame → List Value → Option ℕ → ℕ → Invocation → List ℕ → List ℕ → List ℕ → Completion
 called_in below stack owner count how class name descriptor =
     invoked (site program (standing (below ++ at stack ∷ []) owner count) (at stack) 9) how
-        (member class name descriptor)
+    (member class name descriptor)
 
 abbrev calls : List Value → Invocation → List ℕ → List ℕ → List ℕ → Completion
 calls stack = called_in [] stack None 0

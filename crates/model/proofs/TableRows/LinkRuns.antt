@@ -62,15 +62,19 @@ put_next = (3, Field Put (member (codes "N") (codes "next") (codes "LN;")))
 abbrev n : List ClassListing
 n = class_of (codes "N") (field (codes "x") (codes "I") ∷ field (codes "next") (codes "LN;") ∷ []) 3 2 []
     (new ∷ astore_0 ∷ new ∷ astore_1 ∷ aload_1 ∷ (2, Constant (Byte (pos 7)))
-        ∷ (3, Field Put (member (codes "N") (codes "x") (codes "I"))) ∷
+    ∷ (3, Field Put (member (codes "N") (codes "x") (codes "I"))) ∷
     aload_0 ∷ aload_1 ∷ put_next ∷ aconst_null ∷ astore_1 ∷ aload_0
-        ∷ (3, Field Get (member (codes "N") (codes "next") (codes "LN;"))) ∷
+    ∷ (3, Field Get (member (codes "N") (codes "next") (codes "LN;"))) ∷
     aload_0 ∷ aconst_null ∷ put_next ∷ (3, Field Get (member (codes "N") (codes "x") (codes "I"))) ∷ print ∷ return
-        ∷ []) ∷ []
+    ∷ []) ∷ []
 
 abbrev object : Value → Value → Object
-object x next = made_of (Instance (codes "N") (record { class = codes "N"; name = codes "x"; descriptor = codes "I";
-    value = x } ∷ record { class = codes "N"; name = codes "next"; descriptor = codes "LN;"; value = next } ∷ []))
+object x next = made_of (Instance (codes "N") (record {
+  class = codes "N";
+  name = codes "x";
+  descriptor = codes "I";
+  value = x;
+} ∷ record { class = codes "N"; name = codes "next"; descriptor = codes "LN;"; value = next } ∷ []))
 
 abbrev moved : Machine → List Actor → Machine
 moved = moved_by_all n (small 4) ample
@@ -84,7 +88,7 @@ link0 = opening_machine n (small 4)
 abbrev link1 : Machine
 link1 =
     stage (world (main_at 3 8 (Holds (Ref (Some 3)) ∷ Holds (Ref (Some 4)) ∷ []) []) [] (object (Int (pos 0)) (Ref None)
-        ∷ object (Int (pos 0)) (Ref None) ∷ []) 4)
+    ∷ object (Int (pos 0)) (Ref None) ∷ []) 4)
     (account (Taken 1 White ∷ Taken 2 White ∷ Taken 3 Grey ∷ Taken 4 Grey ∷ []) [] (3 ∷ 4 ∷ []) Idle)
 
 link0-link1 : moved link0 (thread 4) ≡ link1
@@ -95,7 +99,7 @@ link0-link1 = refl
 abbrev link2 : Machine
 link2 =
     stage (world (main_at 3 15 (Holds (Ref (Some 3)) ∷ Holds (Ref (Some 4)) ∷ []) (Ref (Some 3) ∷ [])) []
-        (object (Int (pos 0)) (Ref None) ∷ object (Int (pos 7)) (Ref None) ∷ []) 8)
+    (object (Int (pos 0)) (Ref None) ∷ object (Int (pos 7)) (Ref None) ∷ []) 8)
     (account (Taken 1 White ∷ Taken 2 White ∷ Taken 3 Grey ∷ Taken 4 Grey ∷ []) [] (3 ∷ 4 ∷ []) Idle)
 
 link1-link2 : moved link1 (thread 4) ≡ link2
@@ -106,7 +110,7 @@ link1-link2 = refl
 abbrev link3 : Machine
 link3 =
     stage (world (main_at 3 21 (Holds (Ref (Some 3)) ∷ Holds (Ref None) ∷ []) []) []
-        (object (Int (pos 0)) (Ref (Some 4)) ∷ object (Int (pos 7)) (Ref None) ∷ []) 12)
+    (object (Int (pos 0)) (Ref (Some 4)) ∷ object (Int (pos 7)) (Ref None) ∷ []) 12)
     (account (Taken 1 White ∷ Taken 2 White ∷ Taken 3 Grey ∷ Taken 4 Grey ∷ []) [] (3 ∷ 4 ∷ []) Idle)
 
 link2-link3 : moved link2 (thread 4) ≡ link3
@@ -117,7 +121,7 @@ link2-link3 = refl
 abbrev link4 : Machine
 link4 =
     stage (world (main_at 3 21 (Holds (Ref (Some 3)) ∷ Holds (Ref None) ∷ []) []) []
-        (object (Int (pos 0)) (Ref (Some 4)) ∷ object (Int (pos 7)) (Ref None) ∷ []) 33)
+    (object (Int (pos 0)) (Ref (Some 4)) ∷ object (Int (pos 7)) (Ref None) ∷ []) 33)
     (account (Taken 1 White ∷ Taken 2 White ∷ Taken 3 White ∷ Taken 4 White ∷ []) [] [] Idle)
 
 link3-link4 : moved link3 (collector 21) ≡ link4
@@ -128,7 +132,7 @@ link3-link4 = refl
 abbrev link5 : Machine
 link5 =
     stage (world (main_at 3 21 (Holds (Ref (Some 3)) ∷ Holds (Ref None) ∷ []) []) []
-        (object (Int (pos 0)) (Ref (Some 4)) ∷ object (Int (pos 7)) (Ref None) ∷ []) 40)
+    (object (Int (pos 0)) (Ref (Some 4)) ∷ object (Int (pos 7)) (Ref None) ∷ []) 40)
     (account (Taken 1 Grey ∷ Taken 2 Grey ∷ Taken 3 Grey ∷ Taken 4 White ∷ []) [] (1 ∷ 2 ∷ 3 ∷ []) (Mark 0))
 
 link4-link5 : moved link4 (collector 7) ≡ link5
@@ -139,7 +143,7 @@ link4-link5 = refl
 abbrev link6 : Machine
 link6 =
     stage (world (main_at 3 30 (Holds (Ref (Some 3)) ∷ Holds (Ref None) ∷ []) (Ref (Some 4) ∷ [])) []
-        (object (Int (pos 0)) (Ref None) ∷ object (Int (pos 7)) (Ref None) ∷ []) 45)
+    (object (Int (pos 0)) (Ref None) ∷ object (Int (pos 7)) (Ref None) ∷ []) 45)
     (account (Taken 1 Grey ∷ Taken 2 Grey ∷ Taken 3 Grey ∷ Taken 4 Grey ∷ []) [] (1 ∷ 2 ∷ 3 ∷ 4 ∷ []) (Mark 0))
 
 link5-link6 : moved link5 (thread 5) ≡ link6
@@ -150,7 +154,7 @@ link5-link6 = refl
 abbrev link7 : Machine
 link7 =
     stage (world (main_at 3 30 (Holds (Ref (Some 3)) ∷ Holds (Ref None) ∷ []) (Ref (Some 4) ∷ [])) []
-        (object (Int (pos 0)) (Ref None) ∷ object (Int (pos 7)) (Ref None) ∷ []) 59)
+    (object (Int (pos 0)) (Ref None) ∷ object (Int (pos 7)) (Ref None) ∷ []) 59)
     (account (Taken 1 White ∷ Taken 2 White ∷ Taken 3 White ∷ Taken 4 White ∷ []) [] [] Idle)
 
 link6-link7 : moved link6 (collector 14) ≡ link7
@@ -172,13 +176,13 @@ pub link-run : moved link0 (thread 4 ++ thread 4 ++ thread 4 ++ collector 21 ++ 
     ++ thread 3) ≡ link8
 link-run =
     then n (small 4) ample link0 link1 link8 (thread 4) (thread 4 ++ thread 4 ++ collector 21 ++ collector 7 ++ thread 5
-        ++ collector 14 ++ thread 3) link0-link1
+    ++ collector 14 ++ thread 3) link0-link1
     (then n (small 4) ample link1 link2 link8 (thread 4) (thread 4 ++ collector 21 ++ collector 7 ++ thread 5
-        ++ collector 14 ++ thread 3) link1-link2
+    ++ collector 14 ++ thread 3) link1-link2
     (then n (small 4) ample link2 link3 link8 (thread 4) (collector 21 ++ collector 7 ++ thread 5 ++ collector 14
-        ++ thread 3) link2-link3
+    ++ thread 3) link2-link3
     (then n (small 4) ample link3 link4 link8 (collector 21) (collector 7 ++ thread 5 ++ collector 14 ++ thread 3)
-        link3-link4
+    link3-link4
     (then n (small 4) ample link4 link5 link8 (collector 7) (thread 5 ++ collector 14 ++ thread 3) link4-link5
     (then n (small 4) ample link5 link6 link8 (thread 5) (collector 14 ++ thread 3) link5-link6
     (then n (small 4) ample link6 link7 link8 (collector 14) (thread 3) link6-link7

@@ -71,4 +71,4 @@ more zero n program w v u h k =
     let e : zero + n ≡ n = omega arith in rw e (ap (after n program) h ∙ k)
 more (suc m) n program w v u h k =
     let e : suc m + n ≡ suc (m + n) = omega arith
-          in rw e (more m n program (ideal_step program ample w (Thread 0) NewObject) v u h k)
+    in rw e (more m n program (ideal_step program ample w (Thread 0) NewObject) v u h k)

@@ -46,9 +46,9 @@ use Rattle.model.specs.declared.values.Value.TheVariants.{Int}
 abbrev g : List ClassListing
 g = class_of (codes "G") [] 2 1 []
     ((1, Constant (SmallInt Zero)) ∷ (1, Local (Store IntKind (First FirstZero))) ∷ (3, Class New (codes "G"))
-        ∷ (1, Stack Pop) ∷
+    ∷ (1, Stack Pop) ∷
     (3, Local (Increment (ByByte 0 (pos 1)))) ∷ (1, Local (Load IntKind (First FirstZero)))
-        ∷ (3, Constant (Short (pos 10000))) ∷
+    ∷ (3, Constant (Short (pos 10000))) ∷
     (3, Branch (Ints Less) 2) ∷ return ∷ []) ∷ []
 
 abbrev object : Object
@@ -66,7 +66,7 @@ abbrev full1 : Machine
 full1 =
     stage (world (main_at 2 2 (Holds (Int (pos 0)) ∷ []) []) [] [] 2)
     (account (Taken 1 White ∷ Taken 2 White ∷ Free ∷ Free ∷ Free ∷ Free ∷ Free ∷ Free ∷ []) (2 ∷ 3 ∷ 4 ∷ 5 ∷ 6 ∷ 7 ∷ [])
-        [] Idle)
+    [] Idle)
 
 full0-full1 : moved full0 (thread 2) ≡ full1
 unfolding moved_by refusal next completion after_turn shade collected root_at word_at builtin_classes upwards
@@ -77,7 +77,7 @@ abbrev full2 : Machine
 full2 =
     stage (world (main_at 2 2 (Holds (Int (pos 1)) ∷ []) []) [] (object ∷ []) 8)
     (account (Taken 1 White ∷ Taken 2 White ∷ Taken 3 Grey ∷ Free ∷ Free ∷ Free ∷ Free ∷ Free ∷ []) (3 ∷ 4 ∷ 5 ∷ 6 ∷ 7
-        ∷ []) (3 ∷ []) Idle)
+    ∷ []) (3 ∷ []) Idle)
 
 full1-full2 : moved full1 (thread 6) ≡ full2
 unfolding moved_by refusal next completion after_turn shade collected root_at word_at builtin_classes upwards
@@ -88,7 +88,7 @@ abbrev full3 : Machine
 full3 =
     stage (world (main_at 2 2 (Holds (Int (pos 2)) ∷ []) []) [] (object ∷ object ∷ []) 14)
     (account (Taken 1 White ∷ Taken 2 White ∷ Taken 3 Grey ∷ Taken 4 Grey ∷ Free ∷ Free ∷ Free ∷ Free ∷ [])
-        (4 ∷ 5 ∷ 6 ∷ 7 ∷ []) (3 ∷ 4 ∷ []) Idle)
+    (4 ∷ 5 ∷ 6 ∷ 7 ∷ []) (3 ∷ 4 ∷ []) Idle)
 
 full2-full3 : moved full2 (thread 6) ≡ full3
 unfolding moved_by refusal next completion after_turn shade collected root_at word_at builtin_classes upwards
@@ -99,7 +99,7 @@ abbrev full4 : Machine
 full4 =
     stage (world (main_at 2 2 (Holds (Int (pos 3)) ∷ []) []) [] (object ∷ object ∷ object ∷ []) 20)
     (account (Taken 1 White ∷ Taken 2 White ∷ Taken 3 Grey ∷ Taken 4 Grey ∷ Taken 5 Grey ∷ Free ∷ Free ∷ Free ∷ [])
-        (5 ∷ 6 ∷ 7 ∷ []) (3 ∷ 4 ∷ 5 ∷ []) Idle)
+    (5 ∷ 6 ∷ 7 ∷ []) (3 ∷ 4 ∷ 5 ∷ []) Idle)
 
 full3-full4 : moved full3 (thread 6) ≡ full4
 unfolding moved_by refusal next completion after_turn shade collected root_at word_at builtin_classes upwards
@@ -110,7 +110,7 @@ abbrev full5 : Machine
 full5 =
     stage (world (main_at 2 2 (Holds (Int (pos 4)) ∷ []) []) [] (object ∷ object ∷ object ∷ object ∷ []) 26)
     (account (Taken 1 White ∷ Taken 2 White ∷ Taken 3 Grey ∷ Taken 4 Grey ∷ Taken 5 Grey ∷ Taken 6 Grey ∷ Free ∷ Free
-        ∷ []) (6 ∷ 7 ∷ []) (3 ∷ 4 ∷ 5 ∷ 6 ∷ []) Idle)
+    ∷ []) (6 ∷ 7 ∷ []) (3 ∷ 4 ∷ 5 ∷ 6 ∷ []) Idle)
 
 full4-full5 : moved full4 (thread 6) ≡ full5
 unfolding moved_by refusal next completion after_turn shade collected root_at word_at builtin_classes upwards
@@ -121,7 +121,7 @@ abbrev full6 : Machine
 full6 =
     stage (world (main_at 2 2 (Holds (Int (pos 5)) ∷ []) []) [] (object ∷ object ∷ object ∷ object ∷ object ∷ []) 32)
     (account (Taken 1 White ∷ Taken 2 White ∷ Taken 3 Grey ∷ Taken 4 Grey ∷ Taken 5 Grey ∷ Taken 6 Grey ∷ Taken 7 Grey
-        ∷ Free ∷ []) (7 ∷ []) (3 ∷ 4 ∷ 5 ∷ 6 ∷ 7 ∷ []) Idle)
+    ∷ Free ∷ []) (7 ∷ []) (3 ∷ 4 ∷ 5 ∷ 6 ∷ 7 ∷ []) Idle)
 
 full5-full6 : moved full5 (thread 6) ≡ full6
 unfolding moved_by refusal next completion after_turn shade collected root_at word_at builtin_classes upwards
@@ -131,9 +131,9 @@ full5-full6 = refl
 abbrev full7 : Machine
 full7 =
     stage (world (main_at 2 2 (Holds (Int (pos 6)) ∷ []) []) [] (object ∷ object ∷ object ∷ object ∷ object ∷ object
-        ∷ []) 38)
+    ∷ []) 38)
     (account (Taken 1 White ∷ Taken 2 White ∷ Taken 3 Grey ∷ Taken 4 Grey ∷ Taken 5 Grey ∷ Taken 6 Grey ∷ Taken 7 Grey
-        ∷ Taken 8 Grey ∷ []) [] (3 ∷ 4 ∷ 5 ∷ 6 ∷ 7 ∷ 8 ∷ []) Idle)
+    ∷ Taken 8 Grey ∷ []) [] (3 ∷ 4 ∷ 5 ∷ 6 ∷ 7 ∷ 8 ∷ []) Idle)
 
 full6-full7 : moved full6 (thread 6) ≡ full7
 unfolding moved_by refusal next completion after_turn shade collected root_at word_at builtin_classes upwards
@@ -143,9 +143,9 @@ full6-full7 = refl
 abbrev full8 : Machine
 full8 =
     stage (world (Ended (Some (codes "java/lang/OutOfMemoryError"))) [] (object ∷ object ∷ object ∷ object ∷ object
-        ∷ object ∷ []) 39)
+    ∷ object ∷ []) 39)
     (account (Taken 1 White ∷ Taken 2 White ∷ Taken 3 Grey ∷ Taken 4 Grey ∷ Taken 5 Grey ∷ Taken 6 Grey ∷ Taken 7 Grey
-        ∷ Taken 8 Grey ∷ []) [] (3 ∷ 4 ∷ 5 ∷ 6 ∷ 7 ∷ 8 ∷ []) Idle)
+    ∷ Taken 8 Grey ∷ []) [] (3 ∷ 4 ∷ 5 ∷ 6 ∷ 7 ∷ 8 ∷ []) Idle)
 
 full7-full8 : moved full7 (thread 1) ≡ full8
 unfolding moved_by refusal next completion after_turn shade collected root_at word_at builtin_classes upwards
@@ -156,11 +156,11 @@ pub full-run : moved full0 (thread 2 ++ thread 6 ++ thread 6 ++ thread 6 ++ thre
     ++ thread 1) ≡ full8
 full-run =
     then g (small 8) ample full0 full1 full8 (thread 2) (thread 6 ++ thread 6 ++ thread 6 ++ thread 6 ++ thread 6
-        ++ thread 6 ++ thread 1) full0-full1
+    ++ thread 6 ++ thread 1) full0-full1
     (then g (small 8) ample full1 full2 full8 (thread 6) (thread 6 ++ thread 6 ++ thread 6 ++ thread 6 ++ thread 6
-        ++ thread 1) full1-full2
+    ++ thread 1) full1-full2
     (then g (small 8) ample full2 full3 full8 (thread 6) (thread 6 ++ thread 6 ++ thread 6 ++ thread 6 ++ thread 1)
-        full2-full3
+    full2-full3
     (then g (small 8) ample full3 full4 full8 (thread 6) (thread 6 ++ thread 6 ++ thread 6 ++ thread 1) full3-full4
     (then g (small 8) ample full4 full5 full8 (thread 6) (thread 6 ++ thread 6 ++ thread 1) full4-full5
     (then g (small 8) ample full5 full6 full8 (thread 6) (thread 6 ++ thread 1) full5-full6

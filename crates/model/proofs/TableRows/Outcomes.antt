@@ -48,8 +48,11 @@ pub record Played : Type 0 where
 
 abbrev pub turned : List ClassListing → HeapShape → Played → Option Row → Played
 turned program shape p None = record { machine = p.machine; outcomes = p.outcomes ++ None ∷ [] }
-turned program shape p (Some row) = record { machine = advance program shape ample p.machine row; outcomes = p.outcomes
-    ++ Some row.outcome ∷ [] }
+turned program shape p (Some row) = record {
+  machine = advance program shape ample p.machine row;
+  outcomes = p.outcomes
+      ++ Some row.outcome ∷ [];
+}
 
 -- turns of these threads
 abbrev pub plays : List ClassListing → HeapShape → Played → List ℕ → Played

@@ -39,7 +39,7 @@ standing thread owner count = world (thread ∷ Ended None ∷ []) (object (code
 abbrev back : List ℕ → Option Kind → List Value → ℕ → Completion
 back descriptor kind stack room =
     returned (site (program descriptor) (standing (Live (main_at 6 (Int (pos 1) ∷ []) room ∷ m_with stack None ∷ []))
-        (Some 0) 1) (m_with stack None) 1) kind
+    (Some 0) 1) (m_with stack None) 1) kind
 
 -- main goes on after its invoke; birth 3's monitor is left as it was
 abbrev goes_on : List Value → ℕ → List ℕ → Completion
@@ -117,7 +117,7 @@ return_from_main = refl
 abbrev held : Option ℕ → ℕ → Completion
 held owner count =
     returned (site (program (codes "()V")) (standing (Live (main_at 6 [] 2 ∷ m_with [] (Some 3) ∷ [])) owner count)
-        (m_with [] (Some 3)) 1) None
+    (m_with [] (Some 3)) 1) None
 
 abbrev let_go : Option ℕ → ℕ → Completion
 let_go owner count = Goes (standing (Live (main_at 9 [] 2 ∷ [])) owner count) []

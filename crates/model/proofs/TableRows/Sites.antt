@@ -25,8 +25,12 @@ method flags name descriptor stack locals code = record {
 }
 
 abbrev pub abstract_method : List ℕ → List ℕ → Method
-abstract_method name descriptor = record { flags = record { 0 = 0x0401 }; name = name; descriptor = descriptor;
-    code = None }
+abstract_method name descriptor = record {
+  flags = record { 0 = 0x0401 };
+  name = name;
+  descriptor = descriptor;
+  code = None;
+}
 
 abbrev pub class : List ℕ → List ℕ → List (List ℕ) → List Method → ClassListing
 class name superclass interfaces methods = record {
@@ -70,8 +74,11 @@ frame method pc locals stack room monitor = record {
 -- ---- worlds: births 1 and 2 are the errors that were made before the run
 
 abbrev pub object : List ℕ → Option ℕ → ℕ → Option ℕ → Object
-object class owner count thread = record { contents = Instance class [];
-    monitor = record { owner = owner; count = count }; thread = thread }
+object class owner count thread = record {
+  contents = Instance class [];
+  monitor = record { owner = owner; count = count };
+  thread = thread;
+}
 
 abbrev pub world : List Thread → List Object → World
 world threads objects = record {

@@ -37,13 +37,23 @@ abbrev new_k : Sized
 new_k = (3, Class New (codes "K"))
 
 abbrev object : Object
-object = made_of (Instance (codes "K") (record { class = codes "K"; name = codes "x"; descriptor = codes "I";
-    value = Int (pos 0) } ∷ []))
+object = made_of (Instance (codes "K") (record {
+  class = codes "K";
+  name = codes "x";
+  descriptor = codes "I";
+  value = Int (pos 0);
+} ∷ []))
 
 -- the object has the large cell
 abbrev taken : Account
-taken = record { cells = Taken 1 White ∷ Taken 2 White ∷ Taken 3 Grey ∷ []; small = []; medium = []; large = [];
-    grey = 3 ∷ []; phase = Idle }
+taken = record {
+  cells = Taken 1 White ∷ Taken 2 White ∷ Taken 3 Grey ∷ [];
+  small = [];
+  medium = [];
+  large = [];
+  grey = 3 ∷ [];
+  phase = Idle;
+}
 
 -- ---- it is dropped, and the second cycle gives its cell back
 
@@ -58,8 +68,14 @@ unfolding moved_by refusal next completion after_turn shade builtin_classes upwa
 dropped-first = refl
 
 dropped-given_back : (moved_by_all dropping one_each ample dropped (collector 26)).account
-    ≡ record { cells = Taken 1 White ∷ Taken 2 White ∷ Free ∷ []; small = []; medium = []; large = 2 ∷ []; grey = [];
-    phase = Idle }
+    ≡ record {
+      cells = Taken 1 White ∷ Taken 2 White ∷ Free ∷ [];
+      small = [];
+      medium = [];
+      large = 2 ∷ [];
+      grey = [];
+      phase = Idle;
+    }
 unfolding moved_by refusal next completion after_turn shade collected root_at word_at builtin_classes upwards
 dropped-given_back = refl
 
@@ -67,8 +83,12 @@ dropped-given_back = refl
 -- cycles of 16 leave it
 
 abbrev static_field : List ℕ → List ℕ → Option Constant → Field
-static_field name descriptor constant = record { flags = record { 0 = 8 }; name = name; descriptor = descriptor;
-    constant = constant }
+static_field name descriptor constant = record {
+  flags = record { 0 = 8 };
+  name = name;
+  descriptor = descriptor;
+  constant = constant;
+}
 
 abbrev keeping : List ClassListing
 keeping = class_of (codes "K") (static_field (codes "i") (codes "I") (Some (IntConstant (pos 1)))
@@ -80,13 +100,22 @@ slot name descriptor value = record { class = codes "K"; name = name; descriptor
 
 abbrev in_slot : ℕ → World
 in_slot rows = let w : World = world (main_at 1 6 [] []) [] (object ∷ []) rows in record w {
-  statics = record { fields = slot (codes "i") (codes "I") (Int (pos 1)) ∷ slot (codes "r") (codes "LK;") (Ref (Some 3))
-      ∷ []; states = w.statics.states };
+  statics = record {
+    fields = slot (codes "i") (codes "I") (Int (pos 1)) ∷ slot (codes "r") (codes "LK;") (Ref (Some 3))
+        ∷ [];
+    states = w.statics.states;
+  };
 }
 
 abbrev all_white : Account
-all_white = record { cells = Taken 1 White ∷ Taken 2 White ∷ Taken 3 White ∷ []; small = []; medium = []; large = [];
-    grey = []; phase = Idle }
+all_white = record {
+  cells = Taken 1 White ∷ Taken 2 White ∷ Taken 3 White ∷ [];
+  small = [];
+  medium = [];
+  large = [];
+  grey = [];
+  phase = Idle;
+}
 
 kept-first : moved_by_all keeping one_each ample (opening_machine keeping one_each) (thread 2) ≡ stage (in_slot 2) taken
 unfolding moved_by refusal next completion after_turn shade builtin_classes upwards interfaces_from

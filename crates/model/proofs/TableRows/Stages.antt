@@ -54,8 +54,15 @@ small n = record { small = n; medium = 0; large = 0 }
 
 -- main's frame
 abbrev pub main_at : ℕ → ℕ → List Entry → List Value → Thread
-main_at room pc locals stack = Live (record { method = record { class = 0; method = 0 }; pc = pc; locals = locals;
-    stack = stack; room = room; monitor = None; mark = Unmarked } ∷ [])
+main_at room pc locals stack = Live (record {
+  method = record { class = 0; method = 0 };
+  pc = pc;
+  locals = locals;
+  stack = stack;
+  room = room;
+  monitor = None;
+  mark = Unmarked;
+} ∷ [])
 
 -- with the objects from birth 3 on, and so many rows
 abbrev pub world : Thread → List ℕ → List Object → ℕ → World
@@ -75,8 +82,14 @@ abbrev pub thread : ℕ → List Actor
 thread n = replicate n (ByThread 0)
 
 abbrev pub account : List Cell → List ℕ → List ℕ → Phase → Account
-account cells free grey phase = record { cells = cells; small = free; medium = []; large = []; grey = grey;
-    phase = phase }
+account cells free grey phase = record {
+  cells = cells;
+  small = free;
+  medium = [];
+  large = [];
+  grey = grey;
+  phase = phase;
+}
 
 abbrev pub stage : World → Account → Machine
 stage w a = record { world = w; account = a }

@@ -51,8 +51,12 @@ start name = (3, Invoke Virtual (member name (codes "start") (codes "()V")))
 -- ---- D's main enters a, then b; its run enters b, then a
 
 abbrev static_field : List ℕ → Field
-static_field name = record { flags = record { 0 = 8 }; name = name; descriptor = codes "Ljava/lang/Object;";
-    constant = None }
+static_field name = record {
+  flags = record { 0 = 8 };
+  name = name;
+  descriptor = codes "Ljava/lang/Object;";
+  constant = None;
+}
 
 abbrev get : List ℕ → Sized
 get name = (3, StaticField Get (member (codes "D") name (codes "Ljava/lang/Object;")))
@@ -79,9 +83,9 @@ b = codes "b"
 abbrev crossings : List ClassListing
 crossings = record (class (codes "D") thread_class [] (
     method 9 (codes "main") (codes "()V") 1 0 (new object_class ∷ put a ∷ new object_class ∷ put b ∷ new (codes "D")
-        ∷ start (codes "D") ∷ crossing a b) ∷
+    ∷ start (codes "D") ∷ crossing a b) ∷
     method 1 (codes "run") (codes "()V") 1 1 (crossing b a) ∷ [])) { fields = static_field a ∷ static_field b ∷ [] }
-        ∷ []
+    ∷ []
 
 -- the first ready thread in cyclic order from a number on
 abbrev picked : List ClassListing → World → ℕ → Option ℕ
@@ -103,8 +107,12 @@ abbrev opening : World
 opening = opening_world crossings
 
 abbrev holding : List ℕ → ℕ → FieldValue
-holding name birth = record { class = codes "D"; name = name; descriptor = codes "Ljava/lang/Object;";
-    value = Ref (Some birth) }
+holding name birth = record {
+  class = codes "D";
+  name = name;
+  descriptor = codes "Ljava/lang/Object;";
+  value = Ref (Some birth);
+}
 
 -- entered once, by its owner
 abbrev monitored : Option ℕ → Object

@@ -25,7 +25,7 @@ is_thread program name = is_subclass program name (codes "java/lang/Thread")
 abbrev pub is_refused : List ClassListing → List ℕ → Method → Bool
 is_refused program name m =
     is_wrong_initializer m || is_native m
-        || (is_synchronized m && (is_static m || (is_run m && is_thread program name)))
+    || (is_synchronized m && (is_static m || (is_run m && is_thread program name)))
 
 -- L10: a member of the class is refused. So is a class with names that the listing of no text and of no class file has
 unfoldable pub has_refused_member : List ClassListing → ClassListing → Bool

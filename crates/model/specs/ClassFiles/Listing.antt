@@ -107,8 +107,13 @@ placed pool x = record { pc = x.pc; next = x.next; instruction = listed pool x.i
 
 -- the number 0 takes anything
 abbrev pub listed_row : List Entry → CodeRow → ExceptionRow
-listed_row pool r = record { start = r.start; end = r.end; handler = r.handler; class = if r.class == 0 then None
-    else Some (class_at pool r.class) }
+listed_row pool r = record {
+  start = r.start;
+  end = r.end;
+  handler = r.handler;
+  class = if r.class == 0 then None
+      else Some (class_at pool r.class);
+}
 
 abbrev pub listed_code : List Entry → CodePart → CodeListing
 listed_code pool c = record {

@@ -5,8 +5,12 @@ use Rattle.model.specs.ClassListings.{ClassListing}
 -- The machine's own classes, as listings: public, without interfaces and fields, and with native methods.
 
 abbrev pub native : ℕ → List ℕ → List ℕ → Method
-native flags name descriptor = record { flags = record { 0 = flags }; name = name; descriptor = descriptor;
-    code = None }
+native flags name descriptor = record {
+  flags = record { 0 = flags };
+  name = name;
+  descriptor = descriptor;
+  code = None;
+}
 
 -- public native, and public static native
 abbrev pub instance_method : List ℕ → List ℕ → Method

@@ -18,7 +18,7 @@ is_method name descriptor m = bytes_eq m.name name && bytes_eq m.descriptor desc
 abbrev pub place_in : List ClassListing → Declared Method → ℕ → Option MethodPlace
 place_in program d class =
     option_and_then (λ (c : ClassListing). option_map (λ (n : ℕ). record { class = class; method = n })
-        (position (is_method d.member.name d.member.descriptor) c.methods))
+    (position (is_method d.member.name d.member.descriptor) c.methods))
     (slice_get program class)
 
 -- the place of a method that a class of the program declares; the machine's own methods have none

@@ -11,7 +11,7 @@ use Rattle.model.specs.Classes.Search.{Declared, first_declared, superclasses}
 abbrev pub virtual_of : List ℕ → List ℕ → ClassListing → Option Method
 virtual_of name descriptor c =
     find (λ (m : Method). bytes_eq m.name name && bytes_eq m.descriptor descriptor && not (is_static m || is_private m))
-        c.methods
+    c.methods
 
 -- the method that is selected for an object (JVMS 6.5, invokevirtual): the nearest from its class upwards
 abbrev pub selected : List ClassListing → List ℕ → List ℕ → List ℕ → Option (Declared Method)

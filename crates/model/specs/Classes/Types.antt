@@ -17,7 +17,7 @@ abbrev pub described : List ℕ → Option Element
 described [] = None
 described (b ∷ bs) =
     if b == 76 then Some (Reference (take (length bs - 1) bs)) else if b == 91 then Some (Reference (b ∷ bs))
-        else Some (Number b)
+    else Some (Number b)
 
 -- what an array of a type holds; a class is no array
 abbrev pub element_of : List ℕ → Option Element
@@ -39,7 +39,7 @@ unfoldable pub is_there_within : ℕ → List ClassListing → List ℕ → Bool
 is_there_within zero program name = false
 is_there_within (suc steps) program name =
     type_is_there (is_some (class_named program name)) (λ element. is_there_within steps program element)
-        (element_of name)
+    (element_of name)
 
 -- an array has fewer dimensions than its descriptor has bytes
 abbrev pub is_type : List ClassListing → List ℕ → Bool

@@ -24,10 +24,10 @@ pub record LacksRoom (program : List ClassListing) (shape : HeapShape) (m : Mach
 
 -- the turn is that of the instruction table by some choice: that there is no room exactly where it lacks room
 pub record Chooses (program : List ClassListing) (shape : HeapShape) (limits : Limits) (m : Machine) (t : ℕ) : Type 0
-    where
-  pub choice : Choice
-  pub goes : (moved_by program shape limits m (Thread t)).world ≡ counted (next program m.world t choice).after
-  pub by_room : (choice ≡ NoRoom) ↔ LacksRoom program shape m t
+  where
+    pub choice : Choice
+    pub goes : (moved_by program shape limits m (Thread t)).world ≡ counted (next program m.world t choice).after
+    pub by_room : (choice ≡ NoRoom) ↔ LacksRoom program shape m t
 
 -- each turn of a thread that nothing refuses
 abbrev pub ChoosesByRoom : List ClassListing → HeapShape → Limits → Machine → Type 0
@@ -38,5 +38,5 @@ ChoosesByRoom program shape limits m = (t : ℕ) → refusal program limits m.wo
 abbrev pub AlwaysChoosesByRoom : Type 0
 AlwaysChoosesByRoom =
     (program : List ClassListing) (shape : HeapShape) (limits : Limits) (actors : List Actor)
-        → ShapeFits shape.small shape.medium shape.large
-        → ChoosesByRoom program shape limits (machine_after program shape limits actors)
+    → ShapeFits shape.small shape.medium shape.large
+    → ChoosesByRoom program shape limits (machine_after program shape limits actors)

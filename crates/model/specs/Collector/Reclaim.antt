@@ -44,7 +44,7 @@ abbrev pub ended : List ClassListing → HeapShape → Limits → ℕ → Machin
 ended program shape limits s m [] = s
 ended program shape limits s m (actor ∷ actors) =
     ended program shape limits (ended_if s m actor (refusal program limits m.world actor))
-        (moved_by program shape limits m actor) actors
+    (moved_by program shape limits m actor) actors
 
 -- ---- what is reclaimed
 
@@ -65,11 +65,11 @@ pub record Lost (w : World) (b : ℕ) : Type 0 where
 abbrev pub ReclaimsInTwo : List ClassListing → HeapShape → Limits → Machine → List Actor → Type 0
 ReclaimsInTwo program shape limits m later =
     (b c : ℕ) (x : Colour) → (IsAppend m.account.phase → ⊥) → Lost m.world b → 2 ≤ ended program shape limits 0 m later
-        → cell_at (moved_by_all program shape limits m later).account.cells c ≡ Taken b x → ⊥
+    → cell_at (moved_by_all program shape limits m later).account.cells c ≡ Taken b x → ⊥
 
 -- from every moment of every run
 abbrev pub AlwaysReclaims : Type 0
 AlwaysReclaims =
     (program : List ClassListing) (shape : HeapShape) (limits : Limits) (first later : List Actor)
-        → ShapeFits shape.small shape.medium shape.large
-        → ReclaimsInTwo program shape limits (machine_after program shape limits first) later
+    → ShapeFits shape.small shape.medium shape.large
+    → ReclaimsInTwo program shape limits (machine_after program shape limits first) later

@@ -165,4 +165,4 @@ array_operated s (Load kind) = loaded s kind (both (int_on s.frame.stack) (ref_o
 array_operated s (Store kind) =
     array_stored s kind
     (both (value_on (storage_kind (storage_in kind)) s.frame.stack)
-        (both (int_on (drop 1 s.frame.stack)) (ref_on (drop 2 s.frame.stack))))
+    (both (int_on (drop 1 s.frame.stack)) (ref_on (drop 2 s.frame.stack))))

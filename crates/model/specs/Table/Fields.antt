@@ -30,7 +30,7 @@ fields_in (Array element values) = []
 abbrev pub word_place : Site → Member → ℕ → Option ℕ
 word_place s member birth =
     option_and_then (λ (field : Declared Field). field_index (fields_in (contents_at s.world birth)) field)
-        (resolved_field s.program member)
+    (resolved_field s.program member)
 
 abbrev pub if_subclass : Bool → Option ℕ → Option ℕ
 if_subclass true place = place
@@ -73,4 +73,4 @@ abbrev pub field_accessed : Site → Access → Member → Completion
 field_accessed s Get member = field_got s member (ref_on s.frame.stack)
 field_accessed s Put member =
     field_put s member (both (value_on (descriptor_kind member.descriptor) s.frame.stack)
-        (ref_on (drop 1 s.frame.stack)))
+    (ref_on (drop 1 s.frame.stack)))

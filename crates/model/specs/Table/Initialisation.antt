@@ -21,7 +21,7 @@ abbrev pub claims_with : Site → List ℕ → List Frame → Completion
 claims_with s classes frames =
     if within_limits frames
     then Goes (with_class_states (with_thread s.world s.thread (Live frames))
-        (with_states (Running s.thread) classes (states_in s))) []
+    (with_states (Running s.thread) classes (states_in s))) []
     else raises StackOverflow
 
 -- a class that is initialised, or that this thread initialises, may be used

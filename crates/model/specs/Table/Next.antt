@@ -99,8 +99,13 @@ at_site s i = after_initialising s (class_used s.program i) (by_family s i)
 -- past the last instruction: F5
 abbrev pub at_instruction : List ClassListing → World → ℕ → Frame → Option Placed → Completion
 at_instruction program w t f None = Faults NoInstruction
-at_instruction program w t f (Some i) = at_site (record { program = program; world = w; thread = t; frame = f;
-    next = i.next }) i.instruction
+at_instruction program w t f (Some i) = at_site (record {
+  program = program;
+  world = w;
+  thread = t;
+  frame = f;
+  next = i.next;
+}) i.instruction
 
 -- an initializer that failed gives up with an error of its own
 abbrev pub at_mark : List ClassListing → World → ℕ → Frame → Mark → Completion

@@ -48,7 +48,7 @@ abbrev pub starts : Site → ℕ → Option Object → Completion
 starts s birth None = Faults WrongClass
 starts s birth (Some object) =
     start_if (begins s birth object (callee_of s.program (selected s.program (class_of object.contents) (codes "run")
-        (codes "()V"))))
+    (codes "()V"))))
     (is_some object.thread) (nat_le 64 (length s.world.threads))
 
 abbrev pub started : Site → Result (Option ℕ) Fault → Completion
@@ -72,4 +72,4 @@ joined s (Err fault) = Faults fault
 joined s (Ok None) = raises NullPointer
 joined s (Ok (Some birth)) =
     if has_live_thread s.world (thread_if (object_at s.world birth)) then Waits
-        else moves_in s.world s (replaced s.next s.frame 1 [])
+    else moves_in s.world s (replaced s.next s.frame 1 [])

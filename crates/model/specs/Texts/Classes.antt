@@ -81,8 +81,14 @@ tree_with head super None fields methods = None
 tree_with head super (Some is) None methods = None
 tree_with head super (Some is) (Some fs) None = None
 tree_with head super (Some is) (Some fs) (Some ms) =
-    Some (record { flags = head.flags; name = head.name; superclass = super; interfaces = is; fields = fs;
-        methods = ms })
+    Some (record {
+      flags = head.flags;
+      name = head.name;
+      superclass = super;
+      interfaces = is;
+      fields = fs;
+      methods = ms;
+    })
 
 -- a class by its head, its superclass, and the statements of its fields and methods after those of its interfaces
 abbrev pub members_after : ClassHead → List ℕ → Option (List (List ℕ)) → List Statement → Option Tree

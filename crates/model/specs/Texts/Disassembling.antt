@@ -409,7 +409,7 @@ value_text (Some v) = codes " = " ++ signed_decimal (number_of_value v)
 abbrev pub field_line : FieldOf → List ℕ
 field_line f =
     codes ".field " ++ (flags_text field_flags f.flags.0
-        ++ (f.name ++ (codes " " ++ (f.descriptor ++ (value_text f.constant ++ codes "\n")))))
+    ++ (f.name ++ (codes " " ++ (f.descriptor ++ (value_text f.constant ++ codes "\n")))))
 
 abbrev pub body_text : Option CodeListing → List ℕ
 body_text None = []
@@ -435,4 +435,4 @@ unfoldable pub text_of : ClassListing → List ℕ
 text_of l =
     class_line (has l.flags.0 0x0200) l.flags.0 l.name ++
     (super_line l.superclass ++ (flat_map interface_line l.interfaces
-        ++ (flat_map field_line l.fields ++ flat_map method_text l.methods)))
+    ++ (flat_map field_line l.fields ++ flat_map method_text l.methods)))

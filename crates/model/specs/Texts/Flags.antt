@@ -21,7 +21,7 @@ abbrev pub method_flags : List (List ℕ × ℕ)
 method_flags =
     (codes "public", 0x0001) ∷ (codes "private", 0x0002) ∷ (codes "protected", 0x0004) ∷ (codes "static", 0x0008) ∷
     (codes "final", 0x0010) ∷ (codes "synchronized", 0x0020) ∷ (codes "native", 0x0100) ∷ (codes "abstract", 0x0400)
-        ∷ []
+    ∷ []
 
 -- whether a flag is among flags
 abbrev pub has : ℕ → ℕ → Bool

@@ -30,7 +30,7 @@ abbrev pub class_head : Option (ℕ × List ℕ) → Option ClassHead
 class_head None = None
 class_head (Some (flags, name)) =
     if is_class_name name && class_flags_agree flags then Some (record { flags = record { 0 = flags }; name = name })
-        else None
+    else None
 
 -- INTERFACE and ABSTRACT are added
 abbrev pub interface_head : Option (ℕ × List ℕ) → Option ClassHead
@@ -53,7 +53,7 @@ class_of (Some (word ∷ words)) = head_by word words
 abbrev pub superclass_named : ℕ → List ℕ → Option (List ℕ)
 superclass_named class name =
     if is_class_name name && (not (has class 0x0200) || bytes_eq name (codes "java/lang/Object")) then Some name
-        else None
+    else None
 
 -- the superclass of a class with these flags
 abbrev pub super_of : ClassFlags → Statement → Option (List ℕ)
@@ -73,11 +73,15 @@ pub record FieldWords : Type 0 where
 -- words of which the last two are a name and a descriptor and the others flags: the flags, with those given before
 abbrev pub declared : Option ℕ → List ℕ → List ℕ → List (List ℕ) → Option FieldWords
 declared None name descriptor words = None
-declared (Some flags) name descriptor [] = Some (record { flags = flags; name = name; descriptor = descriptor;
-    value = None })
+declared (Some flags) name descriptor [] = Some (record {
+  flags = flags;
+  name = name;
+  descriptor = descriptor;
+  value = None;
+})
 declared (Some flags) name descriptor (next ∷ words) =
     if bytes_eq next (codes "=")
-        then Some (record { flags = flags; name = name; descriptor = descriptor; value = Some words })
+    then Some (record { flags = flags; name = name; descriptor = descriptor; value = Some words })
     else declared (with_flag flags (named field_flags name)) descriptor next words
 
 abbrev pub field_words : List (List ℕ) → Option FieldWords
@@ -89,14 +93,18 @@ field_words (name ∷ descriptor ∷ words) = declared (Some 0) name descriptor 
 abbrev pub value_of : Bool → List ℕ → List (List ℕ) → Option FieldValue
 value_of static descriptor words =
     if static && is_int_type descriptor
-        then option_map value.Int (only_number (negsuc 2147483647) (pos 2147483647) words)
+    then option_map value.Int (only_number (negsuc 2147483647) (pos 2147483647) words)
     else if static && is_long_type descriptor
-        then option_map value.Long (only_number (negsuc 9223372036854775807) (pos 9223372036854775807) words)
+    then option_map value.Long (only_number (negsuc 9223372036854775807) (pos 9223372036854775807) words)
     else None
 
 abbrev pub field_with : FieldWords → Option FieldValue → Field
-field_with f constant = record { flags = record { 0 = f.flags }; name = f.name; descriptor = f.descriptor;
-    constant = constant }
+field_with f constant = record {
+  flags = record { 0 = f.flags };
+  name = f.name;
+  descriptor = f.descriptor;
+  constant = constant;
+}
 
 -- the value that a field has, if it has one
 abbrev pub constant_of : Bool → List ℕ → Option (List (List ℕ)) → Option (Option FieldValue)
@@ -133,7 +141,7 @@ abbrev pub method_head : ℕ → Option (ℕ × List ℕ) → Option MethodHead
 method_head class None = None
 method_head class (Some (flags, word)) =
     let descriptor = from_parenthesis word in method_spelled class flags (before_parenthesis word) descriptor
-          (arguments_of descriptor)
+    (arguments_of descriptor)
 
 -- a method's head, in a class with these flags
 abbrev pub method_of : ClassFlags → Statement → Option MethodHead

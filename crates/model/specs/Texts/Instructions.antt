@@ -102,4 +102,4 @@ abbrev pub instruction_of : List (List ℕ) → Option Written
 instruction_of [] = None
 instruction_of (word ∷ words) =
     if bytes_eq word (codes "wide") then wide_instruction words else option_and_then (λ m. instruction_by m words)
-        (mnemonic_of word)
+    (mnemonic_of word)

@@ -30,8 +30,10 @@ with_targets f (Stack s) = Stack s
 with_targets f (Number n) = Number n
 with_targets f (Branch t target) = Branch t (f target)
 with_targets f (TableSwitch t) = TableSwitch (record { low = t.low; targets = map f t.targets; default = f t.default })
-with_targets f (LookupSwitch l) = LookupSwitch (record { pairs = map (λ p. (p.0, f p.1)) l.pairs;
-    default = f l.default })
+with_targets f (LookupSwitch l) = LookupSwitch (record {
+  pairs = map (λ p. (p.0, f p.1)) l.pairs;
+  default = f l.default;
+})
 with_targets f (Return kind) = Return kind
 with_targets f (Static a m) = Static a m
 with_targets f (Field a m) = Field a m

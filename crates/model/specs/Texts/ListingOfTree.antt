@@ -21,7 +21,7 @@ placed_from f pc [] = []
 placed_from f pc (Label l ∷ lines) = placed_from f pc lines
 placed_from f pc (Instruction i ∷ lines) =
     record { pc = pc; next = pc + size_at pc i; instruction = with_targets f i } ∷ placed_from f (pc + size_at pc i)
-        lines
+    lines
 
 abbrev pub row_with : (List ℕ → ℕ) → CatchRow → ExceptionRow
 row_with f row = record { start = f row.start; end = f row.end; handler = f row.handler; class = row.class }
@@ -39,8 +39,12 @@ abbrev pub code_listing : List ℤ → Body → CodeListing
 code_listing narrow body = code_with body (map (widened_line narrow) body.lines)
 
 abbrev pub method_listing : List ℤ → MethodTree → Method
-method_listing narrow m = record { flags = m.flags; name = m.name; descriptor = m.descriptor;
-    code = option_map (code_listing narrow) m.body }
+method_listing narrow m = record {
+  flags = m.flags;
+  name = m.name;
+  descriptor = m.descriptor;
+  code = option_map (code_listing narrow) m.body;
+}
 
 -- the listing of a text's tree
 unfoldable pub listing_of : Tree → ClassListing

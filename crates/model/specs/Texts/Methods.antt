@@ -35,7 +35,7 @@ limit_of [] = None
 limit_of (word ∷ words) =
     if bytes_eq word (codes "stack") then option_map stack_limit (option_and_then (natural_to 65535) (only words))
     else if bytes_eq word (codes "locals")
-        then option_map locals_limit (option_and_then (natural_to 65535) (only words)) else None
+    then option_map locals_limit (option_and_then (natural_to 65535) (only words)) else None
 
 -- what a row takes: a class, or anything
 abbrev pub catch_class : List ℕ → Option (Option (List ℕ))
@@ -48,7 +48,7 @@ row_with start end handler class = record { class = class; start = start; end = 
 abbrev pub catch_of : List (List ℕ) → Option CatchRow
 catch_of (class ∷ from ∷ start ∷ to ∷ end ∷ using ∷ handler ∷ []) =
     if bytes_eq from (codes "from") && bytes_eq to (codes "to") && bytes_eq using (codes "using") && is_part start
-        && is_part end && is_part handler
+    && is_part end && is_part handler
     then option_map (row_with start end handler) (catch_class class) else None
 catch_of words = None
 
@@ -134,8 +134,12 @@ code_lines (code_line line ∷ parts) = line ∷ code_lines parts
 abbrev pub body_with : List ℕ → List ℕ → List CatchRow → List TextLine → Option Body
 body_with [] locals rows lines = None
 body_with (stack ∷ []) [] rows lines = None
-body_with (stack ∷ []) (max ∷ []) rows lines = Some (record { max_stack = stack; max_locals = max; rows = rows;
-    lines = lines })
+body_with (stack ∷ []) (max ∷ []) rows lines = Some (record {
+  max_stack = stack;
+  max_locals = max;
+  rows = rows;
+  lines = lines;
+})
 body_with (stack ∷ []) (max ∷ other ∷ more) rows lines = None
 body_with (stack ∷ other ∷ more) locals rows lines = None
 
@@ -152,8 +156,12 @@ body_of ss = option_and_then agreeing (option_and_then body_of_parts (parts_of s
 
 -- an abstract or native method has no statements
 abbrev pub method_without : MethodHead → List Statement → Option MethodTree
-method_without head [] = Some (record { flags = head.flags; name = head.name; descriptor = head.descriptor;
-    body = None })
+method_without head [] = Some (record {
+  flags = head.flags;
+  name = head.name;
+  descriptor = head.descriptor;
+  body = None;
+})
 method_without head (s ∷ ss) = None
 
 abbrev pub method_with : MethodHead → Body → MethodTree

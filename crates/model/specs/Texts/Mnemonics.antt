@@ -27,28 +27,38 @@ use Rattle.model.specs.Texts.Tables.{named}
 -- the mnemonics of constants (JVMS 6.5)
 abbrev pub constant_mnemonics : List (List ℕ × Mnemonic)
 constant_mnemonics =
-    (codes "nop", mnemonic.Nop) ∷ (codes "aconst_null", mnemonic.Null) ∷ (codes "iconst_m1",
-        mnemonic.SmallInt small_int.MinusOne) ∷
+    (codes "nop", mnemonic.Nop) ∷ (codes "aconst_null", mnemonic.Null) ∷ (
+      codes "iconst_m1",
+      mnemonic.SmallInt small_int.MinusOne,
+    ) ∷
     (codes "iconst_0", mnemonic.SmallInt small_int.Zero) ∷ (codes "iconst_1", mnemonic.SmallInt small_int.One) ∷
     (codes "iconst_2", mnemonic.SmallInt small_int.Two) ∷ (codes "iconst_3", mnemonic.SmallInt small_int.Three) ∷
     (codes "iconst_4", mnemonic.SmallInt small_int.Four) ∷ (codes "iconst_5", mnemonic.SmallInt small_int.Five) ∷
     (codes "lconst_0", mnemonic.SmallLong small_long.Zero) ∷ (codes "lconst_1", mnemonic.SmallLong small_long.One)
-        ∷ (codes "bipush", mnemonic.Byte) ∷
-    (codes "sipush", mnemonic.Short) ∷ (codes "ldc", mnemonic.Int width.Narrow) ∷ (codes "ldc_w",
-        mnemonic.Int width.Wide) ∷
+    ∷ (codes "bipush", mnemonic.Byte) ∷
+    (codes "sipush", mnemonic.Short) ∷ (codes "ldc", mnemonic.Int width.Narrow) ∷ (
+      codes "ldc_w",
+      mnemonic.Int width.Wide,
+    ) ∷
     (codes "ldc2_w", mnemonic.Long) ∷ []
 
 -- the mnemonics of locals
 abbrev pub local_mnemonics : List (List ℕ × Mnemonic)
 local_mnemonics =
     (codes "iload", mnemonic.Local (accessed.Load kind.Int)) ∷ (codes "lload", mnemonic.Local (accessed.Load kind.Long))
-        ∷
-    (codes "aload", mnemonic.Local (accessed.Load kind.Ref)) ∷ (codes "istore",
-        mnemonic.Local (accessed.Store kind.Int)) ∷
-    (codes "lstore", mnemonic.Local (accessed.Store kind.Long)) ∷ (codes "astore",
-        mnemonic.Local (accessed.Store kind.Ref)) ∷
-    (codes "iinc", mnemonic.Local accessed.Increment) ∷ (codes "iload_0",
-        mnemonic.FirstLocal (access.Load kind.Int («local».First first.Zero))) ∷
+    ∷
+    (codes "aload", mnemonic.Local (accessed.Load kind.Ref)) ∷ (
+      codes "istore",
+      mnemonic.Local (accessed.Store kind.Int),
+    ) ∷
+    (codes "lstore", mnemonic.Local (accessed.Store kind.Long)) ∷ (
+      codes "astore",
+      mnemonic.Local (accessed.Store kind.Ref),
+    ) ∷
+    (codes "iinc", mnemonic.Local accessed.Increment) ∷ (
+      codes "iload_0",
+      mnemonic.FirstLocal (access.Load kind.Int («local».First first.Zero)),
+    ) ∷
     (codes "iload_1", mnemonic.FirstLocal (access.Load kind.Int («local».First first.One))) ∷
     (codes "iload_2", mnemonic.FirstLocal (access.Load kind.Int («local».First first.Two))) ∷
     (codes "iload_3", mnemonic.FirstLocal (access.Load kind.Int («local».First first.Three))) ∷
@@ -76,12 +86,18 @@ local_mnemonics =
 -- the mnemonics of the operand stack
 abbrev pub stack_mnemonics : List (List ℕ × Mnemonic)
 stack_mnemonics =
-    (codes "pop", mnemonic.Stack stack.Pop) ∷ (codes "pop2", mnemonic.Stack stack.Pop2) ∷ (codes "dup",
-        mnemonic.Stack stack.Dup) ∷
-    (codes "dup_x1", mnemonic.Stack stack.DupX1) ∷ (codes "dup_x2", mnemonic.Stack stack.DupX2) ∷ (codes "dup2",
-        mnemonic.Stack stack.Dup2) ∷
-    (codes "dup2_x1", mnemonic.Stack stack.Dup2X1) ∷ (codes "dup2_x2", mnemonic.Stack stack.Dup2X2) ∷ (codes "swap",
-        mnemonic.Stack stack.Swap) ∷ []
+    (codes "pop", mnemonic.Stack stack.Pop) ∷ (codes "pop2", mnemonic.Stack stack.Pop2) ∷ (
+      codes "dup",
+      mnemonic.Stack stack.Dup,
+    ) ∷
+    (codes "dup_x1", mnemonic.Stack stack.DupX1) ∷ (codes "dup_x2", mnemonic.Stack stack.DupX2) ∷ (
+      codes "dup2",
+      mnemonic.Stack stack.Dup2,
+    ) ∷
+    (codes "dup2_x1", mnemonic.Stack stack.Dup2X1) ∷ (codes "dup2_x2", mnemonic.Stack stack.Dup2X2) ∷ (
+      codes "swap",
+      mnemonic.Stack stack.Swap,
+    ) ∷ []
 
 -- the mnemonics of operations on numbers
 abbrev pub number_mnemonics : List (List ℕ × Mnemonic)
@@ -107,43 +123,72 @@ number_mnemonics =
     (codes "lushr", mnemonic.Number (number.Binary number_kind.Long operator.Ushr)) ∷
     (codes "land", mnemonic.Number (number.Binary number_kind.Long operator.And)) ∷
     (codes "lor", mnemonic.Number (number.Binary number_kind.Long operator.Or)) ∷
-    (codes "lxor", mnemonic.Number (number.Binary number_kind.Long operator.Xor)) ∷ (codes "ineg",
-        mnemonic.Number (number.Negate number_kind.Int)) ∷
-    (codes "lneg", mnemonic.Number (number.Negate number_kind.Long)) ∷ (codes "i2l",
-        mnemonic.Number (number.Convert conversion.IntToLong)) ∷
-    (codes "l2i", mnemonic.Number (number.Convert conversion.LongToInt)) ∷ (codes "i2b",
-        mnemonic.Number (number.Convert conversion.IntToByte)) ∷
-    (codes "i2c", mnemonic.Number (number.Convert conversion.IntToChar)) ∷ (codes "i2s",
-        mnemonic.Number (number.Convert conversion.IntToShort)) ∷
+    (codes "lxor", mnemonic.Number (number.Binary number_kind.Long operator.Xor)) ∷ (
+      codes "ineg",
+      mnemonic.Number (number.Negate number_kind.Int),
+    ) ∷
+    (codes "lneg", mnemonic.Number (number.Negate number_kind.Long)) ∷ (
+      codes "i2l",
+      mnemonic.Number (number.Convert conversion.IntToLong),
+    ) ∷
+    (codes "l2i", mnemonic.Number (number.Convert conversion.LongToInt)) ∷ (
+      codes "i2b",
+      mnemonic.Number (number.Convert conversion.IntToByte),
+    ) ∷
+    (codes "i2c", mnemonic.Number (number.Convert conversion.IntToChar)) ∷ (
+      codes "i2s",
+      mnemonic.Number (number.Convert conversion.IntToShort),
+    ) ∷
     (codes "lcmp", mnemonic.Number number.CompareLongs) ∷ []
 
 -- the mnemonics of branches
 abbrev pub branch_mnemonics : List (List ℕ × Mnemonic)
 branch_mnemonics =
-    (codes "ifeq", mnemonic.Branch (test.Zero comparison.Equal)) ∷ (codes "ifne",
-        mnemonic.Branch (test.Zero comparison.NotEqual)) ∷
-    (codes "iflt", mnemonic.Branch (test.Zero comparison.Less)) ∷ (codes "ifge",
-        mnemonic.Branch (test.Zero comparison.GreaterOrEqual)) ∷
-    (codes "ifgt", mnemonic.Branch (test.Zero comparison.Greater)) ∷ (codes "ifle",
-        mnemonic.Branch (test.Zero comparison.LessOrEqual)) ∷
-    (codes "if_icmpeq", mnemonic.Branch (test.Ints comparison.Equal)) ∷ (codes "if_icmpne",
-        mnemonic.Branch (test.Ints comparison.NotEqual)) ∷
-    (codes "if_icmplt", mnemonic.Branch (test.Ints comparison.Less)) ∷ (codes "if_icmpge",
-        mnemonic.Branch (test.Ints comparison.GreaterOrEqual)) ∷
-    (codes "if_icmpgt", mnemonic.Branch (test.Ints comparison.Greater)) ∷ (codes "if_icmple",
-        mnemonic.Branch (test.Ints comparison.LessOrEqual)) ∷
-    (codes "if_acmpeq", mnemonic.Branch (test.Refs identity.Same)) ∷ (codes "if_acmpne",
-        mnemonic.Branch (test.Refs identity.Different)) ∷
-    (codes "ifnull", mnemonic.Branch (test.Null identity.Same)) ∷ (codes "ifnonnull",
-        mnemonic.Branch (test.Null identity.Different)) ∷
-    (codes "goto", mnemonic.Branch (test.Always width.Narrow)) ∷ (codes "goto_w",
-        mnemonic.Branch (test.Always width.Wide)) ∷ []
+    (codes "ifeq", mnemonic.Branch (test.Zero comparison.Equal)) ∷ (
+      codes "ifne",
+      mnemonic.Branch (test.Zero comparison.NotEqual),
+    ) ∷
+    (codes "iflt", mnemonic.Branch (test.Zero comparison.Less)) ∷ (
+      codes "ifge",
+      mnemonic.Branch (test.Zero comparison.GreaterOrEqual),
+    ) ∷
+    (codes "ifgt", mnemonic.Branch (test.Zero comparison.Greater)) ∷ (
+      codes "ifle",
+      mnemonic.Branch (test.Zero comparison.LessOrEqual),
+    ) ∷
+    (codes "if_icmpeq", mnemonic.Branch (test.Ints comparison.Equal)) ∷ (
+      codes "if_icmpne",
+      mnemonic.Branch (test.Ints comparison.NotEqual),
+    ) ∷
+    (codes "if_icmplt", mnemonic.Branch (test.Ints comparison.Less)) ∷ (
+      codes "if_icmpge",
+      mnemonic.Branch (test.Ints comparison.GreaterOrEqual),
+    ) ∷
+    (codes "if_icmpgt", mnemonic.Branch (test.Ints comparison.Greater)) ∷ (
+      codes "if_icmple",
+      mnemonic.Branch (test.Ints comparison.LessOrEqual),
+    ) ∷
+    (codes "if_acmpeq", mnemonic.Branch (test.Refs identity.Same)) ∷ (
+      codes "if_acmpne",
+      mnemonic.Branch (test.Refs identity.Different),
+    ) ∷
+    (codes "ifnull", mnemonic.Branch (test.Null identity.Same)) ∷ (
+      codes "ifnonnull",
+      mnemonic.Branch (test.Null identity.Different),
+    ) ∷
+    (codes "goto", mnemonic.Branch (test.Always width.Narrow)) ∷ (
+      codes "goto_w",
+      mnemonic.Branch (test.Always width.Wide),
+    ) ∷ []
 
 -- the mnemonics of calls and returns
 abbrev pub call_mnemonics : List (List ℕ × Mnemonic)
 call_mnemonics =
-    (codes "invokevirtual", mnemonic.Invoke invocation.Virtual) ∷ (codes "invokespecial", mnemonic.Invoke
-        invocation.Special) ∷
+    (codes "invokevirtual", mnemonic.Invoke invocation.Virtual) ∷ (
+      codes "invokespecial",
+      mnemonic.Invoke
+          invocation.Special,
+    ) ∷
     (codes "invokestatic", mnemonic.Invoke invocation.Static) ∷ (codes "invokeinterface", mnemonic.InvokeInterface) ∷
     (codes "ireturn", mnemonic.Return (Some kind.Int)) ∷ (codes "lreturn", mnemonic.Return (Some kind.Long)) ∷
     (codes "areturn", mnemonic.Return (Some kind.Ref)) ∷ (codes "return", mnemonic.Return None) ∷ []
@@ -160,8 +205,10 @@ object_mnemonics =
 -- the mnemonics of arrays
 abbrev pub array_mnemonics : List (List ℕ × Mnemonic)
 array_mnemonics =
-    (codes "newarray", mnemonic.NewArray) ∷ (codes "anewarray", mnemonic.NewArrayOf) ∷ (codes "arraylength",
-        mnemonic.ArrayLength) ∷
+    (codes "newarray", mnemonic.NewArray) ∷ (codes "anewarray", mnemonic.NewArrayOf) ∷ (
+      codes "arraylength",
+      mnemonic.ArrayLength,
+    ) ∷
     (codes "iaload", mnemonic.ArrayLoad element.Int) ∷ (codes "laload", mnemonic.ArrayLoad element.Long) ∷
     (codes "aaload", mnemonic.ArrayLoad element.Ref) ∷ (codes "baload", mnemonic.ArrayLoad element.Byte) ∷
     (codes "caload", mnemonic.ArrayLoad element.Char) ∷ (codes "saload", mnemonic.ArrayLoad element.Short) ∷

@@ -169,7 +169,7 @@ abbrev pub code_is_spelled : CodeListing → Bool
 code_is_spelled c =
     is_u2 c.max_stack && is_u2 c.max_locals && stand_from 0 c.instructions
     && list_all (instruction_is_spelled c.instructions) c.instructions && list_all (row_is_spelled c.instructions)
-        c.rows
+    c.rows
 
 -- ---- members
 
@@ -239,12 +239,12 @@ ldc_numbers ms = flat_map (λ m. numbers_of_code m.code) ms
 abbrev pub head_is_spelled : ℕ → List ℕ → Bool
 head_is_spelled flags superclass =
     is_u2 flags && are_class_flags flags && not (has flags 0x0020)
-        && (not (has flags 0x0200) || bytes_eq superclass (codes "java/lang/Object"))
+    && (not (has flags 0x0200) || bytes_eq superclass (codes "java/lang/Object"))
 
 -- whether the listing is that of some text
 unfoldable pub is_spelled : ClassListing → Bool
 is_spelled l =
     head_is_spelled l.flags.0 l.superclass && is_class_name l.name && is_class_name l.superclass
-        && list_all is_class_name l.interfaces
+    && list_all is_class_name l.interfaces
     && list_all (field_is_spelled l.flags.0) l.fields && list_all (method_is_spelled l.flags.0) l.methods
     && nat_le (length (different (ldc_numbers l.methods))) 255

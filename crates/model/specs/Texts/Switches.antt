@@ -48,7 +48,7 @@ with_pair (lookup pairs) (Some key) label = Some (lookup (pairs ++ (key, label) 
 abbrev pub line_before : Switch → List ℕ → List ℕ → Option SwitchLine
 line_before switch word label =
     if bytes_eq word (codes "default") then option_map ends (with_default switch label)
-        else option_map goes_on (with_pair switch (is_int word) label)
+    else option_map goes_on (with_pair switch (is_int word) label)
 
 -- a line of a switch: a label of a table, or after a key or `default` and a colon a label
 abbrev pub switch_line : Switch → List (List ℕ) → Option SwitchLine

@@ -53,8 +53,14 @@ table_at pc bytes = do
   low ← signed_at w32 default.1
   high ← signed_at w32 low.1
   if int_lt high.0 low.0 then Err error.Switch else (targets_at pc (table_len low.0 high.0) high.1
-      >>= λ targets. Ok (instruction.TableSwitch (record { low = low.0; targets = targets.0;
-      default = landing pc default.0 }), targets.1))
+      >>= λ targets. Ok (
+        instruction.TableSwitch (record {
+          low = low.0;
+          targets = targets.0;
+          default = landing pc default.0;
+        }),
+        targets.1,
+      ))
 
 -- a key may follow another
 abbrev pub rises : Option ℤ → ℤ → Bool

@@ -25,11 +25,11 @@ returns-then-has_super-clause-only c spelled whole =
     elim c.then-has_super.branch [
       | then-has_super-via-then-has_super w ↦
           let wrong = sym w.if-has_super.true ∙ c.has_super.ensures.is ∙ ap (λ k. has k.flags.0 0x0020) l
-                ∙ laws.no_super (listing_of c.args.tree.now) spelled in
+          ∙ laws.no_super (listing_of c.args.tree.now) spelled in
           cc
       | then-has_super-via-else-has_super+then-not-has_short_lists w ↦
           let wrong = sym w.if-not-has_short_lists.true ∙ w.has_short_lists.ensures ∙ ap has_short_lists l
-                ∙ laws.short_lists (listing_of c.args.tree.now) whole in
+          ∙ laws.short_lists (listing_of c.args.tree.now) whole in
           cc
     ]
 
@@ -37,11 +37,11 @@ pub returns-in_err-ints-clause-only : goal.returns-in_err-ints-clause-only
 returns-in_err-ints-clause-only c spelled whole =
     let t = c.args.tree.now in
     let same = c.as_slice-2.ensures.value ∙ c.in_ok-used.ensures ∙ ap used_in_methods (c.as_slice.ensures.value
-          ∙ ap (λ t. t.methods) c.tree.view_is) in
+    ∙ ap (λ t. t.methods) c.tree.view_is) in
     given_on c.from_residual-in_err-ints.result c.in_err-ints.field-0.0 (λ e. e ≡ error.Memory)
-        c.from_residual-in_err-ints.ensures.1
+    c.from_residual-in_err-ints.ensures.1
     (c.in_err-ints.ensures.only (listing_items (listing_of t)) (laws.tree_room t c.new-numbers.result []
-        c.as_slice-2.result.now c.new-numbers.ensures same (has_class t spelled whole)))
+    c.as_slice-2.result.now c.new-numbers.ensures same (has_class t spelled whole)))
 
 pub class_file-requires : goal.class_file-requires
 class_file-requires c = subst (λ (l : ClassListing). list_all (λ m. code_stands m.code) l.methods ≡ true)
@@ -50,21 +50,21 @@ class_file-requires c = subst (λ (l : ClassListing). list_all (λ m. code_stand
 pub returns-in_err-file-clause-only : goal.returns-in_err-file-clause-only
 returns-in_err-file-clause-only c spelled whole =
     let same = c.as_slice-2.ensures.value ∙ c.in_ok-used.ensures ∙ ap used_in_methods (c.as_slice.ensures.value
-          ∙ ap (λ t. t.methods) c.tree.view_is) in
+    ∙ ap (λ t. t.methods) c.tree.view_is) in
     let pool = laws.tree_pool c.args.tree.now c.new-numbers.result c.ints.new.self c.as_slice-2.result.now
-          c.new-numbers.ensures same c.in_ok-ints.ensures.added c.in_ok-listing.listing c.in_ok-listing.ensures.found.0
-          in
+    c.new-numbers.ensures same c.in_ok-ints.ensures.added c.in_ok-listing.listing c.in_ok-listing.ensures.found.0
+    in
     given_on c.from_residual-in_err-file.result c.in_err-file.field-0.0 (λ e. e ≡ error.Memory)
-        c.from_residual-in_err-file.ensures.1
+    c.from_residual-in_err-file.ensures.1
     (c.in_err-file.ensures.only (subst IsClass (sym pool) (has_class c.args.tree.now spelled whole)))
 
 pub returns-clause-made : goal.returns-clause-made
 returns-clause-made c =
     let same = c.as_slice-2.ensures.value ∙ c.in_ok-used.ensures ∙ ap used_in_methods (c.as_slice.ensures.value
-          ∙ ap (λ t. t.methods) c.tree.view_is) in
+    ∙ ap (λ t. t.methods) c.tree.view_is) in
     let pool = laws.tree_pool c.args.tree.now c.new-numbers.result c.ints.new.self c.as_slice-2.result.now
-          c.new-numbers.ensures same c.in_ok-ints.ensures.added c.in_ok-listing.listing c.in_ok-listing.ensures.found.0
-          in
+    c.new-numbers.ensures same c.in_ok-ints.ensures.added c.in_ok-listing.listing c.in_ok-listing.ensures.found.0
+    in
     c.in_ok-file.ensures.found.0 ∙ pool
 
 pub returns-clause-found : goal.returns-clause-found
@@ -73,14 +73,14 @@ returns-clause-found c =
     let l = c.in_ok-listing.ensures.found.0 in
     let items = with_items c.ints.new.self (listing_items c.in_ok-listing.listing) in
     let same = c.as_slice-2.ensures.value ∙ c.in_ok-used.ensures ∙ ap used_in_methods (c.as_slice.ensures.value
-          ∙ ap (λ t. t.methods) c.tree.view_is) in
+    ∙ ap (λ t. t.methods) c.tree.view_is) in
     let pool = laws.tree_pool t c.new-numbers.result c.ints.new.self c.as_slice-2.result.now c.new-numbers.ensures same
-          c.in_ok-ints.ensures.added c.in_ok-listing.listing l in
+    c.in_ok-ints.ensures.added c.in_ok-listing.listing l in
     let items_are = laws.tree_items_are t c.new-numbers.result c.ints.new.self c.as_slice-2.result.now
-          c.new-numbers.ensures same c.in_ok-ints.ensures.added c.in_ok-listing.listing l in
+    c.new-numbers.ensures same c.in_ok-ints.ensures.added c.in_ok-listing.listing l in
     let short = sym (ap has_short_lists l) ∙ sym c.has_short_lists.ensures ∙ c.if-not-has_short_lists.false in
     let right = sym (ap (λ k. list_all method_is_right k.methods) l) ∙ c.in_ok-listing.ensures.found.1 in
     let super = sym (ap (λ k. has k.flags.0 0x0020) l) ∙ sym c.has_super.ensures.is ∙ c.if-has_super.false in
     let fits = subst (λ (k : ClassListing). k.flags.0 < 2 ^ 16) l c.has_super.ensures.fits in
     joined c.in_ok-file.file items (assembled items c.in_ok-listing.listing) t items_are pool right short super fits
-        c.in_ok-file.ensures.found.0 c.in_ok-file.ensures.found.1
+    c.in_ok-file.ensures.found.0 c.in_ok-file.ensures.found.1

@@ -13,13 +13,13 @@ loop-line-preserved c narrow f =
       | in-Label w ↦
           let here = rw w.in-Label.is at c.line-item.is in
           sym (ap (list_all (line_agrees narrow f)) (drop-item c.args.lines.now c.loop-line.line-index
-              (Label w.in-Label.field-0) c.loop-line-test.true here)) ∙ c.loop-line.invariant narrow f
+          (Label w.in-Label.field-0) c.loop-line-test.true here)) ∙ c.loop-line.invariant narrow f
       | in-Instruction+else-not-switch_agrees w ↦
           let here = rw w.in-Instruction.is at c.line-item.is in
           let agrees = sym (w.switch_agrees.ensures narrow f) ∙ w.if-not-switch_agrees.false in
           sym (ap (list_all (line_agrees narrow f)) (drop-item c.args.lines.now c.loop-line.line-index
-              (Instruction w.in-Instruction.instruction) c.loop-line-test.true here) ∙ rw agrees refl)
-              ∙ c.loop-line.invariant narrow f
+          (Instruction w.in-Instruction.instruction) c.loop-line-test.true here) ∙ rw agrees refl)
+          ∙ c.loop-line.invariant narrow f
     ]
 
 pub returns : goal.returns

@@ -6,4 +6,4 @@ use Rattle.assembler.proofs.instructions.listed_pairs.Given as goal
 abbrev pub invariant-loop-key : goal.invariant-loop-key
 invariant-loop-key l =
     l.listed.items ++ map (λ p. (p.0, pc_in l.pcs p.1)) (drop l.key-index l.pairs)
-        ≡ map (λ p. (p.0, pc_in l.pcs p.1)) l.pairs
+    ≡ map (λ p. (p.0, pc_in l.pcs p.1)) l.pairs

@@ -14,5 +14,5 @@ returns-in_err-listing-clause-only c =
     (λ whole.
     let rest = c.loop-method.invariant.assemble whole in
     let first : method_assembles (method_listing c.args.narrow.now c.method-item.result)
-          ≡ true = grind (arith, common_steps) in
+    ≡ true = grind (arith, common_steps) in
     c.in_err-listing.ensures.only first)

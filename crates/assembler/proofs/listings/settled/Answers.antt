@@ -14,9 +14,9 @@ returns c =
     let lines = c.as_slice-lines.ensures.value in
     let rows = c.in_ok-listed_rows.ensures ∙ ap (map (row_with (pc_in pcs))) c.as_slice.ensures.value in
     let instructions = c.in_ok-placed.ensures ∙ ap (λ ls. placed_from (pc_in pcs) 0 (map (widened_line narrow) ls))
-          lines in
+    lines in
     let same = λ (name : List ℕ). c.in_ok-pcs.ensures name ∙ ap (λ ls. pc_of 0 (map (widened_line narrow) ls) name)
-          lines in
+    lines in
     settled_is narrow pcs body.max_stack body.max_locals c.in_ok-listed_rows.field-0.items c.in_ok-placed.field-0.items
-        body.rows.items body.lines.items same rows instructions
+    body.rows.items body.lines.items same rows instructions
     ∙ ap (code_listing narrow) c.body.view_is

@@ -18,17 +18,17 @@ returns-in_err-body-clause-only c =
     let items = listing_items l in
     let all : with_items old items ≡ with_items old (items ++ []) = ap (with_items old) (sym (append-nil items)) in
     given_on c.from_residual.result c.in_err-body.field-0.0 (λ e. IsClass (assembled (with_items old items) l)
-        → e ≡ error.Memory) c.from_residual.ensures.1
+    → e ≡ error.Memory) c.from_residual.ensures.1
     (λ is.
     c.in_err-body.ensures.only [] (subst HasRoom all (laws.has_room (with_items old items) l is))
     (subst (λ (xs : List Item). AllByRecursion (λ m. HasCode xs m.code) l.methods) all
-        (laws.have_code (with_items old items) l is)))
+    (laws.have_code (with_items old items) l is)))
 
 pub returns-in_err-finish-clause-only : goal.returns-in_err-finish-clause-only
 returns-in_err-finish-clause-only c =
     let q = err_from_is_err_and c.from_residual-in_err-finish.result c.from_residual-in_err-finish.ensures.1 in
     let made = laws.made_is c.args.numbers c.body.new.numbers c.args.listing.now c.in_ok-body.body
-          c.in_ok-body.ensures.found in
+    c.in_ok-body.ensures.found in
     rw q.1 (λ is. q.2 (c.in_err-finish.ensures.only (subst (λ (f : ClassPart). IsClass f) (sym made) is)))
 
 pub returns-clause-found : goal.returns-clause-found

@@ -8,5 +8,5 @@ use Rattle.assembler.proofs.numbered_class.fields.Goals as goal
 pub returns-clause-found : goal.returns-clause-found
 returns-clause-found c =
     laws.done field_items numbered_field c.args.numbers.now c.loop-field.numbers c.loop-field.all.items
-        (drop c.loop-field.field-index c.args.fields.now) c.args.fields.now
-        (drop_of_length-le c.args.fields.now c.loop-field-test.false) c.loop-field.invariant
+    (drop c.loop-field.field-index c.args.fields.now) c.args.fields.now
+    (drop_of_length-le c.args.fields.now c.loop-field-test.false) c.loop-field.invariant

@@ -8,5 +8,5 @@ use Rattle.assembler.proofs.numbered_class.methods.Goals as goal
 pub returns-clause-found : goal.returns-clause-found
 returns-clause-found c =
     laws.done method_items assembled_method c.args.numbers.now c.loop-method.numbers c.loop-method.all.items
-        (drop c.loop-method.method-index c.args.methods.now) c.args.methods.now
-        (drop_of_length-le c.args.methods.now c.loop-method-test.false) c.loop-method.invariant
+    (drop c.loop-method.method-index c.args.methods.now) c.args.methods.now
+    (drop_of_length-le c.args.methods.now c.loop-method-test.false) c.loop-method.invariant

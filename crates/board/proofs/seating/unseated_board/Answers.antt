@@ -11,9 +11,9 @@ pub of_words-requires : goal.of_words-requires
 of_words-requires c =
     let is = c.as_slice.ensures.value ∙ c.in_ok-words.ensures.items_if_clones_equal (search rules) in
     subst (λ (words : List ℕ). IsKept ℕ c.args.workers (opening {S = ℕ} words [] (unseated c.args.workers))) (sym is)
-        (opens c.args.workers _ refl)
+    (opens c.args.workers _ refl)
 
 pub returns-clause-rights : goal.returns-clause-rights
 returns-clause-rights c =
     subst (IsNextSeat c.args.workers 0) (sym (ap (λ (m : Me ℕ View). m.0) c.in_ok-table.ensures.4))
-        (opening_is c.args.workers)
+    (opening_is c.args.workers)

@@ -13,4 +13,4 @@ returns-clause-second c =
     let len = c.pop.new.self.ok.0 in
     let long : length rest ≡ 1 = omega arith in
     c.in_ok-board.ensures.seats 1 second (ap (λ (xs : List BoardSeat). slice_get xs 1) c.in-Some-Some.ensures.items
-        ∙ subst (λ (n : ℕ). slice_get (rest ++ second ∷ []) n ≡ Some second) long (at_last rest second))
+    ∙ subst (λ (n : ℕ). slice_get (rest ++ second ∷ []) n ≡ Some second) long (at_last rest second))

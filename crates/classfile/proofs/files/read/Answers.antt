@@ -10,13 +10,17 @@ returns-in_err-head-clause-only c = λ file is.
     rw (p.1, p.2) (only_memory c.in_err-head.field-0.0 c.args.bytes.now file c.in_err-head.ensures is)
 
 pub invariant_of-result : goal.invariant_of-result
-invariant_of-result c = (c.args.bytes.now,
-    file_is c.args.bytes.now (record { head = c.in_ok-head.head; methods = c.in_ok-head.methods.items })
-    (λ i. omega (arith, c.type_inv.bytes i)) c.in_ok-head.ensures)
+invariant_of-result c = (
+  c.args.bytes.now,
+  file_is c.args.bytes.now (record { head = c.in_ok-head.head; methods = c.in_ok-head.methods.items })
+      (λ i. omega (arith, c.type_inv.bytes i)) c.in_ok-head.ensures,
+)
 
 pub returns-clause-found : goal.returns-clause-found
-returns-clause-found c = file_is c.args.bytes.now (record { head = c.in_ok-head.head;
-    methods = c.in_ok-head.methods.items }) (λ i. omega (arith, c.type_inv.bytes i)) c.in_ok-head.ensures
+returns-clause-found c = file_is c.args.bytes.now (record {
+  head = c.in_ok-head.head;
+  methods = c.in_ok-head.methods.items;
+}) (λ i. omega (arith, c.type_inv.bytes i)) c.in_ok-head.ensures
 
 pub returns-clause-only : goal.returns-clause-only
 returns-clause-only c = λ file is. ok_is (record { head = c.in_ok-head.head; methods = c.in_ok-head.methods.items })

@@ -10,20 +10,20 @@ pub returns-in_err-code : goal.returns-in_err-code
 returns-in_err-code c =
     let p = err_from_is_err_and c.from_residual.result c.from_residual.ensures.1 in
     rw (p.1, p.2) (ends c.args.pool.now is_code_name (found_code_from c.args.pool.now c.args.wanted)
-        (shown c.in_err-code.field-0.0) c.args.count c.loop.counter c.loop.found c.loop.rest.now
-        (attributes_from c.args.pool.now is_code_name (found_code_from c.args.pool.now c.args.wanted) c.args.count None
-        c.args.bytes.now) c.loop-test.true c.in_err-code.ensures c.loop.invariant)
+    (shown c.in_err-code.field-0.0) c.args.count c.loop.counter c.loop.found c.loop.rest.now
+    (attributes_from c.args.pool.now is_code_name (found_code_from c.args.pool.now c.args.wanted) c.args.count None
+    c.args.bytes.now) c.loop-test.true c.in_err-code.ensures c.loop.invariant)
 
 pub loop-preserved : goal.loop-preserved
 loop-preserved c =
     goes_on c.args.pool.now is_code_name (found_code_from c.args.pool.now c.args.wanted) c.args.count c.loop.counter
-        c.loop.found c.loop.rest.now c.in_ok-code.code c.in_ok-code.after.now
-        (attributes_from c.args.pool.now is_code_name (found_code_from c.args.pool.now c.args.wanted) c.args.count None
-        c.args.bytes.now) c.loop-test.true c.in_ok-code.ensures c.loop.invariant
+    c.loop.found c.loop.rest.now c.in_ok-code.code c.in_ok-code.after.now
+    (attributes_from c.args.pool.now is_code_name (found_code_from c.args.pool.now c.args.wanted) c.args.count None
+    c.args.bytes.now) c.loop-test.true c.in_ok-code.ensures c.loop.invariant
 
 pub returns : goal.returns
 returns c =
     is_done c.args.pool.now is_code_name (found_code_from c.args.pool.now c.args.wanted) c.args.count c.loop.counter
-        c.loop.found c.loop.rest.now (attributes_from c.args.pool.now is_code_name
-        (found_code_from c.args.pool.now c.args.wanted) c.args.count None c.args.bytes.now) c.loop-test.false
-        c.loop.invariant
+    c.loop.found c.loop.rest.now (attributes_from c.args.pool.now is_code_name
+    (found_code_from c.args.pool.now c.args.wanted) c.args.count None c.args.bytes.now) c.loop-test.false
+    c.loop.invariant

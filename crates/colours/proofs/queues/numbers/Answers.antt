@@ -14,7 +14,7 @@ loop-number-preserved c =
     let count = c.loop-number.invariant.count in
     let left : end - c.loop-number.number ≡ suc (end - (c.loop-number.number + 1)) = omega (arith, l) in
     let items = ap (λ (q : Buffer ℕ). q.items ++ numbers_up (c.loop-number.number + 1)
-          (end - (c.loop-number.number + 1))) c.push.ensures in
+    (end - (c.loop-number.number + 1))) c.push.ensures in
     record {
       room = one_more.1 ∙ c.loop-number.invariant.room;
       count = omega (arith, length, count);

@@ -9,7 +9,7 @@ returns-in-Ok-read c say =
     let spelled = (c.class_files_are_spelled.ensures.spelled is.0 c.args.file.now is.1).1 say in
     let right = c.class_files_are_spelled.ensures.assembled is.0 c.args.file.now is.1 in
     tree_found (listing_of c.args.file.now) spelled right c.as_slice.result.now (c.as_slice.ensures.value
-        ∙ c.in-Ok.ensures) c.in-Ok-read.tree c.in-Ok-read.ensures
+    ∙ c.in-Ok.ensures) c.in-Ok-read.tree c.in-Ok-read.ensures
 
 pub returns : goal.returns
 returns c say =
@@ -17,4 +17,4 @@ returns c say =
     let spelled = (c.class_files_are_spelled.ensures.spelled is.0 c.args.file.now is.1).1 say in
     let right = c.class_files_are_spelled.ensures.assembled is.0 c.args.file.now is.1 in
     tree_refused (listing_of c.args.file.now) spelled right c.as_slice.result.now (c.as_slice.ensures.value
-        ∙ c.in-Ok.ensures) c.in-Err-read.error.fault c.in-Err-read.ensures
+    ∙ c.in-Ok.ensures) c.in-Err-read.error.fault c.in-Err-read.ensures

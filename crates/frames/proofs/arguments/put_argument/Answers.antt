@@ -7,8 +7,13 @@ pub returns-then-units_in-eq2-clause-items : goal.returns-then-units_in-eq2-clau
 returns-then-units_in-eq2-clause-items c =
     let two = sym c.units_in.ensures ∙ c.if-units_in-eq2.true in
     let fits = rw two at c.requires.fits in
-    rw (c.put-then-units_in-eq2.ensures, c.put.ensures, c.settled.ensures, two_entries (value_of c.args.slot) two,
-        two) (put_two _ _ _ _ (omega arith))
+    rw (
+      c.put-then-units_in-eq2.ensures,
+      c.put.ensures,
+      c.settled.ensures,
+      two_entries (value_of c.args.slot) two,
+      two,
+    ) (put_two _ _ _ _ (omega arith))
 
 pub returns-clause-items : goal.returns-clause-items
 returns-clause-items c =

@@ -19,9 +19,9 @@ loop-place-preserved c =
     record {
       items =
           pushed ∙ ap (λ (xs : List Slot). xs ++ Unset ∷ []) at.invariant.items
-              ∙ append_assoc first.items (replicate k Unset) (Unset ∷ [])
+          ∙ append_assoc first.items (replicate k Unset) (Unset ∷ [])
           ∙ ap (λ (xs : List Slot). first.items ++ xs) (replicate-append-replicate k 1 Unset
-              ∙ ap (λ (n : ℕ). replicate n Unset) next);
+          ∙ ap (λ (n : ℕ). replicate n Unset) next);
       len = omega (arith, longer, at.invariant.len);
       more = omega (arith, more);
       capacity = omega (arith, held, grown);

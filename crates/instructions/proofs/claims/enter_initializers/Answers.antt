@@ -57,6 +57,6 @@ loop-passed-preserved c =
           ]
       | in_default w ↦
           absurd (left-none c.args.program.now c.loop-passed.passed c.args.count c.loop-passed.next
-              c.loop-passed-test.true
+          c.loop-passed-test.true
           c.loop-passed.invariant.0 w.in_default.is)
     ]

@@ -14,7 +14,7 @@ returns-in-Coded c =
 pub returns-in-Own : goal.returns-in-Own
 returns-in-Own c =
     absurd (read-own c.args.program.now c.args.class c.requires.accepted c.requires.listed
-        (option_copied c.method.result)
+    (option_copied c.method.result)
     c.tables-tables.result.now.methods c.tables-tables.result.now.initializers c.initializer-place.result
     c.method.ensures c.tables-tables.ensures.methods_are c.initializer-place.ensures
     c.tables-tables.ensures.initializers_are c.in-Some.info.now c.body.result _ (ap option_copied c.in-Some.is)

@@ -13,7 +13,7 @@ use Rattle.instructions.proofs.claims.set_states.Goals.{in-Some, then-class-len,
 pub loop-preserved : goal.loop-preserved
 loop-preserved c =
     let whole = with_states c.args.state (claimed c.args.program.now c.args.class c.args.count) c.args.states.now.items
-          in
+    in
     elim c.match-next.branch [
       | in-Some w ↦
           let above_is : c.match-next.next ≡ superclass_in (class_tables c.args.program.now) w.in-Some.class =

@@ -10,7 +10,7 @@ use Rattle.instructions.proofs.claims.units_of_claim.Goals.{in-Some, in_default}
 pub initializer_limits-max_locals-requires-clause-listed : goal.initializer_limits-max_locals-requires-clause-listed
 initializer_limits-max_locals-requires-clause-listed c =
     left-class c.args.program.now c.loop.counter c.args.count c.loop.next c.loop-test.true c.loop.invariant.0
-        c.in-Some.class c.in-Some.is
+    c.in-Some.class c.in-Some.is
 
 pub loop-preserved : goal.loop-preserved
 loop-preserved c =
@@ -26,7 +26,7 @@ loop-preserved c =
                 ∙ units-next c.args.program.now c.loop.counter c.args.count c.loop.next c.loop-test.true
                 c.loop.invariant.0 w.in-Some.class w.in-Some.is w.initializer_limits-max_locals.result.0
                 w.initializer_limits-max_locals.result.1 w.initializer_limits-max_locals.ensures c.match-next.next
-                    above_is
+                above_is
                 c.loop.units _ c.loop.invariant.1,
             omega (arith, c.loop.invariant.2, w.units-is),
           )

@@ -27,8 +27,13 @@ returns-in_default-state_at c =
     record {
       chain = chain-found c.args.program.now c.args.states.now c.args.class c.loop.count _ c.requires.sized ends;
       claimed = claim-found c.args.program.now c.args.states.now c.args.class c.loop.count _ c.requires.sized ends;
-      few = omega (arith, c.loop.invariant.1, c.loop-test.true,
-          ap (λ (cs : List ClassListing). length cs) c.listings.ensures.listings, c.listings.ensures.few);
+      few = omega (
+        arith,
+        c.loop.invariant.1,
+        c.loop-test.true,
+        ap (λ (cs : List ClassListing). length cs) c.listings.ensures.listings,
+        c.listings.ensures.few,
+      );
     }
 
 pub returns-after-loop-clause-chain : goal.returns-after-loop-clause-chain
@@ -37,7 +42,7 @@ returns-after-loop-clause-chain c =
     (walk-over (class_tables c.args.program.now) c.args.states.now
     (chain_at c.args.program.now c.args.states.now c.args.class)
     (length c.listings.result.now + 24 - c.loop.counter) c.loop.next c.loop.count (omega (arith, c.loop-test.false))
-        c.loop.invariant.0)
+    c.loop.invariant.0)
 
 pub returns-after-loop-clause-claimed : goal.returns-after-loop-clause-claimed
 returns-after-loop-clause-claimed c =
@@ -45,7 +50,7 @@ returns-after-loop-clause-claimed c =
     (walk-over (class_tables c.args.program.now) c.args.states.now
     (chain_at c.args.program.now c.args.states.now c.args.class)
     (length c.listings.result.now + 24 - c.loop.counter) c.loop.next c.loop.count (omega (arith, c.loop-test.false))
-        c.loop.invariant.0)
+    c.loop.invariant.0)
 
 pub returns-in_default-clause-chain : goal.returns-in_default-clause-chain
 returns-in_default-clause-chain c =

@@ -10,5 +10,5 @@ returns c =
     let f = running_frame old in
     c.set_mark.ensures
     ∙ changed-twice old c.clear.new.self (record f { pc = c.pc-pc.result; stack = [] })
-        (λ h. record h { mark = Failing }) c.requires c.clear.ensures
+    (λ h. record h { mark = Failing }) c.requires c.clear.ensures
     ∙ ap (λ n. with_running old (let g : Frame = record f { pc = n; stack = []; mark = Failing } in g)) c.pc-pc.ensures

@@ -27,7 +27,7 @@ returns-then-unused-eq0-clause-frames c = λ fits.
     c.main_limits-max_locals.ensures.main c.main.result c.main.ensures c.main_limits-max_locals.ensures.fits
     c.unused_classes-unused.result.count c.unused_classes-unused.result.above chain
     c.unused_classes-unused.ensures.claimed c.if-unused-eq0.true c.enter.new.self c.args.frames.now c.requires.empty
-        c.enter.ensures
+    c.enter.ensures
 
 pub returns-then-unused-eq0-clause-states : goal.returns-then-unused-eq0-clause-states
 returns-then-unused-eq0-clause-states c = λ fits.
@@ -47,12 +47,12 @@ returns-then-has_room_for_claim-clause-fits c =
     ap (λ states. chain_at p states 0) (sym (c.as_slice.ensures.value ∙ c.requires.unclaimed))
     ∙ c.unused_classes-unused.ensures.chain in
     sym c.if-has_room_for_claim.true ∙ c.has_room_for_claim.ensures
-        ∙ ap within_limits (main-waits p c.requires.accepted c.main_limits-max_locals.result.0
-        c.main_limits-max_locals.result.1
+    ∙ ap within_limits (main-waits p c.requires.accepted c.main_limits-max_locals.result.0
+    c.main_limits-max_locals.result.1
     c.main_limits-max_locals.ensures.main c.main.result c.main.ensures c.main_limits-max_locals.ensures.fits
     c.unused_classes-unused.result.count c.unused_classes-unused.result.above chain
     c.unused_classes-unused.ensures.claimed (omega (arith, c.if-unused-eq0.false)) c.args.frames.now c.enter.new.self
-        c.set_mark.new.self
+    c.set_mark.new.self
     c.requires.empty c.enter.ensures c.set_mark.ensures)
 
 pub returns-then-has_room_for_claim-clause-frames : goal.returns-then-has_room_for_claim-clause-frames
@@ -62,11 +62,11 @@ returns-then-has_room_for_claim-clause-frames c = λ fits.
     ap (λ states. chain_at p states 0) (sym (c.as_slice.ensures.value ∙ c.requires.unclaimed))
     ∙ c.unused_classes-unused.ensures.chain in
     c.enter_initializers.ensures ∙ main-waits p c.requires.accepted c.main_limits-max_locals.result.0
-        c.main_limits-max_locals.result.1
+    c.main_limits-max_locals.result.1
     c.main_limits-max_locals.ensures.main c.main.result c.main.ensures c.main_limits-max_locals.ensures.fits
     c.unused_classes-unused.result.count c.unused_classes-unused.result.above chain
     c.unused_classes-unused.ensures.claimed (omega (arith, c.if-unused-eq0.false)) c.args.frames.now c.enter.new.self
-        c.set_mark.new.self
+    c.set_mark.new.self
     c.requires.empty c.enter.ensures c.set_mark.ensures
 
 pub returns-then-has_room_for_claim-clause-states : goal.returns-then-has_room_for_claim-clause-states
@@ -89,10 +89,10 @@ returns-else-has_room_for_claim-clause-fits c =
     ap (λ states. chain_at p states 0) (sym (c.as_slice.ensures.value ∙ c.requires.unclaimed))
     ∙ c.unused_classes-unused.ensures.chain in
     sym c.if-has_room_for_claim.false ∙ c.has_room_for_claim.ensures
-        ∙ ap within_limits (main-waits p c.requires.accepted c.main_limits-max_locals.result.0
-        c.main_limits-max_locals.result.1
+    ∙ ap within_limits (main-waits p c.requires.accepted c.main_limits-max_locals.result.0
+    c.main_limits-max_locals.result.1
     c.main_limits-max_locals.ensures.main c.main.result c.main.ensures c.main_limits-max_locals.ensures.fits
     c.unused_classes-unused.result.count c.unused_classes-unused.result.above chain
     c.unused_classes-unused.ensures.claimed (omega (arith, c.if-unused-eq0.false)) c.args.frames.now c.enter.new.self
-        c.set_mark.new.self
+    c.set_mark.new.self
     c.requires.empty c.enter.ensures c.set_mark.ensures)

@@ -11,9 +11,9 @@ returns-in-Some-method c =
     let count = ap length c.listings.ensures.listings in
     let past : length program ≤ row.class =
     let past = ltb-false row.class (length c.listings.result.now) (sym c.in-None.ensures.lookup.0)
-          in omega (arith, count, past) in
+    in omega (arith, count, past) in
     let known : known_at program (record { class = row.class; method = row.method })
-          ≡ Some c.in-Some-method.method.now = search rules in
+    ≡ Some c.in-Some-method.method.now = search rules in
     c.is_own_run.ensures ∙ ap is_own_run c.body.ensures ∙ sym (ap (known_run program) known) ∙ own-row program row past
 
 pub returns-in-None-method : goal.returns-in-None-method
@@ -23,6 +23,6 @@ returns-in-None-method c =
     let count = ap length c.listings.ensures.listings in
     let past : length program ≤ row.class =
     let past = ltb-false row.class (length c.listings.result.now) (sym c.in-None.ensures.lookup.0)
-          in omega (arith, count, past) in
+    in omega (arith, count, past) in
     let known : known_at program (record { class = row.class; method = row.method }) ≡ None = search rules in
     sym (ap (known_run program) known) ∙ own-row program row past

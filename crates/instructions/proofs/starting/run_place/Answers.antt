@@ -13,7 +13,7 @@ returns-then-class-listings c =
     let count = ap length c.listings.ensures.listings in
     let past = c.if-class-listings.true in
     past-none program (accepted_hierarchy program accepted) (none_hides program accepted) c.args.class
-        (omega (arith, count, past))
+    (omega (arith, count, past))
 
 pub table-requires : goal.table-requires
 table-requires c =
@@ -30,7 +30,7 @@ returns-in-Some c =
     let less = c.if-class-listings.false in
     sym (ap (λ o. place_of_row program free hides (option_copied o)) c.in-Some.is)
     ∙ row-run program free hides c.args.class c.table.result.now (option_copied c.run_row.result)
-        (inside program c.args.class (omega (arith, count, less)))
+    (inside program c.args.class (omega (arith, count, less)))
     c.table.ensures c.run_row.ensures
 
 pub returns-in-None : goal.returns-in-None
@@ -42,5 +42,5 @@ returns-in-None c =
     let less = c.if-class-listings.false in
     sym (ap (λ o. place_of_row program free hides (option_copied o)) c.in-None.is)
     ∙ row-run program free hides c.args.class c.table.result.now (option_copied c.run_row.result)
-        (inside program c.args.class (omega (arith, count, less)))
+    (inside program c.args.class (omega (arith, count, less)))
     c.table.ensures c.run_row.ensures

@@ -11,7 +11,7 @@ returns-in_err-noted_part c =
     let begun = rw (← c.take.ensures.value) at c.rows.invariant.rest in
     rw (p.1, p.2)
     (λ h. sym begun ∙ rest_nothing c.rows.stack c.rows.locals c.rows.rows.items c.rows.lines.items _ c.rows.statements _
-        _ read (c.in_err-noted_part.ensures h))
+    _ read (c.in_err-noted_part.ensures h))
 
 pub returns-in-End : goal.returns-in-End
 returns-in-End c =
@@ -19,7 +19,7 @@ returns-in-End c =
     let begun = rw (← c.take.ensures.value) at c.rows.invariant.rest in
     let says = rw c.in-End.is at c.in_ok-noted_part.ensures in
     let whole = sym begun ∙ rest_end c.rows.stack c.rows.locals c.rows.rows.items c.rows.lines.items _ c.rows.statements
-          _ _ read says in
+    _ _ read says in
     MatchResult-weaker c.whole_body.result c.whole_body.ensures
     (λ body h. (whole ∙ h, sym (after_end c.rows.statements _ _ read says.1) ∙ c.rows.invariant.following))
     (λ _ h. λ _. whole ∙ h)
@@ -30,7 +30,7 @@ returns-then-is_some c =
     let begun = rw (← c.take.ensures.value) at c.rows.invariant.rest in
     let says = rw c.in-StackLimit.is at c.in_ok-noted_part.ensures in
     λ _. sym begun ∙ rest_stack_twice c.rows.stack c.rows.locals c.rows.rows.items c.rows.lines.items _
-        c.rows.statements _ _ c.in-StackLimit.n c.if-is_some.ensures read says
+    c.rows.statements _ _ c.in-StackLimit.n c.if-is_some.ensures read says
 
 pub rows-preserved-in-StackLimit : goal.rows-preserved-in-StackLimit
 rows-preserved-in-StackLimit c =
@@ -50,7 +50,7 @@ returns-then-is_some-2 c =
     let begun = rw (← c.take.ensures.value) at c.rows.invariant.rest in
     let says = rw c.in-LocalsLimit.is at c.in_ok-noted_part.ensures in
     λ _. sym begun ∙ rest_locals_twice c.rows.stack c.rows.locals c.rows.rows.items c.rows.lines.items _
-        c.rows.statements _ _ c.in-LocalsLimit.n c.if-is_some-2.ensures read says
+    c.rows.statements _ _ c.in-LocalsLimit.n c.if-is_some-2.ensures read says
 
 pub rows-preserved-in-LocalsLimit : goal.rows-preserved-in-LocalsLimit
 rows-preserved-in-LocalsLimit c =

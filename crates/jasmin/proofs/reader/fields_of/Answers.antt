@@ -9,6 +9,6 @@ returns-in_err-next c =
     let p = err_from_is_err_and c.from_residual-in_err-next.result c.from_residual-in_err-next.ensures.1 in
     let begun = rw c.in-Some.is at c.rows.invariant.said in
     let step = said_step (codes ".field") (field_of c.args.class) c.rows.fields.items _ _ _
-          (sym c.if-begins_otherwise.ensures) c.in_ok-field.ensures in
+    (sym c.if-begins_otherwise.ensures) c.in_ok-field.ensures in
     rw p.1 (λ _. sym begun ∙ step ∙ said_unread (codes ".field") (field_of c.args.class) _ _ _ refl
-        c.in_err-next.ensures)
+    c.in_err-next.ensures)

@@ -16,19 +16,19 @@ returns-in_err-method c =
     let begun = rw c.in-Some.is at c.rows.invariant in
     rw (p.1, p.2)
     (λ h. sym begun ∙ with_no_method c.args.class c.rows.methods.items _ _ _ _ refl c.in_ok-head.ensures
-        (c.in_err-method.ensures h))
+    (c.in_err-method.ensures h))
 
 pub returns-in_err-next : goal.returns-in_err-next
 returns-in_err-next c =
     let p = err_from_is_err_and c.from_residual-in_err-next.result c.from_residual-in_err-next.ensures.1 in
     let begun = rw c.in-Some.is at c.rows.invariant in
     let step = with_method c.args.class c.rows.methods.items _ _ _ _ _ _ refl c.in_ok-head.ensures
-          c.in_ok-method.ensures.0 c.in_ok-method.ensures.1 in
+    c.in_ok-method.ensures.0 c.in_ok-method.ensures.1 in
     rw p.1 (λ _. sym begun ∙ step ∙ with_unread c.args.class _ _ _ c.in_err-next.ensures)
 
 pub rows-preserved : goal.rows-preserved
 rows-preserved c =
     let begun = rw c.in-Some.is at c.rows.invariant in
     let step = with_method c.args.class c.rows.methods.items _ _ _ _ _ _ refl c.in_ok-head.ensures
-          c.in_ok-method.ensures.0 c.in_ok-method.ensures.1 in
+    c.in_ok-method.ensures.0 c.in_ok-method.ensures.1 in
     rw (c.in_ok-push.ensures.items, ahead_is c.in_ok-next.next _ _ c.in_ok-next.ensures) (sym step ∙ begun)

@@ -9,7 +9,7 @@ pub returns-then-is_some : goal.returns-then-is_some
 returns-then-is_some c =
     let here = rw c.in-Label.is at c.line-item.is in
     λ _. label_again c.loop-line.labels _ c.loop-line.count c.loop-line.line-index c.args.lines.now c.in-Label.name
-        c.as_bytes-name.result.now c.loop-line-test.true here c.as_bytes-name.ensures c.loop-line.invariant.labels
+    c.as_bytes-name.result.now c.loop-line-test.true here c.as_bytes-name.ensures c.loop-line.invariant.labels
     (rw (← c.get.ensures) (sym c.if-is_some.ensures))
 
 pub loop-line-preserved : goal.loop-line-preserved

@@ -7,7 +7,7 @@ use Rattle.jvm.proofs.launching.launch.Goals as goal
 pub returns-in-Err-clause-refused : goal.returns-in-Err-clause-refused
 returns-in-Err-clause-refused c =
     subst (λ (ss : List (Vec ℕ Global)). Excuses (bytes_of ss) c.args.shape c.args.limits c.in-Err.error)
-        c.as_slice.ensures.value (c.in-Err.ensures.refused c.args.shape c.args.limits)
+    c.as_slice.ensures.value (c.in-Err.ensures.refused c.args.shape c.args.limits)
 
 pub returns-clause-refused : goal.returns-clause-refused
 returns-clause-refused c =

@@ -7,4 +7,4 @@ pub returns : goal.returns
 unfolding builtin_classes
 returns c =
     c.in_ok-add_own_names.ensures
-        ∙ ap (λ (xs : List (List ℕ)). xs ++ map (λ (c : ClassListing). c.name) builtin_classes) c.in_ok-names.ensures
+    ∙ ap (λ (xs : List (List ℕ)). xs ++ map (λ (c : ClassListing). c.name) builtin_classes) c.in_ok-names.ensures

@@ -6,4 +6,4 @@ abbrev pub invariant-loop-class : goal.invariant-loop-class
 invariant-loop-class l =
     l.numbers ≡ l.classes
     → l.tables.items ++ map (class_facts l.classes) (drop l.class-index l.listings) ≡ l.fn.tables.items
-        ++ map (class_facts l.classes) l.listings
+    ++ map (class_facts l.classes) l.listings

@@ -7,4 +7,4 @@ use Rattle.loader.proofs.first_places.first_places.Given as goal
 abbrev pub invariant-loop-place : goal.invariant-loop-place
 invariant-loop-place g l =
     (key : g.row.K.Denot) → get g.K.PartialEq.eq l.places key ≡ position_from (λ k. g.K.PartialEq.eq k key) l.place
-        (drop l.place l.keys)
+    (drop l.place l.keys)

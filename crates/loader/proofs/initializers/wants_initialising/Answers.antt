@@ -26,7 +26,7 @@ returns-then-declared c = λ same.
     ap not (c.contains.ensures tt ∙ ap is_interface c.class.view_is)
     ∙ wanted c.args.classes.now c.args.class.now true
     (same-upwards c.args.classes.now c.args.declarers.now c.as_bytes.result.now c.args.class.now.name true
-        c.if-declared.ensures same
+    c.if-declared.ensures same
     (c.as_bytes.ensures ∙ ap (λ (x : ClassListing). x.name) c.class.view_is))
 
 pub returns-else-declared : goal.returns-else-declared
@@ -34,5 +34,5 @@ returns-else-declared c = λ same.
     c.if-declared.false
     ∙ wanted c.args.classes.now c.args.class.now false
     (same-upwards c.args.classes.now c.args.declarers.now c.as_bytes.result.now c.args.class.now.name false
-        c.if-declared.ensures same
+    c.if-declared.ensures same
     (c.as_bytes.ensures ∙ ap (λ (x : ClassListing). x.name) c.class.view_is))

@@ -6,8 +6,10 @@ use Rattle.loader.proofs.SelectorLemmas.{Key}
 use Rattle.loader.proofs.selection.rows_of.Goals as goal
 
 abbrev none : Key
-none = (record { bytes = record { ref_ptr = (0, 0); now = [] } },
-    record { bytes = record { ref_ptr = (0, 0); now = [] } })
+none = (
+  record { bytes = record { ref_ptr = (0, 0); now = [] } },
+  record { bytes = record { ref_ptr = (0, 0); now = [] } },
+)
 
 pub loop-signature-preserved : goal.loop-signature-preserved
 loop-signature-preserved c =
@@ -17,4 +19,4 @@ loop-signature-preserved c =
     rows-next (λ (s : Key). gathered c.args.rows.now s.0.bytes.now s.1.bytes.now) signatures i
     signature c.row.result c.loop-signature.found.items c.push.new.self.items _
     (get_or_default signatures i none signature (omega arith)) (omega arith) c.loop-signature.invariant c.row.ensures
-        c.in_ok-push.ensures.items
+    c.in_ok-push.ensures.items

@@ -11,12 +11,12 @@ loop-number-preserved c =
     let program = c.args.classes.now in
     let table = c.in_ok-table_of.field-0 in
     subst (λ (ts : List ClassTable). AreTables program ts (take (c.loop-number.number + 1) (all_classes program)))
-        (sym c.in_ok-push.ensures.items)
+    (sym c.in_ok-push.ensures.items)
     (tables-next program c.loop-number.tables.items (all_classes program) c.loop-number.number table
-        c.class-class.result.now c.class-class.ensures
+    c.class-class.result.now c.class-class.ensures
     c.loop-number.invariant
     (subst (λ (name : List ℕ). IsTableOf program name table) (c.as_bytes.ensures
-        ∙ ap (λ (x : ClassListing). x.name) c.class.view_is)
+    ∙ ap (λ (x : ClassListing). x.name) c.class.view_is)
     (c.in_ok-table_of.ensures c.requires)))
 
 pub returns : goal.returns

@@ -17,9 +17,9 @@ loop-class-init c = notes-none (λ x y. bytes_eq x.bytes.now y.bytes.now) (λ k 
 pub loop-class-preserved : goal.loop-class-preserved
 loop-class-preserved c =
     names-more class_name c.loop-class.repeats c.note.new.self c.args.program.now c.loop-class.class-index
-        c.class-item.result (record { bytes = c.as_bytes.result })
+    c.class-item.result (record { bytes = c.as_bytes.result })
     c.loop-class.invariant (omega arith) c.class-item.is (c.as_bytes.ensures ∙ ap class_name c.class.view_is)
-        c.in_ok-note.ensures
+    c.in_ok-note.ensures
 
 pub returns : goal.returns
 unfolding is_class_twice
@@ -27,5 +27,5 @@ returns c =
     let program : List ClassListing = c.args.program.now in
     let all : NotesNames class_name c.loop-class.repeats program =
     subst (NotesNames class_name c.loop-class.repeats) (take_all c.loop-class.class-index program (omega arith))
-        c.loop-class.invariant in
+    c.loop-class.invariant in
     c.first_again.ensures ∙ (λ j. find (λ x. names-all class_name c.loop-class.repeats program x.name all j) program)

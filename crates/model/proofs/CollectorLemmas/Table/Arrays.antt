@@ -65,7 +65,7 @@ place-birth : (w : World) (kind : ElementKind) (z : ℤ) (array : Option ℕ) (p
 place-birth w kind z None place e = absurd (cc)
 place-birth w kind z (Some birth) place e =
     (let k : birth ≡ place.0 = if_array-birth birth (index_in z (contents_at w birth))
-           (is_array_of kind (contents_at w birth)) place e in rw k refl)
+    (is_array_of kind (contents_at w birth)) place e in rw k refl)
 
 -- ---- loads
 
@@ -77,7 +77,7 @@ got_moves s e kind z array known (Ok place) k =
     let v = word_of (contents_at s.world place.0) place.1 in
     site_moves s e (replaced s.next s.frame 2 (v ∷ []))
     (replaced_lawful s.world s.next s.frame 2 (v ∷ [])
-        (word_may s.world place.0 place.1 (known place.0 (place-birth s.world kind z array place k))))
+    (word_may s.world place.0 place.1 (known place.0 (place-birth s.world kind z array place k))))
 
 loaded_moves : (s : Site) → running (frames_in s) ≡ Some s.frame
     → (kind : ElementKind) (r : Result (ℤ × Option ℕ) Fault)
@@ -85,7 +85,7 @@ loaded_moves : (s : Site) → running (frames_in s) ≡ Some s.frame
 loaded_moves s e kind (Err fault) k = tt
 loaded_moves s e kind (Ok operands) k =
     let array : ref_on (drop 1 s.frame.stack) ≡ Ok operands.1 = both-second (int_on s.frame.stack)
-          (ref_on (drop 1 s.frame.stack)) operands k in
+    (ref_on (drop 1 s.frame.stack)) operands k in
     got_moves s e kind operands.0 operands.1
     (λ b h. ref_on-known _ (drop 1 s.frame.stack) b (below_known s.world s.thread 1 s.frame e) (rw h at array))
     (element_place s.world kind operands.0 operands.1) refl
@@ -97,7 +97,7 @@ if_moves : (s : Site) → running (frames_in s) ≡ Some s.frame → (storage : 
     → CompletionMoves s.world (put_if s storage v place may)
 if_moves s e storage v known place true =
     puts_moves s e (with_word s.world place.0 place.1 (kept storage v)) 3 v known
-        (word_stored _ s.world place.0 place.1 (kept storage v) (put_may storage v))
+    (word_stored _ s.world place.0 place.1 (kept storage v) (put_may storage v))
 if_moves s e storage v known place false = tt
 
 element_put_moves : (s : Site) → running (frames_in s) ≡ Some s.frame → (storage : Storage) (v : Value)
@@ -117,7 +117,7 @@ stored_moves s e kind (Ok operands) k =
     let wanted = storage_kind (storage_in kind) in
     element_put_moves s e (storage_in kind) operands.0
     (value_on-known _ wanted s.frame.stack operands.0 (stack_known s.world s.thread _ s.frame e)
-        (both-first (value_on wanted s.frame.stack) _ operands k))
+    (both-first (value_on wanted s.frame.stack) _ operands k))
     (element_place s.world kind operands.1.0 operands.1.1)
 
 pub array_moves : (s : Site) → running (frames_in s) ≡ Some s.frame → (operation : ArrayOperation (List ℕ))

@@ -25,7 +25,7 @@ word_got_moves s e birth r None = tt
 word_got_moves s e birth r (Some place) =
     completes_moves s e (replaced_if_room s.next s.frame 1 (word_of (contents_at s.world birth) place ∷ []))
     (if_room_lawful s.world s.next s.frame 1 (word_of (contents_at s.world birth) place ∷ [])
-        (word_may s.world birth place r))
+    (word_may s.world birth place r))
 
 got_moves : (s : Site) → running (frames_in s) ≡ Some s.frame → (member : Member) (r : Result (Option ℕ) Fault)
     → ref_on s.frame.stack ≡ r → CompletionMoves s.world (field_got s member r)
@@ -33,7 +33,7 @@ got_moves s e member (Err fault) k = tt
 got_moves s e member (Ok None) k = tt
 got_moves s e member (Ok (Some birth)) k =
     word_got_moves s e birth (ref_on-known _ s.frame.stack birth (stack_known s.world s.thread _ s.frame e) k)
-        (field_place s member birth)
+    (field_place s member birth)
 
 word_put_moves : (s : Site) → running (frames_in s) ≡ Some s.frame → (descriptor : List ℕ) (v : Value)
     → AllMay (Reach s.world) (map ref_of (v ∷ [])) → (birth : ℕ) (place : Option ℕ)
@@ -58,7 +58,7 @@ put_moves s e member (Ok operands) k =
     let kind = descriptor_kind member.descriptor in
     put_in_moves s e member operands.0
     (value_on-known _ kind s.frame.stack operands.0 (stack_known s.world s.thread _ s.frame e)
-        (both-first (value_on kind s.frame.stack) (ref_on (drop 1 s.frame.stack)) operands k))
+    (both-first (value_on kind s.frame.stack) (ref_on (drop 1 s.frame.stack)) operands k))
     operands.1
 
 pub field_moves : (s : Site) → running (frames_in s) ≡ Some s.frame → (access : Access) (member : Member)

@@ -26,9 +26,12 @@ use Rattle.model.proofs.CollectorLemmas.Table.Monitors.{kept_same, site_kept, if
 
 framed_moves : (P : ℕ → Type 0) (place : MethodPlace) (code : Option CodeListing) → FramesMove P [] (framed place code)
 framed_moves P place None = tt
-framed_moves P place (Some code) =
-    (refs_new P [] (frame_refs (opening_frame place code.max_locals code.max_stack))
-        (may_both P _ [] (unset_may P code.max_locals) tt), λ b e. inl e, tt)
+framed_moves P place (Some code) = (
+  refs_new P [] (frame_refs (opening_frame place code.max_locals code.max_stack))
+      (may_both P _ [] (unset_may P code.max_locals) tt),
+  λ b e. inl e,
+  tt,
+)
 
 pub both_move : (P : ℕ → Type 0) (fs gs : List Frame) → FramesMove P [] fs → FramesMove P [] gs
     → FramesMove P [] (fs ++ gs)
@@ -50,9 +53,9 @@ pub initializers_move : (P : ℕ → Type 0) (program : List ClassListing) (clas
 initializers_move P program [] = tt
 initializers_move P program (class ∷ classes) =
     both_move P (framed (initializer_place program class) (code_at program (initializer_place program class)))
-        (initializer_frames program classes)
+    (initializer_frames program classes)
     (framed_moves P (initializer_place program class) (code_at program (initializer_place program class)))
-        (initializers_move P program classes)
+    (initializers_move P program classes)
 
 -- ---- what a claim does
 
@@ -66,7 +69,7 @@ claims_with_moves s classes frames h =
     let states = with_states (Running s.thread) classes (states_in s) in
     if_moves s.world (within_limits frames) _ _
     (site_kept s (with_class_states s.world states) (Live frames) [] (states_keep _ s.world s.world (next_birth s.world)
-        states (kept_same _ s.world)) h (λ b k. absurd k))
+    states (kept_same _ s.world)) h (λ b k. absurd k))
     (stack_error_known s.world)
 
 claims_moves : (s : Site) (classes : List ℕ) (own : Completion) → CompletionMoves s.world own
@@ -76,7 +79,7 @@ claims_moves s (class ∷ classes) own h =
     let new = initializer_frames s.program (class ∷ classes) in
     claims_with_moves s (class ∷ classes) (frames_in s ++ callers_waiting new)
     (added_move _ (frames_in s) (callers_waiting new)
-        (waiting_move _ new (initializers_move _ s.program (class ∷ classes))))
+    (waiting_move _ new (initializers_move _ s.program (class ∷ classes))))
 
 initialises_moves : (s : Site) (unused : List ℕ) (state : ClassState) (own : Completion) → CompletionMoves s.world own
     → CompletionMoves s.world (initialises s unused state own)

@@ -77,7 +77,7 @@ guarded_moves : (P : ℕ → Type 0) (monitor : Option ℕ) (fs : List Frame) �
     → FramesMove P fs (guarded monitor fs)
 guarded_moves P monitor fs h =
     frames_set_or P fs (length fs - 1) no_frame (record (running_frame fs) { monitor = monitor })
-        (refs_same P (frame_refs (running_frame fs)), λ b e. inr (h b e))
+    (refs_same P (frame_refs (running_frame fs)), λ b e. inr (h b e))
 
 enters_frame_moves : (c : Call) → running (frames_in c.site) ≡ Some c.site.frame → (m : CodedMethod)
     → ((b : ℕ) → method_monitor c m ≡ Some b → Reach c.site.world b) → CompletionMoves c.site.world (enters_frame c m)
@@ -91,11 +91,11 @@ enters_frame_moves c e m h =
     let P : ℕ → Type 0 = λ b. ⊥ ⊎ In b writes in
     let gs = frames_of_call fs m.place m.code.max_locals m.code.max_stack n in
     let given : AllMay P (map ref_of vs) = may_births vs P (λ b k.
-          inr (In-left (births_of vs) (option_to_list monitor) b k)) in
+    inr (In-left (births_of vs) (option_to_list monitor) b k)) in
     let may : AllMay P (map ref_of (arguments_on n (running_frame fs).stack)) = rw (running_is fs s.frame e) given in
     let moves : FramesMove P fs (guarded monitor gs) = frames_trans P fs gs (guarded monitor gs)
-          (call_moves P fs m.place m.code.max_locals m.code.max_stack n may) (guarded_moves P monitor gs (λ b k.
-          inr (monitor_written (births_of vs) monitor b k))) in
+    (call_moves P fs m.place m.code.max_locals m.code.max_stack n may) (guarded_moves P monitor gs (λ b k.
+    inr (monitor_written (births_of vs) monitor b k))) in
     site_kept s (world_entered s monitor) (Live (guarded monitor gs)) writes (entered_keeps P s monitor) moves
     (λ b k. elim (In-either (births_of vs) (option_to_list monitor) b k) [
       | inl l ↦ in_births vs (Reach s.world) (arguments_known s.world s.thread n s.frame e) b l
@@ -139,22 +139,22 @@ called_on_moves s e m method (Ok None) h = tt
 called_on_moves s e m method (Ok (Some birth)) h =
     if_moves s.world (not (is_subtype s.program (class_at s.world birth) m.class)) _ _ tt
     (called_moves (record { site = s; member = m; object = Some birth }) e (callee_of s.program (method birth))
-        (λ b k. h b (let r : birth ≡ b = cc in rw r refl)))
+    (λ b k. h b (let r : birth ≡ b = cc in rw r refl)))
 
 on_object_moves : (s : Site) → running (frames_in s) ≡ Some s.frame
     → (m : Member) (method : ℕ → Option (Declared Method)) → CompletionMoves s.world (on_object s m method)
 on_object_moves s e m method =
     fault_or_moves s.world (fault_in_pops (reverse (argument_kinds m.descriptor)) s.frame.stack) _
     (called_on_moves s e m method (ref_on (drop (arguments_in m) s.frame.stack))
-        (λ b h. reference_may (Reach s.world) (drop (arguments_in m) s.frame.stack) b
-        (below_known s.world s.thread (arguments_in m) s.frame e) h))
+    (λ b h. reference_may (Reach s.world) (drop (arguments_in m) s.frame.stack) b
+    (below_known s.world s.thread (arguments_in m) s.frame e) h))
 
 pub invoked_moves : (s : Site) → running (frames_in s) ≡ Some s.frame → (invocation : Invocation) (m : Member)
     → CompletionMoves s.world (invoked s invocation m)
 invoked_moves s e Static m =
     fault_or_moves s.world (fault_in_pops (reverse (argument_kinds m.descriptor)) s.frame.stack) _
     (called_moves (record { site = s; member = m; object = None }) e (callee_of s.program (resolved_method s.program m))
-        (λ b k. absurd (cc)))
+    (λ b k. absurd (cc)))
 invoked_moves s e Virtual m = on_object_moves s e m (selected_for s m)
 invoked_moves s e Special m = on_object_moves s e m (λ birth. special_for s m)
 invoked_moves s e (Interface count) m = on_object_moves s e m (selected_for s m)

@@ -32,8 +32,8 @@ pub local_lawful : (w : World) (t next : ℕ) (access : LocalAccess) (f : Frame)
     → ResultMoves w f (local next access f)
 local_lawful w t next (Load kind place) f e =
     loaded_lawful w next f (local_at kind f.locals (local_index place))
-        (λ v h. local_at_known w t f kind (local_index place) v e h)
+    (λ v h. local_at_known w t f kind (local_index place) v e h)
 local_lawful w t next (Store kind place) f e = stored_at_lawful w t next kind (local_index place) f e
 local_lawful w t next (Incremented i) f e =
     incremented_lawful w next f (increment_index i) (increment_amount i)
-        (as_int (local_at IntKind f.locals (increment_index i)))
+    (as_int (local_at IntKind f.locals (increment_index i)))

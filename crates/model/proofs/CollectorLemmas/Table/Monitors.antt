@@ -22,8 +22,14 @@ use Rattle.model.proofs.CollectorLemmas.Unwinding.{Kept, with_monitor_keeps}
 -- ---- a turn in which monitors change beside one thread
 
 pub kept_same : (P : ℕ → Type 0) (w : World) → Kept P w (next_birth w) w
-kept_same P w = record { fault = refl; rows = refl; threads = refl; fields = refl; made = refl;
-    objects = objects_same P w.objects }
+kept_same P w = record {
+  fault = refl;
+  rows = refl;
+  threads = refl;
+  fields = refl;
+  made = refl;
+  objects = objects_same P w.objects;
+}
 
 pub site_kept : (s : Site) (v : World) (u : Thread) (writes : List ℕ)
     → Kept (λ b. ⊥ ⊎ In b writes) s.world (next_birth s.world) v
@@ -67,7 +73,7 @@ with_moves : (s : Site) → running (frames_in s) ≡ Some s.frame → (v : Worl
     → ((P : ℕ → Type 0) → Kept P s.world (next_birth s.world) v) → CompletionMoves s.world (moved_with s v)
 with_moves s e v k =
     site_kept s v (Live (with_running (frames_in s) (replaced s.next s.frame 1 []).frame)) [] (k _)
-        (frames_set _ (frames_in s) _ s.frame _ e (replaced_moves _ s.next s.frame 1 [] tt)) (λ b h. absurd h)
+    (frames_set _ (frames_in s) _ s.frame _ e (replaced_moves _ s.next s.frame 1 [] tt)) (λ b h. absurd h)
 
 enter_if_moves : (w : World) (entry : Completion) (mine full : Bool) → CompletionMoves w entry
     → CompletionMoves w (enter_if entry mine full)
@@ -80,12 +86,12 @@ operates_moves : (s : Site) → running (frames_in s) ≡ Some s.frame → (oper
 operates_moves s e Enter birth =
     let m = monitor_of s.world birth in
     enter_if_moves s.world _ (may_enter s.thread m.owner) (is_full m)
-        (with_moves s e (with_monitor_of s.world birth (entered s.thread m))
-        (λ P. monitor_keeps P s.world birth (entered s.thread m)))
+    (with_moves s e (with_monitor_of s.world birth (entered s.thread m))
+    (λ P. monitor_keeps P s.world birth (entered s.thread m)))
 operates_moves s e Exit birth =
     let m = monitor_of s.world birth in
     if_moves s.world (is_owner s.thread m.owner) _ _ (with_moves s e (with_monitor_of s.world birth (exited m))
-        (λ P. monitor_keeps P s.world birth (exited m))) tt
+    (λ P. monitor_keeps P s.world birth (exited m))) tt
 
 operates_on_moves : (s : Site) → running (frames_in s) ≡ Some s.frame
     → (operation : MonitorOperation) (r : Result (Option ℕ) Fault) → CompletionMoves s.world (operates_on s operation r)

@@ -74,7 +74,7 @@ instruction_moves program w t f None e = tt
 instruction_moves program w t f (Some i) e =
     let s : Site = record { program = program; world = w; thread = t; frame = f; next = i.next } in
     after_initialising_moves s (class_used program i.instruction) (by_family s i.instruction)
-        (family_moves s e i.instruction)
+    (family_moves s e i.instruction)
 
 mark_moves : (program : List ClassListing) (w : World) (t : ℕ) (f : Frame) (mark : Mark) → running (frames_at w t)
     ≡ Some f → CompletionMoves w (at_mark program w t f mark)

@@ -18,7 +18,7 @@ cast_if_moves : (s : Site) → running (frames_in s) ≡ Some s.frame → (birth
 cast_if_moves s e birth r true =
     site_moves s e (replaced s.next s.frame 1 (Ref (Some birth) ∷ []))
     (replaced_lawful s.world s.next s.frame 1 (Ref (Some birth) ∷ [])
-        ((λ b k. (let h : birth ≡ b = cc in rw (← h) r)), tt))
+    ((λ b k. (let h : birth ≡ b = cc in rw (← h) r)), tt))
 cast_if_moves s e birth r false = tt
 
 cast_moves : (s : Site) → running (frames_in s) ≡ Some s.frame → (name : List ℕ) (r : Result (Option ℕ) Fault)
@@ -29,7 +29,7 @@ cast_moves s e name (Ok None) k =
     (replaced_lawful s.world s.next s.frame 1 (Ref None ∷ []) ((λ b k. absurd (cc)), tt))
 cast_moves s e name (Ok (Some birth)) k =
     cast_if_moves s e birth (ref_on-known _ s.frame.stack birth (stack_known s.world s.thread _ s.frame e) k)
-        (is_instance s name birth)
+    (is_instance s name birth)
 
 reported_moves : (s : Site) → running (frames_in s) ≡ Some s.frame → (is : Bool)
     → CompletionMoves s.world (reported_if s is)

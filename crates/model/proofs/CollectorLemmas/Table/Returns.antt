@@ -43,7 +43,7 @@ initialised_keeps P w v n class false k = k
 left_keeps : (P : ℕ → Type 0) (s : Site) → Kept P s.world (next_birth s.world) (left_world s)
 left_keeps P s =
     initialised_keeps P s.world (released s.world s.thread s.frame.monitor) (next_birth s.world) s.frame.method.class
-        (runs_initializer s.program s.frame)
+    (runs_initializer s.program s.frame)
     (released_keeps P s.world s.world (next_birth s.world) s.thread s.frame.monitor (kept_same P s.world))
 
 resumed_lawful : (s : Site) (caller : Frame) (result : Option Value) (is : Bool) → ResultKnown s.world result
@@ -58,7 +58,7 @@ resumes_moves s caller (Ok m) e h =
     let fs = frames_in s in
     site_kept s (left_world s) (Live (with_running (callers fs) m.frame)) m.writes (left_keeps _ s)
     (frames_trans _ fs (callers fs) (with_running (callers fs) m.frame) (frames_taken _ fs _)
-        (frames_set _ (callers fs) _ caller m.frame e h.0)) h.1
+    (frames_set _ (callers fs) _ caller m.frame e h.0)) h.1
 
 leaves_to_moves : (s : Site) (result : Option Value) (o : Option Frame) → running (callers (frames_in s)) ≡ o
     → ResultKnown s.world result → CompletionMoves s.world (leaves_to s result o)

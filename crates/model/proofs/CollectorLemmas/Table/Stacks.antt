@@ -90,14 +90,14 @@ inserted_lawful : (w : World) (next : ℕ) (f : Frame) (r : Result (List Value �
 inserted_lawful w next f (Err e) h = tt
 inserted_lawful w next f (Ok groups) h =
     if_room_lawful w next f (length groups.0 + length groups.1) (groups.0 ++ groups.1 ++ groups.0)
-        (hold_append (Reach w) (groups.0 ++ groups.1) groups.0 (hold_append (Reach w) groups.0 groups.1 h.0 h.1) h.0)
+    (hold_append (Reach w) (groups.0 ++ groups.1) groups.0 (hold_append (Reach w) groups.0 groups.1 h.0 h.1) h.0)
 
 swapped_lawful : (w : World) (next : ℕ) (f : Frame) (r : Result (List Value × List Value) Fault) → HoldBoth (Reach w) r
     → ResultMoves w f (swapped_on next f r)
 swapped_lawful w next f (Err e) h = tt
 swapped_lawful w next f (Ok groups) h =
     replaced_lawful w next f (length groups.0 + length groups.1) (groups.0 ++ groups.1)
-        (hold_append (Reach w) groups.0 groups.1 h.0 h.1)
+    (hold_append (Reach w) groups.0 groups.1 h.0 h.1)
 
 doubled_by : (w : World) (t next : ℕ) (units : Units) (f : Frame) → running (frames_at w t) ≡ Some f
     → ResultMoves w f (doubled_on next f (group_on units f.stack))
@@ -108,7 +108,7 @@ inserted_by : (w : World) (t next : ℕ) (upper below : Units) (f : Frame) → r
     → ResultMoves w f (inserted_on next f (groups_on upper below f.stack))
 inserted_by w t next upper below f e =
     inserted_lawful w next f (groups_on upper below f.stack) (groups_may (Reach w) upper below f.stack
-        (stack_known w t _ f e))
+    (stack_known w t _ f e))
 
 pub rearranged_lawful : (w : World) (t next : ℕ) (operation : StackOperation) (f : Frame) → running (frames_at w t)
     ≡ Some f → ResultMoves w f (rearranged next operation f)

@@ -66,9 +66,11 @@ begins_moves s e birth o (Coded m) at known =
     let vs = Ref (Some birth) ∷ [] in
     let f = called_frame m.place m.code.max_locals m.code.max_stack vs in
     let may : AllMay P (map ref_of vs) = (λ b k. inr (inl (let r : b ≡ birth = cc in r)), tt) in
-    added_moves s e birth o (Live (f ∷ [])) (birth ∷ []) at
-    (refs_new P [] (frame_refs f) (callee_may P m.place m.code.max_locals m.code.max_stack vs may),
-        (λ b k. absurd (cc)), tt)
+    added_moves s e birth o (Live (f ∷ [])) (birth ∷ []) at (
+      refs_new P [] (frame_refs f) (callee_may P m.place m.code.max_locals m.code.max_stack vs may),
+      (λ b k. absurd (cc)),
+      tt,
+    )
     (λ b h. elim h [ inl r ↦ rw r known | inr n ↦ absurd n ])
 
 start_if_moves : (w : World) (start : Completion) (was full : Bool) → CompletionMoves w start
@@ -83,7 +85,7 @@ starts_moves s e birth None at known = tt
 starts_moves s e birth (Some o) at known =
     start_if_moves s.world _ (is_some o.thread) (nat_le 64 (length s.world.threads))
     (begins_moves s e birth o
-        (callee_of s.program (selected s.program (class_of o.contents) (codes "run") (codes "()V"))) at known)
+    (callee_of s.program (selected s.program (class_of o.contents) (codes "run") (codes "()V"))) at known)
 
 pub started_moves : (s : Site) → running (frames_in s) ≡ Some s.frame → (r : Result (Option ℕ) Fault)
     → ((b : ℕ) → r ≡ Ok (Some b) → Reach s.world b) → CompletionMoves s.world (started s r)

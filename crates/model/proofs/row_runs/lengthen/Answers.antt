@@ -9,10 +9,10 @@ returns-clause-rows c =
     let count = c.len-count.ensures ∙ c.args.runs.now.ok.0 in
     let last : c.len-count.result - 1 + 1 ≡ length items = omega (arith, count, c.if-count-eq0.false) in
     rows_lengthened items (c.len-count.result - 1) c.room_for-more.result c.index-last.result.now c.index-last.ensures
-        c.args.row last c.room_for-more.ensures.same
+    c.args.row last c.room_for-more.ensures.same
     ∙ ap (λ n. rows_in items ++ replicate n c.args.row) (sym c.from.ensures)
 
 pub returns-clause-runs : goal.returns-clause-runs
 returns-clause-runs c =
     runs_lengthened c.args.runs.now.items (c.len-count.result - 1) c.room_for-more.result c.index-last.result.now
-        c.index-last.ensures c.requires
+    c.index-last.ensures c.requires

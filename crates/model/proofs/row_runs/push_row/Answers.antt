@@ -12,10 +12,10 @@ returns-clause-added c =
     ap rows_in (c.in_ok-push.ensures.items ∙ ap (λ (run : RowRun). c.lengthen.new.runs.items ++ run ∷ []) c.new.ensures)
     ∙ rows_in-push c.lengthen.new.runs.items c.args.row 1
     ∙ ap (λ l. l ++ c.args.row ∷ []) (c.lengthen.ensures.rows ∙ ap (λ n. rows_in old ++ replicate n c.args.row) none
-        ∙ append-nil (rows_in old))
+    ∙ append-nil (rows_in old))
 
 pub returns-clause-runs : goal.returns-clause-runs
 returns-clause-runs c =
     subst (λ (runs : List RowRun). AreRuns runs)
-        (sym (c.in_ok-push.ensures.items ∙ ap (λ (run : RowRun). c.lengthen.new.runs.items ++ run ∷ []) c.new.ensures))
+    (sym (c.in_ok-push.ensures.items ∙ ap (λ (run : RowRun). c.lengthen.new.runs.items ++ run ∷ []) c.new.ensures))
     (AreRuns-push c.lengthen.new.runs.items (run_of c.args.row 1) c.lengthen.ensures.runs (omega arith))

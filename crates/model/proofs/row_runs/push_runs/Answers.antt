@@ -13,7 +13,7 @@ loop-left-preserved c =
     let pushed : c.push_reserved.new.self.items ≡ at.runs.items ++ run_of c.args.row more ∷ [] =
     c.push_reserved.ensures.items ∙ ap (λ (run : RowRun). at.runs.items ++ run ∷ []) c.new.ensures in
     let now = rows_pushed at.runs.items c.push_reserved.new.self.items (rows_in c.args.runs.now.items
-          ++ replicate c.args.times c.args.row) c.args.row at.left more
+    ++ replicate c.args.times c.args.row) c.args.row at.left more
     pushed most at.invariant.rows in
     let room = at.invariant.room c.loop-left-test.true in
     record {
@@ -22,6 +22,13 @@ loop-left-preserved c =
       runs = subst (λ (runs : List RowRun). AreRuns runs) (sym pushed)
           (AreRuns-push at.runs.items (run_of c.args.row more) at.invariant.runs (omega (arith, some)));
       capacity = c.push_reserved.ensures.capacity ∙ at.invariant.capacity;
-      room = λ left. omega (arith, room, some, most, c.push_reserved.ensures.capacity, c.push_reserved.ensures.len,
-          c.from-left.ensures);
+      room = λ left. omega (
+        arith,
+        room,
+        some,
+        most,
+        c.push_reserved.ensures.capacity,
+        c.push_reserved.ensures.len,
+        c.from-left.ensures,
+      );
     }

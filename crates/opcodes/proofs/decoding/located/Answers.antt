@@ -12,8 +12,8 @@ pub returns-in_err-instruction-clause-err : goal.returns-in_err-instruction-clau
 returns-in_err-instruction-clause-err c =
     let p = err_from_is_err_and c.from_residual.result c.from_residual.ensures.1 in
     rw (p.1, p.2) (read-fails c.in_err-instruction.field-0.0 c.args.bytes.now c.loop-rest.rest.now
-        c.loop-rest.items.items c.loop-rest.starts.items (some_left _ (search rules)) c.in_err-instruction.ensures
-        c.loop-rest.invariant)
+    c.loop-rest.items.items c.loop-rest.starts.items (some_left _ (search rules)) c.in_err-instruction.ensures
+    c.loop-rest.invariant)
 
 pub overflow_sub-bytes : goal.overflow_sub-bytes
 overflow_sub-bytes c =
@@ -29,8 +29,8 @@ pub loop-rest-preserved : goal.loop-rest-preserved
 loop-rest-preserved c =
     let items = c.in_ok-push.ensures.items in
     rw items (goes_on c.args.bytes.now c.loop-rest.rest.now c.in_ok-instruction.after.now c.loop-rest.items.items
-        c.loop-rest.starts.items c.mark.new.starts.items c.in_ok-instruction.instruction (some_left _ (search rules))
-        c.in_ok-instruction.ensures c.in_ok-mark.ensures.marked (search rules) c.loop-rest.invariant)
+    c.loop-rest.starts.items c.mark.new.starts.items c.in_ok-instruction.instruction (some_left _ (search rules))
+    c.in_ok-instruction.ensures c.in_ok-mark.ensures.marked (search rules) c.loop-rest.invariant)
 
 pub returns-clause-found : goal.returns-clause-found
 returns-clause-found c = is_all c.args.bytes.now c.loop-rest.rest.now c.loop-rest.items.items c.loop-rest.starts.items

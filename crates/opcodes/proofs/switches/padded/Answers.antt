@@ -7,7 +7,7 @@ pub returns-in_err-byte : goal.returns-in_err-byte
 returns-in_err-byte c =
     let p = err_from_is_err_and c.from_residual.result c.from_residual.ensures.1 in
     rw (p.1, p.2) (pad_ends c.in_err-byte.field-0.0 c.args.count c.loop.counter c.loop.rest.now
-        (pad_at c.args.count c.args.bytes.now) c.loop-test.true c.in_err-byte.ensures c.loop.invariant)
+    (pad_at c.args.count c.args.bytes.now) c.loop-test.true c.in_err-byte.ensures c.loop.invariant)
 
 pub returns-then-byte-ne0 : goal.returns-then-byte-ne0
 returns-then-byte-ne0 c = pad_stops c.args.count c.loop.counter c.loop.rest.now c.in_ok-byte.after.now c.in_ok-byte.byte

@@ -7,5 +7,5 @@ use Rattle.pool.proofs.pools.put_entries.Given as goal
 abbrev pub invariant-loop-slot : goal.invariant-loop-slot
 invariant-loop-slot l =
     AllByRecursion EntryFits (entries_in (drop l.slot-index l.slots))
-        × (l.out.items ++ flat_map entry_bytes (entries_in (drop l.slot-index l.slots)) ≡ l.initial.out.items
-        ++ flat_map entry_bytes (entries_in l.slots))
+    × (l.out.items ++ flat_map entry_bytes (entries_in (drop l.slot-index l.slots)) ≡ l.initial.out.items
+    ++ flat_map entry_bytes (entries_in l.slots))

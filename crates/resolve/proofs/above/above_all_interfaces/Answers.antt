@@ -16,9 +16,9 @@ loop-class-preserved c =
     subst (λ (passed : List ClassListing). AreAbove c.args.index.now passed c.push.new.self.items)
     (sym (take-next cs n c.class-item.result c.class-item.is (omega arith)))
     (subst (λ (sets : List (List (List ℕ))). AreAbove c.args.index.now (take n cs ++ c.class-item.result ∷ []) sets)
-        (sym c.in_ok-push.ensures.items)
+    (sym c.in_ok-push.ensures.items)
     (above-more c.args.index.now (take n cs) c.loop-class.above.items c.class-item.result
-        c.in_ok-above_interfaces.field-0
+    c.in_ok-above_interfaces.field-0
     c.loop-class.invariant c.in_ok-above_interfaces.ensures))
 
 pub returns : goal.returns

@@ -7,10 +7,10 @@ pub returns-in-Some-get : goal.returns-in-Some-get
 returns-in-Some-get c =
     c.has.ensures
     ∙ set-there c.args.index.now c.args.interfaces.now c.args.name.now c.args.above.now c.requires c.in-Some.number
-        c.in-Some-get.names.now
+    c.in-Some-get.names.now
     c.in-Some.ensures.place
     (sym (slice-there c.args.interfaces.now c.in-Some.number c.in-Some-get.names.now c.in-Some-get.ensures.lookup.1
-        c.in-Some-get.ensures.lookup.3.0))
+    c.in-Some-get.ensures.lookup.3.0))
 
 pub returns-in-None-get : goal.returns-in-None-get
 returns-in-None-get c =

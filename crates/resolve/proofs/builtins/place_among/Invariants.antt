@@ -7,4 +7,4 @@ use Rattle.resolve.proofs.builtins.place_among.Given as goal
 abbrev pub invariant-loop-place : goal.invariant-loop-place
 invariant-loop-place l =
     IsLeft (λ b. bytes_eq l.name b.name.now) l.classes l.place
-        (position (bytes_eq l.name) (map (λ b. b.name.now) l.classes))
+    (position (bytes_eq l.name) (map (λ b. b.name.now) l.classes))

@@ -20,5 +20,5 @@ returns c = λ _.
     let done : length c.program-class-items.result.now ≤ c.loop-number.number = omega arith in
     subst (AreFirst c.args.index.now)
     (take-all c.args.index.now c.loop-number.number
-        (subst (λ (cs : List ClassListing). length cs ≤ c.loop-number.number) e done))
+    (subst (λ (cs : List ClassListing). length cs ≤ c.loop-number.number) e done))
     c.loop-number.invariant

@@ -6,7 +6,7 @@ use Rattle.resolve.proofs.cycles.has_cycle.Goals as goal
 pub returns-then-not-has_all : goal.returns-then-not-has_all
 returns-then-not-has_all c =
     missed-cycle c.args.index.now (lists_in c.args.interfaces.now.lists.entries) c.requires.full (sym c.has_all.ensures
-        ∙ c.if-not-has_all.true)
+    ∙ c.if-not-has_all.true)
 
 pub returns-then-are_first : goal.returns-then-are_first
 returns-then-are_first c =

@@ -22,25 +22,25 @@ loop-method-preserved c =
       | then-is_virtual+in_ok-add w ↦
           let after : Signed Method = w.add.new.self.members.entries in
           subst (λ found. VirtualsAre (take (c.loop-method.method-index + 1) c.args.methods.now) found.members.entries)
-              (sym w.found-is)
+          (sym w.found-is)
           (found-more fits before after c.args.methods.now c.loop-method.method-index m c.loop-method.invariant
-              c.method-item.is (omega arith)
+          c.method-item.is (omega arith)
           (λ n d.
           added-named before after w.as_bytes.result.now w.as_bytes-then-is_virtual.result.now m.name m.descriptor m
           w.as_bytes.ensures w.as_bytes-then-is_virtual.ensures w.in_ok-add.ensures n d
           ∙ ap (λ b. or_else (found_under before n d) (cond b (Some m) None))
           (and-passes (bytes_eq m.name n && bytes_eq m.descriptor d) (is_virtual m) (sym c.is_virtual.ensures
-              ∙ w.if-is_virtual.true))))
+          ∙ w.if-is_virtual.true))))
       | else-is_virtual w ↦
           subst (λ found. VirtualsAre (take (c.loop-method.method-index + 1) c.args.methods.now) found.members.entries)
-              (sym w.found-is)
+          (sym w.found-is)
           (found-same fits before c.args.methods.now c.loop-method.method-index m c.loop-method.invariant
-              c.method-item.is (omega arith)
+          c.method-item.is (omega arith)
           (λ n d. and-fails (bytes_eq m.name n && bytes_eq m.descriptor d) (is_virtual m) (sym c.is_virtual.ensures
-              ∙ w.if-is_virtual.false)))
+          ∙ w.if-is_virtual.false)))
     ]
 
 pub returns : goal.returns
 returns c =
     found-all fits c.loop-method.found.members.entries c.args.methods.now c.loop-method.method-index
-        c.loop-method.invariant (omega arith)
+    c.loop-method.invariant (omega arith)

@@ -14,7 +14,7 @@ returns c =
     ∙ c.in_ok-close.ensures above
     ∙ ap (λ (names : List (List ℕ)). is_one_below c.args.index.now names above) c.in_ok-add_parents.ensures
     ∙ ap (λ (names : List (List ℕ)). is_one_below c.args.index.now (with_names names (parents_of c.args.class.now))
-        above) c.new-reached.ensures
+    above) c.new-reached.ensures
     ∙ parents_below c.args.index.now (parents_of c.args.class.now) above
     ∙ ap (λ (name : List ℕ). is_one_below c.args.index.now (parents_of c.args.class.now) name)
     (c.as_bytes.ensures ∙ ap (λ (x : ClassListing). x.name) c.class.view_is)

@@ -13,10 +13,10 @@ pub returns-clause-found : goal.returns-clause-found
 returns-clause-found c =
     let same : c.in_ok-copy.copy ≡ c.args.name.now = c.in_ok-copy.ensures ∙ c.as_bytes.ensures.value in
     item_found c.args.self.now c.args.self.now c.entry.new.self [] _ (text_item c.args.name.now) c.entry.result
-        (λ later. refl) (text_entry c.args.self.now c.in_ok-copy.copy c.args.name.now same).1 c.entry.ensures.found
+    (λ later. refl) (text_entry c.args.self.now c.in_ok-copy.copy c.args.name.now same).1 c.entry.ensures.found
 
 pub returns-clause-only : goal.returns-clause-only
 returns-clause-only c =
     let same : c.in_ok-copy.copy ≡ c.args.name.now = c.in_ok-copy.ensures ∙ c.as_bytes.ensures.value in
     item_only c.args.self.now c.args.self.now [] _ (text_item c.args.name.now) c.entry.result (λ later. refl)
-        (text_entry c.args.self.now c.in_ok-copy.copy c.args.name.now same).1 c.entry.ensures.only
+    (text_entry c.args.self.now c.in_ok-copy.copy c.args.name.now same).1 c.entry.ensures.only

@@ -16,14 +16,14 @@ returns-in_err-text-clause-only c = first_refused c.from_residual.result c.in_er
 pub returns-clause-found : goal.returns-clause-found
 returns-clause-found c =
     let says = class_entry c.args.self.now c.text.new.self c.args.name.now c.in_ok-text.text c.text.ensures.pool
-          c.in_ok-text.ensures.found in
+    c.in_ok-text.ensures.found in
     item_found c.args.self.now c.text.new.self c.entry.new.self (text_item c.args.name.now ∷ []) _
-        (class_item c.args.name.now) c.entry.result (λ later. (c.in_ok-text.ensures.found later).0) says.1
-        c.entry.ensures.found
+    (class_item c.args.name.now) c.entry.result (λ later. (c.in_ok-text.ensures.found later).0) says.1
+    c.entry.ensures.found
 
 pub returns-clause-only : goal.returns-clause-only
 returns-clause-only c =
     let says = class_entry c.args.self.now c.text.new.self c.args.name.now c.in_ok-text.text c.text.ensures.pool
-          c.in_ok-text.ensures.found in
+    c.in_ok-text.ensures.found in
     item_only c.args.self.now c.text.new.self (text_item c.args.name.now ∷ []) _ (class_item c.args.name.now)
-        c.entry.result (λ later. (c.in_ok-text.ensures.found later).0) says.1 c.entry.ensures.only
+    c.entry.result (λ later. (c.in_ok-text.ensures.found later).0) says.1 c.entry.ensures.only

@@ -16,14 +16,14 @@ returns-in_err-add-clause-only c =
     let item = said c.args.self.now c.args.entry in
     rw reported.1 (λ later room.
     reported.2 (reported_memory c.self.inside.pool c.args.self.now c.args.entry c.add.result c.in_err-add.field-0.0
-        c.self.view_is c.self.invariant c.requires c.in_err-add.was c.add.ensures.full
-        (λ past. no_room c.args.self.now (item ∷ []) past later room)))
+    c.self.view_is c.self.invariant c.requires c.in_err-add.was c.add.ensures.full
+    (λ past. no_room c.args.self.now (item ∷ []) past later room)))
 
 pub returns-clause-found : goal.returns-clause-found
 returns-clause-found c =
     let all = reported_added c.self.inside.pool c.add.new.self c.args.self.now c.args.entry c.in_ok-add.field-0
-          c.add.result c.self.view_is c.self.invariant c.requires c.in_ok-add.was c.in_ok-add.ensures.added
-          c.add.ensures.full in
+    c.add.result c.self.view_is c.self.invariant c.requires c.in_ok-add.was c.in_ok-add.ensures.added
+    c.add.ensures.full in
     let item = said c.args.self.now c.args.entry in
     number_stays c.args.self.now _ (item ∷ []) item c.in_ok-add.field-0 (last_among [] item) all.0 all.1
 

@@ -16,11 +16,11 @@ pub returns-clause-found : goal.returns-clause-found
 returns-clause-found c =
     let same : to_z w32 (of_z w32 c.args.value) ≡ c.args.value = to_z-of_z w32 c.args.value c.ranges.value in
     item_found c.args.self.now c.args.self.now c.entry.new.self [] _ (int_item c.args.value) c.entry.result
-        (λ later. refl) (int_entry c.args.self.now (to_z w32 (of_z w32 c.args.value)) c.args.value same).1
-        c.entry.ensures.found
+    (λ later. refl) (int_entry c.args.self.now (to_z w32 (of_z w32 c.args.value)) c.args.value same).1
+    c.entry.ensures.found
 
 pub returns-clause-only : goal.returns-clause-only
 returns-clause-only c =
     let same : to_z w32 (of_z w32 c.args.value) ≡ c.args.value = to_z-of_z w32 c.args.value c.ranges.value in
     item_only c.args.self.now c.args.self.now [] _ (int_item c.args.value) c.entry.result (λ later. refl)
-        (int_entry c.args.self.now (to_z w32 (of_z w32 c.args.value)) c.args.value same).1 c.entry.ensures.only
+    (int_entry c.args.self.now (to_z w32 (of_z w32 c.args.value)) c.args.value same).1 c.entry.ensures.only

@@ -14,10 +14,10 @@ returns-in_err-int-clause-only c =
     let values = c.args.values.now in
     let i = c.loop-value.value-index in
     given_on c.from_residual.result c.in_err-int.field-0.0 (λ e. (later : List Item)
-        → HasRoom (with_items c.args.self.now (map int_item values ++ later)) → e ≡ error.Memory)
-        c.from_residual.ensures.1
+    → HasRoom (with_items c.args.self.now (map int_item values ++ later)) → e ≡ error.Memory)
+    c.from_residual.ensures.1
     (λ later room.
     (rw (to_z-of_z w32 (get_or values i (pos 0)) (search rules)) at c.in_err-int.ensures.only) (map
-        int_item (drop (i + 1) values) ++ later)
+    int_item (drop (i + 1) values) ++ later)
     (subst HasRoom (c.loop-value.invariant later ∙ ap (λ zs. with_items c.loop-value.self (map int_item zs ++ later))
-        (drop_more values i (pos 0) c.loop-value-test.true)) room))
+    (drop_more values i (pos 0) c.loop-value-test.true)) room))

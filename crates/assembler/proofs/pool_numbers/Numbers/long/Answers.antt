@@ -16,11 +16,11 @@ pub returns-clause-found : goal.returns-clause-found
 returns-clause-found c =
     let same : to_z w64 (of_z w64 c.args.value) ≡ c.args.value = to_z-of_z w64 c.args.value c.ranges.value in
     item_found c.args.self.now c.args.self.now c.entry.new.self [] _ (long_item c.args.value) c.entry.result
-        (λ later. refl) (long_entry c.args.self.now (to_z w64 (of_z w64 c.args.value)) c.args.value same).1
-        c.entry.ensures.found
+    (λ later. refl) (long_entry c.args.self.now (to_z w64 (of_z w64 c.args.value)) c.args.value same).1
+    c.entry.ensures.found
 
 pub returns-clause-only : goal.returns-clause-only
 returns-clause-only c =
     let same : to_z w64 (of_z w64 c.args.value) ≡ c.args.value = to_z-of_z w64 c.args.value c.ranges.value in
     item_only c.args.self.now c.args.self.now [] _ (long_item c.args.value) c.entry.result (λ later. refl)
-        (long_entry c.args.self.now (to_z w64 (of_z w64 c.args.value)) c.args.value same).1 c.entry.ensures.only
+    (long_entry c.args.self.now (to_z w64 (of_z w64 c.args.value)) c.args.value same).1 c.entry.ensures.only

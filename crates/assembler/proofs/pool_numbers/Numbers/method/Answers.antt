@@ -18,14 +18,14 @@ pub returns-clause-found : goal.returns-clause-found
 returns-clause-found c =
     let m = c.args.member.now in
     let says = method_entry c.args.self.now c.reference.new.self m c.in_ok-class.class c.in_ok-class.names
-          c.reference.ensures.pool c.in_ok-class.ensures.found in
+    c.reference.ensures.pool c.in_ok-class.ensures.found in
     item_found c.args.self.now c.reference.new.self c.entry.new.self (reference_items m) _ (method_item m)
-        c.entry.result (λ later. (c.in_ok-class.ensures.found later).0) says.1 c.entry.ensures.found
+    c.entry.result (λ later. (c.in_ok-class.ensures.found later).0) says.1 c.entry.ensures.found
 
 pub returns-clause-only : goal.returns-clause-only
 returns-clause-only c =
     let m = c.args.member.now in
     let says = method_entry c.args.self.now c.reference.new.self m c.in_ok-class.class c.in_ok-class.names
-          c.reference.ensures.pool c.in_ok-class.ensures.found in
+    c.reference.ensures.pool c.in_ok-class.ensures.found in
     item_only c.args.self.now c.reference.new.self (reference_items m) _ (method_item m) c.entry.result
-        (λ later. (c.in_ok-class.ensures.found later).0) says.1 c.entry.ensures.only
+    (λ later. (c.in_ok-class.ensures.found later).0) says.1 c.entry.ensures.only

@@ -12,7 +12,7 @@ join_seat-requires c =
     let before = c.loop-seat.invariant in
     let last = c.in-Some-pop.field-0 in
     let mine = last_is_mine c.args.self.now c.args.seats.items c.loop-seat.seats.items c.pop-in-loop-seat.new.self.items
-          last _ c.requires before.first c.in-Some-pop.ensures.items before.gathered in
+    last _ c.requires before.first c.in-Some-pop.ensures.items before.gathered in
     (before.table, mine.0, last.no_slot, omega arith, gather_allowed _ _ _ _ _)
 
 pub loop-seat-preserved : goal.loop-seat-preserved
@@ -27,5 +27,5 @@ loop-seat-preserved c =
           c.in-Some-pop.ensures.items before.gathered;
       gathered = subst (IsGathered (length rest) c.args.seats.items) (sym (ap (λ (m : Me _ View). m.0) joined.2))
           (one_gathered c.args.self.now c.args.seats.items c.loop-seat.seats.items rest last c.loop-seat.all.me.0
-              c.requires before.first c.in-Some-pop.ensures.items before.gathered);
+          c.requires before.first c.in-Some-pop.ensures.items before.gathered);
     }

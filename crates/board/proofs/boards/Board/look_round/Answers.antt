@@ -13,9 +13,11 @@ pub load-requires-in-loop-worker : goal.load-requires-in-loop-worker
 load-requires-in-loop-worker c =
     let words = c.args.self.now.words_are in
     let inside = c.loop-worker-test.true in
-    let seat = c.loop-worker.seat in
-    (c.loop-worker.invariant.table ∙ c.requires, omega arith,
-        look_allowed _ _ seat.id seat.me.0 seat.me.1 c.loop-worker.worker)
+    let seat = c.loop-worker.seat in (
+      c.loop-worker.invariant.table ∙ c.requires,
+      omega arith,
+      look_allowed _ _ seat.id seat.me.0 seat.me.1 c.loop-worker.worker,
+    )
 
 pub loop-worker-preserved : goal.loop-worker-preserved
 loop-worker-preserved c =

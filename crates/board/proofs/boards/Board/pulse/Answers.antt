@@ -7,9 +7,12 @@ pub fetch_add-requires : goal.fetch_add-requires
 fetch_add-requires c =
     let seat = c.args.seat.now in
     let inside = c.requires.mine.1 in
-    let words = c.args.self.now.words_are in
-    (c.requires.mine.0, omega arith, pulse_allowed _ _ seat.seat.id seat.seat.me.0 seat.seat.me.1 seat.worker seat.count
-        (rw c.args.self.now.key_is inside) seat.own (let room = c.requires.room in omega arith))
+    let words = c.args.self.now.words_are in (
+      c.requires.mine.0,
+      omega arith,
+      pulse_allowed _ _ seat.seat.id seat.seat.me.0 seat.seat.me.1 seat.worker seat.count
+          (rw c.args.self.now.key_is inside) seat.own (let room = c.requires.room in omega arith),
+    )
 
 pub invariant_of-seat : goal.invariant_of-seat
 invariant_of-seat c =

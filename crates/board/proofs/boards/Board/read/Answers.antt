@@ -6,15 +6,18 @@ use Rattle.board.proofs.boards.Board.read.Goals as goal
 pub load-requires : goal.load-requires
 load-requires c =
     let inside = c.requires.worker in
-    let words = c.args.self.now.words_are in
-    (c.requires.mine.0, omega arith, look_allowed _ _ c.args.seat.now.seat.id c.args.seat.now.seat.me.0
-        c.args.seat.now.seat.me.1 c.args.worker)
+    let words = c.args.self.now.words_are in (
+      c.requires.mine.0,
+      omega arith,
+      look_allowed _ _ c.args.seat.now.seat.id c.args.seat.now.seat.me.0
+          c.args.seat.now.seat.me.1 c.args.worker,
+    )
 
 pub invariant_of-seat : goal.invariant_of-seat
 invariant_of-seat c =
     let look = looked 0 c.args.worker _ _ _ c.load.ensures.2 in
     let h = still_holds _ _ _ _ _ _ (holds c.args.seat.now) look
-          (look_keeps_slots 0 c.args.worker _ _ _ c.load.ensures.2) in
+    (look_keeps_slots 0 c.args.worker _ _ _ c.load.ensures.2) in
     record { no_slot = h.no_slot; worker_is = h.worker_is; own = h.own; no_other = h.no_other }
 
 pub returns-clause-kept : goal.returns-clause-kept

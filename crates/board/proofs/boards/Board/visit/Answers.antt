@@ -9,8 +9,11 @@ use Rattle.board.proofs.Visits.{seen_a, seen_b}
 use Rattle.board.proofs.boards.Board.visit.Goals as goal
 
 pub split_seat-handed-requires : goal.split_seat-handed-requires
-split_seat-handed-requires c = let words = c.args.self.now.words_are in (c.requires.guest.0, omega arith,
-                                     hand_over_allowed _ _ _)
+split_seat-handed-requires c = let words = c.args.self.now.words_are in (
+  c.requires.guest.0,
+  omega arith,
+  hand_over_allowed _ _ _,
+)
 
 pub join_seat-requires : goal.join_seat-requires
 join_seat-requires c =
@@ -36,11 +39,11 @@ invariant_of-host c =
     let g = holds c.args.guest.now in
     let after = c.split_seat.ensures in
     let round = round_of_both _ c.args.host.now.seat.me c.args.guest.now.seat.me _ _ _ c.split_seat-handed.ensures.4
-          c.join_seat.ensures.2 c.look_round.ensures.view in
+    c.join_seat.ensures.2 c.look_round.ensures.view in
     let new = host_holds _ _ _ _ _ _ _ h g c.requires.host.1 c.requires.guest.1 _ round c.split_seat.new.seat.me
-          (ap (λ (m : Me ℕ View). m.0) after.2)
+    (ap (λ (m : Me ℕ View). m.0) after.2)
     (ap (λ (m : Me ℕ View). m.1) after.2
-        ∙ (c.look_round.ensures.table.1 ∙ (ap (λ (m : Me ℕ View). m.1) c.join_seat.ensures.2 ∙ h.no_slot))) in
+    ∙ (c.look_round.ensures.table.1 ∙ (ap (λ (m : Me ℕ View). m.1) c.join_seat.ensures.2 ∙ h.no_slot))) in
     record { no_slot = new.no_slot; worker_is = new.worker_is; own = new.own; no_other = new.no_other }
 
 pub invariant_of-guest : goal.invariant_of-guest
@@ -49,9 +52,9 @@ invariant_of-guest c =
     let g = holds c.args.guest.now in
     let after = c.split_seat.ensures in
     let round = round_of_both _ c.args.host.now.seat.me c.args.guest.now.seat.me _ _ _ c.split_seat-handed.ensures.4
-          c.join_seat.ensures.2 c.look_round.ensures.view in
+    c.join_seat.ensures.2 c.look_round.ensures.view in
     let new = guest_holds _ _ _ _ _ _ _ h g c.requires.host.1 c.requires.guest.1 _ round c.split_seat.result.me
-          (ap (λ (m : Me ℕ View). m.0) after.4) (ap (λ (m : Me ℕ View). m.1) after.4) in
+    (ap (λ (m : Me ℕ View). m.0) after.4) (ap (λ (m : Me ℕ View). m.1) after.4) in
     record { no_slot = new.no_slot; worker_is = new.worker_is; own = new.own; no_other = new.no_other }
 
 pub returns-clause-host : goal.returns-clause-host
@@ -60,9 +63,9 @@ returns-clause-host c =
     let g = holds c.args.guest.now in
     let after = c.split_seat.ensures in
     let round = round_of_both _ c.args.host.now.seat.me c.args.guest.now.seat.me _ _ _ c.split_seat-handed.ensures.4
-          c.join_seat.ensures.2 c.look_round.ensures.view in
+    c.join_seat.ensures.2 c.look_round.ensures.view in
     let sees = host_sees _ _ _ _ _ _ _ h g c.requires.host.1 c.requires.guest.1 _ round c.split_seat.new.seat.me
-          (ap (λ (m : Me ℕ View). m.0) after.2) in
+    (ap (λ (m : Me ℕ View). m.0) after.2) in
     record {
       same = (after.0 ∙ (c.look_round.ensures.table.0 ∙ c.join_seat.ensures.0), refl);
       count = refl;
@@ -77,12 +80,15 @@ returns-clause-guest c =
     let g = holds c.args.guest.now in
     let after = c.split_seat.ensures in
     let round = round_of_both _ c.args.host.now.seat.me c.args.guest.now.seat.me _ _ _ c.split_seat-handed.ensures.4
-          c.join_seat.ensures.2 c.look_round.ensures.view in
+    c.join_seat.ensures.2 c.look_round.ensures.view in
     let sees = guest_sees _ _ _ _ _ _ _ h g c.requires.host.1 c.requires.guest.1 _ round c.split_seat.result.me
-          (ap (λ (m : Me ℕ View). m.0) after.4) in
+    (ap (λ (m : Me ℕ View). m.0) after.4) in
     record {
-      same = (after.3 ∙ (c.look_round.ensures.table.0
-          ∙ (c.join_seat.ensures.0 ∙ (c.requires.host.0 ∙ sym c.requires.guest.0))), refl);
+      same = (
+        after.3 ∙ (c.look_round.ensures.table.0
+            ∙ (c.join_seat.ensures.0 ∙ (c.requires.host.0 ∙ sym c.requires.guest.0))),
+        refl,
+      );
       count = refl;
       mine = as_guest _ _ _ _ _ _ _ h g c.requires.host.1 c.requires.guest.1 _ round c.split_seat.result.me.0 sees;
       yours = as_host _ _ _ _ _ _ _ h g c.requires.host.1 c.requires.guest.1 _ round c.split_seat.result.me.0 sees;

@@ -12,7 +12,7 @@ invariant_of-self g c =
     let room_is = ap (λ (h : Header _). h.room) vacant in
     let unused = ap (λ (h : Header _). h.length) vacant in
     laid_out-set _ _ _ _ _ _ _ c.vacant.result c.self.invariant found base_is room_is (omega (arith, unused))
-        (λ _. unused)
+    (λ _. unused)
 
 pub returns-in-Some : goal.returns-in-Some
 returns-in-Some g c = rw (← c.self.view_is)

@@ -10,7 +10,7 @@ pub loop-cell-preserved : goal.loop-cell-preserved
 loop-cell-preserved g c =
     let vacant = c.vacant.ensures in
     let wide : c.from-end.result ≡ words_of_cell c.args.shape c.loop-cell.cell = c.from-end.ensures
-          ∙ c.room_of-room.ensures in
+    ∙ c.room_of-room.ensures in
     let headers = c.in_ok-push.ensures.items in
     let most = words_of_cell_up_to c.args.shape c.loop-cell.cell in
     let base_is = ap (λ (h : Header _). h.base) vacant in

@@ -12,7 +12,7 @@ fill-requires g c =
     let found = looked_up _ _ _ _ _ c.deref.ensures.value c.header_at.ensures c.in-Some.is in
     let at = stands_at _ _ _ _ _ _ c.args.cell _ c.self.invariant found (omega arith) in
     let fits : c.args.count ≤ c.in-Some.header.room = enough _ _ _ _ _ _ _ c.self.view_is at.0.room_is c.requires.room
-          in
+    in
     let within = at.1 in
     omega (arith, fits, within)
 
@@ -27,10 +27,10 @@ invariant_of-self g c =
     let found = looked_up _ _ _ _ _ c.deref.ensures.value c.header_at.ensures c.in-Some.is in
     let at = stands_at _ _ _ _ _ _ c.args.cell _ c.self.invariant found (omega arith) in
     let fits : c.args.count ≤ c.in-Some.header.room = enough _ _ _ _ _ _ _ c.self.view_is at.0.room_is c.requires.room
-          in
+    in
     let long : length c.fill.new.self ≡ length c.self.inside.words = rw c.fill.ensures
-          (overwrite_same c.self.inside.words c.in-Some.header.base _ (replicate c.args.count c.args.zero)
-          (length-replicate _ _) (omega (arith, fits, at.1))).long in
+    (overwrite_same c.self.inside.words c.in-Some.header.base _ (replicate c.args.count c.args.zero)
+    (length-replicate _ _) (omega (arith, fits, at.1))).long in
     laid_out-occupied _ _ _ _ _ _ _ _ _ c.self.invariant long found fits c.occupied.ensures
 
 pub returns-in-Some : goal.returns-in-Some
@@ -38,9 +38,9 @@ returns-in-Some g c =
     let found = looked_up _ _ _ _ _ c.deref.ensures.value c.header_at.ensures c.in-Some.is in
     let at = stands_at _ _ _ _ _ _ c.args.cell _ c.self.invariant found (omega arith) in
     let fits : c.args.count ≤ c.in-Some.header.room = enough _ _ _ _ _ _ _ c.self.view_is at.0.room_is c.requires.room
-          in
+    in
     rw (← c.self.view_is) (placed _ _ _ _ _ _ _ _ c.in-Some.header _ c.args.kind c.self.invariant found
-        (length-replicate _ _) fits c.fill.ensures c.occupied.ensures)
+    (length-replicate _ _) fits c.fill.ensures c.occupied.ensures)
 
 pub returns-in_default : goal.returns-in_default
 returns-in_default g c =

@@ -10,7 +10,7 @@ write-requires g c =
     let found = looked_up _ _ _ _ _ c.deref.ensures.value c.header_at.ensures c.in-Some.is in
     let at = stands_at _ _ _ _ _ _ c.args.cell _ c.self.invariant found (omega arith) in
     let fits : length c.args.words.now ≤ c.in-Some.header.room = enough _ _ _ _ _ _ _ c.self.view_is at.0.room_is
-          c.requires.room in
+    c.requires.room in
     let within = at.1 in
     omega (arith, fits, within)
 
@@ -25,10 +25,10 @@ invariant_of-self g c =
     let found = looked_up _ _ _ _ _ c.deref.ensures.value c.header_at.ensures c.in-Some.is in
     let at = stands_at _ _ _ _ _ _ c.args.cell _ c.self.invariant found (omega arith) in
     let fits : length c.args.words.now ≤ c.in-Some.header.room = enough _ _ _ _ _ _ _ c.self.view_is at.0.room_is
-          c.requires.room in
+    c.requires.room in
     let long : length c.write.new.self ≡ length c.self.inside.words = rw c.write.ensures
-          (overwrite_same c.self.inside.words c.in-Some.header.base _ c.args.words.now refl
-          (omega (arith, fits, at.1))).long in
+    (overwrite_same c.self.inside.words c.in-Some.header.base _ c.args.words.now refl
+    (omega (arith, fits, at.1))).long in
     laid_out-occupied _ _ _ _ _ _ _ _ _ c.self.invariant long found fits c.occupied.ensures
 
 pub returns-in-Some : goal.returns-in-Some
@@ -36,9 +36,9 @@ returns-in-Some g c =
     let found = looked_up _ _ _ _ _ c.deref.ensures.value c.header_at.ensures c.in-Some.is in
     let at = stands_at _ _ _ _ _ _ c.args.cell _ c.self.invariant found (omega arith) in
     let fits : length c.args.words.now ≤ c.in-Some.header.room = enough _ _ _ _ _ _ _ c.self.view_is at.0.room_is
-          c.requires.room in
+    c.requires.room in
     rw (← c.self.view_is) (placed _ _ _ _ _ _ _ _ c.in-Some.header _ c.args.kind c.self.invariant found refl fits
-        c.write.ensures c.occupied.ensures)
+    c.write.ensures c.occupied.ensures)
 
 pub returns-in_default : goal.returns-in_default
 returns-in_default g c =

@@ -8,7 +8,7 @@ pub returns-in_default-clause-after : goal.returns-in_default-clause-after
 returns-in_default-clause-after g c =
     let missing = looked_up _ _ _ _ _ c.deref.ensures.value c.header_at.ensures c.in_default.is in
     let none = ap (λ o. length (words_if o)) (object_missing c.self.inside.words c.self.inside.headers.items c.args.cell
-          missing) in
+    missing) in
     rw (← c.self.view_is) (unwritten _ c.args.cell c.args.index c.args.value (omega (arith, none)))
 
 pub returns-then-index-from-clause-there : goal.returns-then-index-from-clause-there

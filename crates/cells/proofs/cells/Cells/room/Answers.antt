@@ -10,6 +10,6 @@ pub returns : goal.returns
 returns g c =
     let within = rw (← c.self.view_is, length-map) at c.requires in
     let found = slice_get_read c.self.inside.headers.items _ c.args.cell c.index.result.now refl within c.index.ensures
-          in
+    in
     let at = stands_at _ _ _ _ _ _ c.args.cell _ c.self.invariant found (omega arith) in
     at.0.room_is ∙ ap (λ (cells : CellsValue _). words_of_cell cells.shape c.args.cell) c.self.view_is

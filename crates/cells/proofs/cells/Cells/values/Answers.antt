@@ -15,9 +15,11 @@ values-requires-in-Some g c =
 pub returns-in-None : goal.returns-in-None
 returns-in-None g c =
     let missing = looked_up _ _ _ _ _ c.deref.ensures.value c.header_at.ensures c.in-None.is in
-    rw (← c.self.view_is,
-        ap words_if (object_missing c.self.inside.words c.self.inside.headers.items c.args.cell missing))
-        c.values.ensures
+    rw (
+      ← c.self.view_is,
+      ap words_if (object_missing c.self.inside.words c.self.inside.headers.items c.args.cell missing),
+    )
+    c.values.ensures
 
 pub returns-in-Some : goal.returns-in-Some
 returns-in-Some g c =

@@ -6,4 +6,4 @@ pub returns : goal.returns
 returns g c =
     let found = looked_up _ _ _ _ _ c.deref.ensures.value c.in_ok-header.ensures refl in
     c.get.ensures ∙ rw (← c.self.view_is)
-        (sym (word_found _ _ _ _ _ _ c.self.invariant found (omega (arith, c.from.ensures))))
+    (sym (word_found _ _ _ _ _ _ c.self.invariant found (omega (arith, c.from.ensures))))

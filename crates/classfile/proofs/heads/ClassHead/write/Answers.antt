@@ -8,5 +8,5 @@ pub returns : goal.returns
 returns c =
     let parts = c.self.inside.parts in
     let spells : SpellsHead (head_bytes parts) c.args.self.now = subst (λ (h : HeadPart). SpellsHead (head_bytes parts)
-          h) c.self.view_is (head_written c.self.invariant.0 parts c.self.invariant.1) in
+    h) c.self.view_is (head_written c.self.invariant.0 parts c.self.invariant.1) in
     on_ok_weaker c.put_parts.result (λ e. (head_bytes parts, spells, e)) c.put_parts.ensures

@@ -9,5 +9,5 @@ pub returns-clause-code : goal.returns-clause-code
 returns-clause-code c =
     let inside = c.self.inside in
     let spelled : IsCode (code_bytes inside.code) inside.code = subst (λ (bytes : List ℕ). IsCode bytes inside.code)
-          (code_bytes_are inside.bytes.items inside.code c.self.invariant) c.self.invariant in
+    (code_bytes_are inside.bytes.items inside.code c.self.invariant) c.self.invariant in
     subst (λ (items : List Located). IsCode (code_bytes items) items) c.self.view_is spelled

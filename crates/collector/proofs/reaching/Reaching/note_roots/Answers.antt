@@ -15,6 +15,6 @@ returns g c =
     let second = c.in_ok-note-2.ensures ∙ ap (λ (m : Marking). noted m (Some 2)) c.in_ok-note.ensures in
     subst (λ (m : Marking). OnOk c.note_threads.result (c.note_threads.new.self ≡ m))
     (ap (λ (m : Marking). all_noted m threads) (c.in_ok-note_slots.ensures
-        ∙ ap (λ (m : Marking). all_noted m slots) second)
+    ∙ ap (λ (m : Marking). all_noted m slots) second)
     ∙ sym (noted-append (noted (noted c.args.self.now (Some 1)) (Some 2)) slots threads))
     c.note_threads.ensures

@@ -10,7 +10,8 @@ invariant_of-self-in-Taken c =
     let held = sym (c.in-Taken.ensures) in
     let p = popped _ _ c.in-Some.reference (sym c.in-Some.is ∙ c.pop_front.ensures.value) c.pop_front.ensures.items in
     let less = p.0 in
-    let one = grey_in_one (Taken c.in-Taken.birth c.in-Taken.colour) in
-    (coloured _ c.in-Some-checked_sub.cell c.in-Taken.birth c.in-Taken.birth c.in-Taken.colour Black _
-        c.self.invariant.0 (rw c.deref.ensures.value at held) (omega (arith, less, one)),
-        room_kept _ _ _ _ _ _ (length-set _ _ _) refl p.1 c.self.invariant.1)
+    let one = grey_in_one (Taken c.in-Taken.birth c.in-Taken.colour) in (
+      coloured _ c.in-Some-checked_sub.cell c.in-Taken.birth c.in-Taken.birth c.in-Taken.colour Black _
+          c.self.invariant.0 (rw c.deref.ensures.value at held) (omega (arith, less, one)),
+      room_kept _ _ _ _ _ _ (length-set _ _ _) refl p.1 c.self.invariant.1,
+    )

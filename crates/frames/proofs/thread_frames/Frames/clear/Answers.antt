@@ -8,14 +8,14 @@ set_stack-requires-clause-fits c =
     let a = last_of c.self.inside.activations in
     let o = opened _ _ _ _ a c.self.invariant c.self.view_is c.requires refl in
     fits_with c.self.inside.units a c.args.pc 0 0 (record { begins = refl; taken_is = refl; fits = omega arith })
-        (fits_in_units o)
+    (fits_in_units o)
 
 pub invariant_of-self : goal.invariant_of-self
 invariant_of-self c =
     let o = opened _ _ _ _ (last_of c.self.inside.activations) c.self.invariant c.self.view_is c.requires refl in
     let stands = (stands_last o).stands in
     rw c.set_stack.ensures (sound_put o _ _ refl refl (record { begins = refl; taken_is = refl; fits = omega arith })
-        refl)
+    refl)
 
 pub returns : goal.returns
 returns c =

@@ -11,7 +11,7 @@ set_stack-requires-clause-fits c =
     let values = running.values - c.args.count in
     let taken = running.taken - c.args.units in
     subst (λ (last : Activation). Fits (record last { pc = c.args.next; values = values; taken = taken }))
-        c.running-running.ensures
+    c.running-running.ensures
     (fits_with _ running c.args.next values taken (drops o _ _ c.requires.there c.requires.sized).3 (fits_in_units o))
 
 pub overflow_sub-values : goal.overflow_sub-values
@@ -29,14 +29,14 @@ invariant_of-self c =
     let o = opened _ _ _ _ _ c.self.invariant c.self.view_is c.requires.some c.running-running.ensures in
     let stands = (drops o _ _ c.requires.there c.requires.sized).3 in
     rw (c.set_stack.ensures, ← c.running-running.ensures)
-        (sound_put o _ _ refl refl (record { begins = stands.begins; taken_is = stands.taken_is; fits = stands.fits })
-        refl)
+    (sound_put o _ _ refl refl (record { begins = stands.begins; taken_is = stands.taken_is; fits = stands.fits })
+    refl)
 
 pub returns-clause-left : goal.returns-clause-left
 returns-clause-left c =
     let o = opened _ _ _ _ _ c.self.invariant c.self.view_is c.requires.some c.running-running.ensures in
     rw (c.set_stack.ensures, ← c.running-running.ensures)
-        (view_drop o _ _ _ (drops o _ _ c.requires.there c.requires.sized).0)
+    (view_drop o _ _ _ (drops o _ _ c.requires.there c.requires.sized).0)
 
 pub returns-clause-room : goal.returns-clause-room
 returns-clause-room c =

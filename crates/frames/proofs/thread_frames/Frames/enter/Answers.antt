@@ -21,8 +21,10 @@ pub push-requires : goal.push-requires
 push-requires c =
     let room = has_room-facts _ _ _ _ _ _ c.self.invariant c.self.view_is c.requires in
     let end = room.1 in
-    record { few = room.0; fits = record { inside = omega (arith, end); within = omega arith; few = omega (arith, end) }
-        }
+    record {
+      few = room.0;
+      fits = record { inside = omega (arith, end); within = omega arith; few = omega (arith, end) };
+    }
 
 pub invariant_of-self : goal.invariant_of-self
 invariant_of-self c =
@@ -30,15 +32,27 @@ invariant_of-self c =
     let r = reaches _ _ _ _ _ _ c.self.invariant c.self.view_is room.1 c.reach.ensures in
     let fits = r.fits in
     let u = unsets c.reach.new.self c.unset.new.self c.self.inside.used c.args.max_locals (omega (arith, fits))
-          c.unset.ensures in
-    let a : Activation = record { method = c.args.method; pc = 0; base = c.self.inside.used; locals = c.args.max_locals;
-          values = 0; taken = 0; room = c.args.max_stack; monitor = None; mark = Unmarked } in
-    let stands : Stands c.unset.new.self c.self.inside.used a = record { begins = refl; taken_is = refl;
-          fits = omega arith } in
+    c.unset.ensures in
+    let a : Activation = record {
+      method = c.args.method;
+      pc = 0;
+      base = c.self.inside.used;
+      locals = c.args.max_locals;
+      values = 0;
+      taken = 0;
+      room = c.args.max_stack;
+      monitor = None;
+      mark = Unmarked;
+    } in
+    let stands : Stands c.unset.new.self c.self.inside.used a = record {
+      begins = refl;
+      taken_is = refl;
+      fits = omega arith;
+    } in
     let long = u.long in
     let few = r.sound.units_are in
     rw c.push.ensures (sound_push c.reach.new.self _ _ _ _ a r.sound (omega (arith, long, few)) u.same stands refl
-        (omega (arith, long, fits)) room.0)
+    (omega (arith, long, fits)) room.0)
 
 pub returns : goal.returns
 returns c =
@@ -46,5 +60,5 @@ returns c =
     let r = reaches _ _ _ _ _ _ c.self.invariant c.self.view_is room.1 c.reach.ensures in
     let fits = r.fits in
     let u = unsets c.reach.new.self c.unset.new.self c.self.inside.used c.args.max_locals (omega (arith, fits))
-          c.unset.ensures in
+    c.unset.ensures in
     rw (c.push.ensures, ← u.unset) (view_push c.reach.new.self _ _ _ _ _ r.sound r.view u.same)

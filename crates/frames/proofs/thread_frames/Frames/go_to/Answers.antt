@@ -9,7 +9,7 @@ set_stack-requires-clause-fits c =
     let o = opened _ _ _ _ _ c.self.invariant c.self.view_is c.requires c.running-running.ensures in
     let running = c.running-running.result in
     subst (λ (last : Activation). Fits (record last { pc = c.args.pc; values = running.values; taken = running.taken }))
-        c.running-running.ensures
+    c.running-running.ensures
     (fits_with _ running c.args.pc running.values running.taken (stands_last o).stands (fits_in_units o))
 
 pub invariant_of-self : goal.invariant_of-self
@@ -17,7 +17,7 @@ invariant_of-self c =
     let o = opened _ _ _ _ _ c.self.invariant c.self.view_is c.requires c.running-running.ensures in
     let stands = (stands_last o).stands in
     rw (c.set_stack.ensures, ← c.running-running.ensures)
-        (sound_put o _ _ refl refl (record { begins = refl; taken_is = stands.taken_is; fits = stands.fits }) refl)
+    (sound_put o _ _ refl refl (record { begins = refl; taken_is = stands.taken_is; fits = stands.fits }) refl)
 
 pub returns : goal.returns
 returns c =

@@ -15,7 +15,7 @@ set_stack-requires-clause-fits c =
     let values = running.values + 1 in
     let taken = running.taken + c.units_in.result in
     subst (λ (last : Activation). Fits (record last { pc = running.pc; values = values; taken = taken }))
-        c.running-running.ensures
+    c.running-running.ensures
     (rw c.units_in.ensures (fits_with _ running running.pc values _ p.3 (fits_in_units o)))
 
 pub overflow_add-top : goal.overflow_add-top
@@ -54,11 +54,11 @@ invariant_of-self c =
     let o = opened _ _ _ _ _ c.self.invariant c.self.view_is c.requires.some c.running-running.ensures in
     let p = pushes o (entry_of c.args.slot) c.requires.room in
     rw (c.put.ensures, c.set_stack.ensures, c.units_in.ensures, ← c.running-running.ensures)
-        (sound_put o _ _ (length-set _ _ _) (sym (take-set-le _ _ _ _ (omega arith))) p.3 refl)
+    (sound_put o _ _ (length-set _ _ _) (sym (take-set-le _ _ _ _ (omega arith))) p.3 refl)
 
 pub returns : goal.returns
 returns c =
     let o = opened _ _ _ _ _ c.self.invariant c.self.view_is c.requires.some c.running-running.ensures in
     let p = pushes o (entry_of c.args.slot) c.requires.room in
     rw (c.put.ensures, c.set_stack.ensures, c.units_in.ensures, ← c.running-running.ensures)
-        (view_push_value o (entry_of c.args.slot) p.1)
+    (view_push_value o (entry_of c.args.slot) p.1)

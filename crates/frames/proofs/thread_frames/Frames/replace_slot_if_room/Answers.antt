@@ -17,7 +17,7 @@ pub returns-then-free_units-units-clause-step : goal.returns-then-free_units-uni
 returns-then-free_units-units-clause-step c =
     let f = running_frame c.args.self.now in
     let sized : Sized c.args.self.now c.args.count c.units_above-units.result (units_of_all f.stack)
-          f.room = record { above_is = c.units_above-units.ensures; taken_is = refl; room_is = refl } in
+    f.room = record { above_is = c.units_above-units.ensures; taken_is = refl; room_is = refl } in
     let parts = units_of_all-take-drop f.stack c.args.count in
     stack_is_full c.args.self.now _ _ _ _ c.args.next ((value_of c.args.slot) ∷ []) sized (omega arith)
 
@@ -25,16 +25,16 @@ pub push-requires-clause-room : goal.push-requires-clause-room
 push-requires-clause-room c =
     let f = running_frame c.args.self.now in
     let sized : Sized c.args.self.now c.args.count c.units_above-units.result (units_of_all f.stack)
-          f.room = record { above_is = c.units_above-units.ensures; taken_is = refl; room_is = refl } in
+    f.room = record { above_is = c.units_above-units.ensures; taken_is = refl; room_is = refl } in
     let parts = units_of_all-take-drop f.stack c.args.count in
     room_for_value c.args.self.now _ _ _ _ _ _ (value_of c.args.slot) c.requires.some c.drop_values.ensures.left sized
-        (omega arith)
+    (omega arith)
 
 pub returns-clause-step : goal.returns-clause-step
 returns-clause-step c =
     let f = running_frame c.args.self.now in
     let sized : Sized c.args.self.now c.args.count c.units_above-units.result (units_of_all f.stack)
-          f.room = record { above_is = c.units_above-units.ensures; taken_is = refl; room_is = refl } in
+    f.room = record { above_is = c.units_above-units.ensures; taken_is = refl; room_is = refl } in
     let parts = units_of_all-take-drop f.stack c.args.count in
     stack_has_room c.args.self.now _ _ _ _ _ c.args.next ((value_of c.args.slot) ∷ []) sized (omega arith)
-        (replaces _ _ _ _ _ _ c.requires.some c.drop_values.ensures.left c.push.ensures)
+    (replaces _ _ _ _ _ _ c.requires.some c.drop_values.ensures.left c.push.ensures)

@@ -13,5 +13,5 @@ pub loop-above-preserved : goal.loop-above-preserved
 loop-above-preserved c =
     let small = units_of-le (value_of c.held.result) in
     let more = units_of_all-take_more (running_frame c.args.self.now).stack c.loop-above.above (value_of c.held.result)
-          c.held.ensures in
+    c.held.ensures in
     (omega arith, omega arith)

@@ -17,9 +17,9 @@ returns-then-not-goes_on-clause-world g c =
     let r = c.carry_on-answer in
     let burst = c.args.burst in
     let off = asked r.new.self r.result _ c.args.due _ c.next_birth.ensures c.goes_on.ensures false
-          c.if-not-goes_on.true in
+    c.if-not-goes_on.true in
     sym (bursts_end at.self r.new.self at.share.worker c.args.due burst.extra burst.again at._burst
-        c.loop-burst-test.true r.result r.ensures.world r.ensures.answer off)
+    c.loop-burst-test.true r.result r.ensures.world r.ensures.answer off)
     ∙ at.invariant.rest
 
 pub returns-then-not-goes_on-clause-answer : goal.returns-then-not-goes_on-clause-answer
@@ -28,10 +28,10 @@ returns-then-not-goes_on-clause-answer g c =
     let r = c.carry_on-answer in
     let burst = c.args.burst in
     let off = asked r.new.self r.result _ c.args.due _ c.next_birth.ensures c.goes_on.ensures false
-          c.if-not-goes_on.true in
+    c.if-not-goes_on.true in
     c.done_so_far.ensures
     ∙ sym (answers_end at.self r.new.self at.share.worker c.args.due burst.extra burst.again at._burst
-        c.loop-burst-test.true r.result r.ensures.world r.ensures.answer off)
+    c.loop-burst-test.true r.result r.ensures.world r.ensures.answer off)
     ∙ at.invariant.answer
 
 pub returns-clause-answer : goal.returns-clause-answer
@@ -52,17 +52,17 @@ loop-burst-preserved g c =
     let burst = c.args.burst in
     let left = burst.again - (at._burst + 1) in
     let on = asked r.new.self r.result _ c.args.due _ c.next_birth.ensures c.goes_on.ensures true c.if-not-goes_on.false
-          in
+    in
     record {
       rest =
           ap (λ (worker : ℕ). after_bursts r.new.self worker c.args.due burst.extra left) r.ensures.share.worker_is
           ∙ sym (bursts_left at.self r.new.self at.share.worker c.args.due burst.extra burst.again at._burst
-              c.loop-burst-test.true r.result r.ensures.world r.ensures.answer on)
+          c.loop-burst-test.true r.result r.ensures.world r.ensures.answer on)
           ∙ at.invariant.rest;
       answer =
           ap (λ (worker : ℕ). answer_bursts r.new.self worker c.args.due burst.extra left) r.ensures.share.worker_is
           ∙ sym (answers_left at.self r.new.self at.share.worker c.args.due burst.extra burst.again at._burst
-              c.loop-burst-test.true r.result r.ensures.world r.ensures.answer on)
+          c.loop-burst-test.true r.result r.ensures.world r.ensures.answer on)
           ∙ at.invariant.answer;
       counted = counts_on _ _ _ _ _ _ at.invariant.counted r.ensures.share;
       below = still_known _ _ _ _ r.ensures.share at.invariant.below;

@@ -10,11 +10,11 @@ pub note-requires : goal.note-requires
 note-requires g c =
     let t = c.turn_by-answer.result in
     let adds = turn_made c.self.inside.world c.turn_by-answer.new.self c.args.actor c.worker.result t
-          c.turn_by-answer.ensures.world c.turn_by-answer.ensures.answer in
+    c.turn_by-answer.ensures.world c.turn_by-answer.ensures.answer in
     ap (λ (n : ℕ). n + rows_by t) (sym c.self.invariant)
     ∙ turn_length c.self.inside.world c.turn_by-answer.new.self c.worker.result t adds
     ∙ sym (c.len-rows.ensures ∙ ap length c.rows.ensures.value ∙ ap (λ (j : JournalValue). length j.rows)
-        c.journal.ensures)
+    c.journal.ensures)
 
 pub invariant_of-self : goal.invariant_of-self
 invariant_of-self g c = sym (c.note.ensures.total ∙ c.len-rows.ensures ∙ ap length c.rows.ensures.value
@@ -24,7 +24,7 @@ pub returns-clause-share : goal.returns-clause-share
 returns-clause-share g c =
     let t = c.turn_by-answer.result in
     let adds = turn_made c.self.inside.world c.turn_by-answer.new.self c.args.actor c.worker.result t
-          c.turn_by-answer.ensures.world c.turn_by-answer.ensures.answer in
+    c.turn_by-answer.ensures.world c.turn_by-answer.ensures.answer in
     subst (λ (v : Recorded). CountsRows v c.turn_by-answer.new.self c.args.share.now c.note.new.self) c.self.view_is
     (turn_counts c.self.inside.world c.turn_by-answer.new.self c.worker.result t adds c.args.share.now c.note.new.self
-        c.note.ensures.share)
+    c.note.ensures.share)

@@ -7,4 +7,4 @@ returns-in-Taken-clause-there c =
     let a = c.self.inside in
     rw (← c.self.view_is)
     (is_there a.account.cells a.cells.objects c.args.cell c.in-Taken.birth c.in-Taken.colour
-        c.self.invariant.agree.taken (sym c.cell.ensures ∙ c.in-Taken.is))
+    c.self.invariant.agree.taken (sym c.cell.ensures ∙ c.in-Taken.is))

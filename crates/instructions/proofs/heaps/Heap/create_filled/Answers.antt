@@ -14,9 +14,9 @@ place-requires-clause-nobody c =
 pub place-requires-clause-room : goal.place-requires-clause-room
 place-requires-clause-room c =
     let t = one_taken c.self.inside.account c.self.inside.births c.in_ok-cell.cell
-          (take_cell c.self.inside.account c.args.count) c.in_ok-cell.ensures.cell in
+    (take_cell c.self.inside.account c.args.count) c.in_ok-cell.ensures.cell in
     taken_fits c.self.inside.cells.shape c.self.inside.account c.self.inside.cells.objects c.args.count
-        (c.in_ok-cell.cell, t.0) c.self.invariant.agree t.1
+    (c.in_ok-cell.cell, t.0) c.self.invariant.agree t.1
 
 pub overflow_add-result : goal.overflow_add-result
 overflow_add-result c =

@@ -7,4 +7,4 @@ pub reached-requires : goal.reached-requires
 reached-requires c =
     let a = c.self.inside in
     enough_references (object_shown c.args.program.now) nobody a.account.cells a.cells.objects c.cells.result
-        c.self.invariant.agree.taken c.cells.ensures.count
+    c.self.invariant.agree.taken c.cells.ensures.count

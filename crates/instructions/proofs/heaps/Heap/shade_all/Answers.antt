@@ -18,7 +18,7 @@ pub loop-reference-preserved : goal.loop-reference-preserved
 loop-reference-preserved c =
     rw c.shade.ensures
     (shaded_next c.loop-reference.self _ _ c.loop-reference.reference-index c.as_slice-reference-items.ensures
-        c.loop-reference-test.true
+    c.loop-reference-test.true
     ∙ c.loop-reference.invariant)
 
 pub returns : goal.returns
@@ -26,5 +26,5 @@ returns c =
     let i = c.loop-reference.reference-index in
     let xs = c.as_slice-reference-items.result.now in
     ap (all_shaded c.loop-reference.self) (sym (drop_all i xs c.loop-reference-test.false)
-        ∙ ap (drop i) c.as_slice-reference-items.ensures)
+    ∙ ap (drop i) c.as_slice-reference-items.ensures)
     ∙ c.loop-reference.invariant

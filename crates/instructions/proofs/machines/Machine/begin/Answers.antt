@@ -8,13 +8,19 @@ use Rattle.instructions.proofs.machines.Machine.begin.Goals as goal
 pub returns-clause-step : goal.returns-clause-step
 returns-clause-step c = λ scene here lives.
     let m = c.args.self.now in
-    let after : Machine = record { thread = m.thread; frames = c.discard.new.self; slots = m.slots; states = m.states;
-          heap = c.shade_begun.new.heap; output = m.output } in
+    let after : Machine = record {
+      thread = m.thread;
+      frames = c.discard.new.self;
+      slots = m.slots;
+      states = m.states;
+      heap = c.shade_begun.new.heap;
+      output = m.output;
+    } in
     rw c.to.ensures
     (begins_reported c.args.program.now scene m after here c.args.courses.now lives c.args.next c.args.object
-        c.args.begun c.requires.object c.discard.ensures
+    c.args.begun c.requires.object c.discard.ensures
     refl refl refl (c.shade_begun.ensures
-        ∙ ap (λ (h : HeapValue). all_shaded h (begun_writes c.args.object c.args.begun)) c.set_thread.ensures))
+    ∙ ap (λ (h : HeapValue). all_shaded h (begun_writes c.args.object c.args.begun)) c.set_thread.ensures))
 
 pub returns-clause-keeps : goal.returns-clause-keeps
 returns-clause-keeps c =

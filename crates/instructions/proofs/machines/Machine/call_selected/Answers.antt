@@ -16,7 +16,7 @@ pub run_on-requires-clause-operands : goal.run_on-requires-clause-operands
 run_on-requires-clause-operands c = λ facts known.
     let program = c.args.program.now in
     selected-operands program (unrefused program c.requires.ready.accepted)
-        (none_hides program c.requires.ready.accepted)
+    (none_hides program c.requires.ready.accepted)
     c.args.selector c.in-Some.kind c.args.class c.in-Ok-Some.place facts _ c.args.object
     (sym c.select.ensures ∙ c.in-Ok-Some.is ∙ ap Ok c.in-Ok-Some.field-0-is) known c.requires.operands
 
@@ -30,7 +30,7 @@ returns-in-None-clause-step c = λ scene here lives.
     fault_reported program scene m m here WrongClass
     ∙ sym (ap (turned program x m.thread)
     (called-none (own_call m.heap s) s c.args.class c.args.object (selected_at program c.args.selector)
-        (kind_held m.heap c.args.object) none))
+    (kind_held m.heap c.args.object) none))
 
 pub returns-in-Ok-Some-clause-step : goal.returns-in-Ok-Some-clause-step
 returns-in-Ok-Some-clause-step c = λ scene here lives.
@@ -44,7 +44,7 @@ returns-in-Ok-Some-clause-step c = λ scene here lives.
     c.run_on.ensures.step scene here lives
     ∙ sym (ap (turned program x m.thread)
     (called-by (own_call m.heap s) s c.args.class c.args.object method c.in-Some.kind (kind_held m.heap c.args.object)
-        c.select.result kind c.select.ensures
+    c.select.result kind c.select.ensures
     ∙ ap (by_place (own_call m.heap s) s c.args.class c.args.object method) placed))
 
 pub returns-in-Ok-None-clause-step : goal.returns-in-Ok-None-clause-step
@@ -59,7 +59,7 @@ returns-in-Ok-None-clause-step c = λ scene here lives.
     fault_reported program scene m m here NoMethod
     ∙ sym (ap (turned program x m.thread)
     (called-by (own_call m.heap s) s c.args.class c.args.object method c.in-Some.kind (kind_held m.heap c.args.object)
-        c.select.result kind c.select.ensures
+    c.select.result kind c.select.ensures
     ∙ ap (by_place (own_call m.heap s) s c.args.class c.args.object method) placed))
 
 pub returns-in-Err-clause-step : goal.returns-in-Err-clause-step
@@ -74,5 +74,5 @@ returns-in-Err-clause-step c = λ scene here lives.
     fault_reported program scene m m here c.in-Err.fault
     ∙ sym (ap (turned program x m.thread)
     (called-by (own_call m.heap s) s c.args.class c.args.object method c.in-Some.kind (kind_held m.heap c.args.object)
-        c.select.result kind c.select.ensures
+    c.select.result kind c.select.ensures
     ∙ ap (by_place (own_call m.heap s) s c.args.class c.args.object method) placed))

@@ -19,7 +19,7 @@ returns-then-is_of-clause-step c = λ scene here lives.
     c.run_on.ensures.step scene here lives
     ∙ sym (ap (turned program x m.thread)
     (called-this (own_call m.heap s) s c.args.class c.args.object (λ kind. Some c.args.place)
-        (kind_held m.heap c.args.object) (Some c.args.place) is (λ kind. refl)))
+    (kind_held m.heap c.args.object) (Some c.args.place) is (λ kind. refl)))
 
 pub returns-clause-step : goal.returns-clause-step
 returns-clause-step c = λ scene here lives.
@@ -31,4 +31,4 @@ returns-clause-step c = λ scene here lives.
     fault_reported program scene m m here WrongClass
     ∙ sym (ap (turned program x m.thread)
     (called-other (own_call m.heap s) s c.args.class c.args.object (λ kind. Some c.args.place)
-        (kind_held m.heap c.args.object) is))
+    (kind_held m.heap c.args.object) is))

@@ -16,11 +16,11 @@ returns-in-Ok-clause-step c = λ scene here.
       output = raised.output;
     } in
     denies_reported c.args.program.now (claimed c.args.program.now c.args.class c.args.count) scene c.args.self.now
-        raised after
+    raised after
     c.in-Ok.turned (c.in-Ok.ensures.step scene here) refl refl c.set_states.ensures.states refl refl
 
 pub returns-in-Err-clause-step : goal.returns-in-Err-clause-step
 returns-in-Err-clause-step c = λ scene here.
     denies_fault_reported c.args.program.now (claimed c.args.program.now c.args.class c.args.count) scene
-        c.args.self.now
+    c.args.self.now
     c.raise.new.self c.raise.new.self c.in-Err.fault (c.in-Err.ensures.step scene here)

@@ -17,13 +17,13 @@ returns-then-not-may_enter-clause-step c = λ scene here.
     let program = c.args.program.now in
     let called = c.args.called in
     let may : may_enter m.thread (option_map_or (monitor_held m.heap) called.monitor free_monitor).owner
-          ≡ false = search rules in
+    ≡ false = search rules in
     rw c.to.ensures
     (waits_reported program scene m here c.args.next called.place called.max_locals called.max_stack called.count
-        called.monitor
+    called.monitor
     ∙ sym (ap (turned program (shown program scene m Live) m.thread)
     (waits-there program scene m here c.args.next called.place called.max_locals called.max_stack called.count
-        called.monitor may)))
+    called.monitor may)))
 
 pub returns-then-not-has_room_for-clause-step : goal.returns-then-not-has_room_for-clause-step
 returns-then-not-has_room_for-clause-step c = λ scene here.
@@ -31,12 +31,12 @@ returns-then-not-has_room_for-clause-step c = λ scene here.
     let program = c.args.program.now in
     let called = c.args.called in
     let may : may_enter m.thread (option_map_or (monitor_held m.heap) called.monitor free_monitor).owner
-          ≡ true = search rules in
+    ≡ true = search rules in
     let room : has_room_for m.frames called.max_locals called.max_stack ≡ false = search rules in
     c.raise.ensures.step scene here
     ∙ sym (ap (turned program (shown program scene m Live) m.thread)
     (no-room-there program scene m here c.args.next called.place called.max_locals called.max_stack called.count
-        called.monitor may room))
+    called.monitor may room))
 
 pub returns-then-is_full-clause-step : goal.returns-then-is_full-clause-step
 returns-then-is_full-clause-step c = λ scene here.
@@ -44,13 +44,13 @@ returns-then-is_full-clause-step c = λ scene here.
     let program = c.args.program.now in
     let called = c.args.called in
     let may : may_enter m.thread (option_map_or (monitor_held m.heap) called.monitor free_monitor).owner
-          ≡ true = search rules in
+    ≡ true = search rules in
     let room : has_room_for m.frames called.max_locals called.max_stack ≡ true = search rules in
     let full : is_full (option_map_or (monitor_held m.heap) called.monitor free_monitor) ≡ true = search rules in
     fault_reported program scene m m here MonitorLimit
     ∙ sym (ap (turned program (shown program scene m Live) m.thread)
     (full-there program scene m here c.args.next called.place called.max_locals called.max_stack called.count
-        called.monitor may room full))
+    called.monitor may room full))
 
 pub returns-clause-step : goal.returns-clause-step
 returns-clause-step c = λ scene here.
@@ -58,10 +58,10 @@ returns-clause-step c = λ scene here.
     let program = c.args.program.now in
     let called = c.args.called in
     let may : may_enter m.thread (option_map_or (monitor_held m.heap) called.monitor free_monitor).owner
-          ≡ true = search rules in
+    ≡ true = search rules in
     let room : has_room_for m.frames called.max_locals called.max_stack ≡ true = search rules in
     let full : is_full (option_map_or (monitor_held m.heap) called.monitor free_monitor) ≡ false = search rules in
     c.enter_frame.ensures.step scene here
     ∙ sym (ap (turned program (shown program scene m Live) m.thread)
     (entered-there program scene m here c.args.next called.place called.max_locals called.max_stack called.count
-        called.monitor may room full))
+    called.monitor may room full))

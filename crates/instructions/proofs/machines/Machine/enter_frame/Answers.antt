@@ -14,11 +14,11 @@ returns-clause-step c = λ scene here.
     let m = c.args.self.now in
     let called = c.args.called in
     rw c.to.ensures (enters_reported c.args.program.now scene m here c.args.next called.place called.max_locals
-        called.max_stack called.count called.monitor
+    called.max_stack called.count called.monitor
     c.set_monitor.new.self c.shade.new.self c.requires.object (c.set_monitor.ensures
-        ∙ ap (guarded called.monitor) c.call.ensures)
+    ∙ ap (guarded called.monitor) c.call.ensures)
     (c.shade.ensures ∙ ap (λ h. shaded h called.monitor) (c.enter.ensures
-        ∙ ap (λ h. entered_in h m.thread called.monitor) c.shade_operands.ensures)))
+    ∙ ap (λ h. entered_in h m.thread called.monitor) c.shade_operands.ensures)))
 
 pub returns-clause-keeps : goal.returns-clause-keeps
 returns-clause-keeps c =
@@ -27,7 +27,7 @@ returns-clause-keeps c =
     let births = births_of (arguments_on called.count (running_frame m.frames).stack) in
     let heap : c.shade.new.self ≡ heap_entered m.heap m.thread births called.monitor =
     c.shade.ensures ∙ ap (λ h. shaded h called.monitor) (c.enter.ensures
-        ∙ ap (λ h. entered_in h m.thread called.monitor) c.shade_operands.ensures) in
+    ∙ ap (λ h. entered_in h m.thread called.monitor) c.shade_operands.ensures) in
     record {
       thread = refl;
       capacity = omega arith;

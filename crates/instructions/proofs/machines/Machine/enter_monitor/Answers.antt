@@ -20,7 +20,7 @@ returns-else-is_object-clause-step c = λ scene here.
     fault_reported program scene m m here WrongClass
     ∙ sym (ap (λ b. turned program x m.thread (operates_if s Enter r b)) none)
     ∙ ap (λ o. turned program x m.thread (operates_by s m.heap Enter o)) (sym (ap Ok c.in-Ok-Some.field-0-is)
-        ∙ c.in-Ok-Some.ensures.value)
+    ∙ c.in-Ok-Some.ensures.value)
 
 pub returns-in-Err-clause-step : goal.returns-in-Err-clause-step
 returns-in-Err-clause-step c = λ scene here.

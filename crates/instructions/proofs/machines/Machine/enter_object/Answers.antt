@@ -19,7 +19,7 @@ returns-then-not-may_enter-clause-step c = λ scene here.
     rw c.to.ensures
     (waits_reported program scene m
     ∙ sym (ap (turned program (shown program scene m Live) m.thread) (waits-there program scene m here c.args.next
-        c.args.reference may)))
+    c.args.reference may)))
 
 pub returns-in-Ok-clause-step : goal.returns-in-Ok-clause-step
 returns-in-Ok-clause-step c = λ scene here.
@@ -28,16 +28,18 @@ returns-in-Ok-clause-step c = λ scene here.
     let r = c.args.reference in
     let may : may_enter m.thread (monitor_held m.heap r).owner ≡ true = search rules in
     let by = entered-by (is_full c.monitor-monitor.result) (entered c.from-thread.result c.monitor-monitor.result)
-          c.in-Ok.entered c.in-Ok.ensures in
+    c.in-Ok.entered c.in-Ok.ensures in
     let room : is_full (monitor_held m.heap r) ≡ false = sym (ap is_full c.monitor-monitor.ensures) ∙ by.0 in
-    let is : c.in-Ok.entered ≡ entered m.thread (monitor_held m.heap r) = by.1 ∙ rw (c.from-thread.ensures,
-          c.monitor-monitor.ensures) refl in
+    let is : c.in-Ok.entered ≡ entered m.thread (monitor_held m.heap r) = by.1 ∙ rw (
+      c.from-thread.ensures,
+      c.monitor-monitor.ensures,
+    ) refl in
     rw c.to-in-Ok.ensures
     (monitor_reported program scene m here c.args.next r c.discard.new.self c.set_monitor.new.self
-        (entered m.thread (monitor_held m.heap r))
+    (entered m.thread (monitor_held m.heap r))
     c.requires.object c.discard.ensures (c.set_monitor.ensures ∙ ap (monitored m.heap r) is)
     ∙ sym (ap (turned program (shown program scene m Live) m.thread) (enters-there program scene m here c.args.next r
-        may room)))
+    may room)))
 
 pub returns-in-Ok-clause-keeps : goal.returns-in-Ok-clause-keeps
 returns-in-Ok-clause-keeps c =
@@ -59,9 +61,9 @@ returns-in-Err-clause-step c = λ scene here.
     let r = c.args.reference in
     let may : may_enter m.thread (monitor_held m.heap r).owner ≡ true = search rules in
     let by = refused-by (is_full c.monitor-monitor.result) (entered c.from-thread.result c.monitor-monitor.result)
-          c.in-Err.fault c.in-Err.ensures in
+    c.in-Err.fault c.in-Err.ensures in
     let full : is_full (monitor_held m.heap r) ≡ true = sym (ap is_full c.monitor-monitor.ensures) ∙ by.0 in
     fault_reported program scene m m here c.in-Err.fault
-        ∙ ap (λ fault. turned program (shown program scene m Live) m.thread (Faults fault)) by.1
+    ∙ ap (λ fault. turned program (shown program scene m Live) m.thread (Faults fault)) by.1
     ∙ sym (ap (turned program (shown program scene m Live) m.thread) (full-there program scene m here c.args.next r may
-        full))
+    full))

@@ -22,11 +22,17 @@ returns-clause-step c = λ scene here.
     let x = shown program scene m Live in
     let heap : c.shade.new.self ≡ shaded m.heap (ref_of (value_of c.args.slot)) = search rules in
     rw c.to.ensures (goes_reported program scene m
-    (record { thread = m.thread; frames = c.replace_slot.new.self; slots = m.slots; states = m.states;
-        heap = c.shade.new.self; output = m.output })
+    (record {
+      thread = m.thread;
+      frames = c.replace_slot.new.self;
+      slots = m.slots;
+      states = m.states;
+      heap = c.shade.new.self;
+      output = m.output;
+    })
     here (births_of ((value_of c.args.slot) ∷ [])) refl refl refl (heap ∙ barrier m.heap (value_of c.args.slot)))
     ∙ ap (λ frames. turned program x m.thread (Goes (with_thread x.world m.thread (LiveThread frames))
-        (births_of ((value_of c.args.slot) ∷ []))))
+    (births_of ((value_of c.args.slot) ∷ []))))
     (c.replace_slot.ensures
-        ∙ ap (λ (fs : _). with_running fs (replaced c.args.next f c.args.count ((value_of c.args.slot) ∷ [])).frame)
-        (sym (frames_shown program scene m here)))
+    ∙ ap (λ (fs : _). with_running fs (replaced c.args.next f c.args.count ((value_of c.args.slot) ∷ [])).frame)
+    (sym (frames_shown program scene m here)))

@@ -14,7 +14,7 @@ returns-then-not-owns-clause-step c = λ scene here.
     let owns : is_owner m.thread (monitor_held m.heap c.args.reference).owner ≡ false = search rules in
     c.raise.ensures.step scene here
     ∙ sym (ap (turned program (shown program scene m Live) m.thread) (others-there program scene m here c.args.next
-        c.args.reference owns))
+    c.args.reference owns))
 
 pub returns-clause-step : goal.returns-clause-step
 returns-clause-step c = λ scene here.
@@ -25,10 +25,10 @@ returns-clause-step c = λ scene here.
     let is : c.exit.result ≡ exited (monitor_held m.heap r) = c.exit.ensures ∙ ap exited c.monitor-monitor.ensures in
     rw c.to.ensures
     (monitor_reported program scene m here c.args.next r c.discard.new.self c.set_monitor.new.self
-        (exited (monitor_held m.heap r))
+    (exited (monitor_held m.heap r))
     c.requires.object c.discard.ensures (c.set_monitor.ensures ∙ ap (monitored m.heap r) is)
     ∙ sym (ap (turned program (shown program scene m Live) m.thread) (exits-there program scene m here c.args.next r
-        owns)))
+    owns)))
 
 pub returns-clause-keeps : goal.returns-clause-keeps
 returns-clause-keeps c =

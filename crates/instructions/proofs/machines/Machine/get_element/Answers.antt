@@ -13,8 +13,8 @@ returns-in-Ok-clause-step c = λ scene here.
     let m = c.args.self.now in
     let program = c.args.program.now in
     let word : value_of c.unwrap_or.result
-          ≡ element_or_null (slice_get (words_held m.heap c.in-Ok.reference) c.in-Ok.index) =
+    ≡ element_or_null (slice_get (words_held m.heap c.in-Ok.reference) c.in-Ok.index) =
     or_null c.word-word.result c.unwrap_or.result c.unwrap_or.ensures ∙ ap element_or_null c.word-word.ensures in
     rw c.in-Ok.is (c.exchange.ensures.step scene here
     ∙ ap (turned program (shown program scene m Live) m.thread) (element_is program scene m here c.args.next
-        c.in-Ok.reference c.in-Ok.index (value_of c.unwrap_or.result) word))
+    c.in-Ok.reference c.in-Ok.index (value_of c.unwrap_or.result) word))

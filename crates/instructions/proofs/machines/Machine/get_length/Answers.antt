@@ -14,8 +14,8 @@ returns-in-Some-Instance-clause-step c = λ scene here.
     let s = site_at program m x.world c.args.next in
     fault_reported program scene m m here _
     ∙ ap (turned program x m.thread)
-        (sym (no_array_length s (held m.heap c.args.reference) _ (sym (ap Some c.in-Some-Instance.field-0-is)
-        ∙ c.in-Some-Instance.ensures)))
+    (sym (no_array_length s (held m.heap c.args.reference) _ (sym (ap Some c.in-Some-Instance.field-0-is)
+    ∙ c.in-Some-Instance.ensures)))
 
 pub returns-in-None-clause-step : goal.returns-in-None-clause-step
 returns-in-None-clause-step c = λ scene here.

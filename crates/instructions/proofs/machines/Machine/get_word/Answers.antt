@@ -18,7 +18,7 @@ returns-in-Some-clause-step c = λ scene here.
     ∙ ap (λ n. element_or_null (slice_get (words_held m.heap c.args.reference) n)) c.from.ensures in
     rw c.in-Some.is (c.push.ensures.step scene here
     ∙ ap (turned program (shown program scene m Live) m.thread) (word_is program scene m here c.args.next
-        c.args.reference place (value_of c.unwrap_or.result) word))
+    c.args.reference place (value_of c.unwrap_or.result) word))
 
 pub returns-in-None-clause-step : goal.returns-in-None-clause-step
 returns-in-None-clause-step c = λ scene here.

@@ -32,18 +32,30 @@ returns-clause-step c = λ n scene here.
     let room = ap (λ (head : FrameHead). head.room) c.requires.caller.is in
     let taken = ap (λ (head : FrameHead). head.taken) c.requires.caller.is in
     let fits : units_of c.args.value ≤ below.room - units_of_all below.stack = omega arith in
-    let after : Machine = record { thread = left.thread; frames = c.put_result.new.frames; slots = left.slots;
-          states = left.states; heap = c.shade.new.self; output = left.output } in
+    let after : Machine = record {
+      thread = left.thread;
+      frames = c.put_result.new.frames;
+      slots = left.slots;
+      states = left.states;
+      heap = c.shade.new.self;
+      output = left.output;
+    } in
     rw c.to.ensures
     (gives_result c.args.program.now scene m left after here c.leave_frame.ensures.left refl refl refl n c.args.next
-        c.args.value fits
+    c.args.value fits
     c.leave_frame.ensures.frames c.put_result.ensures (c.shade.ensures ∙ rw c.reference_of.ensures refl))
 
 pub returns-clause-keeps : goal.returns-clause-keeps
 returns-clause-keeps c =
     let m = c.args.self.now in
     let left = c.leave_frame.new.self in
-    let after : Machine = record { thread = left.thread; frames = c.put_result.new.frames; slots = left.slots;
-          states = left.states; heap = c.shade.new.self; output = left.output } in
+    let after : Machine = record {
+      thread = left.thread;
+      frames = c.put_result.new.frames;
+      slots = left.slots;
+      states = left.states;
+      heap = c.shade.new.self;
+      output = left.output;
+    } in
     left-keeps c.args.program.now Done (running_frame m.frames ∷ []) m left after _ c.leave_frame.ensures.left refl refl
-        refl refl c.shade.ensures
+    refl refl c.shade.ensures

@@ -18,7 +18,7 @@ returns-in-None-clause-step c = λ scene here.
     let s = site_at program m x.world c.args.next in
     let known : known_at program c.args.place ≡ None = search rules in
     fault_reported program scene m m here NoMethod
-        ∙ sym (ap (λ o. turned program x m.thread (called_none (own_call m.heap s) s m.heap c.args.class o)) known)
+    ∙ sym (ap (λ o. turned program x m.thread (called_none (own_call m.heap s) s m.heap c.args.class o)) known)
 
 pub returns-in-Err-clause-step : goal.returns-in-Err-clause-step
 returns-in-Err-clause-step c = λ scene here.
@@ -31,9 +31,9 @@ returns-in-Err-clause-step c = λ scene here.
     let found : object_found method.arguments (running_frame m.frames).stack ≡ Err c.in-Err.fault = search rules in
     fault_reported program scene m m here c.in-Err.fault
     ∙ ap (λ r. turned program x m.thread (called_object (own_call m.heap s) s m.heap c.args.class (λ kind. None) r))
-        (sym found)
+    (sym found)
     ∙ sym (ap (turned program x m.thread) (called-found (own_call m.heap s) s m.heap c.args.class method.arguments
-        (λ kind. None)))
+    (λ kind. None)))
     ∙ sym (ap (λ o. turned program x m.thread (called_none (own_call m.heap s) s m.heap c.args.class o)) known)
 
 pub returns-in-Ok-None-clause-step : goal.returns-in-Ok-None-clause-step
@@ -47,9 +47,9 @@ returns-in-Ok-None-clause-step c = λ scene here.
     let found : object_found method.arguments (running_frame m.frames).stack ≡ Ok None = search rules in
     c.raise.ensures.step scene here
     ∙ ap (λ r. turned program x m.thread (called_object (own_call m.heap s) s m.heap c.args.class (λ kind. None) r))
-        (sym found)
+    (sym found)
     ∙ sym (ap (turned program x m.thread) (called-found (own_call m.heap s) s m.heap c.args.class method.arguments
-        (λ kind. None)))
+    (λ kind. None)))
     ∙ sym (ap (λ o. turned program x m.thread (called_none (own_call m.heap s) s m.heap c.args.class o)) known)
 
 pub returns-then-is_of-clause-step : goal.returns-then-is_of-clause-step
@@ -65,11 +65,11 @@ returns-then-is_of-clause-step c = λ scene here.
     let found : object_found method.arguments (running_frame m.frames).stack ≡ Ok (Some object) = search rules in
     fault_reported program scene m m here NoMethod ∙ sym (ap (turned program x m.thread)
     (called-this (own_call m.heap s) s c.args.class object (λ kind. None) (kind_held m.heap object) None is
-        (λ kind. refl)))
+    (λ kind. refl)))
     ∙ ap (λ r. turned program x m.thread (called_object (own_call m.heap s) s m.heap c.args.class (λ kind. None) r))
-        (sym found)
+    (sym found)
     ∙ sym (ap (turned program x m.thread) (called-found (own_call m.heap s) s m.heap c.args.class method.arguments
-        (λ kind. None)))
+    (λ kind. None)))
     ∙ sym (ap (λ o. turned program x m.thread (called_none (own_call m.heap s) s m.heap c.args.class o)) known)
 
 pub returns-else-is_of-clause-step : goal.returns-else-is_of-clause-step
@@ -86,7 +86,7 @@ returns-else-is_of-clause-step c = λ scene here.
     fault_reported program scene m m here WrongClass ∙ sym (ap (turned program x m.thread)
     (called-other (own_call m.heap s) s c.args.class object (λ kind. None) (kind_held m.heap object) is))
     ∙ ap (λ r. turned program x m.thread (called_object (own_call m.heap s) s m.heap c.args.class (λ kind. None) r))
-        (sym found)
+    (sym found)
     ∙ sym (ap (turned program x m.thread) (called-found (own_call m.heap s) s m.heap c.args.class method.arguments
-        (λ kind. None)))
+    (λ kind. None)))
     ∙ sym (ap (λ o. turned program x m.thread (called_none (own_call m.heap s) s m.heap c.args.class o)) known)

@@ -18,8 +18,8 @@ returns-in-None-clause-step c = λ scene here lives.
     let s = site_at program m x.world c.args.next in
     let known : known_at program c.args.place ≡ None = search rules in
     fault_reported program scene m m here NoMethod
-        ∙ sym (ap (λ o. turned program x m.thread (called_special (own_call m.heap s) s m.heap c.args.class c.args.place
-        o)) known)
+    ∙ sym (ap (λ o. turned program x m.thread (called_special (own_call m.heap s) s m.heap c.args.class c.args.place
+    o)) known)
 
 pub returns-in-Err-clause-step : goal.returns-in-Err-clause-step
 returns-in-Err-clause-step c = λ scene here lives.
@@ -32,11 +32,11 @@ returns-in-Err-clause-step c = λ scene here lives.
     let found : object_found method.arguments (running_frame m.frames).stack ≡ Err c.in-Err.fault = search rules in
     fault_reported program scene m m here c.in-Err.fault
     ∙ ap (λ r. turned program x m.thread (called_object (own_call m.heap s) s m.heap c.args.class
-        (λ kind. Some c.args.place) r)) (sym found)
+    (λ kind. Some c.args.place) r)) (sym found)
     ∙ sym (ap (turned program x m.thread) (called-found (own_call m.heap s) s m.heap c.args.class method.arguments
-        (λ kind. Some c.args.place)))
+    (λ kind. Some c.args.place)))
     ∙ sym (ap (λ o. turned program x m.thread (called_special (own_call m.heap s) s m.heap c.args.class c.args.place o))
-        known)
+    known)
 
 pub returns-in-Ok-None-clause-step : goal.returns-in-Ok-None-clause-step
 returns-in-Ok-None-clause-step c = λ scene here lives.
@@ -49,11 +49,11 @@ returns-in-Ok-None-clause-step c = λ scene here lives.
     let found : object_found method.arguments (running_frame m.frames).stack ≡ Ok None = search rules in
     rw c.alone.ensures (alone_reported x m.thread _ c.raise.result _ (c.raise.ensures.step scene here))
     ∙ ap (λ r. turned program x m.thread (called_object (own_call m.heap s) s m.heap c.args.class
-        (λ kind. Some c.args.place) r)) (sym found)
+    (λ kind. Some c.args.place) r)) (sym found)
     ∙ sym (ap (turned program x m.thread) (called-found (own_call m.heap s) s m.heap c.args.class method.arguments
-        (λ kind. Some c.args.place)))
+    (λ kind. Some c.args.place)))
     ∙ sym (ap (λ o. turned program x m.thread (called_special (own_call m.heap s) s m.heap c.args.class c.args.place o))
-        known)
+    known)
 
 pub returns-in-Ok-Some-clause-step : goal.returns-in-Ok-Some-clause-step
 returns-in-Ok-Some-clause-step c = λ scene here lives.
@@ -64,14 +64,14 @@ returns-in-Ok-Some-clause-step c = λ scene here lives.
     let method = c.in-Some.method.now in
     let known : known_at program c.args.place ≡ Some method = search rules in
     let found : object_found method.arguments (running_frame m.frames).stack
-          ≡ Ok (Some c.in-Ok-Some.object) = search rules in
+    ≡ Ok (Some c.in-Ok-Some.object) = search rules in
     c.call_special.ensures.step scene here lives
     ∙ ap (λ r. turned program x m.thread (called_object (own_call m.heap s) s m.heap c.args.class
-        (λ kind. Some c.args.place) r)) (sym found)
+    (λ kind. Some c.args.place) r)) (sym found)
     ∙ sym (ap (turned program x m.thread) (called-found (own_call m.heap s) s m.heap c.args.class method.arguments
-        (λ kind. Some c.args.place)))
+    (λ kind. Some c.args.place)))
     ∙ sym (ap (λ o. turned program x m.thread (called_special (own_call m.heap s) s m.heap c.args.class c.args.place o))
-        known)
+    known)
 
 pub returns-in-Ok-None-clause-begins : goal.returns-in-Ok-None-clause-begins
 returns-in-Ok-None-clause-begins c = rw c.alone.ensures (alone_begins c.args.courses.now c.raise.result)

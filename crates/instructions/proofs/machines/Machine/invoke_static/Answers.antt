@@ -18,7 +18,7 @@ returns-in-None-clause-step c = λ scene here.
     let s = site_at program m x.world c.args.next in
     let known : known_at program c.args.place ≡ None = search rules in
     fault_reported program scene m m here NoMethod
-        ∙ sym (ap (λ o. turned program x m.thread (called_static s c.args.place o)) known)
+    ∙ sym (ap (λ o. turned program x m.thread (called_static s c.args.place o)) known)
 
 pub returns-in-Some-argument_fault-clause-step : goal.returns-in-Some-argument_fault-clause-step
 returns-in-Some-argument_fault-clause-step c = λ scene here.
@@ -29,7 +29,7 @@ returns-in-Some-argument_fault-clause-step c = λ scene here.
     let method = c.in-Some.method.now in
     let known : known_at program c.args.place ≡ Some method = search rules in
     let fault : fault_in_pops (reverse method.arguments) (running_frame m.frames).stack
-          ≡ Some c.in-Some-argument_fault.fault = search rules in
+    ≡ Some c.in-Some-argument_fault.fault = search rules in
     let further = runs no_own s c.args.place method None method.body in
     fault_reported program scene m m here c.in-Some-argument_fault.fault
     ∙ sym (ap (λ o. turned program x m.thread (called_static s c.args.place o)) known

@@ -25,11 +25,11 @@ returns-in-Err-clause-step c = λ scene here lives.
     let found : object_found kinds (running_frame m.frames).stack ≡ Err c.in-Err.fault = search rules in
     fault_reported program scene m m here c.in-Err.fault
     ∙ ap (λ r. turned program x m.thread (called_object (own_call m.heap s) s m.heap c.args.class
-        (selected_at program c.args.selector) r)) (sym found)
+    (selected_at program c.args.selector) r)) (sym found)
     ∙ sym (ap (turned program x m.thread) (called-found (own_call m.heap s) s m.heap c.args.class kinds
-        (selected_at program c.args.selector)))
+    (selected_at program c.args.selector)))
     ∙ sym (ap (turned program x m.thread) (virtual-some (own_call m.heap s) s m.heap c.args.class c.args.selector kinds
-        listed))
+    listed))
 
 pub returns-in-Ok-None-clause-step : goal.returns-in-Ok-None-clause-step
 returns-in-Ok-None-clause-step c = λ scene here lives.
@@ -42,11 +42,11 @@ returns-in-Ok-None-clause-step c = λ scene here lives.
     let found : object_found kinds (running_frame m.frames).stack ≡ Ok None = search rules in
     rw c.alone.ensures (alone_reported x m.thread _ c.raise.result _ (c.raise.ensures.step scene here))
     ∙ ap (λ r. turned program x m.thread (called_object (own_call m.heap s) s m.heap c.args.class
-        (selected_at program c.args.selector) r)) (sym found)
+    (selected_at program c.args.selector) r)) (sym found)
     ∙ sym (ap (turned program x m.thread) (called-found (own_call m.heap s) s m.heap c.args.class kinds
-        (selected_at program c.args.selector)))
+    (selected_at program c.args.selector)))
     ∙ sym (ap (turned program x m.thread) (virtual-some (own_call m.heap s) s m.heap c.args.class c.args.selector kinds
-        listed))
+    listed))
 
 pub returns-in-Ok-Some-clause-step : goal.returns-in-Ok-Some-clause-step
 returns-in-Ok-Some-clause-step c = λ scene here lives.
@@ -59,11 +59,11 @@ returns-in-Ok-Some-clause-step c = λ scene here lives.
     let found : object_found kinds (running_frame m.frames).stack ≡ Ok (Some c.in-Ok-Some.object) = search rules in
     c.call_selected.ensures.step scene here lives
     ∙ ap (λ r. turned program x m.thread (called_object (own_call m.heap s) s m.heap c.args.class
-        (selected_at program c.args.selector) r)) (sym found)
+    (selected_at program c.args.selector) r)) (sym found)
     ∙ sym (ap (turned program x m.thread) (called-found (own_call m.heap s) s m.heap c.args.class kinds
-        (selected_at program c.args.selector)))
+    (selected_at program c.args.selector)))
     ∙ sym (ap (turned program x m.thread) (virtual-some (own_call m.heap s) s m.heap c.args.class c.args.selector kinds
-        listed))
+    listed))
 
 pub returns-in-None-clause-step : goal.returns-in-None-clause-step
 returns-in-None-clause-step c = λ scene here lives.
@@ -72,9 +72,9 @@ returns-in-None-clause-step c = λ scene here lives.
     let x = shown program scene m Live in
     let s = site_at program m x.world c.args.next in
     let none : slice_get (selectors program) c.args.selector ≡ None = virtual-none program c.args.selector
-          (search rules) in
+    (search rules) in
     fault_reported program scene m m here NoInstruction
-        ∙ sym (ap (λ o. turned program x m.thread (called_selected (own_call m.heap s) s m.heap c.args.class o)) none)
+    ∙ sym (ap (λ o. turned program x m.thread (called_selected (own_call m.heap s) s m.heap c.args.class o)) none)
 
 pub returns-in-Ok-None-clause-begins : goal.returns-in-Ok-None-clause-begins
 returns-in-Ok-None-clause-begins c = rw c.alone.ensures (alone_begins c.args.courses.now c.raise.result)

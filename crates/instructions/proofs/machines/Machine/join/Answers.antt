@@ -16,8 +16,8 @@ returns-then-lives-clause-step c = λ scene here lives.
     sym c.if-lives.true ∙ c.lives.ensures ∙ ap (lives_on c.args.courses.now) c.thread.ensures in
     rw c.to-turned.ensures
     (waits_reported program scene m
-        ∙ sym (ap (turned program x m.thread) (join-is program scene m c.args.courses.now lives c.args.next
-        c.args.object true is)))
+    ∙ sym (ap (turned program x m.thread) (join-is program scene m c.args.courses.now lives c.args.next
+    c.args.object true is)))
 
 pub returns-else-lives-clause-step : goal.returns-else-lives-clause-step
 returns-else-lives-clause-step c = λ scene here lives.
@@ -28,4 +28,4 @@ returns-else-lives-clause-step c = λ scene here lives.
     sym c.if-lives.false ∙ c.lives.ensures ∙ ap (lives_on c.args.courses.now) c.thread.ensures in
     c.do_nothing-turned.ensures.step scene here
     ∙ sym (ap (turned program x m.thread) (join-is program scene m c.args.courses.now lives c.args.next c.args.object
-        false is))
+    false is))

@@ -17,8 +17,14 @@ returns-then-is_initializer-clause-step c = λ n scene here.
     let m = c.args.self.now in
     let left = c.leave_frame.new.self in
     let runs : runs_initializer c.args.program.now (running_frame m.frames) ≡ true = search rules in
-    let after : Machine = record { thread = left.thread; frames = c.set_mark.new.self; slots = left.slots;
-          states = left.states; heap = left.heap; output = left.output } in
+    let after : Machine = record {
+      thread = left.thread;
+      frames = c.set_mark.new.self;
+      slots = left.slots;
+      states = left.states;
+      heap = left.heap;
+      output = left.output;
+    } in
     rw c.to.ensures
     (wakes_left c.args.program.now scene m left after here c.leave_frame.ensures.left refl refl refl n c.args.value
     c.requires.caller.some runs c.leave_frame.ensures.frames c.set_mark.ensures refl)
@@ -27,10 +33,16 @@ pub returns-then-is_initializer-clause-keeps : goal.returns-then-is_initializer-
 returns-then-is_initializer-clause-keeps c =
     let m = c.args.self.now in
     let left = c.leave_frame.new.self in
-    let after : Machine = record { thread = left.thread; frames = c.set_mark.new.self; slots = left.slots;
-          states = left.states; heap = left.heap; output = left.output } in
+    let after : Machine = record {
+      thread = left.thread;
+      frames = c.set_mark.new.self;
+      slots = left.slots;
+      states = left.states;
+      heap = left.heap;
+      output = left.output;
+    } in
     left-keeps c.args.program.now Done (running_frame m.frames ∷ []) m left after None c.leave_frame.ensures.left refl
-        refl refl refl refl
+    refl refl refl refl
 
 pub returns-in-Some-clause-step : goal.returns-in-Some-clause-step
 returns-in-Some-clause-step c = λ n scene here.
@@ -40,12 +52,12 @@ returns-in-Some-clause-step c = λ n scene here.
     let s = site_at program m x.world n in
     let runs : runs_initializer program (running_frame m.frames) ≡ false = search rules in
     let next : Some c.in-Some.next ≡ next_at program (running_frame (callers m.frames)).method
-          (running_frame (callers m.frames)).pc =
+    (running_frame (callers m.frames)).pc =
     c.in-Some.ensures ∙ ap (λ (head : FrameHead). next_at program head.method head.pc) c.requires.caller.is in
     c.go_on.ensures.step n scene here
     ∙ sym (ap (turned program x m.thread)
     (goes_on s m.frames (frames_shown program scene m here) c.args.value c.requires.caller.some runs c.in-Some.next
-        next))
+    next))
 
 pub returns-in-None-clause-step : goal.returns-in-None-clause-step
 returns-in-None-clause-step c = λ n scene here.

@@ -13,11 +13,11 @@ returns-in-None-clause-step c = λ n scene here.
     let left = c.leave_frame.new.self in
     rw c.to.ensures
     (ends_all c.args.program.now scene m left left here c.leave_frame.ensures.left refl refl refl n c.args.value
-        c.in-None.ensures refl)
+    c.in-None.ensures refl)
 
 pub returns-in-None-clause-keeps : goal.returns-in-None-clause-keeps
 returns-in-None-clause-keeps c =
     let m = c.args.self.now in
     let left = c.leave_frame.new.self in
     left-keeps c.args.program.now Done (running_frame m.frames ∷ []) m left left None c.leave_frame.ensures.left refl
-        refl refl refl refl
+    refl refl refl refl

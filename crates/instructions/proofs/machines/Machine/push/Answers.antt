@@ -19,11 +19,17 @@ returns-in-Ok-clause-step c = λ scene here.
     let s = site_at program m x.world c.args.next in
     let heap : c.shade.new.self ≡ shaded m.heap (ref_of (value_of c.args.slot)) = search rules in
     rw c.to.ensures (goes_reported program scene m
-    (record { thread = m.thread; frames = c.replace_slot_if_room.new.self; slots = m.slots; states = m.states;
-        heap = c.shade.new.self; output = m.output })
+    (record {
+      thread = m.thread;
+      frames = c.replace_slot_if_room.new.self;
+      slots = m.slots;
+      states = m.states;
+      heap = c.shade.new.self;
+      output = m.output;
+    })
     here (births_of ((value_of c.args.slot) ∷ [])) refl refl refl (heap ∙ barrier m.heap (value_of c.args.slot)))
     ∙ sym (ap (turned program x m.thread) (push_done s m.frames (frames_shown program scene m here)
-        c.replace_slot_if_room.new.self c.args.count (value_of c.args.slot)
+    c.replace_slot_if_room.new.self c.args.count (value_of c.args.slot)
     c.in-Ok.ensures.step))
 
 pub returns-in-Err-clause-step : goal.returns-in-Err-clause-step
@@ -36,6 +42,6 @@ returns-in-Err-clause-step c = λ scene here.
     let kept : c.replace_slot_if_room.new.self ≡ m.frames = search rules in
     (rw kept at c.complete_abruptly.ensures.step scene here)
     ∙ sym (ap (turned program x m.thread)
-        (push_abrupt s m.frames (replaced_if_room c.args.next f c.args.count ((value_of c.args.slot) ∷ []))
-        c.in-Err.abrupt
+    (push_abrupt s m.frames (replaced_if_room c.args.next f c.args.count ((value_of c.args.slot) ∷ []))
+    c.in-Err.abrupt
     c.in-Err.ensures.step))

@@ -22,15 +22,21 @@ returns-else-not-takes-clause-step c = λ scene here.
     let place : ℕ × ℕ = (c.in-Ok.reference, c.in-Ok.place) in
     let is : Ok (c.in-Ok.reference, c.in-Ok.place) ≡ place_of_element m.heap c.args.kind c.args.index c.args.reference =
     c.in-Ok.ensures ∙ ap (λ z. place_of_element m.heap c.args.kind z c.args.reference)
-        (to_z-of_z w32 c.args.index c.ranges.index) in
+    (to_z-of_z w32 c.args.index c.ranges.index) in
     let found = place_held m.heap c.args.kind c.args.index c.args.reference place is in
     let heap : c.shade.new.self ≡ shaded (written m.heap c.in-Ok.reference c.in-Ok.place (kept storage v)) (ref_of v) =
     c.shade.ensures ∙ rw (c.put.ensures, c.kept.ensures, c.storage_in.ensures, c.reference_of.ensures) refl in
     let taken : true ≡ takes program m.heap (kind_held m.heap c.in-Ok.reference) v =
     c.if-not-takes.ensures ∙ ap (λ kind. takes program m.heap kind v) c.kind.ensures in
     rw c.to.ensures (stored_reported program scene m here c.args.next
-    (record { thread = m.thread; frames = c.discard.new.self; slots = m.slots; states = m.states;
-        heap = c.shade.new.self; output = m.output })
+    (record {
+      thread = m.thread;
+      frames = c.discard.new.self;
+      slots = m.slots;
+      states = m.states;
+      heap = c.shade.new.self;
+      output = m.output;
+    })
     place storage v found.0 found.1 c.discard.ensures heap refl refl refl)
     ∙ ap (λ b. turned program x m.thread (put_if s storage v place b)) taken
     ∙ ap (λ r. turned program x m.thread (element_put_by s m.heap storage v r)) is

@@ -20,7 +20,7 @@ returns-in-Ok-Some-clause-step c = λ scene here.
     c.put_word.ensures.step scene here
     ∙ ap (λ r. turned program x m.thread (field_put_at s m.heap field.class field.word field.declarer storage r))
     (operands_are _ _ c.in-Ok.value (Some c.in-Ok-Some.reference) (rw c.kind.ensures at c.in-Ok.ensures.value)
-        (sym (ap Ok c.in-Ok-Some.field-0-is) ∙ c.in-Ok-Some.ensures))
+    (sym (ap Ok c.in-Ok-Some.field-0-is) ∙ c.in-Ok-Some.ensures))
 
 pub returns-in-Ok-None-clause-step : goal.returns-in-Ok-None-clause-step
 returns-in-Ok-None-clause-step c = λ scene here.
@@ -34,7 +34,7 @@ returns-in-Ok-None-clause-step c = λ scene here.
     c.raise.ensures.step scene here
     ∙ ap (λ r. turned program x m.thread (field_put_at s m.heap field.class field.word field.declarer storage r))
     (operands_are _ _ c.in-Ok.value None (rw c.kind.ensures at c.in-Ok.ensures.value)
-        (sym (ap Ok c.in-Ok-None.field-0-is) ∙ c.in-Ok-None.ensures))
+    (sym (ap Ok c.in-Ok-None.field-0-is) ∙ c.in-Ok-None.ensures))
 
 pub returns-in-Err-reference_below-clause-step : goal.returns-in-Err-reference_below-clause-step
 returns-in-Err-reference_below-clause-step c = λ scene here.

@@ -13,10 +13,16 @@ returns-in-Ok-clause-step c = λ scene here.
     let v = c.in-Ok.value in
     let heap : c.shade.new.self ≡ shaded m.heap (ref_of v) = search rules in
     rw c.to.ensures (put_reported program scene m
-    (record { thread = m.thread; frames = c.discard.new.self; slots = c.put.new.self; states = m.states;
-        heap = c.shade.new.self; output = m.output })
+    (record {
+      thread = m.thread;
+      frames = c.discard.new.self;
+      slots = c.put.new.self;
+      states = m.states;
+      heap = c.shade.new.self;
+      output = m.output;
+    })
     here c.args.next c.args.slot (shown_storage c.args.storage) v _ (rw c.kind.ensures at c.in-Ok.ensures.value)
-        c.discard.ensures (c.put.ensures ∙ ap (slice_set m.slots c.args.slot) c.kept.ensures) refl refl
+    c.discard.ensures (c.put.ensures ∙ ap (slice_set m.slots c.args.slot) c.kept.ensures) refl refl
     (heap ∙ barrier m.heap v))
 
 pub returns-in-Err-clause-step : goal.returns-in-Err-clause-step

@@ -12,18 +12,20 @@ returns-in-Some-clause-step c = λ scene here.
     let program = c.args.program.now in
     let x = shown program scene m Live in
     let there : slice_get (static_slots program) c.args.slot
-          ≡ Some c.in-Some.declared = rw (← c.tables.ensures.slots_are, ← c.slots.ensures) (sym c.in-Some.ensures) in
+    ≡ Some c.in-Some.declared = rw (← c.tables.ensures.slots_are, ← c.slots.ensures) (sym c.in-Some.ensures) in
     c.put_slot.ensures.step scene here
     ∙ sym (ap (λ o. turned program x m.thread (static_put_if (site_at program m x.world c.args.next) c.args.slot o))
-        there)
+    there)
 
 pub returns-in-None-clause-step : goal.returns-in-None-clause-step
 returns-in-None-clause-step c = λ scene here.
     let m = c.args.self.now in
     let program = c.args.program.now in
     let x = shown program scene m Live in
-    let there : slice_get (static_slots program) c.args.slot ≡ None = rw (← c.tables.ensures.slots_are,
-          ← c.slots.ensures) (sym c.in-None.ensures) in
+    let there : slice_get (static_slots program) c.args.slot ≡ None = rw (
+      ← c.tables.ensures.slots_are,
+      ← c.slots.ensures,
+    ) (sym c.in-None.ensures) in
     fault_reported program scene m m here _
     ∙ sym (ap (λ o. turned program x m.thread (static_put_if (site_at program m x.world c.args.next) c.args.slot o))
-        there)
+    there)

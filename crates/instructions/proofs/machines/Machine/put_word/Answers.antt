@@ -20,10 +20,16 @@ returns-in-Some-clause-step c = λ scene here.
     let heap : c.shade.new.self ≡ shaded (written m.heap c.args.reference c.in-Some.place (kept storage v)) (ref_of v) =
     c.shade.ensures ∙ rw (c.put.ensures, c.from.ensures, c.kept.ensures, c.reference_of.ensures) refl in
     rw c.to.ensures (put_word_reported program scene m here c.args.next
-    (record { thread = m.thread; frames = c.discard.new.self; slots = m.slots; states = m.states;
-        heap = c.shade.new.self; output = m.output })
+    (record {
+      thread = m.thread;
+      frames = c.discard.new.self;
+      slots = m.slots;
+      states = m.states;
+      heap = c.shade.new.self;
+      output = m.output;
+    })
     field.class field.word field.declarer c.args.reference c.in-Some.place storage v c.in-Some.ensures c.discard.ensures
-        heap refl refl refl)
+    heap refl refl refl)
 
 pub returns-in-Some-clause-keeps : goal.returns-in-Some-clause-keeps
 returns-in-Some-clause-keeps c = record {
@@ -48,4 +54,4 @@ returns-in-None-clause-step c = λ scene here.
     let s = site_at program m x.world c.args.next in
     fault_reported program scene m m here _
     ∙ ap (λ o. turned program x m.thread (word_put_at s (shown_storage c.args.storage) c.args.value c.args.reference o))
-        c.in-None.ensures
+    c.in-None.ensures

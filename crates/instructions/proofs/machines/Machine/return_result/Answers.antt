@@ -26,7 +26,7 @@ returns-in-None-clause-step c = λ n scene here.
     let same : gives c.args.kind (method_at program (running_frame m.frames).method) ≡ true = search rules in
     rw c.in-None.is
     (c.leave_with.ensures.step n scene here
-        ∙ sym (ap (turned program x m.thread) (gives_nothing s (rw c.in-None.is at same))))
+    ∙ sym (ap (turned program x m.thread) (gives_nothing s (rw c.in-None.is at same))))
 
 pub returns-in-Ok-clause-step : goal.returns-in-Ok-clause-step
 returns-in-Ok-clause-step c = λ n scene here.

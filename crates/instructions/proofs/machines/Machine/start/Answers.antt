@@ -23,7 +23,7 @@ returns-then-is_some-clause-step c = λ scene here lives.
     sym (ap is_some c.thread.ensures) ∙ sym c.is_some.ensures ∙ c.if-is_some.true in
     rw c.alone.ensures (alone_reported x m.thread _ c.raise.result _ (c.raise.ensures.step scene here))
     ∙ sym (ap (turned program x m.thread) (start-again program scene m c.args.courses.now lives c.args.next
-        c.args.object c.requires.object is))
+    c.args.object c.requires.object is))
 
 pub returns-then-courses-ge-MOST_THREADS-clause-step : goal.returns-then-courses-ge-MOST_THREADS-clause-step
 returns-then-courses-ge-MOST_THREADS-clause-step c = λ scene here lives.
@@ -34,7 +34,7 @@ returns-then-courses-ge-MOST_THREADS-clause-step c = λ scene here lives.
     sym (ap is_some c.thread.ensures) ∙ sym c.is_some.ensures ∙ c.if-is_some.false in
     fault_reported program scene m m here ThreadLimit
     ∙ sym (ap (turned program x m.thread) (start-full program scene m c.args.courses.now lives c.args.next c.args.object
-        c.requires.object is
+    c.requires.object is
     c.if-courses-ge-MOST_THREADS.true))
 
 pub returns-in-Some-begun_of-clause-step : goal.returns-in-Some-begun_of-clause-step
@@ -47,10 +47,10 @@ returns-in-Some-begun_of-clause-step c = λ scene here lives.
     let few : length c.args.courses.now < 64 = omega (arith, c.if-courses-ge-MOST_THREADS.false) in
     let begun : Some c.in-Some-begun_of.begun ≡ begun_of program c.args.object (kind_held m.heap c.args.object) =
     sym c.in-Some-begun_of.is ∙ c.begun_of.ensures
-        ∙ sym (ap (begun_of program c.args.object) (sym c.kind.ensures ∙ c.in-Some.is)) in
+    ∙ sym (ap (begun_of program c.args.object) (sym c.kind.ensures ∙ c.in-Some.is)) in
     c.begin.ensures.step scene here lives
     ∙ sym (ap (turned program x m.thread) (start-new program scene m c.args.courses.now lives c.args.next c.args.object
-        c.requires.object is few _ begun))
+    c.requires.object is few _ begun))
 
 pub returns-in-Some-begun_of-clause-begins : goal.returns-in-Some-begun_of-clause-begins
 returns-in-Some-begun_of-clause-begins c =
@@ -59,7 +59,7 @@ returns-in-Some-begun_of-clause-begins c =
     let few : length c.args.courses.now < 64 = omega (arith, c.if-courses-ge-MOST_THREADS.false) in
     rw c.begin.ensures.begun
     (can-begin program (unrefused program accepted) (none_hides program accepted) c.args.courses.now few c.args.object
-        c.in-Some.kind
+    c.in-Some.kind
     c.in-Some-begun_of.begun (sym c.begun_of.ensures ∙ c.in-Some-begun_of.is))
 
 pub returns-in-None-begun_of-clause-step : goal.returns-in-None-begun_of-clause-step
@@ -72,7 +72,7 @@ returns-in-None-begun_of-clause-step c = λ scene here lives.
     let few : length c.args.courses.now < 64 = omega (arith, c.if-courses-ge-MOST_THREADS.false) in
     let begun : None ≡ begun_of program c.args.object (kind_held m.heap c.args.object) =
     sym c.in-None-begun_of.is ∙ c.begun_of.ensures
-        ∙ sym (ap (begun_of program c.args.object) (sym c.kind.ensures ∙ c.in-Some.is)) in
+    ∙ sym (ap (begun_of program c.args.object) (sym c.kind.ensures ∙ c.in-Some.is)) in
     fault_reported program scene m m here NoMethod
     ∙ sym (ap (turned program x m.thread) (start-new program scene m c.args.courses.now lives c.args.next c.args.object
-        c.requires.object is few _ begun))
+    c.requires.object is few _ begun))

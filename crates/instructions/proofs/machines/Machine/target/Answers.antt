@@ -15,9 +15,9 @@ returns-in-Handles-clause-way c =
     let test = c.loop-left-test.true in
     let within : c.loop-left.left < length frames = omega (arith, test, count) in
     found_handler frames program (kind_name program c.args.kind) c.loop-left.left within c.loop-left.invariant
-        c.in-Handles.handler
+    c.in-Handles.handler
     (answered program c.args.kind frames c.loop-left.left c.depth-depth.result c.in-Some.head c.frame_at.result _
-        c.requires.accepted c.requires.thrown count
+    c.requires.accepted c.requires.thrown count
     test c.frame_at.ensures c.in-Some.is c.in-Handles.ensures)
 
 pub returns-in-Fails-clause-way : goal.returns-in-Fails-clause-way
@@ -29,7 +29,7 @@ returns-in-Fails-clause-way c =
     let within : c.loop-left.left < length frames = omega (arith, test, count) in
     found_initializer frames program (kind_name program c.args.kind) c.loop-left.left within c.loop-left.invariant
     (answered program c.args.kind frames c.loop-left.left c.depth-depth.result c.in-Some.head c.frame_at.result _
-        c.requires.accepted c.requires.thrown count
+    c.requires.accepted c.requires.thrown count
     test c.frame_at.ensures c.in-Some.is c.in-Fails.ensures)
 
 pub loop-left-preserved : goal.loop-left-preserved
@@ -41,7 +41,7 @@ loop-left-preserved c =
     let within : c.loop-left.left < length frames = omega (arith, test, count) in
     seeks_next frames program (kind_name program c.args.kind) c.loop-left.left within c.loop-left.invariant
     (answered program c.args.kind frames c.loop-left.left c.depth-depth.result c.in-Some.head c.frame_at.result _
-        c.requires.accepted c.requires.thrown count
+    c.requires.accepted c.requires.thrown count
     test c.frame_at.ensures c.in-Some.is c.in-Leaves.ensures)
 
 pub returns-clause-way : goal.returns-clause-way
@@ -52,4 +52,4 @@ returns-clause-way c =
     let test = c.loop-left-test.false in
     let end = c.loop-left.auto.left-end in
     found_nowhere frames program (kind_name program c.args.kind) c.loop-left.left (omega (arith, test, count))
-        (omega (arith, end, count)) c.loop-left.invariant
+    (omega (arith, end, count)) c.loop-left.invariant

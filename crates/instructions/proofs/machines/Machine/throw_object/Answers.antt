@@ -21,7 +21,7 @@ returns-in_default-clause-step c = λ scene here.
     let x = shown program scene m Live in
     let is : kind_held m.heap c.args.reference ≡ None = search rules in
     fault_reported program scene m m here _
-        ∙ sym (ap (λ o. turned program x m.thread (throws_kind program c.args.reference o)) is)
+    ∙ sym (ap (λ o. turned program x m.thread (throws_kind program c.args.reference o)) is)
 
 pub returns-then-is_throwable-clause-step : goal.returns-then-is_throwable-clause-step
 returns-then-is_throwable-clause-step c = λ scene here.
@@ -33,7 +33,7 @@ returns-then-is_throwable-clause-step c = λ scene here.
     let yes : is_throwable program c.in-Some.kind ≡ true = search rules in
     c.throw.ensures.step scene here ∙ throws_there program scene m here r
     ∙ sym (ap (λ o. turned program x m.thread (throws_kind program r o)) is
-        ∙ ap (λ b. turned program x m.thread (if b then Throws r else Faults WrongClass)) yes)
+    ∙ ap (λ b. turned program x m.thread (if b then Throws r else Faults WrongClass)) yes)
 
 pub returns-else-is_throwable-clause-step : goal.returns-else-is_throwable-clause-step
 returns-else-is_throwable-clause-step c = λ scene here.
@@ -45,4 +45,4 @@ returns-else-is_throwable-clause-step c = λ scene here.
     let other : is_throwable program c.in-Some.kind ≡ false = search rules in
     fault_reported program scene m m here _
     ∙ sym (ap (λ o. turned program x m.thread (throws_kind program r o)) is
-        ∙ ap (λ b. turned program x m.thread (if b then Throws r else Faults WrongClass)) other)
+    ∙ ap (λ b. turned program x m.thread (if b then Throws r else Faults WrongClass)) other)

@@ -11,4 +11,4 @@ returns-in-Err-clause-step c = λ scene here.
     let program = c.args.program.now in
     let x = shown program scene m Live in
     fault_reported program scene m m here c.in-Err.fault
-        ∙ ap (λ r. turned program x m.thread (throws_operand program m.heap r)) c.in-Err.ensures.value
+    ∙ ap (λ r. turned program x m.thread (throws_operand program m.heap r)) c.in-Err.ensures.value

@@ -6,4 +6,4 @@ use Rattle.instructions.proofs.state.State.helds.Given as goal
 abbrev pub invariant-loop-cell : goal.invariant-loop-cell
 invariant-loop-cell l =
     l.views.items ++ helds_from l.self.machine l.cell (drop l.cell l.self.machine.account.cells)
-        ≡ helds_from l.self.machine 0 l.self.machine.account.cells
+    ≡ helds_from l.self.machine 0 l.self.machine.account.cells

@@ -18,11 +18,11 @@ returns c =
     let objects = a.machine.heap.objects in
     rw (← c.self.view_is)
     (if_ok _ (λ marks. AreMarks (state_shown a.program a.machine a.threads a.fault a.rows).world marks.items)
-        c.reached.result
+    c.reached.result
     (λ marks are r below. (
     let count : length (map (object_shown a.program) objects)
-          ≡ length objects = length-map objects (object_shown a.program) in
+    ≡ length objects = length-map objects (object_shown a.program) in
     are r (omega (arith, below, count))
     ∙ ap (λ t. Some t) (looked_reached a.program threads a.machine.slots a.machine.states.items objects
-        a.machine.output.items a.fault a.rows r)))
+    a.machine.output.items a.fault a.rows r)))
     c.reached.ensures)

@@ -9,7 +9,7 @@ returns-in-Some c =
     let least = least-either c.args.start c.count-count.result c.min-start.result c.min-start.ensures in
     rw (← c.self.view_is)
     (first_ready a c.args.start c.min-start.result c.count-count.result c.count-count.ensures least.0 least.1
-        c.in-Some.thread
+    c.in-Some.thread
     (rw (← c.self.view_is) at (sym c.in-Some.is ∙ c.ready_among.ensures)))
 
 pub returns-in-None : goal.returns-in-None

@@ -14,7 +14,7 @@ returns-then-branch c =
     let threads : List Thread = all_shown a.program a.threads a.machine.thread a.machine.frames in
     let mark : is_reached x.world (suc c.in-Some.cell) ≡ true =
     sym (looked_reached a.program threads a.machine.slots a.machine.states.items a.machine.heap.objects
-        a.machine.output.items a.fault a.rows (suc c.in-Some.cell))
+    a.machine.output.items a.fault a.rows (suc c.in-Some.cell))
     ∙ sym c.in_ok-is_reached.ensures ∙ c.if-branch.true in
     rw (← c.self.view_is)
     (subst (λ o. IfOk c.object_view.result (λ view. view ≡ o))
@@ -28,7 +28,7 @@ returns-else-branch c =
     let threads : List Thread = all_shown a.program a.threads a.machine.thread a.machine.frames in
     let mark : is_reached x.world (suc c.in-Some.cell) ≡ false =
     sym (looked_reached a.program threads a.machine.slots a.machine.states.items a.machine.heap.objects
-        a.machine.output.items a.fault a.rows (suc c.in-Some.cell))
+    a.machine.output.items a.fault a.rows (suc c.in-Some.cell))
     ∙ sym c.in_ok-is_reached.ensures ∙ c.if-branch.false in
     rw (← c.self.view_is) (in_unreached_cell x c.args.birth c.in-Some.cell (sym c.cell_of.ensures.cell ∙ c.in-Some.is)
-        mark)
+    mark)

@@ -8,4 +8,4 @@ loop-thread-preserved c =
     let s = c.args.self.now in
     c.loop-thread.invariant
     ∙ passed-next (is_ready s.program s.machine.world) c.loop-thread.thread c.args.to c.loop-thread-test.true
-        (sym c.is_ready.ensures ∙ c.if-is_ready.false)
+    (sym c.is_ready.ensures ∙ c.if-is_ready.false)

@@ -9,9 +9,9 @@ returns-then-is_held_by_output c =
     let s = c.args.self.now in
     let p = is_held_by_output s.program s.limits s.machine.world in
     any-here p c.loop-thread.thread c.count-count.result c.loop-thread-test.true (sym c.is_held_by_output.ensures
-        ∙ c.if-is_held_by_output.true)
+    ∙ c.if-is_held_by_output.true)
     ∙ sym c.loop-thread.invariant
-        ∙ rw (← c.self.view_is) (some_held c.self.inside _ c.count-count.result c.count-count.ensures)
+    ∙ rw (← c.self.view_is) (some_held c.self.inside _ c.count-count.result c.count-count.ensures)
 
 pub loop-thread-preserved : goal.loop-thread-preserved
 loop-thread-preserved c =
@@ -19,7 +19,7 @@ loop-thread-preserved c =
     let p = is_held_by_output s.program s.limits s.machine.world in
     c.loop-thread.invariant
     ∙ any-next p c.loop-thread.thread c.count-count.result c.loop-thread-test.true (sym c.is_held_by_output.ensures
-        ∙ c.if-is_held_by_output.false)
+    ∙ c.if-is_held_by_output.false)
 
 pub returns : goal.returns
 returns c =
@@ -27,4 +27,4 @@ returns c =
     let p = is_held_by_output s.program s.limits s.machine.world in
     any-none p c.loop-thread.thread c.count-count.result c.loop-thread-test.false
     ∙ sym c.loop-thread.invariant
-        ∙ rw (← c.self.view_is) (some_held c.self.inside _ c.count-count.result c.count-count.ensures)
+    ∙ rw (← c.self.view_is) (some_held c.self.inside _ c.count-count.result c.count-count.ensures)

@@ -24,9 +24,9 @@ returns-in_ok-named-in-Some-Live c =
     let live = sym (lives_now a c.args.thread) ∙ ap (λ o. option_map_or goes_on o false) started in
     ap (λ fs. Some (LiveThread fs)) (c.in_ok-named-in-Some-Live.ensures
     ∙ ap (map (named_frame births)) (c.deref.ensures.value ∙ c.in_ok-frames-in-Some-Live.ensures
-        ∙ sym c.frames.ensures))
+    ∙ sym c.frames.ensures))
     ∙ rw (← c.self.view_is)
-        (sym (ap (option_map (named_thread births)) (live_thread (slice_get (now a).threads c.args.thread) live)))
+    (sym (ap (option_map (named_thread births)) (live_thread (slice_get (now a).threads c.args.thread) live)))
 
 pub returns-in-Some-Returned : goal.returns-in-Some-Returned
 returns-in-Some-Returned c =

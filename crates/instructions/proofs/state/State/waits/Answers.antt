@@ -10,6 +10,6 @@ returns c =
     let t = c.args.thread in
     c.waits.ensures
     ∙ ap (λ courses. waits_at a.program courses a.machine t (running c.frames-frames.result.now))
-        c.courses-courses.ensures.courses
+    c.courses-courses.ensures.courses
     ∙ ap (λ fs. waits_at a.program a.threads.courses a.machine t (running fs)) (sym c.frames-frames.ensures)
     ∙ rw (← c.self.view_is) (waits_now a c.self.invariant t)

@@ -9,4 +9,4 @@ abbrev pub invariant-loop-place : goal.invariant-loop-place
 invariant-loop-place l =
     let shown = map (named_field (birth_read l.heap.account.cells)) in
     l.views.items ++ shown (keyed (drop l.place (map unwritten l.fields)) (drop l.place l.words))
-        ≡ shown (keyed (map unwritten l.fields) l.words)
+    ≡ shown (keyed (map unwritten l.fields) l.words)

@@ -12,6 +12,6 @@ invariant_of-result c = record {
       ∙ ap (λ xs. position (λ x. bytes_eq x.bytes.now name.bytes.now) xs) c.deref.ensures.value
       ∙ position-map (λ x. x.bytes.now) (λ x. bytes_eq x name.bytes.now) c.in_ok-names.names.items
       ∙ (λ j. position (λ x. nat_list_eq_equiv.symm x name.bytes.now j)
-          (map (λ x. x.bytes.now) c.in_ok-names.names.items))
+      (map (λ x. x.bytes.now) c.in_ok-names.names.items))
       ∙ ap (position (bytes_eq name.bytes.now)) c.in_ok-names.ensures;
 }

@@ -10,4 +10,4 @@ abbrev pub invariant-loop-class : goal.invariant-loop-class
 invariant-loop-class l =
     (name : NameKey)
     → (list_any (λ k. bytes_eq name.bytes.now k.bytes.now) l.names.keys || declares_named (drop l.class-index l.program)
-        name.bytes.now) ≡ declares_named l.program name.bytes.now
+    name.bytes.now) ≡ declares_named l.program name.bytes.now

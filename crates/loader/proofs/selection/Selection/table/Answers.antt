@@ -9,4 +9,4 @@ returns c =
     λ program is k at.
     subst (IsClassTable program k.name) (sym c.as_slice.ensures.value)
     (table-at program c.args.self.now.tables.items (all_classes program) c.args.class c.index.result.now k is at
-        c.index.ensures (omega arith)).rows_are
+    c.index.ensures (omega arith)).rows_are

@@ -10,15 +10,15 @@ use Rattle.loader.proofs.selection_rows.ClassRows.of_class.Goals as goal
 pub returns-in_default : goal.returns-in_default
 returns-in_default c =
     gathers-missing c.args.classes.now c.args.class.now (enough_steps c.args.classes.now) c.loop.counter c.loop.next.now
-        (gathered c.loop.rows)
+    (gathered c.loop.rows)
     c.loop.invariant c.in_default.ensures.class
 
 pub loop-preserved : goal.loop-preserved
 loop-preserved c =
     gathers-next c.args.classes.now c.args.class.now (enough_steps c.args.classes.now) c.loop.counter c.in-Some.number
-        c.loop.next.now c.as_bytes-next.result.now
+    c.loop.next.now c.as_bytes-next.result.now
     c.class-declaring.result.now (gathered c.loop.rows) (gathered c.add_methods.new.self) c.loop.invariant (omega arith)
-        c.class-declaring.ensures
+    c.class-declaring.ensures
     (sym c.in-Some.ensures.class ∙ c.class-declaring.ensures)
     (c.as_bytes-next.ensures ∙ ap (λ (x : ClassListing). x.superclass) c.declaring.view_is)
     (λ n d. c.in_ok-add_methods.ensures n d
@@ -28,5 +28,5 @@ loop-preserved c =
 pub returns : goal.returns
 returns c =
     gathers-over c.args.classes.now c.args.class.now (enough_steps c.args.classes.now) c.loop.counter c.loop.next.now
-        (gathered c.loop.rows)
+    (gathered c.loop.rows)
     c.loop.invariant (omega arith)

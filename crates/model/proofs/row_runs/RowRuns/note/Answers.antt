@@ -18,4 +18,4 @@ returns c =
     rw (← c.self.view_is)
     (ap (λ (rows : List Row). record { rows = rows; room = vec_capacity c.push_runs.new.runs }) c.push_runs.ensures.rows
     ∙ ap (λ (room : ℕ). record { rows = rows_in a.runs.items ++ c.args.row ∷ []; room = room })
-        c.push_runs.ensures.capacity)
+    c.push_runs.ensures.capacity)

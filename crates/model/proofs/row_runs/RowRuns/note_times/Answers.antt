@@ -10,10 +10,18 @@ push_runs-requires-clause-room c = λ left.
     let a = c.self.inside in
     let some : 0 < c.args.times = omega (arith, left) in
     let room : length (rows_in a.runs.items) + c.args.times ≤ vec_capacity
-          a.runs = (rw (← c.self.view_is) at c.requires) some in
+    a.runs = (rw (← c.self.view_is) at c.requires) some in
     let fits = runs_fit a.runs.items c.self.invariant.0 in
-    omega (arith, room, fits, c.lengthen-more.ensures.len, c.lengthen-more.ensures.capacity,
-        c.lengthen-more.ensures.most, a.runs.ok.0, left)
+    omega (
+      arith,
+      room,
+      fits,
+      c.lengthen-more.ensures.len,
+      c.lengthen-more.ensures.capacity,
+      c.lengthen-more.ensures.most,
+      a.runs.ok.0,
+      left,
+    )
 
 pub returns : goal.returns
 returns c =
@@ -21,7 +29,7 @@ returns c =
     rw (← c.self.view_is)
     (ap (λ (rows : List Row). record { rows = rows; room = vec_capacity c.push_runs.new.runs })
     (rows_noted (rows_in a.runs.items) (rows_in c.lengthen-more.new.runs.items) (rows_in c.push_runs.new.runs.items)
-        c.args.row c.args.times c.lengthen-more.result
+    c.args.row c.args.times c.lengthen-more.result
     c.lengthen-more.ensures.rows c.lengthen-more.ensures.most c.push_runs.ensures.rows)
     ∙ ap (λ (room : ℕ). record { rows = rows_in a.runs.items ++ replicate c.args.times c.args.row; room = room })
-        (c.push_runs.ensures.capacity ∙ c.lengthen-more.ensures.capacity))
+    (c.push_runs.ensures.capacity ∙ c.lengthen-more.ensures.capacity))

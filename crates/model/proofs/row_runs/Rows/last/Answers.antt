@@ -8,4 +8,4 @@ returns-in-len1-up c =
     let last : length a.runs.now - 1 + 1 ≡ length a.runs.now = omega (arith, c.in-len1-up.len_at_least) in
     rw (← c.self.view_is)
     (ap Some c.row.ensures ∙ last_left a.passed a.runs.now (length a.runs.now - 1) no_run c.self.invariant.sound
-        c.self.invariant.inside last)
+    c.self.invariant.inside last)

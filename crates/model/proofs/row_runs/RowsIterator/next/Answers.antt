@@ -17,10 +17,14 @@ returns-else-self-times-clause-steps c =
     let a = c.self.inside in
     let some = c.in-len1-up.len_at_least in
     let inside = within_first a.passed a.runs.now no_run c.self.invariant.inside some in
-    let all : a.passed + 1 ≡ (get_or a.runs.now 0 no_run).times = omega (arith, inside, c.if-self-times.false,
-          c.times-times.ensures) in
+    let all : a.passed + 1 ≡ (get_or a.runs.now 0 no_run).times = omega (
+      arith,
+      inside,
+      c.if-self-times.false,
+      c.times-times.ensures,
+    ) in
     sym c.self.view_is
     ∙ next_row a.passed a.runs.now no_run c.self.invariant.inside some
     ∙ ap (λ (row : Row). row ∷ drop (a.passed + 1) (rows_in a.runs.now)) (sym c.row-row.ensures)
     ∙ ap (λ l. c.row-row.result ∷ l) (after_run (a.passed + 1) a.runs.now no_run some all
-        ∙ ap rows_in (sym (take_rest a.runs.now 1)))
+    ∙ ap rows_in (sym (take_rest a.runs.now 1)))

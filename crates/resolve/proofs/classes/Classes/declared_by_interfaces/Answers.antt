@@ -10,7 +10,7 @@ returns-in_err-interfaces g c =
     let p = c.args.self.now in
     c.from_residual.ensures
     ∙ ap (first_declared p (g.S.Sought.of c.args.sought.now))
-        (sym (none-is (enough_steps p) p c.args.name.now c.in_err-interfaces.ensures))
+    (sym (none-is (enough_steps p) p c.args.name.now c.in_err-interfaces.ensures))
 
 pub returns : goal.returns
 returns g c =
@@ -18,5 +18,5 @@ returns g c =
     c.declared_among.ensures
     ∙ ap (first_declared p (g.S.Sought.of c.args.sought.now))
     (c.as_slice.ensures ∙ list-is (enough_steps p) p c.args.name.now c.in_ok-interfaces.interfaces.now
-        c.in_ok-interfaces.ensures)
+    c.in_ok-interfaces.ensures)
     ∙ first-once p (g.S.Sought.of c.args.sought.now) (superinterfaces p c.args.name.now)

@@ -7,5 +7,5 @@ use Rattle.resolve.proofs.classes.Classes.in_either.Given as goal
 abbrev pub invariant-loop : goal.invariant-loop
 invariant-loop g l =
     Walks l.self (g.S.Sought.of l.sought) (λ (name : List ℕ). name ∷ superinterfaces l.self name) (enough_steps l.self)
-        l.counter l.next
+    l.counter l.next
     (first_declared l.self (g.S.Sought.of l.sought) (field_order l.self l.name))

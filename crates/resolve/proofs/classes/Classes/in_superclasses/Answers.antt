@@ -10,36 +10,36 @@ pub loop-init : goal.loop-init
 loop-init g c =
     let all : enough_steps c.args.self.now - 0 ≡ enough_steps c.args.self.now = omega arith in
     ap (λ (n : ℕ). first_declared c.args.self.now (g.S.Sought.of c.args.sought.now)
-        (flat_map (λ (name : List ℕ). name ∷ []) (upwards n c.args.self.now c.args.name.now))) all
+    (flat_map (λ (name : List ℕ). name ∷ []) (upwards n c.args.self.now c.args.name.now))) all
     ∙ ap (first_declared c.args.self.now (g.S.Sought.of c.args.sought.now))
-        (singles c.args.self.now (g.S.Sought.of c.args.sought.now) (superclasses c.args.self.now c.args.name.now))
+    (singles c.args.self.now (g.S.Sought.of c.args.sought.now) (superclasses c.args.self.now c.args.name.now))
 
 pub returns-in_err-class : goal.returns-in_err-class
 returns-in_err-class g c =
     c.from_residual.ensures
     ∙ walk-ends c.args.self.now (g.S.Sought.of c.args.sought.now) (λ (name : List ℕ). name ∷ [])
-        (enough_steps c.args.self.now) c.loop.counter c.loop.next.now
+    (enough_steps c.args.self.now) c.loop.counter c.loop.next.now
     (first_declared c.args.self.now (g.S.Sought.of c.args.sought.now) (superclasses c.args.self.now c.args.name.now))
-        c.loop.invariant c.in_err-class.ensures.class
+    c.loop.invariant c.in_err-class.ensures.class
 
 pub returns-in-Some : goal.returns-in-Some
 returns-in-Some g c =
     walk-found c.args.self.now (g.S.Sought.of c.args.sought.now) (λ (name : List ℕ). name ∷ [])
-        (enough_steps c.args.self.now) c.loop.counter c.loop.next.now c.in_ok-class.class.now c.in-Some.found
+    (enough_steps c.args.self.now) c.loop.counter c.loop.next.now c.in_ok-class.class.now c.in-Some.found
     (first_declared c.args.self.now (g.S.Sought.of c.args.sought.now) (superclasses c.args.self.now c.args.name.now))
-        c.loop.invariant c.in_ok-class.ensures.class (omega (arith, c.enough_steps-end.ensures)) c.in-Some.ensures
+    c.loop.invariant c.in_ok-class.ensures.class (omega (arith, c.enough_steps-end.ensures)) c.in-Some.ensures
 
 pub loop-preserved : goal.loop-preserved
 loop-preserved g c =
     walk-next c.args.self.now (g.S.Sought.of c.args.sought.now) (λ (name : List ℕ). name ∷ [])
-        (enough_steps c.args.self.now) c.loop.counter c.loop.next.now c.as_bytes-next.result.now c.in_ok-class.class.now
+    (enough_steps c.args.self.now) c.loop.counter c.loop.next.now c.as_bytes-next.result.now c.in_ok-class.class.now
     (first_declared c.args.self.now (g.S.Sought.of c.args.sought.now) (superclasses c.args.self.now c.args.name.now))
-        c.loop.invariant c.in_ok-class.ensures.class (omega (arith, c.enough_steps-end.ensures)) c.in_default.ensures
+    c.loop.invariant c.in_ok-class.ensures.class (omega (arith, c.enough_steps-end.ensures)) c.in_default.ensures
     (c.as_bytes-next.ensures ∙ ap (λ (x : ClassListing). x.superclass) c.class.view_is)
 
 pub returns : goal.returns
 returns g c =
     walk-over c.args.self.now (g.S.Sought.of c.args.sought.now) (λ (name : List ℕ). name ∷ [])
-        (enough_steps c.args.self.now) c.loop.counter c.loop.next.now
+    (enough_steps c.args.self.now) c.loop.counter c.loop.next.now
     (first_declared c.args.self.now (g.S.Sought.of c.args.sought.now) (superclasses c.args.self.now c.args.name.now))
-        c.loop.invariant (omega (arith, c.enough_steps-end.ensures))
+    c.loop.invariant (omega (arith, c.enough_steps-end.ensures))

@@ -8,4 +8,4 @@ use Rattle.resolve.proofs.classes.Classes.is_upwards.Given as goal
 abbrev pub invariant-loop : goal.invariant-loop
 invariant-loop l =
     Seeks l.self (enough_steps l.self) l.counter l.next l.above
-        (list_any (bytes_eq l.above) (superclasses l.self l.name))
+    (list_any (bytes_eq l.above) (superclasses l.self l.name))

@@ -19,7 +19,7 @@ returns-in_err-builtin_number-in-None c =
 pub returns-in_ok-builtin_number-in-None : goal.returns-in_ok-builtin_number-in-None
 returns-in_ok-builtin_number-in-None c =
     ap (λ (p : List ClassListing). Some (length p + c.in_ok-builtin_number-in-None.field-0)) (c.program.ensures
-        ∙ sym c.self.view_is)
+    ∙ sym c.self.view_is)
     ∙ ap (place_after (length c.self.inside.index)) c.in_ok-builtin_number-in-None.ensures
     ∙ number-own c.self.inside.index c.args.name.now c.in-None.ensures.first
     ∙ ap (λ (p : List ClassListing). class_number p c.args.name.now) c.self.view_is

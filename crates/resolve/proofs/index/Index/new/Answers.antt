@@ -44,18 +44,18 @@ loop-number-preserved c =
     let passed : take (n + 1) cs ≡ take n cs ++ c.index-program-number.result ∷ [] =
     take-next cs n c.index-program-number.result c.index-program-number.is (omega arith) in
     let named : c.as_bytes.result.now ≡ c.index-program-number.result.name = c.as_bytes.ensures
-          ∙ ap (λ (x : ClassListing). x.name) c.class.view_is in
+    ∙ ap (λ (x : ClassListing). x.name) c.class.view_is in
     elim c.if-is_none.branch [
       | then-is_none+in_ok-insert w ↦
           let none = no_value c.get.result w.if-is_none.ensures c.get.ensures.value in
           let entries = ap (λ m. m.entries) w.classes-is ∙ w.in_ok-insert.ensures.entries
           ∙ insert_entry-new (λ x y. bytes_eq x.bytes.now y.bytes.now) c.loop-number.classes
-              (record { bytes = c.as_bytes.result }) _ none in
+          (record { bytes = c.as_bytes.result }) _ none in
           record {
             finds = λ name.
                 ap (λ es. found_in (λ k. k.bytes.now) (λ x. x.class.now) es name) entries
                 ∙ finds-new (λ k. k.bytes.now) (λ x. x.class.now) c.loop-number.classes.entries (take n cs)
-                    (record { bytes = c.as_bytes.result }) _ c.loop-number.invariant.finds named name
+                (record { bytes = c.as_bytes.result }) _ c.loop-number.invariant.finds named name
                 ∙ ap (find (is_named name)) (sym passed);
             placed = subst (λ (es : Entries). All (IsPlaced cs) es) (sym entries)
                 (All-push (IsPlaced cs) c.loop-number.classes.entries _ c.loop-number.invariant.placed
@@ -65,7 +65,7 @@ loop-number-preserved c =
                 (first-place cs n c.index-program-number.result
                 (sym (c.loop-number.invariant.finds c.index-program-number.result.name)
                 ∙ ap (λ (name : List ℕ). found_in (λ k. k.bytes.now) (λ x. x.class.now) c.loop-number.classes.entries
-                    name) (sym named)
+                name) (sym named)
                 ∙ ap (option_map (λ (x : Numbered). x.class.now)) none)
                 c.index-program-number.is (omega arith)));
           }
@@ -74,7 +74,7 @@ loop-number-preserved c =
             finds = λ name.
                 ap (λ m. found_in (λ k. k.bytes.now) (λ x. x.class.now) m.entries name) w.classes-is
                 ∙ finds-known (λ k. k.bytes.now) (λ x. x.class.now) c.loop-number.classes.entries (take n cs)
-                    c.index-program-number.result c.loop-number.invariant.finds
+                c.index-program-number.result c.loop-number.invariant.finds
                 (λ none. some_value (λ x. x.class.now) c.get.result w.if-is_none.ensures c.get.ensures.value
                 (ap (found_in (λ k. k.bytes.now) (λ x. x.class.now) c.loop-number.classes.entries) named ∙ none)) name
                 ∙ ap (find (is_named name)) (sym passed);

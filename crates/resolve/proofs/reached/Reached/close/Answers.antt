@@ -10,7 +10,7 @@ loop-next-preserved c =
     subst (λ (names : List (List ℕ)). IsReached c.args.index.now c.args.self.now names (c.loop-next.next + 1))
     (sym c.in_ok-add_parents_named.ensures)
     (reached-next c.args.index.now c.args.self.now c.loop-next.self c.loop-next.next c.get-name.result.now
-        c.loop-next.invariant c.get-name.ensures)
+    c.loop-next.invariant c.get-name.ensures)
 
 pub returns : goal.returns
 returns c =
