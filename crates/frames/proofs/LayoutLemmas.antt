@@ -576,28 +576,30 @@ reaches units units' acts used end frames sound view few is =
       fits = omega (arith, long, count);
     })
 
--- units of which so many were made unset
-pub record Unsets (units units' : List Entry) (base count : ℕ) : Type 0 where
+-- units of which so many, from one on, became others
+pub record Replaces (units units' part : List Entry) (base count : ℕ) : Type 0 where
   pub long : length units' ≡ length units
   pub same : take base units ≡ take base units'
-  pub unset : take count (drop base units') ≡ replicate count Unset
+  pub part_is : take count (drop base units') ≡ part
 
-pub unsets : (units units' : List Entry) (base count : ℕ) → base + count ≤ length units → units' ≡ take base units
-    ++ replicate count Unset ++ drop (base + count) units → Unsets units units' base count
-unsets units units' base count fits is =
+pub replaces : (units units' part : List Entry) (base count : ℕ) → length part ≡ count → base + count ≤ length units
+    → units' ≡ take base units ++ part ++ drop (base + count) units → Replaces units units' part base count
+replaces units units' part base count many fits is =
     let first : length (take base units) ≡ base = length-take-le base units (omega arith) in
-    let second : length (replicate count Unset) ≡ count = length-replicate count Unset in
     let rest : length (drop (base + count) units) ≡ length units - (base + count) = length-drop (base + count) units in
-    let all : length units' ≡ length (take base units) + length (replicate count Unset) + length
-    (drop (base + count) units) = rw (is, length-append, length-append) in
-    let split : units' ≡ take base units ++ (replicate count Unset ++ drop (base + count) units) = is
-    ∙ append_assoc (take base units) (replicate count Unset) (drop (base + count) units) in
+    let all : length units' ≡ length (take base units) + length part + length (drop (base + count) units) = rw (
+      is,
+      length-append,
+      length-append,
+    ) in
+    let split : units' ≡ take base units ++ (part ++ drop (base + count) units) = is
+    ∙ append_assoc (take base units) part (drop (base + count) units) in
     record {
       long = omega arith;
-      same = rw (split, take_at (take base units) (replicate count Unset ++ drop (base + count) units) base first);
-      unset = rw (
+      same = rw (split, take_at (take base units) (part ++ drop (base + count) units) base first);
+      part_is = rw (
         split,
-        drop_at (take base units) (replicate count Unset ++ drop (base + count) units) base first,
-        take_at (replicate count Unset) (drop (base + count) units) count second,
+        drop_at (take base units) (part ++ drop (base + count) units) base first,
+        take_at part (drop (base + count) units) count many,
       );
     }

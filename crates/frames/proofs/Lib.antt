@@ -10,3 +10,4 @@ pub mod RunningLemmas
 pub mod SlotLemmas
 pub mod StackLemmas
 pub mod ViewLemmas
+pub mod WindowLemmas

@@ -25,7 +25,11 @@ pub push_all-take_at : (vs stack : List Value) (i : ℕ) (d : Value) → i < len
     ≡ slice_index_or vs i d ∷ push_all (take i vs) stack
 push_all-take_at [] stack i d h = absurd (omega arith)
 push_all-take_at (v ∷ vs) stack zero d h = refl
-push_all-take_at (v ∷ vs) stack (suc i) d h = let rest = push_all-take_at vs (v ∷ stack) i d (omega arith) in let e : push_all (take (suc i) vs) (v ∷ stack) ≡ slice_index_or vs i d ∷ push_all (take i vs) (v ∷ stack) = rw (← add-one) rest in rw add-one e
+push_all-take_at (v ∷ vs) stack (suc i) d h =
+    let rest = push_all-take_at vs (v ∷ stack) i d (omega arith) in
+    let e : push_all (take (suc i) vs) (v ∷ stack) ≡ slice_index_or vs i d ∷ push_all (take i vs) (v ∷ stack) = rw
+    (← add-one) rest in
+    rw add-one e
 
 abbrev pub with_values : List Value → Frame → Frame
 with_values vs f = record f { stack = push_all vs f.stack }

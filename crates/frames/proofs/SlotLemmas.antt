@@ -28,17 +28,17 @@ reached slots after count is =
     ∙ ap (λ (es : List Entry). map entry_of slots ++ es) (unset-slots (count - length slots)
     ∙ ap (λ (n : ℕ). replicate (count - n) UnsetEntry) (sym (length-map slots entry_of)))
 
--- some slots in the middle are made unset
-pub unset-between : (slots after : List Slot) (base count : ℕ) → after ≡ take base slots ++ replicate count Unset
-    ++ drop (base + count) slots → map entry_of after ≡ take base (map entry_of slots) ++ replicate count UnsetEntry
+-- some slots in the middle become others
+pub between : (slots middle after : List Slot) (base count : ℕ) → after ≡ take base slots ++ middle
+    ++ drop (base + count) slots → map entry_of after ≡ take base (map entry_of slots) ++ map entry_of middle
     ++ drop (base + count) (map entry_of slots)
-unset-between slots after base count is =
-    let whole : map entry_of after ≡ map entry_of (take base slots ++ replicate count Unset)
+between slots middle after base count is =
+    let whole : map entry_of after ≡ map entry_of (take base slots ++ middle)
     ++ map entry_of (drop (base + count) slots) = ap (map entry_of) is
-    ∙ map-append entry_of (take base slots ++ replicate count Unset) (drop (base + count) slots) in
-    let front : map entry_of (take base slots ++ replicate count Unset) ≡ map entry_of (take base slots)
-    ++ map entry_of (replicate count Unset) = map-append entry_of (take base slots) (replicate count Unset) in
-    whole ∙ rw (front, unset-slots count, take-map, drop-map)
+    ∙ map-append entry_of (take base slots ++ middle) (drop (base + count) slots) in
+    let front : map entry_of (take base slots ++ middle) ≡ map entry_of (take base slots)
+    ++ map entry_of middle = map-append entry_of (take base slots) middle in
+    whole ∙ rw (front, take-map, drop-map)
 
 -- the entries of some slots in the middle
 pub entries-between : (slots seen : List Slot) (units : List Entry) (base count : ℕ) → seen ≡ slots → map entry_of slots

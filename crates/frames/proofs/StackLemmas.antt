@@ -106,7 +106,10 @@ pub units_of_all-take_more : (vs : List Value) (n : ℕ) (v : Value) → top_of 
 units_of_all-take_more [] zero v h = cc
 units_of_all-take_more [] (suc n) v h = cc
 units_of_all-take_more (x ∷ vs) zero v h = let e : x ≡ v = cc in rw e (omega arith)
-units_of_all-take_more (x ∷ vs) (suc n) v h = let rest = units_of_all-take_more vs n v h in let e : units_of_all (take (suc n) vs) ≡ units_of_all (take n vs) + units_of v = rw (← add-one) rest in rw add-one (omega arith)
+units_of_all-take_more (x ∷ vs) (suc n) v h =
+    let rest = units_of_all-take_more vs n v h in
+    let e : units_of_all (take (suc n) vs) ≡ units_of_all (take n vs) + units_of v = rw (← add-one) rest in
+    rw add-one (omega arith)
 
 pub units_of-le : (v : Value) → units_of v ≤ 2
 units_of-le (Int z) = omega arith

@@ -3,3 +3,4 @@ pub mod Heads
 pub mod Layout
 pub mod Reported
 pub mod Registers
+pub mod Windows

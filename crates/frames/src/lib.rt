@@ -44,6 +44,9 @@
 //! | `store(next, n, i, v)` | under `n ≤ length f.stack`: `with_running frames (stored next f n i v).frame` |
 //! | `discard_units(next, n, u)`, `replace_units(next, n, u, v)`, `store_units(next, n, u, i, v)` | what `discard`,
 //! `replace` and `store` do, where u is known to be `units_of_all (take n f.stack)` |
+//! | `is_at(code, place)` | `true` only where f stands as the place's point says: `IsAt` |
+//! | `run_registers(code, place, most)` | under `IsAt` and `Keeps`: so many steps of register code lead from f's units
+//! to those that it then has, at the point that is reached: `RunsOn` |
 //! | `views()` | `frames`, as plain data |
 //!
 //! Inside, an activation record says where a frame's locals begin in the array; its stack stands after them, a value

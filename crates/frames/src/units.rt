@@ -5,8 +5,11 @@ ghost use Rattle.model.specs.declared.values.Entry.TheVariants.{Unset};
 ghost use Rattle.values.specs.Slots.{value_in as value_held};
 ghost use Rattle.values.specs.Slots.{entry_of, value_of};
 ghost use Rattle.values.specs.declared.slots.Slot.TheVariants.{Unset as UnsetSlot};
+ghost use Rattle.register_code.specs.Within.{AreWithin};
+ghost use Rattle.frames.specs.Windows.{RunsWithin};
 
 use model::values::{Entry, Value};
+use register_code::steps::RegisterStep;
 use std::alloc::{AllocError, Global};
 use std::marker::Model;
 use std::mem::replace;
@@ -84,6 +87,27 @@ impl Units {
         ensures { self.new ≡ take base self.old ++ replicate count Unset ++ drop (base + count) self.old }
     {
         unset(&mut self.slots, base, count);
+    }
+
+    /// Carries out register code from a place on, so many steps at most, on so many units, from this one on. Answers
+    /// the place that is reached, which is one of the code, and how many steps were carried out.
+    #[inline(always)]
+    pub fn run(
+        &mut self,
+        base: usize,
+        span: usize,
+        code: &[RegisterStep],
+        place: usize,
+        most: u32,
+    ) -> (usize, u32)
+        requires there { base + span ≤ length self.old }
+        requires start { place < length code.now }
+        requires within { AreWithin span code.now }
+        ensures ran { RunsWithin base span code.now place result.1 result.0 self.old self.new }
+        ensures inside { result.0 < length code.now }
+        ensures most { result.1 ≤ most }
+    {
+        register_code::run(&mut self.slots[base..base + span], code, place, most)
     }
 
     /// A copy of the entries of so many units, from this one on.

@@ -91,3 +91,4 @@ pub mod TypeNames
 pub mod TypeOrder
 pub mod TypesHeld
 pub mod TypesSilent
+mod RegisterTurns

@@ -16,3 +16,4 @@ pub mod SelectionTableLemmas
 pub mod SelectorLemmas
 pub mod StepListLemmas
 pub mod StorageLemmas
+pub mod TranslationLemmas

@@ -24,3 +24,5 @@ pub mod Steps
 pub mod Storages
 pub mod Tables
 pub mod Reported
+pub mod Translation
+pub mod OneTranslation

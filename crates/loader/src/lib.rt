@@ -10,7 +10,8 @@ pub mod class_tables;
 pub mod errors;
 mod exception_rows;
 pub mod first_places;
-pub mod initializers;
+mod heights;
+mod initializers;
 mod limits;
 mod member_places;
 mod members;
@@ -38,6 +39,8 @@ mod step_lists;
 pub mod storages;
 mod superclasses;
 pub mod tables;
+mod translated_operations;
+mod translation;
 mod type_numbers;
 mod well_named;
 

@@ -1,4 +1,11 @@
 pub mod BirthLemmas
 pub mod GroupLemmas
 pub mod HotLemmas
+pub mod StepLemmas
 pub mod TableLemmas
+pub mod FamilyLemmas
+pub mod LocalLemmas
+pub mod NumberLemmas
+pub mod RegisterLemmas
+pub mod RegisterRuns
+pub mod WindowLemmas

@@ -3,3 +3,4 @@ pub mod Plain
 pub mod PlainMoves
 pub mod Reported
 pub mod LongUnits
+pub mod RegisterMoves

@@ -1,8 +1,10 @@
-use Rattle.std.proofs.Common.{refl, arith, None}
+use Rattle.std.proofs.Common.{refl, arith, None, replicate}
+use Rattle.std.proofs.lemmas.List.{length-replicate}
+use Rattle.model.specs.declared.values.Entry.TheVariants.{Unset}
 use Rattle.model.specs.declared.turns.Mark.TheVariants.{Unmarked}
 use Rattle.frames.specs.declared.activations.Activation.{Activation}
 use Rattle.frames.specs.Layout.{Stands}
-use Rattle.frames.proofs.LayoutLemmas.{sound_push, view_push, has_room-facts, reaches, unsets}
+use Rattle.frames.proofs.LayoutLemmas.{sound_push, view_push, has_room-facts, reaches, replaces}
 use Rattle.frames.proofs.thread_frames.Frames.enter.Goals as goal
 
 pub reach-requires : goal.reach-requires
@@ -31,8 +33,9 @@ invariant_of-self c =
     let room = has_room-facts _ _ _ _ _ _ c.self.invariant c.self.view_is c.requires in
     let r = reaches _ _ _ _ _ _ c.self.invariant c.self.view_is room.1 c.reach.ensures in
     let fits = r.fits in
-    let u = unsets c.reach.new.self c.unset.new.self c.self.inside.used c.args.max_locals (omega (arith, fits))
-    c.unset.ensures in
+    let locals = c.args.max_locals in
+    let u = replaces c.reach.new.self c.unset.new.self (replicate locals Unset) c.self.inside.used locals
+    (length-replicate locals Unset) (omega (arith, fits)) c.unset.ensures in
     let a : Activation = record {
       method = c.args.method;
       pc = 0;
@@ -59,6 +62,7 @@ returns c =
     let room = has_room-facts _ _ _ _ _ _ c.self.invariant c.self.view_is c.requires in
     let r = reaches _ _ _ _ _ _ c.self.invariant c.self.view_is room.1 c.reach.ensures in
     let fits = r.fits in
-    let u = unsets c.reach.new.self c.unset.new.self c.self.inside.used c.args.max_locals (omega (arith, fits))
-    c.unset.ensures in
-    rw (c.push.ensures, ← u.unset) (view_push c.reach.new.self _ _ _ _ _ r.sound r.view u.same)
+    let locals = c.args.max_locals in
+    let u = replaces c.reach.new.self c.unset.new.self (replicate locals Unset) c.self.inside.used locals
+    (length-replicate locals Unset) (omega (arith, fits)) c.unset.ensures in
+    rw (c.push.ensures, ← u.part_is) (view_push c.reach.new.self _ _ _ _ _ r.sound r.view u.same)
