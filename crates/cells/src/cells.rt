@@ -190,6 +190,7 @@ impl<K: Copy> Cells<K> {
     }
 
     /// Writes a word of the object in a cell. Whether there is such a word: where there is none, nothing changes.
+    #[inline]
     pub fn put(&mut self, cell: u32, index: u32, value: Value) -> bool
         ensures there { IsTrue result ↔ (index < length (words_at self.old cell)) }
         ensures after { self.new ≡ with_word self.old cell index value }

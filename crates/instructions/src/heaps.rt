@@ -171,6 +171,7 @@ impl Heap {
     }
 
     /// Writes a word of the object of a reference. Where there is none, nothing changes.
+    #[inline(always)]
     pub(crate) fn put(&mut self, reference: u32, index: u32, value: Value)
         ensures { self.new ≡ written self.old reference index value }
     {

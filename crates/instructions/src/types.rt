@@ -188,6 +188,7 @@ fn takes_object(program: &Program, heap: &Heap, array: Option<Kind>, reference: 
 }
 
 /// Whether an array of this kind takes a value: null, and what is no reference, may go into every one.
+#[inline(always)]
 pub(crate) fn takes(program: &Program, heap: &Heap, array: Option<Kind>, value: Value) -> bool
     ensures { result ≡ takes program.now heap.now array value }
 {
