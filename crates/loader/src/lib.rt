@@ -11,7 +11,7 @@ pub mod errors;
 mod exception_rows;
 pub mod first_places;
 mod heights;
-mod initializers;
+pub mod initializers;
 mod limits;
 mod member_places;
 mod members;
