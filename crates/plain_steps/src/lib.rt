@@ -7,13 +7,10 @@
 //! | call | what it ensures |
 //! |---|---|
 //! | `constant(frames, next, c)` | `reported_with result frames.new ≡ moved_with frames.old (constant next c f)` |
-//! | `table_switched(frames, table)`, `lookup_switched(frames, lookup)` | the same with `table_switched table f`,
-//! `lookup_switched lookup f` |
+//! | `table_switched(frames, table)`, `lookup_switched(frames, lookup)` | the same with `table_switched table f`, `lookup_switched lookup f` |
 //! | `plain_step(frames, step)` | the same with `plain_move step.next step.operation f`, where that is `Some` |
-//! | `hot_step(frames, step)` | where it answers `Some(written)`, what `plain_step` does, and `written` is the
-//! reference written, if any; where it answers `None`, nothing changed |
-//! | `run_registers(frames, code, place, most)` | `MovesTo code frames.old result.1 frames.new`: as many moves of the
-//! running frame by its method's steps as it answers, carried out as register code |
+//! | `hot_step(frames, step)` | where it answers `Some(written)`, what `plain_step` does, and `written` is the reference written, if any; where it answers `None`, nothing changed |
+//! | `run_registers(frames, code, place, most)` | `MovesTo code frames.old result.1 frames.new`: as many moves of the running frame by its method's steps as it answers, carried out as register code |
 //!
 //! `hot_step` is for a loop of turns over frames that are a variable of the loop: it is inlined whole, and leaves out
 //! what is rare.
