@@ -2,7 +2,7 @@
 ghost use Rattle.std.specs.Prelude.{◌≡◌, ◌<◌, [], length, OnErr, ◌≤◌, IfOk};
 ghost use Rattle.model.specs.Frames.{replaced, running_frame, with_running};
 ghost use Rattle.model.specs.declared.instructions.Test.TheVariants.{Zero, Ints, Refs, Null};
-ghost use Rattle.model.specs.Table.Branches.{identity_holds, same_reference, branch_pc, branched as branch_move};
+ghost use Rattle.model.specs.Table.Branches.{branch_pc, branched as branch_move};
 ghost use Rattle.plain_steps.specs.Reported.{reported_with, moved_with};
 
 use crate::written::Written;
@@ -76,7 +76,7 @@ pub(crate) fn if_references(
     ensures few { IfOk result (λ written. length written ≤ 1) }
 {
     let (right, left) = frames.two_references()?;
-    let taken = compare_references(identity, left, right);
+    let taken = values::compare_references(identity, left, right);
     frames.discard_units(place(next, target, taken), 2, 2);
     Ok(Written::none())
 }
@@ -96,32 +96,9 @@ pub(crate) fn if_null(
     ensures few { IfOk result (λ written. length written ≤ 1) }
 {
     let reference = frames.reference()?;
-    let taken = compare_references(identity, reference, None);
+    let taken = values::compare_references(identity, reference, None);
     frames.discard_units(place(next, target, taken), 1, 1);
     Ok(Written::none())
-}
-
-/// Whether two references are one, or differ, as a branch asks.
-#[inline(always)]
-fn compare_references(identity: Identity, left: Option<u32>, right: Option<u32>) -> bool
-    ensures { result ≡ identity_holds identity left right }
-{
-    match identity {
-        Identity::Same => are_one(left, right),
-        Identity::Different => !are_one(left, right),
-    }
-}
-
-/// Whether two references are one; null is one with null.
-#[inline(always)]
-fn are_one(left: Option<u32>, right: Option<u32>) -> bool
-    ensures { result ≡ same_reference left right }
-{
-    match (left, right) {
-        (None, None) => true,
-        (Some(a), Some(b)) => a == b,
-        (None, Some(_)) | (Some(_), None) => false,
-    }
 }
 
 /// The target where the branch is taken, else the next instruction.
