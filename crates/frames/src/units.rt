@@ -9,6 +9,7 @@ ghost use Rattle.register_code.specs.Within.{AreWithin};
 ghost use Rattle.frames.specs.Windows.{RunsWithin};
 
 use model::values::{Entry, Value};
+use register_code::Memory;
 use register_code::steps::RegisterStep;
 use std::alloc::{AllocError, Global};
 use std::marker::Model;
@@ -89,11 +90,13 @@ impl Units {
         unset(&mut self.slots, base, count);
     }
 
-    /// Carries out register code from a place on, so many steps at most, on so many units, from this one on. Answers
-    /// the place that is reached, which is one of the code, and how many steps were carried out.
+    /// Carries out register code from a place on, so many steps at most, on so many units, from this one on, and on
+    /// memory. Answers the place that is reached, which is one of the code, and how many steps were carried out.
     #[inline(always)]
-    pub fn run(
+    pub fn run<C, M: Memory<C>>(
         &mut self,
+        memory: &mut M,
+        context: &C,
         base: usize,
         span: usize,
         code: &[RegisterStep],
@@ -103,11 +106,19 @@ impl Units {
         requires there { base + span ≤ length self.old }
         requires start { place < length code.now }
         requires within { AreWithin span code.now }
-        ensures ran { RunsWithin base span code.now place result.1 result.0 self.old self.new }
+        ensures ran { RunsWithin (M.acts context.now) base span code.now place result.1 result.0 self.old memory.old
+            self.new memory.new }
         ensures inside { result.0 < length code.now }
         ensures most { result.1 ≤ most }
     {
-        register_code::run(&mut self.slots[base..base + span], code, place, most)
+        register_code::run(
+            &mut self.slots[base..base + span],
+            memory,
+            context,
+            code,
+            place,
+            most,
+        )
     }
 
     /// A copy of the entries of so many units, from this one on.

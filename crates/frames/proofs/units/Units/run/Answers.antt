@@ -5,7 +5,7 @@ use Rattle.frames.proofs.WindowLemmas.{length-written, runs_within}
 use Rattle.frames.proofs.units.Units.run.Goals as goal
 
 pub returns-clause-ran : goal.returns-clause-ran
-returns-clause-ran c =
+returns-clause-ran g c =
     let slots = c.self.inside.slots in
     let seen = c.deref_mut.result.now in
     let base = c.args.base in
@@ -19,5 +19,5 @@ returns-clause-ran c =
     ) in
     let len = length-written seen c.run.new.units base span there c.run.ensures.len
     ∙ c.deref_mut.ensures.len in
-    runs_within seen c.run.new.units _ c.args.self.now base span c.args.place _ _ c.args.code.now view
+    runs_within (g.M.Memory.acts c.args.context.now) c.args.memory.now c.run.new.memory seen c.run.new.units _ c.args.self.now base span c.args.place _ _ c.args.code.now view
     c.requires.there c.run.ensures.len c.run.ensures.ran (with_items_is slots _ len)
