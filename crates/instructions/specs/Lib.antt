@@ -7,6 +7,7 @@ pub mod CallsByNumbers
 pub mod HeapMonitors
 pub mod HeapThreads
 pub mod FirstTurns
+pub mod HeapSteps
 pub mod Heaps
 pub mod HeapsAgree
 pub mod HeldOnCells

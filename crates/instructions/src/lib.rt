@@ -12,6 +12,7 @@ pub mod errors;
 mod exchanges;
 mod fields;
 mod first_turns;
+mod heap_steps;
 mod heaps;
 pub mod held;
 mod initialising;
