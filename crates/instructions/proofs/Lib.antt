@@ -24,6 +24,8 @@ pub mod ErrorLemmas
 mod FieldLemmas
 pub mod FieldsShown
 pub mod FirstTurnLemmas
+pub mod HeapStepLaws
+pub mod HeapStepTurns
 pub mod HeldLemmas
 pub mod HeldShown
 pub mod CreatedLemmas
