@@ -5,7 +5,9 @@ pub mod StepLemmas
 pub mod TableLemmas
 pub mod FamilyLemmas
 pub mod LocalLemmas
+pub mod MemoryWindows
 pub mod NumberLemmas
+pub mod ReferenceLemmas
 pub mod RegisterLemmas
 pub mod RegisterRuns
 pub mod WindowLemmas

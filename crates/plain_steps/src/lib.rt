@@ -10,7 +10,6 @@
 //! | `table_switched(frames, table)`, `lookup_switched(frames, lookup)` | the same with `table_switched table f`, `lookup_switched lookup f` |
 //! | `plain_step(frames, step)` | the same with `plain_move step.next step.operation f`, where that is `Some` |
 //! | `hot_step(frames, step)` | where it answers `Some(written)`, what `plain_step` does, and `written` is the reference written, if any; where it answers `None`, nothing changed |
-//! | `run_registers(frames, code, place, most)` | `MovesTo code frames.old result.1 frames.new`: as many moves of the running frame by its method's steps as it answers, carried out as register code |
 //!
 //! `hot_step` is for a loop of turns over frames that are a variable of the loop: it is inlined whole, and leaves out
 //! what is rare.
@@ -18,7 +17,9 @@
 //! `proofs/TableLemmas.antt` says what such an equation comes to in the instruction table: by `family_moves` an
 //! instruction's plain operation moves the frame as its family does; `by_family-plain`, and then `completes-done` or
 //! `completes-abrupt`, give the table's completion. `proofs/RegisterRuns.antt` says that steps of register code, carried
-//! out on the units of a frame, are such moves, by `proofs/StepLemmas.antt` for one step of each operation.
+//! out on the units of a frame and on memory, are steps of the frame's method, by `proofs/StepLemmas.antt` for one plain
+//! step of each operation; what one on memory is, who has the memory says (`Lifts`, specs/RegisterMoves), for whom
+//! `proofs/MemoryWindows.antt` has lemmas.
 #![tactic(auto)]
 
 mod branches;
@@ -26,7 +27,6 @@ mod constants;
 mod hot_steps;
 mod locals;
 mod number_steps;
-mod register_runs;
 mod stacks;
 mod steps;
 mod switches;
@@ -34,7 +34,6 @@ mod written;
 
 pub use constants::constant;
 pub use hot_steps::hot_step;
-pub use register_runs::run_registers;
 pub use steps::plain_step;
 pub use switches::{lookup_switched, table_switched};
 pub use written::Written;
