@@ -5,6 +5,7 @@ pub mod StepLemmas
 pub mod TableLemmas
 pub mod FamilyLemmas
 pub mod LocalLemmas
+pub mod MemorySteps
 pub mod MemoryWindows
 pub mod NumberLemmas
 pub mod ReferenceLemmas

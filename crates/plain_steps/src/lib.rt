@@ -16,10 +16,12 @@
 //!
 //! `proofs/TableLemmas.antt` says what such an equation comes to in the instruction table: by `family_moves` an
 //! instruction's plain operation moves the frame as its family does; `by_family-plain`, and then `completes-done` or
-//! `completes-abrupt`, give the table's completion. `proofs/RegisterRuns.antt` says that steps of register code, carried
-//! out on the units of a frame and on memory, are steps of the frame's method, by `proofs/StepLemmas.antt` for one plain
-//! step of each operation; what one on memory is, who has the memory says (`Lifts`, specs/RegisterMoves), for whom
-//! `proofs/MemoryWindows.antt` has lemmas.
+//! `completes-abrupt`, give the table's completion.
+//!
+//! `proofs/RegisterRuns.antt` says that steps of register code, carried out on the units of a frame and on memory, are
+//! steps of the frame's method: a plain one by `proofs/StepLemmas.antt`, one on memory by a law that who has the memory
+//! owes (`Lifts` in `specs/RegisterMoves.antt`). For its proof `proofs/MemorySteps.antt` tells which operations these
+//! are, and `proofs/MemoryWindows.antt` what they do to the units of a frame.
 #![tactic(auto)]
 
 mod branches;
