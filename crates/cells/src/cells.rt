@@ -113,7 +113,7 @@ impl<K: Copy> Cells<K> {
     }
 
     /// What a word of the object in a cell holds. None past its length, and where nobody is.
-    #[inline]
+    #[inline(always)]
     pub fn word(&self, cell: u32, index: u32) -> Option<Slot>
         ensures { option_map value_of result ≡ slice_get (words_at self.now cell) index }
     {
@@ -190,7 +190,7 @@ impl<K: Copy> Cells<K> {
     }
 
     /// Writes a word of the object in a cell. Whether there is such a word: where there is none, nothing changes.
-    #[inline]
+    #[inline(always)]
     pub fn put(&mut self, cell: u32, index: u32, value: Value) -> bool
         ensures there { IsTrue result ↔ (index < length (words_at self.old cell)) }
         ensures after { self.new ≡ with_word self.old cell index value }

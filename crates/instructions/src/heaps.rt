@@ -163,7 +163,7 @@ impl Heap {
     }
 
     /// What a word of the object of a reference holds. `None` past its last word, and where there is no object.
-    #[inline]
+    #[inline(always)]
     pub(crate) fn word(&self, reference: u32, index: u32) -> Option<Slot>
         ensures { option_map value_of result ≡ slice_get (words_held self.now reference) index }
     {
