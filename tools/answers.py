@@ -123,7 +123,7 @@ def with_byte(place, byte):
 
 
 def class_files(kind, given, told):
-    """The class files of a row, in hexadecimal digits, each with what is told of it."""
+    """The class files of a row, in hexadecimal digits, each with what is reported for it."""
     parts = [repeated(part.strip(" ")) for part in given.split("|")]
     if kind == "pool":
         yield f"{E_OPENING} {given}", told

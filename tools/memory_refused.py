@@ -1,21 +1,14 @@
 #!/usr/bin/env python3
 """Refuses one request for memory after another, and looks how `jvm` ends: with status 6 and its one line, or as if nothing was.
 
-Usage: memory_refused.py [--jvm PROGRAM]
-
 For each of a few commands the requests of a whole run are counted, and then the command is run once for each of them, with
 that one refused. A run that needs the memory has to say `jvm: memory` and end with 6, having written no file; one that doesn't
-has to do what it does else. Ends with 1 where one does anything other.
-PROGRAM is crates/jvm/out/jvm, which `rt run` builds, where nothing else is said. It wants a C compiler, `cc`.
+has to do what it does else. For run_examples.py, which reports one result for each command. It wants a C compiler, `cc`.
 """
-import argparse
 import os
 import subprocess
-import sys
-import tempfile
 
 ROOT = os.path.join(os.path.dirname(os.path.abspath(__file__)), "..")
-BUILT = os.path.join(ROOT, "crates", "jvm", "out", "jvm")
 EXAMPLES = os.path.join(ROOT, "examples")
 
 # counts requests, refuses the one whose number REFUSED has, and writes the count to the file that COUNTED names
@@ -25,6 +18,7 @@ REFUSER = r"""
 #include <fcntl.h>
 #include <stdio.h>
 #include <stdlib.h>
+#include <sys/syscall.h>
 #include <unistd.h>
 
 static unsigned long made, refused;
@@ -35,13 +29,16 @@ __attribute__((constructor)) static void begin(void) {
     made = 0;
 }
 
-__attribute__((destructor)) static void end(void) {
+// the program ends by this call, which runs no destructors
+void _exit(int status) {
     const char *path = getenv("COUNTED");
-    if (!path) return;
-    char text[32];
-    int length = snprintf(text, sizeof text, "%lu", made);
-    int file = open(path, O_WRONLY | O_CREAT | O_TRUNC, 0600);
-    if (write(file, text, length) != length) _exit(99);
+    if (path) {
+        char text[32];
+        int length = snprintf(text, sizeof text, "%lu", made);
+        int file = open(path, O_WRONLY | O_CREAT | O_TRUNC, 0600);
+        if (write(file, text, length) != length) status = 99;
+    }
+    for (;;) syscall(SYS_exit_group, status);
 }
 
 #define REFUSES (++made == refused)
@@ -75,14 +72,16 @@ int posix_memalign(void **to, size_t alignment, size_t size) {
 def commands(jvm, room):
     """The commands, each with the files that it writes."""
     journal, made = f"{room}/journal", f"{room}/Square.class"
-    text = [f"{EXAMPLES}/{name}.j" for name in ("Square", "Shape")]
-    yield [jvm, "run", "--small", "8", "--journal", journal, *text], [journal]
-    yield [jvm, "asm", text[0], made], [made]
-    subprocess.run([jvm, "asm", text[0], f"{room}/kept.class"], check=True)
-    subprocess.run([jvm, "run", "--journal", f"{room}/kept.journal", *text], check=True, stdout=subprocess.DEVNULL)
-    yield [jvm, "dis", f"{room}/kept.class"], []
-    yield [jvm, "replay", f"{room}/kept.journal", *text], []
-    yield [jvm, "upgrade", f"{room}/kept.journal", made], [made]
+    kept, run = f"{room}/kept.class", f"{room}/kept.journal"
+    texts = [f"{EXAMPLES}/{name}.j" for name in ("Square", "Shape")]
+    subprocess.run([jvm, "asm", texts[0], kept], check=False)
+    subprocess.run([jvm, "run", "--journal", run, *texts], check=False, stdout=subprocess.DEVNULL)
+    yield [jvm, "run", "--small", "8", "--journal", journal, *texts], [journal]
+    yield [jvm, "run", "--small", "4", "--gc", "0", "--check", f"{EXAMPLES}/E.j"], []
+    yield [jvm, "asm", texts[0], made], [made]
+    yield [jvm, "dis", kept], []
+    yield [jvm, "replay", run, *texts], []
+    yield [jvm, "upgrade", run, made], [made]
     yield [jvm, "explain"], []
 
 
@@ -99,31 +98,40 @@ def ending(words, library, refused, written, counted=None):
     return done.returncode, done.stdout, done.stderr, files
 
 
-def main():
-    parser = argparse.ArgumentParser(description=__doc__.split("\n")[0])
-    parser.add_argument("--jvm", default=BUILT)
-    jvm = os.path.abspath(parser.parse_args().jvm)
-    wrong = 0
-    with tempfile.TemporaryDirectory() as room:
-        source, library, counted = f"{room}/refuser.c", f"{room}/refuser.so", f"{room}/count"
-        with open(source, "w", encoding="ascii") as file:
-            file.write(REFUSER)
-        subprocess.run(["cc", "-O1", "-fno-builtin", "-shared", "-fPIC", "-o", library, source, "-ldl"], check=True)
-        for words, written in commands(jvm, room):
-            whole = ending(words, library, 0, written, counted)
-            with open(counted, encoding="ascii") as file:
-                requests = int(file.read())
-            lacked = 0
-            for number in range(1, requests + 1):
-                found = ending(words, library, number, written)
-                if found[0] == 6 and found[2] == b"jvm: memory\n" and not any(found[3]):
-                    lacked += 1
-                elif found != whole:
-                    wrong += 1
-                    print(f"{' '.join(words[1:3])}, request {number}: status {found[0]}, {found[2]!r}")
-            print(f"{words[1]}: {requests} requests, {lacked} of them needed, {requests - lacked} not")
-    return 1 if wrong else 0
+def refuser(room):
+    """The library that refuses requests, and what is wrong with it, or nothing."""
+    source, library = f"{room}/refuser.c", f"{room}/refuser.so"
+    with open(source, "w", encoding="ascii") as file:
+        file.write(REFUSER)
+    try:
+        words = ["cc", "-O1", "-fno-builtin", "-shared", "-fPIC", "-o", library, source, "-ldl"]
+        made = subprocess.run(words, stdout=subprocess.PIPE, stderr=subprocess.STDOUT, check=False)
+    except OSError as error:
+        return library, f"there is no C compiler: {error}"
+    return library, made.stdout.decode(errors="replace") if made.returncode else None
 
 
-if __name__ == "__main__":
-    sys.exit(main())
+def refused_one_by_one(words, written, library, counted):
+    """What is wrong with a command's ends where each of its requests is refused in turn, or nothing."""
+    whole = ending(words, library, 0, written, counted)
+    if whole[0] or not os.path.exists(counted):
+        return f"with nothing refused: status {whole[0]}, {whole[2]!r}"
+    with open(counted, encoding="ascii") as file:
+        requests = int(file.read())
+    os.remove(counted)
+    lacked = 0
+    for number in range(1, requests + 1):
+        found = ending(words, library, number, written)
+        if found[0] == 6 and found[2] == b"jvm: memory\n" and not any(found[3]):
+            lacked += 1
+        elif found != whole:
+            return f"with request {number} of {requests} refused: status {found[0]}, {found[2]!r}"
+    return None if lacked else f"none of {requests} requests was needed"
+
+
+def tried_refusals(jvm, room):
+    """What was tried of refused requests, each with what is wrong, or nothing."""
+    library, why = refuser(room)
+    for words, written in commands(jvm, room):
+        name = " ".join(word.removeprefix(f"{room}/").removeprefix(f"{EXAMPLES}/") for word in words[1:])
+        yield f"each request for memory refused: {name}", why or refused_one_by_one(words, written, library, f"{room}/count")

@@ -10,7 +10,7 @@ same class file. The class files of examples/java are run in the same way; there
 printed. The programs of examples/rows.txt are run turn by turn. All but those of rows.txt that have
 several threads, or find no room for an object, are also run by four carriers beside the ideal run, and the journals of these
 runs are replayed: they print the same, whoever took which turn. The sessions of examples/sessions.txt are played command by command,
-and each row of examples/answers.txt is reported as it says.
+and each row of examples/answers.txt is reported as it says. Of a few commands each request for memory is refused in turn.
 
 The last line is 'N passed, M failed'. With --after, the passes and failures in the last line of that file are added.
 """
@@ -24,6 +24,7 @@ import sys
 import tempfile
 
 from answers import tried_answers
+from memory_refused import tried_refusals
 from sessions import tried_commands
 
 ROOT = os.path.join(os.path.dirname(os.path.abspath(__file__)), "..")
@@ -174,7 +175,7 @@ def main():
         print(f"examples: there is no {given.jvm}\n{passed} passed, {failed + 1} failed")
         return 1
     with tempfile.TemporaryDirectory() as room:
-        for tried in (tried_texts, tried_others, tried_rows, tried_classes, tried_commands, tried_answers):
+        for tried in (tried_texts, tried_others, tried_rows, tried_classes, tried_commands, tried_answers, tried_refusals):
             for name, why in tried(os.path.abspath(given.jvm), room):
                 passed, failed = passed + (not why), failed + bool(why)
                 if why:

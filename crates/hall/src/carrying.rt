@@ -9,7 +9,7 @@ use board::{Board, BoardSeat};
 use std::sync::Wait;
 use std::sync::ledger::Ledger;
 
-/// Who is told of each turn before it is taken, and may hold it up.
+/// Who hears of each turn before it is taken, and may hold it up.
 pub trait Gate {
     /// Called by a worker without the lock, before its turn of this number. Turns count from 1, and stay at the
     /// greatest number.

@@ -19,7 +19,7 @@ use Rattle.model.specs.Table.Invokes.{special_for}
 use Rattle.model.specs.Worlds.{World, Monitor, free_monitor, with_thread}
 use Rattle.model.specs.Worlds.Thread.{Live}
 
--- Calls, told by what the code has of them.
+-- Calls, described by what the code has of them.
 
 abbrev pub monitor_called : Option ℕ → Method → Option ℕ
 monitor_called object method = if is_synchronized method then object else None

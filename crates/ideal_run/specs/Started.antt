@@ -14,7 +14,7 @@ use Rattle.model.specs.Worlds.{Thread}
 use Rattle.model.specs.Worlds.Thread.{Live, Ended}
 use Rattle.ideal_run.specs.Steps.{started_on}
 
--- A thread that begins on an object, told by the object's birth alone.
+-- A thread that begins on an object, given by the object's birth alone.
 
 abbrev pub thread_of : MethodPlace → CodeListing → ℕ → Thread
 thread_of place code birth = Live (called_frame place code.max_locals code.max_stack (Ref (Some birth) ∷ []) ∷ [])

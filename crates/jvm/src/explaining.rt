@@ -70,7 +70,7 @@ fn text_meaning(number: u32) -> Option<&'static str> {
         1 => "A directive is unknown, or a statement is missing or stands where it may not.\n\
              Example: `.method` before `.super`, or an instruction outside a method.\n\
              The order is `.class` or `.interface`, `.super`, `.implements`, `.field`, `.method`. Where\n\
-             something is missing, the line told is that of the next statement, or one past the last.\n",
+             something is missing, the line reported is that of the next statement, or one past the last.\n",
         2 => "The first word of a line is no instruction of the machine.\n\
              Example: `iaddd`, or `fadd`: there is no floating point.\n\
              Use a mnemonic of JVMS 6.5; strings, class constants, `jsr` and `multianewarray` are left out.\n",
@@ -82,13 +82,13 @@ fn text_meaning(number: u32) -> Option<&'static str> {
              Take a wider form: `sipush`, `ldc`, `ldc2_w`.\n",
         5 => "A label is given twice in its method, or used and never given.\n\
              Example: `goto X` in a method without a line `X:`.\n\
-             The line told is that of the use, or of the second label.\n",
+             The line reported is that of the use, or of the second label.\n",
         6 => "A method does not end.\n\
              Example: a text that stops before `.end method`.\n\
-             The line told is that of the next `.method`, or one past the last line.\n",
+             The line reported is that of the next `.method`, or one past the last line.\n",
         7 => "A method with code lacks `.limit stack` or `.limit locals`.\n\
              Example: a method with `return` alone.\n\
-             The line told is that of `.end method`. Both limits are wanted, also where they are 0.\n",
+             The line reported is that of `.end method`. Both limits are wanted, also where they are 0.\n",
         8 =>
             "A byte is no ASCII, or a control byte other than a tab, a newline, or a return before one.\n\
              Example: an accented letter in a comment, or a class file given to `jvm asm`.\n\
@@ -325,7 +325,7 @@ fn journal_meaning(number: u32) -> Option<&'static str> {
              Make the run again with `--journal`.\n",
         5 => "A row of a journal is not what the program does: its turn has another outcome.\n\
              Example: the journal of another program, or of an older build of it.\n\
-             The row told is the first one, counted from 1.\n",
+             The row reported is the first one, counted from 1.\n",
         6 => "There was no memory for a journal. It is shown as `jvm: memory`, with status 6.\n\
              Example: a process whose memory is limited, as by `ulimit -v`.\n\
              Raise the limit, or free memory.\n",

@@ -48,8 +48,8 @@ fn read_sources(alloc: Global, sources: &[Vec<u8>]) -> Result<Vec<Listing>, Laun
 }
 
 /// The program of some sources: class files, which begin with cafebabe, and texts. The first refusal that is met is
-/// told: of the first source that has no listing, by its place; the first rule that the listings break. Want of memory
-/// may come in place of any.
+/// reported: of the first source that has no listing, by its place; the first rule that the listings break. Want of
+/// memory may come in place of any.
 pub fn program_of(alloc: Global, sources: &[Vec<u8>]) -> Result<Program, LaunchError>
     ensures listings { IfOk result (λ program. AreListings (bytes_of sources.now) program) }
     ensures accepted { IfOk result (λ program. refusal_of program ≡ None) }

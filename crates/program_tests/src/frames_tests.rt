@@ -141,7 +141,7 @@ fn open_callee(frames: &mut Frames) -> Result<(), Abrupt> {
     frames.replace_all_if_room(2, 0, values.as_slice())
 }
 
-/// What is told of the running frame: its monitor, its mark, and the units that its stack may take and takes.
+/// What is seen of the running frame: its monitor, its mark, and the units that its stack may take and takes.
 fn reported(frames: &Frames) -> Option<(Option<u32>, Mark, usize, usize)> {
     if frames.depth() == 0 {
         return None;

@@ -1,4 +1,4 @@
-//! Programs in rows of words, and what a program has by pcs. What users are told of programs stands in
+//! Programs in rows of words, and what a program has by pcs. What is reported of programs stands in
 //! examples/answers.txt.
 
 mod operations;
@@ -16,7 +16,7 @@ use std::alloc::{AllocError, Global};
 use std::process::Abort;
 use std::test::Fail;
 
-/// What users are told of these classes.
+/// What is reported of these classes.
 fn reported(alloc: Global, program: &[Listing]) -> Result<String, AllocError> {
     match accept(alloc, program) {
         Ok(()) => String::from_str(alloc, "accepted"),

@@ -34,7 +34,7 @@ fn add_head(text: &mut String, word: &str, rest: &str) -> Result<(), AllocError>
     write!(text, ".{word} {name}\n.super {above}\n")
 }
 
-/// Adds a method that does nothing, told by its limits of locals and of stack.
+/// Adds a method that does nothing, given by its limits of locals and of stack.
 fn add_method(text: &mut String, rest: &str) -> Result<(), AllocError> {
     let (locals, rest) = parted(rest);
     let (stack, method) = parted(rest);

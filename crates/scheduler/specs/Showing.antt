@@ -1,4 +1,4 @@
--- What the cells show of a world, told by another world with which it is compared.
+-- What the cells show of a world, described by another world with which it is compared.
 use Rattle.std.specs.Prelude.{◌≡◌, ℕ, List, slice_get, Option, Some, None}
 use Rattle.std.specs.Option.{option_map}
 use Rattle.model.specs.declared.colours.Cell.{Cell}

@@ -130,7 +130,7 @@ const FAULTY: &[(&str, OpError)] = &[
     ("keys that fall", OpError::Switch),
 ];
 
-/// Whether these errors, one after another, are told so.
+/// Whether these errors, one after another, are printed so.
 fn codes_are_reported(alloc: Global) -> Result<bool, AllocError> {
     let (opcode, operand, branch) = (OpError::Opcode, OpError::Operand, OpError::Branch);
     let (switch, length, memory) = (OpError::Switch, OpError::Length, OpError::Memory);

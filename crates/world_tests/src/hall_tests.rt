@@ -213,7 +213,7 @@ fn shares_for<L: Ledger>(
     Ok(shares.len())
 }
 
-/// What users are told of these errors, one after another.
+/// What is reported of these errors, one after another.
 fn codes(alloc: Global) -> Result<String, AllocError> {
     let (roles, memory) = (HallError::Roles, HallError::Memory);
     let (thread, world) = (HallError::Thread, HallError::World);

@@ -1,7 +1,7 @@
 //! Each call once, on small mains that are run as worlds. What they come to is worked out by hand from the JVMS (6.5).
 //!
 //! A story is a function that borrows a world, which one function makes and drops: a test that owns a world and asks it
-//! eight things takes minutes to prove. What journals' texts are told to be, and which replay, stands in
+//! eight things takes minutes to prove. What is reported of journals' texts, and which replay, stands in
 //! examples/answers.txt; which shapes and limits have no world in examples/sessions.txt.
 
 mod objects;
@@ -261,7 +261,7 @@ fn stories_go_well(rt: HostRuntime) -> Result<(), Fail> {
     Ok(())
 }
 
-/// Whether users are told these errors, one after another, by their codes.
+/// Whether these errors, one after another, are reported by their codes.
 fn is_reported(alloc: Global) -> Result<bool, AllocError> {
     let (shape, limits, memory) = (WorldError::Shape, WorldError::Limits, WorldError::Memory);
     Ok(format!(in alloc; "{shape} {limits} {memory}")?.as_str() == "P1 P2 P3")

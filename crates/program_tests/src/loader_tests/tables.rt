@@ -81,7 +81,7 @@ fn last_word(tables: &ClassTables, class: usize) -> (usize, Option<(usize, Stora
     }
 }
 
-/// What is told of some slots: the first one's storage and opening, and the last one's class and opening.
+/// What is known of some slots: the first one's storage and opening, and the last one's class and opening.
 fn ends(slots: &[Slot]) -> Option<(Storage, Value, usize, Value)> {
     let first = slots.first()?;
     let last = slots.last()?;

@@ -114,7 +114,7 @@ fn field(flags: u16, descriptor: u16, constant: Option<ConstantValue>) -> FieldE
     }
 }
 
-/// E's method as a part has it; without code where it isn't told of.
+/// E's method as a part has it; without code where none is given.
 fn method(alloc: Global, part: Part) -> Result<MethodEntry, Fail> {
     match part {
         Part::Code(flags, name, new) => {
@@ -243,7 +243,7 @@ fn refusal_of_full(alloc: Global) -> Option<AddError> {
     }
 }
 
-/// Whether users are told C9 of that.
+/// Whether C9 is reported for that.
 fn full_is_c9(alloc: Global) -> Result<bool, AllocError> {
     match refusal_of_full(alloc) {
         Some(full) => Ok(ClassError::from(full).to_string(alloc)?.as_str() == "C9"),

@@ -84,7 +84,7 @@ fn are_written(
     Ok(are_written_as(alloc, &bytes, &wanted, is_of_e))
 }
 
-/// Whether these errors, one after another, are told so.
+/// Whether these errors, one after another, are printed so.
 fn codes_are_reported(alloc: Global) -> Result<bool, AllocError> {
     let (full, memory) = (ClassError::PoolFull, ClassError::Memory);
     let short = ClassError::Format(FormatFault::Short);
