@@ -1,6 +1,6 @@
 //! Branches (JVMS 6.5): ints compare signed, references by identity.
 ghost use Rattle.std.specs.Prelude.{◌≡◌, IfOk};
-ghost use Rattle.model.specs.Table.Branches.{same_reference, identity_holds, zero_test, ints_test, refs_test};
+ghost use Rattle.model.specs.Table.Branches.{zero_test, ints_test, refs_test};
 ghost use Rattle.model.specs.Table.Branches.{null_test, branch_pc, branched_on, branched};
 ghost use Rattle.model.specs.Frames.{int_on, two_ints_on, ref_on, two_refs_on};
 ghost use Rattle.ideal_run.specs.Reported.{frame_in};
@@ -11,28 +11,6 @@ use model::instructions::{Comparison, Identity, Test};
 use model::turns::Fault;
 use model::values::Value;
 use std::alloc::{AllocError, Global};
-
-/// Whether two references are one, both null among them.
-fn same_reference(a: Option<u32>, b: Option<u32>) -> bool
-    ensures { result ≡ same_reference a b }
-{
-    match a {
-        None => b.is_none(),
-        Some(a) => match b {
-            None => false,
-            Some(b) => a == b,
-        },
-    }
-}
-
-fn identity_holds(identity: Identity, a: Option<u32>, b: Option<u32>) -> bool
-    ensures { result ≡ identity_holds identity a b }
-{
-    match identity {
-        Identity::Same => same_reference(a, b),
-        Identity::Different => !same_reference(a, b),
-    }
-}
 
 fn zero_test(comparison: Comparison, stack: &[Value]) -> Result<bool, Fault>
     ensures { result ≡ zero_test comparison (int_on stack.now) }
@@ -52,14 +30,14 @@ fn refs_test(identity: Identity, stack: &[Value]) -> Result<bool, Fault>
     ensures { result ≡ refs_test identity (two_refs_on stack.now) }
 {
     let (right, left) = two_refs_on(stack)?;
-    Ok(identity_holds(identity, left, right))
+    Ok(values::compare_references(identity, left, right))
 }
 
 fn null_test(identity: Identity, stack: &[Value]) -> Result<bool, Fault>
     ensures { result ≡ null_test identity (ref_on stack.now) }
 {
     let reference = ref_on(stack)?;
-    Ok(identity_holds(identity, reference, None))
+    Ok(values::compare_references(identity, reference, None))
 }
 
 /// The target where the branch is taken, else the next instruction.
