@@ -126,40 +126,88 @@ fn sources<'a>(alloc: Global) -> Arg<'a> {
         .help("Jasmin texts and class files, one class each; the first has main")
 }
 
-/// The words of `jvm run`.
-fn run_line<'a>(alloc: Global) -> Result<Line<'a>, AllocError> {
-    let journal = Arg::new(alloc, "journal")
+/// The option of a journal's path.
+fn journal_option<'a>(alloc: Global) -> Arg<'a> {
+    Arg::new(alloc, "journal")
         .long("journal")
         .value_name("PATH")
-        .help("writes the journal of the run, which `jvm replay` takes");
-    let check = Arg::new(alloc, "check")
+        .help("writes the journal of the run, which `jvm replay` takes")
+}
+
+/// The option of a run that is compared with the ideal run.
+fn check_option<'a>(alloc: Global) -> Arg<'a> {
+    Arg::new(alloc, "check")
         .long("check")
         .action(ArgAction::SetTrue)
         .help(
             "makes each turn once more beside a plain run on whose heap nothing is freed, and compares all that is seen; the time of a turn grows with the heap",
-        );
-    Line::new(alloc, "run")
-        .about("Runs the main of the first file's class")
-        .arg(number(alloc, "small", "64", "cells of 4 words")?)?
-        .arg(number(alloc, "medium", "16", "cells of 32 words")?)?
-        .arg(number(alloc, "large", "4", "cells of 256 words")?)?
-        .arg(number(alloc, "steps", "1000000", "turns that may be made")?)?
-        .arg(number(alloc, "output", "65536", "bytes that may be printed")?)?
-        .arg(number(
-            alloc,
-            "gc",
-            "1",
-            "collector turns after a thread's turn, 0 to 1000",
-        )?)?
-        .arg(number(
-            alloc,
-            "carriers",
-            "1",
-            "threads that carry turns, 1 to 8; from 2 on the collector is one beside them, and --gc says nothing",
-        )?)?
-        .arg(journal)?
-        .arg(check)?
+        )
+}
+
+/// A line with one more option of a number.
+fn with_number<'a>(
+    alloc: Global,
+    line: Line<'a>,
+    name: &'a str,
+    default: &'a str,
+    help: &'a str,
+) -> Result<Line<'a>, AllocError> {
+    line.arg(number(alloc, name, default, help)?)
+}
+
+/// A line with one more command.
+fn with_command<'a>(
+    line: Line<'a>,
+    command: Result<Line<'a>, AllocError>,
+) -> Result<Line<'a>, AllocError> {
+    line.subcommand(command?)
+}
+
+/// `jvm run` with the options that say how much there is of everything.
+fn run_limits<'a>(alloc: Global) -> Result<Line<'a>, AllocError> {
+    let line = Line::new(alloc, "run").about("Runs the main of the first file's class");
+    let line = with_number(alloc, line, "small", "64", "cells of 4 words")?;
+    let line = with_number(alloc, line, "medium", "16", "cells of 32 words")?;
+    let line = with_number(alloc, line, "large", "4", "cells of 256 words")?;
+    let line = with_number(alloc, line, "steps", "1000000", "turns that may be made")?;
+    with_number(alloc, line, "output", "65536", "bytes that may be printed")
+}
+
+/// The words of `jvm run`.
+fn run_line<'a>(alloc: Global) -> Result<Line<'a>, AllocError> {
+    let line = run_limits(alloc)?;
+    let line = with_number(
+        alloc,
+        line,
+        "gc",
+        "1",
+        "collector turns after a thread's turn, 0 to 1000",
+    )?;
+    let line = with_number(
+        alloc,
+        line,
+        "carriers",
+        "1",
+        "threads that carry turns, 1 to 8; from 2 on the collector is one beside them, and --gc says nothing",
+    )?;
+    line.arg(journal_option(alloc))?
+        .arg(check_option(alloc))?
         .arg(sources(alloc))
+}
+
+/// The words of `jvm asm`.
+fn assemble_line<'a>(alloc: Global) -> Result<Line<'a>, AllocError> {
+    Line::new(alloc, "asm")
+        .about("Writes the class file of a Jasmin text")
+        .arg(file(alloc, "FILE", "the text"))?
+        .arg(file(alloc, "OUT", "the class file to write"))
+}
+
+/// The words of `jvm dis`.
+fn disassemble_line<'a>(alloc: Global) -> Result<Line<'a>, AllocError> {
+    Line::new(alloc, "dis")
+        .about("Writes the Jasmin text of a class file")
+        .arg(file(alloc, "FILE", "the class file"))
 }
 
 /// The words of `jvm replay`.
@@ -190,23 +238,16 @@ fn explain_line<'a>(alloc: Global) -> Result<Line<'a>, AllocError> {
 
 /// The words that clap reads: the commands and what stands after them.
 fn line<'a>(alloc: Global) -> Result<Line<'a>, AllocError> {
-    let asm = Line::new(alloc, "asm")
-        .about("Writes the class file of a Jasmin text")
-        .arg(file(alloc, "FILE", "the text"))?
-        .arg(file(alloc, "OUT", "the class file to write"))?;
-    let dis = Line::new(alloc, "dis")
-        .about("Writes the Jasmin text of a class file")
-        .arg(file(alloc, "FILE", "the class file"))?;
-    Line::new(alloc, "jvm")
+    let line = Line::new(alloc, "jvm")
         .about("A small Java virtual machine with an on-the-fly collector")
         .version("0.1.0")
-        .subcommand_required(true)
-        .subcommand(run_line(alloc)?)?
-        .subcommand(replay_line(alloc)?)?
-        .subcommand(upgrade_line(alloc)?)?
-        .subcommand(explain_line(alloc)?)?
-        .subcommand(asm)?
-        .subcommand(dis)
+        .subcommand_required(true);
+    let line = with_command(line, run_line(alloc))?;
+    let line = with_command(line, replay_line(alloc))?;
+    let line = with_command(line, upgrade_line(alloc))?;
+    let line = with_command(line, explain_line(alloc))?;
+    let line = with_command(line, assemble_line(alloc))?;
+    with_command(line, disassemble_line(alloc))
 }
 
 /// The file name under a name of the line, copied. `Options` where there is none, which clap rules out.
@@ -284,32 +325,56 @@ fn reported(alloc: Global, error: ClapError) -> Result<LineError, AllocError> {
     })
 }
 
+/// The options of `asm`.
+fn assemble_options(alloc: Global, matches: &ArgMatches<'_>) -> Result<AssembleOptions, LineError> {
+    Ok(AssembleOptions {
+        file: one_file(alloc, matches, "FILE")?,
+        out: one_file(alloc, matches, "OUT")?,
+    })
+}
+
+/// The options of `replay`.
+fn replay_options(alloc: Global, matches: &ArgMatches<'_>) -> Result<ReplayOptions, LineError>
+    ensures { IfOk result (λ options. 0 < length options.files.items) }
+{
+    Ok(ReplayOptions {
+        journal: one_file(alloc, matches, "JOURNAL")?,
+        files: files(alloc, matches)?,
+    })
+}
+
+/// The options of `upgrade`.
+fn upgrade_options(alloc: Global, matches: &ArgMatches<'_>) -> Result<UpgradeOptions, LineError> {
+    Ok(UpgradeOptions {
+        journal: one_file(alloc, matches, "IN")?,
+        out: one_file(alloc, matches, "OUT")?,
+    })
+}
+
+/// The command that clap found. `Options` where no file is named or a number is out of its range.
+fn command_of(alloc: Global, matches: &ArgMatches<'_>) -> Result<Command, LineError>
+    ensures files { IfOk result HasFiles }
+    ensures range { IfOk result InRange }
+{
+    match matches.subcommand() {
+        Some(("asm", asm)) => Ok(Command::Assemble(assemble_options(alloc, asm)?)),
+        Some(("dis", dis)) => Ok(Command::Disassemble(one_file(alloc, dis, "FILE")?)),
+        Some(("replay", replay)) => Ok(Command::Replay(replay_options(alloc, replay)?)),
+        Some(("upgrade", upgrade)) => Ok(Command::Upgrade(upgrade_options(alloc, upgrade)?)),
+        Some(("explain", explain)) => Ok(Command::Explain(path(alloc, explain, "CODE")?)),
+        Some((_, run)) => Ok(Command::Run(run_options(alloc, run)?)),
+        None => Err(LineError::Options),
+    }
+}
+
 /// The command that the words stand for, the program's own name first. `Words` where clap takes none of them, `Options`
 /// where no file is named or a number is out of its range, `Memory` where there was none.
 pub fn options(alloc: Global, words: &[&str]) -> Result<Command, LineError>
     ensures files { IfOk result HasFiles }
     ensures range { IfOk result InRange }
 {
-    let line = line(alloc)?;
-    match line.try_get_matches_from(words) {
-        Ok(matches) => match matches.subcommand() {
-            Some(("asm", asm)) => Ok(Command::Assemble(AssembleOptions {
-                file: one_file(alloc, asm, "FILE")?,
-                out: one_file(alloc, asm, "OUT")?,
-            })),
-            Some(("dis", dis)) => Ok(Command::Disassemble(one_file(alloc, dis, "FILE")?)),
-            Some(("replay", replay)) => Ok(Command::Replay(ReplayOptions {
-                journal: one_file(alloc, replay, "JOURNAL")?,
-                files: files(alloc, replay)?,
-            })),
-            Some(("upgrade", upgrade)) => Ok(Command::Upgrade(UpgradeOptions {
-                journal: one_file(alloc, upgrade, "IN")?,
-                out: one_file(alloc, upgrade, "OUT")?,
-            })),
-            Some(("explain", explain)) => Ok(Command::Explain(path(alloc, explain, "CODE")?)),
-            Some((_, run)) => Ok(Command::Run(run_options(alloc, run)?)),
-            None => Err(LineError::Options),
-        },
+    match line(alloc)?.try_get_matches_from(words) {
+        Ok(matches) => command_of(alloc, &matches),
         Err(error) => Err(reported(alloc, error)?),
     }
 }
