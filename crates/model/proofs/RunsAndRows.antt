@@ -1,8 +1,9 @@
 -- The rows that runs stand for, as runs grow and as they are read.
 use Rattle.std.proofs.Common.{◌≡◌, ◌<◌, ◌≤◌, ◌+◌, ◌-◌, ◌*◌, ◌%◌, ◌++◌, ◌∷◌, ℕ, zero, suc, List, [], length, replicate}
-use Rattle.std.proofs.Common.{set, drop, get_or, Bool, true, false, Some, refl, ap, sym, subst, ◌∙◌, arith}
+use Rattle.std.proofs.Common.{set, take, drop, get_or, Bool, true, false, Some, refl, ap, sym, subst, ◌∙◌, arith}
 use Rattle.std.proofs.lemmas.List.{append-nil, append_assoc, length-append, length-drop, length-replicate}
-use Rattle.std.proofs.lemmas.List.{replicate-append-replicate, drop_at}
+use Rattle.std.proofs.lemmas.List.{replicate-append-replicate, drop_at, take_rest}
+use Rattle.std.proofs.lemmas.List.Elements.{All-append, All-nil, All-replicate}
 use Rattle.std.specs.List.{repeat}
 use Rattle.std.specs.Prelude.{◌==◌, if◌then◌else◌, slice_get}
 use Rattle.model.specs.declared.journals.Outcome.{Outcome}
@@ -13,8 +14,8 @@ use Rattle.model.specs.declared.row_runs.TurnTaken.{TurnTaken}
 use Rattle.model.specs.declared.row_runs.TurnTaken.TheVariants.{Done as DoneBy}
 use Rattle.model.specs.declared.turns.Actor.{Actor}
 use Rattle.model.specs.declared.turns.Actor.TheVariants.{Thread, Collector}
-use Rattle.model.specs.Journals.{rows_of_rounds}
-use Rattle.model.specs.RowRuns.{AreRuns, IsWithin, collector_row, first_row, is_round, last_row, row_after, rows_count}
+use Rattle.model.specs.Journals.{AreOfWorkers, rows_of_rounds}
+use Rattle.model.specs.RowRuns.{AreLeft, AreRuns, IsWithin, collector_row, first_row, is_round, last_row, row_after, rows_count}
 use Rattle.model.specs.RowRuns.{rows_in, rows_of, taken}
 
 -- ---- rows again and again
@@ -168,9 +169,9 @@ rows_pushed runs all rows turn worker left n all_is most so_far =
 -- some rows in the last run, and the others after it
 pub rows_noted : (rows before after : List Row) (row : Row) (times n : ℕ) → before ≡ rows ++ replicate n row → n ≤ times
     → after ≡ before ++ replicate (times - n) row → after ≡ rows ++ replicate times row
-rows_noted rows before after row times n first most then =
+rows_noted rows before after row times n first most next =
     let sum : n + (times - n) ≡ times = omega (arith, most) in
-    then
+    next
     ∙ ap (λ l. l ++ replicate (times - n) row) first
     ∙ append_assoc rows (replicate n row) (replicate (times - n) row)
     ∙ ap (λ l. rows ++ l) (replicate-append-replicate n (times - n) row ∙ ap (λ m. replicate m row) sum)
@@ -187,6 +188,24 @@ rounds-length first second times (suc n) =
     let next : suc n * (1 + times) ≡ n * (1 + times) + (1 + times) = omega arith in
     omega (arith, rest, both, one, next)
 
+abbrev IsOf : ℕ → Row → Type 0
+IsOf workers row = row.worker < workers
+
+repeated-workers : (workers n : ℕ) (rows : List Row) → AreOfWorkers workers rows → AreOfWorkers workers (repeat n rows)
+repeated-workers workers zero rows are = All-nil (IsOf workers)
+repeated-workers workers (suc n) rows are = All-append (IsOf workers) rows (repeat n rows) are
+    (repeated-workers workers n rows are)
+
+-- they are of workers as the two are
+pub rounds-workers : (workers : ℕ) (rows : List Row) (first second : Row) (times n : ℕ) → AreOfWorkers workers rows
+    → first.worker < workers → second.worker < workers
+    → AreOfWorkers workers (rows ++ rows_of_rounds first second times n)
+rounds-workers workers rows first second times n are one two =
+    All-append (IsOf workers) rows (rows_of_rounds first second times n) are
+    (repeated-workers workers n (first ∷ replicate times second)
+    (All-append (IsOf workers) (replicate 1 first) (replicate times second) (All-replicate (IsOf workers) 1 first one)
+    (All-replicate (IsOf workers) times second two)))
+
 module _ (first second : Row) (times left m : ℕ) (is : left ≡ suc m) where
   -- the rows of one round, and those of the others
   pub rounds-left : length (rows_of_rounds first second times left)
@@ -202,9 +221,9 @@ module _ (first second : Row) (times left m : ℕ) (is : left ≡ suc m) where
       → after ≡ mid ++ replicate times second
       → now ++ rows_of_rounds first second times left ≡ rows
       → after ++ rows_of_rounds first second times m ≡ rows
-  round_pushed now mid after rows one then so_far =
+  round_pushed now mid after rows one next so_far =
       let rest = rows_of_rounds first second times m in
-      ap (λ l. l ++ rest) (then ∙ ap (λ l. l ++ replicate times second) one
+      ap (λ l. l ++ rest) (next ∙ ap (λ l. l ++ replicate times second) one
       ∙ append_assoc now (replicate 1 first) (replicate times second))
       ∙ append_assoc now (first ∷ replicate times second) rest
       ∙ ap (λ n. now ++ rows_of_rounds first second times n) (sym is)
@@ -283,6 +302,11 @@ last_left passed runs i d are inside last =
     (omega (arith, lt, left))
     ∙ last_at runs i d are last)
 
+-- so one at least is left
+pub some_left : (passed count : ℕ) (runs : List RowRun) → AreLeft passed count runs → 1 ≤ length runs → 1 ≤ count
+some_left passed count runs left some =
+    let lt = within passed runs left.inside (omega (arith, some)) in omega (arith, lt, left.all)
+
 -- of rows again and again, the one after so many
 at_repeated : (b : Bool) (p n : ℕ) (x y : Row) (rows : List Row) → p < (if b then n + n else n)
     → drop p (repeat n (x ∷ (if b then y ∷ [] else [])) ++ rows)
@@ -325,3 +349,39 @@ pub after_run : (n : ℕ) (runs : List RowRun) (d : RowRun) → 1 ≤ length run
 after_run n [] d some e = absurd (omega (arith, some))
 after_run n (run ∷ runs) d some e = drop_at (repeat run.times (rows_of run.turn run.worker)) (rows_in runs) n
     (run-length run ∙ sym e)
+
+-- after a row that isn't its run's last
+pub left_in_run : (passed count : ℕ) (runs : List RowRun) (d : RowRun) → AreLeft passed count runs → 1 ≤ length runs
+    → passed + 1 < rows_count (get_or runs 0 d) → AreLeft (passed + 1) (count - 1) runs
+left_in_run passed count [] d left some more = absurd (omega (arith, some))
+left_in_run passed count (run ∷ runs) d left some more =
+    let one = some_left passed count (run ∷ runs) left some in
+    record { sound = left.sound; inside = more; all = omega (arith, one, left.all) }
+
+some_rows : (b : Bool) (n : ℕ) → 1 ≤ n → 0 < (if b then n + n else n)
+some_rows true n some = omega (arith, some)
+some_rows false n some = omega (arith, some)
+
+none_passed : (runs : List RowRun) → AreRuns runs → IsWithin 0 runs
+none_passed [] are = omega arith
+none_passed (run ∷ runs) are = some_rows (is_round run.turn) run.times are.0
+
+left_then : (passed count : ℕ) (runs : List RowRun) (d : RowRun) → AreLeft passed count runs → 1 ≤ length runs
+    → passed + 1 ≡ rows_count (get_or runs 0 d) → AreLeft 0 (count - 1) (drop 1 runs)
+left_then passed count [] d left some all = absurd (omega (arith, some))
+left_then passed count (run ∷ runs) d left some all =
+    let first = run-length run in
+    let both = length-append (repeat run.times (rows_of run.turn run.worker)) (rows_in runs) in
+    record {
+      sound = left.sound.1;
+      inside = none_passed runs left.sound.1;
+      all = omega (arith, first, both, all, left.all);
+    }
+
+-- after the last one
+pub left_after_run : (passed count : ℕ) (runs : List RowRun) (d : RowRun) → AreLeft passed count runs
+    → 1 ≤ length runs → passed + 1 ≡ rows_count (get_or runs 0 d)
+    → AreLeft 0 (count - 1) (take (length runs - 1) (drop 1 runs))
+left_after_run passed count runs d left some all =
+    subst (λ (rest : List RowRun). AreLeft 0 (count - 1) rest) (sym (take_rest runs 1))
+    (left_then passed count runs d left some all)

@@ -245,9 +245,9 @@ fn push_rows(runs: &mut Vec<RowRun>, row: Row, times: u32)
     push_runs(runs, taken(row.actor, row.outcome), row.worker, times);
 }
 
-/// Adds the rows of so many rounds, row by row. It takes no memory.
+/// Adds the rows of so many rounds, in runs of rows. It takes no memory.
 #[inline(never)]
-fn push_rounds(runs: &mut Vec<RowRun>, first: Row, second: Row, times: u32, rounds: u32)
+fn push_rounds_singly(runs: &mut Vec<RowRun>, first: Row, second: Row, times: u32, rounds: u32)
     requires runs { AreRuns runs.old.items }
     requires room { 0 < rounds → vec_len runs.old + length (rows_of_rounds first second times rounds)
         ≤ vec_capacity runs.old }
@@ -260,6 +260,24 @@ fn push_rounds(runs: &mut Vec<RowRun>, first: Row, second: Row, times: u32, roun
         push_rows(runs, first, 1);
         push_rows(runs, second, times);
         left -= 1;
+    }
+}
+
+/// The same, in runs of rounds where they are rounds of a turn that is done and one of the collector.
+fn push_rounds(runs: &mut Vec<RowRun>, first: Row, second: Row, times: u32, rounds: u32)
+    requires runs { AreRuns runs.old.items }
+    requires room { 0 < rounds → vec_len runs.old + length (rows_of_rounds first second times rounds)
+        ≤ vec_capacity runs.old }
+    ensures rows { rows_in runs.new.items ≡ rows_in runs.old.items ++ rows_of_rounds first second times rounds }
+    ensures runs { AreRuns runs.new.items }
+    ensures capacity { vec_capacity runs.new ≡ vec_capacity runs.old }
+{
+    if times != 1 {
+        return push_rounds_singly(runs, first, second, times, rounds);
+    }
+    match round_of(first, second) {
+        Some(turn) => push_runs(runs, turn, first.worker, rounds),
+        None => push_rounds_singly(runs, first, second, times, rounds),
     }
 }
 
@@ -355,20 +373,18 @@ impl RowRuns {
     }
 
     /// Adds the rows of so many rounds: in each a first row, and then a second one so many times. It takes no memory.
-    // Rounds of a turn that is done and one of the collector are runs themselves.
     pub fn note_rounds(&mut self, first: Row, second: Row, times: u32, rounds: u32)
         requires { 0 < rounds → length self.old.rows + length (rows_of_rounds first second times rounds)
             ≤ self.old.room }
         ensures { self.new ≡ record {
-            rows = self.old.rows ++ rows_of_rounds first second times rounds;
-            room = self.old.room;
+          rows = self.old.rows ++ rows_of_rounds first second times rounds;
+          room = self.old.room;
         } }
     {
-        let turn = if times == 1 { round_of(first, second) } else { None };
-        match turn {
-            Some(turn) => push_runs(&mut self.runs, turn, first.worker, rounds),
-            None => push_rounds(&mut self.runs, first, second, times, rounds),
+        if rounds == 0 {
+            return;
         }
+        push_rounds(&mut self.runs, first, second, times, rounds);
         self.count += rounds as usize * (1 + times as usize);
     }
 

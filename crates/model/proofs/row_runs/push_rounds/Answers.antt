@@ -1,44 +1,20 @@
-use Rattle.std.proofs.Common.{◌≡◌, ◌-◌, ◌++◌, ◌∙◌, ap, arith, suc}
+use Rattle.std.proofs.Common.{◌++◌, ◌∙◌, List, ap, arith, sym}
+use Rattle.std.specs.List.{repeat}
+use Rattle.model.specs.declared.journals.Row.{Row}
 use Rattle.model.specs.Journals.{rows_of_rounds}
 use Rattle.model.specs.RowRuns.{rows_in}
-use Rattle.model.proofs.RunsAndRows.{round_pushed, rounds-left}
+use Rattle.model.proofs.RunsAndRows.{rounds-length}
 use Rattle.model.proofs.row_runs.push_rounds.Goals as goal
 
-pub push_rows-requires-clause-room : goal.push_rows-requires-clause-room
-push_rows-requires-clause-room c = λ some.
-    let at = c.loop-left in
-    let left : at.left ≡ suc (at.left - 1) = omega (arith, c.loop-left-test.true) in
-    let rows = rounds-left c.args.first c.args.second c.args.times at.left (at.left - 1) left in
-    let room = at.invariant.room c.loop-left-test.true in
-    omega (arith, rows, room)
+pub push_runs-requires-clause-room : goal.push_runs-requires-clause-room
+push_runs-requires-clause-room c = λ some.
+    let long = rounds-length c.args.first c.args.second c.args.times c.args.rounds in
+    let room = c.requires.room some in
+    omega (arith, long, room, c.if-times-ne1.false)
 
-pub push_rows-2-requires-clause-room : goal.push_rows-2-requires-clause-room
-push_rows-2-requires-clause-room c = λ some.
-    let at = c.loop-left in
-    let left : at.left ≡ suc (at.left - 1) = omega (arith, c.loop-left-test.true) in
-    let rows = rounds-left c.args.first c.args.second c.args.times at.left (at.left - 1) left in
-    let room = at.invariant.room c.loop-left-test.true in
-    omega (arith, rows, room, c.push_rows.ensures.len, c.push_rows.ensures.capacity)
-
-pub loop-left-preserved : goal.loop-left-preserved
-loop-left-preserved c =
-    let at = c.loop-left in
-    let left : at.left ≡ suc (at.left - 1) = omega (arith, c.loop-left-test.true) in
-    let rows = rounds-left c.args.first c.args.second c.args.times at.left (at.left - 1) left in
-    let room = at.invariant.room c.loop-left-test.true in
-    record {
-      rows = round_pushed c.args.first c.args.second c.args.times at.left (at.left - 1) left (rows_in at.runs.items)
-          (rows_in c.push_rows.new.runs.items) (rows_in c.push_rows-2.new.runs.items) _
-          c.push_rows.ensures.rows c.push_rows-2.ensures.rows at.invariant.rows;
-      runs = c.push_rows-2.ensures.runs;
-      capacity = c.push_rows-2.ensures.capacity ∙ c.push_rows.ensures.capacity ∙ at.invariant.capacity;
-      room = λ some. omega (
-        arith,
-        rows,
-        room,
-        c.push_rows.ensures.len,
-        c.push_rows.ensures.capacity,
-        c.push_rows-2.ensures.len,
-        c.push_rows-2.ensures.capacity,
-      );
-    }
+pub returns-in-Some-clause-rows : goal.returns-in-Some-clause-rows
+returns-in-Some-clause-rows c =
+    c.push_runs.ensures.rows
+    ∙ ap (λ (rows : List Row). rows_in c.args.runs.now.items ++ repeat c.args.rounds rows) c.in-Some.ensures
+    ∙ ap (λ n. rows_in c.args.runs.now.items ++ rows_of_rounds c.args.first c.args.second n c.args.rounds)
+    (sym c.if-times-ne1.false)

@@ -1,4 +1,4 @@
-use Rattle.std.proofs.Common.{◌≡◌, ◌-◌, ◌++◌, ◌∷◌, [], List, ◌∙◌, ap, arith, subst, sym}
+use Rattle.std.proofs.Common.{◌-◌, ◌++◌, List, ◌∙◌, ap, arith, subst, sym}
 use Rattle.std.specs.List.{repeat}
 use Rattle.model.specs.declared.row_runs.RowRun.{RowRun}
 use Rattle.model.specs.RowRuns.{AreRuns, rows_in, rows_of}

@@ -2,7 +2,7 @@ use Rattle.std.proofs.Common.{◌≡◌, ◌<◌, ◌≤◌, ◌+◌, ◌++◌, 
 use Rattle.std.specs.Prelude.{vec_capacity, vec_len}
 use Rattle.model.specs.Journals.{rows_of_rounds}
 use Rattle.model.specs.RowRuns.{AreRuns, rows_in}
-use Rattle.model.proofs.row_runs.push_rounds.Given as goal
+use Rattle.model.proofs.row_runs.push_rounds_singly.Given as goal
 
 -- the rows so far and those of the rounds that are left are all
 abbrev pub invariant-loop-left : goal.invariant-loop-left
