@@ -1,4 +1,5 @@
-use Rattle.std.specs.Prelude.{ℕ, ◌<◌, ◌≤◌, List, [], ◌∷◌, ◌++◌, All}
+use Rattle.std.specs.Prelude.{ℕ, ◌<◌, ◌≤◌, List, [], ◌∷◌, ◌++◌, All, replicate}
+use Rattle.std.specs.List.{repeat}
 use Rattle.model.specs.declared.journals.HeapShape.{HeapShape}
 use Rattle.model.specs.declared.journals.Limits.{Limits}
 use Rattle.model.specs.declared.journals.Row.{Row}
@@ -20,6 +21,10 @@ with_row journal row = record journal { rows = journal.rows ++ row ∷ [] }
 
 abbrev pub with_rows : JournalValue → List Row → JournalValue
 with_rows journal rows = record journal { rows = journal.rows ++ rows }
+
+-- the rows of so many rounds, each one row, and then another so many times
+abbrev pub rows_of_rounds : Row → Row → ℕ → ℕ → List Row
+rows_of_rounds first second times rounds = repeat rounds (first ∷ replicate times second)
 
 -- what holds of the head of every journal
 pub record HeadFits (shape : HeapShape) (limits : Limits) (workers : ℕ) : Type 0 where

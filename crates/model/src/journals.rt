@@ -90,7 +90,7 @@ impl Model for Journal {
 
 impl Journal {
     ghost use Rattle.std.specs.Prelude.{◌≡◌, ◌+◌, ◌<◌, ◌≤◌, [], IfOk, MatchResult, length, replicate};
-    ghost use Rattle.model.specs.Journals.{HeadFits, AreOfWorkers, blank, with_row, with_rows};
+    ghost use Rattle.model.specs.Journals.{HeadFits, AreOfWorkers, blank, rows_of_rounds, with_row, with_rows};
 
     /// A journal with no row, and room for all that the limit allows. `AllocError` where there is no memory for them.
     pub fn new(
@@ -169,6 +169,17 @@ impl Journal {
         ensures { self.new ≡ with_rows self.old (replicate times row) }
     {
         self.runs.note_times(row, times);
+    }
+
+    /// Adds the rows of so many rounds: in each a first row, and then a second one so many times. It takes no memory.
+    pub fn note_rounds(&mut self, first: Row, second: Row, times: u32, rounds: u32)
+        requires room { 0 < rounds → length self.old.rows + length (rows_of_rounds first second times rounds)
+            ≤ self.old.limits.steps }
+        requires first { first.worker < self.old.workers }
+        requires second { second.worker < self.old.workers }
+        ensures { self.new ≡ with_rows self.old (rows_of_rounds first second times rounds) }
+    {
+        self.runs.note_rounds(first, second, times, rounds);
     }
 
     /// Adds a row past the limit too, as a stored journal may have it. `AllocError` where there is no memory for it;

@@ -1,14 +1,19 @@
-//! Rows kept as runs: four bytes for up to 255 equal ones that are noted at once, and for one that is noted alone.
+//! Rows kept as runs: four bytes for up to 255 equal ones that are noted at once, for one that is noted alone, and for up
+//! to 255 rounds of a thread's turn and one of the collector.
 ghost use Rattle.std.specs.Prelude.{◌≡◌, ◌+◌, ◌-◌, ◌++◌, ◌<◌, ◌≤◌, ◌↔◌, [], ◌∷◌, IfOk, OnErr, OnOk, length, replicate};
-ghost use Rattle.std.specs.Prelude.{slice_get, vec_capacity, vec_len};
-ghost use Rattle.model.specs.RowRuns.{AreRuns, row_of, rows_in, run_of, taken};
+ghost use Rattle.std.specs.Prelude.{IfSome, slice_get, vec_capacity, vec_len};
+ghost use Rattle.std.specs.List.{repeat};
+ghost use Rattle.model.specs.Journals.{rows_of_rounds};
+ghost use Rattle.model.specs.RowRuns.{AreRuns, first_row, is_round, last_row, row_after, rows_count, rows_in, rows_of};
+ghost use Rattle.model.specs.RowRuns.{taken};
 
 use crate::journals::{Outcome, Row};
 use crate::turns::Actor;
 use std::alloc::{AllocError, Global};
 use std::marker::Model;
 
-/// Who took a turn and what came of it, in two bytes: a thread's number, or the collector.
+/// Who took a turn and what came of it, in two bytes: a thread's number, or the collector. `Round` stands for two turns,
+/// both done: the thread's, and after it one of the collector.
 #[derive(Clone, Copy, PartialEq, Eq)]
 pub enum TurnTaken {
     Done(u8),
@@ -19,9 +24,10 @@ pub enum TurnTaken {
     CollectorObject,
     CollectorNoRoom,
     CollectorFault,
+    Round(u8),
 }
 
-/// A row so many times, once at least.
+/// A row, or the two of a round, so many times, once at least.
 #[derive(Clone, Copy)]
 pub struct RowRun {
     turn: TurnTaken,
@@ -50,7 +56,15 @@ fn taken(actor: Actor, outcome: Outcome) -> TurnTaken
 }
 
 impl TurnTaken {
-    ghost use Rattle.model.specs.RowRuns.{actor_of, outcome_of};
+    ghost use Rattle.std.specs.Prelude.{◌≡◌};
+    ghost use Rattle.model.specs.RowRuns.{actor_of, is_round, outcome_of};
+
+    /// Whether it stands for two turns.
+    fn is_round(self) -> bool
+        ensures { result ≡ is_round self }
+    {
+        matches!(self, TurnTaken::Round(_))
+    }
 
     fn actor(self) -> Actor
         ensures { result ≡ actor_of self }
@@ -59,7 +73,8 @@ impl TurnTaken {
             TurnTaken::Done(thread)
             | TurnTaken::Object(thread)
             | TurnTaken::NoRoom(thread)
-            | TurnTaken::Fault(thread) => Actor::Thread(thread),
+            | TurnTaken::Fault(thread)
+            | TurnTaken::Round(thread) => Actor::Thread(thread),
             TurnTaken::CollectorDone
             | TurnTaken::CollectorObject
             | TurnTaken::CollectorNoRoom
@@ -71,7 +86,7 @@ impl TurnTaken {
         ensures { result ≡ outcome_of self }
     {
         match self {
-            TurnTaken::Done(_) | TurnTaken::CollectorDone => Outcome::Done,
+            TurnTaken::Done(_) | TurnTaken::CollectorDone | TurnTaken::Round(_) => Outcome::Done,
             TurnTaken::Object(_) | TurnTaken::CollectorObject => Outcome::Object,
             TurnTaken::NoRoom(_) | TurnTaken::CollectorNoRoom => Outcome::NoRoom,
             TurnTaken::Fault(_) | TurnTaken::CollectorFault => Outcome::Fault,
@@ -79,20 +94,28 @@ impl TurnTaken {
     }
 }
 
-impl RowRun {
-    #[inline]
-    fn new(row: Row, times: u8) -> RowRun
-        ensures { result ≡ run_of row times }
-    {
-        RowRun {
-            turn: taken(row.actor, row.outcome),
-            worker: row.worker,
-            times,
-        }
+/// Two rows, the second of which comes after the first, as one turn.
+fn round_of(first: Row, second: Row) -> Option<TurnTaken>
+    ensures { IfSome result (λ turn. rows_of turn first.worker ≡ first ∷ second ∷ []) }
+{
+    let collected = Row {
+        actor: Actor::Collector,
+        outcome: Outcome::Done,
+        worker: first.worker,
+    };
+    if second != collected {
+        return None;
     }
+    match taken(first.actor, first.outcome) {
+        TurnTaken::Done(thread) => Some(TurnTaken::Round(thread)),
+        _ => None,
+    }
+}
 
-    fn row(self) -> Row
-        ensures { result ≡ row_of self }
+impl RowRun {
+    /// The first of the rows for which it stands.
+    fn first(self) -> Row
+        ensures { result ≡ first_row self.turn self.worker }
     {
         Row {
             actor: self.turn.actor(),
@@ -101,15 +124,47 @@ impl RowRun {
         }
     }
 
-    fn times(self) -> u8
-        ensures { result ≡ self.times }
+    /// The last of them.
+    fn last(self) -> Row
+        ensures { result ≡ last_row self.turn self.worker }
     {
-        self.times
+        if self.turn.is_round() {
+            Row {
+                actor: Actor::Collector,
+                outcome: Outcome::Done,
+                worker: self.worker,
+            }
+        } else {
+            self.first()
+        }
+    }
+
+    /// The one that comes after so many.
+    fn after(self, passed: u16) -> Row
+        ensures { result ≡ row_after self passed }
+    {
+        if passed % 2 == 0 {
+            self.first()
+        } else {
+            self.last()
+        }
+    }
+
+    /// How many there are.
+    fn count(self) -> u16
+        ensures { result ≡ rows_count self }
+    {
+        let times = u16::from(self.times);
+        if self.turn.is_round() {
+            times + times
+        } else {
+            times
+        }
     }
 
     /// How many of so many more rows of this kind the run has room for: none where its own row is another.
     fn room_for(self, row: Row, times: u32) -> u8
-        ensures same { 0 < result → row_of self ≡ row }
+        ensures same { 0 < result → rows_of self.turn self.worker ≡ row ∷ [] }
         ensures most { result ≤ times }
         ensures fits { self.times + result ≤ 255 }
     {
@@ -155,20 +210,74 @@ fn run_length(left: u32) -> u8
     if left < 255 { left as u8 } else { 255 }
 }
 
+/// Adds what a turn stands for so many times, in runs of their own. It takes no memory.
+#[inline(always)]
+fn push_runs(runs: &mut Vec<RowRun>, turn: TurnTaken, worker: u8, times: u32)
+    requires runs { AreRuns runs.old.items }
+    requires room { 0 < times → vec_len runs.old + times ≤ vec_capacity runs.old }
+    ensures rows { rows_in runs.new.items ≡ rows_in runs.old.items ++ repeat times (rows_of turn worker) }
+    ensures runs { AreRuns runs.new.items }
+    ensures capacity { vec_capacity runs.new ≡ vec_capacity runs.old }
+    ensures len { vec_len runs.new ≤ vec_len runs.old + times }
+{
+    let mut left = times;
+    while left > 0 {
+        let more = run_length(left);
+        runs.push_reserved(RowRun {
+            turn,
+            worker,
+            times: more,
+        });
+        left -= u32::from(more);
+    }
+}
+
 /// Adds a row so many times, in runs of its own. It takes no memory.
 #[inline(always)]
-fn push_runs(runs: &mut Vec<RowRun>, row: Row, times: u32)
+fn push_rows(runs: &mut Vec<RowRun>, row: Row, times: u32)
     requires runs { AreRuns runs.old.items }
     requires room { 0 < times → vec_len runs.old + times ≤ vec_capacity runs.old }
     ensures rows { rows_in runs.new.items ≡ rows_in runs.old.items ++ replicate times row }
     ensures runs { AreRuns runs.new.items }
     ensures capacity { vec_capacity runs.new ≡ vec_capacity runs.old }
+    ensures len { vec_len runs.new ≤ vec_len runs.old + times }
 {
-    let mut left = times;
+    push_runs(runs, taken(row.actor, row.outcome), row.worker, times);
+}
+
+/// Adds the rows of so many rounds, in runs of rows. It takes no memory.
+#[inline(never)]
+fn push_rounds_singly(runs: &mut Vec<RowRun>, first: Row, second: Row, times: u32, rounds: u32)
+    requires runs { AreRuns runs.old.items }
+    requires room { 0 < rounds → vec_len runs.old + length (rows_of_rounds first second times rounds)
+        ≤ vec_capacity runs.old }
+    ensures rows { rows_in runs.new.items ≡ rows_in runs.old.items ++ rows_of_rounds first second times rounds }
+    ensures runs { AreRuns runs.new.items }
+    ensures capacity { vec_capacity runs.new ≡ vec_capacity runs.old }
+{
+    let mut left = rounds;
     while left > 0 {
-        let more = run_length(left);
-        runs.push_reserved(RowRun::new(row, more));
-        left -= u32::from(more);
+        push_rows(runs, first, 1);
+        push_rows(runs, second, times);
+        left -= 1;
+    }
+}
+
+/// The same, in runs of rounds where they are rounds of a turn that is done and one of the collector.
+fn push_rounds(runs: &mut Vec<RowRun>, first: Row, second: Row, times: u32, rounds: u32)
+    requires runs { AreRuns runs.old.items }
+    requires room { 0 < rounds → vec_len runs.old + length (rows_of_rounds first second times rounds)
+        ≤ vec_capacity runs.old }
+    ensures rows { rows_in runs.new.items ≡ rows_in runs.old.items ++ rows_of_rounds first second times rounds }
+    ensures runs { AreRuns runs.new.items }
+    ensures capacity { vec_capacity runs.new ≡ vec_capacity runs.old }
+{
+    if times != 1 {
+        return push_rounds_singly(runs, first, second, times, rounds);
+    }
+    match round_of(first, second) {
+        Some(turn) => push_runs(runs, turn, first.worker, rounds),
+        None => push_rounds_singly(runs, first, second, times, rounds),
     }
 }
 
@@ -183,7 +292,11 @@ fn push_row(runs: &mut Vec<RowRun>, row: Row) -> Result<(), AllocError>
     if lengthen(runs, row, 1) > 0 {
         return Ok(());
     }
-    runs.push(RowRun::new(row, 1))?;
+    runs.push(RowRun {
+        turn: taken(row.actor, row.outcome),
+        worker: row.worker,
+        times: 1,
+    })?;
     Ok(())
 }
 
@@ -245,7 +358,7 @@ impl RowRuns {
         requires { length self.old.rows < self.old.room }
         ensures { self.new ≡ record { rows = self.old.rows ++ row ∷ []; room = self.old.room } }
     {
-        push_runs(&mut self.runs, row, 1);
+        push_rows(&mut self.runs, row, 1);
         self.count += 1;
     }
 
@@ -255,8 +368,24 @@ impl RowRuns {
         ensures { self.new ≡ record { rows = self.old.rows ++ replicate times row; room = self.old.room } }
     {
         let more = lengthen(&mut self.runs, row, times);
-        push_runs(&mut self.runs, row, times - more);
+        push_rows(&mut self.runs, row, times - more);
         self.count += times as usize;
+    }
+
+    /// Adds the rows of so many rounds: in each a first row, and then a second one so many times. It takes no memory.
+    pub fn note_rounds(&mut self, first: Row, second: Row, times: u32, rounds: u32)
+        requires { 0 < rounds → length self.old.rows + length (rows_of_rounds first second times rounds)
+            ≤ self.old.room }
+        ensures { self.new ≡ record {
+          rows = self.old.rows ++ rows_of_rounds first second times rounds;
+          room = self.old.room;
+        } }
+    {
+        if rounds == 0 {
+            return;
+        }
+        push_rounds(&mut self.runs, first, second, times, rounds);
+        self.count += rounds as usize * (1 + times as usize);
     }
 
     /// Adds a row, for which memory may be taken. `AllocError` where there is none; the rows are then as they were.
@@ -278,7 +407,7 @@ impl RowRuns {
 #[derive(Drop)]
 pub struct Rows<'a> {
     runs: &'a [RowRun],
-    passed: u8,
+    passed: u16,
     count: usize,
 }
 
@@ -307,7 +436,7 @@ impl<'a> Rows<'a> {
         ensures { result ≡ slice_get self.entry (length self.entry - 1) }
     {
         match self.runs {
-            [.., last] => Some(last.row()),
+            [.., last] => Some(last.last()),
             [] => None,
         }
     }
@@ -326,9 +455,9 @@ impl<'a> Iterator for Rows<'a> {
         let [first, following @ ..] = self.runs else {
             return None;
         };
-        let (row, times) = (first.row(), first.times());
+        let (row, count) = (first.after(self.passed), first.count());
         self.count -= 1;
-        if self.passed + 1 < times {
+        if self.passed + 1 < count {
             self.passed += 1;
         } else {
             self.runs = following;

@@ -1,8 +1,10 @@
 -- Many rounds with turns of the collector in one call: the worlds that they lead to, and what they answer.
-use Rattle.std.proofs.Common.{◌≡◌, ◌<◌, ◌≤◌, ◌+◌, ◌-◌, ◌∷◌, ℕ, zero, suc, [], length, length-append, Bool, true, false}
-use Rattle.std.proofs.Common.{Option, Some, None, refl, ap, sym, subst, ◌∙◌, arith}
-use Rattle.std.specs.Prelude.{if◌then◌else◌, is_some, nat_le}
+use Rattle.std.proofs.Common.{◌≡◌, ◌<◌, ◌≤◌, ◌+◌, ◌-◌, ◌++◌, ◌∷◌, ℕ, zero, suc, List, [], length, length-append}
+use Rattle.std.proofs.Common.{Bool, true, false, Option, Some, None, refl, ap, sym, subst, ◌∙◌, arith}
+use Rattle.std.specs.List.{repeat}
+use Rattle.std.specs.Prelude.{if◌then◌else◌, is_some, nat_le, replicate}
 use Rattle.std.proofs.lemmas.Bool.{leb-true}
+use Rattle.std.proofs.lemmas.List.{append-nil, append_assoc}
 use Rattle.model.specs.declared.journals.Limits.{Limits}
 use Rattle.model.specs.declared.journals.Outcome.TheVariants.{Done}
 use Rattle.model.specs.declared.journals.Row.{Row}
@@ -10,7 +12,7 @@ use Rattle.model.specs.declared.turns.Actor.TheVariants.{Collector}
 use Rattle.model.specs.declared.turns.Fault.{Fault}
 use Rattle.model.specs.declared.turns.Status.TheVariants.{Running}
 use Rattle.model.specs.declared.turns.Turn.TheVariants.{StepLimit}
-use Rattle.model.specs.Journals.{JournalValue, with_row}
+use Rattle.model.specs.Journals.{JournalValue, rows_of_rounds, with_row, with_rows}
 use Rattle.model.specs.Machines.{Recorded, after_turn_by, reported_of}
 use Rattle.model.specs.Observers.{ideal, is_running, status_by, status_of}
 use Rattle.model.specs.Ready.{some_is_ready, some_lives}
@@ -23,7 +25,7 @@ use Rattle.scheduler.specs.Rounds.{LeadsInto, LeadsOn, PickedIf, after_round, af
 use Rattle.scheduler.specs.Rounds.{done_by, is_done, noted_if, noted_rounds, noted_times, picked, picked_answer}
 use Rattle.scheduler.specs.Rounds.{rounds_answer, swept}
 use Rattle.scheduler.specs.Worlds.{IsOf, recorded}
-use Rattle.scheduler.proofs.Bursts.{answer-left, times-length, times-limits, world-left}
+use Rattle.scheduler.proofs.Bursts.{answer-left, times-are, times-length, times-limits, world-left}
 use Rattle.scheduler.proofs.FirstTurns.{first_answer, first_fits, first_noted, first_picked}
 use Rattle.scheduler.proofs.Noting.{after_is, answer_is, back, noted_is, refusal_is}
 use Rattle.scheduler.proofs.RoundsLeft.{answer-first, round-swept, rounds-first}
@@ -94,6 +96,10 @@ pub record Leads (s : Loaded) (j : JournalValue) (k worker gc n : ℕ) (after : 
   pub on : LeadsOn (recorded s j) worker gc n (recorded after (noted_rounds j worker gc n))
   pub room : 0 < rows_of gc n → length j.rows + rows_of gc n ≤ j.limits.steps
 
+repeat-last : (n : ℕ) (rows : List Row) → repeat n rows ++ rows ≡ repeat (suc n) rows
+repeat-last zero rows = sym (append-nil rows)
+repeat-last (suc n) rows = append_assoc rows (repeat n rows) rows ∙ ap (λ l. rows ++ l) (repeat-last n rows)
+
 -- more rounds have more rows
 pub rows-up : (gc m n : ℕ) → m ≤ n → rows_of gc m ≤ rows_of gc n
 rows-up gc zero n fits = omega arith
@@ -114,20 +120,27 @@ module _ (j : JournalValue) (worker gc : ℕ) where
       let more = times-length (with_row (noted_rounds j worker gc n) (done_by 0 worker)) (collected_by worker) gc in
       omega (arith, before, one, more)
 
--- while rounds are noted there is room for the rows of one more
-pub round-fits : (j at : JournalValue) (worker gc n : ℕ) (rounds : Rounds) → at ≡ noted_rounds j worker gc n
-    → n < rounds.made
-    → (0 < rows_in gc rounds → length j.rows + rows_in gc rounds ≤ j.limits.steps)
-    → length at.rows + 1 + gc ≤ at.limits.steps
-round-fits j at worker gc n rounds is less room =
-    let next : suc n ≡ n + 1 = omega arith in
-    let one : rows_of gc n + 1 + gc ≡ rows_of gc (n + 1) = ap (rows_of gc) next in
-    let up = rows-up gc (n + 1) rounds.made (omega (arith, less)) in
-    let fits = room (omega (arith, one, up)) in
-    let long = ap (λ (j : JournalValue). length j.rows) is ∙ rounds-length j worker gc n in
-    let limits = ap (λ (j : JournalValue). j.limits.steps) is
-    ∙ ap (λ (l : Limits). l.steps) (rounds-limits j worker gc n) in
-    omega (arith, one, up, fits, long, limits)
+  -- the rows of all, one after another
+  pub rounds-noted : (n : ℕ) → with_rows j (rows_of_rounds (done_by 0 worker) (collected_by worker) gc n)
+      ≡ noted_rounds j worker gc n
+  rounds-noted zero = ap (λ (rows : List Row). record j { rows = rows }) (append-nil j.rows)
+  rounds-noted (suc n) =
+      let swept = replicate gc (collected_by worker) in
+      let one = done_by 0 worker ∷ swept in
+      let before = repeat n one in
+      ap (λ (rows : List Row). with_rows j rows) (sym (repeat-last n one))
+      ∙ ap (λ (rows : List Row). record j { rows = rows }) (sym (append_assoc j.rows before one)
+      ∙ sym (append_assoc (j.rows ++ before) (done_by 0 worker ∷ []) swept))
+      ∙ times-are (with_row (with_rows j before) (done_by 0 worker)) (collected_by worker) gc
+      ∙ ap (λ (x : JournalValue). noted_times (with_row x (done_by 0 worker)) (collected_by worker) gc) (rounds-noted n)
+
+  -- how many there are
+  pub rows-long : (n : ℕ) → length (rows_of_rounds (done_by 0 worker) (collected_by worker) gc n) ≡ rows_of gc n
+  rows-long n =
+      let rows = rows_of_rounds (done_by 0 worker) (collected_by worker) gc n in
+      let both = length-append j.rows rows in
+      let long = ap (λ (x : JournalValue). length x.rows) (rounds-noted n) ∙ rounds-length n in
+      omega (arith, both, long)
 
 -- one round
 module _ (x : Loaded) (jn : JournalValue) (kn : ℕ) (is : IsOf x jn kn) (worker gc : ℕ) (after : Loaded)

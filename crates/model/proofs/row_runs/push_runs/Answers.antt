@@ -1,6 +1,7 @@
-use Rattle.std.proofs.Common.{◌≡◌, ◌-◌, ◌++◌, ◌∷◌, [], List, ◌∙◌, ap, arith, replicate, subst, sym}
+use Rattle.std.proofs.Common.{◌-◌, ◌++◌, List, ◌∙◌, ap, arith, subst, sym}
+use Rattle.std.specs.List.{repeat}
 use Rattle.model.specs.declared.row_runs.RowRun.{RowRun}
-use Rattle.model.specs.RowRuns.{AreRuns, rows_in, run_of}
+use Rattle.model.specs.RowRuns.{AreRuns, rows_in, rows_of}
 use Rattle.model.proofs.RunsAndRows.{AreRuns-push, rows_pushed}
 use Rattle.model.proofs.row_runs.push_runs.Goals as goal
 
@@ -10,17 +11,16 @@ loop-left-preserved c =
     let more = c.run_length-more.result in
     let some = c.run_length-more.ensures.some c.loop-left-test.true in
     let most = c.run_length-more.ensures.most in
-    let pushed : c.push_reserved.new.self.items ≡ at.runs.items ++ run_of c.args.row more ∷ [] =
-    c.push_reserved.ensures.items ∙ ap (λ (run : RowRun). at.runs.items ++ run ∷ []) c.new.ensures in
+    let once = rows_of c.args.turn c.args.worker in
     let now = rows_pushed at.runs.items c.push_reserved.new.self.items (rows_in c.args.runs.now.items
-    ++ replicate c.args.times c.args.row) c.args.row at.left more
-    pushed most at.invariant.rows in
+    ++ repeat c.args.times once) c.args.turn c.args.worker at.left more
+    c.push_reserved.ensures.items most at.invariant.rows in
     let room = at.invariant.room c.loop-left-test.true in
     record {
-      rows = ap (λ n. rows_in c.push_reserved.new.self.items ++ replicate (at.left - n) c.args.row) c.from-left.ensures
-          ∙ now;
-      runs = subst (λ (runs : List RowRun). AreRuns runs) (sym pushed)
-          (AreRuns-push at.runs.items (run_of c.args.row more) at.invariant.runs (omega (arith, some)));
+      rows = ap (λ n. rows_in c.push_reserved.new.self.items ++ repeat (at.left - n) once) c.from-left.ensures ∙ now;
+      runs = subst (λ (runs : List RowRun). AreRuns runs) (sym c.push_reserved.ensures.items)
+          (AreRuns-push at.runs.items (record { turn = c.args.turn; worker = c.args.worker; times = more })
+          at.invariant.runs (omega (arith, some)));
       capacity = c.push_reserved.ensures.capacity ∙ at.invariant.capacity;
       room = λ left. omega (
         arith,
@@ -31,4 +31,5 @@ loop-left-preserved c =
         c.push_reserved.ensures.len,
         c.from-left.ensures,
       );
+      len = omega (arith, at.invariant.len, some, most, c.push_reserved.ensures.len, c.from-left.ensures);
     }

@@ -5,8 +5,8 @@ use Rattle.model.specs.RowRuns.{rows_in}
 use Rattle.model.proofs.RunsAndRows.{runs_fit}
 use Rattle.model.proofs.row_runs.RowRuns.note.Goals as goal
 
-pub push_runs-requires-clause-room : goal.push_runs-requires-clause-room
-push_runs-requires-clause-room c = λ left.
+pub push_rows-requires-clause-room : goal.push_rows-requires-clause-room
+push_rows-requires-clause-room c = λ left.
     let a = c.self.inside in
     let room : length (rows_in a.runs.items) < vec_capacity a.runs = rw (← c.self.view_is) at c.requires in
     let fits = runs_fit a.runs.items c.self.invariant.0 in
@@ -16,6 +16,6 @@ pub returns : goal.returns
 returns c =
     let a = c.self.inside in
     rw (← c.self.view_is)
-    (ap (λ (rows : List Row). record { rows = rows; room = vec_capacity c.push_runs.new.runs }) c.push_runs.ensures.rows
+    (ap (λ (rows : List Row). record { rows = rows; room = vec_capacity c.push_rows.new.runs }) c.push_rows.ensures.rows
     ∙ ap (λ (room : ℕ). record { rows = rows_in a.runs.items ++ c.args.row ∷ []; room = room })
-    c.push_runs.ensures.capacity)
+    c.push_rows.ensures.capacity)

@@ -5,8 +5,8 @@ use Rattle.model.specs.RowRuns.{rows_in}
 use Rattle.model.proofs.RunsAndRows.{rows_noted, runs_fit}
 use Rattle.model.proofs.row_runs.RowRuns.note_times.Goals as goal
 
-pub push_runs-requires-clause-room : goal.push_runs-requires-clause-room
-push_runs-requires-clause-room c = λ left.
+pub push_rows-requires-clause-room : goal.push_rows-requires-clause-room
+push_rows-requires-clause-room c = λ left.
     let a = c.self.inside in
     let some : 0 < c.args.times = omega (arith, left) in
     let room : length (rows_in a.runs.items) + c.args.times ≤ vec_capacity
@@ -27,9 +27,9 @@ pub returns : goal.returns
 returns c =
     let a = c.self.inside in
     rw (← c.self.view_is)
-    (ap (λ (rows : List Row). record { rows = rows; room = vec_capacity c.push_runs.new.runs })
-    (rows_noted (rows_in a.runs.items) (rows_in c.lengthen-more.new.runs.items) (rows_in c.push_runs.new.runs.items)
+    (ap (λ (rows : List Row). record { rows = rows; room = vec_capacity c.push_rows.new.runs })
+    (rows_noted (rows_in a.runs.items) (rows_in c.lengthen-more.new.runs.items) (rows_in c.push_rows.new.runs.items)
     c.args.row c.args.times c.lengthen-more.result
-    c.lengthen-more.ensures.rows c.lengthen-more.ensures.most c.push_runs.ensures.rows)
+    c.lengthen-more.ensures.rows c.lengthen-more.ensures.most c.push_rows.ensures.rows)
     ∙ ap (λ (room : ℕ). record { rows = rows_in a.runs.items ++ replicate c.args.times c.args.row; room = room })
-    (c.push_runs.ensures.capacity ∙ c.lengthen-more.ensures.capacity))
+    (c.push_rows.ensures.capacity ∙ c.lengthen-more.ensures.capacity))

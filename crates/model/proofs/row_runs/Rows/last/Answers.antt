@@ -7,5 +7,5 @@ returns-in-len1-up c =
     let a = c.self.inside in
     let last : length a.runs.now - 1 + 1 ≡ length a.runs.now = omega (arith, c.in-len1-up.len_at_least) in
     rw (← c.self.view_is)
-    (ap Some c.row.ensures ∙ last_left a.passed a.runs.now (length a.runs.now - 1) no_run c.self.invariant.sound
+    (ap Some c.last.ensures ∙ last_left a.passed a.runs.now (length a.runs.now - 1) no_run c.self.invariant.sound
     c.self.invariant.inside last)
