@@ -1,6 +1,9 @@
 import static vm.Sys.*;
 
-/** Loops over ints and longs with each operator, conversion and comparison, long enough that they run as register code. */
+/**
+ * Loops over ints and longs with each operator, conversion and comparison, long enough that they run as register code,
+ * and with the rows of steps that it carries out at once.
+ */
 public class Loops {
     static int ints(int n) {
         int s = 1, t = -7;
@@ -64,12 +67,76 @@ public class Loops {
         return s;
     }
 
+    /** Operators and comparisons of two locals, of a local and a constant, and of a local and what is on the stack. */
+    static int pairs(int n) {
+        int a = 7, b = -3;
+        for (int i = 0; i < n; i++) {
+            int c = a * b;
+            int d = a - b;
+            a = a + b;
+            b = b - i;
+            c = (c ^ i) - a;
+            d = (d | c) * b + i;
+            c = (a * 5 & 1023 | 64) << 2;
+            d = d * 3 - 1 ^ 77;
+            b = (d >> 2) + (c >>> 1) * (a & d);
+            c = a - 4 << 1 >> 3 >>> 1;
+            if (a != b) d += a + b;
+            if (a == b) d++;
+            if (c >= d) a += 1;
+            if (c > d) a ^= c;
+            if (c <= d) b += 2;
+            if (d != 12) b ^= d;
+            if (d == 12) b--;
+            if (d <= 100) a -= 1;
+            if (d > 7) a += 3;
+            a = a ^ d;
+            b = b & c | d * a;
+        }
+        return a * b;
+    }
+
+    static long longPairs(int n) {
+        long a = 7, b = -3;
+        for (int i = 0; i < n; i++) {
+            long c = a * b;
+            long d = a - b;
+            a = a + b;
+            b = b - d;
+            c = (c ^ i) - a;
+            d = (d | c) * b + a;
+            c = (a * 5 & 1023 | 64) << 2;
+            d = d * 3 - 1 ^ 77;
+            b = (d >> 2) + (c >>> 1) * (a & d);
+            c = a - 4 << 1 >> 3 >>> 1;
+            if (a != b) d += a + b;
+            if (c >= d) a += 1;
+            if (c > d) a ^= c;
+            if (c <= d) b += 2;
+            if (d != 12) b ^= d;
+            if (d == 12) b--;
+            if (d < 100) a -= 1;
+            if (d > 7) a += 3;
+            if (d <= 7000) a *= 3;
+            if ((a & d) < (b | d)) a -= b * d;
+            if ((a & d) != (b ^ d)) a = a ^ d;
+            if ((a & 3L) == (b & 3L)) b = b | d;
+            if ((a & 7L) >= (b & 7L)) b = b & d;
+            if ((a & 5L) > (b & 5L)) b = b * d;
+            if ((a & 9L) <= (b & 9L)) d = b - a;
+            b = b & c | d * a;
+        }
+        return a * b;
+    }
+
     static void main() {
         for (int n = 0; n < 40; n += 13) {
             print(ints(n));
             printl(longs(n));
             printl(mixed(n));
         }
+        print(pairs(40));
+        printl(longPairs(40));
         print(ints(300));
         printl(longs(300));
         printl(mixed(300));

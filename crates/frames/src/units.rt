@@ -5,11 +5,13 @@ ghost use Rattle.model.specs.declared.values.Entry.TheVariants.{Unset};
 ghost use Rattle.values.specs.Slots.{value_in as value_held};
 ghost use Rattle.values.specs.Slots.{entry_of, value_of};
 ghost use Rattle.values.specs.declared.slots.Slot.TheVariants.{Unset as UnsetSlot};
+ghost use Rattle.register_code.specs.Fusing.{AreFused};
 ghost use Rattle.register_code.specs.Within.{AreWithin};
 ghost use Rattle.frames.specs.Windows.{RunsWithin};
 
 use model::values::{Entry, Value};
 use register_code::Memory;
+use register_code::fused_steps::FusedStep;
 use register_code::steps::RegisterStep;
 use std::alloc::{AllocError, Global};
 use std::marker::Model;
@@ -100,12 +102,14 @@ impl Units {
         base: usize,
         span: usize,
         code: &[RegisterStep],
+        fused: &[FusedStep],
         place: usize,
         most: u32,
     ) -> (usize, u32)
         requires there { base + span ≤ length self.old }
         requires start { place < length code.now }
         requires within { AreWithin span code.now }
+        requires fused { AreFused code.now fused.now }
         ensures ran { RunsWithin (M.acts context.now) base span code.now place result.1 result.0 self.old memory.old
             self.new memory.new }
         ensures inside { result.0 < length code.now }
@@ -116,6 +120,7 @@ impl Units {
             memory,
             context,
             code,
+            fused,
             place,
             most,
         )
