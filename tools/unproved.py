@@ -88,8 +88,9 @@ def marks_in(lines, crate, modules):
         if attribute := re.match(r"\s*#\[inline(?:\((\w+)\))?\]", line):
             mark = attribute[1]
         elif line.startswith("impl"):
-            words = [re.findall(r"\w+", it)[:1] for it in re.sub(r"<.*?>", "", line[4:]).split(" for ")]
-            kind = "".join(it[0] for it in reversed(words) if it) or None  # of an impl of a trait: the type, then the trait
+            *trait, type_name = re.sub(r"^impl(<.*?>)? ", "", line).split(" for ")
+            words = re.findall(r"\w+", type_name)[:1] + [word for it in trait for word in re.findall(r"\w+", it)]
+            kind = "".join(words) or None  # of an impl of a trait: the type, then the trait with its types
         elif function := re.match(r"(\s*)(?:pub(?:\(\w+\))? )?(?:const )?(?:unsafe )?fn (\w+)", line):
             if mark is not False:
                 found["::".join([crate, kind, function[2]] if function[1] and kind else [crate, *modules, function[2]])] = mark
