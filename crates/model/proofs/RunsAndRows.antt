@@ -15,7 +15,8 @@ use Rattle.model.specs.declared.row_runs.TurnTaken.TheVariants.{Done as DoneBy}
 use Rattle.model.specs.declared.turns.Actor.{Actor}
 use Rattle.model.specs.declared.turns.Actor.TheVariants.{Thread, Collector}
 use Rattle.model.specs.Journals.{AreOfWorkers, rows_of_rounds}
-use Rattle.model.specs.RowRuns.{AreLeft, AreRuns, IsWithin, collector_row, first_row, is_round, last_row, row_after, rows_count}
+use Rattle.model.specs.RowRuns.{AreLeft, AreRuns, IsWithin, collector_row, first_row, is_round, last_row, row_after}
+use Rattle.model.specs.RowRuns.{rows_count}
 use Rattle.model.specs.RowRuns.{rows_in, rows_of, taken}
 
 -- ---- rows again and again
@@ -148,7 +149,8 @@ pub runs_fit : (runs : List RowRun) → AreRuns runs → length runs ≤ length 
 runs_fit [] are = omega arith
 runs_fit (r ∷ runs) are =
     let rest = runs_fit runs are.1 in
-    let first = repeat-long r.times (first_row r.turn r.worker) (if is_round r.turn then collector_row r.worker ∷ [] else []) in
+    let first = repeat-long r.times (first_row r.turn r.worker)
+    (if is_round r.turn then collector_row r.worker ∷ [] else []) in
     let both = length-append (repeat r.times (rows_of r.turn r.worker)) (rows_in runs) in
     omega (arith, are.0, rest, first, both)
 

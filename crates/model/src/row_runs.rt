@@ -1,5 +1,5 @@
-//! Rows kept as runs: four bytes for up to 255 equal ones that are noted at once, for one that is noted alone, and for up
-//! to 255 rounds of a thread's turn and one of the collector.
+//! Rows kept as runs: four bytes for up to 255 equal ones that are noted at once, for one that is noted alone, and for
+//! up to 255 rounds of a thread's turn and one of the collector.
 ghost use Rattle.std.specs.Prelude.{◌≡◌, ◌+◌, ◌-◌, ◌++◌, ◌<◌, ◌≤◌, ◌↔◌, [], ◌∷◌, IfOk, OnErr, OnOk, length, replicate};
 ghost use Rattle.std.specs.Prelude.{IfSome, slice_get, vec_capacity, vec_len};
 ghost use Rattle.std.specs.List.{repeat};
@@ -12,8 +12,8 @@ use crate::turns::Actor;
 use std::alloc::{AllocError, Global};
 use std::marker::Model;
 
-/// Who took a turn and what came of it, in two bytes: a thread's number, or the collector. `Round` stands for two turns,
-/// both done: the thread's, and after it one of the collector.
+/// Who took a turn and what came of it, in two bytes: a thread's number, or the collector. `Round` stands for two
+/// turns, both done: the thread's, and after it one of the collector.
 #[derive(Clone, Copy, PartialEq, Eq)]
 pub enum TurnTaken {
     Done(u8),
