@@ -2,7 +2,7 @@ use native.Mathlib.Omega.{arith}
 use Rattle.std.proofs.Common.{◌≡◌, refl, ℕ, suc, List, [], ◌∷◌, Bool, true, false, ltb, ◌||◌, ◌==◌, if◌then◌else◌}
 use Rattle.std.specs.List.{list_any}
 use Rattle.model.specs.declared.listings.Placed.{Placed}
-use Rattle.loader.specs.StepLists.{offset_from}
+use Rattle.loader.specs.Offsets.{offset_from}
 
 -- an offset is above 0 where an instruction begins
 at_one : (n : ℕ) (same : Bool) (rest : ℕ) (begins : Bool) → ltb 0 rest ≡ begins → ltb 0 (if same then suc n else rest)

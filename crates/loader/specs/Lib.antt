@@ -9,6 +9,7 @@ pub mod MethodCodes
 pub mod MethodFacts
 pub mod MethodTables
 pub mod Numbering
+pub mod Offsets
 pub mod Operations
 pub mod PlainOperations
 pub mod Prepared

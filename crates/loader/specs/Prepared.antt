@@ -5,17 +5,16 @@ use Rattle.model.specs.declared.places.MethodPlace.{MethodPlace}
 use Rattle.model.specs.ClassListings.{ClassListing}
 use Rattle.model.specs.CodeListings.{CodeListing}
 use Rattle.model.specs.Programs.{main_in, code_at, empty_initializer}
-use Rattle.loader.specs.declared.programs.Step.{Step}
-use Rattle.loader.specs.declared.step_lists.MethodSteps.{MethodSteps}
+use Rattle.loader.specs.declared.method_codes.MethodCode.{MethodCode}
 use Rattle.loader.specs.declared.tables.Tables.{Tables}
 use Rattle.loader.specs.Tables.{HasTables}
-use Rattle.loader.specs.StepLists.{AreSteps, instructions_in}
+use Rattle.loader.specs.StepLists.{AreSteps, HasNoSteps, instructions_in}
 use Rattle.loader.specs.Steps.{CanRun}
 
--- main with its limits, the steps of all methods, the tables and the instructions of an empty initializer, in a program
+-- main with its limits, the steps of all methods and those of none, the tables and the instructions of an empty initializer, in a program
 -- that can run
-pub record IsPrepared (program : List ClassListing) (main : MethodPlace) (max_locals max_stack : ℕ) (steps : List Step)
-    (methods : List (Vec MethodSteps Global)) (tables : Tables) (empty : List Placed) : Type 0 where
+pub record IsPrepared (program : List ClassListing) (main : MethodPlace) (max_locals max_stack : ℕ)
+    (methods : List (Vec MethodCode Global)) (none : MethodCode) (tables : Tables) (empty : List Placed) : Type 0 where
   pub code : CodeListing
   pub main_is : main_in program ≡ Some main
   pub code_is : code_at program main ≡ Some code
@@ -23,6 +22,7 @@ pub record IsPrepared (program : List ClassListing) (main : MethodPlace) (max_lo
   pub stack_is : code.max_stack ≡ max_stack
   pub fits : max_locals + max_stack ≤ 4096
   pub can_run : CanRun program
-  pub steps_are : AreSteps program steps methods program
+  pub steps_are : AreSteps program methods program
+  pub none_is : HasNoSteps none
   pub tables_are : HasTables program tables
   pub empty_is : empty ≡ instructions_in empty_initializer.code

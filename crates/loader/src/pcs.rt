@@ -2,9 +2,9 @@
 ghost use Rattle.std.specs.Prelude.{◌≡◌, ◌==◌, IfOk};
 ghost use Rattle.std.specs.List.{list_any};
 ghost use Rattle.model.specs.declared.listings.Placed.{Placed as PlacedAt};
-ghost use Rattle.loader.specs.StepLists.{offset_in};
+ghost use Rattle.loader.specs.Offsets.{offset_in};
 
-use crate::step_lists::offsets_of;
+use crate::method_codes::offsets_of;
 use model::listings::Placed;
 use std::alloc::{AllocError, Global};
 use std::marker::Model;
@@ -20,7 +20,7 @@ pub struct Pcs<'a> {
 impl<'a> Model for Pcs<'a> {
     ghost use Rattle.std.specs.Prelude.{List, ℕ, ◌≡◌, slice_index_or};
     ghost use Rattle.model.specs.declared.listings.Placed.{Placed as PlacedAt};
-    ghost use Rattle.loader.specs.StepLists.{offset_in};
+    ghost use Rattle.loader.specs.Offsets.{offset_in};
 
     ghost Value = { List PlacedAt };
 
