@@ -35,6 +35,7 @@ mod quick_calls;
 mod quick_fields;
 mod quick_statics;
 mod readiness;
+mod register_turns;
 mod returns;
 mod starting;
 pub mod state;

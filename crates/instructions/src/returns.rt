@@ -64,7 +64,7 @@ fn is_call(operation: Operation) -> bool
 
 /// The pc behind the call at a pc of a method, by its steps. `None` where no call begins there.
 #[inline(always)]
-pub(crate) fn next_of_call(code: &MethodCode<'_>, pc: u16) -> Option<u16>
+pub(crate) fn next_of_call(code: &MethodCode, pc: u16) -> Option<u16>
     ensures { IfSome result (λ next. (program : List ClassListing) → (method : MethodPlace)
         → AreStepsOf program method code.now → Some next ≡ next_at program method pc) }
 {
