@@ -10,4 +10,4 @@ mod tests;
 
 pub use reaching::reached;
 pub use references::References;
-pub use steps::collect_step;
+pub use steps::{append_quickly, collect_step};

@@ -1,5 +1,5 @@
 //! The account of the heap.
-ghost use Rattle.std.specs.Prelude.{◌≡◌, ◌+◌, ◌<◌, ◌≤◌, length, nat_lt, slice_get, is_some, Some, IfOk};
+ghost use Rattle.std.specs.Prelude.{◌≡◌, ◌≢◌, ◌+◌, ◌<◌, ◌≤◌, length, nat_lt, slice_get, is_some, Some, IfOk, false, true};
 ghost use Rattle.std.specs.Option.{IfSome};
 ghost use Rattle.model.specs.declared.colours.Cell.TheVariants.{Free, Taken};
 ghost use Rattle.model.specs.declared.colours.Colour.TheVariants.{White, Black};
@@ -221,6 +221,37 @@ impl Account {
         self.set_phase(Phase::Append { cell: cell + 1 });
     }
 
+    /// Appends at a cell that isn't white, of a heap of any shape, and goes to the next. Answers whether it did; if not,
+    /// nothing changes.
+    #[inline(always)]
+    pub fn append_unless_white(&mut self, cell: u32) -> bool
+        ensures appends { result ≡ true → (shape : HeapShape)
+            → self.new ≡ append_step shape self.old cell (nat_lt cell (length self.old.cells)) }
+        ensures coloured { result ≡ true → colour_in (cell_at self.old.cells cell) ≢ Some White }
+        ensures kept { result ≡ false → self.new ≡ self.old }
+    {
+        if cell as usize >= self.cells.len() {
+            return false;
+        }
+        match self.cells[cell as usize] {
+            Cell::Taken {
+                birth: _,
+                colour: Colour::White,
+            } => return false,
+            Cell::Taken {
+                birth,
+                colour: Colour::Black,
+            } => self.whiten(cell, birth),
+            Cell::Taken {
+                birth: _,
+                colour: Colour::Grey,
+            } => {}
+            Cell::Free => {}
+        }
+        self.phase = Phase::Append { cell: cell + 1 };
+        true
+    }
+
     /// A white cell is free again, at the end of the list of its size.
     fn give(&mut self, shape: HeapShape, cell: u32)
         requires taken { free_in (cell_at self.old.cells cell) ≡ 0 }
@@ -233,6 +264,7 @@ impl Account {
     }
 
     /// A black cell turns white.
+    #[inline(always)]
     fn whiten(&mut self, cell: u32, birth: u32)
         requires { cell_at self.old.cells cell ≡ Taken birth Black }
         ensures { self.new ≡ with_cell self.old cell (Taken birth White) }

@@ -57,6 +57,9 @@ pub mod ObjectCallAgreement
 pub mod OpeningClaims
 pub mod OpeningState
 pub mod OwnWords
+pub mod DoublingLemmas
+pub mod KnownFree
+pub mod NewLemmas
 pub mod PlainRunLemmas
 pub mod PrintLemmas
 pub mod PushLemmas

@@ -24,7 +24,7 @@ mod starting;
 use crate::kinds::Kind;
 use crate::threads::Threads;
 use cells::Cells;
-use collector::collect_step;
+use collector::{append_quickly, collect_step};
 use colours::accounts::Account;
 pub(crate) use entering::is_full;
 use frames::Frames;
@@ -228,7 +228,30 @@ impl Heap {
 
     /// The collector's turn: one look at one place of the threads' frames, the static fields or the objects, or one
     /// cell given back or whitened (CACM 21(11)).
+    // Most turns of a cycle whiten a cell or pass one that is free: that is inlined.
+    #[inline(always)]
     pub(crate) fn collect(
+        &mut self,
+        program: &Program,
+        threads: &Threads,
+        running: u8,
+        frames: &Frames,
+        slots: &Words,
+    )
+        requires few { length slots.now < 2 ^ 32 }
+        requires running { running < 64 }
+        ensures { self.new ≡ collected program.now
+            (all_shown program.now threads.now running frames.now) slots.now self.old }
+    {
+        if append_quickly(&mut self.account) {
+            return;
+        }
+        self.collect_by_phase(program, threads, running, frames, slots);
+    }
+
+    /// The same, by the phase.
+    #[inline(never)]
+    fn collect_by_phase(
         &mut self,
         program: &Program,
         threads: &Threads,

@@ -8,6 +8,7 @@ mod awaiting;
 mod calls;
 mod casts;
 mod claims;
+mod doubling;
 pub mod errors;
 mod exchanges;
 mod fields;

@@ -1,26 +1,23 @@
-use Rattle.std.proofs.Common.{Some, None}
-use Rattle.instructions.proofs.ErrorLemmas.{collected_errors}
+use Rattle.std.proofs.Common.{None, [], refl, subst, sym}
+use Rattle.model.specs.Accounts.{Account}
+use Rattle.instructions.specs.Heaps.{world_looked_at}
+use Rattle.instructions.specs.HeapsAgree.{IsHeap}
 use Rattle.instructions.proofs.AgreeLemmas.{collected_agree}
+use Rattle.instructions.proofs.ErrorLemmas.{collected_errors}
 use Rattle.instructions.proofs.heaps.Heap.collect.Goals as goal
 
 pub invariant_of-self : goal.invariant_of-self
 invariant_of-self c =
-    rw (c.clear.ensures, c.collect_step.ensures.account)
+    let shape = c.self.inside.cells.shape in
+    let a = c.self.inside.account in
+    let objects = c.self.inside.cells.objects in
+    let w = world_looked_at c.args.program.now [] c.args.slots.now objects in
+    let made = c.if-append_quickly.true in
+    let none = sym (c.append_quickly.ensures.freed made) in
+    subst (λ (x : Account). IsHeap shape x objects c.self.inside.births c.self.inside.classes)
+    (sym (c.append_quickly.ensures.account made shape w))
     (record {
-      agree = collected_agree _ _ _ _ c.self.invariant.agree c.shape-shape.result c.self.inside.account.phase
-          (Some c.in-Some.cell) c.shape-shape.ensures c.in-Some.ensures.freed;
-      errors = collected_errors _ _ _ _ _ _ _ c.shape-shape.result c.self.inside.account.phase (Some c.in-Some.cell)
-          c.shape-shape.ensures c.in-Some.ensures.freed c.self.invariant.errors;
-      few = c.self.invariant.few;
-    })
-
-pub invariant_of-self-in_default : goal.invariant_of-self-in_default
-invariant_of-self-in_default c =
-    rw c.collect_step.ensures.account
-    (record {
-      agree = collected_agree _ _ _ _ c.self.invariant.agree c.shape-shape.result c.self.inside.account.phase None
-          c.shape-shape.ensures c.in_default.ensures.freed;
-      errors = collected_errors _ _ _ _ _ _ _ c.shape-shape.result c.self.inside.account.phase None
-          c.shape-shape.ensures c.in_default.ensures.freed c.self.invariant.errors;
+      agree = collected_agree _ _ _ _ c.self.invariant.agree shape a.phase None refl none;
+      errors = collected_errors _ _ _ _ _ _ _ shape a.phase None refl none c.self.invariant.errors;
       few = c.self.invariant.few;
     })
