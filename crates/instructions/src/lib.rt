@@ -33,6 +33,7 @@ mod printing;
 mod pushes;
 mod quick_arrays;
 mod quick_calls;
+mod quick_casts;
 mod quick_fields;
 mod quick_statics;
 mod readiness;
