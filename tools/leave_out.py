@@ -1,20 +1,22 @@
 #!/usr/bin/env python3
-"""Writes the second half of a wrong body's edit: what its function doesn't need is left out, so that the gate proves a
-few functions for it, and not the crate.
+"""Writes the second half of a wrong body's edit: what its function doesn't need is left out, so that the gate proves or
+reads a few functions for it, and not the crate.
 
-    tools/leave_out.py CRATE EDIT [--try]
+    tools/leave_out.py CRATE [EDIT] [--try]
 
-The module of the edit's first file stays, with all that it names: modules, definitions and lemmas. Other modules stand
-under cfg(test); what names one of them (a file of specs/ or proofs/) is a comment, and so are other files of lemmas. A file
-that can't be one, since its first or last line stands twice in it or it names files, stays with all that it names. The
-pairs come after the line MARK, in place of what stood there. With --try the crate without what is left out is checked,
-wrong body and all but the first file's pairs, and has to be proved. It gains where the edit is the crate's only one: with
-two or more the gate proves the whole crate once more.
+With no EDIT it writes that half of each of the crate's edits that have one anew, as is wanted where a file of the crate is
+new, gone or begins or ends otherwise. The module of the edit's first file stays, with all that it names: modules,
+definitions and lemmas. Other modules stand under cfg(test); what names one of them (a file of specs/ or proofs/) is a
+comment, and so are other files of lemmas. A file that can't be one, since its first or last line stands twice in it or it
+names files, stays with all that it names. The pairs come after the line MARK, in place of what stood there. With --try the
+crate without what is left out is checked, wrong body and all but the first file's pairs, and has to be proved: else an edit
+may be refused for what it leaves out. It begins with what `rt check` kept, where that is there.
 """
 
 import os
 import re
 import sys
+import tempfile
 
 from try_wrong_bodies import load_rt
 
@@ -122,29 +124,51 @@ def pairs(parts, kept):
     return lines
 
 
-def main():
-    if len(sys.argv) < 3:
-        print(__doc__)
-        return 2
-    crate, name = sys.argv[1], sys.argv[2].removesuffix(".edit")
-    folder = os.path.join(os.path.dirname(os.path.dirname(os.path.realpath(__file__))), "crates", crate)
-    edit = f"{folder}/must-fail/{name}.edit"
+def written(folder, parts, edit):
+    """Writes the edit's second half, and returns it."""
     wrong = read(edit).split(MARK)[0].rstrip("\n").split("\n")
     module = next(line for line in wrong if line.startswith("file: src/")).removeprefix("file: src/")
-    parts = Parts(folder, crate)
     rest = pairs(parts, parts.kept(re.split(r"[/.]", module)[0]))
     with open(edit, "w", encoding="utf-8") as file:
         file.write("\n".join([*wrong, MARK, *rest, ""]))
-    if "--try" not in sys.argv:
-        return 0
+    return rest
+
+
+def is_proved(folder, crate, rest):
+    """Whether the crate is proved without what these pairs leave out."""
     rt = load_rt()
     root = os.path.dirname(os.path.dirname(folder))
     os.chdir(root)
     found = next(it for it in rt.rtlib.crates_below(root) if it.name == crate)
     texts, why = rt.edited("\n".join(rest), folder)
-    ran = why or rt.checked(found, texts, ["--jobs", "1"], None)
-    print(ran if why else ran.stdout.rstrip("\n").split("\n")[-1])
-    return 1 if why else ran.returncode
+    if why:
+        print(why)
+        return False
+    with tempfile.TemporaryDirectory() as room:
+        kept = f"{room}/kept" if os.path.isdir(f"{folder}/out/incremental") else None
+        if kept:
+            rt.linked(f"{folder}/out/incremental", kept)
+        ran = rt.checked(found, texts, ["--jobs", "1"], kept)
+    print(ran.stdout.rstrip("\n").split("\n")[-1])
+    return not ran.returncode
+
+
+def main():
+    words = [word for word in sys.argv[1:] if word != "--try"]
+    if not words:
+        print(__doc__)
+        return 2
+    crate = words[0]
+    folder = os.path.join(os.path.dirname(os.path.dirname(os.path.realpath(__file__))), "crates", crate)
+    edits = [f"{folder}/must-fail/{word.removesuffix('.edit')}.edit" for word in words[1:]]
+    edits = edits or [edit for edit in files_below(f"{folder}/must-fail", ".edit") if MARK in read(edit)]
+    parts, failed = Parts(folder, crate), 0
+    for edit in edits:
+        rest = written(folder, parts, edit)
+        print(os.path.basename(edit))
+        if "--try" in sys.argv:
+            failed += not is_proved(folder, crate, rest)
+    return 1 if failed else 0
 
 
 if __name__ == "__main__":
