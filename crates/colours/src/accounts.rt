@@ -1,5 +1,6 @@
 //! The account of the heap.
-ghost use Rattle.std.specs.Prelude.{◌≡◌, ◌≢◌, ◌+◌, ◌<◌, ◌≤◌, length, nat_lt, slice_get, is_some, Some, IfOk, false, true};
+ghost use Rattle.std.specs.Prelude.{◌≡◌, ◌≢◌, ◌+◌, ◌<◌, ◌≤◌, length, nat_lt, slice_get, is_some, Some, IfOk, false};
+ghost use Rattle.std.specs.Prelude.{true};
 ghost use Rattle.std.specs.Option.{IfSome};
 ghost use Rattle.model.specs.declared.colours.Cell.TheVariants.{Free, Taken};
 ghost use Rattle.model.specs.declared.colours.Colour.TheVariants.{White, Black};
@@ -221,8 +222,8 @@ impl Account {
         self.set_phase(Phase::Append { cell: cell + 1 });
     }
 
-    /// Appends at a cell that isn't white, of a heap of any shape, and goes to the next. Answers whether it did; if not,
-    /// nothing changes.
+    /// Appends at a cell that isn't white, of a heap of any shape, and goes to the next. Answers whether it did; if
+    /// not, nothing changes.
     #[inline(always)]
     pub fn append_unless_white(&mut self, cell: u32) -> bool
         ensures appends { result ≡ true → (shape : HeapShape)

@@ -11,8 +11,8 @@ use Rattle.loader.specs.Tables.{HasTables}
 use Rattle.loader.specs.StepLists.{AreSteps, HasNoSteps, instructions_in}
 use Rattle.loader.specs.Steps.{CanRun}
 
--- main with its limits, the steps of all methods and those of none, the tables and the instructions of an empty initializer, in a program
--- that can run
+-- main with its limits, the steps of all methods and those of none, the tables and the instructions of an empty
+-- initializer, in a program that can run
 pub record IsPrepared (program : List ClassListing) (main : MethodPlace) (max_locals max_stack : ℕ)
     (methods : List (Vec MethodCode Global)) (none : MethodCode) (tables : Tables) (empty : List Placed) : Type 0 where
   pub code : CodeListing
