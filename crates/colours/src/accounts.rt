@@ -129,7 +129,44 @@ impl Account {
 
     /// Shades the cell of a reference: where it is white it turns grey, and the reference goes to the end of the grey
     /// list. A cell of another colour, a free one, and the reference 0 that no cell has, are left.
+    // Most cells aren't white: that is seen where the write barrier stands.
+    #[inline(always)]
     pub fn shade(&mut self, reference: u32)
+        ensures { self.new ≡ shade_cell self.old reference }
+    {
+        if !self.is_dark(reference) {
+            self.darken(reference);
+        }
+    }
+
+    /// Whether the cell of a reference isn't white, or is none.
+    #[inline(always)]
+    fn is_dark(&self, reference: u32) -> bool
+        ensures { result ≡ true → shade_cell self.now reference ≡ self.now }
+    {
+        let Some(cell) = reference.checked_sub(1) else {
+            return true;
+        };
+        match self.cell(cell) {
+            Cell::Taken {
+                birth: _,
+                colour: Colour::White,
+            } => false,
+            Cell::Taken {
+                birth: _,
+                colour: Colour::Grey,
+            } => true,
+            Cell::Taken {
+                birth: _,
+                colour: Colour::Black,
+            } => true,
+            Cell::Free => true,
+        }
+    }
+
+    /// What `shade` does where the cell is white.
+    #[inline(never)]
+    fn darken(&mut self, reference: u32)
         ensures { self.new ≡ shade_cell self.old reference }
     {
         let Some(cell) = reference.checked_sub(1) else {

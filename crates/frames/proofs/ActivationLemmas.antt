@@ -58,6 +58,21 @@ last_changed change below a count acts view some =
     last_put below a (change a) count there ∙ (ap (λ (x : Activation). with_last (all_of below a count) x) last
     ∙ ap (λ (l : List Activation). with_last l (change (last_of l))) view)
 
+-- one more after the last one, which changes
+pub pushed_over : (change : Activation → Activation) (below below' : List Activation) (a b : Activation) (count : ℕ)
+    (acts : List Activation) → all_of below a count ≡ acts → 0 < length acts
+    → take (count - 1 + 1) below' ≡ take (count - 1) below ++ change a ∷ []
+    → all_of below' b (count + 1) ≡ with_last acts (change (last_of acts)) ++ b ∷ []
+pushed_over change below below' a b zero acts view some put = absurd (omega (arith, ap length view, some))
+pushed_over change below below' a b (suc n) acts view some put =
+    let more : suc n + 1 ≡ suc (suc n) = omega arith in
+    let place : suc n - 1 + 1 ≡ suc n = omega arith in
+    let before : suc n - 1 ≡ n = omega arith in
+    let stored : take (suc n) below' ≡ take n below ++ change a ∷ [] = ap (λ k. take k below') (sym place)
+    ∙ (put ∙ ap (λ k. take k below ++ change a ∷ []) before) in
+    ap (λ k. all_of below' b k) more
+    ∙ ap (λ (l : List Activation). l ++ b ∷ []) (stored ∙ last_changed change below a (suc n) acts view some)
+
 -- the one at a place
 pub below_at : (below : List Activation) (a : Activation) (count capacity place : ℕ) (acts : List Activation)
     (found : Activation) → AreFew below count capacity

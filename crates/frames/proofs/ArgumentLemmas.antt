@@ -4,16 +4,23 @@ use Rattle.std.proofs.Common.{reverse, take, drop, slice_set, get_or, refl, ap, 
 use Rattle.std.proofs.lemmas.List.{set_split, append_assoc, take_more, take_more_set, drop-set-lt, drop-drop, drop_at}
 use Rattle.std.proofs.lemmas.List.{take_at, take-take, take-map, map_push, length-append, length-set, length-take-le}
 use Rattle.std.proofs.lemmas.List.{length-drop, get_or_append_left, get_or-take, get_or-drop, reverse-append}
-use Rattle.std.proofs.lemmas.List.{reverse-reverse, length-replicate}
+use Rattle.std.proofs.lemmas.List.{reverse-reverse, length-replicate, replicate-append-replicate}
 use Rattle.model.specs.declared.values.Value.{Value}
 use Rattle.model.specs.declared.values.Value.TheVariants.{Int, Long, Ref}
 use Rattle.model.specs.declared.values.Entry.{Entry}
 use Rattle.model.specs.declared.values.Entry.TheVariants.{Unset, Holds, UpperHalf}
 use Rattle.model.specs.Values.{units_of, units_of_all}
-use Rattle.model.specs.Locals.{argument_entries}
+use Rattle.model.specs.declared.values.Kind.{Kind}
+use Rattle.model.specs.declared.values.Kind.TheVariants.{Int as IntKind}
+use Rattle.model.specs.Locals.{argument_entries, of_kind}
+use Rattle.model.specs.Table.Invokes.{fault_in_pops}
+use Rattle.std.specs.Prelude.{None}
+use Rattle.std.specs.Option.{option_or}
+use Rattle.std.specs.Result.{result_err}
 use Rattle.values.specs.Slots.{value_in}
 use Rattle.frames.specs.Layout.{stack_of, values_between}
 use Rattle.frames.proofs.PushLemmas.{units_of_all-take_le}
+use Rattle.frames.proofs.StackLemmas.{units_of-le}
 
 -- one entry, or two, are written
 pub put_one : (units : List Entry) (end : ℕ) (e : Entry) → end < length units → slice_set units end e ≡ take end units
@@ -179,6 +186,32 @@ laid_out old now from count base locals fits enough is =
       );
     }
 
+-- one unit more is made unset
+pub unset_next : (old now : List Entry) (base made : ℕ) → now ≡ take base old ++ replicate made Unset
+    ++ drop (base + made) old → length now ≡ length old → base + made < length old
+    → slice_set now (base + made) Unset ≡ take base old ++ replicate (made + 1) Unset ++ drop (base + (made + 1)) old
+unset_next old now base made is long within =
+    let place = base + made in
+    let first : length (take base old) ≡ base = length-take-le base old (omega arith) in
+    let front = take base old ++ replicate made Unset in
+    let both : length front ≡ place = omega (
+      arith,
+      length-append (take base old) (replicate made Unset),
+      length-replicate made Unset,
+    ) in
+    let head : take place now ≡ front = ap (take place) is ∙ take_at front (drop place old) place both in
+    let tail : drop (place + 1) now ≡ drop (place + 1) old = ap (drop (place + 1)) is
+    ∙ (sym (drop-drop 1 place (front ++ drop place old))
+    ∙ (ap (drop 1) (drop_at front (drop place old) place both) ∙ drop-drop 1 place old)) in
+    let more : replicate made Unset ++ Unset ∷ [] ≡ replicate (made + 1) Unset = replicate-append-replicate made 1 Unset
+    in
+    let next : place + 1 ≡ base + (made + 1) = omega arith in
+    let whole : front ++ Unset ∷ [] ≡ take base old ++ replicate (made + 1) Unset =
+    append_assoc (take base old) (replicate made Unset) (Unset ∷ []) ∙ ap (λ es. take base old ++ es) more in
+    put_one now place Unset (omega arith) ∙ ap (λ es. es ++ Unset ∷ [] ++ drop (place + 1) now) head
+    ∙ ap (λ es. front ++ Unset ∷ [] ++ es) tail ∙ ap (λ es. es ++ drop (place + 1) old) whole
+    ∙ ap (λ n. take base old ++ replicate (made + 1) Unset ++ drop n old) next
+
 -- the copied arguments, and then the unset entries
 pub laid_out_items : (old between after : List Entry) (from count base locals end : ℕ) → base + locals ≤ length old
     → units_of_all (values_between old from count) ≤ locals → end ≡ base + units_of_all (values_between old from count)
@@ -247,3 +280,50 @@ units_of_all-reverse (v ∷ vs) =
     let all = units_of_all-append (reverse vs) (v ∷ []) in
     let split : reverse (v ∷ vs) ≡ reverse vs ++ v ∷ [] = reverse-append (v ∷ []) vs in
     ap units_of_all split ∙ omega arith
+
+-- ---- values of kinds
+
+-- so many values take no more than two units each
+pub units_between-most : (units : List Entry) (from i : ℕ) → units_of_all (values_between units from i) ≤ i + i
+units_between-most units from i = most (drop from units) i
+  where
+    most : (es : List Entry) (i : ℕ) → units_of_all (map value_in (take i es)) ≤ i + i
+    most es zero = omega arith
+    most [] (suc i) = omega arith
+    most (e ∷ es) (suc i) =
+        let rest = most es i in
+        let one = units_of-le (value_in e) in
+        omega (arith, rest, one)
+
+-- nothing was copied yet but the values below
+pub kinds_next : (old : List Entry) (from below i : ℕ) (kinds : List Kind) (kind : Kind) (v : Value) → i < length kinds
+    → from + (below + i) < length old → kind ≡ get_or kinds i IntKind
+    → v ≡ value_in (get_or old (from + (below + i)) Unset) → result_err (of_kind kind v) ≡ None
+    → fault_in_pops (reverse (take i kinds)) (reverse (values_between old (from + below) i)) ≡ None
+    → fault_in_pops (reverse (take (i + 1) kinds)) (reverse (values_between old (from + below) (i + 1))) ≡ None
+kinds_next old from below i kinds kind v within before kind_is value fits rest =
+    let place : from + (below + i) ≡ from + below + i = omega arith in
+    let more : values_between old (from + below) (i + 1) ≡ values_between old (from + below) i ++ v ∷ [] =
+    values_between-more old (from + below) i (omega arith)
+    ∙ ap (λ (w : Value). values_between old (from + below) i ++ w ∷ [])
+    (sym (value ∙ ap (λ n. value_in (get_or old n Unset)) place)) in
+    let kinds_are : take (i + 1) kinds ≡ take i kinds ++ kind ∷ [] = take_more kinds i IntKind within
+    ∙ ap (λ (k : Kind). take i kinds ++ k ∷ []) (sym kind_is) in
+    let first : reverse (take (i + 1) kinds) ≡ kind ∷ reverse (take i kinds) = ap reverse kinds_are
+    ∙ reverse-append (take i kinds) (kind ∷ []) in
+    let second : reverse (values_between old (from + below) (i + 1)) ≡ v ∷ reverse (values_between old (from + below) i)
+    = ap reverse more ∙ reverse-append (values_between old (from + below) i) (v ∷ []) in
+    ap (λ ks. fault_in_pops ks (reverse (values_between old (from + below) (i + 1)))) first
+    ∙ ap (λ vs. fault_in_pops (kind ∷ reverse (take i kinds)) vs) second
+    ∙ ap (λ e. option_or e (fault_in_pops (reverse (take i kinds)) (reverse (values_between old (from + below) i))))
+    fits
+    ∙ rest
+
+-- the pops look at so many values alone
+pub pops-taken : (kinds : List Kind) (n : ℕ) (stack : List Value) → length kinds ≤ n
+    → fault_in_pops kinds (take n stack) ≡ fault_in_pops kinds stack
+pops-taken [] n stack few = refl
+pops-taken (kind ∷ kinds) zero stack few = absurd (omega arith)
+pops-taken (kind ∷ kinds) (suc n) [] few = refl
+pops-taken (kind ∷ kinds) (suc n) (v ∷ vs) few =
+    ap (λ e. option_or (result_err (of_kind kind v)) e) (pops-taken kinds n vs (omega arith))

@@ -576,6 +576,20 @@ reaches units units' acts used end frames sound view few is =
       fits = omega (arith, long, count);
     })
 
+-- units that differ from those in use on alone give the same frames
+pub stays : (units units' : List Entry) (acts : List Activation) (used : ℕ) (frames : List Frame)
+    → IsSound units acts used → map (frame_of units) acts ≡ frames → length units' ≡ length units
+    → take used units' ≡ take used units → IsSound units' acts used × (map (frame_of units') acts ≡ frames)
+stays units units' acts used frames sound view long same = (
+  record {
+    units_are = subst (λ n. n ≤ 4096) (sym long) sound.units_are;
+    count_is = sound.count_is;
+    used_is = subst (λ n. used ≤ n) (sym long) sound.used_is;
+    laid_out = laid-agree units units' used 0 used acts (sym same) sound.laid_out (omega arith);
+  },
+  sym (frames-agree units units' used 0 used acts (sym same) sound.laid_out (omega arith)) ∙ view,
+)
+
 -- units of which so many, from one on, became others
 pub record Replaces (units units' part : List Entry) (base count : ℕ) : Type 0 where
   pub long : length units' ≡ length units

@@ -11,6 +11,7 @@
 //! | `has_room_for(max_locals, max_stack)` | `has_room_for frames max_locals max_stack` |
 //! | `enter(method, max_locals, max_stack)` | under `has_room_for`: `frames ++ opening_frame method max_locals max_stack ∷ []` |
 //! | `call(method, max_locals, max_stack, n)` | under `has_room_for`, `n ≤ length f.stack` and `units_of_all (take n f.stack) ≤ max_locals`: `frames_of_call frames method max_locals max_stack n`, where the n values at the top of the caller's stack are the first locals |
+//! | `call_with(method, max_locals, max_stack, kinds, below)` | under `units_of_all (take n f.stack) ≤ max_locals` with n for `length kinds + below`, wherever `fault_in_pops (reverse kinds) f.stack ≡ None`: where it is true, that is so, there is room, and `frames_of_call frames method max_locals max_stack n`; where it is false, nothing changes |
 //! | `leave` | `callers frames` |
 //! | `method`, `pc`, `monitor`, `mark`, `room`, `taken`, `values`, `locals` | of f: its method, its pc, its monitor, its mark, the units that its stack may take and takes, how many values stand on it, how many entries its locals have |
 //! | `value(k)` | `top_of (drop k f.stack)` |

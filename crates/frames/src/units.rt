@@ -83,6 +83,15 @@ impl Units {
         self.slots[place] = slot;
     }
 
+    /// The slots in so many units, from this one on.
+    #[inline(always)]
+    pub fn held(&self, base: usize, count: usize) -> &[Slot]
+        requires { base + count ≤ length self.now }
+        ensures { map entry_of result.now ≡ take count (drop base self.now) }
+    {
+        &self.slots[base..base + count]
+    }
+
     /// Makes so many units unset, from this one on.
     #[inline(always)]
     pub fn unset(&mut self, base: usize, count: usize)

@@ -4,7 +4,7 @@ use Rattle.model.specs.declared.colours.Colour.TheVariants.{White, Grey}
 use Rattle.model.specs.Collector.Table.{cell_at}
 use Rattle.model.proofs.CollectorLemmas.Cells.{taken_within}
 use Rattle.colours.proofs.Keeping.{room_for_grey, pushed, coloured, room_kept}
-use Rattle.colours.proofs.accounts.Account.shade.Goals as goal
+use Rattle.colours.proofs.accounts.Account.darken.Goals as goal
 
 white : (c : goal.After-push) → cell_at c.self.inside.cells.items c.in-Some.cell
     ≡ Taken c.in-Taken-default-White.birth White
