@@ -26,7 +26,7 @@ use Rattle.loader.specs.MethodTables.{own_methods}
 
 -- ---- methods
 
-at-front : {A B : Type 0} (f : A → B) (xs : List A) (rest : List B) (n : ℕ) (x : A) → slice_get xs n ≡ Some x
+pub at-front : {A B : Type 0} (f : A → B) (xs : List A) (rest : List B) (n : ℕ) (x : A) → slice_get xs n ≡ Some x
     → slice_get (map f xs ++ rest) n ≡ Some (f x)
 at-front f [] rest n x at = cc
 at-front f (y ∷ xs) rest zero x at = cc

@@ -4,6 +4,7 @@ pub mod ClassTables
 pub mod EqualPrograms
 pub mod Errors
 pub mod Initializers
+pub mod KnownMethods
 pub mod MemberPlaces
 pub mod MethodCodes
 pub mod MethodFacts
@@ -19,6 +20,7 @@ pub mod SelectionTables
 pub mod Selections
 pub mod SelectorArguments
 pub mod Selectors
+pub mod Starts
 pub mod StaticSlots
 pub mod StepLists
 pub mod Steps

@@ -1,4 +1,4 @@
-use Rattle.std.specs.Prelude.{◌≡◌, ◌≤◌, ◌+◌, ℕ, List, Some, Vec}
+use Rattle.std.specs.Prelude.{◌≡◌, ◌≤◌, ◌+◌, ℕ, List, map, None, Some, Vec}
 use Rattle.std.specs.Global.{Global}
 use Rattle.model.specs.declared.listings.Placed.{Placed}
 use Rattle.model.specs.declared.places.MethodPlace.{MethodPlace}
@@ -8,6 +8,7 @@ use Rattle.model.specs.Programs.{main_in, code_at, empty_initializer}
 use Rattle.loader.specs.declared.method_codes.MethodCode.{MethodCode}
 use Rattle.loader.specs.declared.tables.Tables.{Tables}
 use Rattle.loader.specs.Tables.{HasTables}
+use Rattle.loader.specs.KnownMethods.{all_infos, infos_of}
 use Rattle.loader.specs.StepLists.{AreSteps, HasNoSteps, instructions_in}
 use Rattle.loader.specs.Steps.{CanRun}
 
@@ -24,5 +25,7 @@ pub record IsPrepared (program : List ClassListing) (main : MethodPlace) (max_lo
   pub can_run : CanRun program
   pub steps_are : AreSteps program methods program
   pub none_is : HasNoSteps none
+  pub infos_are : all_infos methods ≡ map (infos_of program) program
+  pub no_info : none.info ≡ None
   pub tables_are : HasTables program tables
   pub empty_is : empty ≡ instructions_in empty_initializer.code

@@ -127,6 +127,34 @@ fn hands_over(frames: &mut Frames) -> Result<bool, Abrupt> {
     Ok(leave(frames) == Some(CALLEE) && seen(frames) == (1, 3, 1, left))
 }
 
+/// `g(IJ)V` is called on the reference 8, with 5 and 9. Before that a method that takes a long and then an int isn't,
+/// and nothing changes.
+fn calls_by_kinds(frames: &mut Frames) -> Result<bool, Abrupt> {
+    if frames.depth() == 0 {
+        return Err(NO_FRAME);
+    }
+    let operands = [Value::Ref(Some(8)), Value::Int(5), Value::Long(9)];
+    frames.replace_all_if_room(3, 0, operands.as_slice())?;
+    let before = seen(frames);
+    if frames.call_with(CALLEE, 4, 1, [Kind::Long, Kind::Int].as_slice(), 1) {
+        return Ok(false);
+    }
+    if seen(frames) != before {
+        return Ok(false);
+    }
+    if !frames.call_with(CALLEE, 4, 1, [Kind::Int, Kind::Long].as_slice(), 1) {
+        return Ok(false);
+    }
+    let eight = Some(Entry::Holds(Value::Ref(Some(8))));
+    let five = Some(Entry::Holds(Value::Int(5)));
+    let nine = Some(Entry::Holds(Value::Long(9)));
+    let entries = [eight, five, nine, Some(Entry::UpperHalf)];
+    if locals(frames) != Some((2, 4, entries)) || seen(frames) != (2, 0, 0, [None; 3]) {
+        return Ok(false);
+    }
+    Ok(leave(frames) == Some(CALLEE) && seen(frames) == (1, 3, 0, [None; 3]))
+}
+
 /// A frame of a method over main's, with a monitor, a mark, a local that holds the reference 5, and 7 and the reference
 /// 6 on its stack.
 fn open_callee(frames: &mut Frames) -> Result<(), Abrupt> {
@@ -300,6 +328,7 @@ const STORIES: &[(&str, u16, u16)] = &[
     ("subtracts", 2, 2),
     ("swaps", 0, 2),
     ("hands over arguments", 1, 4),
+    ("calls by kinds", 0, 4),
     ("shows its roots", 1, 1),
     ("tells of its frames", 1, 1),
     ("is full", 0, 2),
@@ -313,6 +342,7 @@ fn goes_well(frames: &mut Frames, story: &str) -> Result<bool, Abrupt> {
         "subtracts" => subtracts(frames),
         "swaps" => swaps(frames),
         "hands over arguments" => hands_over(frames),
+        "calls by kinds" => calls_by_kinds(frames),
         "shows its roots" => shows_roots(frames),
         "tells of its frames" => tells_of_frames(frames),
         "is full" => is_full(frames),

@@ -54,6 +54,32 @@ fn step_at(program: &Program, place: MethodPlace, pc: u16) -> (u16, u16, &'stati
     (following, step.next, operation)
 }
 
+/// A class and a method; the units that its arguments take, if there is such a method, and where register code can
+/// begin.
+const METHODS: &[(usize, usize, Option<usize>, Option<usize>)] = &[
+    (0, 0, Some(0), Some(1)),
+    (0, 1, Some(0), Some(1)),
+    (0, 2, None, None),
+    (2, 0, None, None),
+];
+
+fn compare_methods(rt: &impl Abort, program: &Program) {
+    for (class, method, units, start) in METHODS {
+        let code = program.code(MethodPlace {
+            class: *class,
+            method: *method,
+        });
+        let known = match code.info() {
+            Some(info) => Some(info.argument_units()),
+            None => None,
+        };
+        assert!(rt;
+            known == *units && code.start() == *start,
+            "{class} {method}"
+        );
+    }
+}
+
 /// A class, a method and a pc; where the instruction after stands, and what the one that is there does.
 const PCS: &[(usize, usize, u16, u16, &str)] = &[
     (0, 0, 0, 1, "nop"),
@@ -110,11 +136,13 @@ fn programs_are_refused(rt: HostRuntime) -> Result<(), Fail> {
     Ok(())
 }
 
-/// Main's instructions by their pcs, and the initializer after a class's last method (JVMS 2.9). Programs are equal
-/// where their listings are, in one order.
+/// Main's instructions by their pcs, and the initializer after a class's last method (JVMS 2.9), and what is known of
+/// both. Programs are equal where their listings are, in one order.
 #[test]
 fn programs_have_steps_and_are_compared(rt: HostRuntime) -> Result<(), Fail> {
-    compare_pcs(&rt, &program(rt.alloc(), "class E|main; class F")?);
+    let steps = program(rt.alloc(), "class E|main; class F")?;
+    compare_pcs(&rt, &steps);
+    compare_methods(&rt, &steps);
     let program = program(rt.alloc(), "class E|.field public x I|main; class F")?;
     for (other, is_equal) in PROGRAMS {
         assert!(rt;
