@@ -44,6 +44,7 @@ pub mod Layouts
 mod LandingLemmas
 pub mod LeapLemmas
 pub mod LeavingLemmas
+pub mod CallLandings
 pub mod ListPlaces
 pub mod LoneRoundLemmas
 pub mod LookedLemmas

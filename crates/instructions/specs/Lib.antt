@@ -16,6 +16,7 @@ pub mod Initialising
 pub mod InitialisingByNumbers
 pub mod Leaving
 pub mod Loaded
+pub mod Landings
 pub mod LoneRounds
 pub mod MethodsByNumber
 pub mod MonitorsByNumbers

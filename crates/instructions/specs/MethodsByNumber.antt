@@ -5,17 +5,9 @@ use Rattle.model.specs.ClassListings.{ClassListing}
 use Rattle.model.specs.Frames.{Frame}
 use Rattle.model.specs.Table.Returns.{same_result}
 use Rattle.loader.specs.MethodFacts.{MethodFacts}
-use Rattle.loader.specs.MethodTables.{facts_at, method_tables}
+pub use Rattle.loader.specs.MethodTables.{facts_if, facts_in}
 
 -- What a turn asks of the method of a frame, by its place in the tables.
-
-abbrev pub facts_if : Bool → Option MethodFacts → Option MethodFacts
-facts_if true facts = facts
-facts_if false facts = None
-
--- of a class of the program; frames run no method of the machine's own classes
-abbrev pub facts_in : List ClassListing → MethodPlace → Option MethodFacts
-facts_in program place = facts_if (nat_lt place.class (length program)) (facts_at (method_tables program) place)
 
 abbrev pub is_initializer_in : Option MethodFacts → Bool
 is_initializer_in None = false

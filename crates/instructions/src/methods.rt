@@ -1,11 +1,14 @@
 //! What a turn asks of the method that a frame runs.
-ghost use Rattle.std.specs.Prelude.{◌≡◌, false, true};
+ghost use Rattle.std.specs.Prelude.{◌≡◌, List, false, true};
 ghost use Rattle.std.specs.Option.{option_copied};
+ghost use Rattle.model.specs.declared.places.MethodPlace.{MethodPlace};
+ghost use Rattle.model.specs.ClassListings.{ClassListing};
 ghost use Rattle.model.specs.Initialisation.{is_initializer_if};
 ghost use Rattle.model.specs.Programs.{method_at};
 ghost use Rattle.model.specs.Table.Returns.{gives, same_result};
 ghost use Rattle.instructions.specs.MethodsByNumber.{facts_in};
 
+use loader::method_codes::MethodCode;
 use loader::method_tables::MethodInfo;
 use loader::programs::Program;
 use model::places::MethodPlace;
@@ -57,13 +60,15 @@ pub(crate) fn gives(program: &Program, place: MethodPlace, kind: Option<Kind>) -
     }
 }
 
-/// Whether the method at a place is no class initializer, and its result is of this kind.
+/// Whether the method of some code is no class initializer, and its result is of this kind.
 #[inline(always)]
-pub(crate) fn is_plain(program: &Program, place: MethodPlace, kind: Option<Kind>) -> bool
-    ensures plain { result ≡ true → is_initializer_if (method_at program.now place) ≡ false }
-    ensures gives { result ≡ true → gives kind (method_at program.now place) ≡ true }
+pub(crate) fn is_plain(code: &MethodCode, kind: Option<Kind>) -> bool
+    ensures plain { result ≡ true → (program : List ClassListing) (place : MethodPlace)
+        → code.now.info ≡ facts_in program place → is_initializer_if (method_at program place) ≡ false }
+    ensures gives { result ≡ true → (program : List ClassListing) (place : MethodPlace)
+        → code.now.info ≡ facts_in program place → gives kind (method_at program place) ≡ true }
 {
-    match info_of(program, place) {
+    match code.info() {
         Some(method) => !method.is_initializer() && same_result(kind, method.result()),
         None => false,
     }
