@@ -6,11 +6,13 @@ reads a few functions for it, and not the crate.
 
 With no EDIT it writes that half of each of the crate's edits that have one anew, as is wanted where a file of the crate is
 new, gone or begins or ends otherwise. The module of the edit's first file stays, with all that it names: modules,
-definitions and lemmas. Other modules stand under cfg(test); what names one of them (a file of specs/ or proofs/) is a
-comment, and so are other files of lemmas. A file that can't be one, since its first or last line stands twice in it or it
-names files, stays with all that it names. The pairs come after the line MARK, in place of what stood there. With --try the
-crate without what is left out is checked, wrong body and all but the first file's pairs, and has to be proved: else an edit
-may be refused for what it leaves out. It begins with what `rt check` kept, where that is there.
+definitions and lemmas, and with a type the modules whose methods of it have proofs, which stand beside the type's. Other
+modules stand under cfg(test); what names one of them (a file of specs/ or proofs/) is a comment, and so are other files of
+lemmas. A file that can't be one, since its first or last line stands twice in it or it names files, stays with all that it
+names. Where a program's `main` asks a module that is left out for the status, that is 0. The pairs come after the line MARK,
+in place of what stood there. With --try the crate without what is left out is checked, wrong body and all but the first
+file's pairs, and has to be proved: else an edit may be refused for what it leaves out. It begins with what `rt check` kept,
+where that is there.
 """
 
 import os
@@ -37,7 +39,8 @@ class Parts:
 
     def __init__(self, folder, crate):
         self.folder, self.crate = folder, crate
-        self.root = read(f"{folder}/src/lib.rt")
+        self.top = next(name for name in ("src/lib.rt", "src/main.rt") if os.path.isfile(f"{folder}/{name}"))
+        self.root = read(f"{folder}/{self.top}")
         modules = re.findall(r"^(?:pub )?mod (\w+);", self.root, re.M)
         self.modules = {name: self.text_of_module(name) for name in modules}
         self.passed_on = {}
@@ -74,6 +77,14 @@ class Parts:
             named |= {path} - {""}
         return named
 
+    def modules_of_methods(self, module):
+        """The other modules whose methods have their proofs below this one, which has their type."""
+        paths = [path.split("/")[-3:-1] for path in files_below(f"{self.folder}/proofs/{module}", ".antt")]
+        apart = {(of, name) for of, name in paths if not re.search(rf"\bfn {re.escape(name)}\b", self.modules[module])}
+        forms = [rf"^impl(?:<[^{{}}]*>)? {of}(?:<[^{{}}]*>)? \{{.*?\bfn {re.escape(name)}\b" for of, name in apart]
+        is_there = lambda text: any(re.search(form, text, re.M | re.S) for form in forms)
+        return {other for other, text in self.modules.items() if other != module and is_there(text)}
+
     def needed(self, first):
         """A module or a file, and all that it names."""
         found, left = set(), [first]
@@ -83,6 +94,7 @@ class Parts:
                 found.add(name)
                 text = self.modules[name] if name in self.modules else self.files[name]
                 left += self.modules_in(text) | self.files_in(text)
+                left += self.modules_of_methods(name) if name in self.modules else []
         return found
 
     def lost(self, kept):
@@ -113,12 +125,15 @@ def as_comment(text):
 
 
 def pairs(parts, kept):
-    lines = ["file: src/lib.rt"]
+    lines = [f"file: {parts.top}"]
     for line in parts.root.split("\n"):
         found = re.match(r"(?:pub )?mod (\w+);|pub use (?:crate::)?(\w+)::", line)
         name = found and (found[1] or found[2])
         if name in parts.modules and name not in kept and f"#[cfg(test)]\n{line}" not in parts.root:
             lines += [f"old: {found[0]}", f"new: #[cfg(test)] {found[0]}"]
+    for call, name in re.findall(r"\(((\w+)::\w+\(.*?\))\)", parts.root):
+        if name in parts.modules and name not in kept:
+            lines += [f"old: {call}", "new: 0"]
     for name in sorted(parts.lost(kept)):
         lines += [f"file: {os.path.relpath(parts.paths[name], parts.folder)}", *as_comment(parts.files[name])]
     return lines

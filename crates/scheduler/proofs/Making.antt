@@ -11,9 +11,7 @@ use Rattle.model.specs.declared.turns.Actor.{Actor}
 use Rattle.model.specs.Journals.{JournalValue}
 use Rattle.model.specs.Machines.{Machine, Recorded, advance, advance_all, after_turn_by, machine_of, noted, opened}
 use Rattle.model.specs.Machines.{opening_machine, row_by, row_for, with_row}
-use Rattle.scheduler.specs.declared.replaying.ReplayError.{ReplayError}
-use Rattle.scheduler.specs.declared.replaying.ReplayError.TheVariants.{Row as AtRow, Memory, Frames}
-use Rattle.scheduler.specs.Replaying.{AreMade, DiffersFirst, Excuses, IsMade, with_all}
+use Rattle.scheduler.specs.Replaying.{AreMade, IsMade, with_all}
 use Rattle.scheduler.specs.Workers.{with_workers}
 
 abbrev row_or : Row → Option Row → Row
@@ -28,8 +26,8 @@ module _ (program : List ClassListing) (shape : HeapShape) (limits : Limits) whe
   one_more m (r ∷ rows) row are is = (are.0, one_more (advance program shape limits m r) rows row are.1 is)
 
   -- each row of them is made by its turn
-  made_at : (m : Machine) (rows : List Row) (n : ℕ) (row : Row) → AreMade program shape limits m rows → slice_get rows n
-      ≡ Some row
+  pub made_at : (m : Machine) (rows : List Row) (n : ℕ) (row : Row) → AreMade program shape limits m rows
+      → slice_get rows n ≡ Some row
       → row_by program limits (advance_all program shape limits m (take n rows)) row.actor row.worker ≡ Some row
   made_at m [] n row are there = absurd (true≢false (sym (ap is_some there)))
   made_at m (r ∷ rows) zero row are there =
@@ -46,15 +44,8 @@ made_noted v row is e = record {
       row is.rows e;
 }
 
--- none of its rows differs
-pub none_differs : (v : Recorded) (number : ℕ) → IsMade v → DiffersFirst v number → ⊥
-unfolding machine_of
-none_differs v number is d =
-    d.differs (made_at v.program v.journal.shape v.journal.limits (opening_machine v.program v.journal.shape)
-    v.journal.rows d.before d.row is.rows d.there)
-
 -- a row between others
-at_after : (done left : List Row) (row : Row) → slice_get (done ++ row ∷ left) (length done) ≡ Some row
+pub at_after : (done left : List Row) (row : Row) → slice_get (done ++ row ∷ left) (length done) ≡ Some row
 at_after [] left row = refl
 at_after (r ∷ done) left row = at_after done left row
 
@@ -137,29 +128,6 @@ module _ (v u : Recorded) (done left : List Row) (row : Row) (u_is : u ≡ with_
       → made ≡ Some row → w ≡ with_all v (done ++ row ∷ [])
   made_one w made after reported same = after ∙ turn_notes u row (sym reported ∙ same)
       ∙ ap (λ (x : Recorded). noted x row) u_is
-
-  -- the row differs
-  pub differs_at : (rows : List Row) (number : ℕ) (made : Option Row) → rows ≡ done ++ row ∷ left → IsMade u
-      → number ≡ length done + 1
-      → made ≡ row_for u row.actor row.worker → (made ≡ Some row → ⊥) → DiffersFirst (with_all v rows) number
-  differs_at rows number made all is number_is reported other =
-      let before : take (length done) rows ≡ done = ap (take (length done)) all
-      ∙ take_at done (row ∷ left) (length done) refl in
-      let u_front : u ≡ with_all v (take (length done) rows) = u_is ∙ ap (with_all v) (sym before) in
-      record {
-        before = length done;
-        number_is = number_is;
-        row = row;
-        there = ap (λ (l : List Row). slice_get l (length done)) all ∙ at_after done left row;
-        made = (subst IsMade u_front is).rows;
-        differs = λ e. other (reported ∙ ap (λ (x : Recorded). row_for x row.actor row.worker) u_front ∙ e);
-      }
-
--- why a journal that a run made isn't replayed
-pub excuse_of_made : (v : Recorded) (e : ReplayError) → IsMade v → Excuses v e → e ≡ Memory
-excuse_of_made v (AtRow number) is excuse = absurd (none_differs v number is excuse)
-excuse_of_made v Frames is excuse = absurd (true≢false (sym is.opens ∙ excuse.0))
-excuse_of_made v Memory is excuse = refl
 
 -- a world that opened, got its workers and the rows of a journal is that of the journal
 pub all_is : (program : List ClassListing) (j : JournalValue) (w u : Recorded) (shape : HeapShape) (limits : Limits)

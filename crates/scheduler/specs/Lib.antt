@@ -1,8 +1,7 @@
-pub mod JournalReading
 pub mod Worlds
 pub mod Workers
 pub mod Replaying
+pub mod Differing
 pub mod Rounds
 pub mod LosesNothing
 pub mod Showing
-pub mod Checking

@@ -3,7 +3,8 @@ ghost use Rattle.std.specs.Prelude.{◌≡◌, ◌+◌, ◌<◌, ◌≤◌, ◌�
 ghost use Rattle.std.specs.Prelude.{slice_get};
 ghost use Rattle.model.specs.Journals.{HeadFits, AreOfWorkers};
 ghost use Rattle.model.specs.Machines.{after_turn_by, row_for};
-ghost use Rattle.scheduler.specs.Replaying.{Excuses, IsMade, with_all};
+ghost use Rattle.scheduler.specs.Differing.{Excuses};
+ghost use Rattle.scheduler.specs.Replaying.{IsMade, with_all};
 
 use crate::worlds::{World, WorldError};
 use loader::programs::Program;

@@ -1,12 +1,12 @@
 //! Worlds beside the ideal runs of their programs: after each turn, and after whole runs.
 
 use crate::mains::{ARRAYS, DIVISION, program, world_on};
+use comparison::checking::first_difference;
+use comparison::shows;
 use ideal_run::{Choice, Ideal};
 use loader::programs::Program;
 use model::journals::Limits;
 use model::turns::Actor;
-use scheduler::checking::first_difference;
-use scheduler::shows;
 use scheduler::worlds::World;
 use std::alloc::{AllocError, Global};
 use std::test::Fail;

@@ -12,28 +12,28 @@ use std::alloc::AllocError;
 
 impl World {
     /// How many turns were done or at fault.
-    pub(crate) fn rows(&self) -> u32
+    pub fn rows(&self) -> u32
         ensures { result ≡ (ideal self.now).rows }
     {
         self.state.rows()
     }
 
     /// How many threads were started.
-    pub(crate) fn thread_count(&self) -> u8
+    pub fn thread_count(&self) -> u8
         ensures { result ≡ length (ideal self.now).threads }
     {
         self.state.thread_count()
     }
 
     /// The states of the program's classes, in order.
-    pub(crate) fn class_states(&self) -> &[ClassState]
+    pub fn class_states(&self) -> &[ClassState]
         ensures { result.now ≡ (ideal self.now).statics.states }
     {
         self.state.class_states()
     }
 
     /// A copy of the static fields, in class and field order. `AllocError` where memory runs out.
-    pub(crate) fn static_fields(&self) -> Result<Vec<FieldView>, AllocError>
+    pub fn static_fields(&self) -> Result<Vec<FieldView>, AllocError>
         ensures { IfOk result (λ views. views.items ≡ (ideal self.now).statics.fields) }
     {
         self.state.static_fields()
@@ -41,7 +41,7 @@ impl World {
 
     /// A copy of what each cell holds, in order; none where no path leads to its birth. `AllocError` where memory runs
     /// out.
-    pub(crate) fn helds(&self) -> Result<Vec<Option<HeldView>>, AllocError>
+    pub fn helds(&self) -> Result<Vec<Option<HeldView>>, AllocError>
         ensures { IfOk result (λ views. views.items
             ≡ map (shown_in (machine_of self.now)) (machine_of self.now).account.cells) }
     {

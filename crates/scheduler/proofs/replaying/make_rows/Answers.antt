@@ -2,7 +2,8 @@ use Rattle.std.proofs.Common.{◌≡◌, ◌<◌, ◌+◌, ◌-◌, ◌++◌, �
 use Rattle.std.proofs.lemmas.List.{append_assoc, length-append}
 use Rattle.model.specs.declared.journals.Row.{Row}
 use Rattle.model.specs.Machines.{Recorded}
-use Rattle.scheduler.proofs.Making.{differs_at, made_one, of_next}
+use Rattle.scheduler.proofs.Differing.{differs_at}
+use Rattle.scheduler.proofs.Making.{made_one, of_next}
 use Rattle.scheduler.proofs.replaying.make_rows.Goals as goal
 
 pub turn_row-made-requires : goal.turn_row-made-requires

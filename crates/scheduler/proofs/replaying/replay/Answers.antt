@@ -1,7 +1,8 @@
 use Rattle.std.proofs.Common.{subst}
 use Rattle.model.specs.Machines.{Recorded}
-use Rattle.scheduler.specs.Replaying.{Excuses}
-use Rattle.scheduler.proofs.Making.{all_is, excuse_of_made}
+use Rattle.scheduler.specs.Differing.{Excuses}
+use Rattle.scheduler.proofs.Differing.{excuse_of_made}
+use Rattle.scheduler.proofs.Making.{all_is}
 use Rattle.scheduler.proofs.replaying.replay.Goals as goal
 
 pub returns-in-Err-clause-refused : goal.returns-in-Err-clause-refused

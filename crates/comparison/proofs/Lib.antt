@@ -1,0 +1,4 @@
+pub mod Deciding
+pub mod Alike
+pub mod Shown
+pub mod Followed

@@ -1,9 +1,0 @@
-use Rattle.std.proofs.Common.{ℕ, List, subst, Vec}
-use Rattle.std.specs.Global.{Global}
-use Rattle.jvm.specs.Launching.{Excuses, bytes_of}
-use Rattle.jvm.proofs.replaying.replayed.Goals as goal
-
-pub returns-in-Err-clause-refused : goal.returns-in-Err-clause-refused
-returns-in-Err-clause-refused c = λ shape limits.
-    subst (λ (ss : List (Vec ℕ Global)). Excuses (bytes_of ss) shape limits c.in-Err.error) c.as_slice.ensures.value
-    (c.in-Err.ensures.refused shape limits)

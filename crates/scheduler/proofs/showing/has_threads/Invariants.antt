@@ -1,7 +1,0 @@
-use Rattle.model.specs.Observers.{ideal}
-use Rattle.scheduler.proofs.Deciding.{Agree}
-use Rattle.scheduler.proofs.showing.has_threads.Given as goal
-
--- the first ones are the same
-abbrev pub invariant-loop-thread : goal.invariant-loop-thread
-invariant-loop-thread l = Agree l.thread (ideal l.world).threads l.threads

@@ -1,8 +1,0 @@
-//! Journals as texts: written in version 2, read in versions 1 and 2.
-
-pub mod errors;
-mod heads;
-pub mod reading;
-mod row_lines;
-mod words;
-pub mod writing;
