@@ -6,6 +6,7 @@ ghost use Rattle.assembler.specs.Checks.{pc_in};
 
 use crate::labels::label_pc;
 use crate::ldc_numbers::among;
+use classfile::{mapped_array, mapped_instruction};
 use jasmin::Labels;
 use model::instructions::{
     ArrayOperation, Constant, Instruction, LookupSwitch, TableSwitch, Width,
@@ -35,33 +36,17 @@ pub fn listed(
 ) -> Result<Listed, AllocError>
     ensures { IfOk result (λ listed. listed ≡ with_targets (pc_in pcs.now) (widened narrow.now instruction.now)) }
 {
-    Ok(match instruction {
-        Instruction::Nop => Instruction::Nop,
-        Instruction::Constant(constant) => Instruction::Constant(widened_constant(
-            narrow, *constant,
-        )),
-        Instruction::Local(access) => Instruction::Local(*access),
-        Instruction::Stack(operation) => Instruction::Stack(*operation),
-        Instruction::Number(operation) => Instruction::Number(*operation),
-        Instruction::Branch(test, target) => Instruction::Branch(*test, label_pc(pcs, target)),
-        Instruction::TableSwitch(table) => Instruction::TableSwitch(listed_table(
-            alloc, pcs, table,
-        )?),
-        Instruction::LookupSwitch(lookup) => Instruction::LookupSwitch(listed_lookup(
-            alloc, pcs, lookup,
-        )?),
-        Instruction::Return(kind) => Instruction::Return(*kind),
-        Instruction::Static(access, field) => Instruction::Static(*access, shared_member(field)?),
-        Instruction::Field(access, field) => Instruction::Field(*access, shared_member(field)?),
-        Instruction::Array(operation) => Instruction::Array(shared_array(operation)?),
-        Instruction::Class(operation, class) => Instruction::Class(*operation, class.share()?),
-        Instruction::Invoke(invocation, method) => Instruction::Invoke(
-            *invocation,
-            shared_member(method)?,
-        ),
-        Instruction::Throw => Instruction::Throw,
-        Instruction::Monitor(operation) => Instruction::Monitor(*operation),
-    })
+    Ok(mapped_instruction!(
+        instruction;
+        constant(constant) => widened_constant(narrow, *constant),
+        target(label) => label_pc(pcs, label),
+        table(table) => listed_table(alloc, pcs, table)?,
+        lookup(lookup) => listed_lookup(alloc, pcs, lookup)?,
+        field(field) => shared_member(field)?,
+        array(operation) => shared_array(operation)?,
+        class(class) => class.share()?,
+        method(invocation, method) => shared_member(method)?,
+    ))
 }
 
 fn widened_constant(narrow: &[i32], constant: Constant<i32, i64>) -> Constant<i32, i64>
@@ -82,13 +67,7 @@ fn widened_constant(narrow: &[i32], constant: Constant<i32, i64>) -> Constant<i3
 fn shared_array(operation: &ArrayOperation<Name>) -> Result<ArrayOperation<Name>, AllocError>
     ensures { IfOk result (λ shared. shared ≡ operation.now) }
 {
-    Ok(match operation {
-        ArrayOperation::New(primitive) => ArrayOperation::New(*primitive),
-        ArrayOperation::NewOf(class) => ArrayOperation::NewOf(class.share()?),
-        ArrayOperation::Length => ArrayOperation::Length,
-        ArrayOperation::Load(kind) => ArrayOperation::Load(*kind),
-        ArrayOperation::Store(kind) => ArrayOperation::Store(*kind),
-    })
+    Ok(mapped_array!(operation; class(class) => class.share()?))
 }
 
 fn listed_table(

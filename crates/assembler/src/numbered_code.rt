@@ -11,7 +11,10 @@ ghost use Rattle.assembler.specs.Numbering.{called_item, numbered_row, numbered_
 
 use crate::error::AsmError;
 use crate::pool_numbers::Numbers;
-use classfile::{CodeEntry, CodeRow, Instructions, copied_lookup, copied_table};
+use classfile::{
+    CodeEntry, CodeRow, Instructions, copied_lookup, copied_table, mapped_array, mapped_constant,
+    mapped_instruction,
+};
 use model::bytecode::Instr;
 use model::instructions::{ArrayOperation, Constant, Instruction, Invocation};
 use model::listings::{Code, ExceptionRow, Listed, Placed};
@@ -103,30 +106,17 @@ fn numbered(alloc: Global, numbers: &mut Numbers, instruction: &Listed) -> Resul
         (λ items. numbering.numbered items instruction.now) result }
     ensures only { OnlyFull numbers.old (instruction_items instruction.now) result }
 {
-    Ok(match instruction {
-        Instruction::Nop => Instruction::Nop,
-        Instruction::Constant(constant) => {
-            Instruction::Constant(numbered_constant(numbers, *constant)?)
-        }
-        Instruction::Local(access) => Instruction::Local(*access),
-        Instruction::Stack(operation) => Instruction::Stack(*operation),
-        Instruction::Number(operation) => Instruction::Number(*operation),
-        Instruction::Branch(test, target) => Instruction::Branch(*test, *target),
-        Instruction::TableSwitch(table) => Instruction::TableSwitch(copied_table(alloc, table)?),
-        Instruction::LookupSwitch(lookup) => {
-            Instruction::LookupSwitch(copied_lookup(alloc, lookup)?)
-        }
-        Instruction::Return(kind) => Instruction::Return(*kind),
-        Instruction::Static(access, member) => Instruction::Static(*access, numbers.field(member)?),
-        Instruction::Field(access, member) => Instruction::Field(*access, numbers.field(member)?),
-        Instruction::Array(operation) => Instruction::Array(numbered_array(numbers, operation)?),
-        Instruction::Class(operation, name) => Instruction::Class(*operation, numbers.class(name)?),
-        Instruction::Invoke(invocation, member) => {
-            Instruction::Invoke(*invocation, called(numbers, *invocation, member)?)
-        }
-        Instruction::Throw => Instruction::Throw,
-        Instruction::Monitor(operation) => Instruction::Monitor(*operation),
-    })
+    Ok(mapped_instruction!(
+        instruction;
+        constant(constant) => numbered_constant(numbers, *constant)?,
+        target(target) => *target,
+        table(table) => copied_table(alloc, table)?,
+        lookup(lookup) => copied_lookup(alloc, lookup)?,
+        field(member) => numbers.field(member)?,
+        array(operation) => numbered_array(numbers, operation)?,
+        class(name) => numbers.class(name)?,
+        method(invocation, member) => called(numbers, *invocation, member)?,
+    ))
 }
 
 fn numbered_constant(
@@ -137,15 +127,7 @@ fn numbered_constant(
         (λ items. numbering.numbered_constant items constant) result }
     ensures only { OnlyFull numbers.old (constant_items constant) result }
 {
-    Ok(match constant {
-        Constant::Null => Constant::Null,
-        Constant::SmallInt(n) => Constant::SmallInt(n),
-        Constant::SmallLong(n) => Constant::SmallLong(n),
-        Constant::Byte(z) => Constant::Byte(z),
-        Constant::Short(z) => Constant::Short(z),
-        Constant::Int(width, z) => Constant::Int(width, numbers.int(z)?),
-        Constant::Long(z) => Constant::Long(numbers.long(z)?),
-    })
+    Ok(mapped_constant!(constant; int(z) => numbers.int(z)?, long(z) => numbers.long(z)?))
 }
 
 fn numbered_array(
@@ -156,13 +138,7 @@ fn numbered_array(
         (λ items. numbering.numbered_array items operation.now) result }
     ensures only { OnlyFull numbers.old (array_items operation.now) result }
 {
-    Ok(match operation {
-        ArrayOperation::New(primitive) => ArrayOperation::New(*primitive),
-        ArrayOperation::NewOf(name) => ArrayOperation::NewOf(numbers.class(name)?),
-        ArrayOperation::Length => ArrayOperation::Length,
-        ArrayOperation::Load(kind) => ArrayOperation::Load(*kind),
-        ArrayOperation::Store(kind) => ArrayOperation::Store(*kind),
-    })
+    Ok(mapped_array!(operation; class(name) => numbers.class(name)?))
 }
 
 /// The number of the method that a call names.

@@ -14,6 +14,7 @@ mod listed_code;
 mod listed_members;
 mod listings;
 mod made;
+mod mapping;
 mod methods;
 mod operands;
 mod sound_fields;

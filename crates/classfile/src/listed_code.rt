@@ -3,6 +3,7 @@
 ghost use Rattle.std.specs.Prelude.{◌≡◌, map, IfOk};
 ghost use Rattle.model.specs.ClassFiles.Listing as listing;
 
+use crate::{mapped_array, mapped_constant, mapped_instruction};
 use model::bytecode::{Instr, Located};
 use model::instructions::{ArrayOperation, Constant, Instruction, LookupSwitch, TableSwitch};
 use model::listings::{Listed, Placed};
@@ -33,44 +34,23 @@ pub fn listed_instructions(
 fn listed(alloc: Global, pool: &Pool, instruction: &Instr) -> Result<Listed, AllocError>
     ensures { IfOk result (λ listed. listed ≡ listing.listed pool.now instruction.now) }
 {
-    Ok(match instruction {
-        Instruction::Nop => Instruction::Nop,
-        Instruction::Constant(constant) => Instruction::Constant(listed_constant(pool, *constant)),
-        Instruction::Local(access) => Instruction::Local(*access),
-        Instruction::Stack(operation) => Instruction::Stack(*operation),
-        Instruction::Number(operation) => Instruction::Number(*operation),
-        Instruction::Branch(test, target) => Instruction::Branch(*test, *target),
-        Instruction::TableSwitch(table) => Instruction::TableSwitch(copied_table(alloc, table)?),
-        Instruction::LookupSwitch(lookup) => {
-            Instruction::LookupSwitch(copied_lookup(alloc, lookup)?)
-        }
-        Instruction::Return(kind) => Instruction::Return(*kind),
-        Instruction::Static(access, field) => { Instruction::Static(*access, pool.member(*field)?) }
-        Instruction::Field(access, field) => { Instruction::Field(*access, pool.member(*field)?) }
-        Instruction::Array(operation) => Instruction::Array(listed_array(pool, operation)?),
-        Instruction::Class(operation, class) => {
-            Instruction::Class(*operation, pool.class_name(*class)?)
-        }
-        Instruction::Invoke(invocation, method) => {
-            Instruction::Invoke(*invocation, pool.member(*method)?)
-        }
-        Instruction::Throw => Instruction::Throw,
-        Instruction::Monitor(operation) => Instruction::Monitor(*operation),
-    })
+    Ok(mapped_instruction!(
+        instruction;
+        constant(constant) => listed_constant(pool, *constant),
+        target(target) => *target,
+        table(table) => copied_table(alloc, table)?,
+        lookup(lookup) => copied_lookup(alloc, lookup)?,
+        field(field) => pool.member(*field)?,
+        array(operation) => listed_array(pool, operation)?,
+        class(class) => pool.class_name(*class)?,
+        method(invocation, method) => pool.member(*method)?,
+    ))
 }
 
 fn listed_constant(pool: &Pool, constant: Constant<u16, u16>) -> Constant<i32, i64>
     ensures { result ≡ listing.listed_constant pool.now constant }
 {
-    match constant {
-        Constant::Null => Constant::Null,
-        Constant::SmallInt(n) => Constant::SmallInt(n),
-        Constant::SmallLong(n) => Constant::SmallLong(n),
-        Constant::Byte(z) => Constant::Byte(z),
-        Constant::Short(z) => Constant::Short(z),
-        Constant::Int(width, number) => Constant::Int(width, pool.int(number)),
-        Constant::Long(number) => Constant::Long(pool.long(number)),
-    }
+    mapped_constant!(constant; int(number) => pool.int(number), long(number) => pool.long(number))
 }
 
 fn listed_array(
@@ -79,13 +59,7 @@ fn listed_array(
 ) -> Result<ArrayOperation<Name>, AllocError>
     ensures { IfOk result (λ listed. listed ≡ listing.listed_array pool.now operation.now) }
 {
-    Ok(match operation {
-        ArrayOperation::New(primitive) => ArrayOperation::New(*primitive),
-        ArrayOperation::NewOf(class) => ArrayOperation::NewOf(pool.class_name(*class)?),
-        ArrayOperation::Length => ArrayOperation::Length,
-        ArrayOperation::Load(kind) => ArrayOperation::Load(*kind),
-        ArrayOperation::Store(kind) => ArrayOperation::Store(*kind),
-    })
+    Ok(mapped_array!(operation; class(class) => pool.class_name(*class)?))
 }
 
 /// A table of the same rows.

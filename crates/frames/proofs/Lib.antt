@@ -1,6 +1,7 @@
 pub mod ActivationLemmas
 pub mod ArgumentLemmas
 pub mod CallLemmas
+pub mod CodeFrameLemmas
 pub mod LayoutLemmas
 pub mod ListLemmas
 pub mod OperandLemmas

@@ -34,6 +34,22 @@
 //! | `run_registers(code, place, most)` | under `IsAt` and `Keeps`: so many steps of register code lead from f's units to those that it then has, at the point that is reached: `RunsOn` |
 //! | `views()` | `frames`, as plain data |
 //!
+//! A burst of calls and returns keeps less (code_frames.rt): of a frame that runs register code no more than the code,
+//! the place in it and the unit at which the frame begins (`At`), and for one that called another, how high its stack
+//! is. What else a frame has, the point at that place says. With `frames` for `frames_at` of what is lent and where the
+//! running frame stands, and f for `running_frame frames`:
+//!
+//! | call | what it ensures |
+//! |---|---|
+//! | `lend(frames, code, place)` | under `IsAt`, where f gives no monitor back and isn't marked: `frames` |
+//! | `take_back(at)` | `frames` |
+//! | `run(at, memory, context, most)` | as `run_registers` |
+//! | `call(at, method, code, start, kinds, below)` | as `call_with`, with the limits of the code, which begins at that place; a `None` leaves `frames` as they are |
+//! | `back(at, place, next)` | the caller goes on: `with_running (callers frames) (replaced next (running_frame (callers frames)) 0 []).frame`, where that stands at that place; a `None` changes nothing |
+//! | `back_with(at, place, next, v)` | the same with `v ∷ []` |
+//! | `caller` | the code of the caller and the place of its call, if it is kept |
+//! | `operand(at, kind)`, `reference_below(at, k)`, `locals_held(at)` | as those of `Frames` |
+//!
 //! Inside, an activation record says where a frame's locals begin in the array; its stack stands after them, a value
 //! in one unit each, while the units that the values take are counted beside them. So each call takes the time of the
 //! values that it moves. The running frame's record stands apart from those below it, in fields of its own: where
@@ -44,6 +60,7 @@
 
 mod activations;
 mod arguments;
+pub mod code_frames;
 pub mod heads;
 mod locals;
 mod operands;
