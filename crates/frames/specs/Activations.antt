@@ -1,5 +1,6 @@
 use Rattle.std.specs.Prelude.{ℕ, zero, suc, ◌+◌, ◌-◌, ◌≤◌, List, [], ◌∷◌, ◌++◌, length, slice_index_or, slice_set, take}
 use Rattle.std.specs.Prelude.{None}
+use Rattle.model.specs.declared.places.MethodPlace.{MethodPlace}
 use Rattle.model.specs.declared.turns.Mark.TheVariants.{Unmarked}
 use Rattle.frames.specs.declared.activations.Activation.{Activation}
 
@@ -17,6 +18,20 @@ no_activation = record {
   locals = 0;
   values = 0;
   room = 0;
+  taken = 0;
+  monitor = None;
+  mark = Unmarked;
+}
+
+-- at the start of a method: its stack is empty, and nothing is to be done when it is left
+abbrev pub opening : MethodPlace → ℕ → ℕ → ℕ → Activation
+opening method base locals room = record {
+  method = method;
+  pc = 0;
+  base = base;
+  locals = locals;
+  values = 0;
+  room = room;
   taken = 0;
   monitor = None;
   mark = Unmarked;

@@ -1,8 +1,7 @@
-use Rattle.std.proofs.Common.{refl, arith, None, replicate}
+use Rattle.std.proofs.Common.{refl, arith, replicate}
 use Rattle.std.proofs.lemmas.List.{length-replicate}
 use Rattle.model.specs.declared.values.Entry.TheVariants.{Unset}
-use Rattle.model.specs.declared.turns.Mark.TheVariants.{Unmarked}
-use Rattle.frames.specs.declared.activations.Activation.{Activation}
+use Rattle.frames.specs.Activations.{opening}
 use Rattle.frames.specs.Layout.{Stands}
 use Rattle.frames.proofs.LayoutLemmas.{sound_push, view_push, has_room-facts, reaches, replaces}
 use Rattle.frames.proofs.thread_frames.Frames.enter.Goals as goal
@@ -25,7 +24,11 @@ push-requires c =
     let end = room.1 in
     record {
       few = room.0;
-      fits = record { inside = omega (arith, end); within = omega arith; few = omega (arith, end) };
+      fits = rw c.opening.ensures (record {
+        inside = omega (arith, end);
+        within = omega arith;
+        few = omega (arith, end);
+      });
     }
 
 pub invariant_of-self : goal.invariant_of-self
@@ -36,17 +39,7 @@ invariant_of-self c =
     let locals = c.args.max_locals in
     let u = replaces c.reach.new.self c.unset.new.self (replicate locals Unset) c.self.inside.used locals
     (length-replicate locals Unset) (omega (arith, fits)) c.unset.ensures in
-    let a : Activation = record {
-      method = c.args.method;
-      pc = 0;
-      base = c.self.inside.used;
-      locals = c.args.max_locals;
-      values = 0;
-      taken = 0;
-      room = c.args.max_stack;
-      monitor = None;
-      mark = Unmarked;
-    } in
+    let a = opening c.args.method c.self.inside.used c.args.max_locals c.args.max_stack in
     let stands : Stands c.unset.new.self c.self.inside.used a = record {
       begins = refl;
       taken_is = refl;
@@ -54,7 +47,7 @@ invariant_of-self c =
     } in
     let long = u.long in
     let few = r.sound.units_are in
-    rw c.push.ensures (sound_push c.reach.new.self _ _ _ _ a r.sound (omega (arith, long, few)) u.same stands refl
+    rw (c.push.ensures, c.opening.ensures) (sound_push c.reach.new.self _ _ _ _ a r.sound (omega (arith, long, few)) u.same stands refl
     (omega (arith, long, fits)) room.0)
 
 pub returns : goal.returns
@@ -65,4 +58,4 @@ returns c =
     let locals = c.args.max_locals in
     let u = replaces c.reach.new.self c.unset.new.self (replicate locals Unset) c.self.inside.used locals
     (length-replicate locals Unset) (omega (arith, fits)) c.unset.ensures in
-    rw (c.push.ensures, ← u.part_is) (view_push c.reach.new.self _ _ _ _ _ r.sound r.view u.same)
+    rw (c.push.ensures, c.opening.ensures, ← u.part_is) (view_push c.reach.new.self _ _ _ _ _ r.sound r.view u.same)
