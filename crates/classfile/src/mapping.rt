@@ -1,7 +1,8 @@
 //! The one match that maps the operands of an instruction.
 //!
 //! What becomes of each operand is an expression, over the names that stand in brackets before it. The proof of a
-//! function that uses one of these is of what is written out.
+//! function that uses one of these is of what is written out. So the file that uses one imports `Instruction`,
+//! `Constant` or `ArrayOperation` itself.
 
 /// An instruction with other operands: its constant, the target of its branch, the table of its switch, its field, its
 /// array's operation, its class, or its method and how that is called.

@@ -14,6 +14,7 @@ pub mod CodeResolves
 pub mod CallAgreement
 pub mod CallLemmas
 pub mod CallsSilent
+pub mod CodeCallLemmas
 pub mod CodeCalled
 pub mod CodeCalls
 pub mod CatchLemmas
@@ -45,6 +46,7 @@ mod LandingLemmas
 pub mod LeapLemmas
 pub mod LeavingLemmas
 pub mod CallLandings
+pub mod CalleeLemmas
 pub mod ListPlaces
 pub mod LoneRoundLemmas
 pub mod LookedLemmas

@@ -3,7 +3,9 @@ pub mod Allowed
 pub mod Aside
 pub mod Awaiting
 pub mod ByNumbers
+pub mod Callees
 pub mod CallsByNumbers
+pub mod CodeCalls
 pub mod HeapMonitors
 pub mod HeapThreads
 pub mod FirstTurns

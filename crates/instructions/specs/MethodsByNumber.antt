@@ -1,5 +1,4 @@
-use Rattle.std.specs.Prelude.{List, length, nat_lt, Bool, true, false, Option, Some, None}
-use Rattle.model.specs.declared.places.MethodPlace.{MethodPlace}
+use Rattle.std.specs.Prelude.{List, Bool, false, Option, Some, None}
 use Rattle.model.specs.declared.values.Kind.{Kind}
 use Rattle.model.specs.ClassListings.{ClassListing}
 use Rattle.model.specs.Frames.{Frame}

@@ -1,5 +1,6 @@
 //! Returns (JVMS 2.6.4, 6.5): the frame is left, and its caller goes on behind its call.
-ghost use Rattle.std.specs.Prelude.{◌≡◌, ◌≤◌, ◌<◌, ◌+◌, ◌∷◌, [], ℕ, IfOk, IfSome, List, OnErr, Some, length, true};
+ghost use Rattle.std.specs.Prelude.{◌≡◌, ◌≤◌, ◌<◌, ◌+◌, ◌∷◌, [], ℕ, IfOk, IfSome, List, OnErr, Some, is_some, length};
+ghost use Rattle.std.specs.Prelude.{true};
 ghost use Rattle.std.specs.Option.{option_map};
 ghost use Rattle.model.specs.declared.places.MethodPlace.{MethodPlace};
 ghost use Rattle.model.specs.ClassListings.{ClassListing};
@@ -22,7 +23,7 @@ use frames::Frames;
 use frames::heads::FrameHead;
 use loader::method_codes::MethodCode;
 use loader::operations::Operation;
-use loader::programs::Program;
+use loader::programs::{Program, Step};
 use model::turns::{ClassState, Fault, Mark};
 use model::values::{Kind, Value};
 
@@ -62,18 +63,26 @@ fn is_call(operation: Operation) -> bool
     matches!(operation, Operation::Invokespecial(_, _, _))
 }
 
+/// The pc behind a call. `None` where the step is none.
+#[inline(always)]
+pub(crate) fn next_behind(step: &Step) -> Option<u16>
+    ensures call { is_some result ≡ true → is_call step.now.operation ≡ true }
+    ensures next { IfSome result (λ next. next ≡ step.now.next) }
+{
+    if is_call(step.operation) {
+        Some(step.next)
+    } else {
+        None
+    }
+}
+
 /// The pc behind the call at a pc of a method, by its steps. `None` where no call begins there.
 #[inline(always)]
 pub(crate) fn next_of_call(code: &MethodCode, pc: u16) -> Option<u16>
     ensures { IfSome result (λ next. (program : List ClassListing) → (method : MethodPlace)
         → AreStepsOf program method code.now → Some next ≡ next_at program method pc) }
 {
-    let step = code.step(pc);
-    if is_call(step.operation) {
-        Some(step.next)
-    } else {
-        None
-    }
+    next_behind(code.step(pc))
 }
 
 /// The units that a value takes on a stack: 2 for a long, else 1 (JVMS 2.6.2).

@@ -1,6 +1,5 @@
 use Rattle.std.proofs.Common.{◌≡◌, Some, ap, rules, sym, ◌∙◌}
 use Rattle.model.specs.Table.Returns.{same_result}
-use Rattle.instructions.specs.MethodsByNumber.{facts_in}
 use Rattle.instructions.proofs.MethodLemmas.{gives-found, initializer-found}
 use Rattle.instructions.proofs.methods.is_plain.Goals as goal
 
