@@ -31,6 +31,7 @@
 //! | `store(next, n, i, v)` | under `n ≤ length f.stack`: `with_running frames (stored next f n i v).frame` |
 //! | `discard_units(next, n, u)`, `replace_units(next, n, u, v)`, `store_units(next, n, u, i, v)` | what `discard`, `replace` and `store` do, where u is known to be `units_of_all (take n f.stack)` |
 //! | `is_at(code, place)` | `true` only where f stands as the place's point says: `IsAt` |
+//! | `run_registers(code, place, most)` | under `IsAt` and `Keeps`: so many steps of register code lead from f's units to those that it then has, at the point that is reached: `RunsOn` |
 //! | `views()` | `frames`, as plain data |
 //!
 //! A burst of calls and returns keeps less (code_frames.rt): of a frame that runs register code no more than the code,
@@ -42,7 +43,7 @@
 //! |---|---|
 //! | `lend(frames, code, place)` | under `IsAt`, where f gives no monitor back and isn't marked: `frames` |
 //! | `take_back(at)` | `frames` |
-//! | `run(at, memory, context, most)` | under `Keeps`: so many steps of register code lead from the running frame's units to those that it then has, at the point that is reached: `RunsOn`, by `Runs` |
+//! | `run(at, memory, context, most)` | as `run_registers`: `Runs` |
 //! | `call(at, method, code, start, kinds, below)` | as `call_with`, with the limits of the code, which begins at that place; a `None` leaves `frames` as they are |
 //! | `back(at, place, next)` | the caller goes on: `with_running (callers frames) (replaced next (running_frame (callers frames)) 0 []).frame`, where that stands at that place; a `None` changes nothing |
 //! | `back_with(at, place, next, v)` | the same with `v ∷ []` |
