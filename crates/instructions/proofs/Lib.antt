@@ -36,6 +36,7 @@ pub mod InitialisingLemmas
 pub mod InitializerBodies
 pub mod InvokeLemmas
 pub mod KindsHeld
+pub mod NoReferences
 pub mod ObjectsShown
 pub mod OwnArguments
 pub mod OwnCalls

@@ -1,19 +1,22 @@
 -- What the tables say of the method of a frame is what its listing says.
 use Rattle.std.proofs.Common.{◌≡◌, ℕ, zero, suc, List, [], ◌∷◌, length, slice_get, nat_lt, Bool, true, false, Option}
-use Rattle.std.proofs.Common.{Some, None, refl, sym, ap, ◌∙◌, subst, ◌<◌, arith}
+use Rattle.std.proofs.Common.{if◌then◌else◌, Some, None, refl, sym, ap, ◌∙◌, subst, ◌<◌, arith}
 use Rattle.std.specs.Option.{option_and_then, option_map}
 use Rattle.std.proofs.lemmas.Bool.{ltb-true, ltb-false}
 use Rattle.std.proofs.lemmas.Option.{slice_get_past}
 use Rattle.model.specs.declared.listings.Method.{Method}
 use Rattle.model.specs.declared.places.MethodPlace.{MethodPlace}
 use Rattle.model.specs.declared.values.Kind.{Kind}
+use Rattle.model.specs.declared.values.Kind.TheVariants.{Int, Long, Ref}
 use Rattle.model.specs.ClassListings.{ClassListing}
 use Rattle.model.specs.Frames.{Frame}
 use Rattle.model.specs.Initialisation.{is_initializer_if, runs_initializer}
 use Rattle.model.specs.Programs.{method_at, method_in}
-use Rattle.model.specs.Table.Returns.{gives}
+use Rattle.model.specs.Table.Returns.{gives, same_result}
+use Rattle.loader.specs.declared.method_tables.Returns.TheVariants.{Otherwise}
 use Rattle.loader.specs.MethodFacts.{MethodFacts}
 use Rattle.loader.specs.MethodTables.{facts_at, method_facts, method_tables}
+use Rattle.loader.specs.Returns.{returning, returns_of}
 use Rattle.loader.proofs.MethodTableLemmas.{program-facts}
 use Rattle.instructions.specs.MethodsByNumber.{facts_if, facts_in, gives_in, is_initializer_in, runs_initializer_in}
 
@@ -84,3 +87,49 @@ module _ (program : List ClassListing) (place : MethodPlace) where
 pub runs_initializer_is : (program : List ClassListing) (f : Frame) → runs_initializer_in program f
     ≡ runs_initializer program f
 runs_initializer_is program f = initializer-is program f.method
+
+-- ---- how a method returns
+
+gives-nothing-else : (kind other : Option Kind) → returning other ≡ returning kind → same_result kind other ≡ true
+gives-nothing-else None None e = refl
+gives-nothing-else (Some Int) None e = cc
+gives-nothing-else (Some Long) None e = cc
+gives-nothing-else (Some Ref) None e = cc
+gives-nothing-else None (Some Int) e = cc
+gives-nothing-else None (Some Long) e = cc
+gives-nothing-else None (Some Ref) e = cc
+gives-nothing-else (Some Int) (Some Int) e = refl
+gives-nothing-else (Some Int) (Some Long) e = cc
+gives-nothing-else (Some Int) (Some Ref) e = cc
+gives-nothing-else (Some Long) (Some Int) e = cc
+gives-nothing-else (Some Long) (Some Long) e = refl
+gives-nothing-else (Some Long) (Some Ref) e = cc
+gives-nothing-else (Some Ref) (Some Int) e = cc
+gives-nothing-else (Some Ref) (Some Long) e = cc
+gives-nothing-else (Some Ref) (Some Ref) e = refl
+
+otherwise-none : (kind : Option Kind) → Otherwise ≡ returning kind → ⊥
+otherwise-none None e = cc
+otherwise-none (Some Int) e = cc
+otherwise-none (Some Long) e = cc
+otherwise-none (Some Ref) e = cc
+
+-- of what returns with a result of a kind, or with none
+pub no-initializer : (info : Option MethodFacts) (kind : Option Kind) → returns_of info ≡ returning kind
+    → is_initializer_in info ≡ false
+no-initializer None kind e = absurd (otherwise-none kind e)
+no-initializer (Some facts) kind e = by facts.is_initializer refl
+  where
+    by : (b : Bool) → facts.is_initializer ≡ b → facts.is_initializer ≡ false
+    by false is = is
+    by true is = absurd (otherwise-none kind (sym (ap (λ (b : Bool). if b then Otherwise else returning facts.kind) is) ∙ e))
+
+pub gives-that : (info : Option MethodFacts) (kind : Option Kind) → returns_of info ≡ returning kind
+    → gives_in kind info ≡ true
+gives-that None kind e = absurd (otherwise-none kind e)
+gives-that (Some facts) kind e = by facts.is_initializer refl
+  where
+    by : (b : Bool) → facts.is_initializer ≡ b → same_result kind facts.kind ≡ true
+    by false is = gives-nothing-else kind facts.kind
+        (sym (ap (λ (b : Bool). if b then Otherwise else returning facts.kind) is) ∙ e)
+    by true is = absurd (otherwise-none kind (sym (ap (λ (b : Bool). if b then Otherwise else returning facts.kind) is) ∙ e))

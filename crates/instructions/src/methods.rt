@@ -9,7 +9,7 @@ ghost use Rattle.model.specs.Table.Returns.{gives, same_result};
 ghost use Rattle.instructions.specs.MethodsByNumber.{facts_in};
 
 use loader::method_codes::MethodCode;
-use loader::method_tables::MethodInfo;
+use loader::method_tables::{MethodInfo, Returns};
 use loader::programs::Program;
 use model::places::MethodPlace;
 use model::values::Kind;
@@ -68,8 +68,5 @@ pub(crate) fn is_plain(code: &MethodCode, kind: Option<Kind>) -> bool
     ensures gives { result ≡ true → (program : List ClassListing) (place : MethodPlace)
         → code.now.info ≡ facts_in program place → gives kind (method_at program place) ≡ true }
 {
-    match code.info() {
-        Some(method) => !method.is_initializer() && same_result(kind, method.result()),
-        None => false,
-    }
+    code.returns() == Returns::of(kind)
 }

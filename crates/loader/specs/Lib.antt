@@ -16,6 +16,7 @@ pub mod PlainOperations
 pub mod Prepared
 pub mod Repeats
 pub mod ResolvedOperations
+pub mod Returns
 pub mod SelectionTables
 pub mod Selections
 pub mod SelectorArguments

@@ -9,11 +9,11 @@ use Rattle.loader.specs.declared.method_codes.MethodCode.{MethodCode}
 use Rattle.loader.specs.declared.tables.Tables.{Tables}
 use Rattle.loader.specs.Tables.{HasTables}
 use Rattle.loader.specs.KnownMethods.{all_infos, infos_of}
-use Rattle.loader.specs.StepLists.{AreSteps, HasNoSteps, instructions_in}
+use Rattle.loader.specs.StepLists.{AllKnowPlaces, AreSteps, HasNoSteps, instructions_in}
 use Rattle.loader.specs.Steps.{CanRun}
 
--- main with its limits, the steps of all methods and those of none, the tables and the instructions of an empty
--- initializer, in a program that can run
+-- main with its limits, the steps of all methods, each of which knows its place, and those of none, the tables and the
+-- instructions of an empty initializer, in a program that can run
 pub record IsPrepared (program : List ClassListing) (main : MethodPlace) (max_locals max_stack : ℕ)
     (methods : List (Vec MethodCode Global)) (none : MethodCode) (tables : Tables) (empty : List Placed) : Type 0 where
   pub code : CodeListing
@@ -27,5 +27,6 @@ pub record IsPrepared (program : List ClassListing) (main : MethodPlace) (max_lo
   pub none_is : HasNoSteps none
   pub infos_are : all_infos methods ≡ map (infos_of program) program
   pub no_info : none.info ≡ None
+  pub placed : AllKnowPlaces methods
   pub tables_are : HasTables program tables
   pub empty_is : empty ≡ instructions_in empty_initializer.code

@@ -1,18 +1,17 @@
-use Rattle.std.proofs.Common.{◌≡◌, Some, ap, rules, sym, ◌∙◌}
-use Rattle.model.specs.Table.Returns.{same_result}
-use Rattle.instructions.proofs.MethodLemmas.{gives-found, initializer-found}
+use Rattle.std.proofs.Common.{◌≡◌, rules, sym, ◌∙◌}
+use Rattle.instructions.proofs.MethodLemmas.{gives-found, gives-that, initializer-found, no-initializer}
 use Rattle.instructions.proofs.methods.is_plain.Goals as goal
 
-pub returns-then-not-is_initializer-clause-plain : goal.returns-then-not-is_initializer-clause-plain
-returns-then-not-is_initializer-clause-plain c = λ made program place known.
-    let found : c.args.code.now.info ≡ Some c.in-Some.method.now = search rules in
-    sym (initializer-found program place (Some c.in-Some.method.now) (sym found ∙ known))
-    ∙ sym c.is_initializer.ensures
-    ∙ c.if-not-is_initializer.true
+pub returns-clause-plain : goal.returns-clause-plain
+returns-clause-plain c = λ made program place known.
+    let info = c.args.code.now.info in
+    let same : c.returns.result ≡ c.of.result = search rules in
+    sym (initializer-found program place info known)
+    ∙ no-initializer info c.args.kind (sym c.returns.ensures ∙ same ∙ c.of.ensures)
 
-pub returns-then-not-is_initializer-clause-gives : goal.returns-then-not-is_initializer-clause-gives
-returns-then-not-is_initializer-clause-gives c = λ made program place known.
-    let found : c.args.code.now.info ≡ Some c.in-Some.method.now = search rules in
-    sym (gives-found program place c.args.kind (Some c.in-Some.method.now) (sym found ∙ known))
-    ∙ sym (c.same_result.ensures ∙ ap (same_result c.args.kind) c.result.ensures)
-    ∙ made
+pub returns-clause-gives : goal.returns-clause-gives
+returns-clause-gives c = λ made program place known.
+    let info = c.args.code.now.info in
+    let same : c.returns.result ≡ c.of.result = search rules in
+    sym (gives-found program place c.args.kind info known)
+    ∙ gives-that info c.args.kind (sym c.returns.ensures ∙ same ∙ c.of.ensures)
