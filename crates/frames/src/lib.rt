@@ -41,10 +41,10 @@
 //!
 //! | call | what it ensures |
 //! |---|---|
-//! | `lend(frames, code, place)` | under `IsAt`, where f gives no monitor back and isn't marked: `frames` |
+//! | `lend(frames, callers, code, place)` | under `IsAt`, where f runs the code's method, gives no monitor back and isn't marked: `frames`; `callers` is room for those that call |
 //! | `take_back(at)` | `frames` |
 //! | `run(at, memory, context, most)` | as `run_registers`: `Runs` |
-//! | `call(at, method, code, start, kinds, below)` | as `call_with`, with the limits of the code, which begins at that place; a `None` leaves `frames` as they are |
+//! | `call(at, code, start, kinds, below)` | as `call_with`, of the method of the code, with its limits, which begins at that place; a `None` leaves `frames` as they are |
 //! | `back(at, place, next)` | the caller goes on: `with_running (callers frames) (replaced next (running_frame (callers frames)) 0 []).frame`, where that stands at that place; a `None` changes nothing |
 //! | `back_with(at, place, next, v)` | the same with `v ∷ []` |
 //! | `caller` | the code of the caller and the place of its call, if it is kept |
