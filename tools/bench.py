@@ -4,9 +4,9 @@
 Usage: bench.py [--jvm PROGRAM] [--zero JAVA] [--times N] [NAME ..]
 
 Each program does so many units of work. How many bytecodes a unit takes is read off the journals of two short runs. A figure
-is the processor time of a run less that of one with no unit, each the best of so many (five), over the bytecodes between
-them: for `jvm run --gc 0`, for `jvm run --gc 1`, whose rows are counted too, for `java -Xint`, and, where JAVA is the program
-`java` of a Debian package openjdk-17-jre-zero, for `JAVA -zero`. What all print has to be the same.
+is the processor time of a run less that of one with no unit, each the best of so many (five), which take turns, over the
+bytecodes between them: for `jvm run --gc 0`, for `jvm run --gc 1`, whose rows are counted too, for `java -Xint`, and, where
+JAVA is the program `java` of a Debian package openjdk-17-jre-zero, for `JAVA -zero`. What all print has to be the same.
 PROGRAM is crates/jvm/out/jvm, which `rt run` builds, where nothing else is said.
 """
 import argparse
@@ -96,9 +96,13 @@ def timed(words):
     return after.ru_utime - before.ru_utime + after.ru_stime - before.ru_stime, done.stdout
 
 
-def best(words, times):
-    runs = [timed(words) for _ in range(times)]
-    return min(seconds for seconds, _ in runs), runs[0][1]
+def least(runs, times):
+    """The least processor time of each of these commands, by its name. They take turns, since a machine's speed moves."""
+    seconds = {}
+    for _ in range(times):
+        for name, words in runs.items():
+            seconds[name] = min(seconds.get(name, math.inf), timed(words)[0])
+    return seconds
 
 
 def rows(compiled, machine, gc):
@@ -130,12 +134,10 @@ def measure(name, options):
         ways["-Xint"] = (longer, lambda it: it.on_java("java", "-Xint"), 20 * units)
         if options.zero:
             ways["Zero"] = (longer, lambda it: it.on_java(options.zero, "-zero"), 20 * units)
-        figures = {}
-        for way, (compiled, words, units_made) in ways.items():
-            seconds, _ = best(words(compiled), options.times)
-            start, _ = best(words(none), options.times)
-            figures[way] = (seconds - start) * 1e9 / (each * units_made)
-        if len({best(words, 1)[1] for words in (long.on_machine(options.jvm, int(name == "allocation")), long.on_java("java", "-Xint"))}) != 1:
+        runs = {(way, at): words(it) for way, (compiled, words, _) in ways.items() for at, it in (("end", compiled), ("start", none))}
+        seconds = least(runs, options.times)
+        figures = {way: (seconds[way, "end"] - seconds[way, "start"]) * 1e9 / (each * made) for way, (_, _, made) in ways.items()}
+        if len({timed(words)[1] for words in (long.on_machine(options.jvm, int(name == "allocation")), long.on_java("java", "-Xint"))}) != 1:
             sys.exit(f"{name}: jvm and java print different things")
         return figures, (each + collected) / each / figures["--gc 1"] * 1e9
 
