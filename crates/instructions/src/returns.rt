@@ -65,7 +65,7 @@ fn is_call(operation: Operation) -> bool
 
 /// The pc behind a call. `None` where the step is none.
 #[inline(always)]
-pub(crate) fn next_behind(step: &Step) -> Option<u16>
+fn next_behind(step: &Step) -> Option<u16>
     ensures call { is_some result ≡ true → is_call step.now.operation ≡ true }
     ensures next { IfSome result (λ next. next ≡ step.now.next) }
 {
