@@ -102,7 +102,7 @@ impl Units {
     }
 
     /// Carries out register code from a place on, so many steps at most, on so many units, from this one on, and on
-    /// memory. Answers the place that is reached, which is one of the code, and how many steps were carried out.
+    /// memory. Answers the place that is reached, which is one of the code, and how many steps are left.
     #[inline(always)]
     pub fn run<C, M: Memory<C>>(
         &mut self,
@@ -119,10 +119,10 @@ impl Units {
         requires start { place < length code.now }
         requires within { AreWithin span code.now }
         requires fused { AreFused code.now fused.now }
-        ensures ran { RunsWithin (M.acts context.now) base span code.now place result.1 result.0 self.old memory.old
-            self.new memory.new }
+        ensures ran { RunsWithin (M.acts context.now) base span code.now place (most - result.1) result.0 self.old
+            memory.old self.new memory.new }
         ensures inside { result.0 < length code.now }
-        ensures most { result.1 ≤ most }
+        ensures left { result.1 ≤ most }
     {
         register_code::run(
             &mut self.slots[base..base + span],

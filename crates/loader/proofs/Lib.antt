@@ -3,6 +3,7 @@ pub mod ClassTableLemmas
 pub mod EqualPrograms
 pub mod InitializerLemmas
 pub mod LimitLemmas
+pub mod KnownCallLemmas
 pub mod KnownMethodLemmas
 pub mod MethodTableLemmas
 pub mod NumberingLemmas

@@ -4,6 +4,7 @@ pub mod ClassTables
 pub mod EqualPrograms
 pub mod Errors
 pub mod Initializers
+pub mod KnownCalls
 pub mod KnownMethods
 pub mod MemberPlaces
 pub mod MethodCodes

@@ -12,6 +12,7 @@ mod exception_rows;
 pub mod first_places;
 mod heights;
 pub mod initializers;
+mod known_calls;
 mod limits;
 mod member_places;
 mod members;
