@@ -1,6 +1,4 @@
-use Rattle.std.proofs.Common.{◌+◌, ℕ, ap, subst, sym}
-use Rattle.std.specs.Prelude.{if◌then◌else◌}
-use Rattle.model.specs.declared.journals.Limits.{Limits}
+use Rattle.std.proofs.Common.{ℕ, subst, sym}
 use Rattle.scheduler.specs.Worlds.{IsOf}
 use Rattle.scheduler.proofs.RoundsWithSweeps.{enters}
 use Rattle.scheduler.proofs.worlds.World.rounds_and_sweeps_plainly.Goals as goal
