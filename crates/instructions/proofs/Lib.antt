@@ -64,6 +64,7 @@ pub mod OwnWords
 pub mod DoublingLemmas
 pub mod KnownFree
 pub mod NewLemmas
+pub mod NotedRoundLemmas
 pub mod PlainRunLemmas
 pub mod PrintLemmas
 pub mod PushLemmas

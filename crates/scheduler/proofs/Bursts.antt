@@ -1,20 +1,21 @@
 -- Many rounds in one call: the worlds that they lead to, and what they answer.
-use Rattle.std.proofs.Common.{◌≡◌, ◌≢◌, ◌<◌, ◌≤◌, ◌+◌, ◌-◌, ◌∷◌, ℕ, zero, suc, List, [], length, length-append, Bool}
+use Rattle.std.proofs.Common.{◌≡◌, ◌≢◌, ◌<◌, ◌≤◌, ◌+◌, ◌-◌, ℕ, zero, suc, length, Bool}
 use Rattle.std.proofs.Common.{true, false, Option, Some, None, refl, ap, sym, subst, ◌∙◌, arith}
-use Rattle.std.proofs.lemmas.List.{append-nil, append_assoc, replicate_more}
-use Rattle.std.specs.Prelude.{if◌then◌else◌, replicate}
+use Rattle.std.specs.Prelude.{if◌then◌else◌}
 use Rattle.model.specs.declared.journals.Limits.{Limits}
 use Rattle.model.specs.declared.journals.Outcome.TheVariants.{Done}
 use Rattle.model.specs.declared.journals.Row.{Row}
 use Rattle.model.specs.declared.turns.Actor.{Actor}
 use Rattle.model.specs.declared.turns.Actor.TheVariants.{Thread}
-use Rattle.model.specs.Journals.{JournalValue, with_row, with_rows}
+use Rattle.model.specs.Journals.{JournalValue, with_row}
 use Rattle.model.specs.Machines.{Recorded, after_turn_by, row_for, reported_of, with_row as recorded_with}
 use Rattle.model.specs.Observers.{is_running, pick_of, status_of}
 use Rattle.instructions.specs.FirstTurns.{IsFirstTurn}
 use Rattle.instructions.specs.Loaded.{Loaded}
+use Rattle.instructions.specs.LoneRounds.{noted_times}
 use Rattle.instructions.specs.PlainRuns.{FirstTurns, start_after}
-use Rattle.scheduler.specs.Rounds.{LeadsOn, after_round, after_rounds, done_by, is_done, noted_times, picked}
+use Rattle.instructions.proofs.NotedRoundLemmas.{times-length, times-limits}
+use Rattle.scheduler.specs.Rounds.{LeadsOn, after_round, after_rounds, done_by, is_done, picked}
 use Rattle.scheduler.specs.Rounds.{picked_answer, rounds_answer, turned_by}
 use Rattle.scheduler.specs.Worlds.{IsOf, recorded}
 use Rattle.scheduler.proofs.FirstTurns.{first_answer, first_fits, first_noted, first_picked}
@@ -79,29 +80,6 @@ workers-after v actor worker = workers-added v (row_for v actor worker)
 
 pub workers-picked : (v : Recorded) (worker : ℕ) → (picked v worker).journal.workers ≡ v.journal.workers
 workers-picked v worker = workers-turned v worker (pick_of v)
-
--- ---- a journal with a row so many times
-
-module _ (j : JournalValue) (row : Row) where
-  pub times-limits : (n : ℕ) → (noted_times j row n).limits ≡ j.limits
-  times-limits zero = refl
-  times-limits (suc n) = times-limits n
-
-  -- its rows are the old ones and so many of this
-  pub times-are : (n : ℕ) → with_rows j (replicate n row) ≡ noted_times j row n
-  times-are zero = ap (λ (rows : List Row). record j { rows = rows }) (append-nil j.rows)
-  times-are (suc n) =
-      let more : suc n ≡ n + 1 = omega arith in
-      ap (λ (rows : List Row). with_rows j rows) (ap (λ m. replicate m row) more ∙ sym (replicate_more n row))
-      ∙ ap (λ (rows : List Row). record j { rows = rows }) (sym (append_assoc j.rows (replicate n row) (row ∷ [])))
-      ∙ ap (λ (x : JournalValue). with_row x row) (times-are n)
-
-  pub times-length : (n : ℕ) → length (noted_times j row n).rows ≡ length j.rows + n
-  times-length zero = omega arith
-  times-length (suc n) =
-      let before = times-length n in
-      let more = length-append (noted_times j row n).rows (row ∷ []) in
-      omega (arith, before, more)
 
 -- ---- turns of the first thread are rounds
 

@@ -1,32 +1,31 @@
 -- Many rounds with turns of the collector in one call: the worlds that they lead to, and what they answer.
-use Rattle.std.proofs.Common.{◌≡◌, ◌<◌, ◌≤◌, ◌+◌, ◌-◌, ◌++◌, ◌∷◌, ℕ, zero, suc, List, [], length, length-append}
-use Rattle.std.proofs.Common.{Bool, true, false, Option, Some, None, refl, ap, sym, subst, ◌∙◌, arith}
-use Rattle.std.specs.List.{repeat}
-use Rattle.std.specs.Prelude.{if◌then◌else◌, is_some, nat_le, replicate}
+use Rattle.std.proofs.Common.{◌≡◌, ◌<◌, ◌≤◌, ◌+◌, ◌-◌, ◌∷◌, ℕ, zero, suc, List, [], length, length-append, Bool, true, false}
+use Rattle.std.proofs.Common.{Option, Some, None, refl, ap, sym, subst, ◌∙◌, arith}
+use Rattle.std.specs.Prelude.{if◌then◌else◌, is_some, nat_le}
 use Rattle.std.proofs.lemmas.Bool.{leb-true}
-use Rattle.std.proofs.lemmas.List.{append-nil, append_assoc}
 use Rattle.model.specs.declared.journals.Limits.{Limits}
+use Rattle.model.specs.declared.journals.Outcome.{Outcome}
 use Rattle.model.specs.declared.journals.Outcome.TheVariants.{Done}
-use Rattle.model.specs.declared.journals.Row.{Row}
 use Rattle.model.specs.declared.turns.Actor.TheVariants.{Collector}
 use Rattle.model.specs.declared.turns.Fault.{Fault}
 use Rattle.model.specs.declared.turns.Status.TheVariants.{Running}
 use Rattle.model.specs.declared.turns.Turn.TheVariants.{StepLimit}
-use Rattle.model.specs.Journals.{JournalValue, rows_of_rounds, with_row, with_rows}
+use Rattle.model.specs.Journals.{JournalValue, with_row}
 use Rattle.model.specs.Machines.{Recorded, after_turn_by, reported_of}
 use Rattle.model.specs.Observers.{ideal, is_running, status_by, status_of}
 use Rattle.model.specs.Ready.{some_is_ready, some_lives}
 use Rattle.model.specs.Turns.{refusal, refusal_after}
 use Rattle.instructions.specs.Loaded.{Loaded}
-use Rattle.instructions.specs.LoneRounds.{FirstRounds, FirstTurnIf, IsFirstRound, LedByRounds, Sweeps, rows_in, rows_of}
+use Rattle.instructions.specs.LoneRounds.{FirstRounds, FirstTurnIf, IsFirstRound, LeadsThrough, Sweeps, collected_by}
+use Rattle.instructions.specs.LoneRounds.{noted_if, noted_rounds, noted_times, thread_row}
 use Rattle.instructions.specs.declared.lone_rounds.Rounds.{Rounds}
 use Rattle.instructions.specs.PlainRuns.{start_after}
-use Rattle.scheduler.specs.Rounds.{LeadsInto, LeadsOn, PickedIf, after_round, after_rounds, collected_by, collections}
-use Rattle.scheduler.specs.Rounds.{done_by, is_done, noted_if, noted_rounds, noted_times, picked, picked_answer}
-use Rattle.scheduler.specs.Rounds.{rounds_answer, swept}
+use Rattle.instructions.proofs.NotedRoundLemmas.{rounds-workers, times-length, times-limits}
+use Rattle.scheduler.specs.Rounds.{LeadsInto, LeadsOn, PickedIf, after_round, after_rounds, collections, done_by}
+use Rattle.scheduler.specs.Rounds.{is_done, picked, picked_answer, rounds_answer, swept}
 use Rattle.scheduler.specs.Worlds.{IsOf, recorded}
-use Rattle.scheduler.proofs.Bursts.{answer-left, times-are, times-length, times-limits, world-left}
-use Rattle.scheduler.proofs.FirstTurns.{first_answer, first_fits, first_noted, first_picked}
+use Rattle.scheduler.proofs.Bursts.{answer-left, world-left}
+use Rattle.scheduler.proofs.FirstTurns.{first_answer, first_noted, first_picked}
 use Rattle.scheduler.proofs.Noting.{after_is, answer_is, back, noted_is, refusal_is}
 use Rattle.scheduler.proofs.RoundsLeft.{answer-first, round-swept, rounds-first}
 
@@ -90,72 +89,26 @@ faultless_running : (o : Option (Fault × ℕ)) (lives ready : Bool) → status_
 faultless_running None lives ready e = refl
 faultless_running (Some fault) lives ready e = cc
 
--- the state after so many rounds, and the journal with their rows
-pub record Leads (s : Loaded) (j : JournalValue) (k worker gc n : ℕ) (after : Loaded) : Type 0 where
-  pub is : IsOf after (noted_rounds j worker gc n) (start_after k 0 n)
-  pub on : LeadsOn (recorded s j) worker gc n (recorded after (noted_rounds j worker gc n))
-  pub room : 0 < rows_of gc n → length j.rows + rows_of gc n ≤ j.limits.steps
-
-repeat-last : (n : ℕ) (rows : List Row) → repeat n rows ++ rows ≡ repeat (suc n) rows
-repeat-last zero rows = sym (append-nil rows)
-repeat-last (suc n) rows = append_assoc rows (repeat n rows) rows ∙ ap (λ l. rows ++ l) (repeat-last n rows)
-
--- more rounds have more rows
-pub rows-up : (gc m n : ℕ) → m ≤ n → rows_of gc m ≤ rows_of gc n
-rows-up gc zero n fits = omega arith
-rows-up gc (suc m) zero fits = absurd (omega (arith, fits))
-rows-up gc (suc m) (suc n) fits = let up = rows-up gc m n (omega (arith, fits)) in omega (arith, up)
-
-module _ (j : JournalValue) (worker gc : ℕ) where
-  pub rounds-limits : (n : ℕ) → (noted_rounds j worker gc n).limits ≡ j.limits
-  rounds-limits zero = refl
-  rounds-limits (suc n) = times-limits (with_row (noted_rounds j worker gc n) (done_by 0 worker)) (collected_by worker)
-      gc ∙ rounds-limits n
-
-  pub rounds-length : (n : ℕ) → length (noted_rounds j worker gc n).rows ≡ length j.rows + rows_of gc n
-  rounds-length zero = omega arith
-  rounds-length (suc n) =
-      let before = rounds-length n in
-      let one = length-append (noted_rounds j worker gc n).rows (done_by 0 worker ∷ []) in
-      let more = times-length (with_row (noted_rounds j worker gc n) (done_by 0 worker)) (collected_by worker) gc in
-      omega (arith, before, one, more)
-
-  -- the rows of all, one after another
-  pub rounds-noted : (n : ℕ) → with_rows j (rows_of_rounds (done_by 0 worker) (collected_by worker) gc n)
-      ≡ noted_rounds j worker gc n
-  rounds-noted zero = ap (λ (rows : List Row). record j { rows = rows }) (append-nil j.rows)
-  rounds-noted (suc n) =
-      let swept = replicate gc (collected_by worker) in
-      let one = done_by 0 worker ∷ swept in
-      let before = repeat n one in
-      ap (λ (rows : List Row). with_rows j rows) (sym (repeat-last n one))
-      ∙ ap (λ (rows : List Row). record j { rows = rows }) (sym (append_assoc j.rows before one)
-      ∙ sym (append_assoc (j.rows ++ before) (done_by 0 worker ∷ []) swept))
-      ∙ times-are (with_row (with_rows j before) (done_by 0 worker)) (collected_by worker) gc
-      ∙ ap (λ (x : JournalValue). noted_times (with_row x (done_by 0 worker)) (collected_by worker) gc) (rounds-noted n)
-
-  -- how many there are
-  pub rows-long : (n : ℕ) → length (rows_of_rounds (done_by 0 worker) (collected_by worker) gc n) ≡ rows_of gc n
-  rows-long n =
-      let rows = rows_of_rounds (done_by 0 worker) (collected_by worker) gc n in
-      let both = length-append j.rows rows in
-      let long = ap (λ (x : JournalValue). length x.rows) (rounds-noted n) ∙ rounds-length n in
-      omega (arith, both, long)
+-- the state after rounds with these outcomes, and the journal with their rows
+pub record Leads (s : Loaded) (j : JournalValue) (k worker gc : ℕ) (outcomes : List Outcome) (after : Loaded)
+    : Type 0 where
+  pub is : IsOf after (noted_rounds j worker gc outcomes) (start_after k 0 (length outcomes))
+  pub on : LeadsOn (recorded s j) worker gc (length outcomes) (recorded after (noted_rounds j worker gc outcomes))
 
 -- one round
-module _ (x : Loaded) (jn : JournalValue) (kn : ℕ) (is : IsOf x jn kn) (worker gc : ℕ) (after : Loaded)
-    (round : IsFirstRound x kn 0 gc after) where
+module _ (x : Loaded) (jn : JournalValue) (kn : ℕ) (is : IsOf x jn kn) (worker gc : ℕ) (outcome : Outcome)
+    (after : Loaded) (round : IsFirstRound x kn 0 gc outcome after) where
   abbrev u : Recorded
   u = recorded x jn
 
   abbrev j_made : JournalValue
-  j_made = with_row jn (done_by 0 worker)
+  j_made = with_row jn (thread_row outcome worker)
 
   made_is : IsOf round.made j_made 1
-  made_is = first_noted x jn kn is worker 0 Done round.made round.turn
+  made_is = first_noted x jn kn is worker 0 outcome round.made round.turn
 
   made_picked : recorded round.made j_made ≡ picked u worker
-  made_picked = first_picked x jn kn is worker 0 Done round.made round.turn
+  made_picked = first_picked x jn kn is worker 0 outcome round.made round.turn
 
   made_faultless : round.made.machine.world.fault ≡ None
   made_faultless =
@@ -164,7 +117,7 @@ module _ (x : Loaded) (jn : JournalValue) (kn : ℕ) (is : IsOf x jn kn) (worker
 
   round_done : is_done (picked_answer u worker) ≡ true
   round_done =
-      ap is_done (sym (first_answer x jn kn is worker 0 Done round.made round.turn)
+      ap is_done (sym (first_answer x jn kn is worker 0 outcome round.made round.turn)
       ∙ sym (answer_is round.made j_made 1 made_is) ∙ ap reported_of made_faultless)
 
   round_running : status_of (picked u worker) ≡ Running
@@ -175,12 +128,12 @@ module _ (x : Loaded) (jn : JournalValue) (kn : ℕ) (is : IsOf x jn kn) (worker
       let room = round.room in
       let rows = made_is.rows_are in
       let steps : round.made.limits.steps ≡ jn.limits.steps = ap (λ (l : Limits). l.steps) made_is.limits_are in
-      let one = length-append jn.rows (done_by 0 worker ∷ []) in
+      let one = length-append jn.rows (thread_row outcome worker ∷ []) in
       omega (arith, room, rows, steps, one)
 
   round_swept : AreSwept round.made j_made 1 worker gc after
   round_swept =
-      let one = length-append jn.rows (done_by 0 worker ∷ []) in
+      let one = length-append jn.rows (thread_row outcome worker ∷ []) in
       are_swept round.made j_made 1 worker made_is gc after (omega (arith, round_room, one)) round.collects
 
   round_after : recorded after (noted_times j_made (collected_by worker) gc) ≡ after_round u worker gc
@@ -194,20 +147,20 @@ module _ (s : Loaded) (j : JournalValue) (k : ℕ) (is : IsOf s j k) (worker gc 
   abbrev v : Recorded
   v = recorded s j
 
-  one_more : (n : ℕ) (x after : Loaded) → Leads s j k worker gc n x → IsFirstRound x (start_after k 0 n) 0 gc after
-      → Leads s j k worker gc (suc n) after
-  one_more n x after leads round =
-      let jn = noted_rounds j worker gc n in
+  one_more : (outcome : Outcome) (outcomes : List Outcome) (x after : Loaded)
+      → Leads s j k worker gc outcomes x
+      → IsFirstRound x (start_after k 0 (length outcomes)) 0 gc outcome after
+      → Leads s j k worker gc (outcome ∷ outcomes) after
+  one_more outcome outcomes x after leads round =
+      let n = length outcomes in
+      let jn = noted_rounds j worker gc outcomes in
       let kn = start_after k 0 n in
       let u = recorded x jn in
-      let w = recorded after (noted_rounds j worker gc (suc n)) in
-      let same : w ≡ after_round u worker gc = round_after x jn kn leads.is worker gc after round in
-      let done = round_done x jn kn leads.is worker gc after round in
-      let fits = round_room x jn kn leads.is worker gc after round in
-      let long = rounds-length j worker gc n in
-      let limits = ap (λ (l : Limits). l.steps) (rounds-limits j worker gc n) in
+      let w = recorded after (noted_rounds j worker gc (outcome ∷ outcomes)) in
+      let same : w ≡ after_round u worker gc = round_after x jn kn leads.is worker gc outcome after round in
+      let done = round_done x jn kn leads.is worker gc outcome after round in
       record {
-        is = (round_swept x jn kn leads.is worker gc after round).is;
+        is = (round_swept x jn kn leads.is worker gc outcome after round).is;
         on = λ more.
             let next : suc n + more ≡ n + suc more = omega arith in (
               ap (after_rounds v worker gc) next ∙ (leads.on (suc more)).0 ∙ rounds-first u worker gc (suc more) more
@@ -217,47 +170,37 @@ module _ (s : Loaded) (j : JournalValue) (k : ℕ) (is : IsOf s j k) (worker gc 
                   refl true done
                   ∙ ap (λ (w : Recorded). rounds_answer w worker gc more) (sym same),
             );
-        room = λ some. omega (arith, fits, long, limits);
       }
 
-  pub leads : (n : ℕ) (after : Loaded) → FirstRounds s k 0 gc n after → Leads s j k worker gc n after
-  leads zero after rounds = record {
+  pub leads : (outcomes : List Outcome) (after : Loaded) → FirstRounds s k 0 gc outcomes after
+      → Leads s j k worker gc outcomes after
+  leads [] after rounds = record {
     is = subst (λ (x : Loaded). IsOf x j k) (sym rounds) is;
     on = subst (λ (x : Loaded). LeadsOn v worker gc 0 (recorded x j)) (sym rounds)
         (λ more. let none : 0 + more ≡ more = omega arith in (
           ap (after_rounds v worker gc) none,
           ap (rounds_answer v worker gc) none,
         ));
-    room = λ some. absurd (omega (arith, some));
   }
-  leads (suc n) after rounds = one_more n rounds.0 after (leads n rounds.0 rounds.1) rounds.2
+  leads (outcome ∷ outcomes) after rounds = one_more outcome outcomes rounds.0 after
+      (leads outcomes rounds.0 rounds.1) rounds.2
 
   -- whole rounds, and the thread's turn of one more, or not
-  pub record Enters (rounds : Rounds) (after : Loaded) : Type 0 where
-    pub joined : IsOf after (noted_if (noted_rounds j worker gc rounds.made) worker rounds.begun)
-        (start_after k 0 (rounds.made + (if rounds.begun then 1 else 0)))
-    pub into : LeadsInto v worker gc rounds
-        (recorded after (noted_if (noted_rounds j worker gc rounds.made) worker rounds.begun))
-    pub room : 0 < rows_in gc rounds → length j.rows + rows_in gc rounds ≤ j.limits.steps
+  record IsBegun (outcomes : List Outcome) (x : Loaded) (begun : Bool) (after : Loaded) : Type 0 where
+    joined : IsOf after (noted_if (noted_rounds j worker gc outcomes) worker begun)
+        (start_after k 0 (length outcomes + (if begun then 1 else 0)))
+    into : PickedIf (recorded x (noted_rounds j worker gc outcomes)) worker begun
+        (recorded after (noted_if (noted_rounds j worker gc outcomes) worker begun))
 
-  record IsBegun (n : ℕ) (x : Loaded) (begun : Bool) (after : Loaded) : Type 0 where
-    joined : IsOf after (noted_if (noted_rounds j worker gc n) worker begun)
-        (start_after k 0 (n + (if begun then 1 else 0)))
-    into : PickedIf (recorded x (noted_rounds j worker gc n)) worker begun
-        (recorded after (noted_if (noted_rounds j worker gc n) worker begun))
-    room : 0 < rows_of gc n + (if begun then 1 else 0)
-        → length j.rows + (rows_of gc n + (if begun then 1 else 0)) ≤ j.limits.steps
-
-  begun_as : (n : ℕ) (x : Loaded) → Leads s j k worker gc n x → (begun : Bool) (after : Loaded)
-      → FirstTurnIf x (start_after k 0 n) 0 begun after → IsBegun n x begun after
-  begun_as n x leads true after turn =
-      let jn = noted_rounds j worker gc n in
+  begun_as : (outcomes : List Outcome) (x : Loaded) → Leads s j k worker gc outcomes x → (begun : Bool)
+      (after : Loaded) → FirstTurnIf x (start_after k 0 (length outcomes)) 0 begun after
+      → IsBegun outcomes x begun after
+  begun_as outcomes x leads true after turn =
+      let n = length outcomes in
+      let jn = noted_rounds j worker gc outcomes in
       let kn = start_after k 0 n in
       let still : IsOf after (with_row jn (done_by 0 worker)) 1 = first_noted x jn kn leads.is worker 0 Done after
       turn.0 in
-      let fits = first_fits x jn kn leads.is worker 0 Done after turn.0 in
-      let long = rounds-length j worker gc n in
-      let limits = ap (λ (l : Limits). l.steps) (rounds-limits j worker gc n) in
       let next : suc n ≡ n + 1 = omega arith in
       record {
         joined = subst (λ (m : ℕ). IsOf after (with_row jn (done_by 0 worker)) (start_after k 0 m)) next still;
@@ -266,28 +209,49 @@ module _ (s : Loaded) (j : JournalValue) (k : ℕ) (is : IsOf s j k) (worker gc 
           ap is_done (sym (first_answer x jn kn leads.is worker 0 Done after turn.0)
               ∙ sym (answer_is after (with_row jn (done_by 0 worker)) 1 still) ∙ ap reported_of turn.1),
         );
-        room = λ some. omega (arith, fits, long, limits);
       }
-  begun_as n x leads false after turn =
-      let jn = noted_rounds j worker gc n in
+  begun_as outcomes x leads false after turn =
+      let n = length outcomes in
+      let jn = noted_rounds j worker gc outcomes in
       let none : n ≡ n + 0 = omega arith in
       record {
         joined = subst (λ (m : ℕ). IsOf after jn (start_after k 0 m)) none
             (subst (λ (y : Loaded). IsOf y jn (start_after k 0 n)) (sym turn) leads.is);
         into = ap (λ (y : Loaded). recorded y jn) turn;
-        room = λ some. let room = leads.room (omega (arith, some)) in omega (arith, room);
       }
 
-  pub enters : (rounds : Rounds) (after : Loaded) → LedByRounds s k gc rounds after → Enters rounds after
-  enters rounds after led =
-      let n = rounds.made in
-      let x = led.0 in
-      let on = leads n x led.1 in
-      let last = begun_as n x on rounds.begun after led.2 in
+  -- the world and the journal after them
+  pub record Enters (rounds : Rounds) (after : Loaded) (noted : JournalValue) : Type 0 where
+    pub joined : IsOf after noted (start_after k 0 (rounds.made + (if rounds.begun then 1 else 0)))
+    pub into : LeadsInto v worker gc rounds (recorded after noted)
+    pub workers : noted.workers ≡ j.workers
+
+  if-workers : (x : JournalValue) (begun : Bool) → (noted_if x worker begun).workers ≡ x.workers
+  if-workers x true = refl
+  if-workers x false = refl
+
+  pub enters : (rounds : Rounds) (after : Loaded) (noted : JournalValue)
+      → LeadsThrough s k worker gc j rounds after noted → Enters rounds after noted
+  enters rounds after noted through =
+      let outcomes = through.outcomes in
+      let x = through.led.0 in
+      let on = leads outcomes x through.led.1 in
+      let last = begun_as outcomes x on rounds.begun after through.led.2 in
+      let jn = noted_rounds j worker gc outcomes in
+      let next = start_after k 0 (rounds.made + (if rounds.begun then 1 else 0)) in
       record {
-        joined = last.joined;
-        into = (recorded x (noted_rounds j worker gc n), on.on, last.into);
-        room = last.room;
+        joined =
+            subst (λ (y : JournalValue). IsOf after y next) (sym through.noted)
+            (subst (λ (n : ℕ). IsOf after (noted_if jn worker rounds.begun)
+            (start_after k 0 (n + (if rounds.begun then 1 else 0)))) through.count last.joined);
+        into = (
+          recorded x jn,
+          subst (λ (n : ℕ). LeadsOn v worker gc n (recorded x jn)) through.count on.on,
+          subst (λ (y : JournalValue). PickedIf (recorded x jn) worker rounds.begun (recorded after y))
+              (sym through.noted) last.into,
+        );
+        workers = ap (λ (y : JournalValue). y.workers) through.noted ∙ if-workers jn rounds.begun
+            ∙ rounds-workers j worker gc outcomes;
       }
 
 -- ---- what is left of rounds
@@ -332,19 +296,3 @@ module _ (v w : Recorded) (worker gc : ℕ) (rounds : Rounds) (left : ℕ) (into
         answer-left v into.0 worker gc rounds.made left into.1 fits
         ∙ answer-first into.0 worker gc (left - rounds.made) m next true turn.1
         ∙ ap (λ (x : Recorded). rounds_answer x worker gc m) round
-
--- ---- the number of workers stays
-
-workers-times : (j : JournalValue) (row : Row) (n : ℕ) → (noted_times j row n).workers ≡ j.workers
-workers-times j row zero = refl
-workers-times j row (suc n) = workers-times j row n
-
-pub workers-rounds : (j : JournalValue) (worker gc n : ℕ) → (noted_rounds j worker gc n).workers ≡ j.workers
-workers-rounds j worker gc zero = refl
-workers-rounds j worker gc (suc n) = workers-times (with_row (noted_rounds j worker gc n) (done_by 0 worker))
-    (collected_by worker) gc ∙ workers-rounds j worker gc n
-
-pub workers-noted : (j : JournalValue) (worker gc n : ℕ) (begun : Bool)
-    → (noted_if (noted_rounds j worker gc n) worker begun).workers ≡ j.workers
-workers-noted j worker gc n true = workers-rounds j worker gc n
-workers-noted j worker gc n false = workers-rounds j worker gc n

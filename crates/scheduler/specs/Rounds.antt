@@ -5,7 +5,6 @@ use Rattle.model.specs.declared.journals.Row.{Row}
 use Rattle.model.specs.declared.turns.Actor.TheVariants.{Thread, Collector}
 use Rattle.model.specs.declared.turns.Turn.{Turn}
 use Rattle.model.specs.declared.turns.Turn.TheVariants.{Done, NotReady, Stopped, Fault, OutputFull, StepLimit}
-use Rattle.model.specs.Journals.{JournalValue, with_row}
 use Rattle.model.specs.Machines.{Recorded, after_turn_by, answer_to}
 use Rattle.model.specs.Observers.{is_running, pick_of, status_of}
 use Rattle.instructions.specs.declared.lone_rounds.Rounds.{Rounds}
@@ -72,32 +71,12 @@ rounds_answer v worker gc (suc n) =
 abbrev pub done_by : ℕ → ℕ → Row
 done_by thread worker = record { actor = Thread thread; outcome = DoneOutcome; worker = worker }
 
--- with a row so many times
-abbrev pub noted_times : JournalValue → Row → ℕ → JournalValue
-noted_times journal row zero = journal
-noted_times journal row (suc n) = with_row (noted_times journal row n) row
-
 -- so many rounds by a worker lead from one world to another, and each thread's turn is done: with any rounds more, both
 -- lead to the same world and answer the same
 abbrev pub LeadsOn : Recorded → ℕ → ℕ → ℕ → Recorded → Type 0
 LeadsOn v worker gc n w =
     (more : ℕ) → (after_rounds v worker gc (n + more) ≡ after_rounds w worker gc more)
     × (rounds_answer v worker gc (n + more) ≡ rounds_answer w worker gc more)
-
--- the row of a turn of the collector
-abbrev pub collected_by : ℕ → Row
-collected_by worker = record { actor = Collector; outcome = DoneOutcome; worker = worker }
-
--- with the rows of so many rounds of thread 0
-abbrev pub noted_rounds : JournalValue → ℕ → ℕ → ℕ → JournalValue
-noted_rounds journal worker gc zero = journal
-noted_rounds journal worker gc (suc n) =
-    noted_times (with_row (noted_rounds journal worker gc n) (done_by 0 worker)) (collected_by worker) gc
-
--- and with that of a turn of thread 0, or not
-abbrev pub noted_if : JournalValue → ℕ → Bool → JournalValue
-noted_if journal worker true = with_row journal (done_by 0 worker)
-noted_if journal worker false = journal
 
 -- the turn of the thread that is picked is made and done, or nothing is
 abbrev pub PickedIf : Recorded → ℕ → Bool → Recorded → Type 0

@@ -1,45 +1,34 @@
-use Rattle.std.proofs.Common.{◌+◌, ℕ, ◌∙◌, ap, sym, subst}
-use Rattle.std.specs.Prelude.{if◌then◌else◌}
-use Rattle.model.specs.Journals.{JournalValue}
-use Rattle.instructions.specs.PlainRuns.{start_after}
-use Rattle.scheduler.specs.Rounds.{LeadsInto}
-use Rattle.scheduler.specs.Worlds.{IsOf, recorded}
-use Rattle.scheduler.proofs.RoundsWithSweeps.{enters, workers-noted}
+use Rattle.std.proofs.Common.{ℕ, subst, sym}
+use Rattle.scheduler.specs.Worlds.{IsOf}
+use Rattle.scheduler.proofs.RoundsWithSweeps.{enters}
 use Rattle.scheduler.proofs.worlds.World.rounds_and_sweeps_plainly.Goals as goal
 
-pub note_rounds-requires-clause-room : goal.note_rounds-requires-clause-room
-note_rounds-requires-clause-room c = λ some.
-    let a = c.self.inside in
-    let rounds = c.rounds_plainly-rounds.result in
-    (enters a.state a.journal a.next c.self.invariant c.args.worker c.args.gc rounds c.rounds_plainly-rounds.new.self
-    c.rounds_plainly-rounds.ensures.made).room some
+pub rounds_plainly-rounds-requires-clause-rows : goal.rounds_plainly-rounds-requires-clause-rows
+rounds_plainly-rounds-requires-clause-rows c = sym c.self.invariant.rows_are
+
+pub rounds_plainly-rounds-requires-clause-limits : goal.rounds_plainly-rounds-requires-clause-limits
+rounds_plainly-rounds-requires-clause-limits c = sym c.self.invariant.limits_are
 
 pub invariant_of-self : goal.invariant_of-self
 invariant_of-self c =
     let a = c.self.inside in
-    let rounds = c.rounds_plainly-rounds.result in
-    let after = c.rounds_plainly-rounds.new.self in
-    let on = enters a.state a.journal a.next c.self.invariant c.args.worker c.args.gc rounds after
-    c.rounds_plainly-rounds.ensures.made in
-    subst (λ (i : ℕ). IsOf after c.note_rounds.new.journal i) (sym c.start_after_rounds-self-inside.ensures)
-    (subst (λ (j : JournalValue). IsOf after j (start_after a.next 0 (rounds.made + (if rounds.begun then 1 else 0))))
-    (sym c.note_rounds.ensures) on.joined)
+    let ran = c.rounds_plainly-rounds in
+    let on = enters a.state a.journal a.next c.self.invariant c.args.worker c.args.gc ran.result ran.new.self
+    ran.new.journal ran.ensures.made in
+    subst (λ (i : ℕ). IsOf ran.new.self ran.new.journal i) (sym c.start_after_rounds-self-inside.ensures) on.joined
 
 pub returns-clause-rounds : goal.returns-clause-rounds
 returns-clause-rounds c =
     let a = c.self.inside in
-    let rounds = c.rounds_plainly-rounds.result in
-    let after = c.rounds_plainly-rounds.new.self in
-    let on = enters a.state a.journal a.next c.self.invariant c.args.worker c.args.gc rounds after
-    c.rounds_plainly-rounds.ensures.made in
+    let ran = c.rounds_plainly-rounds in
     rw (← c.self.view_is)
-    (subst (λ (j : JournalValue). LeadsInto (recorded a.state a.journal) c.args.worker c.args.gc rounds
-    (recorded after j)) (sym c.note_rounds.ensures) on.into)
+    (enters a.state a.journal a.next c.self.invariant c.args.worker c.args.gc ran.result ran.new.self ran.new.journal
+    ran.ensures.made).into
 
 pub returns-clause-workers : goal.returns-clause-workers
 returns-clause-workers c =
     let a = c.self.inside in
-    let rounds = c.rounds_plainly-rounds.result in
+    let ran = c.rounds_plainly-rounds in
     rw (← c.self.view_is)
-    (ap (λ (j : JournalValue). j.workers) c.note_rounds.ensures ∙ workers-noted a.journal c.args.worker c.args.gc
-    rounds.made rounds.begun)
+    (enters a.state a.journal a.next c.self.invariant c.args.worker c.args.gc ran.result ran.new.self ran.new.journal
+    ran.ensures.made).workers
