@@ -150,6 +150,15 @@ fn copy_of_kinds(
     ensures same { take base units.new ≡ take base units.old }
 {
     let mut end = copy_arguments(units, from, below, base);
+    // one argument is what most methods have
+    if let [kind] = kinds {
+        let slot = units.at(from + below);
+        return if is_of(*kind, slot) {
+            Some(put_held(units, end, slot))
+        } else {
+            None
+        };
+    }
     for place in 0..kinds.len() {
         let slot = units.at(from + (below + place));
         if !is_of(kinds[place], slot) {
