@@ -5,14 +5,12 @@ ghost use Rattle.model.specs.declared.values.Entry.TheVariants.{Unset};
 ghost use Rattle.values.specs.Slots.{value_in as value_held};
 ghost use Rattle.values.specs.Slots.{entry_of, value_of};
 ghost use Rattle.values.specs.declared.slots.Slot.TheVariants.{Unset as UnsetSlot};
-ghost use Rattle.register_code.specs.Fusing.{AreFused};
 ghost use Rattle.register_code.specs.Within.{AreWithin};
 ghost use Rattle.frames.specs.Windows.{RunsWithin};
 
 use model::values::{Entry, Value};
 use register_code::Memory;
-use register_code::fused_steps::FusedStep;
-use register_code::steps::RegisterStep;
+use register_code::steps::Lends;
 use std::alloc::{AllocError, Global};
 use std::marker::Model;
 use std::mem::replace;
@@ -101,35 +99,32 @@ impl Units {
         unset(&mut self.slots, base, count);
     }
 
-    /// Carries out register code from a place on, so many steps at most, on so many units, from this one on, and on
-    /// memory. Answers the place that is reached, which is one of the code, and how many steps are left.
+    /// Carries out register code that is lent from a place on, so many steps at most, on so many units, from this one
+    /// on, and on memory. Answers the place that is reached, which is one of the code, and how many steps are left.
     #[inline(always)]
-    pub fn run<C, M: Memory<C>>(
+    pub fn run<C, M: Memory<C>, K: Lends>(
         &mut self,
         memory: &mut M,
         context: &C,
         base: usize,
         span: usize,
-        code: &[RegisterStep],
-        fused: &[FusedStep],
+        lender: &K,
         place: usize,
         most: u32,
     ) -> (usize, u32)
         requires there { base + span ≤ length self.old }
-        requires start { place < length code.now }
-        requires within { AreWithin span code.now }
-        requires fused { AreFused code.now fused.now }
-        ensures ran { RunsWithin (M.acts context.now) base span code.now place (most - result.1) result.0 self.old
-            memory.old self.new memory.new }
-        ensures inside { result.0 < length code.now }
+        requires start { place < length (K.steps lender.now) }
+        requires within { AreWithin span (K.steps lender.now) }
+        ensures ran { RunsWithin (M.acts context.now) base span (K.steps lender.now) place (most - result.1) result.0
+            self.old memory.old self.new memory.new }
+        ensures inside { result.0 < length (K.steps lender.now) }
         ensures left { result.1 ≤ most }
     {
         register_code::run(
             &mut self.slots[base..base + span],
             memory,
             context,
-            code,
-            fused,
+            lender,
             place,
             most,
         )
