@@ -8,6 +8,7 @@ use Rattle.model.specs.declared.journals.Outcome.TheVariants.{Done}
 use Rattle.model.specs.declared.journals.Row.{Row}
 use Rattle.model.specs.declared.turns.Actor.{Actor}
 use Rattle.model.specs.declared.turns.Actor.TheVariants.{Thread}
+use Rattle.model.specs.declared.turns.Turn.TheVariants.{Done as TurnDone}
 use Rattle.model.specs.Journals.{JournalValue, with_row, with_rows}
 use Rattle.model.specs.Machines.{Recorded, after_turn_by, row_for, reported_of, with_row as recorded_with}
 use Rattle.model.specs.Observers.{is_running, pick_of, status_of}
@@ -79,6 +80,26 @@ workers-after v actor worker = workers-added v (row_for v actor worker)
 
 pub workers-picked : (v : Recorded) (worker : ℕ) → (picked v worker).journal.workers ≡ v.journal.workers
 workers-picked v worker = workers-turned v worker (pick_of v)
+
+-- ---- one round more
+
+-- of no rounds, the world is the same
+pub leads-none : (v : Recorded) (worker gc : ℕ) → LeadsOn v worker gc 0 v
+leads-none v worker gc = λ more. let none : 0 + more ≡ more = omega arith in (
+  ap (after_rounds v worker gc) none,
+  ap (rounds_answer v worker gc) none,
+)
+
+pub leads-more : (v u w : Recorded) (worker n : ℕ) → LeadsOn v worker 0 n u → w ≡ picked u worker
+    → picked_answer u worker ≡ TurnDone → LeadsOn v worker 0 (n + 1) w
+leads-more v u w worker n on same answer = λ more.
+    let next : n + 1 + more ≡ n + suc more = omega arith in
+    let done : is_done (picked_answer u worker) ≡ true = ap is_done answer in (
+      ap (after_rounds v worker 0) next ∙ (on (suc more)).0 ∙ world-first u worker (suc more) more refl true done
+          ∙ ap (λ (x : Recorded). after_rounds x worker 0 more) (sym same),
+      ap (rounds_answer v worker 0) next ∙ (on (suc more)).1 ∙ answer-first u worker (suc more) more refl true done
+          ∙ ap (λ (x : Recorded). rounds_answer x worker 0 more) (sym same),
+    )
 
 -- ---- a journal with a row so many times
 
