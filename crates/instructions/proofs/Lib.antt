@@ -88,6 +88,7 @@ pub mod StartAgreement
 pub mod StaticsShown
 pub mod StartingLemmas
 pub mod StoredLemmas
+pub mod SwitchLemmas
 pub mod ThreadLemmas
 pub mod ThrowAgreement
 pub mod Throwables

@@ -1,5 +1,8 @@
-use Rattle.std.specs.Prelude.{◌≡◌, ℕ, slice_get, Some}
+-- Which thread the machine runs, and turns of the others.
+use Rattle.std.specs.Prelude.{◌≡◌, ℕ, List, slice_get, Some}
+use Rattle.model.specs.ClassListings.{ClassListing}
 use Rattle.instructions.specs.declared.machines.Machine.{Machine}
+use Rattle.instructions.specs.PlainRuns.{IsPlainTurn}
 use Rattle.instructions.specs.Threads.{ThreadsValue, all_frames}
 
 -- The machine runs another thread: its frames come to it, those that it had are parked, and no other part is another.
@@ -13,3 +16,14 @@ pub record IsSwitched (old : ThreadsValue) (machine : Machine) (t : ℕ) (new : 
     pub states : after.states ≡ machine.states
     pub heap : after.heap ≡ machine.heap
     pub output : after.output ≡ machine.output
+
+-- The turn of a thread is made: it goes on, and asked for no cell. The machine runs the thread that it ran, as though it
+-- were given the other for that turn alone.
+pub record TurnsApart (program : List ClassListing) (old : ThreadsValue) (machine : Machine) (t : ℕ)
+    (new : ThreadsValue) (after : Machine) : Type 0 where
+  pub others : ThreadsValue
+  pub given : Machine
+  pub made : Machine
+  pub there : IsSwitched old machine t others given
+  pub turn : IsPlainTurn program given made
+  pub back : IsSwitched others made machine.thread new after

@@ -7,6 +7,7 @@ use Rattle.model.specs.declared.journals.Outcome.TheVariants.{Done}
 use Rattle.model.specs.declared.journals.Row.{Row}
 use Rattle.model.specs.declared.turns.Actor.{Actor}
 use Rattle.model.specs.declared.turns.Actor.TheVariants.{Thread}
+use Rattle.model.specs.declared.turns.Turn.TheVariants.{Done as TurnDone}
 use Rattle.model.specs.Journals.{JournalValue, with_row}
 use Rattle.model.specs.Machines.{Recorded, after_turn_by, row_for, reported_of, with_row as recorded_with}
 use Rattle.model.specs.Observers.{is_running, pick_of, status_of}
@@ -81,6 +82,26 @@ workers-after v actor worker = workers-added v (row_for v actor worker)
 pub workers-picked : (v : Recorded) (worker : ℕ) → (picked v worker).journal.workers ≡ v.journal.workers
 workers-picked v worker = workers-turned v worker (pick_of v)
 
+-- ---- rounds that were made
+
+leads-none : (v : Recorded) (worker : ℕ) → LeadsOn v worker 0 0 v
+leads-none v worker = λ more. let none : 0 + more ≡ more = omega arith in (
+  ap (after_rounds v worker 0) none,
+  ap (rounds_answer v worker 0) none,
+)
+
+-- and one round more
+pub leads-more : (v u w : Recorded) (worker n : ℕ) → LeadsOn v worker 0 n u → w ≡ picked u worker
+    → picked_answer u worker ≡ TurnDone → LeadsOn v worker 0 (suc n) w
+leads-more v u w worker n on same answer = λ more.
+    let next : suc n + more ≡ n + suc more = omega arith in
+    let done : is_done (picked_answer u worker) ≡ true = ap is_done answer in (
+      ap (after_rounds v worker 0) next ∙ (on (suc more)).0 ∙ world-first u worker (suc more) more refl true done
+          ∙ ap (λ (x : Recorded). after_rounds x worker 0 more) (sym same),
+      ap (rounds_answer v worker 0) next ∙ (on (suc more)).1 ∙ answer-first u worker (suc more) more refl true done
+          ∙ ap (λ (x : Recorded). rounds_answer x worker 0 more) (sym same),
+    )
+
 -- ---- turns of the first thread are rounds
 
 -- the state after so many turns of a thread, and the journal with their rows
@@ -107,34 +128,22 @@ module _ (s : Loaded) (j : JournalValue) (k worker thread : ℕ) (is : IsOf s j 
       in
       let same : recorded after (with_row jn row) ≡ picked u worker = first_picked x jn kn leads.is worker thread Done
       after made in
-      let done : is_done (picked_answer u worker) ≡ true =
-      ap is_done (sym (first_answer x jn kn leads.is worker thread Done after made)
-      ∙ sym (answer_is after (with_row jn row) (thread + 1) still) ∙ ap reported_of faultless) in
+      let answer : picked_answer u worker ≡ TurnDone =
+      sym (first_answer x jn kn leads.is worker thread Done after made)
+      ∙ sym (answer_is after (with_row jn row) (thread + 1) still) ∙ ap reported_of faultless in
       let fits = first_fits x jn kn leads.is worker thread Done after made in
       let long = times-length j row n in
       let limits = ap (λ (l : Limits). l.steps) (times-limits j row n) in
       record {
         is = still;
-        on = λ more.
-            let next : suc n + more ≡ n + suc more = omega arith in (
-              ap (after_rounds v worker 0) next ∙ (leads.on (suc more)).0 ∙ world-first u worker (suc more) more refl
-                  true done
-                  ∙ ap (λ (w : Recorded). after_rounds w worker 0 more) (sym same),
-              ap (rounds_answer v worker 0) next ∙ (leads.on (suc more)).1 ∙ answer-first u worker (suc more) more refl
-                  true done
-                  ∙ ap (λ (w : Recorded). rounds_answer w worker 0 more) (sym same),
-            );
+        on = leads-more v u (recorded after (with_row jn row)) worker n leads.on same answer;
         room = λ some. omega (arith, fits, long, limits);
       }
 
   pub leads : (n : ℕ) (after : Loaded) → FirstTurns s k thread n after → Leads s j k worker thread n after
   leads zero after turns = record {
     is = subst (λ (x : Loaded). IsOf x j k) (sym turns) is;
-    on = subst (λ (x : Loaded). LeadsOn v worker 0 0 (recorded x j)) (sym turns)
-        (λ more. let none : 0 + more ≡ more = omega arith in (
-          ap (after_rounds v worker 0) none,
-          ap (rounds_answer v worker 0) none,
-        ));
+    on = subst (λ (x : Loaded). LeadsOn v worker 0 0 (recorded x j)) (sym turns) (leads-none v worker);
     room = λ some. absurd (omega (arith, some));
   }
   leads (suc n) after turns = one_more n turns.0 after (leads n turns.0 turns.1) turns.2 turns.3

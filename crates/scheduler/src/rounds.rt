@@ -51,9 +51,10 @@ impl World {
         ensures world { self.new ≡ picked self.old worker }
         ensures answer { result ≡ picked_answer self.old worker }
     {
-        match self.turn_plainly(worker) {
-            Some(answer) => answer,
-            None => self.turn_by_look(worker),
+        if self.turn_plainly(worker) {
+            Turn::Done
+        } else {
+            self.turn_by_look(worker)
         }
     }
 
@@ -121,7 +122,7 @@ impl World {
             if left == 0 {
                 return Turn::Done;
             }
-            let answer = self.turn_after(worker, made);
+            let answer = self.turn_by_look(worker);
             if !is_done(answer) {
                 return answer;
             }

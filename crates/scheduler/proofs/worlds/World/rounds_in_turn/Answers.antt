@@ -1,0 +1,18 @@
+use Rattle.std.proofs.Common.{◌≡◌, ◌∙◌, ◌+◌, ap, arith, subst, suc}
+use Rattle.model.specs.Machines.{Recorded}
+use Rattle.scheduler.specs.Rounds.{LeadsOn}
+use Rattle.scheduler.proofs.Bursts.{leads-more, workers-picked}
+use Rattle.scheduler.proofs.worlds.World.rounds_in_turn.Goals as goal
+
+pub loop-made-preserved : goal.loop-made-preserved
+loop-made-preserved c =
+    let at = c.loop-made in
+    let w = c.args.worker in
+    let made = c.turn_plainly.ensures.made c.if-not-turn_plainly.false in
+    let more : suc at.made ≡ at.made + 1 = omega arith in
+    record {
+      workers = ap (λ (v : Recorded). v.journal.workers) made ∙ workers-picked at.self w ∙ at.invariant.workers;
+      rounds = subst (λ n. LeadsOn c.args.self.now w 0 n c.turn_plainly.new.self) more
+          (leads-more c.args.self.now at.self c.turn_plainly.new.self w at.made at.invariant.rounds made
+          (c.turn_plainly.ensures.done c.if-not-turn_plainly.false));
+    }
