@@ -17,8 +17,8 @@ pub record IsSwitched (old : ThreadsValue) (machine : Machine) (t : ℕ) (new : 
     pub heap : after.heap ≡ machine.heap
     pub output : after.output ≡ machine.output
 
--- The turn of a thread is made: it goes on, and asked for no cell. The machine runs the thread that it ran, as though it
--- were given the other for that turn alone.
+-- The turn of a thread is made: it goes on, and asked for no cell. The machine runs the thread that it ran, as though
+-- it were given the other for that turn alone.
 pub record TurnsApart (program : List ClassListing) (old : ThreadsValue) (machine : Machine) (t : ℕ)
     (new : ThreadsValue) (after : Machine) : Type 0 where
   pub others : ThreadsValue

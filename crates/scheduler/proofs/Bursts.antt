@@ -7,7 +7,9 @@ use Rattle.model.specs.declared.journals.Outcome.TheVariants.{Done}
 use Rattle.model.specs.declared.journals.Row.{Row}
 use Rattle.model.specs.declared.turns.Actor.{Actor}
 use Rattle.model.specs.declared.turns.Actor.TheVariants.{Thread}
-use Rattle.model.specs.declared.turns.Turn.TheVariants.{Done as TurnDone}
+use Rattle.model.specs.declared.turns.Turn.{Turn}
+use Rattle.model.specs.declared.turns.Turn.TheVariants.{Done as TurnDone, Fault, NotReady, OutputFull, StepLimit}
+use Rattle.model.specs.declared.turns.Turn.TheVariants.{Stopped}
 use Rattle.model.specs.Journals.{JournalValue, with_row}
 use Rattle.model.specs.Machines.{Recorded, after_turn_by, row_for, reported_of, with_row as recorded_with}
 use Rattle.model.specs.Observers.{is_running, pick_of, status_of}
@@ -51,6 +53,15 @@ module _ (v : Recorded) (worker n m : ℕ) (left : n ≡ suc m) (done : Bool) (i
         ∙ ap (λ (x : Recorded). if is_done (picked_answer v worker) then rounds_answer x worker 0 m
         else picked_answer v worker) (round-picked v worker)
         ∙ ap (λ b. if b then rounds_answer (picked v worker) worker 0 m else picked_answer v worker) is
+
+-- an answer that is done
+done-is : (t : Turn) → is_done t ≡ true → t ≡ TurnDone
+done-is TurnDone e = refl
+done-is NotReady e = absurd (cc)
+done-is Stopped e = absurd (cc)
+done-is (Fault f) e = absurd (cc)
+done-is OutputFull e = absurd (cc)
+done-is StepLimit e = absurd (cc)
 
 -- rounds that lead on leave the others
 module _ (v w : Recorded) (worker gc n left : ℕ) (on : LeadsOn v worker gc n w) (fits : n ≤ left) where
@@ -101,6 +112,43 @@ leads-more v u w worker n on same answer = λ more.
       ap (rounds_answer v worker 0) next ∙ (on (suc more)).1 ∙ answer-first u worker (suc more) more refl true done
           ∙ ap (λ (x : Recorded). rounds_answer x worker 0 more) (sym same),
     )
+
+-- ---- one round
+
+module _ (v : Recorded) (worker : ℕ) where
+  pub one-world : after_rounds v worker 0 1 ≡ picked v worker
+  one-world = by (is_done (picked_answer v worker)) refl
+    where
+      by : (d : Bool) → is_done (picked_answer v worker) ≡ d → after_rounds v worker 0 1 ≡ picked v worker
+      by true e = world-first v worker 1 0 refl true e
+      by false e = world-first v worker 1 0 refl false e
+
+  pub one-answer : rounds_answer v worker 0 1 ≡ picked_answer v worker
+  one-answer = by (is_done (picked_answer v worker)) refl
+    where
+      by : (d : Bool) → is_done (picked_answer v worker) ≡ d → rounds_answer v worker 0 1 ≡ picked_answer v worker
+      by true e = answer-first v worker 1 0 refl true e ∙ sym (done-is (picked_answer v worker) e)
+      by false e = answer-first v worker 1 0 refl false e
+
+-- where one was made, or none, that tells what one more would be
+module _ (v w : Recorded) (worker n : ℕ) (on : LeadsOn v worker 0 n w) where
+  pub made-world : n ≡ 1 → w ≡ picked v worker
+  made-world one =
+      sym (on 0).0 ∙ ap (λ (k : ℕ). after_rounds v worker 0 (k + 0)) one ∙ one-world v worker
+
+  pub made-answer : n ≡ 1 → TurnDone ≡ picked_answer v worker
+  made-answer one =
+      sym (on 0).1 ∙ ap (λ (k : ℕ). rounds_answer v worker 0 (k + 0)) one ∙ one-answer v worker
+
+  pub still-world : n ≡ 0 → picked w worker ≡ picked v worker
+  still-world none =
+      sym (one-world w worker) ∙ sym (on 1).0 ∙ ap (λ (k : ℕ). after_rounds v worker 0 (k + 1)) none
+      ∙ one-world v worker
+
+  pub still-answer : n ≡ 0 → picked_answer w worker ≡ picked_answer v worker
+  still-answer none =
+      sym (one-answer w worker) ∙ sym (on 1).1 ∙ ap (λ (k : ℕ). rounds_answer v worker 0 (k + 1)) none
+      ∙ one-answer v worker
 
 -- ---- turns of the first thread are rounds
 

@@ -51,7 +51,7 @@ impl World {
         ensures world { self.new ≡ picked self.old worker }
         ensures answer { result ≡ picked_answer self.old worker }
     {
-        if self.turn_plainly(worker) {
+        if self.rounds_in_turn(worker, 1) > 0 {
             Turn::Done
         } else {
             self.turn_by_look(worker)
