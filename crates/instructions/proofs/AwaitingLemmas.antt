@@ -23,12 +23,12 @@ use Rattle.model.specs.Objects.{object_at}
 use Rattle.model.specs.Table.Invokes.{fault_in_pops}
 use Rattle.model.specs.Table.Threads.{has_live_thread, joined, thread_if}
 use Rattle.model.specs.Worlds.{Monitor, Object}
-use Rattle.loader.specs.declared.method_tables.Body.{Body}
-use Rattle.loader.specs.declared.method_tables.Body.TheVariants.{NoCode, Own, Coded}
-use Rattle.loader.specs.declared.operations.Operation.{Operation}
-use Rattle.loader.specs.declared.operations.Operation.TheVariants as operation
-use Rattle.loader.specs.MethodFacts.{MethodFacts}
-use Rattle.loader.specs.Selectors.{Signature, selectors}
+use Rattle.linking.specs.declared.method_tables.Body.{Body}
+use Rattle.linking.specs.declared.method_tables.Body.TheVariants.{NoCode, Own, Coded}
+use Rattle.linking.specs.declared.operations.Operation.{Operation}
+use Rattle.linking.specs.declared.operations.Operation.TheVariants as operation
+use Rattle.linking.specs.MethodFacts.{MethodFacts}
+use Rattle.linking.specs.Selectors.{Signature, selectors}
 use Rattle.instructions.specs.declared.awaiting.Awaited.{Awaited}
 use Rattle.instructions.specs.declared.awaiting.Awaited.TheVariants.{Entry}
 use Rattle.instructions.specs.declared.kinds.Course.{Course}

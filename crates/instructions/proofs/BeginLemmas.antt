@@ -11,11 +11,11 @@ use Rattle.model.specs.Classes.Search.{Declared}
 use Rattle.model.specs.Classes.Selection.{selected}
 use Rattle.model.specs.declared.listings.Method.{Method}
 use Rattle.model.specs.declared.places.MethodPlace.{MethodPlace}
-use Rattle.loader.specs.declared.method_tables.Body.{Body}
-use Rattle.loader.specs.declared.method_tables.Body.TheVariants.{NoCode, Own, Coded}
-use Rattle.loader.specs.MethodFacts.{MethodFacts}
-use Rattle.loader.specs.MethodTables.{method_facts}
-use Rattle.loader.specs.Selections.{is_pair, is_virtual_of}
+use Rattle.linking.specs.declared.method_tables.Body.{Body}
+use Rattle.linking.specs.declared.method_tables.Body.TheVariants.{NoCode, Own, Coded}
+use Rattle.linking.specs.MethodFacts.{MethodFacts}
+use Rattle.linking.specs.MethodTables.{method_facts}
+use Rattle.linking.specs.Selections.{is_pair, is_virtual_of}
 use Rattle.instructions.specs.declared.acting.Begun.{Begun}
 use Rattle.instructions.specs.declared.acting.Begun.TheVariants.{Ended as BegunEnded, Runs}
 use Rattle.instructions.specs.declared.kinds.Course.{Course}

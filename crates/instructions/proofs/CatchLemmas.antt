@@ -26,12 +26,12 @@ use Rattle.model.specs.Programs.{method_at, method_in}
 use Rattle.model.specs.Unwinding.{fits, handler_in, handler_of, responds, response_of, takes}
 use Rattle.frames.specs.Heads.{head_of}
 use Rattle.resolve.specs.Numbers.{all_classes, class_names}
-use Rattle.loader.specs.declared.method_tables.Row.{Row}
-use Rattle.loader.specs.ClassTables.{class_facts, class_tables, is_below, is_subtype_in}
-use Rattle.loader.specs.MethodFacts.{MethodFacts}
-use Rattle.loader.specs.MethodTables.{catch_of, row_of, rows_of}
-use Rattle.loader.proofs.ClassTableLemmas.{name-at, subtype-names}
-use Rattle.loader.proofs.RunLemmas.{all_rows_fit}
+use Rattle.linking.specs.declared.method_tables.Row.{Row}
+use Rattle.linking.specs.ClassTables.{class_facts, class_tables, is_below, is_subtype_in}
+use Rattle.linking.specs.MethodFacts.{MethodFacts}
+use Rattle.linking.specs.MethodTables.{catch_of, row_of, rows_of}
+use Rattle.linking.proofs.ClassTableLemmas.{name-at, subtype-names}
+use Rattle.linking.proofs.RunLemmas.{all_rows_fit}
 use Rattle.instructions.specs.declared.kinds.Kind.{Kind}
 use Rattle.instructions.specs.declared.kinds.Kind.TheVariants.{Instance, Array}
 use Rattle.instructions.specs.MethodsByNumber.{facts_in}

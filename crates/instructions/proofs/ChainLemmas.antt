@@ -18,8 +18,8 @@ use Rattle.resolve.specs.Numbers.{all_classes, class_number, name_of}
 use Rattle.resolve.proofs.ClassAtNumber.{class_at_number, number_inside}
 use Rattle.resolve.proofs.IndexLemmas.{turned}
 use Rattle.resolve.proofs.NumberLemmas.{place_after, position-append, position-cons, position-map}
-use Rattle.loader.specs.ClassTables.{class_tables, superclass_in as superclass_number}
-use Rattle.loader.proofs.ClassTableLemmas.{superclass-number}
+use Rattle.linking.specs.ClassTables.{class_tables, superclass_in as superclass_number}
+use Rattle.linking.proofs.ClassTableLemmas.{superclass-number}
 use Rattle.instructions.proofs.ListPlaces.{item-at}
 use Rattle.instructions.specs.InitialisingByNumbers.{chain_at, chain_upwards, initialises_class}
 

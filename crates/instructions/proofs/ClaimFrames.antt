@@ -16,10 +16,10 @@ use Rattle.model.specs.Frames.{Frame, has_room_for, no_frame, opening_frame, run
 use Rattle.model.specs.Frames.{with_running, within_limits}
 use Rattle.model.specs.Initialisation.{callers_waiting, initializer_frames, initializer_place, started_at, waiting}
 use Rattle.model.specs.Initialisation.{with_states}
-use Rattle.loader.specs.declared.initializers.ClassInitializer.{ClassInitializer}
-use Rattle.loader.specs.ClassTables.{class_tables, superclass_in}
-use Rattle.loader.specs.Initializers.{initializers, place_in}
-use Rattle.loader.proofs.MethodTableLemmas.{initializer-place}
+use Rattle.linking.specs.declared.initializers.ClassInitializer.{ClassInitializer}
+use Rattle.linking.specs.ClassTables.{class_tables, superclass_in}
+use Rattle.linking.specs.Initializers.{initializers, place_in}
+use Rattle.linking.proofs.MethodTableLemmas.{initializer-place}
 use Rattle.instructions.specs.InitialisingByNumbers.{AreBelow, AreClaimed, claim_frames, claimed, classes_upwards}
 use Rattle.instructions.proofs.InitializerBodies.{initializer-there}
 

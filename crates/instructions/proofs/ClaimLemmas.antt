@@ -6,8 +6,8 @@ use Rattle.model.specs.declared.turns.ClassState.TheVariants.{Unused, Running, D
 use Rattle.model.specs.ClassListings.{ClassListing}
 use Rattle.model.specs.Classes.Subclasses.{enough_steps}
 use Rattle.model.specs.Initialisation.{Chain, chain_end, chain_with}
-use Rattle.loader.specs.ClassFacts.{ClassFacts}
-use Rattle.loader.specs.ClassTables.{class_tables, superclass_in}
+use Rattle.linking.specs.ClassFacts.{ClassFacts}
+use Rattle.linking.specs.ClassTables.{class_tables, superclass_in}
 use Rattle.instructions.specs.InitialisingByNumbers.{AreBelow, AreClaimed, chain_at, chain_upwards, claimed}
 use Rattle.instructions.specs.InitialisingByNumbers.{classes_upwards}
 

@@ -24,13 +24,13 @@ use Rattle.model.specs.Programs.{method_in as method_of_class}
 use Rattle.resolve.specs.Numbers.{all_classes}
 use Rattle.resolve.proofs.ClassAtNumber.{class_at_number}
 use Rattle.resolve.proofs.ListLemmas.{found-passes}
-use Rattle.loader.specs.declared.selection_rows.SelectionRow.{SelectionRow as RowOfNumbers}
-use Rattle.loader.specs.MethodTables.{method_facts}
-use Rattle.loader.specs.ResolvedOperations.{method_number, method_place}
-use Rattle.loader.specs.Selections.{declared_at, method_in}
-use Rattle.loader.proofs.ClassTableLemmas.{name-at}
-use Rattle.loader.proofs.MethodTableLemmas.{own-facts, program-facts}
-use Rattle.loader.proofs.RowPlaceLemmas.{method-place, row-place}
+use Rattle.linking.specs.declared.selection_rows.SelectionRow.{SelectionRow as RowOfNumbers}
+use Rattle.linking.specs.MethodTables.{method_facts}
+use Rattle.linking.specs.ResolvedOperations.{method_number, method_place}
+use Rattle.linking.specs.Selections.{declared_at, method_in}
+use Rattle.linking.proofs.ClassTableLemmas.{name-at}
+use Rattle.linking.proofs.MethodTableLemmas.{own-facts, program-facts}
+use Rattle.linking.proofs.RowPlaceLemmas.{method-place, row-place}
 use Rattle.instructions.specs.OwnCalls.{is_printing}
 use Rattle.instructions.specs.CallsByNumbers.{known_at}
 use Rattle.instructions.proofs.AcceptedClasses.{Unrefused}

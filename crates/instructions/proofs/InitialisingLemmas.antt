@@ -14,8 +14,8 @@ use Rattle.model.specs.Table.Initialisation.{claims, claims_with, initialises, i
 use Rattle.model.specs.Worlds.{World, with_class_states, with_thread}
 use Rattle.model.specs.Worlds.Thread.{Live as LiveThread}
 use Rattle.join.specs.TurnsOnCells.{turned_on}
-use Rattle.loader.specs.declared.operations.Operation.{Operation}
-use Rattle.loader.specs.declared.operations.Operation.TheVariants.{Getstatic, Invokestatic, New, Putstatic}
+use Rattle.linking.specs.declared.operations.Operation.{Operation}
+use Rattle.linking.specs.declared.operations.Operation.TheVariants.{Getstatic, Invokestatic, New, Putstatic}
 use Rattle.instructions.specs.declared.kinds.Course.TheVariants.{Live}
 use Rattle.instructions.specs.declared.machines.Machine.{Machine}
 use Rattle.instructions.specs.Acting.{Scene, shown, site_at, reported, turned}

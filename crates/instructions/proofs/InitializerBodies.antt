@@ -23,14 +23,14 @@ use Rattle.model.specs.Frames.{opening_frame}
 use Rattle.model.specs.Initialisation.{framed, initializer_in, initializer_place, started_at}
 use Rattle.model.specs.Programs.{builtin_of, empty_initializer, is_class_initializer, is_member, is_own_initializer}
 use Rattle.model.specs.Programs.{method_at, method_in}
-use Rattle.loader.specs.declared.initializers.ClassInitializer.{ClassInitializer}
-use Rattle.loader.specs.declared.method_tables.Body.{Body}
-use Rattle.loader.specs.declared.method_tables.Body.TheVariants.{Coded, NoCode, Own}
-use Rattle.loader.specs.Initializers.{initializers, place_in}
-use Rattle.loader.specs.MethodFacts.{MethodFacts}
-use Rattle.loader.specs.MethodTables.{body_by, facts_at, method_facts, method_tables}
-use Rattle.loader.proofs.MethodTableLemmas.{initializer-place, program-facts}
-use Rattle.loader.proofs.RunLemmas.{none_refused}
+use Rattle.linking.specs.declared.initializers.ClassInitializer.{ClassInitializer}
+use Rattle.linking.specs.declared.method_tables.Body.{Body}
+use Rattle.linking.specs.declared.method_tables.Body.TheVariants.{Coded, NoCode, Own}
+use Rattle.linking.specs.Initializers.{initializers, place_in}
+use Rattle.linking.specs.MethodFacts.{MethodFacts}
+use Rattle.linking.specs.MethodTables.{body_by, facts_at, method_facts, method_tables}
+use Rattle.linking.proofs.MethodTableLemmas.{initializer-place, program-facts}
+use Rattle.linking.proofs.RunLemmas.{none_refused}
 use Rattle.instructions.proofs.ListPlaces.{first_within, item-at}
 use Rattle.instructions.proofs.UsedClasses.{choose}
 

@@ -19,9 +19,9 @@ use Rattle.model.specs.Objects.{class_at, class_if}
 use Rattle.model.specs.Worlds.{World}
 use Rattle.resolve.specs.Hierarchies.{IsHierarchy}
 use Rattle.resolve.specs.Numbers.{all_classes, class_names, class_number, name_of}
-use Rattle.loader.specs.declared.operations.TypeNumber.{TypeNumber}
-use Rattle.loader.specs.ClassTables.{class_facts, class_tables, is_below, is_subtype_in}
-use Rattle.loader.proofs.ClassTableLemmas.{name-at, subtype-names}
+use Rattle.linking.specs.declared.operations.TypeNumber.{TypeNumber}
+use Rattle.linking.specs.ClassTables.{class_facts, class_tables, is_below, is_subtype_in}
+use Rattle.linking.proofs.ClassTableLemmas.{name-at, subtype-names}
 use Rattle.cells.specs.Objects.{StoredObject, object_if}
 use Rattle.instructions.specs.declared.kinds.Kind.{Kind}
 use Rattle.instructions.specs.declared.kinds.Kind.TheVariants.{Instance, Array}

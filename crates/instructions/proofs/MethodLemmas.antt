@@ -13,11 +13,11 @@ use Rattle.model.specs.Frames.{Frame}
 use Rattle.model.specs.Initialisation.{is_initializer_if, runs_initializer}
 use Rattle.model.specs.Programs.{method_at, method_in}
 use Rattle.model.specs.Table.Returns.{gives, same_result}
-use Rattle.loader.specs.declared.method_tables.Returns.TheVariants.{Otherwise}
-use Rattle.loader.specs.MethodFacts.{MethodFacts}
-use Rattle.loader.specs.MethodTables.{facts_at, method_facts, method_tables}
-use Rattle.loader.specs.Returns.{returning, returns_of}
-use Rattle.loader.proofs.MethodTableLemmas.{program-facts}
+use Rattle.linking.specs.declared.method_tables.Returns.TheVariants.{Otherwise}
+use Rattle.linking.specs.MethodFacts.{MethodFacts}
+use Rattle.linking.specs.MethodTables.{facts_at, method_facts, method_tables}
+use Rattle.linking.specs.Returns.{returning, returns_of}
+use Rattle.linking.proofs.MethodTableLemmas.{program-facts}
 use Rattle.instructions.specs.MethodsByNumber.{facts_if, facts_in, gives_in, is_initializer_in, runs_initializer_in}
 
 module _ (program : List ClassListing) (place : MethodPlace) where

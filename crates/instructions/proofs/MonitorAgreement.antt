@@ -18,8 +18,8 @@ use Rattle.model.specs.Frames.{ref_on}
 use Rattle.model.specs.Table.Monitors.{operates_if, operates_on}
 use Rattle.model.specs.Table.Next.{by_family}
 use Rattle.resolve.specs.Hierarchies.{IsHierarchy}
-use Rattle.loader.specs.ClassTables.{class_tables, is_subtype_in}
-use Rattle.loader.proofs.RunLemmas.{hierarchy as accepted_hierarchy, none_hides}
+use Rattle.linking.specs.ClassTables.{class_tables, is_subtype_in}
+use Rattle.linking.proofs.RunLemmas.{hierarchy as accepted_hierarchy, none_hides}
 use Rattle.instructions.specs.declared.kinds.Kind.{Kind}
 use Rattle.instructions.specs.declared.kinds.Kind.TheVariants.{Instance, Array}
 use Rattle.instructions.specs.ByNumbers.{IsNumbered}

@@ -34,12 +34,12 @@ use Rattle.model.specs.Table.Builtins.{builtin_call}
 use Rattle.model.specs.Table.Invokes.{Call, arguments_in, called, called_on as called_by_name, on_object, selected_for}
 use Rattle.model.specs.Table.Invokes.{special_for, with_arguments}
 use Rattle.resolve.specs.Hierarchies.{IsHierarchy}
-use Rattle.loader.specs.declared.operations.Operation.TheVariants as operation
-use Rattle.loader.specs.MethodTables.{body_of, method_facts}
-use Rattle.loader.specs.ResolvedOperations.{calls_none, calls_selected, calls_special, method_named, method_number}
-use Rattle.loader.specs.ResolvedOperations.{special_call, virtual_call}
-use Rattle.loader.specs.Selections.{is_virtual_of}
-use Rattle.loader.specs.Selectors.{selector_of}
+use Rattle.linking.specs.declared.operations.Operation.TheVariants as operation
+use Rattle.linking.specs.MethodTables.{body_of, method_facts}
+use Rattle.linking.specs.ResolvedOperations.{calls_none, calls_selected, calls_special, method_named, method_number}
+use Rattle.linking.specs.ResolvedOperations.{special_call, virtual_call}
+use Rattle.linking.specs.Selections.{is_virtual_of}
+use Rattle.linking.specs.Selectors.{selector_of}
 use Rattle.instructions.specs.declared.kinds.Kind.{Kind}
 use Rattle.instructions.specs.declared.kinds.Kind.TheVariants.{Instance, Array}
 use Rattle.instructions.specs.ByNumbers.{IsNumbered}

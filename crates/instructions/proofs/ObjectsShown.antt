@@ -10,7 +10,7 @@ use Rattle.model.specs.Classes.Builtin.{builtin_classes}
 use Rattle.model.specs.Classes.Layout.{layout}
 use Rattle.model.specs.Worlds.{Contents, Monitor, Object}
 use Rattle.resolve.specs.Numbers.{all_classes, class_names, name_of}
-use Rattle.loader.specs.ClassTables.{class_facts, class_tables, word_of, words_if as words_known}
+use Rattle.linking.specs.ClassTables.{class_facts, class_tables, word_of, words_if as words_known}
 use Rattle.cells.specs.Objects.{StoredObject, monitor_if, object_if, thread_if, words_if}
 use Rattle.join.specs.Naming.{Naming, named_contents, named_object}
 use Rattle.instructions.specs.declared.kinds.Kind.{Kind}

@@ -22,9 +22,9 @@ use Rattle.model.specs.Worlds.{opening_fits}
 use Rattle.model.specs.Classes.Builtin.{builtin_classes}
 use Rattle.resolve.specs.Numbers.{class_number, name_of}
 use Rattle.resolve.proofs.NumberLemmas.{position-cons}
-use Rattle.loader.specs.Initializers.{initializers, is_wanted_in}
+use Rattle.linking.specs.Initializers.{initializers, is_wanted_in}
 use Rattle.loader.specs.Steps.{IsMain}
-use Rattle.loader.proofs.MethodTableLemmas.{wanted-class}
+use Rattle.linking.proofs.MethodTableLemmas.{wanted-class}
 use Rattle.instructions.proofs.ListPlaces.{item-at}
 use Rattle.instructions.specs.InitialisingByNumbers.{AreClaimed, chain_at, claim_frames, claimed}
 use Rattle.instructions.proofs.ChainLemmas.{chain-same}

@@ -14,8 +14,8 @@ use Rattle.model.specs.Limits.{ShapeFits}
 use Rattle.model.specs.Naming.{named_field, named_thread}
 use Rattle.model.specs.Worlds.{FieldValue, Thread, opening_slots}
 use Rattle.model.specs.Worlds.Thread.{Live}
-use Rattle.loader.specs.declared.static_slots.Slot.{Slot}
-use Rattle.loader.specs.StaticSlots.{slot_of, static_slots}
+use Rattle.linking.specs.declared.static_slots.Slot.{Slot}
+use Rattle.linking.specs.StaticSlots.{slot_of, static_slots}
 use Rattle.join.proofs.Lists.{map-same}
 use Rattle.join.proofs.ReadingBack.{field_same, thread_same}
 use Rattle.instructions.specs.Heaps.{HeapValue, opening_heap}

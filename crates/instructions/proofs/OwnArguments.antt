@@ -15,9 +15,9 @@ use Rattle.model.specs.CodeListings.{CodeListing}
 use Rattle.model.specs.Frames.{ref_on}
 use Rattle.model.specs.Programs.{builtin_of, empty_initializer}
 use Rattle.model.specs.Signatures.{argument_kinds}
-use Rattle.loader.specs.declared.method_tables.Body.TheVariants.{Own}
-use Rattle.loader.specs.MethodFacts.{MethodFacts}
-use Rattle.loader.specs.MethodTables.{body_by, class_methods, method_facts, method_tables, own_methods}
+use Rattle.linking.specs.declared.method_tables.Body.TheVariants.{Own}
+use Rattle.linking.specs.MethodFacts.{MethodFacts}
+use Rattle.linking.specs.MethodTables.{body_by, class_methods, method_facts, method_tables, own_methods}
 use Rattle.instructions.specs.CallsByNumbers.{known_at, object_found}
 use Rattle.instructions.specs.OwnCalls.{is_printing}
 use Rattle.instructions.proofs.CodeResolves.{and_then-some}

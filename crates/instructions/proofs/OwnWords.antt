@@ -12,10 +12,10 @@ use Rattle.model.specs.Classes.Search.{Declared, upwards, with_superclasses}
 use Rattle.resolve.proofs.ListLemmas.{all-found, and-left, and-right}
 use Rattle.resolve.specs.Hierarchies.{IsHierarchy}
 use Rattle.resolve.specs.Numbers.{all_classes}
-use Rattle.loader.specs.Steps.{CanRun}
-use Rattle.loader.specs.ClassTables.{class_tables, word_of, words_in}
-use Rattle.loader.proofs.ClassTableLemmas.{words-layout}
-use Rattle.loader.proofs.RunLemmas.{hierarchy as accepted_hierarchy, none_hides}
+use Rattle.linking.specs.CanRun.{CanRun}
+use Rattle.linking.specs.ClassTables.{class_tables, word_of, words_in}
+use Rattle.linking.proofs.ClassTableLemmas.{words-layout}
+use Rattle.linking.proofs.RunLemmas.{hierarchy as accepted_hierarchy, none_hides}
 use Rattle.instructions.specs.ByNumbers.{IsStored}
 use Rattle.instructions.specs.Heaps.{own_class}
 use Rattle.instructions.proofs.ByNumberLemmas.{words-none}

@@ -5,8 +5,8 @@ use Rattle.model.specs.declared.values.Kind.{Kind}
 use Rattle.model.specs.declared.values.Kind.TheVariants.{Int, Long, Ref}
 use Rattle.model.specs.Completions.{Site}
 use Rattle.model.specs.Table.Next.{by_family}
-use Rattle.loader.specs.declared.operations.Operation.TheVariants.{Invalid}
-use Rattle.loader.specs.Operations.{operation_of}
+use Rattle.linking.specs.declared.operations.Operation.TheVariants.{Invalid}
+use Rattle.linking.specs.Operations.{operation_of}
 use Rattle.instructions.specs.ReturnsByNumbers.{returned_by_numbers}
 
 -- of every program, at every site

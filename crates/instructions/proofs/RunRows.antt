@@ -19,12 +19,12 @@ use Rattle.model.specs.Classes.Selection.{selected, virtual_of}
 use Rattle.model.specs.Classes.SelectionTable.{SelectionRow, IsSelected}
 use Rattle.resolve.specs.Hierarchies.{IsHierarchy}
 use Rattle.resolve.specs.Numbers.{all_classes, class_names}
-use Rattle.loader.specs.declared.selection_rows.SelectionRow.{SelectionRow as RowOfNumbers}
-use Rattle.loader.specs.MethodFacts.{MethodFacts}
-use Rattle.loader.specs.MethodTables.{body_of, class_methods, facts_at, method_facts, method_tables, own_methods}
-use Rattle.loader.specs.Selections.{IsClassTable, IsPlaced, declared_at, is_virtual_of, method_in, row_of}
-use Rattle.loader.specs.SelectionTables.{IsTableAt}
-use Rattle.loader.proofs.MethodTableLemmas.{own-facts}
+use Rattle.linking.specs.declared.selection_rows.SelectionRow.{SelectionRow as RowOfNumbers}
+use Rattle.linking.specs.MethodFacts.{MethodFacts}
+use Rattle.linking.specs.MethodTables.{body_of, class_methods, facts_at, method_facts, method_tables, own_methods}
+use Rattle.linking.specs.Selections.{IsClassTable, IsPlaced, declared_at, is_virtual_of, method_in, row_of}
+use Rattle.linking.specs.SelectionTables.{IsTableAt}
+use Rattle.linking.proofs.MethodTableLemmas.{own-facts}
 use Rattle.instructions.specs.declared.kinds.Kind.TheVariants.{Instance}
 use Rattle.instructions.specs.CallsByNumbers.{place_if, selected_place}
 use Rattle.instructions.specs.OwnCalls.{run_signature}

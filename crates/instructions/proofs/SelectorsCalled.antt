@@ -22,8 +22,8 @@ use Rattle.model.specs.CodeListings.{CodeListing}
 use Rattle.model.specs.Programs.{code_at, empty_initializer, method_at, method_in, placed_at}
 use Rattle.model.specs.Table.Next.{Listed}
 use Rattle.resolve.proofs.NumberLemmas.{place_after, position-append}
-use Rattle.loader.specs.Selectors.{Signature, is_signature, selector_of, selectors, with_called, with_classes}
-use Rattle.loader.specs.Selectors.{with_code, with_instructions, with_member, with_methods, with_signature}
+use Rattle.linking.specs.Selectors.{Signature, is_signature, selector_of, selectors, with_called, with_classes}
+use Rattle.linking.specs.Selectors.{with_code, with_instructions, with_member, with_methods, with_signature}
 use Rattle.instructions.proofs.CodeResolves.{and_then-some}
 use Rattle.instructions.proofs.ListPlaces.{first_at, first_of}
 

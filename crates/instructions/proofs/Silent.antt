@@ -32,13 +32,13 @@ use Rattle.model.specs.Table.Monitors.{enter_if, moved_with, operates, operates_
 use Rattle.model.specs.Words.{slot_at}
 use Rattle.model.specs.Worlds.{Monitor, World, with_class_states, with_thread}
 use Rattle.model.specs.Worlds.Thread.{Live}
-use Rattle.loader.specs.declared.class_tables.Word.{Word}
-use Rattle.loader.specs.declared.operations.Operation.{Operation}
-use Rattle.loader.specs.declared.operations.Operation.TheVariants as operation
-use Rattle.loader.specs.declared.static_slots.Slot.{Slot}
-use Rattle.loader.specs.ClassTables.{class_tables, words_in}
-use Rattle.loader.specs.StaticSlots.{static_slots}
-use Rattle.loader.specs.Storages.{shown_storage}
+use Rattle.linking.specs.declared.class_tables.Word.{Word}
+use Rattle.linking.specs.declared.operations.Operation.{Operation}
+use Rattle.linking.specs.declared.operations.Operation.TheVariants as operation
+use Rattle.linking.specs.declared.static_slots.Slot.{Slot}
+use Rattle.linking.specs.ClassTables.{class_tables, words_in}
+use Rattle.linking.specs.StaticSlots.{static_slots}
+use Rattle.linking.specs.Storages.{shown_storage}
 use Rattle.plain_steps.specs.PlainMoves.{plain_move}
 use Rattle.instructions.specs.Acting.{AreIn, site_of}
 use Rattle.instructions.specs.declared.awaiting.Awaited.TheVariants.{Entry}

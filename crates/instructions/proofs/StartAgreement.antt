@@ -29,9 +29,9 @@ use Rattle.model.specs.Table.Threads.{starts as starts_by_name}
 use Rattle.model.specs.WellNamed.{is_well_named}
 use Rattle.model.specs.Worlds.{Object}
 use Rattle.resolve.specs.Hierarchies.{IsHierarchy}
-use Rattle.loader.specs.MethodTables.{body_by, body_of}
-use Rattle.loader.specs.Selections.{is_virtual_of}
-use Rattle.loader.proofs.RunLemmas.{hierarchy as accepted_hierarchy, none_hides}
+use Rattle.linking.specs.MethodTables.{body_by, body_of}
+use Rattle.linking.specs.Selections.{is_virtual_of}
+use Rattle.linking.proofs.RunLemmas.{hierarchy as accepted_hierarchy, none_hides}
 use Rattle.instructions.specs.declared.kinds.Kind.{Kind}
 use Rattle.instructions.specs.declared.kinds.Kind.TheVariants.{Instance, Array}
 use Rattle.instructions.specs.CallsByNumbers.{place_if, place_of_number}

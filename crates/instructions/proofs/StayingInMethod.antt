@@ -40,8 +40,8 @@ use Rattle.model.specs.Table.Numbers.{binary_on, compared_on, converted_on, nega
 use Rattle.model.specs.Table.Numbers.{number_value, operand_of, operands_of, operated, source_kind, target_kind}
 use Rattle.model.specs.Table.Stacks.{doubled_on, group_on, groups_on, inserted_on, popped_on, rearranged, swapped_on}
 use Rattle.model.specs.Table.Stacks.Units.{One, Two}
-use Rattle.loader.specs.declared.operations.Operation.{Operation}
-use Rattle.loader.specs.declared.operations.Operation.TheVariants as operation
+use Rattle.linking.specs.declared.operations.Operation.{Operation}
+use Rattle.linking.specs.declared.operations.Operation.TheVariants as operation
 use Rattle.plain_steps.specs.PlainMoves.{plain_move}
 
 abbrev pub IsInMethod : Frame → Frame → Type 0

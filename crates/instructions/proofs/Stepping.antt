@@ -44,13 +44,13 @@ use Rattle.model.specs.Turns.{print_of}
 use Rattle.model.specs.WellNamed.{is_well_named}
 use Rattle.model.specs.Worlds.{World, frames_at, opening_slots}
 use Rattle.loader.specs.declared.programs.Step.{Step}
-use Rattle.loader.specs.declared.operations.Operation.{Operation}
-use Rattle.loader.specs.declared.operations.Operation.TheVariants as operation
-use Rattle.loader.specs.declared.operations.TypeNumber.{TypeNumber}
-use Rattle.loader.specs.Operations.{operation_of, or_resolved}
-use Rattle.loader.specs.PlainOperations.{is_32_bits}
-use Rattle.loader.specs.ResolvedOperations.{accesses_slot, accesses_word, call_operation, casts, makes_array}
-use Rattle.loader.specs.ResolvedOperations.{makes_object, slot_number, tests_type, type_of, word_named}
+use Rattle.linking.specs.declared.operations.Operation.{Operation}
+use Rattle.linking.specs.declared.operations.Operation.TheVariants as operation
+use Rattle.linking.specs.declared.operations.TypeNumber.{TypeNumber}
+use Rattle.linking.specs.Operations.{operation_of, or_resolved}
+use Rattle.linking.specs.PlainOperations.{is_32_bits}
+use Rattle.linking.specs.ResolvedOperations.{accesses_slot, accesses_word, call_operation, casts, makes_array}
+use Rattle.linking.specs.ResolvedOperations.{makes_object, slot_number, tests_type, type_of, word_named}
 use Rattle.loader.specs.Steps.{step_of, step_in}
 use Rattle.loader.specs.StepLists.{step_or_none}
 use Rattle.plain_steps.specs.Plain.{is_plain}

@@ -9,8 +9,8 @@ use Rattle.model.specs.declared.turns.Exception.TheVariants.{StackOverflow}
 use Rattle.model.specs.declared.values.Value.{Value}
 use Rattle.model.specs.Accounts.{Account}
 use Rattle.model.specs.ClassListings.{ClassListing}
-use Rattle.loader.specs.declared.class_tables.Word.{Word}
-use Rattle.loader.specs.ClassTables.{class_tables, defaults_in, opening_word, words_in}
+use Rattle.linking.specs.declared.class_tables.Word.{Word}
+use Rattle.linking.specs.ClassTables.{class_tables, defaults_in, opening_word, words_in}
 use Rattle.cells.specs.Objects.{StoredObject, object_if, word_set}
 use Rattle.instructions.specs.declared.kinds.Kind.{Kind}
 use Rattle.instructions.specs.declared.kinds.Kind.TheVariants.{Instance, Array}

@@ -23,8 +23,8 @@ use Rattle.model.specs.Table.Throws.{throws}
 use Rattle.model.specs.Worlds.{Object}
 use Rattle.resolve.specs.Hierarchies.{IsHierarchy}
 use Rattle.resolve.specs.Numbers.{all_classes}
-use Rattle.loader.proofs.ClassTableLemmas.{name-at, subtype-names}
-use Rattle.loader.proofs.RunLemmas.{hierarchy as accepted_hierarchy, none_hides}
+use Rattle.linking.proofs.ClassTableLemmas.{name-at, subtype-names}
+use Rattle.linking.proofs.RunLemmas.{hierarchy as accepted_hierarchy, none_hides}
 use Rattle.instructions.specs.declared.kinds.Kind.{Kind}
 use Rattle.instructions.specs.declared.kinds.Kind.TheVariants.{Instance, Array}
 use Rattle.instructions.specs.ByNumbers.{IsNumbered}

@@ -44,17 +44,17 @@ use Rattle.model.specs.Table.Arrays.{loaded, may_hold, measured, put_if, storage
 use Rattle.model.specs.Table.Next.{Listed, by_family}
 use Rattle.model.specs.Table.Objects.{cast, cast_if, is_instance, tested, reported_if}
 use Rattle.model.specs.Words.{contents_at, contents_if}
-use Rattle.loader.specs.declared.operations.Operation.{Operation}
-use Rattle.loader.specs.declared.operations.Operation.TheVariants.{Invalid, Newarray, Anewarray, Arraylength, Checkcast}
-use Rattle.loader.specs.declared.operations.Operation.TheVariants.{Instanceof}
-use Rattle.loader.specs.declared.operations.TypeNumber.{TypeNumber}
-use Rattle.loader.specs.Operations.{operation_of}
-use Rattle.loader.specs.ResolvedOperations.{array_operation, casts, load_of, makes_array, primitive_letter, store_of}
-use Rattle.loader.specs.ResolvedOperations.{tests_type, type_of}
+use Rattle.linking.specs.declared.operations.Operation.{Operation}
+use Rattle.linking.specs.declared.operations.Operation.TheVariants.{Invalid, Newarray, Anewarray, Arraylength, Checkcast}
+use Rattle.linking.specs.declared.operations.Operation.TheVariants.{Instanceof}
+use Rattle.linking.specs.declared.operations.TypeNumber.{TypeNumber}
+use Rattle.linking.specs.Operations.{operation_of}
+use Rattle.linking.specs.ResolvedOperations.{array_operation, casts, load_of, makes_array, primitive_letter, store_of}
+use Rattle.linking.specs.ResolvedOperations.{tests_type, type_of}
 use Rattle.resolve.proofs.ListLemmas.{all-found}
 use Rattle.model.specs.Texts.Names.{is_class_name}
 use Rattle.model.specs.WellNamed.{is_well_named, type_is_named, types_are_named, types_are_named_in}
-use Rattle.loader.proofs.RunLemmas.{all_resolve}
+use Rattle.linking.proofs.RunLemmas.{all_resolve}
 use Rattle.plain_steps.specs.PlainMoves.{plain_move}
 use Rattle.instructions.specs.ByNumbers.{IsNumbered}
 use Rattle.instructions.specs.Heaps.{HeapValue, held, kind_held}

@@ -22,8 +22,8 @@ use Rattle.model.specs.Texts.Descriptors.{is_array_descriptor, is_class_type, is
 use Rattle.model.specs.Texts.Descriptors.{is_int_type, is_long_type, is_type as is_type_word}
 use Rattle.model.specs.Texts.Names.{are_parts, fits, is_class_name}
 use Rattle.resolve.specs.Numbers.{class_names, name_of}
-use Rattle.loader.specs.declared.operations.TypeNumber.{TypeNumber}
-use Rattle.loader.specs.ResolvedOperations.{counted_dimensions, element_number, last_element as last_number, type_of}
+use Rattle.linking.specs.declared.operations.TypeNumber.{TypeNumber}
+use Rattle.linking.specs.ResolvedOperations.{counted_dimensions, element_number, last_element as last_number, type_of}
 use Rattle.instructions.specs.Shown.{class_name, last_element, name_or_none, type_name}
 use Rattle.instructions.specs.TypeNumbers.{is_element, is_letter, is_number_letter}
 use Rattle.instructions.proofs.ByNumberLemmas.{HasNumber, number-names, number-of}

@@ -30,9 +30,9 @@ use Rattle.resolve.specs.Hierarchies.{IsHierarchy}
 use Rattle.resolve.specs.Numbers.{all_classes, class_names, name_of}
 use Rattle.resolve.proofs.ListLemmas.{all-found, all-of, and-left, and-right, none-fails}
 use Rattle.resolve.proofs.ReachedLemmas.{any-has}
-use Rattle.loader.specs.declared.operations.TypeNumber.{TypeNumber}
-use Rattle.loader.specs.ClassTables.{class_facts, class_tables, is_below, is_subtype_in}
-use Rattle.loader.proofs.ClassTableLemmas.{name-at, subtype-names}
+use Rattle.linking.specs.declared.operations.TypeNumber.{TypeNumber}
+use Rattle.linking.specs.ClassTables.{class_facts, class_tables, is_below, is_subtype_in}
+use Rattle.linking.proofs.ClassTableLemmas.{name-at, subtype-names}
 use Rattle.instructions.specs.declared.kinds.Kind.TheVariants.{Instance}
 use Rattle.instructions.specs.Shown.{class_name, last_element, name_or_none, type_name}
 use Rattle.instructions.specs.TypeNumbers.{is_array_below, is_element, is_element_below, is_kind_of, is_letter}

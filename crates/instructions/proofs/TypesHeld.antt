@@ -19,8 +19,8 @@ use Rattle.model.specs.Table.Arrays.{is_element_of, letter_for}
 use Rattle.model.specs.Words.{contents_at, contents_if}
 use Rattle.model.specs.Worlds.{Object, World}
 use Rattle.join.specs.OnCells.{nobody}
-use Rattle.loader.specs.declared.operations.TypeNumber.{TypeNumber}
-use Rattle.loader.proofs.RunLemmas.{accepted_runs, hierarchy as accepted_hierarchy, none_hides}
+use Rattle.linking.specs.declared.operations.TypeNumber.{TypeNumber}
+use Rattle.linking.proofs.RunLemmas.{accepted_runs, hierarchy as accepted_hierarchy, none_hides}
 use Rattle.cells.specs.Objects.{StoredObject, object_if, words_if}
 use Rattle.instructions.specs.declared.kinds.Kind.{Kind}
 use Rattle.instructions.specs.declared.kinds.Kind.TheVariants.{Instance, Array}

@@ -68,19 +68,19 @@ use Rattle.model.specs.Worlds.{opening_slots}
 use Rattle.resolve.specs.Numbers.{class_names, class_number}
 use Rattle.resolve.proofs.ListLemmas.{found-any}
 use Rattle.resolve.proofs.NumberLemmas.{position-cons}
-use Rattle.loader.specs.declared.operations.Operation.{Operation}
-use Rattle.loader.specs.declared.operations.Operation.TheVariants.{Aside, Lconst}
-use Rattle.loader.specs.declared.operations.TypeNumber.{TypeNumber}
-use Rattle.loader.specs.ClassNumbers.{class_place}
-use Rattle.loader.specs.Operations.{operation_of}
-use Rattle.loader.specs.PlainOperations.{branch_operation, constant_operation, conversion_operation, int_operation}
-use Rattle.loader.specs.PlainOperations.{ints_branch, is_32_bits, local_operation, long_operation, number_operation}
-use Rattle.loader.specs.PlainOperations.{return_operation, stack_operation, zero_branch}
-use Rattle.loader.specs.ResolvedOperations.{accesses_slot, accesses_word, array_operation, calls_none, calls_own}
-use Rattle.loader.specs.ResolvedOperations.{calls_selected, calls_special, calls_static, casts, makes_array}
-use Rattle.loader.specs.ResolvedOperations.{makes_object, method_named, method_number, method_place, selector_named}
-use Rattle.loader.specs.ResolvedOperations.{slot_number, special_call, static_call, tests_type, type_of, word_named}
-use Rattle.loader.specs.StaticSlots.{slot_of, static_slots}
+use Rattle.linking.specs.declared.operations.Operation.{Operation}
+use Rattle.linking.specs.declared.operations.Operation.TheVariants.{Aside, Lconst}
+use Rattle.linking.specs.declared.operations.TypeNumber.{TypeNumber}
+use Rattle.linking.specs.ClassNumbers.{class_place}
+use Rattle.linking.specs.Operations.{operation_of}
+use Rattle.linking.specs.PlainOperations.{branch_operation, constant_operation, conversion_operation, int_operation}
+use Rattle.linking.specs.PlainOperations.{ints_branch, is_32_bits, local_operation, long_operation, number_operation}
+use Rattle.linking.specs.PlainOperations.{return_operation, stack_operation, zero_branch}
+use Rattle.linking.specs.ResolvedOperations.{accesses_slot, accesses_word, array_operation, calls_none, calls_own}
+use Rattle.linking.specs.ResolvedOperations.{calls_selected, calls_special, calls_static, casts, makes_array}
+use Rattle.linking.specs.ResolvedOperations.{makes_object, method_named, method_number, method_place, selector_named}
+use Rattle.linking.specs.ResolvedOperations.{slot_number, special_call, static_call, tests_type, type_of, word_named}
+use Rattle.linking.specs.StaticSlots.{slot_of, static_slots}
 use Rattle.instructions.specs.InitialisingByNumbers.{class_used_by, slot_class}
 use Rattle.instructions.proofs.ChainLemmas.{AreSame}
 use Rattle.instructions.proofs.ByNumberLemmas.{HasNumber, number-of}

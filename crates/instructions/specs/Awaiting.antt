@@ -9,12 +9,12 @@ use Rattle.model.specs.ClassListings.{ClassListing}
 use Rattle.model.specs.Frames.{Frame, ref_on}
 use Rattle.model.specs.Monitors.{may_enter}
 use Rattle.model.specs.Signatures.{argument_kinds}
-use Rattle.loader.specs.declared.method_tables.Body.{Body}
-use Rattle.loader.specs.declared.method_tables.Body.TheVariants.{NoCode, Own, Coded}
-use Rattle.loader.specs.declared.operations.Operation.{Operation}
-use Rattle.loader.specs.declared.operations.Operation.TheVariants as operation
-use Rattle.loader.specs.MethodFacts.{MethodFacts}
-use Rattle.loader.specs.Selectors.{Signature, selectors}
+use Rattle.linking.specs.declared.method_tables.Body.{Body}
+use Rattle.linking.specs.declared.method_tables.Body.TheVariants.{NoCode, Own, Coded}
+use Rattle.linking.specs.declared.operations.Operation.{Operation}
+use Rattle.linking.specs.declared.operations.Operation.TheVariants as operation
+use Rattle.linking.specs.MethodFacts.{MethodFacts}
+use Rattle.linking.specs.Selectors.{Signature, selectors}
 use Rattle.instructions.specs.declared.awaiting.Awaited.{Awaited}
 use Rattle.instructions.specs.declared.awaiting.Awaited.TheVariants.{Entry, End}
 use Rattle.instructions.specs.declared.kinds.Course.{Course}

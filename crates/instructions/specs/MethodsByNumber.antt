@@ -3,8 +3,8 @@ use Rattle.model.specs.declared.values.Kind.{Kind}
 use Rattle.model.specs.ClassListings.{ClassListing}
 use Rattle.model.specs.Frames.{Frame}
 use Rattle.model.specs.Table.Returns.{same_result}
-use Rattle.loader.specs.MethodFacts.{MethodFacts}
-pub use Rattle.loader.specs.MethodTables.{facts_if, facts_in}
+use Rattle.linking.specs.MethodFacts.{MethodFacts}
+pub use Rattle.linking.specs.MethodTables.{facts_if, facts_in}
 
 -- What a turn asks of the method of a frame, by its place in the tables.
 

@@ -7,7 +7,7 @@ use Rattle.model.specs.Completions.{Completion, Site, raises}
 use Rattle.model.specs.Completions.Completion.{Faults}
 use Rattle.model.specs.Frames.{ref_on}
 use Rattle.model.specs.Table.Monitors.{operates_if}
-use Rattle.loader.specs.ClassTables.{class_tables, is_subtype_in}
+use Rattle.linking.specs.ClassTables.{class_tables, is_subtype_in}
 use Rattle.instructions.specs.declared.kinds.Kind.{Kind}
 use Rattle.instructions.specs.declared.kinds.Kind.TheVariants.{Instance, Array}
 use Rattle.instructions.specs.Heaps.{HeapValue, kind_held}

@@ -10,7 +10,7 @@ use Rattle.model.specs.Worlds.{Thread, FieldValue, Contents, Object}
 use Rattle.model.specs.Worlds.Thread.{Live as LiveThread, Ended}
 use Rattle.model.specs.Worlds.Contents.{Instance as InstanceOf, Array as ArrayOf}
 use Rattle.resolve.specs.Numbers.{class_names}
-use Rattle.loader.specs.declared.operations.TypeNumber.{TypeNumber}
+use Rattle.linking.specs.declared.operations.TypeNumber.{TypeNumber}
 use Rattle.cells.specs.Objects.{StoredObject}
 use Rattle.join.specs.OnCells.{nobody}
 use Rattle.instructions.specs.declared.kinds.Kind.{Kind}

@@ -7,10 +7,10 @@ use Rattle.model.specs.declared.builtins.Builtin.TheVariants.{StartThread, JoinT
 use Rattle.model.specs.declared.listings.Method.{Method}
 use Rattle.model.specs.ClassListings.{ClassListing}
 use Rattle.model.specs.Classes.Search.{Declared}
-use Rattle.loader.specs.declared.method_tables.Body.{Body}
-use Rattle.loader.specs.declared.method_tables.Body.TheVariants.{NoCode, Own, Coded}
-use Rattle.loader.specs.declared.selection_rows.SelectionRow.{SelectionRow}
-use Rattle.loader.specs.Selections.{declared_at}
+use Rattle.linking.specs.declared.method_tables.Body.{Body}
+use Rattle.linking.specs.declared.method_tables.Body.TheVariants.{NoCode, Own, Coded}
+use Rattle.linking.specs.declared.selection_rows.SelectionRow.{SelectionRow}
+use Rattle.linking.specs.Selections.{declared_at}
 use Rattle.instructions.specs.declared.kinds.Course.{Course}
 use Rattle.instructions.specs.Threads.{lives_in}
 

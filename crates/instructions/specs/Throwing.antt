@@ -18,11 +18,11 @@ use Rattle.model.specs.Unwinding.{Response, Way}
 use Rattle.model.specs.Unwinding.Landing.{Handled, Stopped, Unhandled}
 use Rattle.model.specs.Unwinding.Response.{Handles, Fails, Leaves}
 use Rattle.frames.specs.declared.heads.FrameHead.{FrameHead}
-use Rattle.loader.specs.declared.method_tables.Catch.{Catch}
-use Rattle.loader.specs.declared.method_tables.Catch.TheVariants.{Any, Class}
-use Rattle.loader.specs.declared.method_tables.Row.{Row}
-use Rattle.loader.specs.ClassTables.{class_tables, is_subtype_in}
-use Rattle.loader.specs.MethodFacts.{MethodFacts}
+use Rattle.linking.specs.declared.method_tables.Catch.{Catch}
+use Rattle.linking.specs.declared.method_tables.Catch.TheVariants.{Any, Class}
+use Rattle.linking.specs.declared.method_tables.Row.{Row}
+use Rattle.linking.specs.ClassTables.{class_tables, is_subtype_in}
+use Rattle.linking.specs.MethodFacts.{MethodFacts}
 use Rattle.instructions.specs.declared.kinds.Kind.{Kind}
 use Rattle.instructions.specs.declared.kinds.Kind.TheVariants.{Instance, Array}
 use Rattle.instructions.specs.declared.unwinding.Answer.{Answer}

@@ -8,8 +8,8 @@ use Rattle.model.specs.declared.values.Value.{Value}
 use Rattle.model.specs.declared.values.Value.TheVariants.{Ref}
 use Rattle.model.specs.ClassListings.{ClassListing}
 use Rattle.model.specs.Stores.{default_in, storage_by}
-use Rattle.loader.specs.declared.operations.TypeNumber.{TypeNumber}
-use Rattle.loader.specs.ClassTables.{class_tables, is_subtype_in}
+use Rattle.linking.specs.declared.operations.TypeNumber.{TypeNumber}
+use Rattle.linking.specs.ClassTables.{class_tables, is_subtype_in}
 use Rattle.cells.specs.Objects.{StoredObject}
 use Rattle.instructions.specs.declared.kinds.Kind.{Kind}
 use Rattle.instructions.specs.declared.kinds.Kind.TheVariants.{Instance, Array}

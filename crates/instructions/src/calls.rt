@@ -21,7 +21,7 @@ use crate::kinds::Course;
 use crate::machines::Machine;
 use crate::pushes::reference_of;
 use frames::Frames;
-use loader::method_tables::{Body, MethodInfo};
+use linking::method_tables::{Body, MethodInfo};
 use loader::programs::Program;
 use model::places::MethodPlace;
 use model::turns::{Exception, Fault};

@@ -7,7 +7,7 @@ ghost use Rattle.instructions.specs.TypesByNumbers.{cast_by, tested_by};
 use crate::acting::Turned;
 use crate::machines::Machine;
 use crate::types::is_object_of;
-use loader::operations::TypeNumber;
+use linking::operations::TypeNumber;
 use loader::programs::Program;
 use model::turns::{Exception, Fault};
 use values::slots::Slot;

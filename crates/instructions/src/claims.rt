@@ -8,7 +8,7 @@ ghost use Rattle.model.specs.Initialisation.{initializer_place, started_at, with
 ghost use Rattle.instructions.specs.InitialisingByNumbers.{AreClaimed, chain_at, claim_frames, claimed};
 
 use frames::Frames;
-use loader::method_tables::Body;
+use linking::method_tables::Body;
 use loader::programs::Program;
 use model::turns::{ClassState, Mark};
 

@@ -8,9 +8,9 @@ use crate::acting::Turned;
 use crate::claims::{enter_initializers, has_room_for_claim, set_states, unused_classes};
 use crate::kinds::Course;
 use crate::machines::Machine;
-use loader::operations::Operation;
+use linking::operations::Operation;
+use linking::static_slots::Slot;
 use loader::programs::{Program, Step};
-use loader::static_slots::Slot;
 use model::turns::{ClassState, Exception, Fault};
 
 /// The class of a slot, if there is such a slot.

@@ -1,6 +1,6 @@
 //! What objects are of.
 
-use loader::operations::TypeNumber;
+use linking::operations::TypeNumber;
 
 /// What an object is of: a class, by its number, or arrays of an element type.
 #[derive(Clone, Copy, PartialEq, Eq)]

@@ -8,8 +8,8 @@ ghost use Rattle.model.specs.Programs.{method_at};
 ghost use Rattle.model.specs.Table.Returns.{gives, same_result};
 ghost use Rattle.instructions.specs.MethodsByNumber.{facts_in};
 
+use linking::method_tables::{MethodInfo, Returns};
 use loader::method_codes::MethodCode;
-use loader::method_tables::{MethodInfo, Returns};
 use loader::programs::Program;
 use model::places::MethodPlace;
 use model::values::Kind;

@@ -3,7 +3,7 @@ ghost use Rattle.std.specs.Prelude.{◌≡◌, ◌++◌, ◌∷◌, IfOk, OnOk};
 ghost use Rattle.instructions.specs.Shown.{class_name, kind_name_if, last_element, type_name};
 
 use crate::kinds::Kind;
-use loader::operations::TypeNumber;
+use linking::operations::TypeNumber;
 use loader::programs::Program;
 use model::names::Name;
 use resolve::builtins::builtin_classes;

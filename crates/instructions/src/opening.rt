@@ -4,8 +4,8 @@ ghost use Rattle.std.specs.Prelude.{◌≡◌, [], IfOk, OnOk, None, true};
 ghost use Rattle.model.specs.Accepted.Refusals.{refusal_of};
 ghost use Rattle.model.specs.Initialisation.{claimed_states, opening_frames, opening_states, state_if};
 ghost use Rattle.model.specs.Worlds.{opening_fits};
-ghost use Rattle.loader.specs.Initializers.{initializers, is_wanted_in};
-ghost use Rattle.loader.specs.Steps.{CanRun};
+ghost use Rattle.linking.specs.Initializers.{initializers, is_wanted_in};
+ghost use Rattle.linking.specs.CanRun.{CanRun};
 
 use crate::claims::{enter_initializers, has_room_for_claim, set_states, unused_classes};
 use frames::Frames;

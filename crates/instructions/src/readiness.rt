@@ -10,7 +10,7 @@ use crate::kinds::Course;
 use crate::machines::Machine;
 use crate::printing::{line_length, long_line_length};
 use frames::Frames;
-use loader::operations::Operation;
+use linking::operations::Operation;
 use loader::programs::Program;
 use model::turns::Mark;
 

@@ -1,7 +1,7 @@
 //! Types by the numbers of their dimensions and elements (JVMS 4.4.1), and what objects are of (JVMS 6.5, instanceof).
 ghost use Rattle.std.specs.Prelude.{◌≡◌, ◌<◌};
 ghost use Rattle.model.specs.Table.Arrays.{storage_in};
-ghost use Rattle.loader.specs.Storages.{shown_storage};
+ghost use Rattle.linking.specs.Storages.{shown_storage};
 ghost use Rattle.instructions.specs.Heaps.{held};
 ghost use Rattle.instructions.specs.TypeNumbers.{element_default, holds, holds_letter, holds_references};
 ghost use Rattle.instructions.specs.TypeNumbers.{is_array_below, is_array_of_kind, is_element, is_element_below};
@@ -11,9 +11,9 @@ ghost use Rattle.instructions.specs.TypesByNumbers.{takes};
 
 use crate::heaps::Heap;
 use crate::kinds::Kind;
-use loader::operations::TypeNumber;
+use linking::operations::TypeNumber;
+use linking::storages::{Storage, default_in, storage_of};
 use loader::programs::Program;
-use loader::storages::{Storage, default_in, storage_of};
 use model::instructions::ElementKind;
 use model::values::Value;
 

@@ -11,7 +11,7 @@ use crate::kinds::Kind;
 use crate::machines::Machine;
 use crate::methods::{info_of, is_initializer};
 use frames::heads::FrameHead;
-use loader::method_tables::{Catch, Row};
+use linking::method_tables::{Catch, Row};
 use loader::programs::Program;
 use model::turns::Mark;
 

@@ -4,7 +4,7 @@ use Rattle.std.specs.Global.{Global}
 use Rattle.jasmin.specs.declared.errors.Fault.TheVariants.{Memory as TextMemory}
 use Rattle.assembler.specs.declared.error.AsmError.TheVariants.{Memory as AsmMemory}
 use Rattle.classfile.specs.declared.error.ClassError.TheVariants.{Memory as ClassMemory}
-use Rattle.loader.specs.Errors.{IsRefusedBy}
+use Rattle.acceptance.specs.Errors.{IsRefusedBy}
 use Rattle.model.specs.Limits.{ShapeFits, LimitsFit}
 use Rattle.scheduler.specs.declared.worlds.WorldError.{WorldError}
 use Rattle.scheduler.specs.declared.worlds.WorldError.TheVariants.{Shape, Limits as OfLimits, Memory as WorldMemory}

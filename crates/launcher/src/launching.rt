@@ -6,8 +6,8 @@ ghost use Rattle.model.specs.declared.journals.Limits.{Limits};
 ghost use Rattle.launcher.specs.Launching.{AreListings, Excuses, IsLaunched, bytes_of};
 
 use crate::sources::{SourceError, source_listing};
+use acceptance::{LoadError, accept};
 use loader::programs::Program;
-use loader::{LoadError, accept};
 use model::journals::{HeapShape, Limits};
 use model::listings::Listing;
 use model::turns::Actor;

@@ -6,11 +6,11 @@ use Rattle.model.specs.ClassListings.{ClassListing}
 use Rattle.model.specs.CodeListings.{CodeListing}
 use Rattle.model.specs.Programs.{main_in, code_at, empty_initializer}
 use Rattle.loader.specs.declared.method_codes.MethodCode.{MethodCode}
-use Rattle.loader.specs.declared.tables.Tables.{Tables}
-use Rattle.loader.specs.Tables.{HasTables}
+use Rattle.linking.specs.declared.tables.Tables.{Tables}
+use Rattle.linking.specs.Tables.{HasTables}
 use Rattle.loader.specs.KnownMethods.{all_infos, infos_of}
 use Rattle.loader.specs.StepLists.{AllKnowPlaces, AreSteps, HasNoSteps, instructions_in}
-use Rattle.loader.specs.Steps.{CanRun}
+use Rattle.linking.specs.CanRun.{CanRun}
 
 -- main with its limits, the steps of all methods, each of which knows its place, and those of none, the tables and the
 -- instructions of an empty initializer, in a program that can run

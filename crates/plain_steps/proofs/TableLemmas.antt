@@ -32,10 +32,10 @@ use Rattle.model.specs.Table.Numbers.{number as computed}
 use Rattle.model.specs.Table.Stacks.{rearranged}
 use Rattle.plain_steps.specs.Plain.{is_plain}
 use Rattle.model.specs.Table.Next.{Listed, by_family}
-use Rattle.loader.specs.declared.operations.Operation.{Operation}
-use Rattle.loader.specs.declared.operations.Operation.TheVariants.{Aside, AconstNull, Iconst, Lconst, Nop}
-use Rattle.loader.specs.PlainOperations.{plain_operation, is_32_bits, constant_operation, local_operation}
-use Rattle.loader.specs.PlainOperations.{stack_operation, number_operation, branch_operation, return_operation}
+use Rattle.linking.specs.declared.operations.Operation.{Operation}
+use Rattle.linking.specs.declared.operations.Operation.TheVariants.{Aside, AconstNull, Iconst, Lconst, Nop}
+use Rattle.linking.specs.PlainOperations.{plain_operation, is_32_bits, constant_operation, local_operation}
+use Rattle.linking.specs.PlainOperations.{stack_operation, number_operation, branch_operation, return_operation}
 use Rattle.plain_steps.specs.PlainMoves.{plain_move, family_move}
 use Rattle.plain_steps.specs.Reported.{reported_with, moved_with}
 

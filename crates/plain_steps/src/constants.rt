@@ -6,7 +6,7 @@ ghost use Rattle.plain_steps.specs.Reported.{reported_with, moved_with};
 
 use crate::written::Written;
 use frames::Frames;
-use loader::plain_operations::{small_int, small_long};
+use linking::plain_operations::{small_int, small_long};
 use model::instructions::Constant;
 use model::turns::Abrupt;
 use values::Value;

@@ -6,8 +6,8 @@ mod selections;
 mod tables;
 
 use crate::texts::{classes, program};
-use loader::accept;
-use loader::operations::Operation;
+use acceptance::accept;
+use linking::operations::Operation;
 use loader::programs::Program;
 use model::listings::Listing;
 use model::names::Name;

@@ -5,7 +5,7 @@
 //! method that does nothing, with limits of locals and of stack; `main` is a method main that does nothing; `main:` is
 //! the head of one, whose code and `end` follow.
 
-use loader::accept;
+use acceptance::accept;
 use loader::programs::Program;
 use model::listings::Listing;
 use std::alloc::{AllocError, Global};

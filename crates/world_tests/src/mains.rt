@@ -1,7 +1,7 @@
 //! Programs of one class, by the lines of its main, their worlds, and the rows of what they come to.
 ghost use Rattle.std.specs.Prelude.{◌≡◌, [], IfOk};
 
-use loader::accept;
+use acceptance::accept;
 use loader::programs::Program;
 use model::journals::{HeapShape, Limits, Row};
 use model::listings::Listing;

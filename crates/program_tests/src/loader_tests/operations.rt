@@ -1,7 +1,7 @@
 //! What a program has for instructions that name something, by hand: classes, slots and words counted from 0.
 
 use crate::texts::program;
-use loader::operations::Operation;
+use linking::operations::Operation;
 use loader::programs::Program;
 use std::alloc::Global;
 use std::test::Fail;

@@ -3,8 +3,8 @@
 
 use super::tables::tables_of;
 use crate::texts::classes;
-use loader::selection::Selection;
-use loader::selectors::Selectors;
+use linking::selection::Selection;
+use linking::selectors::Selectors;
 use model::listings::Listing;
 use std::alloc::{AllocError, Global};
 use std::fmt::Write;

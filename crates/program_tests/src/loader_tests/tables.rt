@@ -2,12 +2,12 @@
 
 use crate::texts::classes;
 use bitflags::Flags;
-use loader::class_tables::ClassTables;
-use loader::initializers::Initializers;
-use loader::method_tables::{Body, Catch, MethodInfo, MethodTables};
-use loader::static_slots::Slot;
-use loader::storages::Storage;
-use loader::tables::Tables;
+use linking::class_tables::ClassTables;
+use linking::initializers::Initializers;
+use linking::method_tables::{Body, Catch, MethodInfo, MethodTables};
+use linking::static_slots::Slot;
+use linking::storages::Storage;
+use linking::tables::Tables;
 use model::builtins::Builtin;
 use model::listings::Listing;
 use model::places::MethodPlace;

@@ -1,6 +1,6 @@
 use Rattle.std.proofs.Common.{◌≡◌, ◌∙◌, List, ap, refl}
-use Rattle.loader.specs.ClassFacts.{ClassFacts}
-use Rattle.loader.specs.ClassTables.{class_tables, superclass_in}
+use Rattle.linking.specs.ClassFacts.{ClassFacts}
+use Rattle.linking.specs.ClassTables.{class_tables, superclass_in}
 use Rattle.instructions.proofs.ClaimFrames.{enters-last, enters-more, has-room, left-class, left-further, left-none}
 use Rattle.instructions.proofs.ClaimFrames.{placed-at}
 use Rattle.instructions.proofs.claims.enter_initializers.Goals as goal

@@ -1,8 +1,8 @@
 use Rattle.std.proofs.Common.{◌≡◌, ◌≤◌, ◌∙◌, ◌-◌, ◌+◌, List, Vec, length, ap, arith, set, subst, sym}
 use Rattle.std.specs.Global.{Global}
 use Rattle.std.proofs.lemmas.List.{set_past}
-use Rattle.loader.specs.ClassFacts.{ClassFacts}
-use Rattle.loader.specs.ClassTables.{class_tables, superclass_in}
+use Rattle.linking.specs.ClassFacts.{ClassFacts}
+use Rattle.linking.specs.ClassTables.{class_tables, superclass_in}
 use Rattle.model.specs.Initialisation.{with_states}
 use Rattle.model.specs.declared.turns.ClassState.{ClassState}
 use Rattle.instructions.specs.InitialisingByNumbers.{claimed}

@@ -1,6 +1,6 @@
 use Rattle.std.proofs.Common.{◌≡◌, ◌∙◌, ◌+◌, ◌-◌, List, ap, arith}
-use Rattle.loader.specs.ClassFacts.{ClassFacts}
-use Rattle.loader.specs.ClassTables.{class_tables, superclass_in}
+use Rattle.linking.specs.ClassFacts.{ClassFacts}
+use Rattle.linking.specs.ClassTables.{class_tables, superclass_in}
 use Rattle.model.specs.Frames.{units_of_frames}
 use Rattle.model.specs.Initialisation.{initializer_frames}
 use Rattle.instructions.proofs.ClaimFrames.{left-class, left-further, left-none, rest_of, units-next, units-over}

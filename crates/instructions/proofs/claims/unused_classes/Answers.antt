@@ -1,6 +1,6 @@
 use Rattle.std.proofs.Common.{◌∙◌, ◌-◌, ◌+◌, length, ap, arith}
-use Rattle.loader.specs.ClassFacts.{ClassFacts}
-use Rattle.loader.specs.ClassTables.{class_tables, superclass_in}
+use Rattle.linking.specs.ClassFacts.{ClassFacts}
+use Rattle.linking.specs.ClassTables.{class_tables, superclass_in}
 use Rattle.model.specs.ClassListings.{ClassListing}
 use Rattle.std.proofs.Common.{List}
 use Rattle.instructions.specs.InitialisingByNumbers.{chain_at}

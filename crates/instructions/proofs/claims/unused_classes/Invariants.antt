@@ -1,5 +1,5 @@
 use Rattle.std.proofs.Common.{◌≤◌, ◌-◌}
-use Rattle.loader.specs.ClassTables.{class_tables}
+use Rattle.linking.specs.ClassTables.{class_tables}
 use Rattle.instructions.specs.InitialisingByNumbers.{chain_at}
 use Rattle.instructions.proofs.ClaimLemmas.{Walks}
 use Rattle.instructions.proofs.claims.unused_classes.Given as goal

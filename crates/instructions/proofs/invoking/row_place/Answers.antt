@@ -1,6 +1,6 @@
 use Rattle.std.proofs.Common.{◌∙◌, ap, sym}
 use Rattle.resolve.specs.Numbers.{all_classes}
-use Rattle.loader.proofs.RunLemmas.{none_hides}
+use Rattle.linking.proofs.RunLemmas.{none_hides}
 use Rattle.instructions.proofs.AcceptedClasses.{unrefused}
 use Rattle.instructions.proofs.SelectedRows.{inside-some, place_of_row, row-selected}
 use Rattle.instructions.proofs.invoking.row_place.Goals as goal

@@ -1,6 +1,6 @@
 use Rattle.std.proofs.Common.{◌∙◌, ap, arith, length, sym}
 use Rattle.std.specs.Option.{option_copied}
-use Rattle.loader.proofs.RunLemmas.{hierarchy as accepted_hierarchy, none_hides}
+use Rattle.linking.proofs.RunLemmas.{hierarchy as accepted_hierarchy, none_hides}
 use Rattle.instructions.proofs.AcceptedClasses.{unrefused}
 use Rattle.instructions.proofs.RunRows.{inside, past-none, row-run}
 use Rattle.instructions.proofs.SelectedRows.{place_of_row}

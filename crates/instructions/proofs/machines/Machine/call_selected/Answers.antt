@@ -5,7 +5,7 @@ use Rattle.instructions.specs.Acting.{shown, site_at, turned}
 use Rattle.instructions.specs.OwnCalls.{own_call}
 use Rattle.instructions.specs.CallsByNumbers.{selected_at}
 use Rattle.instructions.specs.Heaps.{kind_held}
-use Rattle.loader.proofs.RunLemmas.{none_hides}
+use Rattle.linking.proofs.RunLemmas.{none_hides}
 use Rattle.instructions.proofs.AcceptedClasses.{unrefused}
 use Rattle.instructions.proofs.ActingLemmas.{fault_reported}
 use Rattle.instructions.proofs.InvokeLemmas.{by_place, called-by, called-none}

@@ -1,8 +1,8 @@
 use Rattle.std.proofs.Common.{◌≡◌, ◌∙◌, Err, None, Ok, Some, ap, rules, sym}
 use Rattle.model.specs.declared.turns.Fault.TheVariants.{NoInstruction}
 use Rattle.std.specs.Prelude.{slice_get}
-use Rattle.loader.specs.SelectorArguments.{selector_arguments}
-use Rattle.loader.specs.Selectors.{selectors}
+use Rattle.linking.specs.SelectorArguments.{selector_arguments}
+use Rattle.linking.specs.Selectors.{selectors}
 use Rattle.model.specs.Frames.{running_frame}
 use Rattle.instructions.specs.declared.kinds.Course.TheVariants.{Live}
 use Rattle.instructions.specs.Acting.{shown, site_at, turned}

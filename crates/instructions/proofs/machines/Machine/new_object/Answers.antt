@@ -3,7 +3,7 @@ use Rattle.std.proofs.Common.{◌≡◌, ◌<◌, Some, length, refl, sym, ◌�
 use Rattle.model.specs.Accounts.{has_room, take_cell}
 use Rattle.model.specs.Frames.{running, running_frame}
 use Rattle.model.specs.Values.{units_of_all}
-use Rattle.loader.specs.ClassTables.{class_tables, defaults_in}
+use Rattle.linking.specs.ClassTables.{class_tables, defaults_in}
 use Rattle.instructions.specs.declared.kinds.Kind.TheVariants.{Instance}
 use Rattle.instructions.proofs.CreatedLemmas.{blocked_reported, free_taken, new_reported, unblocked}
 use Rattle.instructions.proofs.StoredLemmas.{created-classes, created-shape, created-stored, defaults-stored}

@@ -1,6 +1,6 @@
 use Rattle.std.proofs.Common.{drop, Ok, None, Some, ap, sym, ◌∙◌}
 use Rattle.model.specs.Frames.{ref_on, running_frame}
-use Rattle.loader.specs.Storages.{shown_storage}
+use Rattle.linking.specs.Storages.{shown_storage}
 use Rattle.instructions.specs.declared.kinds.Course.TheVariants.{Live}
 use Rattle.instructions.specs.Acting.{shown, site_at, turned}
 use Rattle.instructions.specs.ByNumbers.{field_put_at}

@@ -1,7 +1,7 @@
 use Rattle.std.proofs.Common.{◌≡◌, refl, rules, ap, ◌∙◌}
 use Rattle.std.specs.Prelude.{slice_set}
 use Rattle.model.specs.Collector.Places.{ref_of}
-use Rattle.loader.specs.Storages.{shown_storage}
+use Rattle.linking.specs.Storages.{shown_storage}
 use Rattle.instructions.specs.Heaps.{shaded}
 use Rattle.instructions.proofs.PushLemmas.{barrier, put_fault_reported, put_reported}
 use Rattle.instructions.proofs.machines.Machine.put_slot.Goals as goal

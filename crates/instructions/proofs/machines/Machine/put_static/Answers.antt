@@ -1,5 +1,5 @@
 use Rattle.std.proofs.Common.{◌≡◌, slice_get, Some, None, ap, sym, ◌∙◌}
-use Rattle.loader.specs.StaticSlots.{static_slots}
+use Rattle.linking.specs.StaticSlots.{static_slots}
 use Rattle.instructions.specs.declared.kinds.Course.TheVariants.{Live}
 use Rattle.instructions.specs.Acting.{shown, site_at, turned}
 use Rattle.instructions.specs.ByNumbers.{static_put_if}

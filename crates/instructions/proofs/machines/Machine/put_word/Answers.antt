@@ -1,7 +1,7 @@
 use Rattle.std.proofs.Common.{◌≡◌, refl, ap, ◌∙◌, arith}
 use Rattle.model.specs.Collector.Places.{ref_of}
 use Rattle.model.specs.Stores.{kept}
-use Rattle.loader.specs.Storages.{shown_storage}
+use Rattle.linking.specs.Storages.{shown_storage}
 use Rattle.instructions.specs.declared.kinds.Course.TheVariants.{Live}
 use Rattle.instructions.specs.Acting.{shown, site_at, turned}
 use Rattle.instructions.specs.ByNumbers.{word_put_at}

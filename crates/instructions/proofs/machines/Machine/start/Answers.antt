@@ -1,7 +1,7 @@
 use Rattle.std.proofs.Common.{◌≡◌, ◌∙◌, Some, None, ap, false, sym, true, arith, length, ◌<◌}
 use Rattle.std.specs.Prelude.{is_some}
 use Rattle.model.specs.declared.turns.Fault.TheVariants.{NoMethod, ThreadLimit}
-use Rattle.loader.proofs.RunLemmas.{none_hides}
+use Rattle.linking.proofs.RunLemmas.{none_hides}
 use Rattle.instructions.specs.declared.kinds.Course.TheVariants.{Live}
 use Rattle.instructions.specs.Acting.{shown, turned}
 use Rattle.instructions.specs.Heaps.{kind_held}

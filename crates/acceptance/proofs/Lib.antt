@@ -1,0 +1,3 @@
+pub mod LimitLemmas
+pub mod PcLemmas
+pub mod RepeatLemmas

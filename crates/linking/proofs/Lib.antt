@@ -1,0 +1,14 @@
+pub mod ClassTableLemmas
+pub mod InitializerLemmas
+pub mod MethodTableLemmas
+pub mod NumberingLemmas
+pub mod OffsetLemmas
+pub mod PlaceLemmas
+pub mod PlainOperationRows
+pub mod RowPlaceLemmas
+pub mod RunLemmas
+pub mod SelectedRowLemmas
+pub mod SelectionLemmas
+pub mod SelectionTableLemmas
+pub mod SelectorLemmas
+pub mod StorageLemmas

@@ -1,8 +1,0 @@
-use Rattle.std.proofs.Common.{◌≡◌, ◌++◌, drop, map}
-use Rattle.loader.specs.Initializers.{class_initializer}
-use Rattle.loader.proofs.initializers.Initializers.new.Given as goal
-
-abbrev pub invariant-loop-class : goal.invariant-loop-class
-invariant-loop-class l =
-    l.all.items ++ map (class_initializer l.classes) (drop l.class-index l.program)
-    ≡ map (class_initializer l.classes) l.program

@@ -1,8 +1,0 @@
-use Rattle.std.proofs.Common.{take}
-use Rattle.model.specs.declared.listings.Method.{Method}
-use Rattle.loader.proofs.RepeatLemmas.{NotesSignatures}
-use Rattle.loader.proofs.members.has_method_twice.Given as goal
-
-abbrev pub invariant-loop-method : goal.invariant-loop-method
-invariant-loop-method l = NotesSignatures (λ (m : Method). m.name) (λ (m : Method). m.descriptor) l.repeats
-    (take l.method-index l.methods)

@@ -1,8 +1,0 @@
-use Rattle.std.proofs.Common.{take}
-use Rattle.resolve.specs.Numbers.{all_classes}
-use Rattle.loader.specs.SelectionTables.{AreTables}
-use Rattle.loader.proofs.selection.tables_of.Given as goal
-
--- the classes so far have their tables
-abbrev pub invariant-loop-number : goal.invariant-loop-number
-invariant-loop-number l = AreTables l.classes l.tables.items (take l.number (all_classes l.classes))

@@ -1,8 +1,0 @@
-use Rattle.std.proofs.Common.{◌≡◌, drop}
-use Rattle.loader.specs.Selectors.{with_instructions}
-use Rattle.loader.proofs.selectors.Signatures.add_instructions.Given as goal
-
--- what was added so far, and what follows
-abbrev pub invariant-loop-placed : goal.invariant-loop-placed
-invariant-loop-placed l = with_instructions l.self (drop l.placed-index l.instructions)
-    ≡ with_instructions l.fn.self l.fn.instructions
