@@ -26,7 +26,7 @@ fn reported(refusal: Refusal<'_>) -> LoadError
 /// Tests whether these listings, in order, are a program: the rules are tried in their order, each over all classes. An
 /// error names the first rule that is broken and the first class that breaks it; `Memory` comes where memory runs out.
 /// Classes are found in an index of their names, and for each class what is above it is walked once (JVMS 5.3).
-#[tactic(auto, using(crate::proofs::RunLemmas::accepted_runs))]
+#[tactic(auto, using(linking::proofs::RunLemmas::accepted_runs))]
 pub fn accept(alloc: Global, program: &[Listing]) -> Result<(), LoadError>
     ensures accepted { OnOk result (refusal_of program.now ≡ None) }
     ensures runs { OnOk result (CanRun program.now) }
