@@ -36,23 +36,24 @@ pub struct Assembled {
 /// A1 where a method's code is empty or has more than 65,535 bytes, A2 where a branch offset is larger than two bytes
 /// have room for, A4 where the keys of a switch don't rise or a table ends past the greatest int: of the first method
 /// in order that has a fault, A4 before A1 before A2. Then A3 where the pool or a list has more than 65,535. A5 where
-/// memory runs out. A tree that no text spells, as one with SUPER, may be refused with A3.
-pub fn assemble(alloc: Global, tree: &ClassTree) -> Result<Assembled, AsmError>
+/// memory runs out. A tree that no text spells, as one with SUPER, may be refused with A3. The tree is taken: each of
+/// its methods is let go as soon as it has its listing.
+pub fn assemble(alloc: Global, tree: ClassTree) -> Result<Assembled, AsmError>
     // The class file has the tree's listing, and the tree is one that can be assembled.
-    ensures found { IfOk result (λ made. (file_listing made.file ≡ listing_of tree.now) × (assembles tree.now ≡ true)) }
+    ensures found { IfOk result (λ made. (file_listing made.file ≡ listing_of tree) × (assembles tree ≡ true)) }
     // Its pool is that of the listing, after the numbers of `ldc`.
-    ensures made { IfOk result (λ made. made.file ≡ assembled_tree tree.now) }
+    ensures made { IfOk result (λ made. made.file ≡ assembled_tree tree) }
     // The listing is the tree's.
-    ensures listed { IfOk result (λ made. made.listing ≡ listing_of tree.now) }
+    ensures listed { IfOk result (λ made. made.listing ≡ listing_of tree) }
     // A tree that some text spells and that can be assembled has one, unless memory runs out.
-    ensures only { is_spelled (listing_of tree.now) ≡ true → assembles tree.now ≡ true
+    ensures only { is_spelled (listing_of tree) ≡ true → assembles tree ≡ true
         → MatchResult result (λ _. ⊤) (λ e. e ≡ error.Memory) }
 {
+    let used = used_in_methods(alloc, tree.methods.as_slice())?;
     let listing = listing(alloc, tree)?;
     if has_super(&listing) || !has_short_lists(&listing) {
         return Err(AsmError::Full);
     }
-    let used = used_in_methods(alloc, tree.methods.as_slice())?;
     let mut numbers = Numbers::new(alloc);
     numbers.ints(used.as_slice())?;
     let file = class_file(alloc, numbers, &listing)?;

@@ -16,7 +16,7 @@ use crate::labels::{label_pc, label_pcs};
 use crate::ldc_numbers::narrow_numbers;
 use crate::sizes::{has_right_size, pc_after};
 use jasmin::Labels;
-use model::listings::{Code, ExceptionRow, Field, Listing, Method, Placed};
+use model::listings::{Code, ExceptionRow, Listing, Method, Placed};
 use model::names::Name;
 use model::trees::{BodyTree, CatchRow, ClassTree, MethodTree, TextLine};
 use std::alloc::{AllocError, Global};
@@ -42,65 +42,43 @@ impl From<AllocError> for CodeFault {
 }
 
 /// The listing of a tree. A method's switches, size and branches are tested, in this order, and the first fault of the
-/// first method that has one is reported: A4, A1 or A2, and A5 where memory runs out.
+/// first method that has one is reported: A4, A1 or A2, and A5 where memory runs out. The tree is taken, method by
+/// method.
 #[tactic(auto, unfolding(model::specs::Texts::ListingOfTree::listing_of, model::specs::Texts::Assembling::assembles, model::specs::Texts::Assembling::listing_assembles))]
-pub fn listing(alloc: Global, tree: &ClassTree) -> Result<Listing, AsmError>
-    ensures found { IfOk result (λ listing. (listing ≡ listing_of tree.now)
+pub fn listing(alloc: Global, tree: ClassTree) -> Result<Listing, AsmError>
+    ensures found { IfOk result (λ listing. (listing ≡ listing_of tree)
         × (list_all method_is_right listing.methods ≡ true)) }
-    ensures only { IfErr result (λ e. assembles tree.now ≡ true → e ≡ error.Memory) }
+    ensures only { IfErr result (λ e. assembles tree ≡ true → e ≡ error.Memory) }
 {
-    let narrow = narrow_numbers(alloc, tree.methods.as_slice())?;
-    let methods = method_listings(alloc, narrow.as_slice(), tree.methods.as_slice())?;
+    let ClassTree {
+        flags,
+        name,
+        superclass,
+        interfaces,
+        fields,
+        methods,
+    } = tree;
+    let narrow = narrow_numbers(alloc, methods.as_slice())?;
+    let methods = method_listings(alloc, narrow.as_slice(), methods)?;
     Ok(Listing {
-        name: tree.name.share()?,
-        flags: tree.flags,
-        superclass: tree.superclass.share()?,
-        interfaces: shared_names(alloc, tree.interfaces.as_slice())?,
-        fields: shared_fields(alloc, tree.fields.as_slice())?,
+        name,
+        flags,
+        superclass,
+        interfaces,
+        fields,
         methods,
     })
 }
 
-fn shared_names(alloc: Global, names: &[Name]) -> Result<Vec<Name>, AllocError>
-    ensures { IfOk result (λ shared. shared.items ≡ names.now) }
-{
-    let mut shared = Vec::new(alloc);
-    for name in names {
-        shared.push(name.share()?)?;
-    }
-    Ok(shared)
-}
-
-fn shared_fields(alloc: Global, fields: &[Field]) -> Result<Vec<Field>, AllocError>
-    ensures { IfOk result (λ shared. shared.items ≡ fields.now) }
-{
-    let mut shared = Vec::new(alloc);
-    for field in fields {
-        shared.push(shared_field(field)?)?;
-    }
-    Ok(shared)
-}
-
-fn shared_field(field: &Field) -> Result<Field, AllocError>
-    ensures { IfOk result (λ shared. shared ≡ field.now) }
-{
-    Ok(Field {
-        flags: field.flags,
-        name: field.name.share()?,
-        descriptor: field.descriptor.share()?,
-        constant: field.constant,
-    })
-}
-
-/// The methods of a listing. `narrow` are the numbers that go with `ldc`.
+/// The methods of a listing, for each of which the tree's is let go. `narrow` are the numbers that go with `ldc`.
 fn method_listings(
     alloc: Global,
     narrow: &[i32],
-    methods: &[MethodTree],
+    methods: Vec<MethodTree>,
 ) -> Result<Vec<Method>, AsmError>
-    ensures found { IfOk result (λ listings. (listings.items ≡ map (method_listing narrow.now) methods.now)
-        × (list_all method_is_right (map (method_listing narrow.now) methods.now) ≡ true)) }
-    ensures only { IfErr result (λ e. list_all method_assembles (map (method_listing narrow.now) methods.now) ≡ true
+    ensures found { IfOk result (λ listings. (listings.items ≡ map (method_listing narrow.now) methods.items)
+        × (list_all method_is_right (map (method_listing narrow.now) methods.items) ≡ true)) }
+    ensures only { IfErr result (λ e. list_all method_assembles (map (method_listing narrow.now) methods.items) ≡ true
         → e ≡ error.Memory) }
 {
     let mut listings = Vec::new(alloc);
@@ -111,23 +89,27 @@ fn method_listings(
     Ok(listings)
 }
 
-fn method_listing(alloc: Global, narrow: &[i32], method: &MethodTree) -> Result<Method, AsmError>
-    ensures found { IfOk result (λ listing. (listing ≡ method_listing narrow.now method.now)
-        × (method_is_right (method_listing narrow.now method.now) ≡ true)) }
-    ensures only { IfErr result (λ e. method_assembles (method_listing narrow.now method.now) ≡ true
+fn method_listing(alloc: Global, narrow: &[i32], method: MethodTree) -> Result<Method, AsmError>
+    ensures found { IfOk result (λ listing. (listing ≡ method_listing narrow.now method)
+        × (method_is_right (method_listing narrow.now method) ≡ true)) }
+    ensures only { IfErr result (λ e. method_assembles (method_listing narrow.now method) ≡ true
         → e ≡ error.Memory) }
 {
-    let name = method.name.share()?;
-    let descriptor = method.descriptor.share()?;
-    let code = match &method.body {
+    let MethodTree {
+        flags,
+        name,
+        descriptor,
+        body,
+    } = method;
+    let code = match body {
         None => None,
-        Some(body) => match code_listing(alloc, narrow, body) {
+        Some(body) => match code_listing(alloc, narrow, &body) {
             Ok(code) => Some(code),
             Err(fault) => return Err(reported(fault, name, descriptor)),
         },
     };
     Ok(Method {
-        flags: method.flags,
+        flags,
         name,
         descriptor,
         code,

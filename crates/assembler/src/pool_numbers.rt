@@ -152,8 +152,8 @@ impl Numbers {
             → MatchResult result (λ file. file ≡ made (entries_of self) body) (λ e. e ≡ class_error.Memory) }
         ensures pool { IsPool self }
     {
-        let Numbers { pool, alloc: _ } = self;
-        ClassFile::new(pool, body)
+        let Numbers { pool, alloc } = self;
+        ClassFile::new(alloc, pool, body)
     }
 
     /// The numbers of a member's class and of its name with its descriptor.

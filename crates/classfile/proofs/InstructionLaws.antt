@@ -23,7 +23,7 @@ use Rattle.pool.specs.Reading.Steps.{Fails}
 use Rattle.classfile.specs.declared.error.ClassError.{ClassError}
 use Rattle.classfile.specs.declared.error.ClassError.TheVariants as reported
 use Rattle.classfile.specs.Reading.Answers.{shown, Tells}
-use Rattle.classfile.specs.Reading.Instructions.{items_from, is_pc, lands_among, decoded, as_format}
+use Rattle.classfile.specs.Reading.Instructions.{items_from, is_pc, lands_among, decoded, items_in, as_format}
 use Rattle.classfile.specs.Writing.{code_bytes}
 
 all-of : {A : Type 0} (P Q : A → Type 0) (xs : List A) → ((x : A) → P x → Q x) → AllByRecursion P xs
@@ -211,6 +211,25 @@ code_is_decoded bytes items code =
       lands items code.land,
     ) refl
 
+pub items_are : (bytes : List ℕ) (items : List Located) → IsCode bytes items → items_in bytes ≡ items
+unfolding items_in
+items_are bytes items code = rw (code_is_decoded bytes items code) refl
+
+-- bytes that are kept, and are those of code
+pub kept_code : (bytes kept : List ℕ) (items : List Located) → kept ≡ bytes → IsCode bytes items
+    → IsCode kept (items_in kept)
+kept_code bytes kept items same code = subst (λ (k : List ℕ). IsCode k (items_in k)) (sym same)
+    (subst (λ (xs : List Located). IsCode bytes xs) (sym (items_are bytes items code)) code)
+
+pub kept_are : (bytes kept : List ℕ) (items : List Located) → kept ≡ bytes → IsCode bytes items → items_in kept ≡ items
+kept_are bytes kept items same code = ap items_in same ∙ items_are bytes items code
+
+pub kept_decoded : (bytes kept : List ℕ) (items : List Located) → kept ≡ bytes → IsCode bytes items
+    → as_format (decoded bytes) ≡ Ok (items_in kept)
+kept_decoded bytes kept items same code =
+    ap as_format (code_is_decoded bytes items code)
+    ∙ ap (λ (xs : List Located). Ok xs) (sym (kept_are bytes kept items same code))
+
 faulty_code : (bytes : List ℕ) (e : OpError) → IsBytes bytes → (e ≡ error.Memory → ⊥)
     → ((items : List Located) → IsCode bytes items → e ≡ error.Memory) → as_format (decoded bytes) ≡ Err Attribute
 faulty_code bytes e fits other only = by_answer (decoded bytes) refl where
@@ -237,3 +256,10 @@ stands_bytes pc (x ∷ xs) bytes stand =
 
 pub code_bytes_are : (bytes : List ℕ) (items : List Located) → IsCode bytes items → bytes ≡ code_bytes items
 code_bytes_are bytes items code = stands_bytes 0 items bytes code.stand
+
+-- instructions that are seen as those of kept bytes are code of their own bytes
+pub seen_code : (bytes : List ℕ) (items : List Located) → items_in bytes ≡ items → IsCode bytes (items_in bytes)
+    → IsCode (code_bytes items) items
+seen_code bytes items seen code =
+    let same : IsCode bytes items = subst (λ (xs : List Located). IsCode bytes xs) seen code in
+    subst (λ (spelled : List ℕ). IsCode spelled items) (code_bytes_are bytes items same) same

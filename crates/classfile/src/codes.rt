@@ -77,8 +77,8 @@ fn sound_code(
 ) -> Result<Instructions, ClassError>
     ensures { Answers (λ x. x) result (sound_from pool.now code.now) }
 {
-    let instructions = Instructions::read(alloc, method, code)?;
-    if all_sound(pool, instructions.as_slice()) {
+    let (instructions, items) = Instructions::read(alloc, method, code)?;
+    if all_sound(pool, items.as_slice()) {
         Ok(instructions)
     } else {
         Err(ClassError::Format(FormatFault::Index))

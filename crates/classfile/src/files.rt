@@ -1,6 +1,6 @@
 //! Class files, whole.
 
-ghost use Rattle.std.specs.Prelude.{◌≡◌, ◌↔◌, ◌++◌, ◌<◌, ◌^◌, ℕ, List, length, true, is_ok, IfOk, OnOk, MatchResult};
+ghost use Rattle.std.specs.Prelude.{◌≡◌, ◌↔◌, ◌++◌, ◌<◌, ◌^◌, ℕ, List, length, true, IfOk, IfErr, OnOk, MatchResult};
 ghost use Rattle.std.specs.List.{flat_map, AllByRecursion};
 ghost use Rattle.model.specs.ClassFiles.Classes.{ClassPart, IsClassFile};
 ghost use Rattle.classfile.specs.Classes.{IsClass};
@@ -167,22 +167,31 @@ pub fn one_class_file()
 {}
 
 /// Whether a head and methods are those of some class file.
-fn class_stands(head: &ClassHead, methods: &[MethodEntry]) -> bool
-    ensures { (result ≡ true) ↔ IsClass (record { head = head.now; methods = methods.now }) }
+fn class_stands(
+    alloc: Global,
+    head: &ClassHead,
+    methods: &[MethodEntry],
+) -> Result<bool, AllocError>
+    ensures { IfOk result (λ stands. (stands ≡ true) ↔ IsClass (record { head = head.now; methods = methods.now })) }
 {
-    let stand = methods_stand(head.pool(), head.flags(), methods);
-    both(is_count(methods.len()), stand)
+    let stand = methods_stand(alloc, head.pool(), head.flags(), methods)?;
+    Ok(both(is_count(methods.len()), stand))
 }
 
 impl ClassFile {
     /// The class file of a head and methods. C8 where one of them is none of such a class, or they are more than
-    /// 65,535.
-    pub(crate) fn of(head: ClassHead, methods: Vec<MethodEntry>) -> Result<ClassFile, FormatFault>
+    /// 65,535. C10 where memory runs out.
+    pub(crate) fn of(
+        alloc: Global,
+        head: ClassHead,
+        methods: Vec<MethodEntry>,
+    ) -> Result<ClassFile, ClassError>
         ensures made { IfOk result (λ file. file ≡ record { head = head; methods = methods.items }) }
-        ensures only { IsClass (record { head = head; methods = methods.items }) → is_ok result ≡ true }
+        ensures only { IfErr result (λ e. IsClass (record { head = head; methods = methods.items })
+            → e ≡ error.Memory) }
     {
-        if !class_stands(&head, methods.as_slice()) {
-            return Err(FormatFault::Attribute);
+        if !class_stands(alloc, &head, methods.as_slice())? {
+            return Err(ClassError::Format(FormatFault::Attribute));
         }
         Ok(ClassFile { head, methods })
     }

@@ -5,13 +5,13 @@ ghost use Rattle.model.specs.Bytecode.{IsCode, instructions_of};
 ghost use Rattle.model.specs.declared.bytecode.Located.{Located as Placed};
 ghost use Rattle.opcodes.specs.declared.error.OpError.TheVariants as op;
 ghost use Rattle.classfile.specs.Reading.Answers.{Answers, Tells};
-ghost use Rattle.classfile.specs.Reading.Instructions.{decoded, as_format};
+ghost use Rattle.classfile.specs.Reading.Instructions.{decoded as decoding, as_format};
 ghost use Rattle.classfile.specs.Writing.{code_bytes};
 
 use crate::error::ClassError;
 use model::names::Name;
-use opcodes::{Code, Instr, Located, OpError, decode, encode};
-use std::alloc::Global;
+use opcodes::{Code, Instr, OpError, decode, encode};
+use std::alloc::{AllocError, Global};
 use std::marker::Model;
 
 /// The name and the descriptor of a method, to tell it by.
@@ -21,23 +21,23 @@ pub struct Signature<'a> {
     pub descriptor: &'a [u8],
 }
 
-/// The instructions of a method, with the bytes that they were read from. A contract sees the instructions.
+/// The instructions of a method, kept as their bytes. A contract sees the instructions.
 #[derive(Drop)]
 pub struct Instructions {
     bytes: Vec<u8>,
-    code: Code,
 }
 
 impl Model for Instructions {
     ghost use Rattle.std.specs.Prelude.{List};
     ghost use Rattle.model.specs.Bytecode.{IsCode};
     ghost use Rattle.model.specs.declared.bytecode.Located.{Located};
+    ghost use Rattle.classfile.specs.Reading.Instructions.{items_in};
 
     ghost Value = { List Located };
 
-    ghost view = { λ a. a.code };
+    ghost view = { λ a. items_in a.bytes.items };
 
-    ghost invariant = { λ a. IsCode a.bytes.items a.code };
+    ghost invariant = { λ a. IsCode a.bytes.items (items_in a.bytes.items) };
 }
 
 /// A method's code is faulty. Want of memory is reported alone, also where there is none for the method's name.
@@ -62,15 +62,21 @@ fn faulty(alloc: Global, method: Signature, fault: OpError) -> ClassError
 }
 
 impl Instructions {
-    /// The instructions that the bytes are the code of. Faulty code is reported with its method.
-    pub fn read(alloc: Global, method: Signature, bytes: &[u8]) -> Result<Instructions, ClassError>
-        ensures { Answers (λ x. x) result (as_format (decoded bytes.now)) }
+    /// The instructions that the bytes are the code of, as they are kept and decoded. Faulty code is reported with its
+    /// method.
+    pub fn read(
+        alloc: Global,
+        method: Signature,
+        bytes: &[u8],
+    ) -> Result<(Instructions, Code), ClassError>
+        ensures kept { Answers (λ x. x.0) result (as_format (decoding bytes.now)) }
+        ensures same { IfOk result (λ x. x.1 ≡ x.0) }
     {
         match decode(alloc, bytes) {
-            Ok(code) => Ok(Instructions {
-                bytes: Vec::from_slice(alloc, bytes)?,
-                code,
-            }),
+            Ok(code) => {
+                let bytes = Vec::from_slice(alloc, bytes)?;
+                Ok((Instructions { bytes }, code))
+            }
             Err(fault) => Err(faulty(alloc, method, fault)),
         }
     }
@@ -87,8 +93,7 @@ impl Instructions {
             → MatchResult result (λ code. code ≡ items) (λ e. e ≡ op.Memory) }
     {
         let bytes = encode(alloc, instructions)?;
-        let code = decode(alloc, &bytes)?;
-        Ok(Instructions { bytes, code })
+        Ok(Instructions { bytes })
     }
 
     /// The bytes of the instructions.
@@ -98,12 +103,15 @@ impl Instructions {
         self.bytes.as_slice()
     }
 
-    /// The instructions, in order.
-    pub fn as_slice(&self) -> &[Located]
-        ensures same { result.now ≡ self.now }
+    /// The instructions, in order, each at its pc. `AllocError` where memory runs out, and for nothing else.
+    pub fn decoded(&self, alloc: Global) -> Result<Code, AllocError>
+        ensures same { IfOk result (λ code. code ≡ self.now) }
         // They are code.
         ensures code { IsCode (code_bytes self.now) self.now }
     {
-        self.code.as_slice()
+        match decode(alloc, self.bytes.as_slice()) {
+            Ok(code) => Ok(code),
+            Err(_) => Err(AllocError),
+        }
     }
 }

@@ -71,11 +71,12 @@ fn listed_method(alloc: Global, pool: &Pool, method: &MethodEntry) -> Result<Met
 fn listed_code(alloc: Global, pool: &Pool, code: &CodeEntry) -> Result<Code, AllocError>
     ensures { IfOk result (λ listed. listed ≡ listing.listed_code pool.now code.now) }
 {
+    let items = code.instructions.decoded(alloc)?;
     Ok(Code {
         max_stack: code.max_stack,
         max_locals: code.max_locals,
         rows: listed_rows(alloc, pool, &code.rows)?,
-        instructions: listed_instructions(alloc, pool, code.instructions.as_slice())?,
+        instructions: listed_instructions(alloc, pool, items.as_slice())?,
     })
 }
 

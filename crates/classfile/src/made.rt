@@ -12,6 +12,7 @@ use crate::methods::MethodEntry;
 use model::class_files::FieldEntry;
 use model::flags::ClassFlags;
 use pool::PoolBuilder;
+use std::alloc::Global;
 use std::marker::Model;
 
 /// What a class file has beside its pool (JVMS 4.1): the class's flags, the numbers of the class, its superclass and
@@ -46,7 +47,7 @@ impl ClassFile {
     /// of the pool can't be written, C6 or C7 for what entries name, then C11 where the class's flags don't go
     /// together, C6 where a number isn't that of a class that is no array, and C8 where a field or a method isn't one
     /// of such a class, or they or the interfaces are more than 65,535. C10 where memory runs out.
-    pub fn new(pool: PoolBuilder, body: Body) -> Result<ClassFile, ClassError>
+    pub fn new(alloc: Global, pool: PoolBuilder, body: Body) -> Result<ClassFile, ClassError>
         // The class file has the entries and the body.
         ensures made { IfOk result (λ file. file ≡ made pool body) }
         // What bytes could be those of is made, unless memory runs out.
@@ -73,9 +74,6 @@ impl ClassFile {
             Ok(head) => head,
             Err(fault) => return Err(ClassError::Format(fault)),
         };
-        match ClassFile::of(head, methods) {
-            Ok(file) => Ok(file),
-            Err(fault) => Err(ClassError::Format(fault)),
-        }
+        ClassFile::of(alloc, head, methods)
     }
 }

@@ -1,6 +1,6 @@
 //! Whether methods may stand in a class file.
 
-ghost use Rattle.std.specs.Prelude.{◌≡◌, ◌↔◌, ◌&&◌, ◌||◌, ◌==◌, ◌<◌, ◌^◌, true};
+ghost use Rattle.std.specs.Prelude.{◌≡◌, ◌↔◌, ◌&&◌, ◌||◌, ◌==◌, ◌<◌, ◌^◌, true, IfOk};
 ghost use Rattle.std.specs.List.{AllByRecursion};
 ghost use Rattle.model.specs.Texts.Names.{is_method_name as method_name_test};
 ghost use Rattle.model.specs.ClassFiles.Attributes.{passes};
@@ -22,6 +22,7 @@ use crate::sound_fields::{both, is_count};
 use bitflags::Flags;
 use model::bytecode::Located;
 use pool::Pool;
+use std::alloc::{AllocError, Global};
 
 /// Whether a row of these numbers may stand in an exception table: its class is one, or 0.
 fn is_row(pool: &Pool, start: u16, end: u16, handler: u16, class: u16) -> bool
@@ -75,12 +76,13 @@ fn is_code(
 }
 
 /// Whether code may stand in a class file with this pool.
-fn code_stands(pool: &Pool, code: &CodeEntry) -> bool
-    ensures { (result ≡ true) ↔ CodeStands pool.now code.now }
+fn code_stands(alloc: Global, pool: &Pool, code: &CodeEntry) -> Result<bool, AllocError>
+    ensures { IfOk result (λ stands. (stands ≡ true) ↔ CodeStands pool.now code.now) }
 {
     let rows = code.rows.as_slice();
     let fit = both(is_count(rows.len()), rows_stand(pool, rows));
-    let instructions = code.instructions.as_slice();
+    let items = code.instructions.decoded(alloc)?;
+    let instructions = items.as_slice();
     let is_sound = is_code(
         pool,
         code.name,
@@ -88,16 +90,27 @@ fn code_stands(pool: &Pool, code: &CodeEntry) -> bool
         code.max_locals,
         instructions,
     );
-    both(is_sound, fit)
+    Ok(both(is_sound, fit))
 }
 
 /// Whether a method has code, and such as may stand there, where one is wanted, and else none.
-fn codes_stand(pool: &Pool, wanted: bool, code: &Option<CodeEntry>) -> bool
-    ensures { (result ≡ true) ↔ CodesStand pool.now wanted code.now }
+fn codes_stand(
+    alloc: Global,
+    pool: &Pool,
+    wanted: bool,
+    code: &Option<CodeEntry>,
+) -> Result<bool, AllocError>
+    ensures { IfOk result (λ stand. (stand ≡ true) ↔ CodesStand pool.now wanted code.now) }
 {
     match code {
-        None => !wanted,
-        Some(code) => wanted && code_stands(pool, code),
+        None => Ok(!wanted),
+        Some(code) => {
+            if wanted {
+                code_stands(alloc, pool, code)
+            } else {
+                Ok(false)
+            }
+        }
     }
 }
 
@@ -113,23 +126,33 @@ fn is_method(pool: &Pool, class: u16, flags: u16, name: u16, descriptor: u16) ->
 }
 
 /// Whether a method may stand in a class of these flags.
-fn method_stands(pool: &Pool, class: u16, method: &MethodEntry) -> bool
-    ensures { (result ≡ true) ↔ MethodStands pool.now class method.now }
+fn method_stands(
+    alloc: Global,
+    pool: &Pool,
+    class: u16,
+    method: &MethodEntry,
+) -> Result<bool, AllocError>
+    ensures { IfOk result (λ stands. (stands ≡ true) ↔ MethodStands pool.now class method.now) }
 {
     let flags = method.flags.bits();
-    let has_code = codes_stand(pool, wants_code(flags), &method.code);
+    let has_code = codes_stand(alloc, pool, wants_code(flags), &method.code)?;
     let is_sound = is_method(pool, class, flags, method.name, method.descriptor);
-    both(is_sound, has_code)
+    Ok(both(is_sound, has_code))
 }
 
 /// Whether methods may stand in a class of these flags.
-pub fn methods_stand(pool: &Pool, class: u16, methods: &[MethodEntry]) -> bool
-    ensures { (result ≡ true) ↔ AllByRecursion (MethodStands pool.now class) methods.now }
+pub fn methods_stand(
+    alloc: Global,
+    pool: &Pool,
+    class: u16,
+    methods: &[MethodEntry],
+) -> Result<bool, AllocError>
+    ensures { IfOk result (λ stand. (stand ≡ true) ↔ AllByRecursion (MethodStands pool.now class) methods.now) }
 {
     for method in methods {
-        if !method_stands(pool, class, method) {
-            return false;
+        if !method_stands(alloc, pool, class, method)? {
+            return Ok(false);
         }
     }
-    true
+    Ok(true)
 }

@@ -68,7 +68,7 @@ pub fn again(alloc: Global, file: &ClassFile) -> Result<ClassFile, AgainError>
         Ok(tree) => tree,
         Err(error) => return Err(AgainError::Tree(error)),
     };
-    match assemble(alloc, &tree) {
+    match assemble(alloc, tree) {
         Ok(made) => Ok(made.file),
         Err(error) => Err(AgainError::Assembly(error)),
     }

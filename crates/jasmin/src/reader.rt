@@ -17,7 +17,7 @@ use crate::errors::{Fault, TextError};
 use crate::fields::field;
 use crate::flags::WITHOUT_CODE;
 use crate::heads::{ClassHead, MethodHead, class_head, interface_name, method_head, super_name};
-use crate::label_lines::LabelLines;
+use crate::notes::Notes;
 use crate::switches::OpenSwitch;
 use crate::uses::labels_agree;
 use bitflags::Flags;
@@ -35,12 +35,21 @@ pub fn read(alloc: Global, text: &[u8]) -> Result<ClassTree, TextError>
         → tree_of text.now ≡ None) }
 {
     let mut statements = Statements::new(text);
-    let mut labels = LabelLines::new(alloc);
-    match class_tree(alloc, &mut statements, &mut labels) {
+    let Ok(mut notes) = Notes::new(alloc) else {
+        return Err(TextError {
+            line: statements.line(),
+            fault: Fault::Memory,
+        });
+    };
+    match class_tree(alloc, &mut statements, &mut notes) {
         Ok(tree) => Ok(tree),
         Err(fault) => {
             let line = statements.line();
-            Err(labels.reported(alloc, text, TextError { line, fault }))
+            Err(
+                notes
+                    .labels
+                    .reported(alloc, text, TextError { line, fault }),
+            )
         }
     }
 }
@@ -49,7 +58,7 @@ pub fn read(alloc: Global, text: &[u8]) -> Result<ClassTree, TextError>
 fn class_tree(
     alloc: Global,
     statements: &mut Statements<'_>,
-    labels: &mut LabelLines,
+    notes: &mut Notes,
 ) -> Result<ClassTree, Fault>
     ensures { MatchResult result (λ tree. class_tree statements.old ≡ Some tree) (λ e. e ≢ Fault.Memory
         → class_tree statements.old ≡ None) }
@@ -58,7 +67,7 @@ fn class_tree(
     let head = class_head(first)?;
     let second = next_of(statements)?.ok_or(Fault::Statement)?;
     let superclass = super_name(head.flags, second)?;
-    members_after(alloc, head, superclass, statements, labels)
+    members_after(alloc, head, superclass, statements, notes)
 }
 
 /// The class of a head and a superclass, by the statements of its interfaces, fields and methods.
@@ -67,7 +76,7 @@ fn members_after(
     head: ClassHead<'_>,
     superclass: &[u8],
     statements: &mut Statements<'_>,
-    labels: &mut LabelLines,
+    notes: &mut Notes,
 ) -> Result<ClassTree, Fault>
     ensures { MatchResult result
         (λ tree. class_under head.entry.flags head.entry.name.now superclass.now statements.old ≡ Some tree) (λ e. e
@@ -76,7 +85,7 @@ fn members_after(
     let third = next_of(statements)?;
     let (interfaces, following) = interfaces_of(alloc, third, statements)?;
     let (fields, following) = fields_of(alloc, head.flags, following, statements)?;
-    let methods = methods_of(alloc, head.flags, following, statements, labels)?;
+    let methods = methods_of(alloc, head.flags, following, statements, notes)?;
     Ok(ClassTree {
         flags: head.flags,
         name: Name::copy_of(alloc, head.name)?,
@@ -151,7 +160,7 @@ fn methods_of<'a>(
     class: ClassFlags,
     first: Option<Statement<'a>>,
     statements: &mut Statements<'a>,
-    labels: &mut LabelLines,
+    notes: &mut Notes,
 ) -> Result<Vec<MethodTree>, Fault>
     ensures { MatchResult result (λ methods. methods_of class (ahead first.entry statements.old)
         ≡ Some methods.items) (λ e. e ≢ Fault.Memory → methods_of class (ahead first.entry statements.old) ≡ None) }
@@ -160,7 +169,7 @@ fn methods_of<'a>(
     let mut next = first;
     'rows: while let Some(statement) = next {
         let head = method_head(class, statement)?;
-        let method = method_under(alloc, class, head, statements, labels)?;
+        let method = method_under(alloc, class, head, statements, notes)?;
         methods.push(method)?;
         next = next_of(statements)?;
     }
@@ -174,7 +183,7 @@ fn method_under(
     class: ClassFlags,
     head: MethodHead<'_>,
     statements: &mut Statements<'_>,
-    labels: &mut LabelLines,
+    notes: &mut Notes,
 ) -> Result<MethodTree, Fault>
     ensures { MatchResult result (λ method.
         (first_method (record {
@@ -190,7 +199,7 @@ fn method_under(
         }) statements.old ≡ None) }
 {
     let name = Name::copy_of(alloc, head.name)?;
-    let descriptor = Name::copy_of(alloc, head.descriptor)?;
+    let descriptor = notes.names.shared(Name::copy_of(alloc, head.descriptor)?);
     let flags = head.flags;
     if flags.bits() & WITHOUT_CODE != 0 {
         no_body(class, statements)?;
@@ -201,7 +210,7 @@ fn method_under(
             body: None,
         });
     }
-    let body = body(alloc, class, statements, labels)?;
+    let body = body(alloc, class, statements, notes)?;
     Ok(MethodTree {
         flags,
         name,
@@ -227,14 +236,14 @@ fn body(
     alloc: Global,
     class: ClassFlags,
     statements: &mut Statements<'_>,
-    labels: &mut LabelLines,
+    notes: &mut Notes,
 ) -> Result<BodyTree, Fault>
     ensures { MatchResult result (λ body. (first_body statements.old ≡ Some body)
         × (statements.new ≡ after_block statements.old)) (λ e. e ≢ Fault.Memory → first_body statements.old ≡ None) }
 {
-    let body = body_parts(alloc, class, statements, labels)?;
+    let body = body_parts(alloc, class, statements, notes)?;
     labels_agree(alloc, body.rows.as_slice(), body.lines.as_slice())?;
-    labels.clear();
+    notes.labels.clear();
     Ok(body)
 }
 
@@ -244,7 +253,7 @@ fn body_parts(
     alloc: Global,
     class: ClassFlags,
     statements: &mut Statements<'_>,
-    labels: &mut LabelLines,
+    notes: &mut Notes,
 ) -> Result<BodyTree, Fault>
     ensures { MatchResult result (λ body. (first_parts statements.old ≡ Some body)
         × (statements.new ≡ after_block statements.old)) (λ e. e ≢ Fault.Memory → first_parts statements.old ≡ None) }
@@ -261,7 +270,7 @@ fn body_parts(
             given_of(stack, locals),
             open.take(),
             statement,
-            labels,
+            notes,
             statements.line(),
         )? {
             Part::End => return whole_body(stack, locals, rows, lines),
@@ -286,14 +295,14 @@ fn body_parts(
 }
 
 /// What a statement of a body says, in a class with these flags, where a switch may be open; the labels on its line are
-/// noted.
+/// noted, and its names are shared.
 fn noted_part(
     alloc: Global,
     class: ClassFlags,
     given: Given,
     current: Option<OpenSwitch>,
     statement: Statement<'_>,
-    labels: &mut LabelLines,
+    notes: &mut Notes,
     line: usize,
 ) -> Result<Part, Fault>
     ensures { MatchResult result (λ part. Says (opened current)
@@ -301,7 +310,8 @@ fn noted_part(
         → SaysNothing (opened current) (Some (statement.entry.first.now ∷ statement.entry.operands))) }
 {
     let part = part_of(alloc, class, given, current, statement)?;
-    labels.note(&part, line)?;
+    let part = notes.names.shared_part(part);
+    notes.labels.note(&part, line)?;
     Ok(part)
 }
 

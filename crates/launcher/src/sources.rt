@@ -49,7 +49,7 @@ pub fn assembled(alloc: Global, text: &[u8]) -> Result<Assembled, SourceError>
         Err(error) => return Err(SourceError::Text(error)),
     };
     jasmin::texts_are_spelled();
-    match assemble(alloc, &tree) {
+    match assemble(alloc, tree) {
         Ok(made) => Ok(made),
         Err(error) => Err(SourceError::Assembly(error)),
     }

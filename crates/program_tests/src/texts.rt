@@ -69,7 +69,7 @@ fn text_of(alloc: Global, class: &str) -> Result<String, AllocError> {
 fn listed(alloc: Global, class: &str) -> Result<Listing, Fail> {
     let text = text_of(alloc, class)?;
     let tree = jasmin::read(alloc, text.as_bytes())?;
-    Ok(assembler::listing(alloc, &tree)?)
+    Ok(assembler::listing(alloc, tree)?)
 }
 
 /// The classes of a row.

@@ -64,7 +64,7 @@ const PCS: &[(u16, u16)] = &[(0, 2), (2, 3), (3, 4), (4, 7), (7, 8)];
 /// The listing of a text.
 fn listed(alloc: Global, text: &str) -> Result<Listing, Fail> {
     let tree = jasmin::read(alloc, text.as_bytes())?;
-    Ok(assembler::listing(alloc, &tree)?)
+    Ok(assembler::listing(alloc, tree)?)
 }
 
 /// Whether the listing of the text of five instructions has these pcs, and that text.

@@ -24,7 +24,7 @@ pub const DIVISION: &str = "iconst_1\niconst_0\nidiv\nreturn\n";
 
 fn listed(alloc: Global, text: &str) -> Result<Listing, Fail> {
     let tree = jasmin::read(alloc, text.as_bytes())?;
-    Ok(assembler::listing(alloc, &tree)?)
+    Ok(assembler::listing(alloc, tree)?)
 }
 
 /// The program of one text.

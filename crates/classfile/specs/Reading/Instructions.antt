@@ -37,6 +37,14 @@ decoded bytes =
     else Err error.Branch)
     else Err error.Length
 
+abbrev pub items_or_none : Result (List Located) OpError → List Located
+items_or_none (Ok items) = items
+items_or_none (Err e) = []
+
+-- the instructions of code, none of bytes that are no code
+unfoldable pub items_in : List ℕ → List Located
+items_in bytes = items_or_none (decoded bytes)
+
 -- faulty code as a faulty attribute
 abbrev pub as_format : {A : Type 0} → Result A OpError → Result A FormatFault
 as_format (Ok x) = Ok x

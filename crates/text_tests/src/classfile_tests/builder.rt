@@ -163,7 +163,7 @@ fn entries(alloc: Global, part: Part) -> Result<PoolBuilder, Fail> {
 fn made(alloc: Global, part: Part) -> Result<Result<ClassFile, ClassError>, Fail> {
     let mut body = e_body(alloc);
     add_part(alloc, &mut body, part)?;
-    Ok(ClassFile::new(entries(alloc, part)?, body))
+    Ok(ClassFile::new(alloc, entries(alloc, part)?, body))
 }
 
 /// E's method as it is.

@@ -7,7 +7,7 @@ use model::instructions::Instruction;
 use std::alloc::{AllocError, Global};
 
 /// Whether this is E: its head, its one method, and its one instruction.
-fn is_e(file: &ClassFile) -> bool {
+fn is_e(alloc: Global, file: &ClassFile) -> bool {
     let head = file.head();
     let [main] = file.methods() else {
         return false;
@@ -15,7 +15,10 @@ fn is_e(file: &ClassFile) -> bool {
     let Some(code) = &main.code else {
         return false;
     };
-    let [end] = code.instructions.as_slice() else {
+    let Ok(items) = code.instructions.decoded(alloc) else {
+        return false;
+    };
+    let [end] = items.as_slice() else {
         return false;
     };
     (head.class(), head.superclass(), head.flags()) == (2, 4, 0x0021)
@@ -36,7 +39,7 @@ fn has_bytes(alloc: Global, file: &ClassFile, wanted: &[u8]) -> bool {
 /// Whether a copy of a class file is E, and written as these bytes.
 fn copy_is_e(alloc: Global, file: &ClassFile, wanted: &[u8]) -> bool {
     match again(alloc, file) {
-        Ok(copy) => is_e(&copy) && has_bytes(alloc, &copy, wanted),
+        Ok(copy) => is_e(alloc, &copy) && has_bytes(alloc, &copy, wanted),
         Err(_) => false,
     }
 }

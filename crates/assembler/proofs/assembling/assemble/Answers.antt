@@ -25,17 +25,17 @@ returns-then-has_super-clause-only c spelled whole =
     elim c.then-has_super.branch [
       | then-has_super-via-then-has_super w ↦
           let wrong = sym w.if-has_super.true ∙ c.has_super.ensures.is ∙ ap (λ k. has k.flags.0 0x0020) l
-          ∙ laws.no_super (listing_of c.args.tree.now) spelled in
+          ∙ laws.no_super (listing_of c.args.tree) spelled in
           cc
       | then-has_super-via-else-has_super+then-not-has_short_lists w ↦
           let wrong = sym w.if-not-has_short_lists.true ∙ w.has_short_lists.ensures ∙ ap has_short_lists l
-          ∙ laws.short_lists (listing_of c.args.tree.now) whole in
+          ∙ laws.short_lists (listing_of c.args.tree) whole in
           cc
     ]
 
 pub returns-in_err-ints-clause-only : goal.returns-in_err-ints-clause-only
 returns-in_err-ints-clause-only c spelled whole =
-    let t = c.args.tree.now in
+    let t = c.args.tree in
     let same = c.as_slice-2.ensures.value ∙ c.in_ok-used.ensures ∙ ap used_in_methods (c.as_slice.ensures.value
     ∙ ap (λ t. t.methods) c.tree.view_is) in
     given_on c.from_residual-in_err-ints.result c.in_err-ints.field-0.0 (λ e. e ≡ error.Memory)
@@ -45,31 +45,31 @@ returns-in_err-ints-clause-only c spelled whole =
 
 pub class_file-requires : goal.class_file-requires
 class_file-requires c = subst (λ (l : ClassListing). list_all (λ m. code_stands m.code) l.methods ≡ true)
-    (sym c.in_ok-listing.ensures.found.0) (laws.listing_stands c.args.tree.now)
+    (sym c.in_ok-listing.ensures.found.0) (laws.listing_stands c.args.tree)
 
 pub returns-in_err-file-clause-only : goal.returns-in_err-file-clause-only
 returns-in_err-file-clause-only c spelled whole =
     let same = c.as_slice-2.ensures.value ∙ c.in_ok-used.ensures ∙ ap used_in_methods (c.as_slice.ensures.value
     ∙ ap (λ t. t.methods) c.tree.view_is) in
-    let pool = laws.tree_pool c.args.tree.now c.new-numbers.result c.ints.new.self c.as_slice-2.result.now
+    let pool = laws.tree_pool c.args.tree c.new-numbers.result c.ints.new.self c.as_slice-2.result.now
     c.new-numbers.ensures same c.in_ok-ints.ensures.added c.in_ok-listing.listing c.in_ok-listing.ensures.found.0
     in
     given_on c.from_residual-in_err-file.result c.in_err-file.field-0.0 (λ e. e ≡ error.Memory)
     c.from_residual-in_err-file.ensures.1
-    (c.in_err-file.ensures.only (subst IsClass (sym pool) (has_class c.args.tree.now spelled whole)))
+    (c.in_err-file.ensures.only (subst IsClass (sym pool) (has_class c.args.tree spelled whole)))
 
 pub returns-clause-made : goal.returns-clause-made
 returns-clause-made c =
     let same = c.as_slice-2.ensures.value ∙ c.in_ok-used.ensures ∙ ap used_in_methods (c.as_slice.ensures.value
     ∙ ap (λ t. t.methods) c.tree.view_is) in
-    let pool = laws.tree_pool c.args.tree.now c.new-numbers.result c.ints.new.self c.as_slice-2.result.now
+    let pool = laws.tree_pool c.args.tree c.new-numbers.result c.ints.new.self c.as_slice-2.result.now
     c.new-numbers.ensures same c.in_ok-ints.ensures.added c.in_ok-listing.listing c.in_ok-listing.ensures.found.0
     in
     c.in_ok-file.ensures.found.0 ∙ pool
 
 pub returns-clause-found : goal.returns-clause-found
 returns-clause-found c =
-    let t = c.args.tree.now in
+    let t = c.args.tree in
     let l = c.in_ok-listing.ensures.found.0 in
     let items = with_items c.ints.new.self (listing_items c.in_ok-listing.listing) in
     let same = c.as_slice-2.ensures.value ∙ c.in_ok-used.ensures ∙ ap used_in_methods (c.as_slice.ensures.value

@@ -1,4 +1,4 @@
-use Rattle.std.proofs.Common.{subst}
+use Rattle.std.proofs.Common.{subst, ◌∙◌}
 use Rattle.std.specs.Prelude.{◌≡◌, ◌↔◌, true}
 use Rattle.model.specs.ClassFiles.Codes.{CodePart}
 use Rattle.classfile.specs.Sound.{CodeStands}
@@ -18,6 +18,6 @@ returns c =
     subst (λ (k : CodePart). (c.both.result ≡ true) ↔ CodeStands c.args.pool.now k) c.code.view_is
     (laws.code_test c.args.pool.now code c.as_slice-instructions.result.now c.as_slice-rows.result.now
     c.is_code-is_sound.result c.is_count.result c.rows_stand.result c.both-fit.result c.both.result
-    c.as_slice-instructions.ensures.same c.as_slice-rows.ensures.value c.is_code-is_sound.ensures.fits
-    c.as_slice-instructions.ensures.code c.is_code-is_sound.ensures.is c.is_count.ensures c.rows_stand.ensures
-    c.both-fit.ensures c.both.ensures)
+    (c.as_slice-instructions.ensures ∙ c.in_ok-items.ensures.same) c.as_slice-rows.ensures.value
+    c.is_code-is_sound.ensures.fits c.in_ok-items.ensures.code c.is_code-is_sound.ensures.is c.is_count.ensures
+    c.rows_stand.ensures c.both-fit.ensures c.both.ensures)

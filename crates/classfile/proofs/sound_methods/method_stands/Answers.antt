@@ -17,6 +17,6 @@ returns c =
     } in
     subst (λ (m : MethodPart). (c.both.result ≡ true) ↔ MethodStands c.args.pool.now c.args.class m) c.method.view_is
     (laws.method_test c.args.pool.now c.args.class method c.bits-flags.result c.wants_code.result
-    c.is_method-is_sound.result c.codes_stand-has_code.result c.both.result (c.bits-flags.ensures tt)
-    c.is_method-is_sound.ensures.fits c.is_method-is_sound.ensures.is c.wants_code.ensures
-    c.codes_stand-has_code.ensures c.both.ensures)
+    c.is_method-is_sound.result c.in_ok-has_code.has_code c.both.result (c.bits-flags.ensures tt)
+    c.is_method-is_sound.ensures.fits c.is_method-is_sound.ensures.is c.wants_code.ensures c.in_ok-has_code.ensures
+    c.both.ensures)

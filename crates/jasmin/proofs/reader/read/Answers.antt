@@ -1,9 +1,9 @@
 use Rattle.model.specs.Texts.{tree_of}
 use Rattle.jasmin.proofs.reader.read.Goals as goal
 
-pub returns-in-Ok : goal.returns-in-Ok
+pub returns-in-Ok-class_tree : goal.returns-in-Ok-class_tree
 unfolding tree_of
-returns-in-Ok c = rw (← c.new-statements.ensures) c.in-Ok.ensures
+returns-in-Ok-class_tree c = rw (← c.new-statements.ensures) c.in-Ok-class_tree.ensures
 
 pub returns : goal.returns
 unfolding tree_of
