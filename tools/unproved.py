@@ -5,7 +5,7 @@ Usage: unproved.py PROGRAM
 
 `rt try` hands clang the module of the whole program, with checks that a proof makes needless. This keeps that module, takes
 the checks out, marks what the sources say of inlining, and compiles and links it as `rt` does. So PROGRAM is as fast as a
-proved one (docs/SPEED.md); what it prints is no evidence of anything else. Some seven minutes of processor time. It calls
+proved one (docs/SPEED.md); what it prints is no evidence of anything else. Some five minutes of processor time. It calls
 parts of the kit that its authors may change.
 """
 import os
