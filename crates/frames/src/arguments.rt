@@ -1,6 +1,6 @@
 //! How arguments go from a caller's stack into the locals of the frame that it calls.
 ghost use Rattle.std.specs.Prelude.{◌≡◌, ℕ, ◌+◌, ◌≤◌, [], ◌∷◌, ◌++◌, take, drop, replicate, ◌-◌, length, reverse, true};
-ghost use Rattle.std.specs.Prelude.{IfSome, None};
+ghost use Rattle.std.specs.Prelude.{IfNone, IfSome, None};
 ghost use Rattle.std.specs.Result.{result_err};
 ghost use Rattle.model.specs.Values.{units_of as units_taken, units_of_all};
 ghost use Rattle.model.specs.Locals.{argument_entries, of_kind};
@@ -126,6 +126,42 @@ fn is_of(kind: Kind, slot: Slot) -> bool
     }
 }
 
+/// Writes a slot as an argument from this unit on, if it holds a value of this kind, and says after which unit it ends.
+/// None, and nothing changed, where it doesn't.
+// A case for each kind, so that how many units it takes isn't asked again.
+#[inline(always)]
+fn put_of_kind(units: &mut Units, end: usize, kind: Kind, slot: Slot) -> Option<usize>
+    requires fits { end + 2 ≤ length units.old }
+    requires few { length units.old ≤ 4096 }
+    ensures items { IfSome result (λ after. units.new ≡ take end units.old ++ argument_entries (value_of slot ∷ [])
+        ++ drop (end + units_taken (value_of slot)) units.old) }
+    ensures end { IfSome result (λ after. after ≡ end + units_taken (value_of slot)) }
+    ensures kind { IfSome result (λ after. result_err (of_kind kind (value_of slot)) ≡ None) }
+    ensures len { length units.new ≡ length units.old }
+    ensures same { IfNone result (units.new ≡ units.old) }
+{
+    match kind {
+        Kind::Int => {
+            if is_of(Kind::Int, slot) {
+                return Some(put_held(units, end, slot));
+            }
+            None
+        }
+        Kind::Long => {
+            if is_of(Kind::Long, slot) {
+                return Some(put_held(units, end, slot));
+            }
+            None
+        }
+        Kind::Ref => {
+            if is_of(Kind::Ref, slot) {
+                return Some(put_held(units, end, slot));
+            }
+            None
+        }
+    }
+}
+
 /// Copies so many values, which stand from one unit on, and after them one of each of these kinds, as arguments to
 /// another unit and on, and says after which unit they end. None where a value isn't of its kind.
 #[inline(always)]
@@ -153,18 +189,17 @@ fn copy_of_kinds(
     // one argument is what most methods have
     if let [kind] = kinds {
         let slot = units.at(from + below);
-        return if is_of(*kind, slot) {
-            Some(put_held(units, end, slot))
-        } else {
-            None
+        return match put_of_kind(units, end, *kind, slot) {
+            Some(after) => Some(after),
+            None => None,
         };
     }
     for place in 0..kinds.len() {
         let slot = units.at(from + (below + place));
-        if !is_of(kinds[place], slot) {
-            return None;
+        match put_of_kind(units, end, kinds[place], slot) {
+            Some(after) => end = after,
+            None => return None,
         }
-        end = put_held(units, end, slot);
     }
     Some(end)
 }

@@ -50,16 +50,14 @@ impl Units {
     }
 
     /// Reaches so many units at least. Those that come are unset. It takes no memory.
-    // What has to grow is moved away and back, so that no call that isn't inlined sees where it stands.
+    // What a function keeps is made zero where it begins, so the growth has one of its own.
     #[inline(always)]
     pub fn reach(&mut self, count: usize)
         requires { count ≤ 4096 }
         ensures { self.new ≡ self.old ++ replicate (count - length self.old) Unset }
     {
         if self.slots.len() < count {
-            let none = Vec::new(*self.slots.allocator());
-            let more = reached(replace(&mut self.slots, none), count);
-            let _none = replace(&mut self.slots, more);
+            grow(&mut self.slots, count);
         }
     }
 
@@ -163,6 +161,20 @@ fn reached(slots: Vec<Slot>, count: usize) -> Vec<Slot>
         }
     }
     more
+}
+
+/// Has unset slots after these, up to so many. There is room for them.
+// They are moved away and back, so that no call that isn't inlined sees where they stand.
+#[inline(always)]
+fn grow(slots: &mut Vec<Slot>, count: usize)
+    requires some { vec_len slots.old < count }
+    requires room { count ≤ vec_capacity slots.old }
+    ensures items { slots.new.items ≡ slots.old.items ++ replicate (count - vec_len slots.old) UnsetSlot }
+    ensures capacity { vec_capacity slots.old ≤ vec_capacity slots.new }
+{
+    let none = Vec::new(*slots.allocator());
+    let more = reached(replace(slots, none), count);
+    let _none = replace(slots, more);
 }
 
 /// Makes these slots unset.

@@ -1,3 +1,4 @@
+pub mod Entries
 pub mod EqualPrograms
 pub mod InLine
 pub mod KnownCalls

@@ -80,6 +80,46 @@ fn compare_methods(rt: &impl Abort, program: &Program) {
     }
 }
 
+/// A method of a class, and how many values and units a call takes that enters it as register code at once: with its
+/// arguments alone, and on an object (JVMS 2.6.1: a long takes two units).
+const ENTRIES: &[(usize, Option<(u8, u8)>, Option<(u8, u8)>)] = &[
+    (0, Some((0, 0)), None),
+    (1, Some((2, 3)), None),
+    (2, None, Some((3, 4))),
+    (3, None, None),
+];
+
+fn is_same(taken: Option<(u8, u8)>, wanted: Option<(u8, u8)>) -> bool {
+    match taken {
+        Some((values, units)) => match wanted {
+            Some((others, more)) => values == others && units == more,
+            None => false,
+        },
+        None => wanted.is_none(),
+    }
+}
+
+fn compare_entries(rt: &impl Abort, program: &Program) {
+    for (method, on_none, on_object) in ENTRIES {
+        let code = program.code(MethodPlace {
+            class: 0,
+            method: *method,
+        });
+        let alone = match code.enters_on_none() {
+            Some(taken) => Some((taken.values, taken.units)),
+            None => None,
+        };
+        let object = match code.enters_on_object() {
+            Some(taken) => Some((taken.values, taken.units)),
+            None => None,
+        };
+        assert!(rt;
+            is_same(alone, *on_none) && is_same(object, *on_object),
+            "{method}"
+        );
+    }
+}
+
 /// A class, a method and a pc; where the instruction after stands, and what the one that is there does.
 const PCS: &[(usize, usize, u16, u16, &str)] = &[
     (0, 0, 0, 1, "nop"),
@@ -143,6 +183,13 @@ fn programs_have_steps_and_are_compared(rt: HostRuntime) -> Result<(), Fail> {
     let steps = program(rt.alloc(), "class E|main; class F")?;
     compare_pcs(&rt, &steps);
     compare_methods(&rt, &steps);
+    compare_entries(
+        &rt,
+        &program(
+            rt.alloc(),
+            "class E|main|code 3 0 static f(IJ)V|code 4 0 public g(IJ)V|code 1 0 public synchronized h()V",
+        )?,
+    );
     let program = program(rt.alloc(), "class E|.field public x I|main; class F")?;
     for (other, is_equal) in PROGRAMS {
         assert!(rt;
