@@ -1,0 +1,39 @@
+#!/usr/bin/env python3
+"""Gives crates of this checkout the libraries that `rt ci NAME..` proved of the same text and kept on this machine.
+
+Usage: take_kept.py NAME ..
+
+`rt ci` proves a crate from nothing and keeps the library, but no work that a later check of that crate could begin with; `rt
+check` keeps work, and proves what is below once more. So on a new machine the crates that won't be changed are proved once,
+by `rt ci`, and taken from there: the crates above them can then be checked. A library fits only over those that it was built
+over: what is below a crate has to be taken with it or before. It calls parts of the kit that its authors may change.
+"""
+import os
+import sys
+
+from try_wrong_bodies import load_rt
+
+HERE = os.path.dirname(os.path.dirname(os.path.abspath(__file__)))
+
+
+def main():
+    rt = load_rt()
+    rt.Crate.allowed = rt.handles_of(HERE)
+    crates = rt.crates_of(HERE)
+    names = sys.argv[1:]
+    wanted = [it for it in crates if it.name in names]
+    below = {dep for it in wanted for dep in it.below()}
+    kept = rt.Kept(crates)
+    for crate in (it for it in crates if it in wanted or it in below):
+        if crate in wanted:
+            if not kept.give(crate, False, kept.key(crate)):
+                sys.exit(f"{crate.name}: nothing is kept of this text over these libraries: run rt ci {crate.name}")
+            with open(f"{crate.folder}/out/rlib/stamp", "w", encoding="utf-8") as file:
+                file.write(crate.stamp())
+            print(f"{crate.name}: taken")
+        kept.is_built(crate)
+    return 0
+
+
+if __name__ == "__main__":
+    sys.exit(main())
