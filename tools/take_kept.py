@@ -21,6 +21,9 @@ def main():
     rt.Crate.allowed = rt.handles_of(HERE)
     crates = rt.crates_of(HERE)
     names = sys.argv[1:]
+    unknown = set(names) - {it.name for it in crates}
+    if unknown or not names:
+        sys.exit(f"no crate is named {' '.join(sorted(unknown))}" if unknown else __doc__)
     wanted = [it for it in crates if it.name in names]
     below = {dep for it in wanted for dep in it.below()}
     kept = rt.Kept(crates)
