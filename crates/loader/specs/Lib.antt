@@ -1,4 +1,4 @@
-pub mod Entries
+pub mod CallEntries
 pub mod EqualPrograms
 pub mod InLine
 pub mod KnownCalls

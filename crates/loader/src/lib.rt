@@ -1,7 +1,7 @@
 //! From listings to a program as the machine runs it: the steps of its methods, and their register code.
 #![tactic(auto)]
 
-mod entries;
+mod call_entries;
 mod heights;
 mod known_calls;
 pub mod method_codes;

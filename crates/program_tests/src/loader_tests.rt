@@ -100,21 +100,21 @@ fn is_same(taken: Option<(u8, u8)>, wanted: Option<(u8, u8)>) -> bool {
 }
 
 fn compare_entries(rt: &impl Abort, program: &Program) {
-    for (method, on_none, on_object) in ENTRIES {
+    for (method, alone, on_object) in ENTRIES {
         let code = program.code(MethodPlace {
             class: 0,
             method: *method,
         });
-        let alone = match code.enters_on_none() {
+        let as_static = match code.enters_static() {
             Some(taken) => Some((taken.values, taken.units)),
             None => None,
         };
-        let object = match code.enters_on_object() {
+        let as_instance = match code.enters_instance() {
             Some(taken) => Some((taken.values, taken.units)),
             None => None,
         };
         assert!(rt;
-            is_same(alone, *on_none) && is_same(object, *on_object),
+            is_same(as_static, *alone) && is_same(as_instance, *on_object),
             "{method}"
         );
     }
