@@ -3,6 +3,7 @@ pub mod Noting
 pub mod Workers
 pub mod Making
 pub mod Differing
+pub mod RoundRows
 pub mod RoundsLeft
 pub mod RoundsWithSweeps
 pub mod FirstTurns

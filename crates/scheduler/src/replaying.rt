@@ -1,6 +1,6 @@
 //! A world from its program and its journal.
-ghost use Rattle.std.specs.Prelude.{◌≡◌, ◌+◌, ◌<◌, ◌≤◌, ◌↔◌, [], IfOk, IfErr, MatchResult, OnOk, IsTrue, Some, length};
-ghost use Rattle.std.specs.Prelude.{slice_get};
+ghost use Rattle.std.specs.Prelude.{◌≡◌, ◌+◌, ◌<◌, ◌≤◌, ◌↔◌, [], IfOk, IfErr, IfSome, MatchResult, OnOk, IsTrue};
+ghost use Rattle.std.specs.Prelude.{Some, length, slice_get, true};
 ghost use Rattle.model.specs.Journals.{HeadFits, AreOfWorkers};
 ghost use Rattle.model.specs.Machines.{after_turn_by, row_for};
 ghost use Rattle.scheduler.specs.Differing.{Excuses};
@@ -102,9 +102,71 @@ fn make_rows(world: &mut World, mut rows: Rows<'_>) -> Result<(), ReplayError>
     Ok(())
 }
 
+/// Whether both have the same rows.
+fn are_same(mut made: Rows<'_>, mut wanted: Rows<'_>) -> bool
+    ensures { result ≡ true → made.entry ≡ wanted.entry }
+{
+    if made.len() != wanted.len() {
+        return false;
+    }
+    while let Some(row) = wanted.next() {
+        if !is_row(made.next(), row) {
+            return false;
+        }
+    }
+    true
+}
+
+/// How many turns of the collector follow the first row.
+fn collected_first(mut rows: Rows<'_>) -> u32 {
+    let _first = rows.next();
+    let mut collected: u32 = 0;
+    while let Some(row) = rows.next() {
+        match row.actor {
+            Actor::Thread(_) => return collected,
+            Actor::Collector => collected = collected.saturating_add(1),
+        }
+    }
+    collected
+}
+
+/// How many rounds so many rows are, the last of which may have fewer turns of the collector than the others.
+fn rounds_of(rows: usize, gc: u32) -> u32 {
+    let rounds = (rows as u64).saturating_add(u64::from(gc)) / (u64::from(gc) + 1);
+    rounds.min(u64::from(u32::MAX)) as u32
+}
+
+/// The world of a program and a journal whose rows are those of rounds by worker 0, which many in one call make. `None`
+/// where they aren't, or where that can't be had. Which rounds they may be the rows tell: how many turns of the
+/// collector follow the first, and how many rows there are.
+fn made_in_rounds<J: SoundJournal>(alloc: Global, program: &Program, journal: &J) -> Option<World>
+    ensures { IfSome result (λ world. world
+        ≡ record { program = program.now; journal = J.journal_of journal.now }) }
+{
+    journal.is_sound();
+    if journal.workers() > 1 {
+        return None;
+    }
+    let Ok(copy) = program.copy() else {
+        return None;
+    };
+    let Ok(mut world) = World::new(alloc, copy, journal.shape(), journal.limits()) else {
+        return None;
+    };
+    world.set_workers(journal.workers());
+    let gc = collected_first(journal.rows());
+    let _ = world.rounds(rounds_of(journal.rows().len(), gc), gc);
+    if are_same(world.journal().rows(), journal.rows()) {
+        Some(world)
+    } else {
+        None
+    }
+}
+
 /// The world of a program and a journal: opened with the journal's shape, limits and workers, and moved by one turn for
 /// each row, of its actor and by its worker. It takes a turn's time for each row, and all the memory that it takes is
-/// taken at the opening.
+/// taken at the opening. Where the rows are those of rounds, as a run by one worker makes them, these are made many in
+/// one call.
 ///
 /// N5 tells the first row whose outcome isn't that of its turn; a turn that is refused is such a row, also past the
 /// limit of steps. P4 where the frames that the program opens with don't fit a thread; N6 where memory runs out. A
@@ -120,6 +182,10 @@ pub fn replay<J: SoundJournal>(
     ensures again { IfErr result (λ e. IsMade (record { program = program; journal = J.journal_of journal.now })
         → e ≡ ReplayError.Memory) }
 {
+    if let Some(world) = made_in_rounds(alloc, &program, journal) {
+        world.is_made();
+        return Ok(world);
+    }
     journal.is_sound();
     let mut world = match World::new(alloc, program, journal.shape(), journal.limits()) {
         Ok(world) => world,
