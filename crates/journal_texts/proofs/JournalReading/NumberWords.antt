@@ -1,6 +1,8 @@
 -- Words that are read as numbers, by what std parses of them and what prints.
 use Rattle.std.proofs.Common.{◌≡◌, ℕ, true, false, List, Some, None, Result, Ok, Err, decimal, bytes_eq, sym, ap, subst}
-use Rattle.std.proofs.Common.{◌∙◌, arith}
+use Rattle.std.proofs.Common.{◌∙◌, ◌<◌, ◌≤◌, ◌+◌, ◌-◌, ◌∷◌, [], length, refl, suc, zero, arith}
+use Rattle.std.specs.Fmt.{digits}
+use Rattle.std.specs.Prelude.{slice_index_or}
 use Rattle.std.proofs.lemmas.Fmt.{IsAscii-decimal, parse-decimal}
 use Rattle.std.proofs.lemmas.Slice.Eq.{bytes_eq-Decides}
 use Rattle.std.proofs.lemmas.Str.{IsUtf8-from_ascii}
@@ -36,3 +38,30 @@ module _ (E : Type 0) (word : List ℕ) where
           let number : n ≡ m = cc in
           let same = (bytes_eq-Decides (decimal n) word).1 (ap decimal number ∙ sym is) in
           cc
+
+-- a digit alone prints as its number
+digit_alone : (k : ℕ) → k < 10 → number_of ((k + 48) ∷ []) ≡ Some k
+unfolding digits
+digit_alone zero small = refl
+digit_alone (suc zero) small = refl
+digit_alone (suc (suc zero)) small = refl
+digit_alone (suc (suc (suc zero))) small = refl
+digit_alone (suc (suc (suc (suc zero)))) small = refl
+digit_alone (suc (suc (suc (suc (suc zero))))) small = refl
+digit_alone (suc (suc (suc (suc (suc (suc zero)))))) small = refl
+digit_alone (suc (suc (suc (suc (suc (suc (suc zero))))))) small = refl
+digit_alone (suc (suc (suc (suc (suc (suc (suc (suc zero)))))))) small = refl
+digit_alone (suc (suc (suc (suc (suc (suc (suc (suc (suc zero))))))))) small = refl
+digit_alone (suc (suc (suc (suc (suc (suc (suc (suc (suc (suc k)))))))))) small = absurd (omega (arith, small))
+
+one-byte : (word : List ℕ) → 1 ≤ length word → length word < 2 → word ≡ slice_index_or word 0 0 ∷ []
+one-byte [] some few = absurd (omega (arith, some))
+one-byte (b ∷ []) some few = refl
+one-byte (b ∷ c ∷ word) some few = absurd (omega (arith, few))
+
+pub digit : (word : List ℕ) → 1 ≤ length word → length word < 2 → 48 ≤ slice_index_or word 0 0
+    → slice_index_or word 0 0 < 58 → number_of word ≡ Some (slice_index_or word 0 0 - 48)
+digit word some few least most =
+    let b = slice_index_or word 0 0 in
+    let k : b ≡ b - 48 + 48 = omega (arith, least) in
+    ap number_of (one-byte word some few ∙ ap (λ (n : ℕ). n ∷ []) k) ∙ digit_alone (b - 48) (omega (arith, most))
