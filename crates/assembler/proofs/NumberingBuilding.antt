@@ -107,12 +107,13 @@ among_entries items (y ∷ xs) x h = elim (or_cases (is_same_item x y) (is_item_
 among_items : (items xs : List Item) (e : Entry) → is_among e (map (entry_of items) xs) ≡ true → (y : Item)
     × (is_item_of xs y ≡ true) × (e ≡ entry_of items y)
 among_items items [] e h = absurd (true≢false (sym h))
-among_items items (y ∷ xs) e h = elim (or_cases (is_same e (entry_of items y)) (is_among e (map (entry_of items) xs)) h) [
-  | inl s ↦ (y, among_first y xs, equal_is e (entry_of items y) s)
-  | inr r ↦
-      let rest = among_items items xs e r in
-      (rest.0, or_right (is_same_item rest.0 y) (is_item_of xs rest.0) rest.1, rest.2)
-]
+among_items items (y ∷ xs) e h = elim (or_cases (is_same e (entry_of items y)) (is_among e (map (entry_of items) xs))
+    h) [
+      | inl s ↦ (y, among_first y xs, equal_is e (entry_of items y) s)
+      | inr r ↦
+          let rest = among_items items xs e r in
+          (rest.0, or_right (is_same_item rest.0 y) (is_item_of xs rest.0) rest.1, rest.2)
+    ]
 
 -- an entry is added as its item is
 pub added_is : (items : List Item) (x : Item) → AreClosed items → are_items_of items (named_by x) ≡ true

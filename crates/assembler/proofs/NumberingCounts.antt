@@ -263,14 +263,16 @@ still_without : (x : Item) (ys : List Item) (z : Item) → is_item_of ys z ≡ t
     → is_item_of (without x ys) z ≡ true
 still_without x [] z h other = absurd (true≢false (sym h))
 still_without x (y ∷ ys) z h other = elim (cases_Bool (is_same_item x y)) [
-  | inl t ↦ ap (λ zs. is_item_of zs z) (without_here x y ys t) ∙ elim (or_cases (is_same_item z y) (is_item_of ys z) h) [
-    | inl s ↦ absurd (true≢false (sym s ∙ ap (is_same_item z) (sym (same_is x y t)) ∙ other))
-    | inr r ↦ r
-  ]
-  | inr f ↦ ap (λ zs. is_item_of zs z) (without_there x y ys f) ∙ elim (or_cases (is_same_item z y) (is_item_of ys z) h) [
-    | inl s ↦ or_left (is_same_item z y) (is_item_of (without x ys) z) s
-    | inr r ↦ or_right (is_same_item z y) (is_item_of (without x ys) z) (still_without x ys z r other)
-  ]
+  | inl t ↦ ap (λ zs. is_item_of zs z) (without_here x y ys t)
+      ∙ elim (or_cases (is_same_item z y) (is_item_of ys z) h) [
+        | inl s ↦ absurd (true≢false (sym s ∙ ap (is_same_item z) (sym (same_is x y t)) ∙ other))
+        | inr r ↦ r
+      ]
+  | inr f ↦ ap (λ zs. is_item_of zs z) (without_there x y ys f)
+      ∙ elim (or_cases (is_same_item z y) (is_item_of ys z) h) [
+        | inl s ↦ or_left (is_same_item z y) (is_item_of (without x ys) z) s
+        | inr r ↦ or_right (is_same_item z y) (is_item_of (without x ys) z) (still_without x ys z r other)
+      ]
 ]
 
 -- different items that are all among others take no more numbers

@@ -344,10 +344,11 @@ is_nat_le a b e = le-leb a b e
 counted : {A : Type 0} (P : A → Type 0) (xs ys : List A) (few all r : Bool) → few ≡ nat_le (length xs) 65535
     → (all ≡ true) ↔ AllByRecursion P xs → r ≡ (few && all) → xs ≡ ys → (r ≡ true)
     ↔ ((length ys ≤ 65535) × AllByRecursion P ys)
-counted P xs ys few all r one each is same = subst (λ zs. (r ≡ true) ↔ ((length zs ≤ 65535) × AllByRecursion P zs)) same (
-  λ yes. let two = and_both few all (sym is ∙ yes) in (nat_le_is (length xs) 65535 (sym one ∙ two.0), each.0 two.1),
-  λ s. is ∙ rw (one, is_nat_le (length xs) 65535 s.0, each.1 s.1) refl,
-)
+counted P xs ys few all r one each is same =
+    subst (λ zs. (r ≡ true) ↔ ((length zs ≤ 65535) × AllByRecursion P zs)) same (
+      λ yes. let two = and_both few all (sym is ∙ yes) in (nat_le_is (length xs) 65535 (sym one ∙ two.0), each.0 two.1),
+      λ s. is ∙ rw (one, is_nat_le (length xs) 65535 s.0, each.1 s.1) refl,
+    )
 
 pub field_test : (pool : List Entry) (class : ℕ) (f : FieldEntry) (flags : ℕ) (r : Bool) → flags ≡ f.flags.0
     → (flags < 2 ^ 16) × (f.name < 2 ^ 16) × (f.descriptor < 2 ^ 16) → (r ≡ true → ConstantBounds f.constant)

@@ -87,9 +87,11 @@ module _ (s : Site) (member : Member) (object : Option ℕ) (method : Method) (c
         → enters_with s n (monitor_called object method) after code place ≡ plainly (enters_method call coded)
     call-enters n after runs may room count n-is after-is =
         ap (λ (k : ℕ). enters_with s k (monitor_called object method) after code place) n-is
-        ∙ ap (λ (w : World). enters_with s (arguments_in member + option_len object) (monitor_called object method) w code
+        ∙ ap (λ (w : World). enters_with s (arguments_in member + option_len object) (monitor_called object method) w
+        code
         place) after-is
-        ∙ ap (λ (fs : List Frame). Goes (with_thread (world_entered s (monitor_called object method)) s.thread (Live fs))
+        ∙ ap (λ (fs : List Frame). Goes (with_thread (world_entered s (monitor_called object method)) s.thread
+        (Live fs))
         [])
         (sym (entered-is (frames_in s) s.frame (monitor_called object method) place code
         (arguments_in member + option_len object) runs))
@@ -100,7 +102,8 @@ module _ (s : Site) (member : Member) (object : Option ℕ) (method : Method) (c
 
     pub call-tested : (n : ℕ) (after : World) (birth : Option ℕ) (m : Monitor) → running (frames_in s) ≡ Some s.frame
         → birth ≡ monitor_called object method → m ≡ monitor_wanted s.world birth
-        → may_enter s.thread m.owner ≡ true → has_room_for (frames_in s) code.max_locals code.max_stack ≡ true → is_full m
+        → may_enter s.thread m.owner ≡ true → has_room_for (frames_in s) code.max_locals code.max_stack ≡ true
+        → is_full m
         ≡ false
         → n ≡ arguments_in member + option_len object → after ≡ world_entered s birth
         → enters_with s n birth after code place ≡ plainly (enters_method call coded)

@@ -122,7 +122,8 @@ no-initializer (Some facts) kind e = by facts.is_initializer refl
   where
     by : (b : Bool) → facts.is_initializer ≡ b → facts.is_initializer ≡ false
     by false is = is
-    by true is = absurd (otherwise-none kind (sym (ap (λ (b : Bool). if b then Otherwise else returning facts.kind) is) ∙ e))
+    by true is = absurd
+        (otherwise-none kind (sym (ap (λ (b : Bool). if b then Otherwise else returning facts.kind) is) ∙ e))
 
 pub gives-that : (info : Option MethodFacts) (kind : Option Kind) → returns_of info ≡ returning kind
     → gives_in kind info ≡ true
@@ -132,4 +133,5 @@ gives-that (Some facts) kind e = by facts.is_initializer refl
     by : (b : Bool) → facts.is_initializer ≡ b → same_result kind facts.kind ≡ true
     by false is = gives-nothing-else kind facts.kind
         (sym (ap (λ (b : Bool). if b then Otherwise else returning facts.kind) is) ∙ e)
-    by true is = absurd (otherwise-none kind (sym (ap (λ (b : Bool). if b then Otherwise else returning facts.kind) is) ∙ e))
+    by true is = absurd
+        (otherwise-none kind (sym (ap (λ (b : Bool). if b then Otherwise else returning facts.kind) is) ∙ e))

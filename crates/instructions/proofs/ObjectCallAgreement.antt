@@ -104,7 +104,8 @@ module _ (own : Site → Builtin → Completion) (s : Site) (h : HeapValue) (slo
         subtype_of : List ℕ → Bool
         subtype_of n = is_subtype s.program n m.class
 
-        if-same : (kind : Kind) → kind_held h birth ≡ Some kind → (b : Bool) → is_kind_of s.program kind class.number ≡ b
+        if-same : (kind : Kind) → kind_held h birth ≡ Some kind → (b : Bool)
+            → is_kind_of s.program kind class.number ≡ b
             → table b ≡ (if not b then Faults WrongClass else called_at (own s) s birth (by_kind kind))
         if-same kind e true k = agree birth kind e k
         if-same kind e false k = refl
@@ -211,7 +212,8 @@ module _ (own : Site → Builtin → Completion) (s : Site) (h : HeapValue) (slo
 
       virtual-is : (d : Declared Method) → IsFound s.program (is_virtual_of m.name m.descriptor) d → IsVirtual d
       virtual-is d is =
-          let parts = and-both (is_method m.name m.descriptor d.member) (not (is_static d.member || is_private d.member))
+          let parts = and-both (is_method m.name m.descriptor d.member)
+          (not (is_static d.member || is_private d.member))
           (found-test s.program (is_virtual_of m.name m.descriptor) d is) in
           record {
             signature = signature-same m d parts.0;
@@ -251,7 +253,8 @@ module _ (own : Site → Builtin → Completion) (s : Site) (h : HeapValue) (slo
 
         virtual-valid : virtual_call s.program m ≡ operation.Invalid → ⊥
         virtual-valid e =
-            let one : operation.Invokevirtual class.number selector.selector ≡ operation.Invalid = sym virtual_number ∙ e
+            let one : operation.Invokevirtual class.number selector.selector ≡ operation.Invalid =
+            sym virtual_number ∙ e
             in cc
 
         pub virtual-case : CallAgrees own s h Virtual m (virtual_call s.program m)
@@ -288,11 +291,13 @@ module _ (own : Site → Builtin → Completion) (s : Site) (h : HeapValue) (slo
             ∙ none-numbered alike (is_method m.name m.descriptor) d resolved_is resolved_signature instance)
             (none-valid alike (is_method m.name m.descriptor) d resolved_is resolved_signature instance)
 
-        special-some : (test : Method → Bool) (x : Declared Method) → special_for s m ≡ Some x → IsFound s.program test x
+        special-some : (test : Method → Bool) (x : Declared Method) → special_for s m ≡ Some x
+            → IsFound s.program test x
             → HasSignature m x
             → is_static x.member ≡ false → SpecialAgrees (Some x)
         special-some test x e is signature static =
-            special-by (Some x) e (special-same alike test x is signature static) (special-valid alike test x is signature
+            special-by (Some x) e (special-same alike test x is signature static)
+            (special-valid alike test x is signature
             static)
 
         pub special-case : CallAgrees own s h Special m (special_call s.program m (special_method s.program above m)
@@ -318,7 +323,8 @@ module _ (own : Site → Builtin → Completion) (s : Site) (h : HeapValue) (slo
                 let good = virtual-is x found in
                 special-some (is_virtual_of m.name m.descriptor) x e found good.signature good.instance
 
-            by : (b : Bool) → (not (is_initializer m.name) && list_any (bytes_eq d.class) (superclasses s.program above))
+            by : (b : Bool) → (not (is_initializer m.name) && list_any (bytes_eq d.class)
+                (superclasses s.program above))
                 ≡ b
                 → SpecialAgrees (special_for s m)
             by true e =

@@ -106,7 +106,8 @@ module _ (P : List Signature → Type 0) (keeps : (ss : List Signature) (s : Sig
       methods-have m code is n at methods k ss e =
           fold-has P (λ (called : List Signature) (m : Method). with_code called m.code)
           (λ ss m p. code-keeps m.code ss p)
-          m (λ ss. subst (λ code. P (with_code ss code)) (sym is) (instructions-have code.instructions n ss at)) methods k
+          m (λ ss. subst (λ code. P (with_code ss code)) (sym is) (instructions-have code.instructions n ss at))
+          methods k
           ss e
 
       program-has : (c : ClassListing) (m : Method) (code : CodeListing) → m.code ≡ Some code

@@ -45,7 +45,8 @@ use Rattle.model.specs.Table.Next.{Listed, by_family}
 use Rattle.model.specs.Table.Objects.{cast, cast_if, is_instance, tested, reported_if}
 use Rattle.model.specs.Words.{contents_at, contents_if}
 use Rattle.linking.specs.declared.operations.Operation.{Operation}
-use Rattle.linking.specs.declared.operations.Operation.TheVariants.{Invalid, Newarray, Anewarray, Arraylength, Checkcast}
+use Rattle.linking.specs.declared.operations.Operation.TheVariants.{Invalid, Newarray, Anewarray}
+use Rattle.linking.specs.declared.operations.Operation.TheVariants.{Arraylength, Checkcast}
 use Rattle.linking.specs.declared.operations.Operation.TheVariants.{Instanceof}
 use Rattle.linking.specs.declared.operations.TypeNumber.{TypeNumber}
 use Rattle.linking.specs.Operations.{operation_of}

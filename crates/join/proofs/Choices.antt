@@ -142,7 +142,8 @@ module _ (program : List ClassListing) (shape : HeapShape) (limits : Limits) (m 
               }) in
               absurd (cc)
 
-      world_is : (words : Option ℕ) → asked program m.world t ≡ words → (moved_by program shape limits m (Thread t)).world
+      world_is : (words : Option ℕ) → asked program m.world t ≡ words
+          → (moved_by program shape limits m (Thread t)).world
           ≡ counted (effect (chosen m.account words)).after
       world_is words s = chooses.goes ∙ ap (λ (c : Choice). counted (effect c).after) (same_choice words s)
 
@@ -150,13 +151,15 @@ module _ (program : List ClassListing) (shape : HeapShape) (limits : Limits) (m 
           → (moved_by program shape limits m (Thread t)).world ≡ counted (effect (by_room room)).after
           → moved_by program shape limits m (Thread t) ≡ carried (by_room room)
       unfolding after_turn
-      account_if words true r s k = by_world NewObject Object refl (rw s (λ writes. refl)) (rw (s, r) refl) (moved_is e) k
+      account_if words true r s k = by_world NewObject Object refl (rw s (λ writes. refl)) (rw (s, r) refl)
+          (moved_is e) k
       account_if words false r s k = by_world NoRoom FoundNoRoom refl (λ writes. refl) (rw (s, r) refl) (moved_is e) k
 
       account_is : (words : Option ℕ) → asked program m.world t ≡ words → moved_by program shape limits m (Thread t)
           ≡ carried (chosen m.account words)
       unfolding after_turn
-      account_is None s = by_world NewObject Done refl (rw s (λ writes. refl)) (rw s refl) (moved_is e) (world_is None s)
+      account_is None s = by_world NewObject Done refl (rw s (λ writes. refl)) (rw s refl) (moved_is e)
+          (world_is None s)
       account_is (Some words) s = account_if words (has_room m.account words) refl s (world_is (Some words) s)
 
       pub turn_is : moved_by program shape limits m (Thread t)

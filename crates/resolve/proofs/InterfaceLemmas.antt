@@ -252,7 +252,8 @@ module _ (program : List ClassListing) (lists : Lists) (full : AreFull program l
         → is_none (lists name) ≡ true → ⊥
     descent zero name c is few none = omega (arith, few)
     descent (suc k) name c is few none =
-        elim (and-false (is_none (lists name)) (list_all (is_settled program lists) (parents_of c)) (not-ready name c is)) [
+        elim (and-false (is_none (lists name)) (list_all (is_settled program lists) (parents_of c))
+        (not-ready name c is)) [
           | inl there ↦ differ (is_none (lists name)) none there
           | inr waiting ↦
               let found : (p : List ℕ) × HasName (parents_of c) p × (is_settled program lists p ≡ false) =
@@ -260,7 +261,8 @@ module _ (program : List ClassListing) (lists : Lists) (full : AreFull program l
               let open-parent : (is_none (lists found.0) ≡ true)
               × ((d : ClassListing) × (Some d ≡ listed program found.0)) =
               unsettled (lists found.0) (listed program found.0) found.2 in
-              let less : rank program found.0 < rank program name = rank-less program acyclic name found.0 c is found.1 in
+              let less : rank program found.0 < rank program name =
+              rank-less program acyclic name found.0 c is found.1 in
               descent k found.0 open-parent.1.0 open-parent.1.1 (omega (arith, less, few)) open-parent.0
         ]
       where
@@ -282,7 +284,8 @@ module _ (program : List ClassListing) (lists : Lists) (full : AreFull program l
 
     -- a class that is missed is there by its name
     missed : (cs : List ClassListing) → list_all (λ (c : ClassListing). is_some (lists c.name)) cs ≡ false
-        → ((name : List ℕ) → list_any (is_named name) cs ≡ true → (c : ClassListing) × (Some c ≡ listed program name)) → ⊥
+        → ((name : List ℕ) → list_any (is_named name) cs ≡ true → (c : ClassListing) × (Some c ≡ listed program name))
+        → ⊥
     missed [] all named = cc
     missed (c ∷ cs) all named =
         elim (and-false (is_some (lists c.name)) (list_all (λ (c : ClassListing). is_some (lists c.name)) cs) all) [

@@ -146,7 +146,8 @@ impl<'a> Model for Members<'a> {
 
     ghost view = { λ a. a.class.now };
 
-    ghost invariant = { λ a. AreMembers a.class.now a.fields.members.entries a.methods.members.entries a.virtuals.members.entries };
+    ghost invariant = { λ a. AreMembers a.class.now a.fields.members.entries a.methods.members.entries
+        a.virtuals.members.entries };
 }
 
 impl<'a> Members<'a> {

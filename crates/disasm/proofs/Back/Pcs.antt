@@ -270,7 +270,8 @@ module _ (f : List ℕ → ℕ) (good : ℕ → Bool) (back : (n : ℕ) → good
 
   placed_is : (pc next : ℕ) (i : Listed) (p : Placed) → p.pc ≡ pc → p.next ≡ next → i ≡ p.instruction
       → record { pc = pc; next = next; instruction = i } ≡ p
-  placed_is pc next i p a b e = ap₂ (λ x y. let q : Placed = record { pc = x; next = y; instruction = i } in q) (sym a) (sym b) ∙ ap (λ j. let q : Placed = record { pc = p.pc; next = p.next; instruction = j } in q) e
+  placed_is pc next i p a b e = ap₂ (λ x y. let q : Placed = record { pc = x; next = y; instruction = i } in q)
+      (sym a) (sym b) ∙ ap (λ j. let q : Placed = record { pc = p.pc; next = p.next; instruction = j } in q) e
 
   pub placed_back : (pcs : List ℕ) (pc : ℕ) (ps : List Placed) → stand_from pc ps ≡ true
       → list_all (λ p. list_all good (targets p.instruction)) ps ≡ true → placed_from f pc (lines_back pcs pc ps) ≡ ps

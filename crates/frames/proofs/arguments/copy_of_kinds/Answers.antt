@@ -65,7 +65,8 @@ returns-in-Some c =
     let next = value_next old c.args.from c.args.base below c.copy_arguments-end.new.units end
     (entry_of c.at-slot.result) copied (omega (arith, one)) (omega arith) c.at-slot.ensures in
     let most = units_between-most old c.args.from below in
-    let more = copied_next old c.args.from c.args.base below c.copy_arguments-end.new.units c.put_of_kind.new.units end v
+    let more = copied_next old c.args.from c.args.base below c.copy_arguments-end.new.units c.put_of_kind.new.units
+    end v
     copied (omega (arith, one)) (omega arith) (omega (arith, most, copied.end_is)) next its.items in
     let all : below + length kinds ≡ below + 1 = omega (arith, one) in
     let none : below + 0 ≡ below = omega arith in

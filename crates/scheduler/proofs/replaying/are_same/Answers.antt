@@ -16,7 +16,10 @@ loop-row-preserved c =
       at.0 ++ one,
       at.1 ∙ ap (λ (rows : List Row). at.0 ++ rows) made ∙ sym (append_assoc at.0 one new),
       at.2 ∙ ap (λ (rows : List Row). at.0 ++ rows) wanted ∙ sym (append_assoc at.0 one c.next.new.self),
-      let long = ap length made in let longer = ap length wanted in let same = at.3 in omega (arith, long, longer, same),
+      let long = ap length made in
+          let longer = ap length wanted in
+          let same = at.3 in
+          omega (arith, long, longer, same),
     )
 
 pub returns : goal.returns

@@ -47,7 +47,8 @@ invariant_of-self c =
     } in
     let long = u.long in
     let few = r.sound.units_are in
-    rw (c.push.ensures, c.opening.ensures) (sound_push c.reach.new.self _ _ _ _ a r.sound (omega (arith, long, few)) u.same stands refl
+    rw (c.push.ensures, c.opening.ensures) (sound_push c.reach.new.self _ _ _ _ a r.sound (omega (arith, long, few))
+    u.same stands refl
     (omega (arith, long, fits)) room.0)
 
 pub returns : goal.returns
