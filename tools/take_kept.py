@@ -6,7 +6,9 @@ Usage: take_kept.py NAME ..
 `rt ci` proves a crate from nothing and keeps the library, but no work that a later check of that crate could begin with; `rt
 check` keeps work, and proves what is below once more. So on a new machine the crates that won't be changed are proved once,
 by `rt ci`, and taken from there: the crates above them can then be checked. A library fits only over those that it was built
-over: what is below a crate has to be taken with it or before. It calls parts of the kit that its authors may change.
+over: what is below a crate has to be taken with it or before. The kit drops from what it keeps a library that can't be
+given, so one that is named over others that were built anew has to be proved again. It calls parts of the kit that its
+authors may change.
 """
 import os
 import sys
