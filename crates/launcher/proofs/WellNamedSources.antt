@@ -1,14 +1,14 @@
 -- The listing of each text and of each class file names classes and types by names (JVMS 4.2.1, 4.4.1).
 use Rattle.std.proofs.Common.{◌≡◌, ℕ, zero, suc, Bool, true, false, List, [], ◌∷◌, Option, Some, None, map, refl, sym}
-use Rattle.std.proofs.Common.{ap, subst, ◌∙◌}
-use Rattle.std.specs.Prelude.{◌&&◌, ◌||◌, ◌==◌, nat_le, length, slice_get, if◌then◌else◌}
+use Rattle.std.proofs.Common.{ap, subst}
+use Rattle.std.specs.Prelude.{◌&&◌, ◌==◌, nat_le, length, slice_get, if◌then◌else◌}
 use Rattle.std.specs.List.{list_all, AllByRecursion}
 use Rattle.std.specs.Option.{option_map, option_and_then, unwrap_or}
 use Rattle.model.specs.declared.bytecode.Located.{Located}
 use Rattle.model.specs.declared.class_files.Entry.{Entry}
 use Rattle.model.specs.declared.class_files.Entry.TheVariants.{Utf8, Integer, Long, Class as ClassEntry, Fieldref}
 use Rattle.model.specs.declared.class_files.Entry.TheVariants.{Methodref, InterfaceMethodref, NameAndType}
-use Rattle.model.specs.declared.class_files.FormatFault.TheVariants.{Index, Name}
+use Rattle.model.specs.declared.class_files.FormatFault.TheVariants.{Name}
 use Rattle.model.specs.declared.instructions.ArrayOperation.{ArrayOperation}
 use Rattle.model.specs.declared.instructions.ArrayOperation.TheVariants as array
 use Rattle.model.specs.declared.instructions.ClassOperation.{ClassOperation}
@@ -19,14 +19,13 @@ use Rattle.model.specs.declared.listings.Placed.{Placed}
 use Rattle.model.specs.Bytecode.Opcodes.{Instr}
 use Rattle.model.specs.ClassFiles.Attributes.{Attribute, passes}
 use Rattle.model.specs.ClassFiles.Classes.{ClassPart, IsClassFile}
-use Rattle.model.specs.ClassFiles.Codes.{CodePart, SpellsCode, has_tag, tag_of, is_sound, is_sound_array}
+use Rattle.model.specs.ClassFiles.Codes.{CodePart, has_tag, tag_of, is_sound, is_sound_array}
 use Rattle.model.specs.ClassFiles.Codes.{is_sound_class}
-use Rattle.model.specs.ClassFiles.Heads.{is_class}
-use Rattle.model.specs.ClassFiles.Listing.{class_at, listed, listed_array, listed_code, listed_method, listing_in}
+use Rattle.model.specs.ClassFiles.Listing.{class_at, listed, listed_array, listed_code, listed_method}
 use Rattle.model.specs.ClassFiles.Listing.{listing_of, name_at, placed}
 use Rattle.model.specs.ClassFiles.Lists.{SpellsAll}
 use Rattle.model.specs.ClassFiles.Methods.{MethodPart, SpellCode, SpellsMethod, are_method_flags, units_fit, wants_code}
-use Rattle.model.specs.ClassFiles.Pools.{entry_at, held, slots_of, under}
+use Rattle.model.specs.ClassFiles.Pools.{entry_at, held, slots_of}
 use Rattle.model.specs.ClassFiles.References.{AreSound, class_fault, class_of, entry_fault, names_class, text_at}
 use Rattle.model.specs.ClassListings.{ClassListing}
 use Rattle.model.specs.CodeListings.{CodeListing}

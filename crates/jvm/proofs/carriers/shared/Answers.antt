@@ -1,4 +1,4 @@
-use Rattle.std.proofs.Common.{◌≡◌, ◌∙◌, sym, ap, length}
+use Rattle.std.proofs.Common.{◌∙◌, sym, ap, length}
 use Rattle.hall.proofs.Dealt.{as_many}
 use Rattle.jvm.proofs.carriers.shared.Goals as goal
 

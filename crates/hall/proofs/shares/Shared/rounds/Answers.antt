@@ -1,5 +1,5 @@
 use Rattle.std.proofs.Common.{ℕ, ap, sym, ◌∙◌}
-use Rattle.scheduler.specs.Rounds.{after_rounds as after_thread_rounds, is_done, rounds_answer as thread_rounds_answer}
+use Rattle.scheduler.specs.Rounds.{after_rounds as after_thread_rounds, rounds_answer as thread_rounds_answer}
 use Rattle.hall.specs.Roles.{done_so_far}
 use Rattle.hall.proofs.ManyRounds.{rounds-answer, rounds-world}
 use Rattle.hall.proofs.shares.Shared.rounds.Goals as goal

@@ -1,5 +1,3 @@
-use Rattle.std.proofs.Common.{◌≡◌, map, List}
-use Rattle.collector.specs.ListedWorlds.{frame_with}
 use Rattle.collector.proofs.ListedLemmas.{word_at_cell, word_at_none}
 use Rattle.collector.proofs.tests.real_heap.PlacesReferences.word.Goals as goal
 
