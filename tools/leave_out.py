@@ -22,6 +22,12 @@ import tempfile
 
 from try_wrong_bodies import load_rt
 
+# What stands before the last line of a file that becomes a comment, where that line closes something.
+AFTER = {
+    "}": ["use Rattle.std.specs.Prelude.{Some"],
+    ")": ["use Rattle.std.proofs.lemmas.List.{length-append}", "ruleset left_out = (length-append"],
+}
+
 MARK = "The rest leaves out what its function doesn't need, and is written by tools/leave_out.py."
 
 
@@ -115,13 +121,13 @@ class Parts:
 
 def as_comment(text):
     """The pairs that make a file of definitions a comment. Each line that they name stands in it once; where its last line
-    is a brace, that becomes the end of an import."""
+    is a brace or a bracket alone, that becomes the end of an import, or of a set of rules."""
     lines = text.rstrip("\n").split("\n")
-    ends = [lines[0], lines[-1]] if lines[-1] != "}" else [lines[0], *lines[-3:-1]]
+    after = AFTER.get(lines[-1].strip(), [])
+    ends = [lines[0], *(lines[-len(after) - 2 : -1] if after else lines[-1:])]
     if re.search(r"^(pub )?mod ", text, re.M) or any(text.count(line) != 1 for line in ends):
         return None
-    new = ["{-", "-}", "use Rattle.std.specs.Prelude.{Some"]
-    return [part for pair in zip(ends, new) for part in (f"old: {pair[0]}", f"new: {pair[1]}")]
+    return [part for pair in zip(ends, ["{-", "-}", *after]) for part in (f"old: {pair[0]}", f"new: {pair[1]}")]
 
 
 def pairs(parts, kept):
