@@ -4,8 +4,10 @@
 Usage: unproved.py PROGRAM
 
 `rt try` hands clang the module of the whole program, with checks that a proof makes needless. This keeps that module, takes
-the checks out, marks what the sources say of inlining, and compiles and links it as `rt` does. So PROGRAM is as fast as a
-proved one (docs/SPEED.md); what it prints is no evidence of anything else. Some five minutes of processor time. It calls
+the checks out, marks what the sources say of inlining, and compiles and links it as `rt` does. But `rt` drops
+`inline(always)` from a function that would grow very large (8,000 lines of LLVM's language, it seems), and this doesn't: so
+PROGRAM is as fast as a proved one only where no mark is dropped (docs/SPEED.md), and what it prints is no evidence of
+anything else. Some five minutes of processor time. It calls
 parts of the kit that its authors may change.
 """
 import os
