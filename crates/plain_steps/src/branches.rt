@@ -11,7 +11,7 @@ use model::instructions::{Comparison, Identity};
 use model::turns::Abrupt;
 
 /// The frame goes to a pc, and nothing else changes: a `goto`, or a `nop` to the next instruction.
-#[inline]
+#[inline(always)]
 pub(crate) fn go(frames: &mut Frames, pc: u16) -> Written
     requires { 0 < length frames.old }
     ensures frames { frames.new ≡ with_running frames.old (replaced pc (running_frame frames.old) 0 []).frame }
@@ -22,7 +22,7 @@ pub(crate) fn go(frames: &mut Frames, pc: u16) -> Written
 }
 
 /// A branch that compares the int at the top with 0.
-#[inline]
+#[inline(always)]
 pub(crate) fn if_zero(
     frames: &mut Frames,
     next: u16,
@@ -42,7 +42,7 @@ pub(crate) fn if_zero(
 }
 
 /// A branch that compares the two ints at the top.
-#[inline]
+#[inline(always)]
 pub(crate) fn if_ints(
     frames: &mut Frames,
     next: u16,
@@ -62,7 +62,7 @@ pub(crate) fn if_ints(
 }
 
 /// A branch that compares the two references at the top.
-#[inline]
+#[inline(always)]
 pub(crate) fn if_references(
     frames: &mut Frames,
     next: u16,
@@ -82,7 +82,7 @@ pub(crate) fn if_references(
 }
 
 /// A branch that compares the reference at the top with null.
-#[inline]
+#[inline(always)]
 pub(crate) fn if_null(
     frames: &mut Frames,
     next: u16,

@@ -13,7 +13,7 @@ use values::Value;
 
 /// `aconst_null`, `iconst`, `lconst`, `bipush`, `sipush`, `ldc`, `ldc_w`, `ldc2_w` (JVMS 6.5): the value is pushed; F2
 /// where it has no room.
-#[inline]
+#[inline(always)]
 pub fn constant(
     frames: &mut Frames,
     next: u16,

@@ -15,7 +15,7 @@ use model::turns::{Abrupt, Exception, Fault};
 use values::{IntType, Value};
 
 /// An operator on two ints.
-#[inline]
+#[inline(always)]
 pub(crate) fn int_operation(frames: &mut Frames, next: u16, op: Operator) -> Result<Written, Abrupt>
     requires { 0 < length frames.old }
     ensures step { reported_with result frames.new
@@ -34,7 +34,7 @@ pub(crate) fn int_operation(frames: &mut Frames, next: u16, op: Operator) -> Res
 }
 
 /// An operator on two longs, or a shift of a long.
-#[inline]
+#[inline(always)]
 pub(crate) fn long_operation(
     frames: &mut Frames,
     next: u16,
@@ -100,7 +100,7 @@ fn long_operands(frames: &Frames, op: Operator) -> Result<(i64, i64), Fault>
 }
 
 /// The change of an int's sign.
-#[inline]
+#[inline(always)]
 pub(crate) fn int_negation(frames: &mut Frames, next: u16) -> Result<Written, Abrupt>
     requires { 0 < length frames.old }
     ensures step { reported_with result frames.new
@@ -114,7 +114,7 @@ pub(crate) fn int_negation(frames: &mut Frames, next: u16) -> Result<Written, Ab
 }
 
 /// The change of a long's sign.
-#[inline]
+#[inline(always)]
 pub(crate) fn long_negation(frames: &mut Frames, next: u16) -> Result<Written, Abrupt>
     requires { 0 < length frames.old }
     ensures step { reported_with result frames.new
@@ -128,7 +128,7 @@ pub(crate) fn long_negation(frames: &mut Frames, next: u16) -> Result<Written, A
 }
 
 /// A conversion of one number.
-#[inline]
+#[inline(always)]
 pub(crate) fn convert(
     frames: &mut Frames,
     next: u16,
@@ -152,7 +152,7 @@ pub(crate) fn convert(
 }
 
 /// The comparison of two longs.
-#[inline]
+#[inline(always)]
 pub(crate) fn comparison(frames: &mut Frames, next: u16) -> Result<Written, Abrupt>
     requires { 0 < length frames.old }
     ensures step { reported_with result frames.new
