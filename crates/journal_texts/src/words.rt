@@ -1,5 +1,5 @@
 //! What stands at the beginning of a text: a given word, or a number.
-ghost use Rattle.std.specs.Prelude.{◌≡◌, ◌≤◌, ◌<◌, ◌==◌, None, Some, MatchOption, length, true};
+ghost use Rattle.std.specs.Prelude.{◌≡◌, ◌≤◌, ◌==◌, None, Some, MatchOption, length};
 ghost use Rattle.std.specs.List.{position_or_len};
 ghost use Rattle.journal_texts.specs.JournalReading.{following, number_of, number_at, Tells};
 
@@ -39,16 +39,9 @@ fn number_of(word: &[u8]) -> Option<u32>
     ensures { result ≡ number_of word.now }
 {
     match word {
-        [digit] if is_digit(*digit) => Some(u32::from(*digit - b'0')),
+        [digit] if digit.is_ascii_digit() => Some(u32::from(*digit - b'0')),
         _ => printed_number(word),
     }
-}
-
-/// Whether a byte is a digit's.
-fn is_digit(byte: u8) -> bool
-    ensures { result ≡ true → (48 ≤ byte) × (byte < 58) }
-{
-    b'0' <= byte && byte <= b'9'
 }
 
 /// The same of any word, as it parses and prints.
