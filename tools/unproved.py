@@ -5,10 +5,9 @@ Usage: unproved.py PROGRAM
 
 `rt try` hands clang the module of the whole program, with checks that a proof makes needless. This keeps that module, takes
 the checks out, marks what the sources say of inlining, and compiles and links it as `rt` does. But `rt` drops
-`inline(always)` from a function that would grow very large (8,000 lines of LLVM's language, it seems), and this doesn't: so
-PROGRAM is as fast as a proved one only where no mark is dropped (docs/SPEED.md), and what it prints is no evidence of
-anything else. Some five minutes of processor time. It calls
-parts of the kit that its authors may change.
+`inline(always)` from a function that would grow very large, and this doesn't: so PROGRAM is as fast as a proved one only
+where no mark is dropped (dropped_marks.py tells where one is), and what it prints is no evidence of anything else. Some five
+minutes of processor time. It calls parts of the kit that its authors may change.
 """
 import os
 import re
@@ -100,6 +99,16 @@ def marks_in(lines, crate, modules):
     return found
 
 
+def marked(name, told):
+    """What the sources say of inlining a function of the module, in LLVM's word, or None."""
+    plain = name.split("::<")[0]
+    parts = plain.split("::")
+    for it in (plain, "::".join([parts[0], *parts[-2:]])):
+        if it in told:
+            return WORDS[told[it]]
+    return None
+
+
 def unchecked(line, told):
     """A line of the module without its checks, or nothing."""
     if "rattle-llvm-checks::" in line and line.lstrip().startswith("call") or line.strip() == "call void @llvm.trap()":
@@ -111,11 +120,8 @@ def unchecked(line, told):
     if line.startswith("attributes #"):
         return line.replace(" sanitize_address", "")
     if line.startswith("define"):
-        name = re.search(r'@"?([^"(]*)', line)[1].split("::<")[0]
-        parts = name.split("::")
-        for it in (name, "::".join([parts[0], *parts[-2:]])):
-            if it in told:
-                return re.sub(r"\) (#\d+ \{)$", rf") {WORDS[told[it]]} \1", line)
+        if word := marked(re.search(r'@"?([^"(]*)', line)[1], told):
+            return re.sub(r"\) (#\d+ \{)$", rf") {word} \1", line)
     return line
 
 
