@@ -15,8 +15,9 @@ import subprocess
 import sys
 import tempfile
 
+from bench import BUILT
+
 HERE = os.path.dirname(os.path.abspath(__file__))
-BUILT = os.path.join(HERE, "..", "crates", "jvm", "out", "jvm")
 CLASSES, METHODS, TURNS = 256, 3_000, 4_000_000
 DONE, LIMIT = 0, 4  # the statuses of a run that ends and of one that its limit of steps ends
 
@@ -77,7 +78,8 @@ def least(times, words, status=DONE):
 
 
 def room_of(words):
-    """The most bytes that a command had in use, as the program `time` tells it: a process that this one begins has its size."""
+    """The most bytes that a command had in use, as the program `time` tells it: of a process that Python begins the system
+    counts Python's own size."""
     done = subprocess.run(["/usr/bin/time", "-f", "%M", *words], stdout=subprocess.DEVNULL, stderr=subprocess.PIPE, check=True)
     return 1024 * int(done.stderr.split()[-1])
 
