@@ -17,6 +17,8 @@ import os
 import re
 import subprocess
 
+from plain.programs import told_of_journal
+
 ROWS = os.path.join(os.path.dirname(os.path.abspath(__file__)), "..", "examples", "answers.txt")
 END = "return\n.end method\n"
 CLASS = "{} E\n.super java/lang/Object"
@@ -171,6 +173,25 @@ def reported_by(value, printed):
     return f"invokestatic vm/Sys/{'printl(J)V' if value.endswith('L') else 'print(I)V'}\n"
 
 
+def classes_of(given):
+    """The texts of a row of classes."""
+    return ["".join(text_of(line) for line in row.split("|")).encode() for row in repeated(given).split("; ")]
+
+
+def around(reference):
+    """The row of classes of a reference: a main that makes it, and classes to which it may lead."""
+    return f"{BEFORE}{reference}{BEHIND}"
+
+
+def has_bytes(made, wanted):
+    """Whether a class file that was made has the wanted bytes."""
+    word, _, rest = wanted.partition(" ")
+    if word == "at":
+        place, digits = rest.split(" ", 1)
+        return made[int(place) :].startswith(bytes.fromhex(digits))
+    return word == "assembled" or made.endswith(bytes.fromhex(rest))
+
+
 class Folder:
     """A folder in which `jvm` is called."""
 
@@ -202,16 +223,7 @@ class Folder:
             return answer if answer.startswith("jvm: a.j: J") else None
         if not wanted.startswith(("ends ", "at ", "assembled")):
             return None if answer == f"jvm: a.j: {wanted}" else answer or "assembled"
-        return answer or (None if self.has(wanted) else self.read("a.class").hex())
-
-    def has(self, wanted):
-        """Whether the class file that was made has the wanted bytes."""
-        made = self.read("a.class")
-        word, _, rest = wanted.partition(" ")
-        if word == "at":
-            place, digits = rest.split(" ", 1)
-            return made[int(place) :].startswith(bytes.fromhex(digits))
-        return word == "assembled" or made.endswith(bytes.fromhex(rest))
+        return answer or (None if has_bytes(self.read("a.class"), wanted) else self.read("a.class").hex())
 
     def class_file(self, digits, wanted):
         """The same of a class file; with nothing wanted it is refused, whatever is reported."""
@@ -222,9 +234,9 @@ class Folder:
 
     def program(self, given, wanted):
         names = []
-        for number, row in enumerate(repeated(given).split("; ")):
+        for number, text in enumerate(classes_of(given)):
             names.append(f"{number}.j")
-            self.put(names[-1], "".join(text_of(line) for line in row.split("|")).encode())
+            self.put(names[-1], text)
         answer = self.told("run", *names)
         if wanted == "accepted":
             return None if answer == "" or answer.startswith("jvm: fault F") else answer
@@ -261,50 +273,13 @@ class Folder:
         if kind in ("text", "assembled"):
             return self.text(given, wanted)
         if kind in ("program", "reference"):
-            return self.program(given if kind == "program" else f"{BEFORE}{given}{BEHIND}", wanted)
+            return self.program(given if kind == "program" else around(given), wanted)
         if kind in ("journal", "replay"):
             return getattr(self, kind)(given, wanted)
         if kind.startswith("main of "):
             return self.main(int(kind.removeprefix("main of ")), given, wanted)
         answers = [self.class_file(digits, told) for digits, told in class_files(kind, given, wanted)]
         return next((why for why in answers if why), None) if answers else "no such kind"
-
-
-def is_number(word, below):
-    return re.fullmatch(r"0|[1-9]\d{0,3}", word) is not None and int(word) < below
-
-
-def is_line(line, first, numbers):
-    words = line.removesuffix("\n").split(" ")
-    return line.endswith("\n") and words[0] == first and len(words) == 1 + numbers and all(is_number(it, 10000) for it in words[1:])
-
-
-def is_row(line, workers):
-    words = line.removesuffix("\n").split(" ")
-    if not line.endswith("\n") or len(words) != (3 if workers else 2):
-        return False
-    actor = words[0] == "c" or is_number(words[0], 256)
-    return actor and words[1] in ("d", "o", "n", "f") and (not workers or is_number(words[2], workers))
-
-
-def plain_answer(journal):
-    """What a plain reader tells of a journal of three workers: the first fault, by lines and words."""
-    lines = re.findall(r"[^\n]*\n|[^\n]+", journal.decode("latin-1"))
-    at = lambda place: lines[place] if place < len(lines) else ""
-    if at(0) not in ("JVMJ 1\n", "JVMJ 2\n"):
-        return "N1"
-    if not is_line(at(1), "heap", 3) or not is_line(at(2), "limits", 2):
-        return "N2"
-    workers = 3 if at(0) == "JVMJ 2\n" else 0
-    if workers and not is_line(at(3), "workers", 1):
-        return "N7"
-    after = lines[4 if workers else 3 :]
-    for number, line in enumerate(after):
-        if line.startswith("end"):
-            return "read" if is_line(line, "end", 1) and line == f"end {number}\n" and len(after) == number + 1 else "N4"
-        if not is_row(line, workers):
-            return f"N3 at row {number + 1}"
-    return "N4"
 
 
 def tried_journals(folder):
@@ -315,9 +290,9 @@ def tried_journals(folder):
             changed += [whole[:place] + byte + whole[place + 1 :] for byte in (b"\0", b"\xff")]
         for journal in changed:
             folder.put("in", journal)
-            wanted, answer = plain_answer(journal), folder.told("upgrade", "in", "out")
-            if answer != ("" if wanted == "read" else f"jvm: journal {wanted}"):
-                return f"{journal}: {answer or 'read'} where a plain reader tells {wanted}"
+            wanted, answer = told_of_journal(journal) or "", folder.told("upgrade", "in", "out")
+            if answer != (wanted and f"jvm: {wanted}"):
+                return f"{journal}: {answer or 'read'} where a plain reader tells {wanted or 'nothing'}"
     return None
 
 

@@ -19,18 +19,11 @@ import subprocess
 import sys
 import tempfile
 
+from java_classes import SYS
+
 TOOLS = os.path.dirname(os.path.abspath(__file__))
 PROGRAMS = os.path.join(TOOLS, "java", "programs.txt")
 BUILT = os.path.join(TOOLS, "..", "crates", "jvm", "out", "jvm")
-
-SYS = """package vm;
-public class Sys {
-    public static void print(int i) { line(Integer.toString(i)); }
-    public static void printl(long l) { line(Long.toString(l)); }
-    public static void putc(int c) { System.out.write(c & 255); }
-    private static void line(String s) { System.out.print(s + "\\n"); }
-}
-"""
 
 SOURCE = """import static vm.Sys.*;
 public class %s {

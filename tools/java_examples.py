@@ -3,10 +3,9 @@
 
 Usage: java_examples.py [--check]
 
-Each source there that has a `main()` without arguments is compiled, without debug tables, its version is set to 49.0, and
-`java` runs it. Its class files are written beside it, and what `java` prints into NAME.out; tools/run_examples.py runs
-them. With --check nothing is written, and the tool ends with status 1 where a file isn't what it would
-write.
+Each source there that has a `main()` without arguments is compiled as tools/java_classes.py does it, and `java` runs the
+class files. They are written beside the source, and what `java` prints into NAME.out; tools/run_examples.py runs them. With
+--check nothing is written, and the tool ends with status 1 where a file isn't what it would write.
 """
 import glob
 import os
@@ -15,7 +14,8 @@ import subprocess
 import sys
 import tempfile
 
-from java_agrees import BEGIN, as_version_49
+from java_agrees import BEGIN
+from java_classes import SYS, checked, written
 
 ROOT = os.path.join(os.path.dirname(os.path.abspath(__file__)), "..")
 FOLDER = os.path.join(ROOT, "examples", "java")
@@ -26,19 +26,18 @@ def output_of(words, **options):
 
 
 def made(source):
-    """Gives the class files of a source by name, main's first, and what it prints."""
+    """Gives a source's name, its class files by their names, and what it prints."""
     name = os.path.basename(source).removesuffix(".java")
+    files, _, lines = checked([source])
+    if lines:
+        sys.exit("\n".join(lines))
     with tempfile.TemporaryDirectory() as room:
-        with open(f"{room}/Begin.java", "w", encoding="utf-8") as file:
-            file.write(BEGIN % name)
-        javac = ["javac", "-g:none", "-nowarn", "--release", "8", "-Xlint:-options", "-sourcepath", f"{room}:{FOLDER}"]
-        output_of([*javac, "-d", room, f"{room}/Begin.java"])
-        printed = output_of(["java", "-cp", room, "Begin"])
-        files = {}
-        for path in as_version_49(room):
-            with open(path, "rb") as file:
-                files[os.path.basename(path)] = file.read()
-        return name, files, printed
+        for path, text in {"Begin": BEGIN % name, "Sys": SYS}.items():
+            with open(f"{room}/{path}.java", "w", encoding="utf-8") as file:
+                file.write(text)
+        written(room, files)
+        output_of(["javac", "-d", room, "-cp", room, f"{room}/Begin.java", f"{room}/Sys.java"])
+        return name, files, output_of(["java", "-cp", room, "Begin"])
 
 
 def main():
@@ -48,7 +47,7 @@ def main():
             if not re.search(r"static void main\(\)", file.read()) or source.endswith("Mix.java"):
                 continue
         name, files, printed = made(source)
-        wanted.update({os.path.join(FOLDER, path): data for path, data in files.items()})
+        wanted.update({os.path.join(FOLDER, path + ".class"): data for path, data in files.items()})
         wanted[os.path.join(FOLDER, name + ".out")] = printed
     differ = 0
     for path, data in wanted.items():

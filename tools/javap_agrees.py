@@ -3,10 +3,10 @@
 Usage: javap_agrees.py JVM [FILE.class ..]
 
 JVM is the command of the built program, as "./jvm". With no class file named, those of the Java sources in examples/java
-are taken: `javac` compiles them into a temporary folder, and their version is set to 49.0, which changes nothing else that
-is compared. So are the texts in examples, which `jvm asm` assembles. For each file these are compared: superclass, interfaces, flags; of fields name, descriptor, flags and value; of
-methods name, descriptor, flags, limits, exception rows, and each instruction with its operands, by name. Ends with status 1
-where something differs.
+are taken, as java_classes.py makes them for the machine, with another version and without some flags; `javap` reads these
+too. So are the texts in examples, which `jvm asm` assembles. For each file these are compared: superclass, interfaces, flags;
+of fields name, descriptor, flags and value; of methods name, descriptor, flags, limits, exception rows, and each instruction
+with its operands, by name. Ends with status 1 where something differs.
 """
 import glob
 import os
@@ -15,6 +15,8 @@ import shlex
 import subprocess
 import sys
 import tempfile
+
+import java_classes
 
 FIELD_BITS = dict(public=1, private=2, protected=4, static=8, final=16, volatile=64, transient=128)
 METHOD_BITS = dict(public=1, private=2, protected=4, static=8, final=16, synchronized=32, native=256, abstract=1024)
@@ -237,14 +239,9 @@ def assembled(jvm, folder):
 
 
 def compiled(folder):
-    sources = glob.glob(os.path.join(EXAMPLES, "java", "*.java"))
-    output_of(["javac", "--release", "8", "-g:none", "-Xlint:-options", "-d", folder] + sources)
-    files = sorted(glob.glob(os.path.join(folder, "**", "*.class"), recursive=True))
-    for path in files:
-        with open(path, "r+b") as file:
-            file.seek(6)
-            file.write(bytes([0, 49]))
-    return files
+    """The class files of the Java sources, as the machine takes them."""
+    made, _ = java_classes.compiled(sorted(glob.glob(os.path.join(EXAMPLES, "java", "*.java"))))
+    return java_classes.written(folder, {name: java_classes.ClassFile(data).for_the_machine() for name, data in sorted(made.items())})
 
 
 def main():

@@ -20,7 +20,7 @@ import re
 import sys
 import tempfile
 
-from try_wrong_bodies import load_rt
+from kit import module_of_kit
 
 # What stands before the last line of a file that becomes a comment, where that line closes something.
 AFTER = {
@@ -157,7 +157,7 @@ def written(folder, parts, edit):
 
 def is_proved(folder, crate, rest):
     """Whether the crate is proved without what these pairs leave out."""
-    rt = load_rt()
+    rt = module_of_kit("rt")
     root = os.path.dirname(os.path.dirname(folder))
     os.chdir(root)
     found = next(it for it in rt.rtlib.crates_below(root) if it.name == crate)

@@ -11,6 +11,7 @@ printed. The programs of examples/rows.txt are run turn by turn. All but those o
 several threads, or find no room for an object, are also run by four carriers beside the ideal run, and the journals of these
 runs are replayed: they print the same, whoever took which turn. The sessions of examples/sessions.txt are played command by command,
 and each row of examples/answers.txt is reported as it says. Of a few commands each request for memory is refused in turn.
+Inputs that were cut, changed or made up are told as the plain reader tells them (damaged.py).
 
 The last line is 'N passed, M failed'. With --after, the passes and failures in the last line of that file are added.
 """
@@ -24,7 +25,10 @@ import sys
 import tempfile
 
 from answers import tried_answers
+from damaged import tried_damaged
+from debug_agrees import tried_debugger
 from memory_refused import tried_refusals
+from plain.rows import tried_reader
 from sessions import tried_commands
 
 ROOT = os.path.join(os.path.dirname(os.path.abspath(__file__)), "..")
@@ -162,6 +166,20 @@ def tried_classes(jvm, room):
         yield f"java/{os.path.basename(name)} by four carriers", carried(jvm, files, ROOM, wanted, room)
 
 
+TRIED = (
+    tried_texts,
+    tried_others,
+    tried_rows,
+    tried_classes,
+    tried_commands,
+    tried_answers,
+    tried_refusals,
+    tried_debugger,
+    tried_reader,
+    tried_damaged,
+)
+
+
 def main():
     words = argparse.ArgumentParser(description=__doc__.split("\n")[0])
     words.add_argument("--jvm", default=BUILT)
@@ -175,7 +193,7 @@ def main():
         print(f"examples: there is no {given.jvm}\n{passed} passed, {failed + 1} failed")
         return 1
     with tempfile.TemporaryDirectory() as room:
-        for tried in (tried_texts, tried_others, tried_rows, tried_classes, tried_commands, tried_answers, tried_refusals):
+        for tried in TRIED:
             for name, why in tried(os.path.abspath(given.jvm), room):
                 passed, failed = passed + (not why), failed + bool(why)
                 if why:

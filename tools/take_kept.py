@@ -13,13 +13,13 @@ authors may change.
 import os
 import sys
 
-from try_wrong_bodies import load_rt
+from kit import module_of_kit
 
 HERE = os.path.dirname(os.path.dirname(os.path.abspath(__file__)))
 
 
 def main():
-    rt = load_rt()
+    rt = module_of_kit("rt")
     rt.Crate.allowed = rt.handles_of(HERE)
     crates = rt.crates_of(HERE)
     names = sys.argv[1:]

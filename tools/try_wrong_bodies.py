@@ -7,8 +7,6 @@ For work between gates: `rt must-fail CRATE`, which proves all libraries from no
 first. It calls parts of the command `rt` that its authors may change.
 """
 
-import importlib.machinery
-import importlib.util
 import os
 import shutil
 import subprocess
@@ -16,14 +14,7 @@ import sys
 import tempfile
 import time
 
-
-def load_rt():
-    loader = importlib.machinery.SourceFileLoader("rt", os.path.realpath(shutil.which("rt")))
-    spec = importlib.util.spec_from_loader("rt", loader)
-    made = importlib.util.module_from_spec(spec)
-    sys.modules["rt"] = made
-    loader.exec_module(made)
-    return made
+from kit import module_of_kit
 
 
 def main():
@@ -32,7 +23,7 @@ def main():
         return 2
     root = subprocess.run(["git", "rev-parse", "--show-toplevel"], capture_output=True, text=True, check=True).stdout.strip()
     os.chdir(root)
-    rt = load_rt()
+    rt = module_of_kit("rt")
     crate = next(it for it in rt.rtlib.crates_below(root) if it.name == sys.argv[1])
     edits, _ = rt.edits_of(crate)
     wanted = [it.removesuffix(".edit") for it in sys.argv[2:]]

@@ -18,6 +18,8 @@ import sys
 import tempfile
 import time
 
+from kit import linked_kit
+
 HERE = os.path.dirname(os.path.dirname(os.path.abspath(__file__)))
 KIT = os.path.dirname(os.path.dirname(os.path.realpath(shutil.which("rt"))))
 CLANG = f"{KIT}/toolchain/bin/clang"
@@ -27,36 +29,20 @@ FLAGS = f"""--target={TARGET} -march=x86-64 -mllvm -no-trap-after-noreturn -ffun
     -mllvm -trap-unreachable -mllvm -no-x86-call-frame-opt -mllvm -disable-machine-licm -mllvm -disable-postra-machine-licm
     -mllvm -sink-common-insts=false --no-default-config -fno-crash-diagnostics -fPIE -Wno-everything""".split()
 WORDS = {"always": "alwaysinline", "never": "noinline", None: "inlinehint"}
+# clang, which leaves a copy of the module that it is given (it is called with no environment, first for a part of the program,
+# and then for the whole with a sanitizer)
+KEEPER = """#!/bin/bash
+[ -f module.bc ] && case "$*" in *-fsanitize=*) /bin/cp module.bc {room}/part.bc && /bin/mv {room}/part.bc {room}/module.bc;; esac
+exec -a "$0" {{real}} "$@"
+"""
 # the crates of the kit whose functions stand in the loop of turns
 LIBRARIES = ("core", "std", "std_alloc", "std_heap", "std_collections", "circular_buffer", "atomic_table")
 
 
-def kit_that_keeps(room):
-    """A kit of links in which clang keeps a copy of the module that it is given."""
-    kit = f"{room}/kit"
-    for folder in ("bin", "toolchain/bin"):
-        os.makedirs(f"{kit}/{folder}")
-        for name in os.listdir(f"{KIT}/{folder}"):
-            if name in ("rt", "rtlib.py"):  # these look for the kit where they stand
-                shutil.copy2(f"{KIT}/{folder}/{name}", f"{kit}/{folder}/{name}")
-            elif name != "clang":
-                os.symlink(f"{KIT}/{folder}/{name}", f"{kit}/{folder}/{name}")
-    os.symlink(f"{KIT}/toolchain/lib", f"{kit}/toolchain/lib")
-    for name in set(os.listdir(KIT)) - {"bin", "toolchain"}:
-        os.symlink(f"{KIT}/{name}", f"{kit}/{name}")
-    clang = f"{kit}/toolchain/bin/clang"
-    with open(clang, "w", encoding="utf-8") as file:
-        # (it is called with no environment, first for a part of the program, and then for the whole with a sanitizer)
-        copy = f"/bin/cp module.bc {room}/part.bc && /bin/mv {room}/part.bc {room}/module.bc"
-        keep = f'[ -f module.bc ] && case "$*" in *-fsanitize=*) {copy};; esac'
-        file.write(f'#!/bin/bash\n{keep}\nexec -a "$0" {CLANG} "$@"\n')
-    os.chmod(clang, 0o755)
-    return kit
-
-
 def module_of_program(room):
     """The module of the whole program; `rt try` is stopped once it is there."""
-    words = [f"{kit_that_keeps(room)}/bin/rt", "try", "--data", "hello.j=../../examples/hello.j", "--", "run", "hello.j"]
+    kit = linked_kit(room, {"toolchain/bin/clang": KEEPER.format(room=room)})
+    words = [f"{kit}/bin/rt", "try", "--data", "hello.j=../../examples/hello.j", "--", "run", "hello.j"]
     how = {"cwd": f"{HERE}/crates/jvm", "stdout": subprocess.DEVNULL, "stderr": subprocess.DEVNULL, "start_new_session": True}
     ran = subprocess.Popen(words, **how)
     while not os.path.exists(f"{room}/module.bc") and ran.poll() is None:

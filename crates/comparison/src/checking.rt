@@ -15,6 +15,7 @@ use ideal_run::{Choice, Ideal};
 use loader::programs::Program;
 use model::journals::{Limits, Outcome, Row};
 use model::row_runs::Rows;
+use model::watching::{Unwatched, Watch};
 use scheduler::replaying::SoundJournal;
 use scheduler::worlds::{World, WorldError};
 use std::alloc::{AllocError, Global};
@@ -148,13 +149,14 @@ fn agrees_after<'a>(
 }
 
 /// Makes the turns of these rows, which a run made, in a world that has made none and in the ideal run. The first row,
-/// from 1, after which they differ.
-fn compare<'a>(
+/// from 1, after which they differ. A watch is told after each row after which they don't.
+fn compare<'a, P: Watch>(
     world: &mut World,
     run: &mut Ideal<'a>,
     alloc: Global,
     program: &'a Program,
     mut rows: Rows<'_>,
+    watch: &mut P,
 ) -> Result<Option<usize>, AllocError>
     requires program { world.old.program ≡ program.now }
     requires empty { world.old.journal.rows ≡ [] }
@@ -169,6 +171,8 @@ fn compare<'a>(
         if !agrees_after(world, run, alloc, program, row)? {
             return Ok(Some(count - rows.len()));
         }
+        let left = rows.len();
+        watch.reached(count - left, left);
     }
     Ok(None)
 }
@@ -203,11 +207,12 @@ fn last_difference(world: &World, run: &Ideal<'_>) -> Result<Option<usize>, Allo
 }
 
 /// Compares a run with the reference, from a world and an ideal run that have made no turn.
-fn difference_by<'a>(
+fn difference_by<'a, P: Watch>(
     alloc: Global,
     world: &'a World,
     again: &mut World,
     run: &mut Ideal<'a>,
+    watch: &mut P,
 ) -> Result<Option<usize>, AllocError>
     requires again { again.old ≡ with_all world.now [] }
     requires run { run.old ≡ opening_run world.now.program world.now.journal.limits }
@@ -216,23 +221,24 @@ fn difference_by<'a>(
     let journal = world.journal();
     journal.is_sound();
     world.is_made();
-    match compare(again, run, alloc, world.program(), journal.rows())? {
+    match compare(again, run, alloc, world.program(), journal.rows(), watch)? {
         Some(row) => Ok(Some(row)),
         None => last_difference(world, run),
     }
 }
 
 /// The same, from a world that has made no turn.
-fn difference_from(
+fn difference_from<P: Watch>(
     alloc: Global,
     world: &World,
     again: &mut World,
+    watch: &mut P,
 ) -> Result<Option<usize>, AllocError>
     requires { again.old ≡ with_all world.now [] }
     ensures { IfOk result (λ row. row ≡ None) }
 {
     let mut run = reference(alloc, world.program(), world.journal().limits())?;
-    difference_by(alloc, world, again, &mut run)
+    difference_by(alloc, world, again, &mut run, watch)
 }
 
 /// Compares a run with the reference, the ideal run of its program, which is plain code beside the definitions and on
@@ -243,6 +249,19 @@ fn difference_from(
 pub fn first_difference(alloc: Global, world: &World) -> Result<Option<usize>, AllocError>
     ensures { IfOk result (λ row. row ≡ None) }
 {
+    let mut watch = Unwatched;
+    first_difference_watched(alloc, world, &mut watch)
+}
+
+/// The same row as `first_difference`, or `AllocError`, with a watch that is told after each row how many are done and
+/// how many are left.
+pub fn first_difference_watched<P: Watch>(
+    alloc: Global,
+    world: &World,
+    watch: &mut P,
+) -> Result<Option<usize>, AllocError>
+    ensures { IfOk result (λ row. row ≡ None) }
+{
     let mut again = reopened(alloc, world)?;
-    difference_from(alloc, world, &mut again)
+    difference_from(alloc, world, &mut again, watch)
 }

@@ -44,10 +44,9 @@
 //! | `lend(frames, callers, code, place)` | under `IsAt`, where f runs the code's method, gives no monitor back and isn't marked: `frames`; `callers` is room for those that call |
 //! | `take_back(at)` | `frames` |
 //! | `run(at, memory, context, most)` | as `run_registers`: `Runs` |
-//! | `call(at, code, start, kinds, below)` | as `call_with`, of the method of the code, with its limits, which begins at that place; a `None` leaves `frames` as they are |
-//! | `back(at, place, next)` | the caller goes on: `with_running (callers frames) (replaced next (running_frame (callers frames)) 0 []).frame`, where that stands at that place; a `None` changes nothing |
-//! | `back_with(at, place, next, v)` | the same with `v ∷ []` |
-//! | `caller` | the code of the caller and the place of its call, if it is kept |
+//! | `call(at, code, start, kinds, below)` | as `call_with`, of the method of the code, with its limits; the frame that it enters stands at the place `start`, and the caller stays at its call. A `None` leaves `frames` as they are |
+//! | `back(at)` | the running frame is left, and its caller goes on at the place after its call: `with_running (callers frames) (replaced next (running_frame (callers frames)) 0 []).frame`, with the pc of that place for `next`. A `None` changes nothing |
+//! | `back_with(at, v)` | the same with `v ∷ []` |
 //! | `operand(at, kind)`, `reference_below(at, k)`, `locals_held(at)` | as those of `Frames` |
 //!
 //! Inside, an activation record says where a frame's locals begin in the array; its stack stands after them, a value

@@ -76,6 +76,7 @@ pub mod ResolvedFields
 pub mod ReturnAgreement
 pub mod ReturnLemmas
 pub mod RunRows
+pub mod Standing
 mod RunningFrames
 mod Scenes
 pub mod ShownLemmas

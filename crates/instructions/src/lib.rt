@@ -1,4 +1,35 @@
 //! One case of the instruction table: a thread's turn on the state of a running program.
+//!
+//! `State` (state.rt) is what a caller has: a program, its threads, its heap, its output, and the fault, if there was one.
+//! `Machine` (machines.rt) is what one turn works on: the frames of the thread that runs, static fields, class states,
+//! heap and output. The other threads' frames stand in `Threads` (threads.rt).
+//!
+//! The general way makes any turn; each of its functions ensures what the instruction table says of its operation:
+//!
+//! | files | what stands there |
+//! |---|---|
+//! | acting | the match over a step's operation, and what becomes of the machine |
+//! | asides, pushes, exchanges | switches and wide longs; values that a turn puts on the stack |
+//! | fields, statics, arrays, casts, types, type_operations, objects, kinds | members, arrays, types, new objects |
+//! | calls, invoking, starting, own_prints, printing, returns, leaving | calls, the machine's own methods, returns |
+//! | monitoring, awaiting, readiness | monitors; what a turn waits for, and what it prints, before it is made |
+//! | throwing, unwinding, landing | exceptions, where a throwable lands, and that it does |
+//! | initialising, claims, opening | class initialisation, and how a program opens |
+//! | heaps, with the files of heaps/ | objects in cells, the account of the cells, the write barrier |
+//! | state/classes, state/objects, state/showing, state/threads, held, names | what an observer is told |
+//!
+//! The quick ways make many turns in one call, or one turn by one look at its step. Each answers that it made them, or
+//! that it made none and changed nothing; then the general way is asked:
+//!
+//! | files | what stands there |
+//! |---|---|
+//! | first_turns, state/first | turns of the first thread in cyclic order by one look at the step |
+//! | register_turns, code_calls, callees, heap_steps | register code with calls and returns between, on lent frames |
+//! | quick_calls, quick_arrays, quick_fields, quick_statics, quick_casts | steps on whole frames, of which nothing unusual comes |
+//! | lone_rounds, noted_rounds, quick_objects, doubling | rounds with turns of the collector and with new objects |
+//!
+//! To change what an instruction does, begin with its family in the crate `model`, then its file of the general way, and
+//! then the quick ways that carry it out too.
 #![tactic(auto)]
 
 mod acting;

@@ -35,6 +35,8 @@ pub struct LabelLines {
     given: Vec<GivenLabel>,
     used: Vec<UsedLabel>,
     instructions: usize,
+    /// whether a switch has begun, which is an instruction even if it is never finished
+    in_switch: bool,
 }
 
 impl LabelLines {
@@ -43,6 +45,7 @@ impl LabelLines {
             given: Vec::new(alloc),
             used: Vec::new(alloc),
             instructions: 0,
+            in_switch: false,
         }
     }
 
@@ -51,6 +54,7 @@ impl LabelLines {
         self.given.clear();
         self.used.clear();
         self.instructions = 0;
+        self.in_switch = false;
     }
 
     /// Notes the labels in what a line of a body says.
@@ -65,10 +69,13 @@ impl LabelLines {
             Part::Line(TextLine::Instruction(instruction)) => {
                 self.note_instruction(instruction, line)
             }
-            Part::Open(switch) => match switch.last_label() {
-                Some(label) => self.note_use(label, line, false),
-                None => Ok(()),
-            },
+            Part::Open(switch) => {
+                self.in_switch = true;
+                match switch.last_label() {
+                    Some(label) => self.note_use(label, line, false),
+                    None => Ok(()),
+                }
+            }
             Part::End | Part::StackLimit(_) | Part::LocalsLimit(_) => Ok(()),
         }
     }
@@ -82,6 +89,7 @@ impl LabelLines {
     /// Notes an instruction and the label on its line, which is the last line of a switch.
     fn note_instruction(&mut self, instruction: &Written, line: usize) -> Result<(), AllocError> {
         self.instructions = self.instructions.saturating_add(1);
+        self.in_switch = false;
         match instruction {
             Instruction::Branch(_, target) => self.note_use(target, line, false),
             Instruction::TableSwitch(table) => self.note_use(&table.default, line, false),
@@ -143,6 +151,9 @@ impl LabelLines {
 
     /// Notes the labels that a method gives from a line on, well formed or not.
     fn note_rest(&mut self, alloc: Global, text: &[u8], line: usize) -> Result<(), AllocError> {
+        if self.in_switch {
+            self.instructions = self.instructions.saturating_add(1);
+        }
         let mut lines = Lines::new(text);
         for _ in 1..line {
             lines.next_line();

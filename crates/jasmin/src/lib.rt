@@ -29,4 +29,4 @@ pub use errors::{Fault, TextError};
 pub use labels::Labels;
 pub use laws::texts_are_spelled;
 pub use mnemonics::word_of;
-pub use reader::read;
+pub use reader::{read, read_watched};

@@ -26,6 +26,7 @@ use model::flags::ClassFlags;
 use model::listings::Field;
 use model::names::Name;
 use model::trees::{BodyTree, CatchRow, ClassTree, MethodTree, TextLine};
+use model::watching::{Unwatched, Watch};
 use std::alloc::Global;
 
 /// Reads a text. It is refused where it spells no tree, with the first fault of the least faulty line, and where memory
@@ -34,14 +35,28 @@ pub fn read(alloc: Global, text: &[u8]) -> Result<ClassTree, TextError>
     ensures { MatchResult result (λ tree. tree_of text.now ≡ Some tree) (λ e. e.fault ≢ Fault.Memory
         → tree_of text.now ≡ None) }
 {
+    let mut watch = Unwatched;
+    read_watched(alloc, text, &mut watch)
+}
+
+/// The same tree or refusal as `read`, with a watch that is told at each statement of a method's body the number of its
+/// line and how many lines are left.
+pub fn read_watched<P: Watch>(
+    alloc: Global,
+    text: &[u8],
+    watch: &mut P,
+) -> Result<ClassTree, TextError>
+    ensures { MatchResult result (λ tree. tree_of text.now ≡ Some tree) (λ e. e.fault ≢ Fault.Memory
+        → tree_of text.now ≡ None) }
+{
     let mut statements = Statements::new(text);
-    let Ok(mut notes) = Notes::new(alloc) else {
+    let Ok(mut notes) = Notes::new(alloc, text) else {
         return Err(TextError {
             line: statements.line(),
             fault: Fault::Memory,
         });
     };
-    match class_tree(alloc, &mut statements, &mut notes) {
+    match class_tree(alloc, &mut statements, &mut notes, watch) {
         Ok(tree) => Ok(tree),
         Err(fault) => {
             let line = statements.line();
@@ -55,10 +70,11 @@ pub fn read(alloc: Global, text: &[u8]) -> Result<ClassTree, TextError>
 }
 
 /// The class that statements spell.
-fn class_tree(
+fn class_tree<P: Watch>(
     alloc: Global,
     statements: &mut Statements<'_>,
     notes: &mut Notes,
+    watch: &mut P,
 ) -> Result<ClassTree, Fault>
     ensures { MatchResult result (λ tree. class_tree statements.old ≡ Some tree) (λ e. e ≢ Fault.Memory
         → class_tree statements.old ≡ None) }
@@ -67,16 +83,17 @@ fn class_tree(
     let head = class_head(first)?;
     let second = next_of(statements)?.ok_or(Fault::Statement)?;
     let superclass = super_name(head.flags, second)?;
-    members_after(alloc, head, superclass, statements, notes)
+    members_after(alloc, head, superclass, statements, notes, watch)
 }
 
 /// The class of a head and a superclass, by the statements of its interfaces, fields and methods.
-fn members_after(
+fn members_after<P: Watch>(
     alloc: Global,
     head: ClassHead<'_>,
     superclass: &[u8],
     statements: &mut Statements<'_>,
     notes: &mut Notes,
+    watch: &mut P,
 ) -> Result<ClassTree, Fault>
     ensures { MatchResult result
         (λ tree. class_under head.entry.flags head.entry.name.now superclass.now statements.old ≡ Some tree) (λ e. e
@@ -85,7 +102,7 @@ fn members_after(
     let third = next_of(statements)?;
     let (interfaces, following) = interfaces_of(alloc, third, statements)?;
     let (fields, following) = fields_of(alloc, head.flags, following, statements)?;
-    let methods = methods_of(alloc, head.flags, following, statements, notes)?;
+    let methods = methods_of(alloc, head.flags, following, statements, notes, watch)?;
     Ok(ClassTree {
         flags: head.flags,
         name: Name::copy_of(alloc, head.name)?,
@@ -155,12 +172,13 @@ fn begins_otherwise(statement: &Statement<'_>, word: &[u8]) -> bool
 
 /// The methods that statements spell, the first of which was read, in a class with these flags.
 #[tactic(auto, using(crate::proofs::MethodLemmas::methods))]
-fn methods_of<'a>(
+fn methods_of<'a, P: Watch>(
     alloc: Global,
     class: ClassFlags,
     first: Option<Statement<'a>>,
     statements: &mut Statements<'a>,
     notes: &mut Notes,
+    watch: &mut P,
 ) -> Result<Vec<MethodTree>, Fault>
     ensures { MatchResult result (λ methods. methods_of class (ahead first.entry statements.old)
         ≡ Some methods.items) (λ e. e ≢ Fault.Memory → methods_of class (ahead first.entry statements.old) ≡ None) }
@@ -169,7 +187,7 @@ fn methods_of<'a>(
     let mut next = first;
     'rows: while let Some(statement) = next {
         let head = method_head(class, statement)?;
-        let method = method_under(alloc, class, head, statements, notes)?;
+        let method = method_under(alloc, class, head, statements, notes, watch)?;
         methods.push(method)?;
         next = next_of(statements)?;
     }
@@ -178,12 +196,13 @@ fn methods_of<'a>(
 
 /// A method with this head, by the statements up to its `.end method`.
 #[tactic(auto, using(crate::proofs::MethodLemmas::alone))]
-fn method_under(
+fn method_under<P: Watch>(
     alloc: Global,
     class: ClassFlags,
     head: MethodHead<'_>,
     statements: &mut Statements<'_>,
     notes: &mut Notes,
+    watch: &mut P,
 ) -> Result<MethodTree, Fault>
     ensures { MatchResult result (λ method.
         (first_method (record {
@@ -210,7 +229,7 @@ fn method_under(
             body: None,
         });
     }
-    let body = body(alloc, class, statements, notes)?;
+    let body = body(alloc, class, statements, notes, watch)?;
     Ok(MethodTree {
         flags,
         name,
@@ -232,16 +251,17 @@ fn no_body(class: ClassFlags, statements: &mut Statements<'_>) -> Result<(), Fau
 
 /// A body whose labels agree, up to its `.end method`.
 #[tactic(auto, using(crate::proofs::BodyLemmas::agreeing))]
-fn body(
+fn body<P: Watch>(
     alloc: Global,
     class: ClassFlags,
     statements: &mut Statements<'_>,
     notes: &mut Notes,
+    watch: &mut P,
 ) -> Result<BodyTree, Fault>
     ensures { MatchResult result (λ body. (first_body statements.old ≡ Some body)
         × (statements.new ≡ after_block statements.old)) (λ e. e ≢ Fault.Memory → first_body statements.old ≡ None) }
 {
-    let body = body_parts(alloc, class, statements, notes)?;
+    let body = body_parts(alloc, class, statements, notes, watch)?;
     labels_agree(alloc, body.rows.as_slice(), body.lines.as_slice())?;
     notes.labels.clear();
     Ok(body)
@@ -249,11 +269,12 @@ fn body(
 
 /// A body, up to its `.end method`, whether its labels agree or not.
 #[tactic(auto, using(crate::proofs::BodyLemmas::bodies))]
-fn body_parts(
+fn body_parts<P: Watch>(
     alloc: Global,
     class: ClassFlags,
     statements: &mut Statements<'_>,
     notes: &mut Notes,
+    watch: &mut P,
 ) -> Result<BodyTree, Fault>
     ensures { MatchResult result (λ body. (first_parts statements.old ≡ Some body)
         × (statements.new ≡ after_block statements.old)) (λ e. e ≢ Fault.Memory → first_parts statements.old ≡ None) }
@@ -264,6 +285,8 @@ fn body_parts(
     let mut lines = Vec::new(alloc);
     let mut open: Option<OpenSwitch> = None;
     'rows: while let Some(statement) = next_of(statements)? {
+        let number = statements.line();
+        watch.reached(number, notes.lines_after(number));
         match noted_part(
             alloc,
             class,
@@ -271,7 +294,7 @@ fn body_parts(
             open.take(),
             statement,
             notes,
-            statements.line(),
+            number,
         )? {
             Part::End => return whole_body(stack, locals, rows, lines),
             Part::StackLimit(n) => {

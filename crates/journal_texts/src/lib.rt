@@ -5,5 +5,5 @@ pub mod errors;
 mod heads;
 pub mod reading;
 mod row_lines;
-mod words;
+pub mod words;
 pub mod writing;

@@ -34,8 +34,8 @@ fn length_before(end: u8, bytes: &[u8]) -> usize
     bytes.iter().take_while(|b| **b != end).count()
 }
 
-/// The number that prints as this word.
-fn number_of(word: &[u8]) -> Option<u32>
+/// The number of 32 bits that prints as this word: digits, of which the first is no 0 but in 0 itself. None where there is none.
+pub fn number_of(word: &[u8]) -> Option<u32>
     ensures { result ≡ number_of word.now }
 {
     match word {

@@ -4,6 +4,7 @@ use Rattle.std.specs.Str.Parse.{IsNumeral, digits_value, without_leading_plus}
 use Rattle.clap.specs.declared.parser.matches.Found.{Found}
 use Rattle.clap.specs.Words.{one_text}
 use Rattle.jvm.specs.declared.options.RunOptions.{RunOptions}
+use Rattle.jvm.specs.declared.options.WorldOptions.{WorldOptions}
 
 -- the number of 32 bits that a text spells in decimal digits, if it spells one; a plus may stand first
 abbrev pub ReadsAs : List ℕ → Option ℕ → Type 0
@@ -18,11 +19,14 @@ pub record IsNumber (words : Found) (name : List ℕ) (n : ℕ) : Type 0 where
   pub of_none : one_text words name ≡ None → read ≡ None
 
 -- each number stands after its own name
-pub record HasNumbers (words : Found) (options : RunOptions) : Type 0 where
+pub record HasLimits (words : Found) (options : WorldOptions) : Type 0 where
   pub small : IsNumber words (codes "small") options.small
   pub medium : IsNumber words (codes "medium") options.medium
   pub large : IsNumber words (codes "large") options.large
   pub steps : IsNumber words (codes "steps") options.steps
   pub output : IsNumber words (codes "output") options.output
+
+pub record HasNumbers (words : Found) (options : RunOptions) : Type 0 where
+  pub world : HasLimits words options.world
   pub gc : IsNumber words (codes "gc") options.gc
   pub carriers : IsNumber words (codes "carriers") options.carriers

@@ -2,15 +2,16 @@
 ghost use Rattle.std.specs.Prelude.{◌≡◌, [], IfOk};
 
 use crate::carriers::carried;
+use crate::debugging::debugged;
 use crate::endings::{Ending, Exit};
-use crate::explaining::{all_codes, meaning};
+use crate::explaining::{all_codes, explained};
 use crate::files::{Files, ReadError};
-use crate::options::{AssembleOptions, Command, RunOptions};
+use crate::options::{AssembleOptions, Command, RunOptions, WorldOptions};
 use crate::stored_runs::{replay, upgrade, write_stored};
 use acceptance::LoadError;
 use assembler::AsmError;
 use classfile::ClassError;
-use comparison::checking::first_difference;
+use comparison::checking::first_difference_watched;
 use hall::HallError;
 use jasmin::Fault as TextFault;
 use launcher::launching::{LaunchError, launch};
@@ -18,6 +19,7 @@ use launcher::sources::{SourceError, assembled};
 use model::journals::{HeapShape, Limits};
 use model::turns::Status;
 use model::views::ThreadState;
+use model::watching::Watch;
 use scheduler::worlds::{World, WorldError};
 use std::alloc::{AllocError, Global};
 use std::io::{Read, Write};
@@ -25,13 +27,23 @@ use std::sync::Wait;
 use std::thread::Threads;
 
 /// The heap of some options.
-fn shape_of(options: &RunOptions) -> HeapShape
-    ensures { result ≡ record { small = options.now.small; medium = options.now.medium; large = options.now.large } }
+pub fn shape_of(options: WorldOptions) -> HeapShape
+    ensures { result ≡ record { small = options.small; medium = options.medium; large = options.large } }
 {
     HeapShape {
         small: options.small,
         medium: options.medium,
         large: options.large,
+    }
+}
+
+/// The limits of some options.
+pub fn limits_of(options: WorldOptions) -> Limits
+    ensures { result ≡ record { steps = options.steps; output = options.output } }
+{
+    Limits {
+        steps: options.steps,
+        output: options.output,
     }
 }
 
@@ -159,20 +171,20 @@ pub fn ended(alloc: Global, world: &World) -> Ending {
     }
 }
 
-/// Launches the program of the options' files.
-fn launched<F: Files>(alloc: Global, options: &RunOptions, files: &mut F) -> Result<World, Ending>
+/// Launches the program of these files.
+pub fn launched<F: Files>(
+    alloc: Global,
+    options: WorldOptions,
+    names: &[String],
+    files: &mut F,
+) -> Result<World, Ending>
     ensures { IfOk result (λ world. world.journal.rows ≡ []) }
 {
-    let names = options.files.as_slice();
     let sources = match read_all(alloc, files, names) {
         Ok(sources) => sources,
         Err(ending) => return Err(ending),
     };
-    let limits = Limits {
-        steps: options.steps,
-        output: options.output,
-    };
-    match launch(alloc, sources, shape_of(options), limits, &[]) {
+    match launch(alloc, sources, shape_of(options), limits_of(options), &[]) {
         Ok(world) => Ok(world),
         Err(error) => Err(refused(alloc, names, &error)),
     }
@@ -205,9 +217,9 @@ fn not_carried(alloc: Global, error: HallError) -> Ending {
 }
 
 /// The end of a run that was compared with the ideal run of its program: its own, unless they differ or memory runs
-/// out.
-fn checked(alloc: Global, world: &World) -> Ending {
-    match first_difference(alloc, world) {
+/// out. A watch is told how many rows were compared.
+fn checked<P: Watch>(alloc: Global, world: &World, watch: &mut P) -> Ending {
+    match first_difference_watched(alloc, world, watch) {
         Ok(None) => ended(alloc, world),
         Ok(Some(row)) => Ending::reported(Exit::Differs, format!(in alloc; "row {row} differs")),
         Err(_) => Ending::memory(),
@@ -216,12 +228,13 @@ fn checked(alloc: Global, world: &World) -> Ending {
 
 /// Writes the output of a run and then its journal, where one is wanted, and compares it with the ideal run, where that
 /// is wanted.
-fn written<F: Files, W: Write>(
+fn written<F: Files, W: Write, P: Watch>(
     alloc: Global,
     options: &RunOptions,
     carried: Result<World, HallError>,
     files: &mut F,
     output: &mut W,
+    watch: &mut P,
 ) -> Result<Ending, Ending> {
     let world = match carried {
         Ok(world) => world,
@@ -232,27 +245,33 @@ fn written<F: Files, W: Write>(
         write_stored(alloc, files, name, world.journal())?;
     }
     if options.check {
-        return Ok(checked(alloc, &world));
+        return Ok(checked(alloc, &world, watch));
     }
     Ok(ended(alloc, &world))
 }
 
 /// Runs a program.
-fn run<R: Threads + Wait + Sync, F: Files, W: Write>(
+fn run<R: Threads + Wait + Sync, F: Files, W: Write, P: Watch>(
     rt: &R,
     alloc: Global,
     options: &RunOptions,
     files: &mut F,
     output: &mut W,
+    watch: &mut P,
 ) -> Result<Ending, Ending> {
-    let world = launched(alloc, options, files)?;
+    let world = launched(alloc, options.world, &options.files, files)?;
     let carried = carried(rt, alloc, world, options.carriers, options.gc);
-    written(alloc, options, carried, files, output)
+    written(alloc, options, carried, files, output, watch)
 }
 
-/// The class file of a text, as bytes.
-fn class_bytes(alloc: Global, name: &String, text: &[u8]) -> Result<Vec<u8>, Ending> {
-    let made = match assembled(alloc, text) {
+/// The class file of a text, as bytes. A watch is told how many lines were read.
+fn class_bytes<P: Watch>(
+    alloc: Global,
+    name: &String,
+    text: &[u8],
+    watch: &mut P,
+) -> Result<Vec<u8>, Ending> {
+    let made = match assembled(alloc, text, watch) {
         Ok(made) => made,
         Err(error) => return Err(source_refused(alloc, name, &error)),
     };
@@ -263,13 +282,14 @@ fn class_bytes(alloc: Global, name: &String, text: &[u8]) -> Result<Vec<u8>, End
 }
 
 /// Assembles a text into a class file.
-fn assemble<F: Files>(
+fn assemble<F: Files, P: Watch>(
     alloc: Global,
     options: &AssembleOptions,
     files: &mut F,
+    watch: &mut P,
 ) -> Result<Ending, Ending> {
     let text = read_one(alloc, files, &options.file)?;
-    let bytes = class_bytes(alloc, &options.file, text.as_slice())?;
+    let bytes = class_bytes(alloc, &options.file, text.as_slice(), watch)?;
     write_one(alloc, files, &options.out, bytes.as_slice())?;
     Ok(Ending::good())
 }
@@ -305,9 +325,13 @@ fn explain<W: Write>(
     output: &mut W,
 ) -> Result<Ending, Ending> {
     match code {
-        Some(code) => match meaning(code.as_str()) {
-            Some(text) => write_text(alloc, text.as_bytes(), output),
-            None => Err(Ending::reported(Exit::CommandLine, format!(in alloc; "no code {code}"))),
+        Some(code) => match explained(alloc, code.as_str()) {
+            Ok(Some(text)) => write_text(alloc, text.as_str().as_bytes(), output),
+            Ok(None) => Err(Ending::reported(
+                Exit::CommandLine,
+                format!(in alloc; "no code {code}"),
+            )),
+            Err(_) => Err(Ending::memory()),
         },
         None => match all_codes(alloc) {
             Ok(lines) => write_text(alloc, lines.as_str().as_bytes(), output),
@@ -338,21 +362,25 @@ fn tell<E: Write>(errors: &mut E, ending: &Ending) {
 /// Does what a command says with files, standard input, output and error, and answers the exit status: 0 where all
 /// threads ended or a file was written, 1 a thread ended by an exception, 2 refused input, 3 a fault, 4 a limit, 5
 /// stuck, 6 memory, a thread that can't be started or a file that can't be read or written, 8 a run that differs from
-/// the ideal run with which it is compared. The carriers of a run are threads of the runtime.
-pub fn execute<R: Threads + Wait + Sync, F: Files, I: Read, W: Write, E: Write>(
+/// the ideal run with which it is compared. The carriers of a run are threads of the runtime. While a run is compared or
+/// a journal replayed row by row, a watch is told after each row how many are done and how many are left; while a text
+/// is read by `asm`, the same of its lines.
+pub fn execute<R: Threads + Wait + Sync, F: Files, I: Read, W: Write, E: Write, P: Watch>(
     rt: &R,
     alloc: Global,
     command: &Command,
     files: &mut F,
-    _input: &mut I,
+    input: &mut I,
     output: &mut W,
     errors: &mut E,
+    watch: &mut P,
 ) -> u8 {
     let ending = match command {
-        Command::Run(options) => either(run(rt, alloc, options, files, output)),
-        Command::Assemble(options) => either(assemble(alloc, options, files)),
+        Command::Run(options) => either(run(rt, alloc, options, files, output, watch)),
+        Command::Debug(options) => either(debugged(alloc, options, files, input, output)),
+        Command::Assemble(options) => either(assemble(alloc, options, files, watch)),
         Command::Disassemble(name) => either(disassemble(alloc, name, files, output)),
-        Command::Replay(options) => either(replay(alloc, options, files, output)),
+        Command::Replay(options) => either(replay(alloc, options, files, output, watch)),
         Command::Upgrade(options) => either(upgrade(alloc, options, files)),
         Command::Explain(code) => either(explain(alloc, code, output)),
     };

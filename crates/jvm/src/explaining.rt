@@ -403,7 +403,7 @@ fn number_in(digits: &[u8]) -> Option<u32> {
 
 /// What a code, as `J5`, or an exit status, as `4`, means and what to do about it, in up to six lines of text. `None`
 /// where there is no such code.
-pub fn meaning(code: &str) -> Option<&'static str> {
+fn meaning(code: &str) -> Option<&'static str> {
     match code.as_bytes() {
         [b'J', digits @ ..] => text_meaning(number_in(digits)?),
         [b'O', digits @ ..] => code_meaning(number_in(digits)?),
@@ -415,6 +415,15 @@ pub fn meaning(code: &str) -> Option<&'static str> {
         [b'N', digits @ ..] => journal_meaning(number_in(digits)?),
         [b'H', digits @ ..] => hall_meaning(number_in(digits)?),
         digits => status_meaning(number_in(digits)?),
+    }
+}
+
+/// What a code or an exit status means and what to do about it, with the code in front, as `J5: A label is given ..`.
+/// `None` where there is no such code, `AllocError` where memory runs out.
+pub fn explained(alloc: Global, code: &str) -> Result<Option<String>, AllocError> {
+    match meaning(code) {
+        Some(text) => Ok(Some(format!(in alloc; "{code}: {text}")?)),
+        None => Ok(None),
     }
 }
 

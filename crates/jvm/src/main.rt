@@ -2,13 +2,16 @@
 #![tactic(auto)]
 
 mod carriers;
+mod debugging;
 mod endings;
 mod executing;
 mod explaining;
 mod files;
 mod options;
 mod performing;
+mod prompting;
 mod stored_runs;
+mod telling;
 
 use std::process::ExitCode;
 

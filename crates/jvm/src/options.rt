@@ -2,7 +2,7 @@
 ghost use Rattle.std.specs.Prelude.{◌≡◌, ◌<◌, ◌≤◌, IfOk, length};
 ghost use Rattle.clap.specs.Words.{found_of};
 ghost use Rattle.jvm.specs.Commands.{HasFiles, InRange};
-ghost use Rattle.jvm.specs.Numbers.{HasNumbers, IsNumber};
+ghost use Rattle.jvm.specs.Numbers.{HasLimits, HasNumbers, IsNumber};
 
 use clap::error::ErrorKind;
 use clap::{Arg, ArgAction, ArgMatches, Command as Line, Error as ClapError, value_parser};
@@ -14,6 +14,8 @@ use thiserror::Error;
 pub enum Command {
     /// Runs the program of these files.
     Run(RunOptions),
+    /// Debugs the program of these files.
+    Debug(DebugOptions),
     /// Writes the class file of a text.
     Assemble(AssembleOptions),
     /// Writes the text of this class file.
@@ -35,14 +37,20 @@ pub struct AssembleOptions {
     pub out: String,
 }
 
-/// How `jvm run` runs.
-#[derive(Drop)]
-pub struct RunOptions {
+/// How many cells of each size a world's heap has, and its limits.
+#[derive(Clone, Copy)]
+pub struct WorldOptions {
     pub small: u32,
     pub medium: u32,
     pub large: u32,
     pub steps: u32,
     pub output: u32,
+}
+
+/// How `jvm run` runs.
+#[derive(Drop)]
+pub struct RunOptions {
+    pub world: WorldOptions,
     /// how many turns the collector makes after each turn of a thread
     pub gc: u32,
     /// how many threads carry turns; where there are several, the collector is one of its own
@@ -51,6 +59,13 @@ pub struct RunOptions {
     pub journal: Option<String>,
     /// whether the run is compared with the ideal run, turn by turn
     pub check: bool,
+    pub files: Vec<String>,
+}
+
+/// What `jvm debug` debugs.
+#[derive(Drop)]
+pub struct DebugOptions {
+    pub world: WorldOptions,
     pub files: Vec<String>,
 }
 
@@ -163,9 +178,26 @@ fn with_command<'a>(
     line.subcommand(command?)
 }
 
-/// `jvm run` with the options that say how much there is of everything.
-fn run_limits<'a>(alloc: Global) -> Result<Line<'a>, AllocError> {
-    let line = Line::new(alloc, "run").about("Runs the main of the first file's class");
+/// What `jvm run --help` ends with.
+const RUN_EXAMPLES: &str = "Examples:\n  \
+    jvm run examples/sum.j\n  \
+    jvm run --carriers 4 --journal square.journal examples/Square.j examples/Shape.j";
+
+/// What `jvm debug --help` ends with.
+const DEBUG_COMMANDS: &str = "Commands, one a line:\n  \
+    break C.m(A)R PC  a breakpoint at an instruction, as break E.main()V 0\n  \
+    delete N          deletes a breakpoint\n  \
+    step T            a turn of thread T\n  \
+    gc                a turn of the collector\n  \
+    run N             N turns of threads, a turn of the collector after each\n  \
+    stack T           the frames of thread T\n  \
+    object B          the object of birth B\n  \
+    heap              the cells, and the collector's phase\n  \
+    class C           the state of a class\n  \
+    quit              ends the session";
+
+/// A line with the options that say how much there is of everything.
+fn with_limits<'a>(alloc: Global, line: Line<'a>) -> Result<Line<'a>, AllocError> {
     let line = with_number(alloc, line, "small", "64", "cells of 4 words")?;
     let line = with_number(alloc, line, "medium", "16", "cells of 32 words")?;
     let line = with_number(alloc, line, "large", "4", "cells of 256 words")?;
@@ -175,7 +207,10 @@ fn run_limits<'a>(alloc: Global) -> Result<Line<'a>, AllocError> {
 
 /// The words of `jvm run`.
 fn run_line<'a>(alloc: Global) -> Result<Line<'a>, AllocError> {
-    let line = run_limits(alloc)?;
+    let line = Line::new(alloc, "run")
+        .about("Runs the main of the first file's class")
+        .after_help(RUN_EXAMPLES);
+    let line = with_limits(alloc, line)?;
     let line = with_number(
         alloc,
         line,
@@ -193,6 +228,14 @@ fn run_line<'a>(alloc: Global) -> Result<Line<'a>, AllocError> {
     line.arg(journal_option(alloc))?
         .arg(check_option(alloc))?
         .arg(sources(alloc))
+}
+
+/// The words of `jvm debug`.
+fn debug_line<'a>(alloc: Global) -> Result<Line<'a>, AllocError> {
+    let line = Line::new(alloc, "debug")
+        .about("Steps through a run, by commands from standard input")
+        .after_help(DEBUG_COMMANDS);
+    with_limits(alloc, line)?.arg(sources(alloc))
 }
 
 /// The words of `jvm asm`.
@@ -243,6 +286,7 @@ fn line<'a>(alloc: Global) -> Result<Line<'a>, AllocError> {
         .version("0.1.0")
         .subcommand_required(true);
     let line = with_command(line, run_line(alloc))?;
+    let line = with_command(line, debug_line(alloc))?;
     let line = with_command(line, replay_line(alloc))?;
     let line = with_command(line, upgrade_line(alloc))?;
     let line = with_command(line, explain_line(alloc))?;
@@ -287,6 +331,19 @@ fn number_of(matches: &ArgMatches<'_>, name: &str) -> u32
     matches.get_one::<u32>(name).unwrap_or(0)
 }
 
+/// The options of a world, each number from the words after its own name.
+fn world_options(matches: &ArgMatches<'_>) -> WorldOptions
+    ensures { HasLimits (found_of matches.now) result }
+{
+    WorldOptions {
+        small: number_of(matches, "small"),
+        medium: number_of(matches, "medium"),
+        large: number_of(matches, "large"),
+        steps: number_of(matches, "steps"),
+        output: number_of(matches, "output"),
+    }
+}
+
 /// The options of `run`, each number from the words after its own name.
 fn run_options(alloc: Global, matches: &ArgMatches<'_>) -> Result<RunOptions, LineError>
     ensures numbers { IfOk result (HasNumbers (found_of matches.now)) }
@@ -301,15 +358,22 @@ fn run_options(alloc: Global, matches: &ArgMatches<'_>) -> Result<RunOptions, Li
         return Err(LineError::Options);
     }
     Ok(RunOptions {
-        small: number_of(matches, "small"),
-        medium: number_of(matches, "medium"),
-        large: number_of(matches, "large"),
-        steps: number_of(matches, "steps"),
-        output: number_of(matches, "output"),
+        world: world_options(matches),
         gc,
         carriers: carriers as u8,
         journal: path(alloc, matches, "journal")?,
         check: matches.get_flag("check"),
+        files: files(alloc, matches)?,
+    })
+}
+
+/// The options of `debug`, each number from the words after its own name.
+fn debug_options(alloc: Global, matches: &ArgMatches<'_>) -> Result<DebugOptions, LineError>
+    ensures numbers { IfOk result (λ options. HasLimits (found_of matches.now) options.world) }
+    ensures files { IfOk result (λ options. 0 < length options.files.items) }
+{
+    Ok(DebugOptions {
+        world: world_options(matches),
         files: files(alloc, matches)?,
     })
 }
@@ -358,6 +422,7 @@ fn command_of(alloc: Global, matches: &ArgMatches<'_>) -> Result<Command, LineEr
 {
     match matches.subcommand() {
         Some(("asm", asm)) => Ok(Command::Assemble(assemble_options(alloc, asm)?)),
+        Some(("debug", debug)) => Ok(Command::Debug(debug_options(alloc, debug)?)),
         Some(("dis", dis)) => Ok(Command::Disassemble(one_file(alloc, dis, "FILE")?)),
         Some(("replay", replay)) => Ok(Command::Replay(replay_options(alloc, replay)?)),
         Some(("upgrade", upgrade)) => Ok(Command::Upgrade(upgrade_options(alloc, upgrade)?)),

@@ -4,8 +4,10 @@ use crate::endings::Exit;
 use crate::executing::execute;
 use crate::files::SystemFiles;
 use crate::options::{Command, LineError, options};
+use crate::prompting::Prompted;
+use crate::telling::Teller;
 use std::alloc::{AllocError, Global};
-use std::io::{ErrorKind, Write};
+use std::io::{ErrorKind, IsTerminal, Write};
 use std::sync::Wait;
 use std::thread::Threads;
 use std::{env, io};
@@ -33,12 +35,27 @@ fn refused(rt: &HostRuntime, error: &LineError) -> io::Result<Exit> {
     }
 }
 
+/// What the long work of a command is counted in.
+fn unit_of(command: &Command) -> &'static str {
+    match command {
+        Command::Assemble(_) => "lines",
+        _ => "rows",
+    }
+}
+
 /// Does what a command says with these threads, and answers the exit status.
 fn executed<R: Threads + Wait + Sync>(rt: &HostRuntime, threads: &R, command: &Command) -> u8 {
     let mut files = SystemFiles { runtime: rt };
-    let mut input = rt.stdin();
+    let stdin = rt.stdin();
+    let shown = stdin.is_terminal() && matches!(command, Command::Debug(_));
+    let mut input = Prompted {
+        input: stdin,
+        prompts: rt.stderr(),
+        shown,
+    };
     let mut output = rt.stdout();
     let mut errors = rt.stderr();
+    let mut teller = Teller::new(rt, unit_of(command));
     execute(
         threads,
         rt.alloc(),
@@ -47,6 +64,7 @@ fn executed<R: Threads + Wait + Sync>(rt: &HostRuntime, threads: &R, command: &C
         &mut input,
         &mut output,
         &mut errors,
+        &mut teller,
     )
 }
 

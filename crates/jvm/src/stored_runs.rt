@@ -10,6 +10,7 @@ use journal_texts::writing::write_journal;
 use launcher::replaying::{ReplayedError, replayed};
 use model::journal_parts::JournalParts;
 use model::stored_journals::StoredJournal;
+use model::watching::Watch;
 use scheduler::replaying::ReplayError;
 use std::alloc::Global;
 use std::io::Write;
@@ -56,17 +57,19 @@ fn not_replayed(alloc: Global, names: &[String], error: &ReplayedError) -> Endin
     }
 }
 
-/// Replays a journal on the program of some files, and writes the output. The end is that of the run.
-pub fn replay<F: Files, W: Write>(
+/// Replays a journal on the program of some files, and writes the output. The end is that of the run. A watch is told
+/// how many rows were made.
+pub fn replay<F: Files, W: Write, P: Watch>(
     alloc: Global,
     options: &ReplayOptions,
     files: &mut F,
     output: &mut W,
+    watch: &mut P,
 ) -> Result<Ending, Ending> {
     let journal = read_stored(alloc, files, &options.journal)?;
     let names = options.files.as_slice();
     let sources = read_all(alloc, files, names)?;
-    match replayed(alloc, sources, &journal) {
+    match replayed(alloc, sources, &journal, watch) {
         Ok(world) => {
             write_output(alloc, &world, output)?;
             Ok(ended(alloc, &world))

@@ -5,7 +5,8 @@ ghost use Rattle.launcher.specs.Replaying.{ExcusesReplayed, IsReplayed};
 
 use crate::launching::{LaunchError, program_of};
 use model::stored_journals::StoredJournal;
-use scheduler::replaying::{ReplayError, replay};
+use model::watching::Watch;
+use scheduler::replaying::{ReplayError, replay_watched};
 use scheduler::worlds::World;
 use std::alloc::Global;
 
@@ -18,15 +19,17 @@ pub enum ReplayedError {
     Replay(ReplayError),
 }
 
-/// Reads class files and texts as `launch` does, and replays a journal on the program of their classes.
+/// Reads class files and texts as `launch` does, and replays a journal on the program of their classes. A watch is told
+/// as `replay_watched` does.
 ///
 /// The first of these refusals that is met is reported: the first source that has no listing, by its place; the first
 /// rule that the listings break; P4 where the frames that the program opens with pass a thread's limits; the first row
 /// that isn't the one of its turn. Want of memory may come in place of any.
-pub fn replayed(
+pub fn replayed<P: Watch>(
     alloc: Global,
     sources: Vec<Vec<u8>>,
     journal: &StoredJournal,
+    watch: &mut P,
 ) -> Result<World, ReplayedError>
     ensures replayed { IfOk result (IsReplayed (bytes_of sources.items) journal.now) }
     ensures refused { IfErr result (ExcusesReplayed (bytes_of sources.items) journal.now) }
@@ -35,7 +38,7 @@ pub fn replayed(
         Ok(program) => program,
         Err(error) => return Err(ReplayedError::Launch(error)),
     };
-    match replay(alloc, program, journal) {
+    match replay_watched(alloc, program, journal, watch) {
         Ok(world) => Ok(world),
         Err(error) => Err(ReplayedError::Replay(error)),
     }

@@ -8,6 +8,7 @@ use assembler::{AsmError, Assembled, assemble};
 use classfile::ClassError;
 use jasmin::TextError;
 use model::listings::Listing;
+use model::watching::{Unwatched, Watch};
 use std::alloc::Global;
 use thiserror::Error;
 
@@ -35,8 +36,13 @@ fn begins_as_class(source: &[u8]) -> bool
     source.starts_with(&[0xca, 0xfe, 0xba, 0xbe])
 }
 
-/// What a text assembles to. A refusal of the text or of the assembler, or for memory.
-pub fn assembled(alloc: Global, text: &[u8]) -> Result<Assembled, SourceError>
+/// What a text assembles to. A refusal of the text or of the assembler, or for memory. While the text is read, a watch is
+/// told how many lines are read and how many are left.
+pub fn assembled<P: Watch>(
+    alloc: Global,
+    text: &[u8],
+    watch: &mut P,
+) -> Result<Assembled, SourceError>
     // The class file has the text's listing.
     ensures found { IfOk result (λ made. IsTextListing text.now (listing_of made.file)) }
     // The listing is the text's.
@@ -44,7 +50,7 @@ pub fn assembled(alloc: Global, text: &[u8]) -> Result<Assembled, SourceError>
     ensures refused { IfErr result (λ e. (LacksMemory e → ⊥) → (listing : ClassListing)
         → IsTextListing text.now listing → ⊥) }
 {
-    let tree = match jasmin::read(alloc, text) {
+    let tree = match jasmin::read_watched(alloc, text, watch) {
         Ok(tree) => tree,
         Err(error) => return Err(SourceError::Text(error)),
     };
@@ -61,7 +67,8 @@ fn text_listing(alloc: Global, text: &[u8]) -> Result<Listing, SourceError>
     ensures refused { IfErr result (λ e. (LacksMemory e → ⊥) → (listing : ClassListing)
         → IsTextListing text.now listing → ⊥) }
 {
-    match assembled(alloc, text) {
+    let mut watch = Unwatched;
+    match assembled(alloc, text, &mut watch) {
         Ok(made) => Ok(made.listing),
         Err(error) => Err(error),
     }

@@ -6,6 +6,7 @@ use Rattle.model.specs.declared.colours.Colour.{Colour}
 use Rattle.model.specs.declared.colours.Phase.{Phase}
 use Rattle.model.specs.declared.journals.Limits.{Limits}
 use Rattle.model.specs.declared.journals.Row.{Row}
+use Rattle.model.specs.declared.places.CodePlace.{CodePlace}
 use Rattle.model.specs.declared.turns.Actor.{Actor}
 use Rattle.model.specs.declared.turns.Actor.TheVariants.{Thread as ByThread, Collector}
 use Rattle.model.specs.declared.turns.Fault.{Fault}
@@ -19,9 +20,10 @@ use Rattle.model.specs.declared.colours.Cell.{Cell}
 use Rattle.model.specs.declared.colours.Cell.TheVariants.{Free, Taken}
 use Rattle.model.specs.ClassListings.{ClassListing}
 use Rattle.model.specs.Collector.Reached.{is_reached}
+use Rattle.model.specs.Frames.{Frame, running}
 use Rattle.model.specs.Objects.{object_at}
 use Rattle.model.specs.Room.{words_of_cell}
-use Rattle.model.specs.Worlds.{World, Thread, Object, next_birth}
+use Rattle.model.specs.Worlds.{World, Thread, Object, frames_at, next_birth}
 use Rattle.model.specs.Ready.{is_ready, thread_numbers, some_lives, some_is_ready}
 use Rattle.model.specs.Turns.{overflows}
 use Rattle.model.specs.Machines.{Recorded, machine_of}
@@ -39,6 +41,18 @@ fault_of v = (ideal v).fault
 
 abbrev pub thread_of : Recorded → ℕ → Option Thread
 thread_of v t = slice_get (ideal v).threads t
+
+-- ---- where threads stand
+
+abbrev pub place_of_frame : Frame → CodePlace
+place_of_frame f = record { method = f.method; pc = f.pc }
+
+abbrev pub place_in : World → ℕ → Option CodePlace
+place_in w t = option_map place_of_frame (running (frames_at w t))
+
+-- the instruction at which a thread's running frame stands; none where it was never started or has ended
+abbrev pub place_of : Recorded → ℕ → Option CodePlace
+place_of v t = place_in (ideal v) t
 
 -- ---- status
 

@@ -27,3 +27,4 @@ pub mod trees;
 pub mod turns;
 pub mod values;
 pub mod views;
+pub mod watching;

@@ -6,3 +6,10 @@ pub struct MethodPlace {
     pub class: usize,
     pub method: usize,
 }
+
+/// An instruction of a method, by its pc.
+#[derive(Clone, Copy, Debug, PartialEq, Eq)]
+pub struct CodePlace {
+    pub method: MethodPlace,
+    pub pc: u16,
+}

@@ -11,8 +11,8 @@
 //! | `plain_step(frames, step)` | the same with `plain_move step.next step.operation f`, where that is `Some` |
 //! | `hot_step(frames, step)` | where it answers `Some(written)`, what `plain_step` does, and `written` is the reference written, if any; where it answers `None`, nothing changed |
 //!
-//! `hot_step` is for a loop of turns over frames that are a variable of the loop: it is inlined whole, and leaves out
-//! what is rare.
+//! `hot_step` is for a loop of turns over frames that are a variable of the loop, and leaves out what is rare. It is
+//! marked to be inlined, but where it grows a caller past the kit's bound it stays a call.
 //!
 //! `proofs/TableLemmas.antt` says what such an equation comes to in the instruction table: by `family_moves` an
 //! instruction's plain operation moves the frame as its family does; `by_family-plain`, and then `completes-done` or

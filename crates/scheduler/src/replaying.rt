@@ -13,6 +13,7 @@ use model::journals::{Journal, Row};
 use model::row_runs::Rows;
 use model::stored_journals::StoredJournal;
 use model::turns::Actor;
+use model::watching::{Unwatched, Watch};
 use std::alloc::Global;
 use thiserror::Error;
 
@@ -85,8 +86,13 @@ fn is_row(made: Option<Row>, row: Row) -> bool
     made == Some(row)
 }
 
-/// Makes one turn for each row, in a world that has made none: N5 with the first row that isn't the one of its turn.
-fn make_rows(world: &mut World, mut rows: Rows<'_>) -> Result<(), ReplayError>
+/// Makes one turn for each row, in a world that has made none: N5 with the first row that isn't the one of its turn. A
+/// watch is told after each row that is.
+fn make_rows<P: Watch>(
+    world: &mut World,
+    mut rows: Rows<'_>,
+    watch: &mut P,
+) -> Result<(), ReplayError>
     requires empty { world.old.journal.rows ≡ [] }
     requires workers { AreOfWorkers world.old.journal.workers rows }
     ensures { MatchResult result (λ _. world.new
@@ -98,6 +104,8 @@ fn make_rows(world: &mut World, mut rows: Rows<'_>) -> Result<(), ReplayError>
         if !is_row(made, row) {
             return Err(ReplayError::Row(count - rows.len()));
         }
+        let left = rows.len();
+        watch.reached(count - left, left);
     }
     Ok(())
 }
@@ -182,6 +190,24 @@ pub fn replay<J: SoundJournal>(
     ensures again { IfErr result (λ e. IsMade (record { program = program; journal = J.journal_of journal.now })
         → e ≡ ReplayError.Memory) }
 {
+    let mut watch = Unwatched;
+    replay_watched(alloc, program, journal, &mut watch)
+}
+
+/// The same world or refusal as `replay`, with a watch that is told after each row how many are done and how many are
+/// left. Of rounds, which are made many in one call, it is told nothing.
+pub fn replay_watched<J: SoundJournal, P: Watch>(
+    alloc: Global,
+    program: Program,
+    journal: &J,
+    watch: &mut P,
+) -> Result<World, ReplayError>
+    ensures world { IfOk result (λ world. world ≡ record { program = program; journal = J.journal_of journal.now }) }
+    ensures made { OnOk result (IsMade (record { program = program; journal = J.journal_of journal.now })) }
+    ensures refused { IfErr result (Excuses (record { program = program; journal = J.journal_of journal.now })) }
+    ensures again { IfErr result (λ e. IsMade (record { program = program; journal = J.journal_of journal.now })
+        → e ≡ ReplayError.Memory) }
+{
     if let Some(world) = made_in_rounds(alloc, &program, journal) {
         world.is_made();
         return Ok(world);
@@ -194,7 +220,7 @@ pub fn replay<J: SoundJournal>(
         Err(WorldError::Shape | WorldError::Limits) => unreachable!(),
     };
     world.set_workers(journal.workers());
-    match make_rows(&mut world, journal.rows()) {
+    match make_rows(&mut world, journal.rows(), watch) {
         Ok(()) => {
             world.is_made();
             Ok(world)

@@ -8,7 +8,7 @@ use Rattle.scheduler.proofs.Making.{next_made, of_next}
 use Rattle.comparison.proofs.checking.compare.Goals as goal
 
 pub loop-row-init : goal.loop-row-init
-loop-row-init c = record {
+loop-row-init g c = record {
   done = [];
   all = refl;
   world = ap (with_all c.args.world.now) c.requires.empty;
@@ -16,14 +16,14 @@ loop-row-init c = record {
 }
 
 pub agrees_after-requires-clause-program : goal.agrees_after-requires-clause-program
-agrees_after-requires-clause-program c = ap (λ (v : Recorded). v.program) c.loop-row.invariant.world
+agrees_after-requires-clause-program g c = ap (λ (v : Recorded). v.program) c.loop-row.invariant.world
     ∙ c.requires.program
 
 pub agrees_after-requires-clause-beside : goal.agrees_after-requires-clause-beside
-agrees_after-requires-clause-beside c = c.loop-row.invariant.run ∙ ap reference_of (sym c.loop-row.invariant.world)
+agrees_after-requires-clause-beside g c = c.loop-row.invariant.run ∙ ap reference_of (sym c.loop-row.invariant.world)
 
 pub agrees_after-requires-clause-worker : goal.agrees_after-requires-clause-worker
-agrees_after-requires-clause-worker c =
+agrees_after-requires-clause-worker g c =
     let at = c.loop-row.invariant in
     let row = c.in-Some.row in
     let all = at.all ∙ ap (λ (rows : List Row). at.done ++ rows) c.in-Some.ensures.steps in
@@ -32,7 +32,7 @@ agrees_after-requires-clause-worker c =
     c.requires.workers)
 
 pub agrees_after-requires-clause-made : goal.agrees_after-requires-clause-made
-agrees_after-requires-clause-made c =
+agrees_after-requires-clause-made g c =
     let at = c.loop-row.invariant in
     let row = c.in-Some.row in
     let all = at.all ∙ ap (λ (rows : List Row). at.done ++ rows) c.in-Some.ensures.steps in
@@ -40,15 +40,15 @@ agrees_after-requires-clause-made c =
     (next_made (with_all c.args.world.now c.args.rows) at.done c.next.new.self row c.requires.made all)
 
 pub returns-then-not-branch-clause-run : goal.returns-then-not-branch-clause-run
-returns-then-not-branch-clause-run c = absurd (true≢false (sym c.in_ok-agrees_after.ensures.shown
+returns-then-not-branch-clause-run g c = absurd (true≢false (sym c.in_ok-agrees_after.ensures.shown
     ∙ c.if-not-branch.true))
 
 pub returns-then-not-branch-clause-none : goal.returns-then-not-branch-clause-none
-returns-then-not-branch-clause-none c = absurd (true≢false (sym c.in_ok-agrees_after.ensures.shown
+returns-then-not-branch-clause-none g c = absurd (true≢false (sym c.in_ok-agrees_after.ensures.shown
     ∙ c.if-not-branch.true))
 
 pub loop-row-preserved : goal.loop-row-preserved
-loop-row-preserved c =
+loop-row-preserved g c =
     let at = c.loop-row.invariant in
     let row = c.in-Some.row in
     let more : noted c.loop-row.world row ≡ with_all c.args.world.now (at.done ++ row ∷ []) = ap

@@ -6,7 +6,7 @@ use Rattle.scheduler.specs.Replaying.{with_all}
 use Rattle.comparison.proofs.checking.compare.Given as goal
 
 abbrev pub invariant-loop-row : goal.invariant-loop-row
-invariant-loop-row l = record {
+invariant-loop-row g l = record {
   done : List Row;
   all : l.fn.rows ≡ done ++ l.rows;
   world : l.world ≡ with_all l.fn.world done;

@@ -5,7 +5,7 @@ use Rattle.jasmin.proofs.BodyLemmas.{rest_locals, rest_locals_twice, rest_end, a
 use Rattle.jasmin.proofs.reader.body_parts.Goals as goal
 
 pub returns-in_err-noted_part : goal.returns-in_err-noted_part
-returns-in_err-noted_part c =
+returns-in_err-noted_part g c =
     let p = err_from_is_err_and c.from_residual-in_err-noted_part.result c.from_residual-in_err-noted_part.ensures.1 in
     let read = rw c.in-Some.is at c.in_ok-statement.ensures in
     let begun = rw (← c.take.ensures.value) at c.rows.invariant.rest in
@@ -14,7 +14,7 @@ returns-in_err-noted_part c =
     _ read (c.in_err-noted_part.ensures h))
 
 pub returns-in-End : goal.returns-in-End
-returns-in-End c =
+returns-in-End g c =
     let read = rw c.in-Some.is at c.in_ok-statement.ensures in
     let begun = rw (← c.take.ensures.value) at c.rows.invariant.rest in
     let says = rw c.in-End.is at c.in_ok-noted_part.ensures in
@@ -25,7 +25,7 @@ returns-in-End c =
     (λ _ h. λ _. whole ∙ h)
 
 pub returns-then-is_some : goal.returns-then-is_some
-returns-then-is_some c =
+returns-then-is_some g c =
     let read = rw c.in-Some.is at c.in_ok-statement.ensures in
     let begun = rw (← c.take.ensures.value) at c.rows.invariant.rest in
     let says = rw c.in-StackLimit.is at c.in_ok-noted_part.ensures in
@@ -33,7 +33,7 @@ returns-then-is_some c =
     c.rows.statements _ _ c.in-StackLimit.n c.if-is_some.ensures read says
 
 pub rows-preserved-in-StackLimit : goal.rows-preserved-in-StackLimit
-rows-preserved-in-StackLimit c =
+rows-preserved-in-StackLimit g c =
     let read = rw c.in-Some.is at c.in_ok-statement.ensures in
     let begun = rw (← c.take.ensures.value) at c.rows.invariant.rest in
     let says = rw c.in-StackLimit.is at c.in_ok-noted_part.ensures in
@@ -45,7 +45,7 @@ rows-preserved-in-StackLimit c =
     }
 
 pub returns-then-is_some-2 : goal.returns-then-is_some-2
-returns-then-is_some-2 c =
+returns-then-is_some-2 g c =
     let read = rw c.in-Some.is at c.in_ok-statement.ensures in
     let begun = rw (← c.take.ensures.value) at c.rows.invariant.rest in
     let says = rw c.in-LocalsLimit.is at c.in_ok-noted_part.ensures in
@@ -53,7 +53,7 @@ returns-then-is_some-2 c =
     c.rows.statements _ _ c.in-LocalsLimit.n c.if-is_some-2.ensures read says
 
 pub rows-preserved-in-LocalsLimit : goal.rows-preserved-in-LocalsLimit
-rows-preserved-in-LocalsLimit c =
+rows-preserved-in-LocalsLimit g c =
     let read = rw c.in-Some.is at c.in_ok-statement.ensures in
     let begun = rw (← c.take.ensures.value) at c.rows.invariant.rest in
     let says = rw c.in-LocalsLimit.is at c.in_ok-noted_part.ensures in
@@ -65,7 +65,7 @@ rows-preserved-in-LocalsLimit c =
     }
 
 pub rows-preserved-in-Continue-branch-5 : goal.rows-preserved-in-Continue-branch-5
-rows-preserved-in-Continue-branch-5 c =
+rows-preserved-in-Continue-branch-5 g c =
     let read = rw c.in-Some.is at c.in_ok-statement.ensures in
     let begun = rw (← c.take.ensures.value) at c.rows.invariant.rest in
     let says = rw c.in-Row.is at c.in_ok-noted_part.ensures in
@@ -77,7 +77,7 @@ rows-preserved-in-Continue-branch-5 c =
     }
 
 pub rows-preserved-in-Continue-branch-6 : goal.rows-preserved-in-Continue-branch-6
-rows-preserved-in-Continue-branch-6 c =
+rows-preserved-in-Continue-branch-6 g c =
     let read = rw c.in-Some.is at c.in_ok-statement.ensures in
     let begun = rw (← c.take.ensures.value) at c.rows.invariant.rest in
     let says = rw c.in-Line.is at c.in_ok-noted_part.ensures in
@@ -89,7 +89,7 @@ rows-preserved-in-Continue-branch-6 c =
     }
 
 pub rows-preserved : goal.rows-preserved
-rows-preserved c =
+rows-preserved g c =
     let read = rw c.in-Some.is at c.in_ok-statement.ensures in
     let begun = rw (← c.take.ensures.value) at c.rows.invariant.rest in
     let says = rw c.in-Open.is at c.in_ok-noted_part.ensures in

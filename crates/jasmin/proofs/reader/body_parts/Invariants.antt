@@ -5,11 +5,11 @@ use Rattle.jasmin.proofs.reader.body_parts.Given as goal
 
 -- what was read so far, and the statements that follow
 abbrev pub invariant-rows : goal.invariant-rows
-invariant-rows l = record {
+invariant-rows g l = record {
   rest : rest_from l.stack l.locals l.rows.items l.lines.items (opened l.open) l.statements
       ≡ first_parts l.fn.statements;
   following : after_block l.statements ≡ after_block l.fn.statements;
 }
 
 abbrev pub decreases-rows : goal.decreases-rows
-decreases-rows l = length l.statements
+decreases-rows g l = length l.statements

@@ -5,7 +5,7 @@ use Rattle.jasmin.proofs.MethodLemmas.{first_without_body, has_from}
 use Rattle.jasmin.proofs.reader.method_under.Goals as goal
 
 pub returns-in_err-no_body : goal.returns-in_err-no_body
-returns-in_err-no_body c =
+returns-in_err-no_body g c =
     let p = err_from_is_err_and c.from_residual-in_err-no_body.result c.from_residual-in_err-no_body.ensures.1 in
     let head : MethodHead = record {
       flags = c.args.head.flags;

@@ -5,13 +5,13 @@ use Rattle.jasmin.proofs.MethodLemmas.{with_unread, with_no_head, with_method, w
 use Rattle.jasmin.proofs.reader.methods_of.Goals as goal
 
 pub returns-in_err-head : goal.returns-in_err-head
-returns-in_err-head c =
+returns-in_err-head g c =
     let p = err_from_is_err_and c.from_residual.result c.from_residual.ensures.1 in
     let begun = rw c.in-Some.is at c.rows.invariant in
     rw p.1 (λ _. sym begun ∙ with_no_head c.args.class c.rows.methods.items _ _ _ refl c.in_err-head.ensures)
 
 pub returns-in_err-method : goal.returns-in_err-method
-returns-in_err-method c =
+returns-in_err-method g c =
     let p = err_from_is_err_and c.from_residual-in_err-method.result c.from_residual-in_err-method.ensures.1 in
     let begun = rw c.in-Some.is at c.rows.invariant in
     rw (p.1, p.2)
@@ -19,7 +19,7 @@ returns-in_err-method c =
     (c.in_err-method.ensures h))
 
 pub returns-in_err-next : goal.returns-in_err-next
-returns-in_err-next c =
+returns-in_err-next g c =
     let p = err_from_is_err_and c.from_residual-in_err-next.result c.from_residual-in_err-next.ensures.1 in
     let begun = rw c.in-Some.is at c.rows.invariant in
     let step = with_method c.args.class c.rows.methods.items _ _ _ _ _ _ refl c.in_ok-head.ensures
@@ -27,7 +27,7 @@ returns-in_err-next c =
     rw p.1 (λ _. sym begun ∙ step ∙ with_unread c.args.class _ _ _ c.in_err-next.ensures)
 
 pub rows-preserved : goal.rows-preserved
-rows-preserved c =
+rows-preserved g c =
     let begun = rw c.in-Some.is at c.rows.invariant in
     let step = with_method c.args.class c.rows.methods.items _ _ _ _ _ _ refl c.in_ok-head.ensures
     c.in_ok-method.ensures.0 c.in_ok-method.ensures.1 in

@@ -7,7 +7,7 @@ use Rattle.scheduler.proofs.Making.{made_one, of_next}
 use Rattle.scheduler.proofs.replaying.make_rows.Goals as goal
 
 pub turn_row-made-requires : goal.turn_row-made-requires
-turn_row-made-requires c =
+turn_row-made-requires g c =
     let at = c.loop-row.invariant in
     let row = c.in-Some.row in
     let all = at.1 ∙ ap (λ (rows : List Row). at.0 ++ rows) c.in-Some.ensures.steps in
@@ -16,7 +16,7 @@ turn_row-made-requires c =
     c.requires.workers)
 
 pub returns-then-not-is_row : goal.returns-then-not-is_row
-returns-then-not-is_row c =
+returns-then-not-is_row g c =
     let at = c.loop-row.invariant in
     let row = c.in-Some.row in
     let all = at.1 ∙ ap (λ (rows : List Row). at.0 ++ rows) c.in-Some.ensures.steps in
@@ -33,7 +33,7 @@ returns-then-not-is_row c =
     ∙ c.if-not-is_row.true))
 
 pub loop-row-preserved : goal.loop-row-preserved
-loop-row-preserved c =
+loop-row-preserved g c =
     let at = c.loop-row.invariant in
     let row = c.in-Some.row in
     let all = at.1 ∙ ap (λ (rows : List Row). at.0 ++ rows) c.in-Some.ensures.steps in (

@@ -5,4 +5,4 @@ use Rattle.scheduler.specs.Replaying.{with_all}
 use Rattle.scheduler.proofs.replaying.make_rows.Given as goal
 
 abbrev pub invariant-loop-row : goal.invariant-loop-row
-invariant-loop-row l = (done : List Row) × (l.fn.rows ≡ done ++ l.rows) × (l.world ≡ with_all l.fn.world done)
+invariant-loop-row g l = (done : List Row) × (l.fn.rows ≡ done ++ l.rows) × (l.world ≡ with_all l.fn.world done)

@@ -3,7 +3,7 @@ use Rattle.model.specs.Machines.{Recorded}
 use Rattle.scheduler.specs.Differing.{Excuses}
 use Rattle.scheduler.proofs.Differing.{excuse_of_made}
 use Rattle.scheduler.proofs.Making.{all_is}
-use Rattle.scheduler.proofs.replaying.replay.Goals as goal
+use Rattle.scheduler.proofs.replaying.replay_watched.Goals as goal
 
 pub returns-in-Err-clause-refused : goal.returns-in-Err-clause-refused
 returns-in-Err-clause-refused g c =

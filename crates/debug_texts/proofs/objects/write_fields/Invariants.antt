@@ -1,0 +1,8 @@
+use Rattle.std.proofs.Common.{◌≡◌, ◌++◌, drop}
+use Rattle.debug_texts.specs.Answers.{fields_text}
+use Rattle.debug_texts.proofs.objects.write_fields.Given as goal
+
+-- the text so far, and the fields that are left
+abbrev pub invariant-loop-field : goal.invariant-loop-field
+invariant-loop-field l = l.text.items ++ fields_text (drop l.field-index l.fields)
+    ≡ l.fn.text.items ++ fields_text l.fields

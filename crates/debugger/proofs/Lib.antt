@@ -1,0 +1,4 @@
+pub mod Carried
+pub mod HeapText
+pub mod RunSteps
+pub mod SessionSteps

@@ -1,0 +1,3 @@
+pub mod Breakpoints
+pub mod Runs
+pub mod Sessions

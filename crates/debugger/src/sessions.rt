@@ -1,0 +1,108 @@
+//! Sessions: lines are read, carried out and answered, one after another.
+ghost use Rattle.std.specs.Prelude.{◌≡◌, ◌-◌, ◌^◌, ◌<◌, ◌↔◌, [], IsTrue, Some};
+ghost use Rattle.std.specs.Option.{option_map};
+ghost use Rattle.debug_texts.specs.Answers.{farewell};
+ghost use Rattle.debug_texts.specs.Commands.{said};
+ghost use Rattle.debug_texts.specs.Commands.Said.{Quit};
+ghost use Rattle.model.specs.Observers.{output_of};
+ghost use Rattle.debugger.specs.Sessions.{Carries, Counts, CountsReads, Does, Session, Written, debugged};
+
+use crate::carrying::carry_out;
+use crate::errors::DebugError;
+use debug_texts::answers::put_farewell;
+use debug_texts::commands::{Command, command_of};
+use debug_texts::lines::{LineBuffer, read_line};
+use debug_texts::sinks::Sink;
+use debug_texts::sources::Source;
+use model::places::CodePlace;
+use scheduler::worlds::World;
+use slab::Slab;
+use std::alloc::Global;
+
+/// Whether a command ends the session.
+fn is_quit(command: Option<Command<'_>>) -> bool
+    ensures { IsTrue result ↔ (option_map said command.entry ≡ Some Quit) }
+{
+    matches!(command, Some(Command::Quit))
+}
+
+/// Carries a command out, and lets its answer go out.
+fn answer<S: Sink>(
+    alloc: Global,
+    world: &mut World,
+    breakpoints: &mut Slab<CodePlace>,
+    command: Option<Command<'_>>,
+    sink: &mut S,
+) -> Result<(), DebugError>
+    requires { S.failures sink.old < 2 ^ 64 - 1 }
+    ensures carried { Carries (Does (debugged world.old breakpoints.old.slots) (option_map said command.entry)) result
+        (debugged world.old breakpoints.old.slots) (debugged world.new breakpoints.new.slots) (S.contents sink.old)
+        (S.contents sink.new) }
+    ensures counts { Counts result (S.failures sink.old) (S.failures sink.new) }
+{
+    match carry_out(alloc, world, breakpoints, command, sink) {
+        Err(error) => Err(error),
+        Ok(()) => {
+            match sink.flush() {
+                Ok(()) => Ok(()),
+                Err(_) => Err(DebugError::Write),
+            }
+        }
+    }
+}
+
+/// Says what the world printed.
+fn say_farewell<S: Sink>(world: &World, sink: &mut S) -> Result<(), DebugError>
+    requires { S.failures sink.old < 2 ^ 64 - 1 }
+    ensures told { Written result (S.contents sink.old) (S.contents sink.new) (farewell (output_of world.now)) }
+    ensures counts { Counts result (S.failures sink.old) (S.failures sink.new) }
+{
+    match put_farewell(sink, world.output()) {
+        Err(_) => Err(DebugError::Write),
+        Ok(()) => {
+            match sink.flush() {
+                Ok(()) => Ok(()),
+                Err(_) => Err(DebugError::Write),
+            }
+        }
+    }
+}
+
+/// A session with a world: command lines are read, carried out and answered one after another, up to `quit` or the end
+/// of the source; in the end it says what the world printed. What was read and written is a session of the definitions.
+///
+/// `Read` (G1) where a read failed: the world stands after all commands read. `Write` (G2) where a write failed: the last
+/// command has been carried out too. `Memory` (G3) where memory ran out: the last command made no turn. What was written
+/// is a beginning of the answers then. `step`, `gc`, `run` and their answers take no memory.
+pub fn debug<R: Source, W: Sink>(
+    alloc: Global,
+    world: &mut World,
+    source: &mut R,
+    sink: &mut W,
+) -> Result<(), DebugError>
+    requires source { R.failures source.old < 2 ^ 64 - 1 }
+    requires sink { W.failures sink.old < 2 ^ 64 - 1 }
+    ensures session { Session result (debugged world.old []) world.new (R.remaining source.old) (R.remaining source.new)
+        (W.contents sink.old) (W.contents sink.new) }
+    ensures reads { CountsReads result (R.failures source.old) (R.failures source.new) }
+    ensures writes { Counts result (W.failures sink.old) (W.failures sink.new) }
+{
+    let mut breakpoints = Slab::new(alloc);
+    let mut line = LineBuffer::new();
+    'lines: loop {
+        match read_line(source, &mut line) {
+            Err(_) => return Err(DebugError::Read),
+            Ok(false) => return say_farewell(world, sink),
+            Ok(true) => {
+                let command = command_of(line.bytes());
+                if is_quit(command) {
+                    return say_farewell(world, sink);
+                }
+                match answer(alloc, world, &mut breakpoints, command, sink) {
+                    Ok(()) => {}
+                    Err(error) => return Err(error),
+                }
+            }
+        }
+    }
+}
