@@ -224,7 +224,7 @@ def tried_again(door):
 def tried_passing(door):
     """What the program is given, and what it gives."""
     out, errors, status = door.shown("explain", "F1")
-    told = "An instruction takes a value from an empty stack."
+    told = "F1: An instruction takes a value from an empty stack."
     yield "explain F1", differs((out.split("\n")[0], errors, status), (told, [NOTICE], 0))
     text = f"{door.room}/refused.j"
     write(text, ".class public A\n.super java/lang/Object\n.method static main()V\niaddd\n.end method\n")

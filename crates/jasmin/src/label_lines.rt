@@ -104,8 +104,23 @@ impl LabelLines {
         Ok(())
     }
 
+    /// Notes the label on a line of a switch whose key is out of its range, of the words after the key.
+    pub fn note_pair(
+        &mut self,
+        alloc: Global,
+        mut operands: Words<'_>,
+        line: usize,
+    ) -> Result<(), AllocError> {
+        // the colon
+        operands.next_word();
+        match operands.next_word() {
+            Some(label) => self.note_use(&Name::copy_of(alloc, label)?, line, false),
+            None => Ok(()),
+        }
+    }
+
     /// The fault that is reported where reading a text ended with this one: that of a label on a line before it in the
-    /// method that was open there, if there is one. Faults of memory stay.
+    /// method that was open there, if there is one; on the same line the lower one. Faults of memory stay.
     pub fn reported(&mut self, alloc: Global, text: &[u8], error: TextError) -> TextError
         ensures { error.fault ≡ Fault.Memory → result.fault ≡ Fault.Memory }
     {
@@ -113,7 +128,7 @@ impl LabelLines {
             return error;
         }
         match self.fault_before(alloc, text, error.line) {
-            Ok(Some(earlier)) => earlier,
+            Ok(Some(of_label)) => earliest(Some(error), of_label),
             Ok(None) => error,
             Err(_) => TextError {
                 line: error.line,
@@ -122,7 +137,7 @@ impl LabelLines {
         }
     }
 
-    /// The first fault of a label before a line of a text, at which reading ended.
+    /// The first fault of a label up to a line of a text, at which reading ended.
     fn fault_before(
         &mut self,
         alloc: Global,

@@ -332,10 +332,21 @@ fn noted_part(
         (Some (statement.entry.first.now ∷ statement.entry.operands)) part) (λ e. e ≢ Fault.Memory
         → SaysNothing (opened current) (Some (statement.entry.first.now ∷ statement.entry.operands))) }
 {
-    let part = part_of(alloc, class, given, current, statement)?;
-    let part = notes.names.shared_part(part);
-    notes.labels.note(&part, line)?;
-    Ok(part)
+    let in_switch = current.is_some();
+    let operands = statement.operands.again();
+    match part_of(alloc, class, given, current, statement) {
+        Ok(part) => {
+            let part = notes.names.shared_part(part);
+            notes.labels.note(&part, line)?;
+            Ok(part)
+        }
+        Err(fault) => {
+            if in_switch && fault == Fault::Range {
+                notes.labels.note_pair(alloc, operands, line)?;
+            }
+            Err(fault)
+        }
+    }
 }
 
 fn given_of(stack: Option<u16>, locals: Option<u16>) -> Given {
