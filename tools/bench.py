@@ -1,12 +1,14 @@
 #!/usr/bin/env python3
-"""How many bytecodes a second `jvm run` makes of six programs that javac compiles, beside OpenJDK's interpreters.
+"""How many bytecodes a second `jvm run` makes of programs that javac compiles, beside OpenJDK's interpreters.
 
-Usage: bench.py [--jvm PROGRAM] [--zero JAVA] [--times N] [NAME ..]
+Usage: bench.py [--jvm PROGRAM] [--zero JAVA] [--times N] [--carriers N] [NAME | GROUP ..]
 
-Each program does so many units of work. How many bytecodes a unit takes is read off the journals of two short runs. A figure
-is the processor time of a run less that of one with no unit, each the best of so many (five), which take turns, over the
-bytecodes between them: for `jvm run --gc 0`, for `jvm run --gc 1`, whose rows are counted too, for `java -Xint`, and, where
-JAVA is the program `java` of a Debian package openjdk-17-jre-zero, for `JAVA -zero`. What all print has to be the same.
+Each program of bench_programs.py does so many units of work. How many bytecodes a unit takes is read off the journals of two short
+runs. A figure is the processor time of a run less that of one with no unit, each the best of so many (five), which take turns, over the
+bytecodes between them: for `jvm run --gc 0`, for `jvm run --gc 1`, for `java -Xint`, and, where JAVA is the program `java` of a Debian
+package openjdk-17-jre-zero, for `JAVA -zero`. What all print has to be the same. In the end, for each group and mode, the geometric
+mean of the speed over Zero's (without it: over -Xint's), and the worst. With --carriers the programs of four threads are also run by so
+many carriers, and told is how long that takes by the clock, over one carrier's time.
 PROGRAM is crates/jvm/out/jvm, which `rt run` builds, where nothing else is said.
 """
 import argparse
@@ -16,65 +18,25 @@ import resource
 import subprocess
 import sys
 import tempfile
+import time
 
+from bench_programs import FOUR_THREADS, PROGRAMS, source
 from java_agrees import BEGIN, BUILT, SYS, as_version_49
 
 STEPS = 16_000_000
-
-# a program's name, its members, and a unit of its work, whose number is i
-PROGRAMS = {
-    "int loop": ("", "for (int k = 0; k < 100; k++) { s = s * 31 + k ^ s >>> 3; if ((s & 1) == 0) s += i; }"),
-    "long arithmetic": (
-        "static long l = 1;",
-        "long x = l; for (int k = 0; k < 100; k++) { x = x * 31L + i ^ x >>> 3; if ((x & 1L) == 0L) x += i; } l = x; s = (int) l;",
-    ),
-    "sieve": (
-        """static byte[] sieve = new byte[240];
-    static int primes() {
-        byte[] passed = sieve; int count = 0;
-        for (int n = 0; n < 240; n++) passed[n] = 0;
-        for (int n = 2; n < 240; n++) {
-            if (passed[n] == 0) { count++; for (int m = n + n; m < 240; m += n) passed[m] = 1; }
-        }
-        return count;
-    }""",
-        "s += primes();",
-    ),
-    "recursion": ("static int fib(int n) { return n < 2 ? n : fib(n - 1) + fib(n - 2); }", "s += fib(12);"),
-    "dispatch": (
-        """interface Shape { int area(int x); }
-    static class Square implements Shape { public int area(int x) { return x * x; } }
-    static class Strip implements Shape { public int area(int x) { return x; } }
-    static class Twice extends Strip { public int area(int x) { return x + x; } }
-    static Square square = new Square(); static Strip strip = new Strip(); static Twice twice = new Twice();
-    static int both(Shape a, Strip b, int x) { return a.area(x) + b.area(x); }""",
-        """Square a = square; Strip b = strip; Twice c = twice;
-        for (int k = 0; k < 100; k++) s += both(a, c, k) + both(b, b, k) + both(c, c, k);""",
-    ),
-    "allocation": (
-        "static class Node { Node next; int value; Node(Node next, int value) { this.next = next; this.value = value; } }",
-        """Node list = null; for (int k = 0; k < 8; k++) list = new Node(list, k);
-        while (list != null) { s += list.value; list = list.next; }""",
-    ),
-}
-
-SOURCE = """public class Bench {
-    %s
-    static int s = 1;
-    static void units(int n) { for (int i = 0; i < n; i++) unit(i); }
-    static void unit(int i) { int s = Bench.s; %s Bench.s = s; }
-    static void main() { units(%d); vm.Sys.print(s); }
-}
-"""
+# cells for what is made while nobody collects, and so many objects of them are used; cells where the collector works
+MANY_CELLS, MANY_OBJECTS = ("--small", "40000", "--medium", "20000"), 18_000
+CELLS = ("--small", "1000", "--medium", "100")
+MODES = ("--gc 0", "--gc 1")
 
 
 class Compiled:
     """The classes of a program that does so many units, in a folder of their own."""
 
-    def __init__(self, room, members, unit, units):
+    def __init__(self, room, program, units):
         self.folder = os.path.join(room, str(units))
         os.makedirs(f"{self.folder}/vm")
-        for path, text in {"vm/Sys": SYS, "Bench": SOURCE % (members, unit, units), "Begin": BEGIN % "Bench"}.items():
+        for path, text in {"vm/Sys": SYS, "Bench": source(program, units), "Begin": BEGIN % "Bench"}.items():
             with open(f"{self.folder}/{path}.java", "w", encoding="utf-8") as file:
                 file.write(text)
         javac = ["javac", "-g:none", "-nowarn", "--release", "8", "-Xlint:-options", "Begin.java"]
@@ -82,7 +44,8 @@ class Compiled:
         self.classes = as_version_49(self.folder)
 
     def on_machine(self, machine, gc, *more):
-        return [machine, "run", "--gc", str(gc), "--steps", str(STEPS), "--small", "1000", *more, *self.classes]
+        cells = CELLS if gc else MANY_CELLS
+        return [machine, "run", "--gc", str(gc), "--steps", str(STEPS), *cells, *more, *self.classes]
 
     def on_java(self, java, mode):
         return [java, mode, "-XX:+UseSerialGC", "-cp", self.folder, "Begin"]
@@ -96,12 +59,19 @@ def timed(words):
     return after.ru_utime - before.ru_utime + after.ru_stime - before.ru_stime, done.stdout
 
 
-def least(runs, times):
-    """The least processor time of each of these commands, by its name. They take turns, since a machine's speed moves."""
+def by_the_clock(words):
+    """Gives the seconds that a command takes, and what it prints."""
+    began = time.time()
+    done = subprocess.run(words, stdout=subprocess.PIPE, check=True)
+    return time.time() - began, done.stdout
+
+
+def least(runs, times, measured=timed):
+    """The least time of each of these commands, by its name. They take turns, since a machine's speed moves."""
     seconds = {}
     for _ in range(times):
         for name, words in runs.items():
-            seconds[name] = min(seconds.get(name, math.inf), timed(words)[0])
+            seconds[name] = min(seconds.get(name, math.inf), measured(words)[0])
     return seconds
 
 
@@ -116,30 +86,67 @@ def rows(compiled, machine, gc):
     return len(lines) - collected, collected
 
 
-def measure(name, options):
-    """Gives the nanoseconds of a bytecode by the name of who makes it, and the rows a second with the collector."""
-    members, unit = PROGRAMS[name]
-    with tempfile.TemporaryDirectory() as room:
-        none, one, two = (Compiled(room, members, unit, units) for units in (0, 10, 20))
+class Measured:
+    """What a program takes."""
+
+    def __init__(self, name, options, room):
+        self.program, self.options, self.room = PROGRAMS[name], options, room
+        none, one, two = (self.compiled(units) for units in (0, 10, 20))
         few, many = rows(one, options.jvm, 1), rows(two, options.jvm, 1)
-        each, collected = (many[0] - few[0]) / 10, (many[1] - few[1]) / 10
-        with_collector = int(0.9 * STEPS / (each + collected))
-        units = with_collector if name == "allocation" else int(0.9 * STEPS / each)
-        long = Compiled(room, members, unit, units)
-        short = Compiled(room, members, unit, with_collector) if with_collector != units else long
-        longer = Compiled(room, members, unit, 20 * units)
-        ways = {"--gc 1": (short, lambda it: it.on_machine(options.jvm, 1), with_collector)}
-        if name != "allocation":
-            ways["--gc 0"] = (long, lambda it: it.on_machine(options.jvm, 0), units)
-        ways["-Xint"] = (longer, lambda it: it.on_java("java", "-Xint"), 20 * units)
-        if options.zero:
-            ways["Zero"] = (longer, lambda it: it.on_java(options.zero, "-zero"), 20 * units)
-        runs = {(way, at): words(it) for way, (compiled, words, _) in ways.items() for at, it in (("end", compiled), ("start", none))}
-        seconds = least(runs, options.times)
-        figures = {way: (seconds[way, "end"] - seconds[way, "start"]) * 1e9 / (each * made) for way, (_, _, made) in ways.items()}
-        if len({timed(words)[1] for words in (long.on_machine(options.jvm, int(name == "allocation")), long.on_java("java", "-Xint"))}) != 1:
-            sys.exit(f"{name}: jvm and java print different things")
-        return figures, (each + collected) / each / figures["--gc 1"] * 1e9
+        self.none, self.each = none, (many[0] - few[0]) / 10
+        self.collected = (many[1] - few[1]) / 10
+        self.units = {"--gc 0": self.units_within(STEPS / self.each), "--gc 1": int(0.9 * STEPS / (self.each + self.collected))}
+
+    def compiled(self, units):
+        return Compiled(self.room, self.program, units)
+
+    def units_within(self, most):
+        """Units for which the steps do, and the cells where nobody collects."""
+        objects = self.program.objects * (4 if self.program.group == FOUR_THREADS else 1)
+        return int(min(0.9 * most, MANY_OBJECTS / objects if objects else math.inf))
+
+    def figures(self):
+        """Gives the nanoseconds of a bytecode by the name of who makes it."""
+        jvm, zero = self.options.jvm, self.options.zero
+        made = {units: self.compiled(units) for units in {*self.units.values(), 20 * max(self.units.values())}}
+        ways = {mode: (made[units], lambda it, gc=mode[-1]: it.on_machine(jvm, int(gc)), units) for mode, units in self.units.items()}
+        longer = 20 * max(self.units.values())
+        ways["-Xint"] = (made[longer], lambda it: it.on_java("java", "-Xint"), longer)
+        if zero:
+            ways["Zero"] = (made[longer], lambda it: it.on_java(zero, "-zero"), longer)
+        runs = {(way, at): words(it) for way, (compiled, words, _) in ways.items() for at, it in (("end", compiled), ("start", self.none))}
+        seconds = least(runs, self.options.times)
+        self.are_same(made[self.units["--gc 1"]])
+        return {way: (seconds[way, "end"] - seconds[way, "start"]) * 1e9 / (self.each * units) for way, (_, _, units) in ways.items()}
+
+    def are_same(self, compiled):
+        """Stops where both machines print different things."""
+        told = {timed(words)[1] for words in (compiled.on_machine(self.options.jvm, 1), compiled.on_java("java", "-Xint"))}
+        if len(told) != 1:
+            sys.exit(f"{self.program.group}: jvm and java print different things: {told}")
+
+    def by_carriers(self):
+        """How long several carriers take by the clock, over one carrier's time."""
+        compiled = self.compiled(self.units["--gc 1"])
+        runs = {count: compiled.on_machine(self.options.jvm, 1, "--carriers", str(count)) for count in (1, self.options.carriers)}
+        seconds = least(runs, self.options.times, by_the_clock)
+        return seconds[self.options.carriers] / seconds[1]
+
+
+def measure(name, options):
+    """Prints a program's figures, and gives its speed over Zero's, or else over that of -Xint, by mode."""
+    with tempfile.TemporaryDirectory() as room:
+        it = Measured(name, options, room)
+        figures = it.figures()
+        told = ", ".join(f"{way} {ns:.2f}" for way, ns in figures.items())
+        with_collector = (it.each + it.collected) / it.each / figures["--gc 1"] * 1e3
+        told += f"; {with_collector:.1f} million rows a second with --gc 1"
+        if options.carriers and it.program.group == FOUR_THREADS:
+            told += f"; {options.carriers} carriers take {it.by_carriers():.2f} of one's time by the clock"
+    other = figures["Zero" if options.zero else "-Xint"]
+    over = {mode: other / figures[mode] for mode in MODES}
+    print(f"{name}: ns a bytecode: {told}; of {'Zero' if options.zero else '-Xint'} " + ", ".join(f"{it:.3f}" for it in over.values()), flush=True)
+    return over
 
 
 def main():
@@ -147,18 +154,19 @@ def main():
     parser.add_argument("--jvm", default=BUILT)
     parser.add_argument("--zero")
     parser.add_argument("--times", type=int, default=5)
+    parser.add_argument("--carriers", type=int)
     parser.add_argument("names", nargs="*", metavar="NAME")
     options = parser.parse_args()
-    ratios = []
-    for name in options.names or PROGRAMS:
-        figures, made = measure(name, options)
-        told = ", ".join(f"{way} {ns:.2f}" for way, ns in figures.items())
-        if "Zero" in figures and "--gc 0" in figures:
-            ratios.append(figures["Zero"] / figures["--gc 0"])
-            told += f"; of Zero {ratios[-1]:.3f}"
-        print(f"{name}: ns a bytecode: {told}; {made / 1e6:.1f} million rows a second with --gc 1", flush=True)
-    if ratios:
-        print(f"geometric mean of Zero: {math.exp(sum(map(math.log, ratios)) / len(ratios)):.3f}")
+    found = {}
+    for name, program in PROGRAMS.items():
+        if not options.names or name in options.names or program.group in options.names:
+            found.setdefault(program.group, {})[name] = measure(name, options)
+    for group, all_of in found.items():
+        for mode in MODES:
+            ratios = {name: over[mode] for name, over in all_of.items()}
+            mean = math.exp(sum(map(math.log, ratios.values())) / len(ratios))
+            worst = min(ratios, key=ratios.get)
+            print(f"{group}, {mode}: geometric mean of {'Zero' if options.zero else '-Xint'} {mean:.3f}, worst {ratios[worst]:.3f} ({worst})")
     return 0
 
 

@@ -16,7 +16,8 @@ import sys
 import tempfile
 import time
 
-from bench import BUILT, PROGRAMS, Compiled
+from bench import BUILT, Compiled
+from bench_programs import PROGRAMS
 
 ENDLESS = 2_000_000_000
 
@@ -71,7 +72,7 @@ def main():
     options = parser.parse_args()
     for name in options.names:
         with tempfile.TemporaryDirectory() as room:
-            compiled = Compiled(room, *PROGRAMS[name], ENDLESS)
+            compiled = Compiled(room, PROGRAMS[name], ENDLESS)
             for carriers in map(int, options.carriers.split(",")):
                 measure(compiled, options, name, carriers)
     return 0

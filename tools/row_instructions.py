@@ -1,11 +1,12 @@
 #!/usr/bin/env python3
-"""How many instructions of the processor a row of `jvm run` takes, in the six programs of bench.py.
+"""How many instructions of the processor a row of `jvm run` takes, in programs of bench.py.
 
 Usage: row_instructions.py [--jvm PROGRAM] [NAME ..]
 
 Counted by valgrind's callgrind: a run of 400,000 turns less one of a single turn, with `--gc 0` and with `--gc 1`. These
 counts are the same each time, where times move with the machine, so they tell what a change is worth (docs/SPEED.md).
-PROGRAM is crates/jvm/out/jvm, which `rt run` builds, where nothing else is said.
+Without a NAME the six that the machine was made quick for. PROGRAM is crates/jvm/out/jvm, which `rt run` builds, where nothing else
+is said.
 """
 import argparse
 import re
@@ -14,6 +15,7 @@ import sys
 import tempfile
 
 import bench
+from bench_programs import OURS, PROGRAMS
 
 TURNS = 400_000
 STEP_LIMIT = 4  # the status of a run that is ended by its limit of steps
@@ -38,10 +40,9 @@ def main():
     parser.add_argument("--jvm", default=bench.BUILT)
     parser.add_argument("names", nargs="*", metavar="NAME")
     options = parser.parse_args()
-    for name in options.names or bench.PROGRAMS:
-        members, unit = bench.PROGRAMS[name]
+    for name in options.names or [name for name, program in PROGRAMS.items() if program.group == OURS]:
         with tempfile.TemporaryDirectory() as room:
-            compiled = bench.Compiled(room, members, unit, TURNS)
+            compiled = bench.Compiled(room, PROGRAMS[name], TURNS)
             ways = (1,) if name == "allocation" else (0, 1)
             told = ", ".join(f"--gc {gc} {of_row(compiled, options.jvm, gc, room):.1f}" for gc in ways)
         print(f"{name}: instructions a row: {told}", flush=True)
