@@ -8,48 +8,65 @@ use Rattle.debug_texts.specs.Commands.Said.{Quit}
 use Rattle.debug_texts.specs.Lines.{IsLine, ReadsLine}
 use Rattle.debug_texts.specs.Streams.{AppendsPart}
 use Rattle.debug_texts.proofs.CommandLemmas.{command_kept}
-use Rattle.debug_texts.proofs.Pieces.{appends_more, appends_none, keeps_all, part_after, part_before}
+use Rattle.debug_texts.proofs.Pieces.{appends_more, appends_none, keeps_all}
 use Rattle.debug_texts.proofs.LineLemmas.{consumes_none}
 use Rattle.model.specs.Machines.{Recorded}
 use Rattle.model.specs.Observers.{output_of}
 use Rattle.debugger.specs.declared.errors.DebugError.{DebugError}
 use Rattle.debugger.specs.declared.errors.DebugError.TheVariants.{Read, Write, Memory}
-use Rattle.debugger.specs.Sessions.{CarriesBy, Debugged, Does, DoesAll, Ends, GoesOn, MemoryStops, ReadStops, Session}
-use Rattle.debugger.specs.Sessions.{Stops, Written}
+use Rattle.debugger.specs.Sessions.{AnswerStops, CarriesBy, Closes, Debugged, Does, DoesAll, Ends, FarewellStops, GoesOn}
+use Rattle.debugger.specs.Sessions.{MemoryStops, ReadStops, ReadsEnd, Session, Stops, Written}
 
--- answers after an answer, and the farewell after all
-after_answer : (a more f : List ℕ) → (a ++ more) ++ f ≡ a ++ (more ++ f)
-after_answer a more f = append_assoc a more f
-
-stops_more : (e : DebugError) (mid after out out1 now : Option (List ℕ)) (w : Recorded) (a answers : List ℕ)
-    → Appends out out1 a → Stops e mid after out1 now w answers → Stops e mid after out now w (a ++ answers)
-stops_more Read mid after out out1 now w a answers h k = record {
+-- an answer before the others
+stops_more : (e : DebugError) (s : Debugged) (w : Recorded) (mid after out out1 now : Option (List ℕ))
+    (a answers : List ℕ) → Appends out out1 a → Stops e s w mid after out1 now answers
+    → Stops e s w mid after out now (a ++ answers)
+stops_more Read s w mid after out out1 now a answers h k = record {
+  world = k.world;
   part = k.part;
   is_line = k.is_line;
   read = k.read;
   written = appends_more out out1 now a answers h k.written;
 }
-stops_more Memory mid after out out1 now w a answers h k = record {
+stops_more Memory s w mid after out out1 now a answers h k = record {
+  world = k.world;
   line = k.line;
-  is_line = k.is_line;
+  go_on = k.go_on;
   read = k.read;
   written = appends_more out out1 now a answers h k.written;
 }
-stops_more Write mid after out out1 now w a answers h k =
-    let P : List ℕ → Type 0 = λ bs. AppendsPart out now bs in
-    subst P (sym (after_answer a answers (farewell (output_of w))))
-    (part_after out out1 now a (answers ++ farewell (output_of w)) h k)
+stops_more Write s w mid after out out1 now a answers h (inl k) = inl (record {
+  line = k.line;
+  go_on = k.go_on;
+  read = k.read;
+  end = k.end;
+  answer = k.answer;
+  done = k.done;
+  world = k.world;
+  answered = k.answered;
+  written = appends_more out out1 k.answered a answers h k.written;
+  part = k.part;
+})
+stops_more Write s w mid after out out1 now a answers h (inr k) = inr (record {
+  world = k.world;
+  read = k.read;
+  answered = k.answered;
+  written = appends_more out out1 k.answered a answers h k.written;
+  part = k.part;
+})
 
-ends_more : {A : Type 0} (result : Result A DebugError) (mid after out out1 now : Option (List ℕ)) (w : Recorded)
-    (a answers : List ℕ) → Appends out out1 a → Ends result mid after out1 now w answers
-    → Ends result mid after out now w (a ++ answers)
-ends_more (Ok x) mid after out out1 now w a answers h k =
-    let P : List ℕ → Type 0 = λ bs. Appends out now bs in (
-      k.0,
-      subst P (sym (after_answer a answers (farewell (output_of w))))
-          (appends_more out out1 now a (answers ++ farewell (output_of w)) h k.1),
-    )
-ends_more (Err e) mid after out out1 now w a answers h k = stops_more e mid after out out1 now w a answers h k
+ends_more : {A : Type 0} (result : Result A DebugError) (s : Debugged) (w : Recorded)
+    (mid after out out1 now : Option (List ℕ)) (a answers : List ℕ) → Appends out out1 a
+    → Ends result s w mid after out1 now answers → Ends result s w mid after out now (a ++ answers)
+ends_more (Ok x) s w mid after out out1 now a answers h k =
+    let P : List ℕ → Type 0 = λ bs. Appends out now bs in
+    record {
+      world = k.world;
+      read = k.read;
+      written = subst P (sym (append_assoc a answers (farewell (output_of w))))
+          (appends_more out out1 now a (answers ++ farewell (output_of w)) h k.written);
+    }
+ends_more (Err e) s w mid after out out1 now a answers h k = stops_more e s w mid after out out1 now a answers h k
 
 -- a line before a session
 pub session_more : {A : Type 0} (result : Result A DebugError) (s m : Debugged) (w : Recorded)
@@ -63,22 +80,21 @@ session_more result s m w before next after out out1 now line answer goes read d
   read_to = k.read_to;
   go_on = (goes, k.go_on);
   done = (m, answer, k.answers, does, k.done, refl);
-  world = k.world;
   read = (next, read, k.read);
-  ends = ends_more result k.read_to after out out1 now w answer k.answers written k.ends;
+  ends = ends_more result k.end w k.read_to after out out1 now answer k.answers written k.ends;
 }
 
 -- a session of no line
-pub session_ends : {A : Type 0} (result : Result A DebugError) (s : Debugged) (before after out now : Option (List ℕ))
-    → Ends result before after out now s.world [] → Session result s s.world before after out now
-session_ends result s before after out now h = record {
+pub session_ends : {A : Type 0} (result : Result A DebugError) (s : Debugged) (w : Recorded)
+    (before after out now : Option (List ℕ)) → Ends result s w before after out now []
+    → Session result s w before after out now
+session_ends result s w before after out now h = record {
   lines = [];
   end = s;
   answers = [];
   read_to = before;
   go_on = tt;
   done = (refl, refl);
-  world = refl;
   read = consumes_none before;
   ends = h;
 }
@@ -108,33 +124,37 @@ answered result s m w before next after out out1 now kept command (text, is, k, 
     session_more result s m w before next after out out1 now text answer
     (is, goes_on text kept command k c other) read (subst D (says text kept command k c) does) written rest
 
+-- what a session says in the end was written, or a beginning of it
+closes : {A : Type 0} (result : Result A DebugError) (s : Debugged) (before after out now : Option (List ℕ))
+    → ReadsEnd before after → Written result out now (farewell (output_of s.world))
+    → Session result s s.world before after out now
+closes (Ok a) s before after out now end h =
+    session_ends (Ok a) s s.world before after out now (record { world = refl; read = end; written = h })
+closes (Err Read) s before after out now end h = absurd h
+closes (Err Memory) s before after out now end h = absurd h
+closes (Err Write) s before after out now end h = session_ends (Err Write) s s.world before after out now
+    (inr (record { world = refl; read = end; answered = out; written = appends_none out; part = h }))
+
 -- it ends the session
 pub quits : {A : Type 0} (result : Result A DebugError) (s : Debugged) (before next out now : Option (List ℕ))
     (kept : List ℕ) (command : Option Said) → Line before next kept → command ≡ command_of kept → command ≡ Some Quit
     → Written result out now (farewell (output_of s.world)) → Session result s s.world before next out now
-quits (Ok a) s before next out now kept command (text, is, k, read) c quit h =
-    session_ends (Ok a) s before next out now
-    (inl (text, is, sym (says text kept command k c) ∙ quit, read), h)
-quits (Err Read) s before next out now kept command line c quit h = absurd h
-quits (Err Memory) s before next out now kept command line c quit h = absurd h
-quits (Err Write) s before next out now kept command line c quit h = session_ends (Err Write) s before next out now h
+quits result s before next out now kept command (text, is, k, read) c quit h =
+    closes result s before next out now (inl (text, is, sym (says text kept command k c) ∙ quit, read)) h
 
 -- there is none more
 pub at_end : {A : Type 0} (result : Result A DebugError) (s : Debugged) (before next out now : Option (List ℕ))
     → Consumes before next [] × IsAtEnd next → Written result out now (farewell (output_of s.world))
     → Session result s s.world before next out now
-at_end (Ok a) s before next out now end h = session_ends (Ok a) s before next out now (inr end, h)
-at_end (Err Read) s before next out now end h = absurd h
-at_end (Err Memory) s before next out now end h = absurd h
-at_end (Err Write) s before next out now end h = session_ends (Err Write) s before next out now h
+at_end result s before next out now end h = closes result s before next out now (inr end) h
 
 -- a read failed
 pub read_fails : {A : Type 0} (s : Debugged) (before next out : Option (List ℕ))
     → ((text : List ℕ) × IsLine text × Consumes before next text)
     → Session {A = A} (Err Read) s s.world before next out out
 read_fails {A = A} s before next out (text, is, read) =
-    session_ends {A = A} (Err Read) s before next out out
-    (record { part = text; is_line = is; read = read; written = appends_none out })
+    session_ends {A = A} (Err Read) s s.world before next out out
+    (record { world = refl; part = text; is_line = is; read = read; written = appends_none out })
 
 -- its command failed
 pub command_fails : {A : Type 0} (e : DebugError) (s m : Debugged) (before next out now : Option (List ℕ))
@@ -143,21 +163,26 @@ pub command_fails : {A : Type 0} (e : DebugError) (s m : Debugged) (before next 
     → Session {A = A} (Err e) s m.world before next out now
 command_fails Read s m before next out now kept command line c other h = absurd h
 command_fails {A = A} Memory s m before next out now kept command (text, is, k, read) c other (same, keeps) =
-    let S : Recorded → Type 0 = λ w. Session {A = A} (Err Memory) s w before next out now in
-    subst S (ap (λ (x : Debugged). x.world) (sym same))
-    (session_ends {A = A} (Err Memory) s before next out now
-    (record { line = text; is_line = is; read = read; written = keeps_all out now keeps }))
+    session_ends {A = A} (Err Memory) s m.world before next out now
+    (record {
+      world = ap (λ (x : Debugged). x.world) same;
+      line = text;
+      go_on = (is, goes_on text kept command k c other);
+      read = read;
+      written = keeps_all out now keeps;
+    })
 command_fails {A = A} Write s m before next out now kept command (text, is, k, read) c other (answer, does, part) =
     let D : Option Said → Type 0 = λ said. Does s said m answer in
-    record {
-      lines = text ∷ [];
+    session_ends {A = A} (Err Write) s m.world before next out now
+    (inl (record {
+      line = text;
+      go_on = (is, goes_on text kept command k c other);
+      read = read;
       end = m;
-      answers = answer ++ [];
-      read_to = next;
-      go_on = ((is, goes_on text kept command k c other), tt);
-      done = (m, answer, [], subst D (says text kept command k c) does, (refl, refl), refl);
+      answer = answer;
+      done = subst D (says text kept command k c) does;
       world = refl;
-      read = (next, read, consumes_none next);
-      ends = part_before out now (answer ++ []) (farewell (output_of m.world))
-          (part_before out now answer [] part);
-    }
+      answered = out;
+      written = appends_none out;
+      part = part;
+    }))

@@ -1,4 +1,4 @@
-use Rattle.std.specs.Prelude.{ℕ, ◌+◌, zero, suc, Bool, true, false, List, Option, Some, None, if◌then◌else◌}
+use Rattle.std.specs.Prelude.{◌≡◌, ℕ, ◌+◌, zero, suc, Bool, true, false, List, Option, Some, None, if◌then◌else◌}
 use Rattle.std.specs.Option.{option_and_then, option_map}
 use Rattle.debug_texts.specs.declared.answers.Reason.{Reason}
 use Rattle.debug_texts.specs.declared.answers.Reason.TheVariants.{Running, Finished, Stuck, Turn as ByTurn, Breakpoint}
@@ -7,7 +7,7 @@ use Rattle.model.specs.declared.turns.Fault.{Fault as FaultKind}
 use Rattle.model.specs.declared.turns.Status.{Status}
 use Rattle.model.specs.declared.turns.Status.TheVariants.{Running as Runs, Finished as HasFinished, Stuck as IsStuck, Faulted}
 use Rattle.model.specs.declared.turns.Turn.{Turn}
-use Rattle.model.specs.declared.turns.Turn.TheVariants.{Done, Fault, Stopped}
+use Rattle.model.specs.declared.turns.Turn.TheVariants.{Done, Fault, NotReady, OutputFull, StepLimit, Stopped}
 use Rattle.model.specs.Machines.{Recorded, after_turn_by, answer_to}
 use Rattle.model.specs.Observers.{fault_of, is_running, pick_of, place_of, status_of}
 use Rattle.scheduler.specs.Rounds.{is_done, picked, picked_answer}
@@ -48,10 +48,23 @@ held_at bs v = option_and_then
     (λ t. option_map (λ n. (n, t)) (option_and_then (least_at bs) (place_of v t)))
     (pick_of v)
 
+-- no thread stands at a breakpoint, whatever the world
+abbrev pub HoldsNone : Breakpoints → Type 0
+HoldsNone bs = (v : Recorded) → held_at bs v ≡ None
+
 -- no breakpoint holds the first turn
 abbrev pub held_unless : Bool → Breakpoints → Recorded → Option (ℕ × ℕ)
 held_unless true bs v = None
 held_unless false bs v = held_at bs v
+
+-- why a run ends with a thread's turn that answers this
+abbrev pub reason_after : Recorded → Turn → Reason
+reason_after w NotReady = reason_of w
+reason_after w Done = ByTurn Done
+reason_after w Stopped = ByTurn Stopped
+reason_after w (Fault fault) = ByTurn (Fault fault)
+reason_after w OutputFull = ByTurn OutputFull
+reason_after w StepLimit = ByTurn StepLimit
 
 -- ---- a turn of the collector, where the world runs
 

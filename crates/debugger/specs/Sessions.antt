@@ -10,8 +10,9 @@ use Rattle.debug_texts.specs.Lines.{IsLine, ReadsLine}
 use Rattle.debug_texts.specs.Streams.{AppendsPart}
 use Rattle.model.specs.declared.colours.Cell.{Cell}
 use Rattle.model.specs.declared.places.CodePlace.{CodePlace}
+use Rattle.model.specs.declared.turns.Actor.{Actor}
 use Rattle.model.specs.declared.turns.Actor.TheVariants.{Thread as ByThread, Collector}
-use Rattle.model.specs.Machines.{Recorded, after_turn_by, answer_to, machine_of}
+use Rattle.model.specs.Machines.{Recorded, after_turn_by, after_turns, answer_to, machine_of}
 use Rattle.model.specs.Observers.{cell_view, class_state_of, object_of, output_of, phase_of, thread_of}
 use Rattle.model.specs.Room.{words_of_cell}
 use Rattle.model.specs.Worlds.{Object as ObjectValue}
@@ -117,38 +118,68 @@ ReadsEnd before after =
     ((line : List ℕ) × IsLine line × (command_of line ≡ Some Quit) × ReadsLine before after line)
     ⊎ (Consumes before after [] × IsAtEnd after)
 
--- ---- how a session ends
+-- ---- how a session ends, once the commands before were carried out and answered
 
--- a read failed within a line: all commands before were carried out, and answered
-pub record ReadStops (mid after out now : Option (List ℕ)) (answers : List ℕ) : Type 0 where
+-- a read failed within a line
+pub record ReadStops (s : Debugged) (w : Recorded) (mid after out now : Option (List ℕ)) (answers : List ℕ) : Type 0
+    where
+  pub world : w ≡ s.world
   pub part : List ℕ
   pub is_line : IsLine part
   pub read : Consumes mid after part
   pub written : Appends out now answers
 
 -- memory ran out at a command, which did nothing
-pub record MemoryStops (mid after out now : Option (List ℕ)) (answers : List ℕ) : Type 0 where
+pub record MemoryStops (s : Debugged) (w : Recorded) (mid after out now : Option (List ℕ)) (answers : List ℕ) : Type 0
+    where
+  pub world : w ≡ s.world
   pub line : List ℕ
-  pub is_line : IsLine line
+  pub go_on : GoesOn line
   pub read : ReadsLine mid after line
   pub written : Appends out now answers
 
--- a write failed: the last command was carried out too, and what was written is a beginning of the answers, after which
--- comes what a session says in the end
-abbrev pub WriteStops : Option (List ℕ) → Option (List ℕ) → Recorded → List ℕ → Type 0
-WriteStops out now w answers = AppendsPart out now (answers ++ farewell (output_of w))
+-- a write failed in the answer to one command more, which was carried out
+pub record AnswerStops (s : Debugged) (w : Recorded) (mid after out now : Option (List ℕ)) (answers : List ℕ) : Type 0
+    where
+  pub line : List ℕ
+  pub go_on : GoesOn line
+  pub read : ReadsLine mid after line
+  pub end : Debugged
+  pub answer : List ℕ
+  pub done : Does s (command_of line) end answer
+  pub world : w ≡ end.world
+  pub answered : Option (List ℕ)
+  pub written : Appends out answered answers
+  pub part : AppendsPart answered now answer
 
-abbrev pub Stops : DebugError → (mid after out now : Option (List ℕ)) → Recorded → List ℕ → Type 0
-Stops Read mid after out now w answers = ReadStops mid after out now answers
-Stops Memory mid after out now w answers = MemoryStops mid after out now answers
-Stops Write mid after out now w answers = WriteStops out now w answers
+-- a write failed in what a session says in the end
+pub record FarewellStops (s : Debugged) (w : Recorded) (mid after out now : Option (List ℕ)) (answers : List ℕ) : Type 0
+    where
+  pub world : w ≡ s.world
+  pub read : ReadsEnd mid after
+  pub answered : Option (List ℕ)
+  pub written : Appends out answered answers
+  pub part : AppendsPart answered now (farewell (output_of w))
 
-abbrev pub Ends : {A : Type 0} → Result A DebugError → (mid after out now : Option (List ℕ)) → Recorded → List ℕ → Type 0
-Ends (Ok end) mid after out now w answers =
-    ReadsEnd mid after × Appends out now (answers ++ farewell (output_of w))
-Ends (Err e) mid after out now w answers = Stops e mid after out now w answers
+abbrev pub Stops : DebugError → Debugged → Recorded → (mid after out now : Option (List ℕ)) → List ℕ → Type 0
+Stops Read s w mid after out now answers = ReadStops s w mid after out now answers
+Stops Memory s w mid after out now answers = MemoryStops s w mid after out now answers
+Stops Write s w mid after out now answers =
+    AnswerStops s w mid after out now answers ⊎ FarewellStops s w mid after out now answers
 
--- a session from one state on: lines that were read and carried out, up to its end
+-- `quit`, or no line more: what is said in the end was written too
+pub record Closes (s : Debugged) (w : Recorded) (mid after out now : Option (List ℕ)) (answers : List ℕ) : Type 0
+    where
+  pub world : w ≡ s.world
+  pub read : ReadsEnd mid after
+  pub written : Appends out now (answers ++ farewell (output_of w))
+
+abbrev pub Ends : {A : Type 0} → Result A DebugError → Debugged → Recorded → (mid after out now : Option (List ℕ))
+    → List ℕ → Type 0
+Ends (Ok a) s w mid after out now answers = Closes s w mid after out now answers
+Ends (Err e) s w mid after out now answers = Stops e s w mid after out now answers
+
+-- a session from one state on: lines that were read, carried out and answered, and how it ends after them
 pub record Session {A : Type 0} (result : Result A DebugError) (s : Debugged) (w : Recorded)
     (before after out now : Option (List ℕ)) : Type 0 where
   pub lines : List (List ℕ)
@@ -157,9 +188,12 @@ pub record Session {A : Type 0} (result : Result A DebugError) (s : Debugged) (w
   pub read_to : Option (List ℕ)
   pub go_on : AllByRecursion GoesOn lines
   pub done : DoesAll s lines end answers
-  pub world : w ≡ end.world
   pub read : ReadsLines before read_to lines
-  pub ends : Ends result read_to after out now w answers
+  pub ends : Ends result end w read_to after out now answers
+
+-- some list of actors leads from one world to another, one turn each
+abbrev pub LedByActors : Recorded → Recorded → Type 0
+LedByActors v w = (actors : List Actor) × (w ≡ after_turns v actors)
 
 -- ---- one command
 

@@ -1,41 +1,28 @@
 //! Commands carried out, and answered.
-ghost use Rattle.std.specs.Prelude.{◌≡◌, ◌+◌, ◌-◌, ◌^◌, ◌<◌, OnErr, OnOk, Option, List, Some, ℕ};
+ghost use Rattle.std.specs.Prelude.{◌≡◌, ◌-◌, ◌^◌, ◌<◌, Some};
 ghost use Rattle.std.specs.Option.{option_map};
 ghost use Rattle.debug_texts.specs.Answers.{class_text, ran_text, turn_text};
 ghost use Rattle.debug_texts.specs.Commands.{said};
-ghost use Rattle.debug_texts.specs.Streams.{Puts};
 ghost use Rattle.model.specs.Machines.{Recorded, after_turn_by, answer_to};
 ghost use Rattle.model.specs.Observers.{class_state_of};
 ghost use Rattle.debugger.specs.Breakpoints.{at_number};
 ghost use Rattle.debugger.specs.Runs.{run_for};
 ghost use Rattle.debugger.specs.Sessions.{Breaks, Carries, Counts, Deletes, Does, Written, debugged};
 
-use crate::answering::{put_heap, put_object, put_stack, put_text};
+use crate::answering::{heap_of, object_of, stack_of};
 use crate::breakpoints::{add, delete};
 use crate::errors::DebugError;
 use crate::places::place_named;
 use crate::runs::run;
+use crate::writing::{put_made, put_text, told};
 use debug_texts::answers::{put_broken, put_class, put_deleted, put_ran, put_turn};
 use debug_texts::commands::Command;
-use debug_texts::sinks::{Sink, WriteFailed};
+use debug_texts::sinks::Sink;
 use model::places::CodePlace;
 use model::turns::Actor;
 use scheduler::worlds::World;
 use slab::Slab;
 use std::alloc::Global;
-
-/// What came of writing an answer.
-fn told(written: Result<(), WriteFailed>) -> Result<(), DebugError>
-    ensures told { (out now : Option (List ℕ)) (text : List ℕ) → Puts written out now text
-        → Written result out now text }
-    ensures counts { (before after : ℕ) → OnOk written (after ≡ before) → OnErr written (after ≡ before + 1)
-        → Counts result before after }
-{
-    match written {
-        Ok(()) => Ok(()),
-        Err(_) => Err(DebugError::Write),
-    }
-}
 
 /// One turn of an actor, and its answer. It takes no memory.
 fn step<S: Sink>(world: &mut World, actor: Actor, sink: &mut S) -> Result<(), DebugError>
@@ -146,9 +133,9 @@ fn carry_out_command<S: Sink>(
         Command::Step(thread) => step(world, Actor::Thread(thread), sink),
         Command::Collect => step(world, Actor::Collector, sink),
         Command::Run(turns) => run_on(world, breakpoints, turns, sink),
-        Command::Stack(thread) => put_stack(alloc, world, thread, sink),
-        Command::Object(birth) => put_object(alloc, world, birth, sink),
-        Command::Heap => put_heap(alloc, world, sink),
+        Command::Stack(thread) => put_made(sink, stack_of(alloc, world, thread)),
+        Command::Object(birth) => put_made(sink, object_of(alloc, world, birth)),
+        Command::Heap => put_made(sink, heap_of(alloc, world)),
         Command::Class(name) => put_state(world, name, sink),
         Command::Quit => put_text(sink, b""),
     }

@@ -11,5 +11,6 @@ pub mod errors;
 pub mod places;
 pub mod runs;
 pub mod sessions;
+mod writing;
 
 pub use sessions::debug;

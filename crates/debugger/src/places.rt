@@ -40,15 +40,9 @@ fn method_named(methods: &[Method], name: &[u8], descriptor: &[u8]) -> Option<us
 fn place_in_method(place: MethodPlace, pc: u32, method: &Method) -> Option<CodePlace>
     ensures { result ≡ place_in_method place.class place.method pc (Some method.now) }
 {
-    match &method.code {
-        Some(code) => {
-            match find_pc(code, pc) {
-                Some(pc) => Some(CodePlace { method: place, pc }),
-                None => None,
-            }
-        }
-        None => None,
-    }
+    let code = method.code.as_ref()?;
+    let pc = find_pc(code, pc)?;
+    Some(CodePlace { method: place, pc })
 }
 
 /// An instruction of a method that a class declares.
@@ -62,15 +56,9 @@ fn place_in_class(
     ensures { result ≡ place_in_class name.now descriptor.now pc class (Some listing.now) }
 {
     let methods = listing.methods.as_slice();
-    match method_named(methods, name, descriptor) {
-        Some(method) => {
-            match methods.get(method) {
-                Some(found) => place_in_method(MethodPlace { class, method }, pc, found),
-                None => None,
-            }
-        }
-        None => None,
-    }
+    let method = method_named(methods, name, descriptor)?;
+    let found = methods.get(method)?;
+    place_in_method(MethodPlace { class, method }, pc, found)
 }
 
 /// The instruction at a pc of the method that a class declares by a name and a descriptor; none where there is no such
@@ -84,13 +72,7 @@ pub fn place_named(
 ) -> Option<CodePlace>
     ensures { result ≡ place_named program.now class.now name.now descriptor.now pc }
 {
-    match class_named(program, class) {
-        Some(place) => {
-            match program.get(place) {
-                Some(listing) => place_in_class(listing, place, name, descriptor, pc),
-                None => None,
-            }
-        }
-        None => None,
-    }
+    let place = class_named(program, class)?;
+    let listing = program.get(place)?;
+    place_in_class(listing, place, name, descriptor, pc)
 }

@@ -1,8 +1,8 @@
 //! `run`: turns of the threads that are picked, with a turn of the collector after each.
 ghost use Rattle.std.specs.Prelude.{◌≡◌};
 ghost use Rattle.model.specs.Observers.{is_running};
-ghost use Rattle.debugger.specs.Runs.{ended, held_at, held_unless, reason_of, run_for, sweep_answer};
-ghost use Rattle.debugger.specs.Runs.{swept_once};
+ghost use Rattle.debugger.specs.Runs.{HoldsNone, ended, held_at, held_unless, reason_after, reason_of, run_for};
+ghost use Rattle.debugger.specs.Runs.{sweep_answer, swept_once};
 
 use crate::breakpoints::least_at;
 use debug_texts::answers::Reason;
@@ -51,20 +51,10 @@ fn reason_of(world: &World) -> Reason
 fn held_at(world: &World, breakpoints: &Slab<CodePlace>) -> Option<(usize, u8)>
     ensures { result ≡ held_at breakpoints.now.slots world.now }
 {
-    match world.pick() {
-        None => None,
-        Some(thread) => {
-            match world.place(thread) {
-                None => None,
-                Some(place) => {
-                    match least_at(breakpoints, place) {
-                        None => None,
-                        Some(number) => Some((number, thread)),
-                    }
-                }
-            }
-        }
-    }
+    let thread = world.pick()?;
+    let place = world.place(thread)?;
+    let number = least_at(breakpoints, place)?;
+    Some((number, thread))
 }
 
 /// The same, but that no breakpoint holds the first turn.
@@ -90,10 +80,8 @@ fn sweep_once(world: &mut World) -> Turn
     }
 }
 
-/// So many turns of threads at most, each followed by a turn of the collector while the world runs: up to a turn that
-/// isn't done, to a world that doesn't run, and from the second on to a thread that stands at a breakpoint. It takes no
-/// memory.
-pub fn run(world: &mut World, breakpoints: &Slab<CodePlace>, turns: u32) -> Ran
+/// So many turns of threads at most, one by one, with a look at the breakpoints before each but the first.
+fn run_turn_by_turn(world: &mut World, breakpoints: &Slab<CodePlace>, turns: u32) -> Ran
     ensures { ended world.new result.turns result.reason ≡ run_for breakpoints.now.slots turns world.old }
 {
     'turns: for made in 0..turns {
@@ -112,6 +100,7 @@ pub fn run(world: &mut World, breakpoints: &Slab<CodePlace>, turns: u32) -> Ran
             }
             None => {}
         }
+        // of one worker at least, as `turn_of_picked` wants
         world.journal().is_sound();
         let answer = world.turn_of_picked(0);
         if !is_done(answer) {
@@ -131,5 +120,60 @@ pub fn run(world: &mut World, breakpoints: &Slab<CodePlace>, turns: u32) -> Ran
     Ran {
         turns,
         reason: reason_of(world),
+    }
+}
+
+/// Why a run ends with a thread's turn that answers this.
+fn reason_after(world: &World, answer: Turn) -> Reason
+    ensures { result ≡ reason_after world.now answer }
+{
+    match answer {
+        Turn::NotReady => reason_of(world),
+        Turn::Done
+        | Turn::Stopped
+        | Turn::Fault(_)
+        | Turn::OutputFull
+        | Turn::StepLimit => Reason::Turn(answer),
+    }
+}
+
+/// So many turns of threads at most, where no breakpoint is set: many in one call.
+// The last one apart: there what the collector's turn answers is a reason to end.
+fn run_freely(world: &mut World, breakpoints: &Slab<CodePlace>, turns: u32) -> Ran
+    requires { HoldsNone breakpoints.now.slots }
+    ensures { ended world.new result.turns result.reason ≡ run_for breakpoints.now.slots turns world.old }
+{
+    if turns == 0 {
+        return Ran {
+            turns,
+            reason: reason_of(world),
+        };
+    }
+    let before = turns - 1;
+    let rounds = world.make_rounds(before, 1);
+    let made = before - rounds.left;
+    if rounds.left > 0 {
+        return Ran {
+            turns: made,
+            reason: reason_after(world, rounds.answer),
+        };
+    }
+    let last = run_turn_by_turn(world, breakpoints, 1);
+    Ran {
+        turns: made + last.turns,
+        reason: last.reason,
+    }
+}
+
+/// So many turns of threads at most, each followed by a turn of the collector while the world runs: up to a turn that
+/// isn't done, to a world that doesn't run, and from the second on to a thread that stands at a breakpoint. It takes no
+/// memory.
+pub fn run(world: &mut World, breakpoints: &Slab<CodePlace>, turns: u32) -> Ran
+    ensures { ended world.new result.turns result.reason ≡ run_for breakpoints.now.slots turns world.old }
+{
+    if breakpoints.is_empty() {
+        run_freely(world, breakpoints, turns)
+    } else {
+        run_turn_by_turn(world, breakpoints, turns)
     }
 }

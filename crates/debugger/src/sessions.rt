@@ -5,7 +5,7 @@ ghost use Rattle.debug_texts.specs.Answers.{farewell};
 ghost use Rattle.debug_texts.specs.Commands.{said};
 ghost use Rattle.debug_texts.specs.Commands.Said.{Quit};
 ghost use Rattle.model.specs.Observers.{output_of};
-ghost use Rattle.debugger.specs.Sessions.{Carries, Counts, CountsReads, Does, Session, Written, debugged};
+ghost use Rattle.debugger.specs.Sessions.{Carries, Counts, CountsReads, Does, LedByActors, Session, Written, debugged};
 
 use crate::carrying::carry_out;
 use crate::errors::DebugError;
@@ -68,13 +68,8 @@ fn say_farewell<S: Sink>(world: &World, sink: &mut S) -> Result<(), DebugError>
     }
 }
 
-/// A session with a world: command lines are read, carried out and answered one after another, up to `quit` or the end
-/// of the source; in the end it says what the world printed. What was read and written is a session of the definitions.
-///
-/// `Read` (G1) where a read failed: the world stands after all commands read. `Write` (G2) where a write failed: the last
-/// command has been carried out too. `Memory` (G3) where memory ran out: the last command made no turn. What was written
-/// is a beginning of the answers then. `step`, `gc`, `run` and their answers take no memory.
-pub fn debug<R: Source, W: Sink>(
+/// A session with a world, up to `quit` or the end of the source.
+fn hold_session<R: Source, W: Sink>(
     alloc: Global,
     world: &mut World,
     source: &mut R,
@@ -105,4 +100,29 @@ pub fn debug<R: Source, W: Sink>(
             }
         }
     }
+}
+
+/// A session with a world: command lines are read, carried out and answered one after another, up to `quit` or the end
+/// of the source; in the end it says what the world printed. What was read and written is a session of the definitions,
+/// and some list of actors leads to the world after it, however it ends.
+///
+/// `Read` (G1) where a read failed: the world stands after all commands read, and their answers were written. `Write`
+/// (G2) where a write failed: the last command has been carried out too, the answers before its own were written, and a
+/// beginning of this one. `Memory` (G3) where memory ran out: the last command made no turn, and the answers before it
+/// were written. `step`, `gc`, `run` and their answers take no memory.
+pub fn debug<R: Source, W: Sink>(
+    alloc: Global,
+    world: &mut World,
+    source: &mut R,
+    sink: &mut W,
+) -> Result<(), DebugError>
+    requires source { R.failures source.old < 2 ^ 64 - 1 }
+    requires sink { W.failures sink.old < 2 ^ 64 - 1 }
+    ensures session { Session result (debugged world.old []) world.new (R.remaining source.old) (R.remaining source.new)
+        (W.contents sink.old) (W.contents sink.new) }
+    ensures turns { LedByActors world.old world.new }
+    ensures reads { CountsReads result (R.failures source.old) (R.failures source.new) }
+    ensures writes { Counts result (W.failures sink.old) (W.failures sink.new) }
+{
+    hold_session(alloc, world, source, sink)
 }

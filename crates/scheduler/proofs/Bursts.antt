@@ -19,7 +19,7 @@ use Rattle.instructions.specs.LoneRounds.{noted_times}
 use Rattle.instructions.specs.PlainRuns.{FirstTurns, start_after}
 use Rattle.instructions.proofs.NotedRoundLemmas.{times-length, times-limits}
 use Rattle.scheduler.specs.Rounds.{LeadsOn, after_round, after_rounds, done_by, is_done, picked}
-use Rattle.scheduler.specs.Rounds.{picked_answer, rounds_answer, turned_by}
+use Rattle.scheduler.specs.Rounds.{picked_answer, rounds_answer, rounds_left, turned_by}
 use Rattle.scheduler.specs.Worlds.{IsOf, recorded}
 use Rattle.scheduler.proofs.FirstTurns.{first_answer, first_fits, first_noted, first_picked}
 use Rattle.scheduler.proofs.Noting.{answer_is}
@@ -54,6 +54,14 @@ module _ (v : Recorded) (worker n m : ℕ) (left : n ≡ suc m) (done : Bool) (i
         else picked_answer v worker) (round-picked v worker)
         ∙ ap (λ b. if b then rounds_answer (picked v worker) worker 0 m else picked_answer v worker) is
 
+    pub left-first : rounds_left v worker 0 n ≡ (if done then rounds_left (picked v worker) worker 0 m else n)
+    left-first =
+        ap (rounds_left v worker 0) left
+        ∙ ap (λ (x : Recorded). if is_done (picked_answer v worker) then rounds_left x worker 0 m
+        else suc m) (round-picked v worker)
+        ∙ ap (λ b. if b then rounds_left (picked v worker) worker 0 m else suc m) is
+        ∙ ap (λ k. if done then rounds_left (picked v worker) worker 0 m else k) (sym left)
+
 -- an answer that is done
 done-is : (t : Turn) → is_done t ≡ true → t ≡ TurnDone
 done-is TurnDone e = refl
@@ -69,10 +77,13 @@ module _ (v w : Recorded) (worker gc n left : ℕ) (on : LeadsOn v worker gc n w
   whole = omega (arith, fits)
 
   pub world-left : after_rounds v worker gc left ≡ after_rounds w worker gc (left - n)
-  world-left = ap (after_rounds v worker gc) whole ∙ (on (left - n)).0
+  world-left = ap (after_rounds v worker gc) whole ∙ on.world (left - n)
 
   pub answer-left : rounds_answer v worker gc left ≡ rounds_answer w worker gc (left - n)
-  answer-left = ap (rounds_answer v worker gc) whole ∙ (on (left - n)).1
+  answer-left = ap (rounds_answer v worker gc) whole ∙ on.answer (left - n)
+
+  pub left-left : rounds_left v worker gc left ≡ rounds_left w worker gc (left - n)
+  left-left = ap (rounds_left v worker gc) whole ∙ on.left (left - n)
 
 -- ---- the number of workers stays
 
@@ -95,23 +106,37 @@ workers-picked v worker = workers-turned v worker (pick_of v)
 
 -- ---- rounds that were made
 
-leads-none : (v : Recorded) (worker : ℕ) → LeadsOn v worker 0 0 v
-leads-none v worker = λ more. let none : 0 + more ≡ more = omega arith in (
-  ap (after_rounds v worker 0) none,
-  ap (rounds_answer v worker 0) none,
-)
+pub leads-none : (v : Recorded) (worker gc : ℕ) → LeadsOn v worker gc 0 v
+leads-none v worker gc = record {
+  world = λ more. ap (after_rounds v worker gc) (none more);
+  answer = λ more. ap (rounds_answer v worker gc) (none more);
+  left = λ more. ap (rounds_left v worker gc) (none more);
+} where
+  none : (more : ℕ) → 0 + more ≡ more
+  none more = omega arith
+
+pub one-further : (n more : ℕ) → suc n + more ≡ n + suc more
+one-further n more = omega arith
 
 -- and one round more
 pub leads-more : (v u w : Recorded) (worker n : ℕ) → LeadsOn v worker 0 n u → w ≡ picked u worker
     → picked_answer u worker ≡ TurnDone → LeadsOn v worker 0 (suc n) w
-leads-more v u w worker n on same answer = λ more.
-    let next : suc n + more ≡ n + suc more = omega arith in
-    let done : is_done (picked_answer u worker) ≡ true = ap is_done answer in (
-      ap (after_rounds v worker 0) next ∙ (on (suc more)).0 ∙ world-first u worker (suc more) more refl true done
-          ∙ ap (λ (x : Recorded). after_rounds x worker 0 more) (sym same),
-      ap (rounds_answer v worker 0) next ∙ (on (suc more)).1 ∙ answer-first u worker (suc more) more refl true done
-          ∙ ap (λ (x : Recorded). rounds_answer x worker 0 more) (sym same),
-    )
+leads-more v u w worker n on same answer =
+    let done : is_done (picked_answer u worker) ≡ true = ap is_done answer in
+    record {
+      world = λ more.
+          ap (after_rounds v worker 0) (one-further n more) ∙ on.world (suc more)
+          ∙ world-first u worker (suc more) more refl true done
+          ∙ ap (λ (x : Recorded). after_rounds x worker 0 more) (sym same);
+      answer = λ more.
+          ap (rounds_answer v worker 0) (one-further n more) ∙ on.answer (suc more)
+          ∙ answer-first u worker (suc more) more refl true done
+          ∙ ap (λ (x : Recorded). rounds_answer x worker 0 more) (sym same);
+      left = λ more.
+          ap (rounds_left v worker 0) (one-further n more) ∙ on.left (suc more)
+          ∙ left-first u worker (suc more) more refl true done
+          ∙ ap (λ (x : Recorded). rounds_left x worker 0 more) (sym same);
+    }
 
 -- ---- one round
 
@@ -134,20 +159,20 @@ module _ (v : Recorded) (worker : ℕ) where
 module _ (v w : Recorded) (worker n : ℕ) (on : LeadsOn v worker 0 n w) where
   pub made-world : n ≡ 1 → w ≡ picked v worker
   made-world one =
-      sym (on 0).0 ∙ ap (λ (k : ℕ). after_rounds v worker 0 (k + 0)) one ∙ one-world v worker
+      sym (on.world 0) ∙ ap (λ (k : ℕ). after_rounds v worker 0 (k + 0)) one ∙ one-world v worker
 
   pub made-answer : n ≡ 1 → TurnDone ≡ picked_answer v worker
   made-answer one =
-      sym (on 0).1 ∙ ap (λ (k : ℕ). rounds_answer v worker 0 (k + 0)) one ∙ one-answer v worker
+      sym (on.answer 0) ∙ ap (λ (k : ℕ). rounds_answer v worker 0 (k + 0)) one ∙ one-answer v worker
 
   pub still-world : n ≡ 0 → picked w worker ≡ picked v worker
   still-world none =
-      sym (one-world w worker) ∙ sym (on 1).0 ∙ ap (λ (k : ℕ). after_rounds v worker 0 (k + 1)) none
+      sym (one-world w worker) ∙ sym (on.world 1) ∙ ap (λ (k : ℕ). after_rounds v worker 0 (k + 1)) none
       ∙ one-world v worker
 
   pub still-answer : n ≡ 0 → picked_answer w worker ≡ picked_answer v worker
   still-answer none =
-      sym (one-answer w worker) ∙ sym (on 1).1 ∙ ap (λ (k : ℕ). rounds_answer v worker 0 (k + 1)) none
+      sym (one-answer w worker) ∙ sym (on.answer 1) ∙ ap (λ (k : ℕ). rounds_answer v worker 0 (k + 1)) none
       ∙ one-answer v worker
 
 -- ---- turns of the first thread are rounds
@@ -191,7 +216,7 @@ module _ (s : Loaded) (j : JournalValue) (k worker thread : ℕ) (is : IsOf s j 
   pub leads : (n : ℕ) (after : Loaded) → FirstTurns s k thread n after → Leads s j k worker thread n after
   leads zero after turns = record {
     is = subst (λ (x : Loaded). IsOf x j k) (sym turns) is;
-    on = subst (λ (x : Loaded). LeadsOn v worker 0 0 (recorded x j)) (sym turns) (leads-none v worker);
+    on = subst (λ (x : Loaded). LeadsOn v worker 0 0 (recorded x j)) (sym turns) (leads-none v worker 0);
     room = λ some. absurd (omega (arith, some));
   }
   leads (suc n) after turns = one_more n turns.0 after (leads n turns.0 turns.1) turns.2 turns.3

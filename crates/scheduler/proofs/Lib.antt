@@ -11,3 +11,4 @@ pub mod Bursts
 pub mod LosesNothing
 pub mod HeldCells
 pub mod Observing
+pub mod Picking

@@ -22,12 +22,12 @@ use Rattle.instructions.specs.declared.lone_rounds.Rounds.{Rounds}
 use Rattle.instructions.specs.PlainRuns.{start_after}
 use Rattle.instructions.proofs.NotedRoundLemmas.{rounds-workers, times-length, times-limits}
 use Rattle.scheduler.specs.Rounds.{LeadsInto, LeadsOn, PickedIf, after_round, after_rounds, collections, done_by}
-use Rattle.scheduler.specs.Rounds.{is_done, picked, picked_answer, rounds_answer, swept}
+use Rattle.scheduler.specs.Rounds.{is_done, picked, picked_answer, rounds_answer, rounds_left, swept}
 use Rattle.scheduler.specs.Worlds.{IsOf, recorded}
-use Rattle.scheduler.proofs.Bursts.{answer-left, world-left}
+use Rattle.scheduler.proofs.Bursts.{answer-left, leads-none, left-left, one-further, world-left}
 use Rattle.scheduler.proofs.FirstTurns.{first_answer, first_noted, first_picked}
 use Rattle.scheduler.proofs.Noting.{after_is, answer_is, back, noted_is, refusal_is}
-use Rattle.scheduler.proofs.RoundsLeft.{answer-first, round-swept, rounds-first}
+use Rattle.scheduler.proofs.RoundsLeft.{answer-first, left-first, round-swept, rounds-first}
 
 -- ---- turns of the collector
 
@@ -161,26 +161,27 @@ module _ (s : Loaded) (j : JournalValue) (k : ℕ) (is : IsOf s j k) (worker gc 
       let done = round_done x jn kn leads.is worker gc outcome after round in
       record {
         is = (round_swept x jn kn leads.is worker gc outcome after round).is;
-        on = λ more.
-            let next : suc n + more ≡ n + suc more = omega arith in (
-              ap (after_rounds v worker gc) next ∙ (leads.on (suc more)).0 ∙ rounds-first u worker gc (suc more) more
-                  refl true done
-                  ∙ ap (λ (w : Recorded). after_rounds w worker gc more) (sym same),
-              ap (rounds_answer v worker gc) next ∙ (leads.on (suc more)).1 ∙ answer-first u worker gc (suc more) more
-                  refl true done
-                  ∙ ap (λ (w : Recorded). rounds_answer w worker gc more) (sym same),
-            );
+        on = record {
+          world = λ more.
+              ap (after_rounds v worker gc) (one-further n more) ∙ leads.on.world (suc more)
+              ∙ rounds-first u worker gc (suc more) more refl true done
+              ∙ ap (λ (w : Recorded). after_rounds w worker gc more) (sym same);
+          answer = λ more.
+              ap (rounds_answer v worker gc) (one-further n more) ∙ leads.on.answer (suc more)
+              ∙ answer-first u worker gc (suc more) more refl true done
+              ∙ ap (λ (w : Recorded). rounds_answer w worker gc more) (sym same);
+          left = λ more.
+              ap (rounds_left v worker gc) (one-further n more) ∙ leads.on.left (suc more)
+              ∙ left-first u worker gc (suc more) more refl true done
+              ∙ ap (λ (w : Recorded). rounds_left w worker gc more) (sym same);
+        };
       }
 
   pub leads : (outcomes : List Outcome) (after : Loaded) → FirstRounds s k 0 gc outcomes after
       → Leads s j k worker gc outcomes after
   leads [] after rounds = record {
     is = subst (λ (x : Loaded). IsOf x j k) (sym rounds) is;
-    on = subst (λ (x : Loaded). LeadsOn v worker gc 0 (recorded x j)) (sym rounds)
-        (λ more. let none : 0 + more ≡ more = omega arith in (
-          ap (after_rounds v worker gc) none,
-          ap (rounds_answer v worker gc) none,
-        ));
+    on = subst (λ (x : Loaded). LeadsOn v worker gc 0 (recorded x j)) (sym rounds) (leads-none v worker gc);
   }
   leads (outcome ∷ outcomes) after rounds = one_more outcome outcomes rounds.0 after
       (leads outcomes rounds.0 rounds.1) rounds.2
@@ -276,6 +277,10 @@ module _ (v w : Recorded) (worker gc : ℕ) (rounds : Rounds) (left : ℕ) (into
     answer-whole = answer-left v into.0 worker gc rounds.made left into.1 fits
         ∙ ap (λ (x : Recorded). rounds_answer x worker gc (left - rounds.made)) (sym same)
 
+    pub left-whole : rounds_left v worker gc left ≡ rounds_left w worker gc (left - rounds.made)
+    left-whole = left-left v into.0 worker gc rounds.made left into.1 fits
+        ∙ ap (λ (x : Recorded). rounds_left x worker gc (left - rounds.made)) (sym same)
+
   -- after one of which the thread's turn was made
   module _ (begun : rounds.begun ≡ true) (m : ℕ) (next : left - rounds.made ≡ suc m) where
     turn : PickedIf into.0 worker true w
@@ -296,3 +301,9 @@ module _ (v w : Recorded) (worker gc : ℕ) (rounds : Rounds) (left : ℕ) (into
         answer-left v into.0 worker gc rounds.made left into.1 fits
         ∙ answer-first into.0 worker gc (left - rounds.made) m next true turn.1
         ∙ ap (λ (x : Recorded). rounds_answer x worker gc m) round
+
+    pub left-begun : rounds_left v worker gc left ≡ rounds_left (swept w worker gc) worker gc m
+    left-begun =
+        left-left v into.0 worker gc rounds.made left into.1 fits
+        ∙ left-first into.0 worker gc (left - rounds.made) m next true turn.1
+        ∙ ap (λ (x : Recorded). rounds_left x worker gc m) round

@@ -65,6 +65,12 @@ rounds_answer v worker gc (suc n) =
     if is_done (picked_answer v worker) then rounds_answer (after_round v worker gc) worker gc n
     else picked_answer v worker
 
+-- how many are left to make: from the first on whose thread's turn isn't done, none where all are
+abbrev pub rounds_left : Recorded → ℕ → ℕ → ℕ → ℕ
+rounds_left v worker gc zero = 0
+rounds_left v worker gc (suc n) =
+    if is_done (picked_answer v worker) then rounds_left (after_round v worker gc) worker gc n else suc n
+
 -- ---- many rounds in one call
 
 -- the row of a thread's turn that was done and asked for no cell
@@ -72,11 +78,11 @@ abbrev pub done_by : ℕ → ℕ → Row
 done_by thread worker = record { actor = Thread thread; outcome = DoneOutcome; worker = worker }
 
 -- so many rounds by a worker lead from one world to another, and each thread's turn is done: with any rounds more, both
--- lead to the same world and answer the same
-abbrev pub LeadsOn : Recorded → ℕ → ℕ → ℕ → Recorded → Type 0
-LeadsOn v worker gc n w =
-    (more : ℕ) → (after_rounds v worker gc (n + more) ≡ after_rounds w worker gc more)
-    × (rounds_answer v worker gc (n + more) ≡ rounds_answer w worker gc more)
+-- lead to the same world, answer the same, and leave as many
+pub record LeadsOn (v : Recorded) (worker gc n : ℕ) (w : Recorded) : Type 0 where
+  pub world : (more : ℕ) → after_rounds v worker gc (n + more) ≡ after_rounds w worker gc more
+  pub answer : (more : ℕ) → rounds_answer v worker gc (n + more) ≡ rounds_answer w worker gc more
+  pub left : (more : ℕ) → rounds_left v worker gc (n + more) ≡ rounds_left w worker gc more
 
 -- the turn of the thread that is picked is made and done, or nothing is
 abbrev pub PickedIf : Recorded → ℕ → Bool → Recorded → Type 0

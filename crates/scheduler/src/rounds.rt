@@ -1,7 +1,7 @@
 //! Rounds: the turns of the threads that are picked, and the collector's between them.
 ghost use Rattle.std.specs.Prelude.{◌≡◌, ◌<◌};
 ghost use Rattle.scheduler.specs.Rounds.{after_round, after_rounds, collections, is_done, picked, picked_answer};
-ghost use Rattle.scheduler.specs.Rounds.{rounds_answer, swept};
+ghost use Rattle.scheduler.specs.Rounds.{rounds_answer, rounds_left, swept};
 
 use crate::worlds::World;
 use model::turns::{Actor, Status, Turn};
@@ -15,6 +15,15 @@ pub fn is_done(answer: Turn) -> bool
         Turn::NotReady | Turn::Stopped | Turn::Fault(_) | Turn::OutputFull | Turn::StepLimit =>
             false,
     }
+}
+
+/// What many rounds came to.
+#[derive(Clone, Copy)]
+pub struct RoundsMade {
+    /// what the last thread's turn answered; `Done` where no round was asked for
+    pub answer: Turn,
+    /// how many rounds are left to make: from the one on whose thread's turn isn't done; none where all were made
+    pub left: u32,
 }
 
 impl World {
@@ -110,21 +119,23 @@ impl World {
 
     /// So many rounds with no turn of the collector.
     // Many in one call where that can be, and else one by one.
-    fn rounds_alone(&mut self, worker: u8, n: u32) -> Turn
+    fn rounds_alone(&mut self, worker: u8, n: u32) -> RoundsMade
         requires { worker < self.old.journal.workers }
         ensures world { self.new ≡ after_rounds self.old worker 0 n }
-        ensures answer { result ≡ rounds_answer self.old worker 0 n }
+        ensures answer { result.answer ≡ rounds_answer self.old worker 0 n }
+        ensures left { result.left ≡ rounds_left self.old worker 0 n }
     {
         let mut left = n;
         'rounds: loop {
             let made = self.rounds_plainly(worker, left);
             left -= made;
             if left == 0 {
-                return Turn::Done;
+                let answer = Turn::Done;
+                return RoundsMade { answer, left };
             }
             let answer = self.turn_by_look(worker);
             if !is_done(answer) {
-                return answer;
+                return RoundsMade { answer, left };
             }
             left -= 1;
         }
@@ -132,17 +143,19 @@ impl World {
 
     /// So many rounds, each with so many turns of the collector.
     // Many in one call where that can be, and else one by one.
-    fn rounds_and_sweeps(&mut self, worker: u8, n: u32, gc: u32) -> Turn
+    fn rounds_and_sweeps(&mut self, worker: u8, n: u32, gc: u32) -> RoundsMade
         requires { worker < self.old.journal.workers }
         ensures world { self.new ≡ after_rounds self.old worker gc n }
-        ensures answer { result ≡ rounds_answer self.old worker gc n }
+        ensures answer { result.answer ≡ rounds_answer self.old worker gc n }
+        ensures left { result.left ≡ rounds_left self.old worker gc n }
     {
         let mut left = n;
         'rounds: loop {
             let rounds = self.rounds_and_sweeps_plainly(worker, gc, left);
             left -= rounds.made;
             if left == 0 {
-                return Turn::Done;
+                let answer = Turn::Done;
+                return RoundsMade { answer, left };
             }
             if rounds.begun {
                 self.sweep(worker, gc);
@@ -151,10 +164,34 @@ impl World {
             }
             let answer = self.another_round(worker, gc, rounds.made);
             if !is_done(answer) {
-                return answer;
+                return RoundsMade { answer, left };
             }
             left -= 1;
         }
+    }
+
+    /// So many rounds by a worker, and what they came to.
+    fn make_rounds_by(&mut self, worker: u8, n: u32, gc: u32) -> RoundsMade
+        requires { worker < self.old.journal.workers }
+        ensures world { self.new ≡ after_rounds self.old worker gc n }
+        ensures answer { result.answer ≡ rounds_answer self.old worker gc n }
+        ensures left { result.left ≡ rounds_left self.old worker gc n }
+    {
+        if gc > 0 {
+            self.rounds_and_sweeps(worker, n, gc)
+        } else {
+            self.rounds_alone(worker, n)
+        }
+    }
+
+    /// So many rounds by worker 0, as `rounds` makes them, with how many are left where they ended early.
+    pub fn make_rounds(&mut self, n: u32, gc: u32) -> RoundsMade
+        ensures world { self.new ≡ after_rounds self.old 0 gc n }
+        ensures answer { result.answer ≡ rounds_answer self.old 0 gc n }
+        ensures left { result.left ≡ rounds_left self.old 0 gc n }
+    {
+        let first = self.first_worker();
+        self.make_rounds_by(first, n, gc)
     }
 
     /// So many rounds by a worker: the turn of the thread that is picked, and where it was done and the world runs so
@@ -165,11 +202,7 @@ impl World {
         ensures world { self.new ≡ after_rounds self.old worker gc n }
         ensures answer { result ≡ rounds_answer self.old worker gc n }
     {
-        if gc > 0 {
-            self.rounds_and_sweeps(worker, n, gc)
-        } else {
-            self.rounds_alone(worker, n)
-        }
+        self.make_rounds_by(worker, n, gc).answer
     }
 
     /// The same by worker 0.
@@ -177,7 +210,6 @@ impl World {
         ensures world { self.new ≡ after_rounds self.old 0 gc n }
         ensures answer { result ≡ rounds_answer self.old 0 gc n }
     {
-        let first = self.first_worker();
-        self.rounds_by(first, n, gc)
+        self.make_rounds(n, gc).answer
     }
 }

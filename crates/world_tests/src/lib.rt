@@ -4,6 +4,8 @@
 #[cfg(test)]
 mod checking_tests;
 #[cfg(test)]
+mod debugger_tests;
+#[cfg(test)]
 mod hall_tests;
 #[cfg(test)]
 mod heap_tests;

@@ -31,56 +31,66 @@ returns-in-Delete-clause-carried g c = rw c.in-Delete.is (c.delete_at.ensures.ca
 
 pub returns-in-Step-clause-carried : goal.returns-in-Step-clause-carried
 returns-in-Step-clause-carried g c =
+    let bs = c.args.breakpoints.now.slots in
+    let v = c.args.world.now in
+    let actor = ByThread c.in-Step.thread in
     rw c.in-Step.is
-    (written_carries (Does (debugged c.args.world.now c.args.breakpoints.now.slots) (Some (Step c.in-Step.thread)))
-    c.step.result (debugged c.args.world.now c.args.breakpoints.now.slots) (debugged c.step.new.world c.args.breakpoints.now.slots) (g.S.Sink.contents c.args.sink.now) (g.S.Sink.contents c.step.new.sink)
-    (turn_text (answer_to c.args.world.now (ByThread c.in-Step.thread) 0))
-    (ap (λ v. debugged v c.args.breakpoints.now.slots) c.step.ensures.world, refl) c.step.ensures.told)
+    (written_carries (Does (debugged v bs) (Some (Step c.in-Step.thread))) c.step.result (debugged v bs)
+    (debugged c.step.new.world bs) (g.S.Sink.contents c.args.sink.now) (g.S.Sink.contents c.step.new.sink)
+    (turn_text (answer_to v actor 0)) (ap (λ w. debugged w bs) c.step.ensures.world, refl) c.step.ensures.told)
 
 pub returns-in-Collect-clause-carried : goal.returns-in-Collect-clause-carried
 returns-in-Collect-clause-carried g c =
+    let bs = c.args.breakpoints.now.slots in
+    let v = c.args.world.now in
+    let turn = c.step-in-Collect in
     rw c.in-Collect.is
-    (written_carries (Does (debugged c.args.world.now c.args.breakpoints.now.slots) (Some Collect))
-    c.step-in-Collect.result (debugged c.args.world.now c.args.breakpoints.now.slots) (debugged c.step-in-Collect.new.world c.args.breakpoints.now.slots) (g.S.Sink.contents c.args.sink.now) (g.S.Sink.contents c.step-in-Collect.new.sink)
-    (turn_text (answer_to c.args.world.now Collector 0))
-    (ap (λ v. debugged v c.args.breakpoints.now.slots) c.step-in-Collect.ensures.world, refl) c.step-in-Collect.ensures.told)
+    (written_carries (Does (debugged v bs) (Some Collect)) turn.result (debugged v bs) (debugged turn.new.world bs)
+    (g.S.Sink.contents c.args.sink.now) (g.S.Sink.contents turn.new.sink) (turn_text (answer_to v Collector 0))
+    (ap (λ w. debugged w bs) turn.ensures.world, refl) turn.ensures.told)
 
 pub returns-in-Run-clause-carried : goal.returns-in-Run-clause-carried
 returns-in-Run-clause-carried g c =
+    let bs = c.args.breakpoints.now.slots in
+    let v = c.args.world.now in
+    let ran = run_for bs c.in-Run.turns v in
     rw c.in-Run.is
-    (written_carries (Does (debugged c.args.world.now c.args.breakpoints.now.slots) (Some (Run c.in-Run.turns)))
-    c.run_on.result (debugged c.args.world.now c.args.breakpoints.now.slots) (debugged c.run_on.new.world c.args.breakpoints.now.slots) (g.S.Sink.contents c.args.sink.now) (g.S.Sink.contents c.run_on.new.sink)
-    (ran_text (run_for c.args.breakpoints.now.slots c.in-Run.turns c.args.world.now).turns (run_for c.args.breakpoints.now.slots c.in-Run.turns c.args.world.now).reason)
-    (ap (λ v. debugged v c.args.breakpoints.now.slots) c.run_on.ensures.world, refl) c.run_on.ensures.told)
+    (written_carries (Does (debugged v bs) (Some (Run c.in-Run.turns))) c.run_on.result (debugged v bs)
+    (debugged c.run_on.new.world bs) (g.S.Sink.contents c.args.sink.now) (g.S.Sink.contents c.run_on.new.sink)
+    (ran_text ran.turns ran.reason) (ap (λ w. debugged w bs) c.run_on.ensures.world, refl) c.run_on.ensures.told)
 
 pub returns-in-Stack-clause-carried : goal.returns-in-Stack-clause-carried
 returns-in-Stack-clause-carried g c =
+    let s = debugged c.args.world.now c.args.breakpoints.now.slots in
+    let text = stack_text s.world.program (thread_of s.world c.in-Stack.thread) in
     rw c.in-Stack.is
-    (told_carries (Does (debugged c.args.world.now c.args.breakpoints.now.slots) (Some (Stack c.in-Stack.thread)))
-    c.put_stack.result (debugged c.args.world.now c.args.breakpoints.now.slots) (g.S.Sink.contents c.args.sink.now) (g.S.Sink.contents c.put_stack.new.sink)
-    (stack_text c.args.world.now.program (thread_of c.args.world.now c.in-Stack.thread))
-    (refl, refl) c.put_stack.ensures.told)
+    (told_carries (Does s (Some (Stack c.in-Stack.thread))) c.put_made.result s (g.S.Sink.contents c.args.sink.now)
+    (g.S.Sink.contents c.put_made.new.sink) text (refl, refl) (c.put_made.ensures.told text c.stack_of.ensures))
 
 pub returns-in-Object-clause-carried : goal.returns-in-Object-clause-carried
 returns-in-Object-clause-carried g c =
+    let s = debugged c.args.world.now c.args.breakpoints.now.slots in
+    let birth = c.in-Object.birth in
+    let made = c.put_made-in-Object in
+    let text = object_text birth (option_map (λ (o : ObjectValue). o.contents) (object_of s.world birth)) in
     rw c.in-Object.is
-    (told_carries (Does (debugged c.args.world.now c.args.breakpoints.now.slots) (Some (Object c.in-Object.birth)))
-    c.put_object.result (debugged c.args.world.now c.args.breakpoints.now.slots) (g.S.Sink.contents c.args.sink.now) (g.S.Sink.contents c.put_object.new.sink)
-    (object_text c.in-Object.birth (option_map (λ (o : ObjectValue). o.contents) (object_of c.args.world.now c.in-Object.birth)))
-    (refl, refl) c.put_object.ensures.told)
+    (told_carries (Does s (Some (Object birth))) made.result s (g.S.Sink.contents c.args.sink.now)
+    (g.S.Sink.contents made.new.sink) text (refl, refl) (made.ensures.told text c.object_of.ensures))
 
 pub returns-in-Heap-clause-carried : goal.returns-in-Heap-clause-carried
 returns-in-Heap-clause-carried g c =
+    let s = debugged c.args.world.now c.args.breakpoints.now.slots in
+    let made = c.put_made-in-Heap in
     rw c.in-Heap.is
-    (told_carries (Does (debugged c.args.world.now c.args.breakpoints.now.slots) (Some Heap))
-    c.put_heap.result (debugged c.args.world.now c.args.breakpoints.now.slots) (g.S.Sink.contents c.args.sink.now) (g.S.Sink.contents c.put_heap.new.sink)
-    (heap_text c.args.world.now)
-    (refl, refl) c.put_heap.ensures.told)
+    (told_carries (Does s (Some Heap)) made.result s (g.S.Sink.contents c.args.sink.now)
+    (g.S.Sink.contents made.new.sink) (heap_text s.world) (refl, refl)
+    (made.ensures.told (heap_text s.world) c.heap_of.ensures))
 
 pub returns-in-Class-clause-carried : goal.returns-in-Class-clause-carried
 returns-in-Class-clause-carried g c =
+    let s = debugged c.args.world.now c.args.breakpoints.now.slots in
+    let name = c.in-Class.name.now in
     rw c.in-Class.is
-    (written_carries (Does (debugged c.args.world.now c.args.breakpoints.now.slots) (Some (Class c.in-Class.name.now)))
-    c.put_state.result (debugged c.args.world.now c.args.breakpoints.now.slots) (debugged c.args.world.now c.args.breakpoints.now.slots) (g.S.Sink.contents c.args.sink.now) (g.S.Sink.contents c.put_state.new.sink)
-    (class_text c.in-Class.name.now (class_state_of c.args.world.now c.in-Class.name.now))
-    (refl, refl) c.put_state.ensures.told)
+    (written_carries (Does s (Some (Class name))) c.put_state.result s s (g.S.Sink.contents c.args.sink.now)
+    (g.S.Sink.contents c.put_state.new.sink) (class_text name (class_state_of s.world name)) (refl, refl)
+    c.put_state.ensures.told)

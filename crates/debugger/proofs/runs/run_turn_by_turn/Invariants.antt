@@ -1,7 +1,7 @@
 use Rattle.std.proofs.Common.{◌≡◌, ◌-◌, nat_eq}
 use Rattle.debugger.specs.Runs.{run_for, run_on}
 use Rattle.debugger.proofs.RunSteps.{more}
-use Rattle.debugger.proofs.runs.run.Given as goal
+use Rattle.debugger.proofs.runs.run_turn_by_turn.Given as goal
 
 -- what is left leads where the whole leads
 abbrev pub invariant-turns : goal.invariant-turns

@@ -5,7 +5,7 @@ use Rattle.debug_texts.specs.Commands.{said}
 use Rattle.debugger.specs.declared.errors.DebugError.TheVariants.{Read}
 use Rattle.debugger.specs.Sessions.{debugged}
 use Rattle.debugger.proofs.SessionSteps.{answered, at_end, command_fails, quits, read_fails}
-use Rattle.debugger.proofs.sessions.debug.Goals as goal
+use Rattle.debugger.proofs.sessions.hold_session.Goals as goal
 
 no_quit : {b : Bool} → IsTrue b → b ≡ false → ⊥
 no_quit h e = cc

@@ -2,7 +2,7 @@ use Rattle.std.proofs.Common.{◌≡◌, ℕ, List, [], Option, Result}
 use Rattle.model.specs.Machines.{Recorded}
 use Rattle.debugger.specs.declared.errors.DebugError.{DebugError}
 use Rattle.debugger.specs.Sessions.{Session, debugged}
-use Rattle.debugger.proofs.sessions.debug.Given as goal
+use Rattle.debugger.proofs.sessions.hold_session.Given as goal
 
 -- a session from here on is one from the start on
 abbrev pub invariant-lines : goal.invariant-lines

@@ -1,7 +1,8 @@
 use Rattle.std.proofs.Common.{◌≡◌, ◌-◌, ◌∙◌, ap, arith, suc, sym, true, false}
 use Rattle.model.specs.Machines.{Recorded}
-use Rattle.scheduler.specs.Rounds.{after_rounds, is_done, rounds_answer}
-use Rattle.scheduler.proofs.Bursts.{answer-first, answer-left, workers-picked, world-first, world-left}
+use Rattle.scheduler.specs.Rounds.{after_rounds, is_done, rounds_answer, rounds_left}
+use Rattle.scheduler.proofs.Bursts.{answer-first, answer-left, left-first, left-left, workers-picked}
+use Rattle.scheduler.proofs.Bursts.{world-first, world-left}
 use Rattle.scheduler.proofs.worlds.World.rounds_alone.Goals as goal
 
 pub rounds-preserved : goal.rounds-preserved
@@ -29,6 +30,12 @@ rounds-preserved c =
           ∙ sym (answer-left at.self mid w 0 made at.left c.rounds_plainly-made.ensures.rounds
           c.rounds_plainly-made.ensures.most)
           ∙ at.invariant.answer;
+      left =
+          ap (λ (v : Recorded). rounds_left v w 0 (left - 1)) c.turn_by_look-answer.ensures.world
+          ∙ sym (left-first mid w left (left - 1) next true done)
+          ∙ sym (left-left at.self mid w 0 made at.left c.rounds_plainly-made.ensures.rounds
+          c.rounds_plainly-made.ensures.most)
+          ∙ at.invariant.left;
     }
 
 pub returns-then-left-eq0-clause-world : goal.returns-then-left-eq0-clause-world
@@ -50,6 +57,17 @@ returns-then-left-eq0-clause-answer c =
     ∙ sym (answer-left at.self mid w 0 c.rounds_plainly-made.result at.left c.rounds_plainly-made.ensures.rounds
     c.rounds_plainly-made.ensures.most)
     ∙ at.invariant.answer
+
+pub returns-then-left-eq0-clause-left : goal.returns-then-left-eq0-clause-left
+returns-then-left-eq0-clause-left c =
+    let at = c.rounds in
+    let w = c.args.worker in
+    let mid = c.rounds_plainly-made.new.self in
+    c.if-left-eq0.true
+    ∙ ap (rounds_left mid w 0) (sym c.if-left-eq0.true)
+    ∙ sym (left-left at.self mid w 0 c.rounds_plainly-made.result at.left c.rounds_plainly-made.ensures.rounds
+    c.rounds_plainly-made.ensures.most)
+    ∙ at.invariant.left
 
 pub returns-then-not-is_done-clause-world : goal.returns-then-not-is_done-clause-world
 returns-then-not-is_done-clause-world c =
@@ -80,3 +98,17 @@ returns-then-not-is_done-clause-answer c =
     ∙ sym (answer-left at.self mid w 0 made at.left c.rounds_plainly-made.ensures.rounds
     c.rounds_plainly-made.ensures.most)
     ∙ at.invariant.answer
+
+pub returns-then-not-is_done-clause-left : goal.returns-then-not-is_done-clause-left
+returns-then-not-is_done-clause-left c =
+    let at = c.rounds in
+    let w = c.args.worker in
+    let mid = c.rounds_plainly-made.new.self in
+    let made = c.rounds_plainly-made.result in
+    let left = at.left - made in
+    let next : left ≡ suc (left - 1) = omega (arith, c.if-left-eq0.false) in
+    let done = ap is_done (sym c.turn_by_look-answer.ensures.answer) ∙ sym c.is_done.ensures ∙ c.if-not-is_done.true in
+    sym (left-first mid w left (left - 1) next false done)
+    ∙ sym (left-left at.self mid w 0 made at.left c.rounds_plainly-made.ensures.rounds
+    c.rounds_plainly-made.ensures.most)
+    ∙ at.invariant.left

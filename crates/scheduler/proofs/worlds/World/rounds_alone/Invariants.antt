@@ -1,13 +1,14 @@
 use Rattle.std.specs.Prelude.{◌≡◌, ◌<◌}
-use Rattle.scheduler.specs.Rounds.{after_rounds, rounds_answer}
+use Rattle.scheduler.specs.Rounds.{after_rounds, rounds_answer, rounds_left}
 use Rattle.scheduler.proofs.worlds.World.rounds_alone.Given as goal
 
--- the rounds that are left lead to where all lead, and answer the same
+-- the rounds that are left lead to where all lead, answer the same, and leave as many
 abbrev pub invariant-rounds : goal.invariant-rounds
 invariant-rounds l = record {
   known : l.worker < l.self.journal.workers;
   world : after_rounds l.self l.worker 0 l.left ≡ after_rounds l.initial.self l.worker 0 l.n;
   answer : rounds_answer l.self l.worker 0 l.left ≡ rounds_answer l.initial.self l.worker 0 l.n;
+  left : rounds_left l.self l.worker 0 l.left ≡ rounds_left l.initial.self l.worker 0 l.n;
 }
 
 abbrev pub decreases-rounds : goal.decreases-rounds

@@ -1,7 +1,7 @@
 use Rattle.std.proofs.Common.{◌≡◌, ◌++◌, drop}
 use Rattle.model.specs.Machines.{machine_of}
 use Rattle.debugger.specs.Sessions.{cells_text}
-use Rattle.debugger.proofs.answering.heap_answer.Given as goal
+use Rattle.debugger.proofs.answering.heap_of.Given as goal
 
 -- the text so far, and the cells that are left
 abbrev pub invariant-loop-number : goal.invariant-loop-number

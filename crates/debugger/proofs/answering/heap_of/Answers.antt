@@ -4,7 +4,7 @@ use Rattle.debug_texts.specs.Answers.{cell_line}
 use Rattle.model.specs.Machines.{machine_of}
 use Rattle.debugger.specs.Sessions.{cells_text}
 use Rattle.debugger.proofs.HeapText.{first_cell}
-use Rattle.debugger.proofs.answering.heap_answer.Goals as goal
+use Rattle.debugger.proofs.answering.heap_of.Goals as goal
 
 pub loop-number-preserved : goal.loop-number-preserved
 loop-number-preserved c =
