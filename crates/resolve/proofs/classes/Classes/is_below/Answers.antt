@@ -1,7 +1,7 @@
 use Rattle.std.proofs.Common.{◌+◌, length, arith}
 use Rattle.model.specs.Classes.Types.{is_subtype}
 use Rattle.resolve.proofs.TypeLemmas.{below-reported, below-next, below-over}
-use Rattle.resolve.proofs.classes.Classes.is_subtype.Goals as goal
+use Rattle.resolve.proofs.classes.Classes.is_below.Goals as goal
 
 pub returns-in-Reported : goal.returns-in-Reported
 returns-in-Reported c =
