@@ -1,15 +1,14 @@
 //! The class file of a text's tree.
 ghost use Rattle.std.specs.Prelude.{◌≡◌, ◌<◌, ◌^◌, true, IfOk, MatchResult, ⊤};
-ghost use Rattle.std.specs.List.{list_all};
 ghost use Rattle.model.specs.ClassFiles.Listing.{listing_of as file_listing};
-ghost use Rattle.model.specs.Texts.Assembling.{is_countable, assembles};
+ghost use Rattle.model.specs.Texts.Assembling.{assembles};
 ghost use Rattle.model.specs.Texts.Flags.{has};
 ghost use Rattle.model.specs.Texts.ListingOfTree.{listing_of};
 ghost use Rattle.model.specs.Texts.Spelled.{is_spelled};
 ghost use Rattle.assembler.specs.Assembled.{assembled_tree};
-ghost use Rattle.assembler.specs.Checks.{has_few_rows, has_short_lists};
 ghost use Rattle.assembler.specs.declared.error.AsmError.TheVariants as error;
 
+use crate::counts::has_short_lists;
 use crate::error::AsmError;
 use crate::ldc_numbers::used_in_methods;
 use crate::listings::listing;
@@ -18,7 +17,7 @@ use crate::pool_numbers::Numbers;
 use bitflags::Flags;
 use classfile::ClassFile;
 use classfile::flags::SUPER;
-use model::listings::{Listing, Method};
+use model::listings::Listing;
 use model::trees::ClassTree;
 use std::alloc::Global;
 
@@ -65,36 +64,4 @@ fn has_super(listing: &Listing) -> bool
     ensures fits { listing.now.flags.0 < 2 ^ 16 }
 {
     listing.flags.bits() & SUPER != 0
-}
-
-/// Whether a class file can count each list of a listing.
-fn has_short_lists(listing: &Listing) -> bool
-    ensures { result ≡ has_short_lists listing.now }
-{
-    let interfaces = is_countable(listing.interfaces.len());
-    let fields = is_countable(listing.fields.len());
-    let methods = is_countable(listing.methods.len());
-    let rows = have_few_rows(listing.methods.as_slice());
-    interfaces && fields && methods && rows
-}
-
-fn is_countable(count: usize) -> bool
-    ensures { result ≡ is_countable count }
-{
-    count <= 65535
-}
-
-fn have_few_rows(methods: &[Method]) -> bool
-    ensures { result ≡ list_all has_few_rows methods.now }
-{
-    methods.iter().all(|method| has_few_rows(method))
-}
-
-fn has_few_rows(method: &Method) -> bool
-    ensures { result ≡ has_few_rows method.now }
-{
-    match &method.code {
-        None => true,
-        Some(code) => code.rows.len() <= 65535,
-    }
 }

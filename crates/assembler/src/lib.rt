@@ -3,6 +3,7 @@
 
 mod assembling;
 mod checks;
+mod counts;
 mod error;
 mod instructions;
 mod labels;

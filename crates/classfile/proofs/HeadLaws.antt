@@ -56,7 +56,7 @@ opening_takes bytes x fits e =
     ∙ ap (λ (t : List ℕ). u4 0xcafebabe ++ (u2 0 ++ t)) major in
     subst (λ (t : List ℕ). Takes bytes opening t) end (subst (λ (t : List ℕ). Takes bytes t c.0.1) spelled whole)
 
-opening_again : (rest : List ℕ) → opening_from (opening ++ rest) ≡ Ok (49, rest)
+pub opening_again : (rest : List ℕ) → opening_from (opening ++ rest) ≡ Ok (49, rest)
 unfolding opening_from
 opening_again rest =
     let one = number_again w32 wide32 0xcafebabe (u2 0 ++ (u2 49 ++ rest)) (omega arith) in

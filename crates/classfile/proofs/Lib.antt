@@ -7,6 +7,7 @@ pub mod HeadLaws
 pub mod InstructionLaws
 pub mod ListLaws
 pub mod ListLoops
+pub mod MadeLaws
 pub mod MethodLaws
 pub mod SkippedLaws
 pub mod SoundLaws

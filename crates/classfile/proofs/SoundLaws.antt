@@ -37,7 +37,7 @@ use Rattle.classfile.proofs.FieldLaws.{passed_text}
 use Rattle.classfile.proofs.MethodLaws as methods
 use Rattle.classfile.proofs.MethodLaws.{method_written}
 
-and_both : (a b : Bool) → (a && b) ≡ true → (a ≡ true) × (b ≡ true)
+pub and_both : (a b : Bool) → (a && b) ≡ true → (a ≡ true) × (b ≡ true)
 and_both true b e = (refl, e)
 and_both false b e = absurd cc
 

@@ -1,9 +1,14 @@
 //! Class files, whole.
 
-ghost use Rattle.std.specs.Prelude.{◌≡◌, ◌↔◌, ◌++◌, ◌<◌, ◌^◌, ℕ, List, length, true, IfOk, IfErr, OnOk, MatchResult};
-ghost use Rattle.std.specs.List.{flat_map, AllByRecursion};
+ghost use Rattle.std.specs.Prelude.{◌≡◌, ◌↔◌, ◌++◌, ◌<◌, ◌^◌, ℕ, List, None, length, true, false, IfOk, IfErr, OnOk};
+ghost use Rattle.std.specs.Prelude.{MatchResult};
+ghost use Rattle.std.specs.List.{flat_map, list_all, AllByRecursion};
+ghost use Rattle.std.specs.Option.{IfSome};
 ghost use Rattle.model.specs.ClassFiles.Classes.{ClassPart, IsClassFile};
+ghost use Rattle.model.specs.ClassFiles.Pools.{PoolFits};
+ghost use Rattle.model.specs.ClassFiles.References.{AreSound};
 ghost use Rattle.classfile.specs.Classes.{IsClass};
+ghost use Rattle.classfile.specs.Made.{IsRefused, file_bytes, lists_are_countable, method_is_countable};
 ghost use Rattle.classfile.specs.declared.error.ClassError.TheVariants as error;
 ghost use Rattle.classfile.specs.Reading.Answers.{Answers};
 ghost use Rattle.classfile.specs.Reading.Lists.{repeated, list_from};
@@ -13,7 +18,7 @@ ghost use Rattle.classfile.specs.Writing.{MethodFits, method_bytes, after_head_b
 
 use crate::attributes::skip_attributes;
 use crate::error::ClassError;
-use crate::heads::ClassHead;
+use crate::heads::{ClassHead, Parts, put_parts};
 use crate::methods::{MethodEntry, method_of, put_method};
 use crate::sound_fields::{both, is_count};
 use crate::sound_methods::methods_stand;
@@ -109,6 +114,8 @@ pub fn read(alloc: Global, bytes: &[u8]) -> Result<ClassFile, ClassError>
     ensures found { IfOk result (IsClassFile bytes.now) }
     // What is a class file is read, unless memory runs out.
     ensures only { (c : ClassPart) → IsClassFile bytes.now c → MatchResult result (λ x. x ≡ c) (λ e. e ≡ error.Memory) }
+    // Which fault it is, but for which one of code.
+    ensures exact { Answers (λ x. x) result (file_from bytes.now) }
 {
     let (head, methods) = parts_of(alloc, bytes)?;
     Ok(ClassFile { head, methods })
@@ -166,6 +173,72 @@ pub fn one_class_file()
     ensures { (bytes : List ℕ) (a b : ClassPart) → IsClassFile bytes a → IsClassFile bytes b → a ≡ b }
 {}
 
+/// Whether a class file can count the bytes and the exception rows of a method's code.
+fn method_is_countable(method: &MethodEntry) -> bool
+    ensures { result ≡ method_is_countable method.now }
+{
+    match &method.code {
+        None => true,
+        Some(code) => {
+            is_count(code.instructions.bytes().len()) && is_count(code.rows.as_slice().len())
+        }
+    }
+}
+
+fn methods_are_countable(methods: &[MethodEntry]) -> bool
+    ensures { result ≡ list_all method_is_countable methods.now }
+{
+    methods.iter().all(|method| method_is_countable(method))
+}
+
+/// Whether a class file can count each list of these parts and methods.
+fn lists_are_countable(parts: &Parts, methods: &[MethodEntry]) -> bool
+    ensures { result ≡ lists_are_countable (record { head = parts.now; methods = methods.now }) }
+{
+    let interfaces = is_count(parts.interfaces.as_slice().len());
+    let fields = is_count(parts.fields.as_slice().len());
+    let count = is_count(methods.len());
+    interfaces && (fields && (count && methods_are_countable(methods)))
+}
+
+/// The bytes of parts and methods, whatever is wrong with them; `None` where a class file can't count one of their
+/// lists. `AllocError` where memory runs out.
+fn bytes_of(
+    alloc: Global,
+    parts: &Parts,
+    methods: &[MethodEntry],
+) -> Result<Option<Vec<u8>>, AllocError>
+    ensures none { IfOk result (λ bytes. bytes ≡ None
+        → lists_are_countable (record { head = parts.now; methods = methods.now }) ≡ false) }
+    ensures some { IfOk result (λ bytes. IfSome bytes (λ bytes. bytes.items
+        ≡ file_bytes (record { head = parts.now; methods = methods.now }))) }
+{
+    if lists_are_countable(parts, methods) {
+        let mut bytes = Vec::new(alloc);
+        put_parts(&mut bytes, parts)?;
+        put_after_head(&mut bytes, methods)?;
+        Ok(Some(bytes))
+    } else {
+        Ok(None)
+    }
+}
+
+/// Why there is no class file of parts and methods: the fault with which their bytes are refused when they are read.
+/// C8 where they have no bytes, or those of another class file, since an attribute doesn't count under its name.
+fn refusal(alloc: Global, parts: &Parts, methods: &[MethodEntry]) -> ClassError
+    ensures { IsRefused (record { head = parts.now; methods = methods.now }) result }
+{
+    let bytes = match bytes_of(alloc, parts, methods) {
+        Ok(Some(bytes)) => bytes,
+        Ok(None) => return ClassError::Format(FormatFault::Attribute),
+        Err(_) => return ClassError::Memory,
+    };
+    match parts_of(alloc, &bytes) {
+        Ok(_) => ClassError::Format(FormatFault::Attribute),
+        Err(error) => error,
+    }
+}
+
 /// Whether a head and methods are those of some class file.
 fn class_stands(
     alloc: Global,
@@ -179,19 +252,26 @@ fn class_stands(
 }
 
 impl ClassFile {
-    /// The class file of a head and methods. C8 where one of them is none of such a class, or they are more than
-    /// 65,535. C10 where memory runs out.
+    /// The class file of parts and methods. Where there is none, they are refused as their bytes are when they are
+    /// read. C10 where memory runs out.
     pub(crate) fn of(
         alloc: Global,
-        head: ClassHead,
+        parts: Parts,
         methods: Vec<MethodEntry>,
     ) -> Result<ClassFile, ClassError>
-        ensures made { IfOk result (λ file. file ≡ record { head = head; methods = methods.items }) }
-        ensures only { IfErr result (λ e. IsClass (record { head = head; methods = methods.items })
+        requires fits { PoolFits parts.pool }
+        requires sound { AreSound parts.pool }
+        ensures made { IfOk result (λ file. file ≡ record { head = parts; methods = methods.items }) }
+        ensures only { IfErr result (λ e. IsClass (record { head = parts; methods = methods.items })
             → e ≡ error.Memory) }
+        ensures refused { IfErr result (λ e. IsRefused (record { head = parts; methods = methods.items }) e) }
     {
+        let head = match ClassHead::of(parts) {
+            Ok(head) => head,
+            Err(parts) => return Err(refusal(alloc, &parts, methods.as_slice())),
+        };
         if !class_stands(alloc, &head, methods.as_slice())? {
-            return Err(ClassError::Format(FormatFault::Attribute));
+            return Err(refusal(alloc, head.parts(), methods.as_slice()));
         }
         Ok(ClassFile { head, methods })
     }

@@ -1,6 +1,6 @@
 //! A class file up to its methods.
 
-ghost use Rattle.std.specs.Prelude.{◌≡◌, ◌↔◌, ◌++◌, ◌<◌, ◌^◌, ℕ, List, length, true, Ok, IfOk, OnOk, is_ok};
+ghost use Rattle.std.specs.Prelude.{◌≡◌, ◌↔◌, ◌++◌, ◌<◌, ◌^◌, ℕ, List, length, true, Ok, IfOk, IfErr, OnOk, is_ok};
 ghost use Rattle.std.specs.List.{flat_map, AllByRecursion};
 ghost use Rattle.model.specs.ClassFiles.Numbers.{u2};
 ghost use Rattle.model.specs.ClassFiles.Fields.{field_bytes};
@@ -11,16 +11,17 @@ ghost use Rattle.model.specs.ClassFiles.References.{AreSound};
 ghost use Rattle.pool.specs.Reading.Steps.{Gives};
 ghost use Rattle.classfile.specs.Reading.Fields.{field_from};
 ghost use Rattle.classfile.specs.Reading.Lists.{repeated, list_from};
-ghost use Rattle.classfile.specs.Reading.Heads.{opening_from, class_flags_from, class_from, after_from, head_from};
+ghost use Rattle.classfile.specs.Reading.Heads.{class_flags_from, class_from, after_from, head_from};
 ghost use Rattle.classfile.specs.Sound.{ClassStands};
 
 use crate::fields::{field_of, put_field};
 use crate::flags::{ABSTRACT, FINAL, INTERFACE, OF_NO_CLASS};
+use crate::opening::opening_of;
 use crate::sound_fields::{both, fields_stand, is_count};
 use bitflags::Flags;
 use model::class_files::{FieldEntry, FormatFault};
 use model::flags::ClassFlags;
-use pool::fields::{u16_at, u32_at};
+use pool::fields::u16_at;
 use pool::{Pool, ReadError};
 use std::alloc::{AllocError, Global};
 use std::marker::Model;
@@ -49,26 +50,6 @@ impl Model for Parts {
       interfaces = a.interfaces.items;
       fields = a.fields.items;
     } };
-}
-
-/// The magic number and the version. C3 where they are cut short, C1 and C2 where they are others.
-#[tactic(auto, unfolding(crate::specs::Reading::Heads::opening_from))]
-fn opening_of(bytes: &[u8]) -> Result<(u16, &[u8]), ReadError>
-    ensures { Gives (λ x. (x.0, x.1.now)) result (opening_from bytes.now) }
-{
-    let (magic, rest) = u32_at(bytes)?;
-    if magic != 0xcafe_babe {
-        return Err(ReadError::Format(FormatFault::Magic));
-    }
-    let (minor, rest) = u16_at(rest)?;
-    if minor != 0 {
-        return Err(ReadError::Format(FormatFault::Version));
-    }
-    let (major, rest) = u16_at(rest)?;
-    if major != 49 {
-        return Err(ReadError::Format(FormatFault::Version));
-    }
-    Ok((major, rest))
 }
 
 /// Whether a class may have these flags.
@@ -263,22 +244,6 @@ fn head_stands(parts: &Parts) -> bool
     both(itself, both(others, members))
 }
 
-/// Which fault parts have that are those of no class file: C11 where the flags don't go together, C6 where a number
-/// isn't that of a class that is no array, C8 where a list is too long or a field is none.
-fn head_fault(parts: &Parts) -> FormatFault {
-    let pool = &parts.pool;
-    if !are_class_flags(parts.flags.bits()) {
-        FormatFault::Flags
-    } else if class_stands(pool, parts.class)
-        && class_stands(pool, parts.superclass)
-        && classes_stand(pool, parts.interfaces.as_slice())
-    {
-        FormatFault::Attribute
-    } else {
-        FormatFault::Index
-    }
-}
-
 /// A class file up to its methods (JVMS 4.1). A contract sees its parts, which are those of some class file.
 #[derive(Drop)]
 pub struct ClassHead {
@@ -311,17 +276,25 @@ impl ClassHead {
         Ok((ClassHead { parts }, rest))
     }
 
-    /// The head of these parts. C6, C8 or C11 where they aren't those of a class file.
-    pub(crate) fn of(parts: Parts) -> Result<ClassHead, FormatFault>
+    /// The head of these parts; where they aren't those of a class file, they are given back.
+    pub(crate) fn of(parts: Parts) -> Result<ClassHead, Parts>
         requires fits { PoolFits parts.pool }
         requires sound { AreSound parts.pool }
         ensures made { IfOk result (λ head. head ≡ parts) }
-        ensures only { IsHead parts → is_ok result ≡ true }
+        ensures only { IfErr result (λ same. same ≡ parts) }
+        ensures none { IsHead parts → is_ok result ≡ true }
     {
         if !head_stands(&parts) {
-            return Err(head_fault(&parts));
+            return Err(parts);
         }
         Ok(ClassHead { parts })
+    }
+
+    /// The parts.
+    pub(crate) fn parts(&self) -> &Parts
+        ensures { result.now ≡ self.now }
+    {
+        &self.parts
     }
 
     /// The constant pool.
@@ -420,7 +393,7 @@ fn put_after(out: &mut Vec<u8>, parts: &Parts) -> Result<(), AllocError>
 }
 
 /// Writes a head at the end.
-fn put_parts(out: &mut Vec<u8>, parts: &Parts) -> Result<(), AllocError>
+pub fn put_parts(out: &mut Vec<u8>, parts: &Parts) -> Result<(), AllocError>
     requires interfaces { length parts.now.interfaces < 2 ^ 16 }
     requires fields { length parts.now.fields < 2 ^ 16 }
     ensures { OnOk result (out.new.items ≡ out.old.items ++ head_bytes parts.now) }

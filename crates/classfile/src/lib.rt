@@ -16,6 +16,7 @@ mod listings;
 mod made;
 mod mapping;
 mod methods;
+mod opening;
 mod operands;
 mod sound_fields;
 mod sound_methods;

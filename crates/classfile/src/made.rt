@@ -1,13 +1,13 @@
 //! The class file of a pool's entries and of what stands beside them.
 
-ghost use Rattle.std.specs.Prelude.{◌≡◌, IfOk, MatchResult};
+ghost use Rattle.std.specs.Prelude.{◌≡◌, IfOk, IfErr, MatchResult};
 ghost use Rattle.classfile.specs.Classes.{IsClass};
-ghost use Rattle.classfile.specs.Made.{made};
+ghost use Rattle.classfile.specs.Made.{IsRefused, made};
 ghost use Rattle.classfile.specs.declared.error.ClassError.TheVariants as error;
 
 use crate::error::ClassError;
 use crate::files::ClassFile;
-use crate::heads::{ClassHead, Parts};
+use crate::heads::Parts;
 use crate::methods::MethodEntry;
 use model::class_files::FieldEntry;
 use model::flags::ClassFlags;
@@ -43,16 +43,18 @@ impl Model for Body {
 }
 
 impl ClassFile {
-    /// The class file of the pool's entries and the body. Refused where the format refuses such parts: C7 where a text
-    /// of the pool can't be written, C6 or C7 for what entries name, then C11 where the class's flags don't go
-    /// together, C6 where a number isn't that of a class that is no array, and C8 where a field or a method isn't one
-    /// of such a class, or they or the interfaces are more than 65,535. C10 where memory runs out.
+    /// The class file of the pool's entries and the body. Parts of no class file are refused as `read` refuses their
+    /// bytes. C7 where a text of the pool can't be written, and C8 where a class file can't count a list of the parts,
+    /// or where an attribute's name is that of another one, under which `read` finds another class file. C10 where
+    /// memory runs out.
     pub fn new(alloc: Global, pool: PoolBuilder, body: Body) -> Result<ClassFile, ClassError>
         // The class file has the entries and the body.
         ensures made { IfOk result (λ file. file ≡ made pool body) }
         // What bytes could be those of is made, unless memory runs out.
         ensures only { IsClass (made pool body)
             → MatchResult result (λ file. file ≡ made pool body) (λ e. e ≡ error.Memory) }
+        // What isn't made is refused as its bytes are.
+        ensures refused { IfErr result (λ e. IsRefused (made pool body) e) }
     {
         let Body {
             flags,
@@ -62,18 +64,18 @@ impl ClassFile {
             fields,
             methods,
         } = body;
+        let pool = match pool.finish() {
+            Ok(pool) => pool,
+            Err(error) => return Err(ClassError::from(error)),
+        };
         let parts = Parts {
-            pool: pool.finish()?,
+            pool,
             flags,
             class,
             superclass,
             interfaces,
             fields,
         };
-        let head = match ClassHead::of(parts) {
-            Ok(head) => head,
-            Err(fault) => return Err(ClassError::Format(fault)),
-        };
-        ClassFile::of(alloc, head, methods)
+        ClassFile::of(alloc, parts, methods)
     }
 }

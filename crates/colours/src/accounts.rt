@@ -301,9 +301,9 @@ impl Account {
         self.free.give(shape, cell);
     }
 
-    /// A black cell turns white.
+    /// The black cell of a birth turns white.
     #[inline(always)]
-    fn whiten(&mut self, cell: u32, birth: u32)
+    pub fn whiten(&mut self, cell: u32, birth: u32)
         requires { cell_at self.old.cells cell ≡ Taken birth Black }
         ensures { self.new ≡ with_cell self.old cell (Taken birth White) }
     {

@@ -4,29 +4,37 @@ ghost use Rattle.std.specs.Prelude.{◌≡◌};
 ghost use Rattle.jasmin.specs.declared.errors.Fault.TheVariants.{Memory};
 
 use std::alloc::{AllocError, AllocFailed};
-use std::error::Error;
-use std::fmt;
+use thiserror::Error;
 
-/// What is wrong with a line of a text.
-#[derive(Clone, Copy, Debug, PartialEq, Eq)]
+/// What is wrong with a line of a text. `Display` writes the code that users see.
+#[derive(Clone, Copy, Debug, PartialEq, Eq, Error)]
 pub enum Fault {
-    /// J1: a directive that is unknown, or a statement that is out of order or missing.
+    /// A directive that is unknown, or a statement that is out of order or missing.
+    #[error("J1")]
     Statement,
-    /// J2: an unknown mnemonic.
+    /// An unknown mnemonic.
+    #[error("J2")]
     Mnemonic,
-    /// J3: a wrong operand or form.
+    /// A wrong operand or form.
+    #[error("J3")]
     Operand,
-    /// J4: a number out of its range.
+    /// A number out of its range.
+    #[error("J4")]
     Range,
-    /// J5: a label that is given twice, or used and not given.
+    /// A label that is given twice, or used and not given.
+    #[error("J5")]
     Label,
-    /// J6: a method without its `.end method`.
+    /// A method without its `.end method`.
+    #[error("J6")]
     End,
-    /// J7: a method without one of its limits.
+    /// A method without one of its limits.
+    #[error("J7")]
     Limit,
-    /// J8: a byte that may not stand in a text.
+    /// A byte that may not stand in a text.
+    #[error("J8")]
     Byte,
-    /// J9: memory ran out.
+    /// Memory ran out.
+    #[error("J9")]
     Memory,
 }
 
@@ -64,18 +72,9 @@ impl<T: Drop> From<AllocFailed<T>> for Fault {
 
 /// Why a text was refused: the least line that is at fault, counted from 1, and the first of its faults by number.
 /// What is missing at the end is reported at the number of lines plus 1.
-#[derive(Clone, Copy, Debug, PartialEq, Eq)]
+#[derive(Clone, Copy, Debug, PartialEq, Eq, Error)]
+#[error("{fault} at line {line}")]
 pub struct TextError {
     pub line: usize,
     pub fault: Fault,
 }
-
-impl fmt::Display for TextError {
-    fn fmt<W: fmt::Write>(&self, f: &mut fmt::Formatter<W>) -> fmt::Result {
-        let number = self.fault.number();
-        let line = self.line;
-        write!(f, "J{number} at line {line}")
-    }
-}
-
-impl Error for TextError {}

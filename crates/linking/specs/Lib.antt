@@ -20,3 +20,4 @@ pub mod Selectors
 pub mod StaticSlots
 pub mod Storages
 pub mod Tables
+pub mod Widths

@@ -1,8 +1,9 @@
 //! The numbers of types that instructions name (JVMS 4.4.1).
-ghost use Rattle.std.specs.Prelude.{◌≡◌, IfOk};
+ghost use Rattle.std.specs.Prelude.{◌≡◌, false, MatchResult};
 ghost use Rattle.model.specs.Classes.Types.{dimensions};
 ghost use Rattle.resolve.specs.Elements.{shown};
 ghost use Rattle.linking.specs.ResolvedOperations.{counted_dimensions, element_number, last_element, type_of};
+ghost use Rattle.linking.specs.Widths.{type_fits};
 
 use crate::narrowing::narrow;
 use crate::operations::TypeNumber;
@@ -55,9 +56,10 @@ fn counted_dimensions(dimensions: usize) -> u16
     u16::try_from(dimensions).unwrap_or(u16::MAX)
 }
 
-/// The numbers of a type; `None` where no class has the name. `AllocError` where a number is past its width.
+/// The numbers of a type; `None` where no class has the name. `AllocError` exactly where a number is past its width.
 pub fn type_number(classes: &Classes<'_>, name: &[u8]) -> Result<Option<TypeNumber>, AllocError>
-    ensures { IfOk result (λ type. type ≡ type_of classes.now name.now) }
+    ensures { MatchResult result (λ type. type ≡ type_of classes.now name.now)
+        (λ _. type_fits (type_of classes.now name.now) ≡ false) }
 {
     let dimensions = dimensions(name);
     match last_element(classes, dimensions, name) {

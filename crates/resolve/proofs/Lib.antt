@@ -13,4 +13,5 @@ pub mod NumberLemmas
 pub mod SearchLemmas
 pub mod SpecialLemmas
 pub mod SubclassLemmas
+pub mod SubtypeLemmas
 pub mod TypeLemmas

@@ -9,4 +9,5 @@ pub mod Members
 pub mod Numbers
 pub mod Reached
 pub mod Settled
+pub mod Subtypes
 pub mod Tables

@@ -1,8 +1,9 @@
 //! The classes of a program by their names, the machine's own among them (JVMS 5.3, 5.4.3).
-ghost use Rattle.std.specs.Prelude.{◌≡◌, ◌<◌, length, slice_get, IfOk, IfSome, None, Some};
+ghost use Rattle.std.specs.Prelude.{◌≡◌, ◌↔◌, ◌<◌, length, slice_get, true, IfOk, IfSome, None, Some};
 ghost use Rattle.std.specs.Option.{option_and_then, option_copied, option_map};
 ghost use Rattle.std.specs.List.{find};
 ghost use Rattle.model.specs.Classes.Named.{is_named, class_named, listed};
+ghost use Rattle.model.specs.Classes.Subclass.{Subclass};
 ghost use Rattle.model.specs.Classes.Subclasses.{enough_steps, is_subclass};
 ghost use Rattle.model.specs.Classes.Builtin.{builtin_classes};
 ghost use Rattle.resolve.specs.Above.{AreAbove};
@@ -220,7 +221,9 @@ impl<'a> Classes<'a> {
 
     /// Whether a class is another's subclass: the same, or below it through superclasses and superinterfaces.
     pub fn is_subclass(&self, name: &[u8], above: &[u8]) -> bool
-        ensures { result ≡ is_subclass self.now name.now above.now }
+        ensures test { result ≡ is_subclass self.now name.now above.now }
+        // That is the least reflexive and transitive relation with these pairs.
+        ensures least { (result ≡ true) ↔ Subclass self.now name.now above.now }
     {
         is_subclass(&self.index, &self.above, name, above)
     }

@@ -1,9 +1,10 @@
 //! Types that instructions name: a class by its name, an array by its descriptor (JVMS 4.4.1).
-ghost use Rattle.std.specs.Prelude.{◌≡◌, ℕ, List, Bool, Some, codes};
+ghost use Rattle.std.specs.Prelude.{◌≡◌, ◌↔◌, ℕ, List, Bool, true, Some, codes};
 ghost use Rattle.std.specs.Str.{bytes_eq};
 ghost use Rattle.model.specs.Classes.Subclasses.{is_subclass};
 ghost use Rattle.model.specs.Classes.Types.{described, element_of, is_type, is_subtype, types_compare};
 ghost use Rattle.resolve.specs.Elements.{shown, reported};
+ghost use Rattle.resolve.specs.Subtypes.{Subtype};
 
 use crate::classes::Classes;
 
@@ -97,6 +98,15 @@ impl<'a> Classes<'a> {
     /// Whether a type is another's subclass (JVMS 6.5, instanceof): a class by what is above it; an array is one of
     /// Object, of arrays of the same numbers, and of arrays of what its elements are subclasses of.
     pub fn is_subtype(&self, name: &[u8], above: &[u8]) -> bool
+        ensures test { result ≡ is_subtype self.now name.now above.now }
+        // That is the least relation with these pairs.
+        ensures least { (result ≡ true) ↔ Subtype self.now name.now above.now }
+    {
+        self.is_below(name, above)
+    }
+
+    /// The same, element by element.
+    fn is_below(&self, name: &[u8], above: &[u8]) -> bool
         ensures { result ≡ is_subtype self.now name.now above.now }
     {
         let mut lower = name;

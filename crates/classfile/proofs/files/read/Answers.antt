@@ -25,3 +25,7 @@ returns-clause-found c = file_is c.args.bytes.now (record {
 pub returns-clause-only : goal.returns-clause-only
 returns-clause-only c = λ file is. ok_is (record { head = c.in_ok-head.head; methods = c.in_ok-head.methods.items })
     file (sym c.in_ok-head.ensures ∙ file_again c.args.bytes.now file is)
+
+pub returns-in_err-head-clause-exact : goal.returns-in_err-head-clause-exact
+returns-in_err-head-clause-exact c =
+    let p = err_from_is_err_and c.from_residual.result c.from_residual.ensures.1 in rw (p.1, p.2) c.in_err-head.ensures
