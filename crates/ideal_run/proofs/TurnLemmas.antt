@@ -43,7 +43,7 @@ plain-prints (Faults fault) = refl
 plain-prints Waits = refl
 
 module _ (program : List ClassListing) (limits : Limits) (w : World) where
-  plain-effect : (t : ℕ) (choice : Choice) (c : Completion) → (effect_of program w t choice (plainly c)).after
+  pub plain-effect : (t : ℕ) (choice : Choice) (c : Completion) → (effect_of program w t choice (plainly c)).after
       ≡ (effect_of program w t choice c).after
   plain-effect t choice (Goes after writes) = refl
   plain-effect t choice (Prints after bytes) = refl
@@ -56,7 +56,7 @@ module _ (program : List ClassListing) (limits : Limits) (w : World) where
 
   -- ---- the rules before a thread's
 
-  refusal-is : (actor : Actor) (fault : Option (Fault × ℕ)) → w.fault ≡ fault → refusal program limits w actor
+  pub refusal-is : (actor : Actor) (fault : Option (Fault × ℕ)) → w.fault ≡ fault → refusal program limits w actor
       ≡ refusal_after program limits w actor fault
   unfolding refusal
   refusal-is actor fault is = ap (refusal_after program limits w actor) is
@@ -88,7 +88,7 @@ module _ (program : List ClassListing) (limits : Limits) (w : World) where
 
   -- ---- a thread's
 
-  abbrev answer : Bool → Bool → Option Turn
+  abbrev pub answer : Bool → Bool → Option Turn
   answer ready over = if ready then (if over then Some OutputFull else None) else Some NotReady
 
   ready-is : (t : ℕ) (live wait : Bool) → w.fault ≡ None → is_live w t ≡ live → waits (completion program w t) ≡ wait
@@ -98,15 +98,22 @@ module _ (program : List ClassListing) (limits : Limits) (w : World) where
       ∙ (ap (λ (b : Bool). true && b && not (waits (completion program w t))) is
       ∙ ap (λ (b : Bool). live && not b) waiting)
 
+  pub thread-refusal : (t : ℕ) (live wait over : Bool) → w.fault ≡ None → w.rows < limits.steps → is_live w t ≡ live
+      → waits (completion program w t) ≡ wait → passes limits.output w.output (prints (completion program w t)) ≡ over
+      → refusal program limits w (Thread t) ≡ answer (live && not wait) over
+  thread-refusal t live wait over clean more is waiting passing =
+      actor-is (Thread t) clean more
+      ∙ (ap (λ (b : Bool). answer b (overflows program limits w t)) (ready-is t live wait clean is waiting)
+      ∙ ap (answer (live && not wait)) passing)
+
   thread-is : (t : ℕ) (choice : Choice) (live wait over : Bool) → w.fault ≡ None → w.rows < limits.steps → is_live w t
       ≡ live → waits (completion program w t) ≡ wait → passes limits.output w.output (prints (completion program w t))
       ≡ over
       → ideal_step program limits w (Thread t) choice
       ≡ unless_refused program w (Thread t) choice (answer (live && not wait) over)
   thread-is t choice live wait over clean more is waiting passing =
-      step-by (Thread t) choice (answer (live && not wait) over) (actor-is (Thread t) clean more
-      ∙ (ap (λ (b : Bool). answer b (overflows program limits w t)) (ready-is t live wait clean is waiting)
-      ∙ ap (answer (live && not wait)) passing))
+      step-by (Thread t) choice (answer (live && not wait) over)
+      (thread-refusal t live wait over clean more is waiting passing)
 
   pub turn-dead : (t : ℕ) (choice : Choice) → w.fault ≡ None → w.rows < limits.steps → false ≡ is_live w t
       → w ≡ ideal_step program limits w (Thread t) choice
@@ -116,10 +123,10 @@ module _ (program : List ClassListing) (limits : Limits) (w : World) where
 
   module _ (t : ℕ) (choice : Choice) (c : Completion) (clean : w.fault ≡ None) (more : w.rows < limits.steps)
       (live : true ≡ is_live w t) (is : c ≡ plainly (completion program w t)) where
-    waits-is : waits c ≡ waits (completion program w t)
+    pub waits-is : waits c ≡ waits (completion program w t)
     waits-is = ap waits is ∙ plain-waits (completion program w t)
 
-    passes-is : passes limits.output w.output (prints c)
+    pub passes-is : passes limits.output w.output (prints c)
         ≡ passes limits.output w.output (prints (completion program w t))
     passes-is = ap (passes limits.output w.output) (ap prints is ∙ plain-prints (completion program w t))
 

@@ -10,6 +10,7 @@ pub mod Rooms
 pub mod Runs
 pub mod Started
 pub mod Steps
+pub mod Successors
 pub mod Threads
 pub mod Reported
 pub mod Ways

@@ -37,7 +37,7 @@ impl<'a> Model for Ideal<'a> {
 }
 
 /// Whether a completion refuses the turn of a thread that lives: it waits, or prints more than the output has room for.
-fn is_refused(limits: Limits, world: &World, completion: &Completion) -> bool
+pub fn is_refused(limits: Limits, world: &World, completion: &Completion) -> bool
     ensures { (t : ℕ) → result ≡ refuses limits world.now (reported world.now t completion.now) }
 {
     match completion {

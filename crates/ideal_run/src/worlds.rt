@@ -338,6 +338,31 @@ impl World {
         }
     }
 
+    /// A world with other threads, static fields and objects, and all else the same. `AllocError` where memory runs out.
+    pub fn with_parts(
+        &self,
+        alloc: Global,
+        threads: Vec<Thread>,
+        statics: Vec<FieldView>,
+        objects: Vec<ObjectView>,
+    ) -> Result<World, AllocError>
+        ensures { IfOk result (λ world. world ≡ record self.now {
+          threads = threads.items;
+          statics = record { fields = statics.items; states = self.now.statics.states };
+          objects = objects.items;
+        }) }
+    {
+        Ok(World {
+            threads,
+            statics,
+            states: Vec::from_slice(alloc, &self.states)?,
+            output: Vec::from_slice(alloc, &self.output)?,
+            objects,
+            fault: self.fault,
+            rows: self.rows,
+        })
+    }
+
     /// The threads that were started, in order.
     pub fn threads(&self) -> &[Thread]
         ensures { result.now ≡ self.now.threads }

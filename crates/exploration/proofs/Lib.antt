@@ -1,0 +1,16 @@
+pub mod CanonicalForms
+pub mod ClosedLists
+pub mod Composition
+pub mod Independence
+pub mod MadeBirths
+pub mod NewBirths
+pub mod Observations
+pub mod Opening
+pub mod Outcomes
+pub mod PlainSteps
+pub mod ReducedRuns
+pub mod ReducedWitnesses
+pub mod RowCounts
+pub mod Search
+pub mod Turns
+pub mod Witnesses

@@ -1,0 +1,456 @@
+use Rattle.std.proofs.Common.{◌≡◌, ◌⊎◌, inl, inr, ◌+◌, ℕ, zero, suc, List, [], ◌∷◌, ◌++◌, length, map, set, slice_get}
+use Rattle.std.proofs.Common.{Bool, true, false, if◌then◌else◌, nat_le, not, is_none, ◌&&◌, ◌||◌, Option, Some, None, refl, sym}
+use Rattle.std.proofs.Common.{◌∙◌, ap, subst, arith}
+use Rattle.std.specs.List.{list_any}
+use Rattle.model.specs.declared.journals.HeapShape.{HeapShape}
+use Rattle.model.specs.declared.journals.Limits.{Limits}
+use Rattle.model.specs.declared.journals.Row.{Row}
+use Rattle.model.specs.declared.turns.Actor.{Actor}
+use Rattle.model.specs.declared.turns.Actor.TheVariants.{Thread as ThreadActor, Collector}
+use Rattle.model.specs.declared.turns.Fault.{Fault}
+use Rattle.model.specs.declared.turns.Turn.{Turn}
+use Rattle.model.specs.declared.turns.Turn.TheVariants.{NotReady, OutputFull, StepLimit}
+use Rattle.model.specs.ClassListings.{ClassListing}
+use Rattle.model.specs.Frames.{Frame}
+use Rattle.model.specs.Worlds.{World, Thread, opening_world, counted, frames_at, frames_of, lives, is_live, with_thread}
+use Rattle.model.specs.Worlds.Thread.{Live, Ended}
+use Rattle.model.specs.Completions.{Completion, waits}
+use Rattle.model.specs.Effects.{Choice}
+use Rattle.model.specs.Effects.Choice.{NewObject, NoRoom}
+use Rattle.model.specs.Results.{Effect}
+use Rattle.model.specs.Observers.{status_in}
+use Rattle.model.specs.Ready.{is_ready, some_is_ready, numbers_from}
+use Rattle.model.specs.Table.Next.{completion, next, asked}
+use Rattle.model.specs.Turns.{refusal, refusal_after, thread_refusal, overflows, ideal_step, unless_refused, choice_by}
+use Rattle.model.specs.Machines.{Machine, opening_machine}
+use Rattle.model.specs.Collector.Runs.{machine_after, moved_by, moved_by_all, advance_if}
+use Rattle.model.proofs.CollectorLemmas.Running.{machine_after-is, unfaulted}
+use Rattle.model.proofs.NextKeeps.{next-choice}
+use Rattle.exploration.specs.Representation.{Represents, Images}
+use Rattle.model.specs.Machines.{row_by}
+use Rattle.exploration.specs.ClosedLists.{IsAmong, Pair, moved_through, ideal_after, PairsFindRoom}
+use Rattle.exploration.specs.ClosedLists.{TurnFindsRoom, ActorsFindRoom}
+use Rattle.exploration.specs.Observations.{end_of, Observed}
+use Rattle.exploration.specs.Reduction.{PlainStep, GoesAhead, IsAheadAmong, ClosedReduced}
+use Rattle.exploration.specs.Reduction.GoesAhead.{stays, steps}
+use Rattle.exploration.specs.ReducedRuns.{ShowsSameEnd, ReducedShowsAll}
+use Rattle.exploration.proofs.Turns.{turn_images}
+use Rattle.exploration.proofs.Composition.{represents_image}
+use Rattle.exploration.proofs.ClosedLists.{same_refusal, missing}
+use Rattle.exploration.proofs.Independence.{with_threads, Near, next_near, refused_near}
+use Rattle.exploration.proofs.PlainSteps.{plain_comes, plain_next, image_ahead}
+use Rattle.exploration.proofs.Observations.{observed_same, status_at}
+
+-- a list that goes ahead by steps to which no schedule matters shows all ends
+
+module _ (program : List ClassListing) where
+  data PlainSteps : List Frame → List Frame → Type 0 where
+    none : (fs : List Frame) → PlainSteps fs fs
+    more : (fs gs ks : List Frame) → PlainStep program fs gs → PlainSteps gs ks → PlainSteps fs ks
+
+  and_then : (fs gs ks : List Frame) → PlainSteps fs gs → PlainStep program gs ks → PlainSteps fs ks
+  and_then fs gs ks (none hs) q = more fs ks ks q (none ks)
+  and_then fs gs ks (more hs is js p r) q = more fs is ks p (and_then is gs ks r q)
+
+  abbrev ThreadAhead : Thread → Thread → Type 0
+  ThreadAhead (Live fs) (Live gs) = PlainSteps fs gs
+  ThreadAhead (Live fs) (Ended b) = ⊥
+  ThreadAhead (Ended a) (Live gs) = ⊥
+  ThreadAhead (Ended a) (Ended b) = a ≡ b
+
+  itself : (x : Thread) → ThreadAhead x x
+  itself (Live fs) = none fs
+  itself (Ended a) = refl
+
+  abbrev R : List Thread → List Thread → Type 0
+  R [] [] = Unit {0}
+  R [] (u ∷ us) = ⊥
+  R (x ∷ ts) [] = ⊥
+  R (x ∷ ts) (u ∷ us) = ThreadAhead x u × R ts us
+
+  all_themselves : (ts : List Thread) → R ts ts
+  all_themselves [] = tt
+  all_themselves (x ∷ ts) = (itself x, all_themselves ts)
+
+  same_length : (ts us : List Thread) → R ts us → length us ≡ length ts
+  same_length [] [] r = refl
+  same_length [] (u ∷ us) r = absurd r
+  same_length (x ∷ ts) [] r = absurd r
+  same_length (x ∷ ts) (u ∷ us) r = ap suc (same_length ts us r.1)
+
+  live_alike : (x u : Thread) → ThreadAhead x u → lives (Some u) ≡ lives (Some x)
+  live_alike (Live fs) (Live gs) r = refl
+  live_alike (Live fs) (Ended b) r = absurd r
+  live_alike (Ended a) (Live gs) r = absurd r
+  live_alike (Ended a) (Ended b) r = refl
+
+  same_lives : (ts us : List Thread) → R ts us → (v : ℕ) → lives (slice_get us v) ≡ lives (slice_get ts v)
+  same_lives [] [] r v = refl
+  same_lives [] (u ∷ us) r v = absurd r
+  same_lives (x ∷ ts) [] r v = absurd r
+  same_lives (x ∷ ts) (u ∷ us) r zero = live_alike x u r.0
+  same_lives (x ∷ ts) (u ∷ us) r (suc v) = same_lives ts us r.1 v
+
+  put : (ts us : List Thread) → R ts us → (k : ℕ) (x : Thread) → R (set ts k x) (set us k x)
+  put [] [] r k x = tt
+  put [] (u ∷ us) r k x = absurd r
+  put (y ∷ ts) [] r k x = absurd r
+  put (y ∷ ts) (u ∷ us) r zero x = (itself x, r.1)
+  put (y ∷ ts) (u ∷ us) r (suc k) x = (r.0, put ts us r.1 k x)
+
+  extend : (ts us : List Thread) → R ts us → (x : Thread) → R (ts ++ x ∷ []) (us ++ x ∷ [])
+  extend [] [] r x = (itself x, tt)
+  extend [] (u ∷ us) r x = absurd r
+  extend (y ∷ ts) [] r x = absurd r
+  extend (y ∷ ts) (u ∷ us) r x = (r.0, extend ts us r.1 x)
+
+  abbrev Far : World → World → Type 0
+  Far w v = Near R same_length same_lives put extend 0 w v
+
+  -- ---- one step more behind
+
+  step_after : (x u : Thread) (gs ks : List Frame) → ThreadAhead x u → u ≡ Live gs → PlainStep program gs ks
+      → ThreadAhead x (Live ks)
+  step_after (Live fs) (Live hs) gs ks r e q = (let s : hs ≡ gs = cc in and_then fs gs ks (subst (PlainSteps fs) s r) q)
+  step_after (Live fs) (Ended b) gs ks r e q = absurd r
+  step_after (Ended a) (Live hs) gs ks r e q = absurd r
+  step_after (Ended a) (Ended b) gs ks r e q = absurd (cc)
+
+  one_after : (ts us : List Thread) → R ts us → (t : ℕ) (gs ks : List Frame) → slice_get us t ≡ Some (Live gs)
+      → PlainStep program gs ks → R ts (set us t (Live ks))
+  one_after [] [] r t gs ks e q = absurd (cc)
+  one_after [] (u ∷ us) r t gs ks e q = absurd r
+  one_after (x ∷ ts) [] r t gs ks e q = absurd r
+  one_after (x ∷ ts) (u ∷ us) r zero gs ks e q = (step_after x u gs ks r.0 (cc) q, r.1)
+  one_after (x ∷ ts) (u ∷ us) r (suc t) gs ks e q = (r.0, one_after ts us r.1 t gs ks e q)
+
+  far_goes : (w v v' : World) → Far w v → GoesAhead program v v' → Far w v'
+  far_goes w v v' f (stays x) = f
+  far_goes w v v' f (steps x y t gs ks live step rest) =
+      let there : slice_get f.threads t ≡ Some (Live gs) = ap (λ (z : World). slice_get z.threads t) (sym f.is) ∙ live in
+      far_goes w (with_thread v t (Live ks)) v' (record {
+        threads = set f.threads t (Live ks);
+        related = one_after w.threads f.threads f.related t gs ks there step;
+        is = ap (λ z. with_thread z t (Live ks)) f.is;
+      }) rest
+
+  -- ---- one step less before: a thread is where it was, or it is ahead
+
+  record Further (ts us : List Thread) (t : ℕ) (fs : List Frame) : Type 0 where
+    after : List Frame
+    step : PlainStep program fs after
+    related : R (set ts t (Live after)) us
+
+  head_look : (x u : Thread) (ts us : List Thread) (fs : List Frame) → ThreadAhead x u → R ts us → x ≡ Live fs
+      → (Some u ≡ Some (Live fs)) ⊎ Further (x ∷ ts) (u ∷ us) 0 fs
+  head_look (Live fs) (Live gs) ts us hs (none ks) r e = inl (ap (λ (y : Thread). Some y) e)
+  head_look (Live fs) (Live gs) ts us hs (more is js ks p q) r e =
+      (let s : fs ≡ hs = cc in inr (record { after = js; step = subst (λ y. PlainStep program y js) s p; related = (q, r) }))
+  head_look (Live fs) (Ended b) ts us hs q r e = absurd q
+  head_look (Ended a) (Live gs) ts us hs q r e = absurd q
+  head_look (Ended a) (Ended b) ts us hs q r e = absurd (cc)
+
+  look : (ts us : List Thread) → R ts us → (t : ℕ) (fs : List Frame) → slice_get ts t ≡ Some (Live fs)
+      → (slice_get us t ≡ Some (Live fs)) ⊎ Further ts us t fs
+  look [] us r t fs e = absurd (cc)
+  look (x ∷ ts) [] r t fs e = absurd r
+  look (x ∷ ts) (u ∷ us) r zero fs e = head_look x u ts us fs r.0 r.1 (cc)
+  look (x ∷ ts) (u ∷ us) r (suc t) fs e = elim (look ts us r.1 t fs e) [
+    | inl s ↦ inl s
+    | inr f ↦ inr (record { after = Further.after f; step = Further.step f; related = (r.0, Further.related f) })
+  ]
+
+  -- ---- what nothing refuses lives
+
+  module _ (limits : Limits) where
+    ready_lives : (x y z : Bool) → (x && y && z) ≡ true → y ≡ true
+    ready_lives true true z e = refl
+    ready_lives true false z e = absurd (cc)
+    ready_lives false y z e = absurd (cc)
+
+    by_ready : (w : World) (t : ℕ) (x : Bool) → is_ready program w t ≡ x
+        → (if x then (if overflows program limits w t then Some OutputFull else None) else Some NotReady) ≡ None
+        → is_ready program w t ≡ true
+    by_ready w t true e k = e
+    by_ready w t false e k = absurd (cc)
+
+    by_limit : (w : World) (t : ℕ) (x : Bool) → (if x then Some StepLimit else thread_refusal program limits w t) ≡ None
+        → thread_refusal program limits w t ≡ None
+    by_limit w t true e = absurd (cc)
+    by_limit w t false e = e
+
+    by_fault : (w : World) (t : ℕ) (o : Option (Fault × ℕ)) → refusal_after program limits w (ThreadActor t) o ≡ None
+        → thread_refusal program limits w t ≡ None
+    by_fault w t (Some fault) e = absurd (cc)
+    by_fault w t None e = by_limit w t (nat_le limits.steps w.rows) e
+
+    not_refused : (w : World) (t : ℕ) → refusal program limits w (ThreadActor t) ≡ None
+        → thread_refusal program limits w t ≡ None
+    unfolding refusal
+    not_refused w t e = by_fault w t w.fault e
+
+    live_frames : (o : Option Thread) → lives o ≡ true → (fs : List Frame) × (o ≡ Some (Live fs))
+    live_frames None e = absurd (cc)
+    live_frames (Some (Live fs)) e = (fs, refl)
+    live_frames (Some (Ended by)) e = absurd (cc)
+
+    live_at : (w : World) (t : ℕ) → refusal program limits w (ThreadActor t) ≡ None
+        → (fs : List Frame) × (slice_get w.threads t ≡ Some (Live fs))
+    live_at w t e = live_frames (slice_get w.threads t) (ready_lives (is_none w.fault) (is_live w t)
+        (not (waits (completion program w t))) (by_ready w t (is_ready program w t) refl (not_refused w t e)))
+
+    -- ---- nothing refuses it in a world that is ahead elsewhere
+
+    no_limit : (s r : ℕ) → nat_le s r ≡ false → nat_le s 0 ≡ false
+    no_limit s r k = grind (arith, k)
+
+    unlimited : (w : World) (us : List Thread) (t : ℕ) → thread_refusal program limits (with_threads us 0 w) t ≡ None
+        → (o : Option (Fault × ℕ)) → refusal_after program limits w (ThreadActor t) o ≡ None
+        → refusal_after program limits (with_threads us 0 w) (ThreadActor t) o ≡ None
+    unlimited w us t k (Some fault) e = absurd (cc)
+    unlimited w us t k None e = go (nat_le limits.steps w.rows) refl e
+      where
+        go : (x : Bool) → nat_le limits.steps w.rows ≡ x
+            → (if x then Some StepLimit else thread_refusal program limits w t) ≡ None
+            → (if nat_le limits.steps 0 then Some StepLimit else thread_refusal program limits (with_threads us 0 w) t)
+            ≡ None
+        go true q e = absurd (cc)
+        go false q e = rw (no_limit limits.steps w.rows q) k
+
+    free_at : (w : World) (us : List Thread) (r : R w.threads us) (t : ℕ)
+        → frames_of (slice_get us t) ≡ frames_at w t → refusal program limits w (ThreadActor t) ≡ None
+        → refusal program limits (with_threads us 0 w) (ThreadActor t) ≡ None
+    unfolding refusal
+    free_at w us r t same e = unlimited w us t
+        (refused_near R same_length same_lives put extend 0 program w us r t same limits ∙ not_refused w t e) w.fault e
+
+    module _ (no_room : Bool) (states : List World) (closed : ClosedReduced program limits no_room states) where
+      -- ---- a world that is ahead is represented
+
+      record AheadAmong (w : World) : Type 0 where
+        world : World
+        far : Far w world
+        among : IsAmong states world
+
+      by_asked : (k : ℕ) (x : World) (t : ℕ) → slice_get states k ≡ Some x → refusal program limits x (ThreadActor t) ≡ None
+          → (choice : Choice) → (no_room ≡ false → choice ≡ NewObject) → (words : Option ℕ) → asked program x t ≡ words
+          → IsAheadAmong program states (next program x t choice).after
+      by_asked k x t there free NewObject room words a = closed.turned k x t there free
+      by_asked k x t there free NoRoom room (Some words) a =
+          closed.without_room (missing no_room room) k x t words there free a
+      by_asked k x t there free NoRoom room None a = subst (λ (f : Effect). IsAheadAmong program states f.after)
+          (next-choice program x t NewObject NoRoom a) (closed.turned k x t there free)
+
+      -- the thread is where it was: the turn is made from the representative
+      where_it_was : (w : World) (t : ℕ) (choice : Choice) → (no_room ≡ false → choice ≡ NewObject)
+          → refusal program limits w (ThreadActor t) ≡ None → (v : World) (f : Far w v) → IsAmong states v → frames_of (slice_get f.threads t) ≡ frames_at w t
+          → AheadAmong (next program w t choice).after
+      where_it_was w t choice room e v f a same =
+          let u = with_threads f.threads 0 w in
+          let x = a.state in
+          let r : Represents x u = subst (Represents x) f.is a.represents in
+          let free : refusal program limits x (ThreadActor t) ≡ None =
+          same_refusal program limits x u r (ThreadActor t) ∙ free_at w f.threads f.related t same e in
+          let z = by_asked a.place x t a.there free choice room (asked program x t) refl in
+          let i : Images (next program x t choice).after (next program u t choice).after =
+          turn_images program x u r t choice (unfaulted program limits w t e) in
+          let k = image_ahead program (next program x t choice).after z.world (next program u t choice).after i z.ahead in
+          record {
+            world = k.world;
+            far = far_goes (next program w t choice).after (next program u t choice).after k.world
+                (next_near R same_length same_lives put extend 0 program w f.threads f.related t same choice) k.ahead;
+            among = record {
+              place = z.among.place;
+              state = z.among.state;
+              there = z.among.there;
+              represents = represents_image z.among.state z.world k.world z.among.represents k.images;
+            };
+          }
+
+      -- the thread is ahead: the world is one step less behind
+      further_on : (w : World) (t : ℕ) (choice : Choice) (v : World) (f : Far w v) → IsAmong states v → (fs : List Frame)
+          → slice_get w.threads t ≡ Some (Live fs) → Further w.threads f.threads t fs
+          → AheadAmong (next program w t choice).after
+      further_on w t choice v f a fs live k =
+          let step = Further.step k in
+          let is : (next program w t choice).after ≡ with_thread w t (Live (Further.after k)) =
+          plain_next program w t fs step.frame step.other live step.runs step.steps choice
+          ∙ ap (λ gs. with_thread w t (Live gs)) (sym step.is) in
+          subst AheadAmong (sym is) (record {
+            world = v;
+            far = record { threads = f.threads; related = Further.related k; is = f.is };
+            among = a;
+          })
+
+      turn_ahead : (w : World) → AheadAmong w → (t : ℕ) (choice : Choice) → (no_room ≡ false → choice ≡ NewObject)
+          → refusal program limits w (ThreadActor t) ≡ None → AheadAmong (next program w t choice).after
+      turn_ahead w a t choice room e =
+          let f = AheadAmong.far a in
+          let live = live_at w t e in
+          elim (look w.threads f.threads f.related t live.0 live.1) [
+            | inl s ↦ where_it_was w t choice room e (AheadAmong.world a) f (AheadAmong.among a)
+                (ap frames_of s ∙ sym (ap frames_of live.1))
+            | inr k ↦ further_on w t choice (AheadAmong.world a) f (AheadAmong.among a) live.0 live.1 k
+          ]
+
+      counted_ahead : (w : World) → AheadAmong w → AheadAmong (counted w)
+      counted_ahead w a = let f = AheadAmong.far a in record {
+        world = AheadAmong.world a;
+        far = record { threads = f.threads; related = f.related; is = f.is };
+        among = AheadAmong.among a;
+      }
+
+      by_refusal : (w : World) → AheadAmong w → (actor : Actor) (choice : Choice)
+          → (no_room ≡ false → choice ≡ NewObject) → (o : Option Turn) → refusal program limits w actor ≡ o
+          → AheadAmong (unless_refused program w actor choice o)
+      by_refusal w a actor choice room (Some refused) e = a
+      by_refusal w a (ThreadActor t) choice room None e = counted_ahead _ (turn_ahead w a t choice room e)
+      by_refusal w a Collector choice room None e = counted_ahead w a
+
+      pair_ahead : (w : World) → AheadAmong w → (actor : Actor) (choice : Choice)
+          → (no_room ≡ false → choice ≡ NewObject) → AheadAmong (ideal_step program limits w actor choice)
+      pair_ahead w a actor choice room = by_refusal w a actor choice room (refusal program limits w actor) refl
+
+      opening_ahead : AheadAmong (opening_world program)
+      opening_ahead =
+          let w = opening_world program in
+          let o = closed.opening in
+          record {
+            world = o.world;
+            far = far_goes w w o.world (record { threads = w.threads; related = all_themselves w.threads; is = refl }) o.ahead;
+            among = o.among;
+          }
+
+      pairs_ahead : (w : World) → AheadAmong w → (pairs : List Pair) → (no_room ≡ false → PairsFindRoom pairs)
+          → AheadAmong (moved_through program limits w pairs)
+      pairs_ahead w a [] room = a
+      pairs_ahead w a (p ∷ ps) room = pairs_ahead (ideal_step program limits w p.actor p.choice)
+          (pair_ahead w a p.actor p.choice (λ k. (room k).0)) ps (λ k. (room k).1)
+
+      if_ahead : (shape : HeapShape) (m : Machine) → AheadAmong m.world → (o : Option Row)
+          → (no_room ≡ false → TurnFindsRoom program m o) → AheadAmong (advance_if program shape limits m o).world
+      if_ahead shape m a None room = a
+      if_ahead shape m a (Some row) room =
+          pair_ahead m.world a row.actor (choice_by program m.world row.actor row.outcome) room
+
+      moved_ahead : (shape : HeapShape) (m : Machine) → AheadAmong m.world → (actor : Actor)
+          → (no_room ≡ false → TurnFindsRoom program m (row_by program limits m actor 0))
+          → AheadAmong (moved_by program shape limits m actor).world
+      unfolding moved_by
+      moved_ahead shape m a actor room = if_ahead shape m a (row_by program limits m actor 0) room
+
+      actors_ahead : (shape : HeapShape) (m : Machine) → AheadAmong m.world → (actors : List Actor)
+          → (no_room ≡ false → ActorsFindRoom program shape limits m actors)
+          → AheadAmong (moved_by_all program shape limits m actors).world
+      actors_ahead shape m a [] room = a
+      actors_ahead shape m a (actor ∷ actors) room = actors_ahead shape (moved_by program shape limits m actor)
+          (moved_ahead shape m a actor (λ k. (room k).0)) actors (λ k. (room k).1)
+
+      machine_ahead : (shape : HeapShape) (actors : List Actor)
+          → (no_room ≡ false → ActorsFindRoom program shape limits (opening_machine program shape) actors)
+          → AheadAmong (machine_after program shape limits actors).world
+      machine_ahead shape actors room = subst (λ (m : Machine). AheadAmong m.world)
+          (sym (machine_after-is program shape limits actors))
+          (actors_ahead shape (opening_machine program shape) opening_ahead actors room)
+
+      -- ---- what is observed
+
+      ends_alike : (x u : Thread) → ThreadAhead x u → end_of u ≡ end_of x
+      ends_alike (Live fs) (Live gs) r = refl
+      ends_alike (Live fs) (Ended b) r = absurd r
+      ends_alike (Ended a) (Live gs) r = absurd r
+      ends_alike (Ended a) (Ended b) r = ap Some (sym r)
+
+      same_ends : (ts us : List Thread) → R ts us → map end_of us ≡ map end_of ts
+      same_ends [] [] r = refl
+      same_ends [] (u ∷ us) r = absurd r
+      same_ends (x ∷ ts) [] r = absurd r
+      same_ends (x ∷ ts) (u ∷ us) r = rw (ends_alike x u r.0, same_ends ts us r.1) refl
+
+      -- where no thread is ready none is ahead
+      first_false : (a b : Bool) → (a || b) ≡ false → a ≡ false
+      first_false true b e = absurd (cc)
+      first_false false b e = refl
+
+      rest_false : (a b : Bool) → (a || b) ≡ false → b ≡ false
+      rest_false true b e = absurd (cc)
+      rest_false false b e = e
+
+      none_of : (f : ℕ → Bool) (n : ℕ) (ts : List Thread) → list_any f (numbers_from n ts) ≡ false → (t : ℕ) (x : Thread)
+          → slice_get ts t ≡ Some x → f (n + t) ≡ false
+      none_of f n [] e t x k = absurd (cc)
+      none_of f n (y ∷ ts) e zero x k =
+          (let s : n + 0 ≡ n = omega arith in rw s (first_false (f n) (list_any f (numbers_from (n + 1) ts)) e))
+      none_of f n (y ∷ ts) e (suc t) x k =
+          (let s : n + suc t ≡ n + 1 + t = omega arith in rw s (none_of f (n + 1) ts
+          (rest_false (f n) (list_any f (numbers_from (n + 1) ts)) e) t x k))
+
+      all_there : (ts us : List Thread) → R ts us
+          → ((t : ℕ) (fs : List Frame) → slice_get ts t ≡ Some (Live fs) → slice_get us t ≡ Some (Live fs)) → us ≡ ts
+      all_there [] [] r k = refl
+      all_there [] (u ∷ us) r k = absurd r
+      all_there (x ∷ ts) [] r k = absurd r
+      all_there (x ∷ ts) (u ∷ us) r k =
+          rw (one x u r.0 (λ fs e. k 0 fs (ap (λ (y : Thread). Some y) e)), all_there ts us r.1 (λ t. k (suc t))) refl
+        where
+          one : (y v : Thread) → ThreadAhead y v → ((fs : List Frame) → y ≡ Live fs → Some v ≡ Some (Live fs)) → v ≡ y
+          one (Live fs) (Live gs) q l = (let s = l fs refl in cc)
+          one (Live fs) (Ended b) q l = absurd q
+          one (Ended a) (Live gs) q l = absurd q
+          one (Ended a) (Ended b) q l = ap Ended (sym q)
+
+      ready_step : (w : World) (t : ℕ) (fs gs : List Frame) → w.fault ≡ None → slice_get w.threads t ≡ Some (Live fs)
+          → PlainStep program fs gs → is_ready program w t ≡ true
+      ready_step w t fs gs clean live step =
+          let c = plain_comes program w t fs step.frame step.other live step.runs step.steps in
+          ap (λ (o : Option (Fault × ℕ)). is_none o && is_live w t && not (waits (completion program w t))) clean
+          ∙ ap (λ (o : Option Thread). lives o && not (waits (completion program w t))) live
+          ∙ ap (λ (k : Completion). not (waits k)) c.1
+
+      both_ways : (b : Bool) → b ≡ true → b ≡ false → ⊥
+      both_ways true e k = cc
+      both_ways false e k = cc
+
+      not_ahead : (w : World) (us : List Thread) → R w.threads us → w.fault ≡ None → some_is_ready program w ≡ false
+          → us ≡ w.threads
+      not_ahead w us r clean e = all_there w.threads us r (λ t fs live. elim (look w.threads us r t fs live) [
+        | inl s ↦ s
+        | inr k ↦ (let yes = ready_step w t fs (Further.after k) clean live (Further.step k) in
+            let no = none_of (is_ready program w) 0 w.threads e t (Live fs) live in
+            let same : 0 + t ≡ t = omega arith in
+            absurd (both_ways (is_ready program w t) yes (subst (λ (k : ℕ). is_ready program w k ≡ false) same no)))
+      ])
+
+      status_alike : (w v : World) (f : Far w v) (o : Option (Fault × ℕ)) → w.fault ≡ o → some_is_ready program w ≡ false
+          → status_in program v ≡ status_in program w
+      status_alike w v f (Some fault) k e =
+          let q : v.fault ≡ Some fault = ap (λ (y : World). y.fault) f.is ∙ k in rw (q, k) refl
+      status_alike w v f None k e =
+          let q = not_ahead w f.threads f.related k e in
+          ap (status_in program) (f.is ∙ ap (λ us. with_threads us 0 w) q) ∙ status_at program w
+
+      shows_end : (w : World) → AheadAmong w → ShowsSameEnd program states w
+      shows_end w a =
+          let v = AheadAmong.world a in
+          let f = AheadAmong.far a in
+          let m = AheadAmong.among a in
+          let t = observed_same program limits m.state v m.represents in
+          record {
+            place = m.place;
+            state = m.state;
+            there = m.there;
+            output = ap (λ (y : Observed). y.output) t ∙ ap (λ (y : World). y.output) f.is;
+            fault = ap (λ (y : Observed). y.fault) t ∙ ap (λ (y : World). y.fault) f.is;
+            ends = ap (λ (y : Observed). y.ends) t ∙ ap (λ (y : World). map end_of y.threads) f.is
+                ∙ same_ends w.threads f.threads f.related;
+            status = λ e. ap (λ (y : Observed). y.status) t ∙ status_alike w v f w.fault refl e;
+          }
+
+pub reduced_shows_all : ReducedShowsAll
+reduced_shows_all program limits no_room states closed = (
+  λ pairs room. shows_end program limits no_room states closed (ideal_after program limits pairs)
+      (pairs_ahead program limits no_room states closed (opening_world program)
+      (opening_ahead program limits no_room states closed) pairs room),
+  λ shape actors room. shows_end program limits no_room states closed (machine_after program shape limits actors).world
+      (machine_ahead program limits no_room states closed shape actors room),
+)

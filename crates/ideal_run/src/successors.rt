@@ -1,0 +1,135 @@
+//! What a thread's turn makes of a world, whichever world it is (JVMS 2.5, 2.6): for those who look at every schedule of
+//! a program.
+ghost use Rattle.std.specs.Prelude.{◌≡◌, ℕ, IfOk, is_some};
+ghost use Rattle.model.specs.Completions.{asks};
+ghost use Rattle.model.specs.Worlds.{opening_world};
+ghost use Rattle.ideal_run.specs.Completed.{reported};
+ghost use Rattle.ideal_run.specs.Effected.{choice_in};
+ghost use Rattle.ideal_run.specs.Successors.{AreTransitions, successor};
+
+use crate::completions::Completion;
+use crate::copies::copy;
+use crate::effects::{Choice, carry_out};
+use crate::ideal::is_refused;
+use crate::opening::opening_world;
+use crate::programs::Program;
+use crate::table::completion;
+use crate::worlds::World;
+use model::journals::Limits;
+use model::listings::Listing;
+use std::alloc::{AllocError, Global};
+use std::marker::Model;
+
+/// The turns of a program's threads under some limits. A contract sees the program and the limits.
+#[derive(Drop)]
+pub struct Transitions<'a> {
+    alloc: Global,
+    program: Program<'a>,
+    limits: Limits,
+}
+
+impl<'a> Model for Transitions<'a> {
+    ghost use Rattle.ideal_run.specs.Successors.{Transitions};
+
+    ghost Value = { Transitions };
+
+    ghost view = { λ a. record { program = a.program; limits = a.limits } };
+}
+
+/// What a turn leaves, its row not counted, and whether it asks for a cell: if it does, the other choice may leave
+/// another world.
+#[derive(Drop)]
+pub struct Successor {
+    pub world: World,
+    pub asks: bool,
+}
+
+impl Model for Successor {
+    ghost use Rattle.ideal_run.specs.Successors.{Successor};
+
+    ghost Value = { Successor };
+
+    ghost view = { λ a. record { world = a.world; asks = a.asks } };
+}
+
+/// Whether a completion asks for a cell.
+fn asks(completion: &Completion) -> bool
+    ensures { (w : World) (t : ℕ) → result ≡ is_some (asks (reported w t completion.now)) }
+{
+    match completion {
+        Completion::Creates(_, _, _) => true,
+        Completion::Raises(_) => true,
+        Completion::Denies(_) => true,
+        Completion::Goes(_, _) => false,
+        Completion::Starts(_, _, _) => false,
+        Completion::Prints(_, _) => false,
+        Completion::Throws(_) => false,
+        Completion::Faults(_) => false,
+        Completion::Waits => false,
+    }
+}
+
+impl<'a> Transitions<'a> {
+    /// The turns of a program. `None` where a superclass or superinterface isn't there, or a class is above itself.
+    /// `AllocError` where memory runs out.
+    pub fn new(
+        alloc: Global,
+        listings: &'a [Listing],
+        limits: Limits,
+    ) -> Result<Option<Transitions<'a>>, AllocError>
+        ensures { IfOk result (λ transitions. AreTransitions listings.now limits transitions) }
+    {
+        match Program::new(alloc, listings)? {
+            None => Ok(None),
+            Some(program) => Ok(Some(Transitions {
+                alloc,
+                program,
+                limits,
+            })),
+        }
+    }
+
+    /// The world before the first turn. `AllocError` where memory runs out.
+    pub fn opening(&self) -> Result<World, AllocError>
+        ensures { IfOk result (λ world. world ≡ opening_world self.now.program) }
+    {
+        opening_world(self.alloc, &self.program)
+    }
+
+    /// What a turn of a thread leaves of a world, which stays as it is; `None` where the turn is refused. `AllocError`
+    /// where memory runs out, or where a number has no room.
+    #[tactic(auto, using(crate::proofs::SuccessorLemmas::successors))]
+    pub fn successor(
+        &self,
+        world: &World,
+        thread: u8,
+        choice: Choice,
+    ) -> Result<Option<Successor>, AllocError>
+        ensures { IfOk result (λ after. after ≡ successor self.now world.now thread (choice_in choice)) }
+    {
+        if world.fault().is_some() {
+            return Ok(None);
+        }
+        if self.limits.steps <= world.rows() {
+            return Ok(None);
+        }
+        if !world.is_live(u32::from(thread)) {
+            return Ok(None);
+        }
+        let completion = completion(self.alloc, &self.program, world, thread)?;
+        if is_refused(self.limits, world, &completion) {
+            return Ok(None);
+        }
+        let asks = asks(&completion);
+        let mut after = copy(self.alloc, world)?;
+        carry_out(
+            &mut after,
+            self.alloc,
+            &self.program,
+            thread,
+            choice,
+            completion,
+        )?;
+        Ok(Some(Successor { world: after, asks }))
+    }
+}
