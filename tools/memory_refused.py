@@ -1,35 +1,58 @@
 #!/usr/bin/env python3
-"""Refuses one request for memory after another, and looks how `jvm` ends: with status 6 and its one line, or as if nothing was.
+"""Refuses requests for memory, one after another, and looks how `jvm` ends: with status 6 and its one line, or as if nothing was.
 
-For each of a few commands the requests of a whole run are counted, and then the command is run once for each of them, with
-that one refused. A run that needs the memory has to say `jvm: memory` and end with 6, having written no file, and no more than a
-beginning of its output; one that doesn't has to do what it does else. For run_examples.py, which reports one result for each
-command. It wants a C compiler, `cc`.
+    tools/memory_refused.py [--jvm PROGRAM] [--all]
+
+The requests of a whole run of a command are counted, and then the command is run twice for each of them:
+
+- **With that one and all after it refused**, it has to say `jvm: memory` and end with 6, having written no file, and no more than a
+  beginning of its output. So no request is made in vain, and no other answer comes in the place of this one.
+- **With that one alone refused**, it has to do the same, or what it does else, by a way that does without: std's `collect` asks for
+  the room that it expects, and where that is refused for as much as it needs; `replay` makes the rows one by one where it has no
+  memory to make them in rounds.
+
+Where threads are started, the request of each start ends with `jvm: no thread`; and so does each start that the system refuses. Of
+commands that begin alike only the first is tried from its first request on, but with --all. Those that fail have to be refused in the
+same way. It wants a C compiler, `cc`. The last line is 'N passed, M failed'. For run_examples.py, too, which gets a result for each command.
 """
+import argparse
 import os
 import subprocess
+import sys
+import tempfile
+from typing import NamedTuple
 
 ROOT = os.path.join(os.path.dirname(os.path.abspath(__file__)), "..")
 EXAMPLES = os.path.join(ROOT, "examples")
+BUILT = os.path.join(ROOT, "crates", "jvm", "out", "jvm")
+LACKS, NO_THREAD = (6, b"jvm: memory\n"), (6, b"jvm: no thread\n")
+# how many of the last requests are tried of a command that begins as another one does: those after its program was loaded
+LAST = 160
 
 # a session of the debugger with answers that take memory, and a breakpoint
 SESSION = b"stack 0\nbreak Square.area()I 0\nrun 5\nobject 3\nheap\nstack 0\nclass Square\nx\nstep 0\ngc\ndelete 0\nquit\n"
 
-# counts requests, refuses the one whose number REFUSED has, and writes the count to the file that COUNTED names
+# counts requests, refuses the one whose number REFUSED has, and where ALL is set those after it too, and writes the count to the file
+# that COUNTED names; and refuses the start of a thread whose number UNSTARTED has
 REFUSER = r"""
 #define _GNU_SOURCE
 #include <dlfcn.h>
 #include <fcntl.h>
+#include <pthread.h>
 #include <stdio.h>
 #include <stdlib.h>
 #include <sys/syscall.h>
 #include <unistd.h>
 
-static unsigned long made, refused;
+static unsigned long made, refused, all, started, unstarted;
+
+static unsigned long number(const char *name) {
+    const char *value = getenv(name);
+    return value ? strtoul(value, 0, 10) : 0;
+}
 
 __attribute__((constructor)) static void begin(void) {
-    const char *number = getenv("REFUSED");
-    refused = number ? strtoul(number, 0, 10) : 0;
+    refused = number("REFUSED"), all = number("ALL"), unstarted = number("UNSTARTED");
     made = 0;
 }
 
@@ -45,7 +68,7 @@ void _exit(int status) {
     for (;;) syscall(SYS_exit_group, status);
 }
 
-#define REFUSES (++made == refused)
+#define REFUSES (++made == refused || (all && refused && made > refused))
 
 void *malloc(size_t size) {
     static void *(*next)(size_t);
@@ -65,6 +88,12 @@ void *aligned_alloc(size_t alignment, size_t size) {
     return REFUSES ? 0 : next(alignment, size);
 }
 
+int pthread_create(pthread_t *thread, const pthread_attr_t *how, void *(*run)(void *), void *with) {
+    static int (*next)(pthread_t *, const pthread_attr_t *, void *(*)(void *), void *);
+    if (!next) next = dlsym(RTLD_NEXT, "pthread_create");
+    return ++started == unstarted ? 11 : next(thread, how, run, with);
+}
+
 int posix_memalign(void **to, size_t alignment, size_t size) {
     static int (*next)(void **, size_t, size_t);
     if (!next) next = dlsym(RTLD_NEXT, "posix_memalign");
@@ -73,42 +102,92 @@ int posix_memalign(void **to, size_t alignment, size_t size) {
 """
 
 
+class Command(NamedTuple):
+    """A command, the files that it writes, what is typed into it, and how many of its last requests are tried: all, where none is told."""
+
+    words: list
+    written: list = []
+    typed: bytes = b""
+    last: int = None
+    carriers: int = 0
+
+
+def put(path, text):
+    with open(path, "w", encoding="ascii") as file:
+        file.write(text)
+    return path
+
+
 def commands(jvm, room):
-    """The commands, each with the files that it writes and what is typed into it."""
+    """The commands."""
     journal, made = f"{room}/journal", f"{room}/Square.class"
     kept, run = f"{room}/kept.class", f"{room}/kept.journal"
     texts = [f"{EXAMPLES}/{name}.j" for name in ("Square", "Shape")]
+    empty, small = f"{EXAMPLES}/E.j", ["--small", "4", "--gc", "0"]
     subprocess.run([jvm, "asm", texts[0], kept], check=False)
     subprocess.run([jvm, "run", "--journal", run, *texts], check=False, stdout=subprocess.DEVNULL)
-    yield [jvm, "run", "--small", "8", "--journal", journal, *texts], [journal], b""
-    yield [jvm, "run", "--small", "4", "--gc", "0", "--check", f"{EXAMPLES}/E.j"], [], b""
-    yield [jvm, "asm", texts[0], made], [made], b""
-    yield [jvm, "dis", kept], [], b""
-    yield [jvm, "replay", run, *texts], [], b""
-    yield [jvm, "upgrade", run, made], [made], b""
-    yield [jvm, "explain"], [], b""
-    yield [jvm, "explain", "J5"], [], b""
-    yield [jvm, "debug", "--small", "8", *texts], [], SESSION
+    yield Command([jvm, "run", "--small", "8", "--journal", journal, *texts], [journal])
+    yield Command([jvm, "run", *small, "--check", empty], last=1600)
+    yield Command([jvm, "run", *small, "--carriers", "4", "--journal", journal, empty], [journal], last=LAST, carriers=4)
+    yield Command([jvm, "asm", texts[0], made], [made])
+    yield Command([jvm, "dis", kept])
+    yield Command([jvm, "replay", run, *texts], last=600)
+    yield Command([jvm, "upgrade", run, made], [made])
+    yield Command([jvm, "explain"])
+    yield Command([jvm, "explain", "J5"])
+    yield Command([jvm, "debug", "--small", "8", *texts], typed=SESSION, last=600)
+    yield from failing_commands(jvm, room, empty, small, kept, run)
 
 
-def ending(words, library, refused, written, typed, counted=None):
-    """What a command says and writes, with this request refused."""
-    for path in written:
+def failing_commands(jvm, room, empty, small, kept, run):
+    """Commands that don't end well."""
+    broken = put(f"{room}/broken.j", ".class E\n.super java/lang/Object\nfoo\n")
+    orphan = put(f"{room}/orphan.j", ".class E\n.super F\n")
+    unassembled = put(f"{room}/unassembled.j", f"{text_of('lookupswitch|2 : X|1 : X|default : X|X:|return')}")
+    thrower = put(f"{room}/thrower.j", text_of("iconst_1|iconst_0|idiv|return"))
+    fault = put(f"{room}/fault.j", text_of("iadd|return"))
+    changed = put(f"{room}/changed.journal", "JVMJ 1\nheap 4 0 0\nlimits 9 0\n0 o\nend 1\n")
+    yield Command([jvm, "asm", broken, f"{room}/none"], [f"{room}/none"])
+    yield Command([jvm, "asm", unassembled, f"{room}/none"], [f"{room}/none"])
+    yield Command([jvm, "dis", empty])
+    yield Command([jvm, "run", kept, orphan])
+    yield Command([jvm, "run", *small, "--medium", "70000", empty], last=LAST)
+    yield Command([jvm, "run", *small, thrower], last=LAST)
+    yield Command([jvm, "run", *small, fault], last=LAST)
+    yield Command([jvm, "run", *small, f"{EXAMPLES}/D.j"], last=LAST)
+    yield Command([jvm, "run", *small, "--steps", "2", thrower], last=LAST)
+    yield Command([jvm, "replay", changed, empty], last=400)
+    yield Command([jvm, "upgrade", empty, f"{room}/none"], [f"{room}/none"])
+    yield Command([jvm, "explain", "J0"])
+    yield Command([jvm, "run"])
+    yield Command([jvm, "run", "--steps", "many", empty])
+    yield Command([jvm, "--help"])
+
+
+def text_of(code):
+    """A class with a main."""
+    head = ".class E\n.super java/lang/Object\n.method static main()V\n.limit stack 2\n.limit locals 0\n"
+    return head + code.replace("|", "\n") + "\n.end method\n"
+
+
+def ending(command, library, **given):
+    """What a command says and writes, with some variables of its environment."""
+    for path in command.written:
         if os.path.exists(path):
             os.remove(path)
-    given = {**os.environ, "LD_PRELOAD": library, "REFUSED": str(refused)}
-    if counted:
-        given["COUNTED"] = counted
-    done = subprocess.run(words, env=given, input=typed, stdout=subprocess.PIPE, stderr=subprocess.PIPE, timeout=60, check=False)
-    files = [open(path, "rb").read() if os.path.exists(path) else None for path in written]
-    return done.returncode, done.stdout, done.stderr, files
+    set_ = {**os.environ, "LD_PRELOAD": library, **{name: str(value) for name, value in given.items()}}
+    how = {"input": command.typed, "stdout": subprocess.PIPE, "stderr": subprocess.PIPE}
+    done = subprocess.run(command.words, env=set_, timeout=60, check=False, **how)
+    files = [open(path, "rb").read() if os.path.exists(path) else None for path in command.written]
+    if command.carriers:
+        files = [it is not None for it in files]  # the journal is another one each time
+    return (done.returncode, done.stderr), done.stdout, files
 
 
 def refuser(room):
     """The library that refuses requests, and what is wrong with it, or nothing."""
     source, library = f"{room}/refuser.c", f"{room}/refuser.so"
-    with open(source, "w", encoding="ascii") as file:
-        file.write(REFUSER)
+    put(source, REFUSER)
     try:
         words = ["cc", "-O1", "-fno-builtin", "-shared", "-fPIC", "-o", library, source, "-ldl"]
         made = subprocess.run(words, stdout=subprocess.PIPE, stderr=subprocess.STDOUT, check=False)
@@ -117,27 +196,63 @@ def refuser(room):
     return library, made.stdout.decode(errors="replace") if made.returncode else None
 
 
-def refused_one_by_one(words, written, typed, library, counted):
+def is_given_up(found, whole, line):
+    """Whether a command ended with this line, having written no file, and no more than a beginning of its output."""
+    return found[0] == line and whole[1].startswith(found[1]) and not any(found[2])
+
+
+def refused_one_by_one(command, library, counted):
     """What is wrong with a command's ends where each of its requests is refused in turn, or nothing."""
-    whole = ending(words, library, 0, written, typed, counted)
-    if whole[0] or not os.path.exists(counted):
-        return f"with nothing refused: status {whole[0]}, {whole[2]!r}"
+    whole = ending(command, library, COUNTED=counted)
     with open(counted, encoding="ascii") as file:
         requests = int(file.read())
-    os.remove(counted)
-    lacked = 0
-    for number in range(1, requests + 1):
-        found = ending(words, library, number, written, typed)
-        if found[0] == 6 and found[2] == b"jvm: memory\n" and whole[1].startswith(found[1]) and not any(found[3]):
-            lacked += 1
-        elif found != whole:
-            return f"with request {number} of {requests} refused: status {found[0]}, {found[2]!r}"
-    return None if lacked else f"none of {requests} requests was needed"
+    lacked, without_thread = 0, 0
+    for number in range(max(1, requests + 1 - (command.last or requests)), requests + 1):
+        found = ending(command, library, REFUSED=number, ALL=1)
+        if not is_given_up(found, whole, LACKS) and not (command.carriers and found == whole and number > requests - 8):
+            return f"with request {number} of {requests} and all after it refused: {found[0]}, {found[1]!r}"
+        found = ending(command, library, REFUSED=number)
+        lacked += is_given_up(found, whole, LACKS)
+        without_thread += is_given_up(found, whole, NO_THREAD)
+        if found != whole and not is_given_up(found, whole, LACKS) and not is_given_up(found, whole, NO_THREAD):
+            return f"with request {number} of {requests} refused: {found[0]}, {found[1]!r}"
+    if without_thread != command.carriers or not lacked:
+        return f"of {requests} requests {lacked} are for memory alone, and {without_thread} for threads"
+    return unstarted(command, library, whole)
 
 
-def tried_refusals(jvm, room):
+def unstarted(command, library, whole):
+    """What is wrong with a command's ends where each start of a thread is refused in turn, or nothing. The last worker needs none."""
+    for number in range(1, command.carriers + 1):
+        found = ending(command, library, UNSTARTED=number)
+        if not is_given_up(found, whole, NO_THREAD):
+            return f"with thread {number} not started: {found[0]}, {found[1]!r}"
+    return None if ending(command, library, UNSTARTED=command.carriers + 1) == whole else "more threads are started than workers need"
+
+
+def tried_refusals(jvm, room, whole=False):
     """What was tried of refused requests, each with what is wrong, or nothing."""
     library, why = refuser(room)
-    for words, written, typed in commands(jvm, room):
-        name = " ".join(word.removeprefix(f"{room}/").removeprefix(f"{EXAMPLES}/") for word in words[1:])
-        yield f"each request for memory refused: {name}", why or refused_one_by_one(words, written, typed, library, f"{room}/count")
+    for command in commands(jvm, room):
+        command = command._replace(last=None) if whole else command
+        name = " ".join(word.removeprefix(f"{room}/").removeprefix(f"{EXAMPLES}/") for word in command.words[1:])
+        yield f"each request for memory refused: {name}", why or refused_one_by_one(command, library, f"{room}/count")
+
+
+def main():
+    words = argparse.ArgumentParser(description=__doc__.split("\n", maxsplit=1)[0])
+    words.add_argument("--jvm", default=BUILT)
+    words.add_argument("--all", action="store_true")
+    given = words.parse_args()
+    passed = failed = 0
+    with tempfile.TemporaryDirectory() as room:
+        for name, why in tried_refusals(os.path.abspath(given.jvm), room, given.all):
+            passed, failed = passed + (not why), failed + bool(why)
+            if why:
+                print(f"{name}: {why}", flush=True)
+    print(f"{passed} passed, {failed} failed")
+    return 1 if failed else 0
+
+
+if __name__ == "__main__":
+    sys.exit(main())

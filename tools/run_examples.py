@@ -10,7 +10,8 @@ same class file. The class files of examples/java are run in the same way; there
 printed. The programs of examples/rows.txt are run turn by turn. All but those of rows.txt that have
 several threads, or find no room for an object, are also run by four carriers beside the ideal run, and the journals of these
 runs are replayed: they print the same, whoever took which turn. The sessions of examples/sessions.txt are played command by command,
-and each row of examples/answers.txt is reported as it says. Of a few commands each request for memory is refused in turn.
+and each row of examples/answers.txt is reported as it says. Limits are tried at their values and one past them (limits.py). Of some
+commands each request for memory is refused in turn (memory_refused.py).
 Inputs that were cut, changed or made up are told as the plain reader tells them (damaged.py).
 
 The last line is 'N passed, M failed'. With --after, the passes and failures in the last line of that file are added.
@@ -27,6 +28,7 @@ import tempfile
 from answers import tried_answers
 from damaged import tried_damaged
 from debug_agrees import tried_debugger
+from limits import tried_limits
 from memory_refused import tried_refusals
 from plain.rows import tried_reader
 from sessions import tried_commands
@@ -173,6 +175,7 @@ TRIED = (
     tried_classes,
     tried_commands,
     tried_answers,
+    tried_limits,
     tried_refusals,
     tried_debugger,
     tried_reader,

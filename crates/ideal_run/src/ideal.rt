@@ -1,10 +1,10 @@
 //! The ideal run (JVMS 2.5, 2.6): a program's world, moved by actors and choices.
-ghost use Rattle.std.specs.Prelude.{◌≡◌, ◌<◌, ℕ, IfOk, OnOk, None, true, false};
+ghost use Rattle.std.specs.Prelude.{◌≡◌, ◌<◌, ℕ, IfOk, OnErr, OnOk, None, true, false};
 ghost use Rattle.model.specs.Turns.{ideal_step};
 ghost use Rattle.model.specs.declared.turns.Actor.TheVariants.{Thread as ThreadActor};
 ghost use Rattle.ideal_run.specs.Completed.{reported};
 ghost use Rattle.ideal_run.specs.Effected.{choice_in, refuses};
-ghost use Rattle.ideal_run.specs.Runs.{AreOpened, run_after};
+ghost use Rattle.ideal_run.specs.Runs.{AreOpened, opening_run, run_after};
 
 use crate::completions::Completion;
 use crate::effects::{Choice, carry_out};
@@ -134,6 +134,15 @@ impl<'a> Ideal<'a> {
         ensures { result.now ≡ self.now.world }
     {
         &self.world
+    }
+
+    /// Goes back to before the first turn. `AllocError`, and nothing changed, where memory runs out.
+    pub fn reopen(&mut self) -> Result<(), AllocError>
+        ensures opened { OnOk result (self.new ≡ opening_run self.old.program self.old.limits) }
+        ensures kept { OnErr result (self.new ≡ self.old) }
+    {
+        self.world = opening_world(self.alloc, &self.program)?;
+        Ok(())
     }
 
     /// One pair of the run, an actor and its choice: a turn, unless a rule refuses it. A collector's turn changes
