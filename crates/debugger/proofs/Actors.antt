@@ -1,5 +1,5 @@
 -- Whatever a session does, some list of actors leads to the world after it.
-use Rattle.std.proofs.Common.{◌≡◌, ◌⊎◌, inl, inr, ◌∙◌, ℕ, zero, suc, List, [], ◌∷◌, ◌++◌, Bool, true, false, Option, Some, None}
+use Rattle.std.proofs.Common.{◌≡◌, inl, inr, ◌∙◌, ℕ, zero, suc, List, [], ◌∷◌, ◌++◌, Bool, true, false, Option, Some, None}
 use Rattle.std.proofs.Common.{Result, Ok, Err, refl, ap}
 use Rattle.std.specs.Prelude.{if◌then◌else◌}
 use Rattle.debug_texts.specs.Commands.{Said, command_of}
@@ -15,7 +15,7 @@ use Rattle.debugger.specs.declared.errors.DebugError.{DebugError}
 use Rattle.debugger.specs.declared.errors.DebugError.TheVariants.{Read, Write, Memory}
 use Rattle.debugger.specs.Breakpoints.{Breakpoints, at_number, place_named}
 use Rattle.debugger.specs.Runs.{Ran, after_done, collected, ended, held_unless, one_more, reason_of, run_on, unless_held}
-use Rattle.debugger.specs.Sessions.{AnswerStops, Breaks, Debugged, Deletes, Does, DoesAll, Ends, FarewellStops, LedByActors}
+use Rattle.debugger.specs.Sessions.{Breaks, Debugged, Deletes, Does, DoesAll, Ends, LedByActors}
 use Rattle.debugger.specs.Sessions.{Session, Stops}
 
 led_none : (v : Recorded) → LedByActors v v
@@ -47,27 +47,27 @@ led_if v false x y p q = q
 -- a round, where all that follows is led so
 module _ (bs : Breakpoints) (n : ℕ) (v : Recorded) (led : (x : Recorded) → LedByActors x (run_on bs false n x).world)
   where
-  abbrev w : Recorded
-  w = picked v 0
+    abbrev w : Recorded
+    w = picked v 0
 
-  abbrev x : Recorded
-  x = after_turn_by w Collector 0
+    abbrev x : Recorded
+    x = after_turn_by w Collector 0
 
-  led_swept : LedByActors w (collected (run_on bs false n) w).world
-  led_swept = led_if w (is_done (answer_to w Collector 0)) (one_more (run_on bs false n x))
-      (ended x 1 (ByTurn (answer_to w Collector 0)))
-      (led_then w x (run_on bs false n x).world (led_one w Collector) (led x)) (led_one w Collector)
+    led_swept : LedByActors w (collected (run_on bs false n) w).world
+    led_swept = led_if w (is_done (answer_to w Collector 0)) (one_more (run_on bs false n x))
+        (ended x 1 (ByTurn (answer_to w Collector 0)))
+        (led_then w x (run_on bs false n x).world (led_one w Collector) (led x)) (led_one w Collector)
 
-  led_done : LedByActors w (after_done (run_on bs false n) w).world
-  led_done = led_if w (is_running (status_of w)) (collected (run_on bs false n) w) (ended w 1 (reason_of w)) led_swept
-      (led_none w)
+    led_done : LedByActors w (after_done (run_on bs false n) w).world
+    led_done = led_if w (is_running (status_of w)) (collected (run_on bs false n) w) (ended w 1 (reason_of w)) led_swept
+        (led_none w)
 
-  led_unless : (held : Option (ℕ × ℕ)) → LedByActors v (unless_held (run_on bs false n) v held).world
-  led_unless (Some held) = led_none v
-  led_unless None = led_if v (is_done (picked_answer v 0)) (after_done (run_on bs false n) w)
-      (ended w 0 (ByTurn (picked_answer v 0)))
-      (led_then v w (after_done (run_on bs false n) w).world (led_picked v (pick_of v)) led_done)
-      (led_picked v (pick_of v))
+    led_unless : (held : Option (ℕ × ℕ)) → LedByActors v (unless_held (run_on bs false n) v held).world
+    led_unless (Some held) = led_none v
+    led_unless None = led_if v (is_done (picked_answer v 0)) (after_done (run_on bs false n) w)
+        (ended w 0 (ByTurn (picked_answer v 0)))
+        (led_then v w (after_done (run_on bs false n) w).world (led_picked v (pick_of v)) led_done)
+        (led_picked v (pick_of v))
 
 led_run : (bs : Breakpoints) (n : ℕ) (first : Bool) (v : Recorded) → LedByActors v (run_on bs first n v).world
 led_run bs zero first v = led_none v

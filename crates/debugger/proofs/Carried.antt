@@ -1,10 +1,8 @@
 -- What comes of a command, from what was written.
-use Rattle.std.proofs.Common.{◌≡◌, ℕ, List, Bool, true, false, Option, Some, None, Result, Ok, Err, refl, ap, sym}
+use Rattle.std.proofs.Common.{◌≡◌, ℕ, List, true, false, Option, Some, None, Result, Ok, Err, refl}
 use Rattle.std.specs.Prelude.{is_some}
 use Rattle.debug_texts.specs.Answers.{no_breakpoint}
 use Rattle.model.specs.declared.places.CodePlace.{CodePlace}
-use Rattle.std.specs.Io.KnownBytes.{Appends, Keeps}
-use Rattle.debug_texts.specs.Streams.{AppendsPart}
 use Rattle.debugger.specs.declared.errors.DebugError.{DebugError}
 use Rattle.debugger.specs.declared.errors.DebugError.TheVariants.{Read, Write, Memory}
 use Rattle.debugger.specs.Sessions.{Answers, Carries, Debugged, Deleted, Deletes, Told, Written}

@@ -1,8 +1,9 @@
 -- Runs without breakpoints: many rounds in one call lead where turns one by one do.
-use Rattle.std.proofs.Common.{◌≡◌, ◌≢◌, ◌≤◌, ◌+◌, ◌-◌, ◌∙◌, ℕ, zero, suc, Bool, true, false, Option, Some, None, refl, ap, sym}
-use Rattle.std.proofs.Common.{arith, List, [], ◌∷◌, cond, count_by, is_some}
+use Rattle.std.proofs.Common.{◌≡◌, ◌==◌, ◌<◌, ◌≤◌, ◌+◌, ◌-◌, ◌∙◌, ℕ, zero, suc, Bool, true, false, Option, Some, None, refl, ap, sym}
+use Rattle.std.proofs.Common.{arith, [], ◌∷◌, cond, count_by, is_some}
 use Rattle.std.specs.Prelude.{if◌then◌else◌}
 use Rattle.std.specs.Option.{option_and_then, option_map}
+use Rattle.std.proofs.Math.Dec.{eqb-suc-zero}
 use Rattle.std.proofs.lemmas.List.Sums.{sum_by-cons}
 use Rattle.slab.specs.Slab.{entries_from}
 use Rattle.debug_texts.specs.declared.answers.Reason.{Reason}
@@ -11,14 +12,14 @@ use Rattle.model.specs.declared.places.CodePlace.{CodePlace}
 use Rattle.model.specs.declared.turns.Actor.TheVariants.{Collector}
 use Rattle.model.specs.declared.turns.Turn.{Turn}
 use Rattle.model.specs.declared.turns.Turn.TheVariants.{Done, Fault, NotReady, OutputFull, StepLimit, Stopped}
-use Rattle.model.specs.Machines.{Recorded, after_turn_by, answer_to}
+use Rattle.model.specs.Machines.{Recorded, answer_to}
 use Rattle.model.specs.Observers.{is_running, pick_of, place_of, status_of}
 use Rattle.scheduler.specs.Rounds.{after_round, after_rounds, is_done, picked, picked_answer, rounds_answer, rounds_left}
 use Rattle.scheduler.specs.Rounds.{swept}
 use Rattle.scheduler.proofs.RoundsLeft.{answer-first, left-first, rounds-first}
 use Rattle.scheduler.proofs.Picking.{NoRowLeft, no_row_left, ready_answer, rests-answer, rests-picked}
 use Rattle.debugger.specs.Breakpoints.{Breakpoints, first_at, least_at}
-use Rattle.debugger.specs.Runs.{HoldsNone, Ran, ended, held_at, held_unless, one_more, reason_after, reason_of, run_on}
+use Rattle.debugger.specs.Runs.{HoldsNone, Ran, ended, held_unless, one_more, reason_after, reason_of, run_on}
 use Rattle.debugger.specs.Runs.{sweep_answer, swept_once, unless_held}
 use Rattle.debugger.proofs.RunSteps.{fails, more, next_round, rests, stops}
 
@@ -174,18 +175,18 @@ module _ (bs : Breakpoints) (none : HoldsNone bs) where
   as_one : (n : ℕ) (v w : Recorded) (left : ℕ) (t : Turn) → w ≡ after_rounds v 0 1 n → left ≡ rounds_left v 0 1 n
       → t ≡ rounds_answer v 0 1 n → ended w (n - left) (reason_after w t)
       ≡ ended (after_rounds v 0 1 n) (n - rounds_left v 0 1 n)
-          (reason_after (after_rounds v 0 1 n) (rounds_answer v 0 1 n))
+      (reason_after (after_rounds v 0 1 n) (rounds_answer v 0 1 n))
   as_one n v w left t world some answer =
       ap (λ (x : Recorded). ended x (n - left) (reason_after x t)) world
       ∙ ap (λ k. ended (after_rounds v 0 1 n) (n - k) (reason_after (after_rounds v 0 1 n) t)) some
       ∙ ap (λ (a : Turn). ended (after_rounds v 0 1 n) (n - rounds_left v 0 1 n) (reason_after (after_rounds v 0 1 n) a))
-          answer
+      answer
 
   abbrev SomeLeft : ℕ → Bool → Recorded → Type 0
   SomeLeft n f v =
       (rounds_left v 0 1 n ≡ 0 → ⊥) → run_on bs f (suc n) v
       ≡ ended (after_rounds v 0 1 n) (n - rounds_left v 0 1 n)
-          (reason_after (after_rounds v 0 1 n) (rounds_answer v 0 1 n))
+      (reason_after (after_rounds v 0 1 n) (rounds_answer v 0 1 n))
 
   one_of_some : (n : ℕ) (f : Bool) (v : Recorded) → SomeLeft n false (after_round v 0 1) → (done : Bool)
       → is_done (picked_answer v 0) ≡ done → SomeLeft (suc n) f v
@@ -213,3 +214,29 @@ module _ (bs : Breakpoints) (none : HoldsNone bs) where
   pub some_left : (n : ℕ) (f : Bool) (v : Recorded) → SomeLeft n f v
   some_left zero f v e = absurd (e refl)
   some_left (suc n) f v e = one_of_some n f v (some_left n false (after_round v 0 1)) (is_done (picked_answer v 0)) refl e
+
+  -- ---- the same by what is known of the calls
+
+  module _ (turns n left : ℕ) (v w : Recorded) (whole : turns ≡ suc n) (world : w ≡ after_rounds v 0 1 n)
+      (some : left ≡ rounds_left v 0 1 n) where
+    pub ends_early : (t : Turn) (r : Reason) → t ≡ rounds_answer v 0 1 n → r ≡ reason_after w t → 0 < left
+        → ended w (n - left) r ≡ run_on bs true turns v
+    ends_early t r answer reason more =
+        ap (ended w (n - left)) reason
+        ∙ as_one n v w left t world some answer
+        ∙ sym (some_left n true v (λ none. omega (arith, more, some, none)))
+        ∙ sym (ap (λ k. run_on bs true k v) whole)
+
+    pub ends_late : (x : Recorded) (k : ℕ) (r : Reason) → left ≡ 0 → ended x k r ≡ run_on bs true 1 w
+        → ended x ((n - left) + k) r ≡ run_on bs true turns v
+    ends_late x k r none last =
+        let count : (n - left) + k ≡ n + k = omega (arith, none) in
+        ap (λ m. ended x m r) count
+        ∙ ap (more n) (last ∙ ap (run_on bs true 1) world)
+        ∙ sym (all_made n true v (sym some ∙ none))
+        ∙ sym (ap (λ m. run_on bs true m v) whole)
+
+-- no number is left where there are none
+pub zero_is : (n : ℕ) → (n == 0) ≡ true → n ≡ 0
+zero_is zero e = refl
+zero_is (suc n) e = let more : (suc n == 0) ≡ false = eqb-suc-zero n in absurd (cc)

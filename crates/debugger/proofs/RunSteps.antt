@@ -1,5 +1,5 @@
 -- A run, round by round.
-use Rattle.std.proofs.Common.{◌≡◌, ◌+◌, ◌∙◌, ℕ, zero, suc, Bool, true, false, Option, Some, None, add-zero, ap, arith, refl, sym}
+use Rattle.std.proofs.Common.{◌≡◌, ◌+◌, ◌∙◌, ℕ, zero, suc, Bool, true, false, Some, None, add-zero, ap, arith, refl, sym}
 use Rattle.debug_texts.specs.declared.answers.Reason.{Reason}
 use Rattle.debug_texts.specs.declared.answers.Reason.TheVariants.{Turn as ByTurn, Breakpoint}
 use Rattle.model.specs.declared.turns.Actor.TheVariants.{Collector}

@@ -1,12 +1,11 @@
 -- A session, line by line.
-use Rattle.std.proofs.Common.{◌≡◌, ◌≢◌, ◌⊎◌, inl, inr, ℕ, List, [], ◌∷◌, ◌++◌, ◌∙◌, Option, Some, None, Result, Ok, Err}
+use Rattle.std.proofs.Common.{◌≡◌, ◌≢◌, inl, inr, ℕ, List, [], ◌∷◌, ◌++◌, ◌∙◌, Option, Some, Result, Ok, Err}
 use Rattle.std.proofs.Common.{refl, ap, subst, sym, take, append_assoc}
-use Rattle.std.specs.Io.KnownBytes.{Appends, Consumes, IsAtEnd, Keeps}
+use Rattle.std.specs.Io.KnownBytes.{Appends, Consumes, IsAtEnd}
 use Rattle.debug_texts.specs.Answers.{farewell}
 use Rattle.debug_texts.specs.Commands.{Said, command_of}
 use Rattle.debug_texts.specs.Commands.Said.{Quit}
 use Rattle.debug_texts.specs.Lines.{IsLine, ReadsLine}
-use Rattle.debug_texts.specs.Streams.{AppendsPart}
 use Rattle.debug_texts.proofs.CommandLemmas.{command_kept}
 use Rattle.debug_texts.proofs.Pieces.{appends_more, appends_none, keeps_all}
 use Rattle.debug_texts.proofs.LineLemmas.{consumes_none}
@@ -14,8 +13,8 @@ use Rattle.model.specs.Machines.{Recorded}
 use Rattle.model.specs.Observers.{output_of}
 use Rattle.debugger.specs.declared.errors.DebugError.{DebugError}
 use Rattle.debugger.specs.declared.errors.DebugError.TheVariants.{Read, Write, Memory}
-use Rattle.debugger.specs.Sessions.{AnswerStops, CarriesBy, Closes, Debugged, Does, DoesAll, Ends, FarewellStops, GoesOn}
-use Rattle.debugger.specs.Sessions.{MemoryStops, ReadStops, ReadsEnd, Session, Stops, Written}
+use Rattle.debugger.specs.Sessions.{CarriesBy, Debugged, Does, Ends, GoesOn}
+use Rattle.debugger.specs.Sessions.{ReadsEnd, Session, Stops, Written}
 
 -- an answer before the others
 stops_more : (e : DebugError) (s : Debugged) (w : Recorded) (mid after out out1 now : Option (List ℕ))

@@ -5,7 +5,6 @@ use Rattle.std.specs.Str.{bytes_eq}
 use Rattle.model.specs.declared.listings.Method.{Method}
 use Rattle.model.specs.declared.listings.Placed.{Placed}
 use Rattle.model.specs.declared.places.CodePlace.{CodePlace}
-use Rattle.model.specs.declared.places.MethodPlace.{MethodPlace}
 use Rattle.model.specs.ClassListings.{ClassListing}
 use Rattle.model.specs.Classes.Named.{is_named}
 use Rattle.model.specs.CodeListings.{CodeListing}

@@ -1,8 +1,8 @@
-use Rattle.std.specs.Prelude.{◌≡◌, ℕ, ◌+◌, zero, suc, Bool, true, false, List, Option, Some, None, if◌then◌else◌}
+use Rattle.std.specs.Prelude.{◌≡◌, ℕ, ◌+◌, zero, suc, Bool, true, false, Option, Some, None, if◌then◌else◌}
 use Rattle.std.specs.Option.{option_and_then, option_map}
 use Rattle.debug_texts.specs.declared.answers.Reason.{Reason}
 use Rattle.debug_texts.specs.declared.answers.Reason.TheVariants.{Running, Finished, Stuck, Turn as ByTurn, Breakpoint}
-use Rattle.model.specs.declared.turns.Actor.TheVariants.{Thread, Collector}
+use Rattle.model.specs.declared.turns.Actor.TheVariants.{Collector}
 use Rattle.model.specs.declared.turns.Fault.{Fault as FaultKind}
 use Rattle.model.specs.declared.turns.Status.{Status}
 use Rattle.model.specs.declared.turns.Status.TheVariants.{Running as Runs, Finished as HasFinished, Stuck as IsStuck, Faulted}

@@ -1,4 +1,4 @@
-use Rattle.std.specs.Prelude.{◌≡◌, ◌≢◌, ◌⊎◌, ℕ, ◌+◌, List, [], ◌∷◌, ◌++◌, MatchResult, Option, Some, None, Result, Ok, Err}
+use Rattle.std.specs.Prelude.{◌≡◌, ◌≢◌, ◌⊎◌, ℕ, ◌+◌, List, [], ◌∷◌, ◌++◌, Option, Some, None, Result, Ok, Err}
 use Rattle.std.specs.Io.KnownBytes.{Appends, Consumes, IsAtEnd, Keeps}
 use Rattle.std.specs.List.{AllByRecursion}
 use Rattle.std.specs.Option.{option_map}
@@ -122,44 +122,44 @@ ReadsEnd before after =
 
 -- a read failed within a line
 pub record ReadStops (s : Debugged) (w : Recorded) (mid after out now : Option (List ℕ)) (answers : List ℕ) : Type 0
-    where
-  pub world : w ≡ s.world
-  pub part : List ℕ
-  pub is_line : IsLine part
-  pub read : Consumes mid after part
-  pub written : Appends out now answers
+  where
+    pub world : w ≡ s.world
+    pub part : List ℕ
+    pub is_line : IsLine part
+    pub read : Consumes mid after part
+    pub written : Appends out now answers
 
 -- memory ran out at a command, which did nothing
 pub record MemoryStops (s : Debugged) (w : Recorded) (mid after out now : Option (List ℕ)) (answers : List ℕ) : Type 0
-    where
-  pub world : w ≡ s.world
-  pub line : List ℕ
-  pub go_on : GoesOn line
-  pub read : ReadsLine mid after line
-  pub written : Appends out now answers
+  where
+    pub world : w ≡ s.world
+    pub line : List ℕ
+    pub go_on : GoesOn line
+    pub read : ReadsLine mid after line
+    pub written : Appends out now answers
 
 -- a write failed in the answer to one command more, which was carried out
 pub record AnswerStops (s : Debugged) (w : Recorded) (mid after out now : Option (List ℕ)) (answers : List ℕ) : Type 0
-    where
-  pub line : List ℕ
-  pub go_on : GoesOn line
-  pub read : ReadsLine mid after line
-  pub end : Debugged
-  pub answer : List ℕ
-  pub done : Does s (command_of line) end answer
-  pub world : w ≡ end.world
-  pub answered : Option (List ℕ)
-  pub written : Appends out answered answers
-  pub part : AppendsPart answered now answer
+  where
+    pub line : List ℕ
+    pub go_on : GoesOn line
+    pub read : ReadsLine mid after line
+    pub end : Debugged
+    pub answer : List ℕ
+    pub done : Does s (command_of line) end answer
+    pub world : w ≡ end.world
+    pub answered : Option (List ℕ)
+    pub written : Appends out answered answers
+    pub part : AppendsPart answered now answer
 
 -- a write failed in what a session says in the end
 pub record FarewellStops (s : Debugged) (w : Recorded) (mid after out now : Option (List ℕ)) (answers : List ℕ) : Type 0
-    where
-  pub world : w ≡ s.world
-  pub read : ReadsEnd mid after
-  pub answered : Option (List ℕ)
-  pub written : Appends out answered answers
-  pub part : AppendsPart answered now (farewell (output_of w))
+  where
+    pub world : w ≡ s.world
+    pub read : ReadsEnd mid after
+    pub answered : Option (List ℕ)
+    pub written : Appends out answered answers
+    pub part : AppendsPart answered now (farewell (output_of w))
 
 abbrev pub Stops : DebugError → Debugged → Recorded → (mid after out now : Option (List ℕ)) → List ℕ → Type 0
 Stops Read s w mid after out now answers = ReadStops s w mid after out now answers
@@ -169,10 +169,10 @@ Stops Write s w mid after out now answers =
 
 -- `quit`, or no line more: what is said in the end was written too
 pub record Closes (s : Debugged) (w : Recorded) (mid after out now : Option (List ℕ)) (answers : List ℕ) : Type 0
-    where
-  pub world : w ≡ s.world
-  pub read : ReadsEnd mid after
-  pub written : Appends out now (answers ++ farewell (output_of w))
+  where
+    pub world : w ≡ s.world
+    pub read : ReadsEnd mid after
+    pub written : Appends out now (answers ++ farewell (output_of w))
 
 abbrev pub Ends : {A : Type 0} → Result A DebugError → Debugged → Recorded → (mid after out now : Option (List ℕ))
     → List ℕ → Type 0

@@ -129,11 +129,8 @@ fn reason_after(world: &World, answer: Turn) -> Reason
 {
     match answer {
         Turn::NotReady => reason_of(world),
-        Turn::Done
-        | Turn::Stopped
-        | Turn::Fault(_)
-        | Turn::OutputFull
-        | Turn::StepLimit => Reason::Turn(answer),
+        Turn::Done | Turn::Stopped | Turn::Fault(_) | Turn::OutputFull | Turn::StepLimit =>
+            Reason::Turn(answer),
     }
 }
 

@@ -33,10 +33,7 @@ pub fn put_text<S: Sink>(sink: &mut S, text: &[u8]) -> Result<(), DebugError>
 }
 
 /// Writes a text, if there was memory for it.
-pub fn put_made<S: Sink>(
-    sink: &mut S,
-    text: Result<Vec<u8>, AllocError>,
-) -> Result<(), DebugError>
+pub fn put_made<S: Sink>(sink: &mut S, text: Result<Vec<u8>, AllocError>) -> Result<(), DebugError>
     requires { S.failures sink.old < 2 ^ 64 - 1 }
     ensures told { (wanted : List ℕ) → IfOk text (λ made. made.items ≡ wanted)
         → Told result (S.contents sink.old) (S.contents sink.new) wanted }

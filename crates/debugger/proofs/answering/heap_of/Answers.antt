@@ -1,4 +1,4 @@
-use Rattle.std.proofs.Common.{◌≡◌, Some, None, ap, refl, sym, ◌∙◌}
+use Rattle.std.proofs.Common.{ap, sym, ◌∙◌}
 use Rattle.std.proofs.Common.{◌++◌, ◌+◌, drop, append_assoc, List, ℕ}
 use Rattle.debug_texts.specs.Answers.{cell_line}
 use Rattle.model.specs.Machines.{machine_of}

@@ -1,4 +1,4 @@
-use Rattle.std.proofs.Common.{◌≡◌, Some, None, ap, refl, sym, ◌∙◌}
+use Rattle.std.proofs.Common.{Some, None, refl}
 use Rattle.debug_texts.specs.Answers.{broken_text, no_place}
 use Rattle.debugger.specs.Sessions.{Breaks, debugged}
 use Rattle.debugger.proofs.Carried.{written_carries}

@@ -1,4 +1,4 @@
-use Rattle.std.proofs.Common.{◌≡◌, Some, None, ap, refl, sym, ◌∙◌}
+use Rattle.std.proofs.Common.{None, refl}
 use Rattle.debug_texts.specs.Answers.{bad_command}
 use Rattle.debugger.specs.Sessions.{Does, debugged}
 use Rattle.debugger.proofs.Carried.{written_carries}

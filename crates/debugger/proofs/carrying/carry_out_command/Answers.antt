@@ -1,7 +1,7 @@
-use Rattle.std.proofs.Common.{◌≡◌, List, Option, Some, None, ap, refl, subst, sym, ◌∙◌}
+use Rattle.std.proofs.Common.{◌≡◌, List, Option, Some, ap, refl, subst, ◌∙◌}
 use Rattle.std.specs.Option.{option_map}
 use Rattle.debug_texts.specs.Answers.{class_text, object_text, ran_text, stack_text, turn_text}
-use Rattle.debug_texts.specs.Commands.Said.{Break, Delete, Step, Collect, Run, Stack, Object, Heap, Class}
+use Rattle.debug_texts.specs.Commands.Said.{Step, Collect, Run, Stack, Object, Heap, Class}
 use Rattle.model.specs.declared.turns.Actor.TheVariants.{Thread as ByThread, Collector}
 use Rattle.model.specs.declared.places.CodePlace.{CodePlace}
 use Rattle.model.specs.ClassListings.{ClassListing}

@@ -1,4 +1,4 @@
-use Rattle.std.proofs.Common.{◌≡◌, Some, None, ap, refl, sym, ◌∙◌}
+use Rattle.std.proofs.Common.{refl, sym, ◌∙◌}
 use Rattle.debug_texts.specs.Answers.{deleted_text, no_breakpoint}
 use Rattle.debugger.specs.Breakpoints.{at_number}
 use Rattle.debugger.specs.Sessions.{Deletes, debugged}

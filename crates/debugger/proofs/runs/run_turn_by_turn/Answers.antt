@@ -1,10 +1,10 @@
-use Rattle.std.proofs.Common.{◌≡◌, ◌<◌, ◌+◌, ◌-◌, ◌∙◌, suc, None, add-one, ap, arith, false, nat_eq, sym, true}
+use Rattle.std.proofs.Common.{◌≡◌, ◌+◌, ◌-◌, ◌∙◌, suc, None, add-one, ap, arith, false, nat_eq, sym, true}
 use Rattle.std.proofs.Math.Dec.{eqb-suc-zero}
 use Rattle.debug_texts.specs.declared.answers.Reason.TheVariants.{Turn as ByTurn}
 use Rattle.model.specs.Observers.{is_running, status_of}
 use Rattle.scheduler.specs.Rounds.{is_done, picked, picked_answer}
 use Rattle.debugger.specs.Runs.{held_unless, run_for, run_on, sweep_answer, swept_once}
-use Rattle.debugger.proofs.RunSteps.{closes, closes_here, fails, goes_on, more, next_round, stops}
+use Rattle.debugger.proofs.RunSteps.{closes, closes_here, fails, goes_on, next_round, stops}
 use Rattle.debugger.proofs.runs.run_turn_by_turn.Goals as goal
 
 pub turn_of_picked-answer-requires : goal.turn_of_picked-answer-requires

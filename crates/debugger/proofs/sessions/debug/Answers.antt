@@ -1,3 +1,4 @@
+use Rattle.std.proofs.Common.{[]}
 use Rattle.debugger.specs.Sessions.{debugged}
 use Rattle.debugger.proofs.Actors.{led_session}
 use Rattle.debugger.proofs.sessions.debug.Goals as goal

@@ -1,8 +1,7 @@
-use Rattle.std.proofs.Common.{◌≡◌, ◌∙◌, ap, sym, false, true, [], Bool}
+use Rattle.std.proofs.Common.{◌≡◌, ◌∙◌, false, Bool}
 use Rattle.std.specs.Prelude.{IsTrue}
 use Rattle.std.specs.Option.{option_map}
 use Rattle.debug_texts.specs.Commands.{said}
-use Rattle.debugger.specs.declared.errors.DebugError.TheVariants.{Read}
 use Rattle.debugger.specs.Sessions.{debugged}
 use Rattle.debugger.proofs.SessionSteps.{answered, at_end, command_fails, quits, read_fails}
 use Rattle.debugger.proofs.sessions.hold_session.Goals as goal
