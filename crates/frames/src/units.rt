@@ -98,7 +98,8 @@ impl Units {
     }
 
     /// Carries out register code that is lent from a place on, so many steps at most, on so many units, from this one
-    /// on, and on memory. Answers the place that is reached, which is one of the code, and how many steps are left.
+    /// on, and on memory. Answers the place that is reached, which is one of the code, and how many steps are left: none,
+    /// or some where the step at that place can't be carried out here.
     #[inline(always)]
     pub fn run<C, M: Memory<C>, K: Lends>(
         &mut self,
@@ -113,8 +114,8 @@ impl Units {
         requires there { base + span ≤ length self.old }
         requires start { place < length (K.steps lender.now) }
         requires within { AreWithin span (K.steps lender.now) }
-        ensures ran { RunsWithin (M.acts context.now) base span (K.steps lender.now) place (most - result.1) result.0
-            self.old memory.old self.new memory.new }
+        ensures ran { RunsWithin (M.acts context.now) base span (K.steps lender.now) place (most - result.1) result.1
+            result.0 self.old memory.old self.new memory.new }
         ensures inside { result.0 < length (K.steps lender.now) }
         ensures left { result.1 ≤ most }
     {

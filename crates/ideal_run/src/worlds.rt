@@ -1,6 +1,7 @@
 //! The ideal world (JVMS 2.5, 2.6): what threads, statics, output and objects are on a heap where nothing is ever
 //! freed.
-ghost use Rattle.std.specs.Prelude.{◌≡◌, ◌∷◌, [], ◌++◌, IfOk, OnOk, Some, slice_get, slice_set, take};
+ghost use Rattle.std.specs.Prelude.{◌≡◌, ◌≤◌, ◌+◌, ◌^◌, ◌∷◌, [], ◌++◌, length, IfOk, OnOk, OnErr, MatchResult, Some};
+ghost use Rattle.std.specs.Prelude.{slice_get, slice_set, take};
 ghost use Rattle.std.specs.Option.{option_copied};
 ghost use Rattle.model.specs.Frames.{running, with_running, callers};
 ghost use Rattle.model.specs.Monitors.{monitor_of, with_monitor_of};
@@ -489,9 +490,10 @@ impl World {
         }
     }
 
-    /// The number that the next new object gets. `AllocError` where there is none, as every 32-bit number is taken.
+    /// The number that the next new object gets. `AllocError` exactly where there is none, as every 32-bit number is
+    /// taken.
     pub fn next_birth(&self) -> Result<u32, AllocError>
-        ensures { IfOk result (λ birth. birth ≡ next_birth self.now) }
+        ensures { MatchResult result (λ birth. birth ≡ next_birth self.now) (λ _. 2 ^ 32 ≤ next_birth self.now) }
     {
         match u32::try_from(self.objects.len()) {
             Ok(birth) => Ok(birth),
@@ -545,9 +547,11 @@ impl World {
         self.fault = Some((fault, thread));
     }
 
-    /// One turn more. `AllocError` where turns can't be counted further, at 2^32.
+    /// One turn more. `AllocError` exactly where turns can't be counted further, at 2^32 - 1; then nothing changes.
     pub fn count(&mut self) -> Result<(), AllocError>
-        ensures { OnOk result (self.new ≡ counted self.old) }
+        ensures counted { OnOk result (self.new ≡ counted self.old) }
+        ensures full { OnErr result (2 ^ 32 ≤ self.old.rows + 1) }
+        ensures kept { OnErr result (self.new ≡ self.old) }
     {
         match self.rows.checked_add(1) {
             Some(rows) => {
@@ -580,10 +584,13 @@ impl World {
         }
     }
 
-    /// The object of a birth knows its thread by the thread's number, that of the next one.
+    /// The object of a birth knows its thread by the thread's number, that of the next one. `AllocError` only where there
+    /// are more threads than 32 bits count; then nothing changes.
     #[tactic(auto, using(crate::proofs::WorldLemmas::worlds))]
     pub fn set_started(&mut self, birth: u32) -> Result<(), AllocError>
-        ensures { OnOk result (self.new ≡ started_on self.old birth) }
+        ensures started { OnOk result (self.new ≡ started_on self.old birth) }
+        ensures full { OnErr result (2 ^ 32 ≤ length self.old.threads) }
+        ensures kept { OnErr result (self.new ≡ self.old) }
     {
         let object = birth as usize;
         if object < self.objects.len() {

@@ -3,6 +3,7 @@ pub mod EqualPrograms
 pub mod InLine
 pub mod KnownCalls
 pub mod KnownMethods
+pub mod Limits
 pub mod MethodCodes
 pub mod OneTranslation
 pub mod Prepared

@@ -20,5 +20,5 @@ returns-clause-ran g c =
     let len = length-written seen c.run.new.units base span there c.run.ensures.len
     ∙ c.deref_mut.ensures.len in
     runs_within (g.M.Memory.acts c.args.context.now) c.args.memory.now c.run.new.memory seen c.run.new.units _
-    c.args.self.now base span c.args.place _ _ (g.K.Lends.steps c.args.lender.now) view
-    c.requires.there c.run.ensures.len c.run.ensures.ran (with_items_is slots _ len)
+    c.args.self.now base span c.args.place _ _ _ (g.K.Lends.steps c.args.lender.now) view
+    c.requires.there c.run.ensures.len c.run.ensures.ran c.run.ensures.stops (with_items_is slots _ len)
