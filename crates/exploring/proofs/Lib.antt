@@ -1,0 +1,4 @@
+pub mod CanonicalLemmas
+pub mod KeyLemmas
+pub mod StateLemmas
+pub mod WalkLemmas
