@@ -1,17 +1,17 @@
 use Rattle.std.proofs.Common.{◌≡◌, ◌⊎◌, inl, inr, ℕ, zero, suc, ◌+◌, ◌<◌, ◌≤◌, List, [], ◌∷◌, ◌++◌, length, replicate}
 use Rattle.std.proofs.Common.{set, slice_get, nat_eq, Bool, true, false, Option, Some, None, refl, sym, ◌∙◌, ap, subst}
 use Rattle.std.proofs.Common.{arith, eqb-true, eq-eqb}
-use Rattle.std.specs.List.{list_any}
+use Rattle.std.specs.List.{flat_map, list_any}
 use Rattle.model.specs.Worlds.{World, next_birth}
-use Rattle.model.specs.Collector.Places.{Reach, ref_at, word_at, words_of}
+use Rattle.model.specs.Collector.Places.{Reach, ref_at, slots_of, word_at, words_of}
 use Rattle.model.specs.Collector.Places.Reach.{by_word}
-use Rattle.model.specs.Collector.Reached.{is_reached, leads_within, roots_of}
+use Rattle.model.specs.Collector.Reached.{is_reached, leads_within, roots_of, roots_of_thread}
 use Rattle.model.proofs.CollectorLemmas.Bounds.{words_made}
 use Rattle.model.proofs.CollectorLemmas.Reaching.{is_reached-Reach, Reach-is_reached}
 use Rattle.model.proofs.ShortPaths.{or-cases, or-right}
 use Rattle.join.proofs.Lists.{get-within, get-older, get-newest, get-set_same, get-set_other}
 use Rattle.join.proofs.Paths.{alike}
-use Rattle.collector.specs.Reaching.{Marking, all_noted, marked, noted, noted_at, spread, unmarked, with_listed}
+use Rattle.collector.specs.Reaching.{IsWalk, Marking, all_noted, marked, noted, noted_at, spread, unmarked, with_listed}
 
 -- A marking marks what paths lead to, and nothing else. What is marked was listed once, so that all of the list is
 -- looked at in as many steps as there are references.
@@ -340,6 +340,98 @@ module _ (w : World) (count : ℕ) where
   whole = spread_closes count 0 (all_noted (unmarked count) (roots_of w)) (omega arith) (from_roots).sound
       (λ i r none. absurd (omega (arith, none)))
 
+  -- ---- each is listed once
+
+  abbrev Once : List ℕ → Type 0
+  Once list = (i j r : ℕ) → slice_get list i ≡ Some r → slice_get list j ≡ Some r → i ≡ j
+
+  once_more : (m : Marking) (r : ℕ) → slice_get m.marks r ≡ Some false → Sound m → Once m.list → Once (m.list ++ r ∷ [])
+  once_more m r e s once i j q f g = by (equal_or_not i (length m.list)) (equal_or_not j (length m.list))
+    where
+      more : List ℕ
+      more = m.list ++ r ∷ []
+
+      older : (k : ℕ) → slice_get more k ≡ Some q → (k ≡ length m.list → ⊥) → slice_get m.list k ≡ Some q
+      older k h other =
+          let within = get-below more k q h in
+          let size = length-more m.list r in
+          sym (get-older m.list r k (omega (arith, within, size, other))) ∙ h
+
+      -- the new one was marked before, if it was listed
+      never : (k n : ℕ) → slice_get more k ≡ Some q → k ≡ length m.list → slice_get m.list n ≡ Some q → ⊥
+      never k n h is old =
+          let new : Some r ≡ Some q = sym (get-newest m.list r) ∙ ap (slice_get more) (sym is) ∙ h in
+          let same_one : r ≡ q = cc in
+          let marked : slice_get m.marks r ≡ Some true = ap (slice_get m.marks) same_one ∙ s.marked n q old in
+          cc
+
+      by : (i ≡ length m.list) ⊎ (i ≡ length m.list → ⊥) → (j ≡ length m.list) ⊎ (j ≡ length m.list → ⊥) → i ≡ j
+      by (inl a) (inl b) = a ∙ sym b
+      by (inl a) (inr b) = absurd (never i j f a (older j g b))
+      by (inr a) (inl b) = absurd (never j i g b (older i f a))
+      by (inr a) (inr b) = once i j q (older i f a) (older j g b)
+
+  once_noted : (m : Marking) (o : Option ℕ) → Sound m → Once m.list → Once (noted m o).list
+  once_noted m None s once = once
+  once_noted m (Some r) s once = by (slice_get m.marks r) refl
+    where
+      by : (mark : Option Bool) → slice_get m.marks r ≡ mark → Once (noted_at m r mark).list
+      by None e = once
+      by (Some true) e = once
+      by (Some false) e = once_more m r e s once
+
+  once_all : (m : Marking) (rs : List (Option ℕ)) → Sound m → AllLed rs → Once m.list → Once (all_noted m rs).list
+  once_all m [] s led once = once
+  once_all m (o ∷ rs) s led once =
+      let one = noted_after m o s (λ r is. led 0 r is) in
+      once_all (noted m o) rs one.sound (λ k r is. led (suc k) r is) (once_noted m o s once)
+
+  once_spread : (steps n : ℕ) (m : Marking) → Sound m → Once m.list → Once (spread w steps n m).list
+  once_spread zero n m s once = once
+  once_spread (suc steps) n m s once = by (slice_get m.list n) refl (λ r is. (
+      let led = words_led r (s.reached r (s.marked n r is)) in
+      let after = all_after m (words_of w.objects r) s led in
+      once_spread steps (suc n) (all_noted m (words_of w.objects r)) after.sound (once_all m (words_of w.objects r) s led once)
+      ))
+    where
+      by : (o : Option ℕ) → slice_get m.list n ≡ o
+          → ((r : ℕ) → slice_get m.list n ≡ Some r → Once (spread w steps (suc n) (all_noted m (words_of w.objects r))).list)
+          → Once (with_listed m o (λ r. spread w steps (suc n) (all_noted m (words_of w.objects r)))).list
+      by None e rest = once
+      by (Some r) e rest = rest r e
+
+  all_once : Once (marked w count).list
+  all_once = once_spread count 0 (all_noted (unmarked count) (roots_of w)) (from_roots).sound
+      (once_all (unmarked count) (roots_of w) none_marked (root_reached w) (λ i j r e. absurd (cc)))
+
+  -- ---- the errors that were made before the run come first
+
+  unmarked_at : (n r : ℕ) → r < n → slice_get (replicate n false) r ≡ Some false
+  unmarked_at zero r l = absurd (omega (arith, l))
+  unmarked_at (suc n) zero l = refl
+  unmarked_at (suc n) (suc r) l = unmarked_at n r (omega (arith, l))
+
+  abbrev errors : Marking
+  errors = noted (noted (unmarked count) (Some 1)) (Some 2)
+
+  abbrev rest_of_roots : List (Option ℕ)
+  rest_of_roots = slots_of w ++ flat_map roots_of_thread w.threads
+
+  errors_are : 2 < count → errors.list ≡ 1 ∷ 2 ∷ []
+  errors_are l =
+      let first : slice_get (replicate count false) 1 ≡ Some false = unmarked_at count 1 (omega (arith, l)) in
+      let second : slice_get (set (replicate count false) 1 true) 2 ≡ Some false =
+      get-set_other (replicate count false) 2 1 true (λ e. (omega (arith, e))) ∙ unmarked_at count 2 l in
+      ap (λ o. (noted (noted_at (unmarked count) 1 o) (Some 2)).list) first
+      ∙ ap (λ o. (noted_at (with_mark (unmarked count) 1) 2 o).list) second
+
+  errors_kept : Grows errors (marked w count)
+  errors_kept =
+      let one = noted_after (unmarked count) (Some 1) none_marked (λ r is. root_reached w 0 r is) in
+      let two = noted_after (noted (unmarked count) (Some 1)) (Some 2) one.sound (λ r is. root_reached w 1 r is) in
+      let rest = all_after errors rest_of_roots two.sound (λ k r is. root_reached w (suc (suc k)) r is) in
+      then errors (all_noted errors rest_of_roots) (marked w count) rest.grows (whole).grows
+
   module _ (all : length w.objects ≤ count) where
     -- what a marked reference leads to is marked
     leads_marked : (steps a b : ℕ) → (a < count → IsMarked (marked w count) a) → b < count
@@ -375,3 +467,15 @@ module _ (w : World) (count : ℕ) where
         (alike mark.0 (is_reached w r)
         (λ e. Reach-is_reached w r ((whole).sound.reached r (mark.1 ∙ ap (λ (t : Bool). Some t) e)))
         (λ e. (let same : Some mark.0 ≡ Some true = sym mark.1 ∙ reached_marked r below e in cc)))
+
+    -- so the list is a walk
+    pub walked : ((b : ℕ) → Reach w b → b < count) → IsWalk w (marked w count).list
+    walked made =
+        let l = made 2 (root_reached w 1 2 refl) in
+        record {
+          complete = λ b path. (whole).sound.listed b (reached_marked b (made b path) (Reach-is_reached w b path));
+          only = λ k b e. (whole).sound.reached b ((whole).sound.marked k b e);
+          once = all_once;
+          memory_error = (errors_kept).list 0 1 (ap (λ list. slice_get list 0) (errors_are l));
+          stack_error = (errors_kept).list 1 2 (ap (λ list. slice_get list 1) (errors_are l));
+        }

@@ -1,8 +1,8 @@
-use Rattle.std.specs.Prelude.{ℕ, zero, suc, List, [], ◌∷◌, ◌++◌, replicate, slice_get, slice_set, Bool, true, false}
+use Rattle.std.specs.Prelude.{◌≡◌, ℕ, zero, suc, List, [], ◌∷◌, ◌++◌, replicate, slice_get, slice_set, Bool, true, false}
 use Rattle.std.specs.Prelude.{Option, Some, None}
 use Rattle.model.specs.Frames.{Frame}
 use Rattle.model.specs.Worlds.{World}
-use Rattle.model.specs.Collector.Places.{entries_at, monitor_at, words_of}
+use Rattle.model.specs.Collector.Places.{Reach, entries_at, monitor_at, words_of}
 use Rattle.model.specs.Collector.Reached.{roots_of}
 
 -- A marking of all that paths from the roots lead to: what was reached is noted once, and then its words are looked at.
@@ -48,3 +48,13 @@ spread w (suc steps) n m = with_listed m (slice_get m.list n)
 -- all that paths lead to
 abbrev pub marked : World → ℕ → Marking
 marked w count = spread w count 0 (all_noted (unmarked count) (roots_of w))
+
+-- ---- what such a list is: a walk through all that paths lead to
+
+-- each once, the two errors that were made before the run first
+pub record IsWalk (w : World) (list : List ℕ) : Type 0 where
+  pub complete : (b : ℕ) → Reach w b → (k : ℕ) × (slice_get list k ≡ Some b)
+  pub only : (k b : ℕ) → slice_get list k ≡ Some b → Reach w b
+  pub once : (j k b : ℕ) → slice_get list j ≡ Some b → slice_get list k ≡ Some b → j ≡ k
+  pub memory_error : slice_get list 0 ≡ Some 1
+  pub stack_error : slice_get list 1 ≡ Some 2

@@ -8,6 +8,6 @@ pub mod steps;
 #[cfg(test)]
 mod tests;
 
-pub use reaching::reached;
+pub use reaching::{Reaching, reached};
 pub use references::References;
 pub use steps::{append_quickly, collect_step};

@@ -10,9 +10,10 @@ use crate::references::References;
 use std::alloc::{AllocError, Global};
 use std::marker::Model;
 
-/// For each reference whether it was reached, and those that were, in the order in which they were found.
+/// For each reference whether it was reached, and those that were, in the order in which they were found. Who walks a
+/// heap of its own notes roots and words in the order of `marked`; what is listed then is a walk (`walked`).
 #[derive(Drop)]
-struct Reaching {
+pub struct Reaching {
     marks: Vec<bool>,
     list: Vec<u32>,
 }
@@ -27,7 +28,7 @@ impl Model for Reaching {
 
 impl Reaching {
     /// So many references, none of which was reached. `AllocError` where memory runs out, here and below.
-    fn new(alloc: Global, count: u32) -> Result<Reaching, AllocError>
+    pub fn new(alloc: Global, count: u32) -> Result<Reaching, AllocError>
         ensures { IfOk result (λ reaching. reaching ≡ unmarked count) }
     {
         Ok(Reaching {
@@ -37,7 +38,7 @@ impl Reaching {
     }
 
     /// Notes that a reference was reached, if there is one and it wasn't before.
-    fn note(&mut self, reference: Option<u32>) -> Result<(), AllocError>
+    pub fn note(&mut self, reference: Option<u32>) -> Result<(), AllocError>
         ensures { OnOk result (self.new ≡ noted self.old reference) }
     {
         let Some(reference) = reference else {
@@ -51,10 +52,17 @@ impl Reaching {
     }
 
     /// The reference that was the nth to be noted, if there was one.
-    fn listed(&self, n: u32) -> Option<u32>
+    pub fn listed(&self, n: u32) -> Option<u32>
         ensures { result ≡ slice_get self.now.list n }
     {
         self.list.get(n as usize).copied()
+    }
+
+    /// All that was noted, in order.
+    pub fn list(&self) -> &[u32]
+        ensures { result.now ≡ self.now.list }
+    {
+        &self.list
     }
 
     /// The static slots are reached.

@@ -194,7 +194,7 @@ module _ (program : List ClassListing) where
     live_frames (Some (Live fs)) e = (fs, refl)
     live_frames (Some (Ended by)) e = absurd (cc)
 
-    live_at : (w : World) (t : ℕ) → refusal program limits w (ThreadActor t) ≡ None
+    pub live_at : (w : World) (t : ℕ) → refusal program limits w (ThreadActor t) ≡ None
         → (fs : List Frame) × (slice_get w.threads t ≡ Some (Live fs))
     live_at w t e = live_frames (slice_get w.threads t) (ready_lives (is_none w.fault) (is_live w t)
         (not (waits (completion program w t))) (by_ready w t (is_ready program w t) refl (not_refused w t e)))

@@ -1,0 +1,337 @@
+use Rattle.std.proofs.Common.{◌≡◌, ℕ, ◌≤◌, ◌/◌, ◌%◌, ℤ, pos, negsuc, List, [], ◌∷◌, ◌++◌, length, slice_get, get_or}
+use Rattle.std.proofs.Common.{nat_lt, Bool, true, false, if◌then◌else◌, Option, Some, None, refl, sym, ◌∙◌, ap, arith}
+use Rattle.std.specs.List.{flat_map}
+use Rattle.std.specs.Str.{bytes_eq}
+use Rattle.std.proofs.lemmas.List.{append_assoc}
+use Rattle.std.proofs.lemmas.List.Quantifiers.{position-Some}
+use Rattle.std.proofs.lemmas.Slice.Eq.{bytes_eq-Decides}
+use Rattle.model.specs.declared.turns.ClassState.TheVariants.{Unused, Running, Done, Failed}
+use Rattle.model.specs.declared.turns.Fault.{Fault}
+use Rattle.model.specs.declared.turns.Fault.TheVariants.{StackEmpty, StackFull, WrongKind, WrongLocal, NoInstruction}
+use Rattle.model.specs.declared.turns.Fault.TheVariants.{WrongClass, WrongReturn, ThreadLimit, NoMethod, MonitorLimit}
+use Rattle.model.specs.declared.turns.Mark.TheVariants.{Unmarked, Waiting, Failing}
+use Rattle.model.specs.declared.values.Entry.TheVariants.{Unset, Holds, UpperHalf}
+use Rattle.model.specs.declared.values.Value.{Value}
+use Rattle.model.specs.declared.values.Value.TheVariants.{Int, Long, Ref}
+use Rattle.model.specs.Faults.{fault_number}
+use Rattle.model.specs.Worlds.Thread.{Live, Ended}
+use Rattle.model.specs.Worlds.Contents.{Instance, Array}
+use Rattle.exploring.specs.Keys.{value, entry, mark, frame, state, fault, bytes, name_at, place_of, name, field, contents}
+use Rattle.exploring.specs.Keys.{object, thread, key, KeysTell}
+use Rattle.exploring.specs.Keys.{two, four, eight, number, folded, integer, perhaps, each, IsReadBack}
+
+-- a row of bytes is read back, part by part
+
+cons_back : (a b : ℕ) (s t : List ℕ) → a ∷ s ≡ b ∷ t → (a ≡ b) × (s ≡ t)
+cons_back a b s t e = (cc, cc)
+
+-- two rows that tell the same of what they are made of, whatever comes after them
+record Tells (p q : List ℕ) (P : Type 0) : Type 0 where
+  told : (s t : List ℕ) → p ++ s ≡ q ++ t → P × (s ≡ t)
+
+of_part : {A : Type 0} (part : A → List ℕ) → IsReadBack part → (x y : A) → Tells (part x) (part y) (x ≡ y)
+of_part part back x y = record { told = back x y }
+
+and_then : {P Q : Type 0} (a b c d : List ℕ) → Tells a b P → Tells c d Q → Tells (a ++ c) (b ++ d) (P × Q)
+and_then a b c d f g = record {
+  told = λ s t e. (
+      let one = f.told (c ++ s) (d ++ t) (sym (append_assoc a c s) ∙ e ∙ append_assoc b d t) in
+      let other = g.told s t one.1 in
+      ((one.0, other.0), other.1)
+      );
+}
+
+-- ---- numbers
+
+pub two_back : IsReadBack two
+two_back n m s t e =
+    let low : n % 256 ≡ m % 256 = cc in
+    let high : n / 256 ≡ m / 256 = cc in
+    (omega (arith, low, high), cc)
+
+pub four_back : IsReadBack four
+four_back n m s t e =
+    let k = (and_then _ _ _ _ (of_part two two_back (n % 65536) (m % 65536))
+    (of_part two two_back (n / 65536) (m / 65536))).told s t e in
+    let low = k.0.0 in
+    let high = k.0.1 in
+    (omega (arith, low, high), k.1)
+
+pub eight_back : IsReadBack eight
+eight_back n m s t e =
+    let k = (and_then _ _ _ _ (of_part four four_back (n % 4294967296) (m % 4294967296))
+    (of_part four four_back (n / 4294967296) (m / 4294967296))).told s t e in
+    let low = k.0.0 in
+    let high = k.0.1 in
+    (omega (arith, low, high), k.1)
+
+pub number_back : IsReadBack number
+number_back n m s t e = by (nat_lt n 255) (nat_lt m 255) refl refl e
+  where
+    small : (n : ℕ) → nat_lt n 255 ≡ true → n ≡ 255 → ⊥
+    small n k q = grind (arith, k, q)
+
+    by : (a b : Bool) → nat_lt n 255 ≡ a → nat_lt m 255 ≡ b
+        → (if a then n ∷ [] else 255 ∷ eight n) ++ s ≡ (if b then m ∷ [] else 255 ∷ eight m) ++ t → (n ≡ m) × (s ≡ t)
+    by true true f g k = cons_back n m s t k
+    by true false f g k = absurd (small n f (cons_back n 255 s (eight m ++ t) k).0)
+    by false true f g k = absurd (small m g (sym (cons_back 255 m (eight n ++ s) t k).0))
+    by false false f g k = eight_back n m s t (cons_back 255 255 (eight n ++ s) (eight m ++ t) k).1
+
+folded_back : (x y : ℤ) → folded x ≡ folded y → x ≡ y
+folded_back (pos n) (pos m) e = (let k : n ≡ m = omega (arith, e) in ap pos k)
+folded_back (pos n) (negsuc m) e = absurd (omega (arith, e))
+folded_back (negsuc n) (pos m) e = absurd (omega (arith, e))
+folded_back (negsuc n) (negsuc m) e = (let k : n ≡ m = omega (arith, e) in ap negsuc k)
+
+pub integer_back : IsReadBack integer
+integer_back x y s t e = let k = number_back (folded x) (folded y) s t e in (folded_back x y k.0, k.1)
+
+pub perhaps_back : IsReadBack perhaps
+perhaps_back None None s t e = (refl, cc)
+perhaps_back None (Some m) s t e = absurd (cc)
+perhaps_back (Some n) None s t e = absurd (cc)
+perhaps_back (Some n) (Some m) s t e = let k = number_back n m s t (cons_back 1 1 (number n ++ s) (number m ++ t) e).1
+    in (ap (λ (x : ℕ). Some x) k.0, k.1)
+
+-- ---- lists
+
+-- what is told where there are as many
+counted : (p q : List ℕ) (n m : ℕ) (P : Type 0) → (n ≡ m → (s t : List ℕ) → p ++ s ≡ q ++ t → P × (s ≡ t))
+    → (s t : List ℕ) → (number n ++ p) ++ s ≡ (number m ++ q) ++ t → P × (s ≡ t)
+counted p q n m P rest s t e =
+    let k = number_back n m (p ++ s) (q ++ t) (sym (append_assoc (number n) p s) ∙ e ∙ append_assoc (number m) q t) in
+    rest k.0 s t k.1
+
+module _ {A : Type 0} (part : A → List ℕ) (back : IsReadBack part) where
+  all_back : (xs ys : List A) (s t : List ℕ) → length xs ≡ length ys → flat_map part xs ++ s ≡ flat_map part ys ++ t
+      → (xs ≡ ys) × (s ≡ t)
+  all_back [] [] s t k e = (refl, e)
+  all_back [] (y ∷ ys) s t k e = absurd (cc)
+  all_back (x ∷ xs) [] s t k e = absurd (cc)
+  all_back (x ∷ xs) (y ∷ ys) s t k e =
+      let both = (and_then _ _ _ _ (of_part part back x y) (record {
+        told = λ u v. all_back xs ys u v (omega (arith, k));
+      })).told s t e in
+      (rw (both.0.0, both.0.1) refl, both.1)
+
+  pub each_back : IsReadBack (each part)
+  each_back xs ys s t e = counted (flat_map part xs) (flat_map part ys) (length xs) (length ys) (xs ≡ ys)
+      (λ k u v. all_back xs ys u v k) s t e
+
+-- ---- values, frames, states of classes and faults
+
+tagged : (a : ℕ) (r q s t : List ℕ) → (a ∷ r) ++ s ≡ (a ∷ q) ++ t → r ++ s ≡ q ++ t
+tagged a r q s t e = (cons_back a a (r ++ s) (q ++ t) e).1
+
+pub value_back : IsReadBack value
+value_back (Int x) (Int y) s t e = let k = integer_back x y s t (tagged 0 (integer x) (integer y) s t e) in (ap Int k.0, k.1)
+value_back (Int x) (Long y) s t e = absurd (cc)
+value_back (Int x) (Ref None) s t e = absurd (cc)
+value_back (Int x) (Ref (Some b)) s t e = absurd (cc)
+value_back (Long x) (Int y) s t e = absurd (cc)
+value_back (Long x) (Long y) s t e = let k = integer_back x y s t (tagged 1 (integer x) (integer y) s t e) in (ap Long k.0, k.1)
+value_back (Long x) (Ref None) s t e = absurd (cc)
+value_back (Long x) (Ref (Some b)) s t e = absurd (cc)
+value_back (Ref None) (Int y) s t e = absurd (cc)
+value_back (Ref None) (Long y) s t e = absurd (cc)
+value_back (Ref None) (Ref None) s t e = (refl, cc)
+value_back (Ref None) (Ref (Some b)) s t e = absurd (cc)
+value_back (Ref (Some a)) (Int y) s t e = absurd (cc)
+value_back (Ref (Some a)) (Long y) s t e = absurd (cc)
+value_back (Ref (Some a)) (Ref None) s t e = absurd (cc)
+value_back (Ref (Some a)) (Ref (Some b)) s t e =
+    let k = number_back a b s t (tagged 3 (number a) (number b) s t e) in (ap (λ (x : ℕ). Ref (Some x)) k.0, k.1)
+
+-- a value never begins as what is none
+not_value : (v : Value) (n : ℕ) (s t : List ℕ) → 4 ≤ n → n ∷ t ≡ value v ++ s → ⊥
+not_value (Int x) n s t l e = (let k = (cons_back n 0 t (integer x ++ s) e).0 in omega (arith, l, k))
+not_value (Long x) n s t l e = (let k = (cons_back n 1 t (integer x ++ s) e).0 in omega (arith, l, k))
+not_value (Ref None) n s t l e = (let k = (cons_back n 2 t s e).0 in omega (arith, l, k))
+not_value (Ref (Some b)) n s t l e = (let k = (cons_back n 3 t (number b ++ s) e).0 in omega (arith, l, k))
+
+pub entry_back : IsReadBack entry
+entry_back Unset Unset s t e = (refl, cc)
+entry_back Unset (Holds v) s t e = absurd (not_value v 4 t s (omega arith) e)
+entry_back Unset UpperHalf s t e = absurd (cc)
+entry_back (Holds v) Unset s t e = absurd (not_value v 4 s t (omega arith) (sym e))
+entry_back (Holds v) (Holds w) s t e = let k = value_back v w s t e in (ap Holds k.0, k.1)
+entry_back (Holds v) UpperHalf s t e = absurd (not_value v 5 s t (omega arith) (sym e))
+entry_back UpperHalf Unset s t e = absurd (cc)
+entry_back UpperHalf (Holds v) s t e = absurd (not_value v 5 t s (omega arith) e)
+entry_back UpperHalf UpperHalf s t e = (refl, cc)
+
+pub mark_back : IsReadBack mark
+mark_back Unmarked Unmarked s t e = (refl, cc)
+mark_back Unmarked Waiting s t e = absurd (cc)
+mark_back Unmarked Failing s t e = absurd (cc)
+mark_back Waiting Unmarked s t e = absurd (cc)
+mark_back Waiting Waiting s t e = (refl, cc)
+mark_back Waiting Failing s t e = absurd (cc)
+mark_back Failing Unmarked s t e = absurd (cc)
+mark_back Failing Waiting s t e = absurd (cc)
+mark_back Failing Failing s t e = (refl, cc)
+
+numbers : (n m : ℕ) → Tells (number n) (number m) (n ≡ m)
+numbers n m = of_part number number_back n m
+
+pub frame_back : IsReadBack frame
+frame_back f g s t e =
+    let method = and_then _ _ _ _ (numbers f.method.class g.method.class) (numbers f.method.method g.method.method) in
+    let pc = and_then _ _ _ _ method (numbers f.pc g.pc) in
+    let locals = and_then _ _ _ _ pc (of_part (each entry) (each_back entry entry_back) f.locals g.locals) in
+    let stack = and_then _ _ _ _ locals (of_part (each value) (each_back value value_back) f.stack g.stack) in
+    let room = and_then _ _ _ _ stack (numbers f.room g.room) in
+    let monitor = and_then _ _ _ _ room (of_part perhaps perhaps_back f.monitor g.monitor) in
+    let all = (and_then _ _ _ _ monitor (of_part mark mark_back f.mark g.mark)).told s t e in
+    let k = all.0 in
+    (rw (k.0.0.0.0.0.0.0, k.0.0.0.0.0.0.1, k.0.0.0.0.0.1, k.0.0.0.0.1, k.0.0.0.1, k.0.0.1, k.0.1, k.1) refl, all.1)
+
+pub state_back : IsReadBack state
+state_back Unused Unused s t e = (refl, cc)
+state_back Unused (Running n) s t e = absurd (cc)
+state_back Unused Done s t e = absurd (cc)
+state_back Unused Failed s t e = absurd (cc)
+state_back (Running n) Unused s t e = absurd (cc)
+state_back (Running n) (Running m) s t e = let k = number_back n m s t (tagged 1 (number n) (number m) s t e)
+    in (ap Running k.0, k.1)
+state_back (Running n) Done s t e = absurd (cc)
+state_back (Running n) Failed s t e = absurd (cc)
+state_back Done Unused s t e = absurd (cc)
+state_back Done (Running m) s t e = absurd (cc)
+state_back Done Done s t e = (refl, cc)
+state_back Done Failed s t e = absurd (cc)
+state_back Failed Unused s t e = absurd (cc)
+state_back Failed (Running m) s t e = absurd (cc)
+state_back Failed Done s t e = absurd (cc)
+state_back Failed Failed s t e = (refl, cc)
+
+-- the faults by their numbers
+abbrev faults : List (Option Fault)
+faults = None ∷ Some StackEmpty ∷ Some StackFull ∷ Some WrongKind ∷ Some WrongLocal ∷ Some NoInstruction ∷ Some WrongClass
+    ∷ Some WrongReturn ∷ Some ThreadLimit ∷ Some NoMethod ∷ Some MonitorLimit ∷ []
+
+of_number : (f : Fault) → slice_get faults (fault_number f) ≡ Some (Some f)
+of_number StackEmpty = refl
+of_number StackFull = refl
+of_number WrongKind = refl
+of_number WrongLocal = refl
+of_number NoInstruction = refl
+of_number WrongClass = refl
+of_number WrongReturn = refl
+of_number ThreadLimit = refl
+of_number NoMethod = refl
+of_number MonitorLimit = refl
+
+same_fault : (f g : Fault) → fault_number f ≡ fault_number g → f ≡ g
+same_fault f g e = (let k : Some (Some f) ≡ Some (Some g) = sym (of_number f) ∙ ap (slice_get faults) e ∙ of_number g in cc)
+
+not_none : (f : Fault) → fault_number f ≡ 0 → ⊥
+not_none f e = (let k : Some (Some f) ≡ Some None = sym (of_number f) ∙ ap (slice_get faults) e in cc)
+
+pub fault_back : IsReadBack fault
+fault_back None None s t e = (refl, cc)
+fault_back None (Some g) s t e = absurd (not_none g.0 (sym (cons_back 0 (fault_number g.0) s (number g.1 ++ t) e).0))
+fault_back (Some f) None s t e = absurd (not_none f.0 (cons_back (fault_number f.0) 0 (number f.1 ++ s) t e).0)
+fault_back (Some f) (Some g) s t e =
+    let k = cons_back (fault_number f.0) (fault_number g.0) (number f.1 ++ s) (number g.1 ++ t) e in
+    let thread = number_back f.1 g.1 s t k.1 in
+    (rw (same_fault f.0 g.0 k.0, thread.0) refl, thread.1)
+
+-- ---- rows of bytes
+
+raw_back : (xs ys s t : List ℕ) → length xs ≡ length ys → xs ++ s ≡ ys ++ t → (xs ≡ ys) × (s ≡ t)
+raw_back [] [] s t k e = (refl, e)
+raw_back [] (y ∷ ys) s t k e = absurd (cc)
+raw_back (x ∷ xs) [] s t k e = absurd (cc)
+raw_back (x ∷ xs) (y ∷ ys) s t k e =
+    let one = cons_back x y (xs ++ s) (ys ++ t) e in
+    let rest = raw_back xs ys s t (omega (arith, k)) one.1 in
+    (rw (one.0, rest.0) refl, rest.1)
+
+pub bytes_back : IsReadBack bytes
+bytes_back xs ys s t e = counted xs ys (length xs) (length ys) (xs ≡ ys) (λ k u v. raw_back xs ys u v k) s t e
+
+-- ---- what has names
+
+module _ (table : List (List ℕ)) where
+  place_tells : (i : ℕ) (m n : List ℕ) → place_of table m ≡ Some i → place_of table n ≡ Some i → m ≡ n
+  place_tells i m n e f =
+      let one = (bytes_eq-Decides m (get_or table i [])).0 (position-Some (bytes_eq m) table i [] e).1 in
+      let other = (bytes_eq-Decides n (get_or table i [])).0 (position-Some (bytes_eq n) table i [] f).1 in
+      one ∙ sym other
+
+  by_place : (m n : List ℕ) (i j : Option ℕ) → place_of table m ≡ i → place_of table n ≡ j → (s t : List ℕ)
+      → name_at m i ++ s ≡ name_at n j ++ t → (m ≡ n) × (s ≡ t)
+  by_place m n None None f g s t e = bytes_back m n s t (tagged 0 (bytes m) (bytes n) s t e)
+  by_place m n None (Some j) f g s t e = absurd (cc)
+  by_place m n (Some i) None f g s t e = absurd (cc)
+  by_place m n (Some i) (Some j) f g s t e =
+      let k = number_back i j s t (tagged 1 (number i) (number j) s t e) in
+      (place_tells i m n f (g ∙ ap (λ (x : ℕ). Some x) (sym k.0)), k.1)
+
+  pub name_back : IsReadBack (name table)
+  name_back m n s t e = by_place m n (place_of table m) (place_of table n) refl refl s t e
+
+  names : (m n : List ℕ) → Tells (name table m) (name table n) (m ≡ n)
+  names m n = of_part (name table) name_back m n
+
+  pub field_back : IsReadBack (field table)
+  field_back f g s t e =
+      let its = and_then _ _ _ _ (names f.class g.class) (names f.name g.name) in
+      let descriptor = and_then _ _ _ _ its (names f.descriptor g.descriptor) in
+      let all = (and_then _ _ _ _ descriptor (of_part value value_back f.value g.value)).told s t e in
+      let k = all.0 in
+      (rw (k.0.0.0, k.0.0.1, k.0.1, k.1) refl, all.1)
+
+  pub contents_back : IsReadBack (contents table)
+  contents_back (Instance c fs) (Instance d gs) s t e =
+      let all = (and_then _ _ _ _ (names c d) (of_part (each (field table)) (each_back (field table) field_back) fs gs)).told
+      s t (tagged 0 (name table c ++ each (field table) fs) (name table d ++ each (field table) gs) s t e) in
+      (rw (all.0.0, all.0.1) refl, all.1)
+  contents_back (Instance c fs) (Array d vs) s t e = absurd (cc)
+  contents_back (Array c vs) (Instance d gs) s t e = absurd (cc)
+  contents_back (Array c vs) (Array d ws) s t e =
+      let all = (and_then _ _ _ _ (names c d) (of_part (each value) (each_back value value_back) vs ws)).told s t
+      (tagged 1 (name table c ++ each value vs) (name table d ++ each value ws) s t e) in
+      (rw (all.0.0, all.0.1) refl, all.1)
+
+  pub object_back : IsReadBack (object table)
+  object_back o p s t e =
+      let owner = and_then _ _ _ _ (of_part (contents table) contents_back o.contents p.contents)
+      (of_part perhaps perhaps_back o.monitor.owner p.monitor.owner) in
+      let count = and_then _ _ _ _ owner (numbers o.monitor.count p.monitor.count) in
+      let all = (and_then _ _ _ _ count (of_part perhaps perhaps_back o.thread p.thread)).told s t e in
+      let k = all.0 in
+      (rw (k.0.0.0, k.0.0.1, k.0.1, k.1) refl, all.1)
+
+  pub thread_back : IsReadBack (thread table)
+  thread_back (Live fs) (Live gs) s t e =
+      let k = each_back frame frame_back fs gs s t (tagged 0 (each frame fs) (each frame gs) s t e) in (ap Live k.0, k.1)
+  thread_back (Live fs) (Ended None) s t e = absurd (cc)
+  thread_back (Live fs) (Ended (Some c)) s t e = absurd (cc)
+  thread_back (Ended None) (Live gs) s t e = absurd (cc)
+  thread_back (Ended None) (Ended None) s t e = (refl, cc)
+  thread_back (Ended None) (Ended (Some c)) s t e = absurd (cc)
+  thread_back (Ended (Some c)) (Live gs) s t e = absurd (cc)
+  thread_back (Ended (Some c)) (Ended None) s t e = absurd (cc)
+  thread_back (Ended (Some c)) (Ended (Some d)) s t e =
+      let k = name_back c d s t (tagged 2 (name table c) (name table d) s t e) in
+      (ap (λ (x : List ℕ). Ended (Some x)) k.0, k.1)
+
+  pub key_back : IsReadBack (key table)
+  key_back v w s t e =
+      let fields = and_then _ _ _ _ (of_part (each (thread table)) (each_back (thread table) thread_back) v.threads w.threads)
+      (of_part (each (field table)) (each_back (field table) field_back) v.statics.fields w.statics.fields) in
+      let states = and_then _ _ _ _ fields (of_part (each state) (each_back state state_back) v.statics.states
+      w.statics.states) in
+      let output = and_then _ _ _ _ states (of_part bytes bytes_back v.output w.output) in
+      let objects = and_then _ _ _ _ output (of_part (each (object table)) (each_back (object table) object_back) v.objects
+      w.objects) in
+      let faults = and_then _ _ _ _ objects (of_part fault fault_back v.fault w.fault) in
+      let all = (and_then _ _ _ _ faults (numbers v.rows w.rows)).told s t e in
+      let k = all.0 in
+      (rw (k.0.0.0.0.0.0, k.0.0.0.0.0.1, k.0.0.0.0.1, k.0.0.0.1, k.0.0.1, k.0.1, k.1) refl, all.1)
+
+pub keys_tell : KeysTell
+keys_tell table v w e = (key_back table v w [] [] (ap (λ xs. xs ++ []) e)).0

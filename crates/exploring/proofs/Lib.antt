@@ -1,0 +1,5 @@
+pub mod CanonicalLemmas
+pub mod ExpansionLemmas
+pub mod KeyLemmas
+pub mod StateLemmas
+pub mod WalkLemmas

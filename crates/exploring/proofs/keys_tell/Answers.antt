@@ -1,0 +1,5 @@
+use Rattle.exploring.proofs.KeyLemmas.{keys_tell}
+use Rattle.exploring.proofs.keys_tell.Goals as goal
+
+pub returns : goal.returns
+returns c = keys_tell

@@ -1,0 +1,4 @@
+pub mod Canonical
+pub mod Expansion
+pub mod Keys
+pub mod States

@@ -1,0 +1,21 @@
+//! The states of a program that a search through its schedules finds: canonical forms of worlds, a set of them, in which
+//! each is known by a row of bytes, and what the turns of a state lead to.
+#![tactic(auto)]
+
+ghost use Rattle.exploring.specs.Keys.{KeysTell};
+
+mod forms;
+mod frontier;
+mod keys;
+mod names;
+mod states;
+mod walk;
+
+pub use forms::canonical;
+pub use frontier::Frontier;
+pub use states::States;
+
+/// Worlds whose keys are equal are equal, whichever names the table has.
+pub fn keys_tell()
+    ensures { KeysTell }
+{}
