@@ -2,3 +2,4 @@ pub mod Deciding
 pub mod Alike
 pub mod Shown
 pub mod Followed
+pub mod Compared

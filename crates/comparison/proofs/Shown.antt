@@ -1,18 +1,18 @@
 -- The comparisons together tell whether the cells show a world.
 use Rattle.std.proofs.Common.{◌≡◌, Decides, Bool, true, false, ◌&&◌, map, refl}
-use Rattle.model.specs.Heaps.{heap_of}
 use Rattle.model.specs.Machines.{Recorded, machine_of}
 use Rattle.model.specs.Observers.{ideal}
 use Rattle.model.specs.Shows.{HeapWorld, Shows}
 use Rattle.model.specs.Worlds.{World}
 use Rattle.scheduler.specs.LosesNothing.{LosesNothing}
+use Rattle.scheduler.specs.OnCells.{cells_of, heap_on}
 use Rattle.scheduler.specs.Showing.{Alike, AreHeld, SameBeside, shown_in}
 use Rattle.comparison.proofs.Alike.{alike_shown, shown_alike}
 use Rattle.scheduler.proofs.HeldCells.{held_objects, objects_held}
 
 module _ (v : Recorded) (w : World) (sound : LosesNothing v) where
   abbrev cells : HeapWorld
-  cells = heap_of (machine_of v).account (machine_of v).world
+  cells = heap_on (cells_of v)
 
   alike : Shows cells w → Alike (ideal v) w
   alike = shown_alike cells (ideal v) w sound.shown
@@ -32,7 +32,7 @@ module _ (v : Recorded) (w : World) (sound : LosesNothing v) where
           fault = rest.2;
           rows = rest.3;
           births = rest.4;
-          objects = held_objects v.journal.shape (machine_of v) w sound.kept sound.shown (o.0 refl);
+          objects = held_objects v.journal.shape (machine_of v) w sound.kept cells sound.shown (o.0 refl);
         }),
         λ e. refl,
       )
@@ -44,6 +44,6 @@ module _ (v : Recorded) (w : World) (sound : LosesNothing v) where
   shows_decides true true false objects b t s o = (λ e. absurd (cc), λ e. s.1 (alike e).slots)
   shows_decides true true true false b t s o = (
     λ e. absurd (cc),
-    λ e. o.1 (objects_held v.journal.shape (machine_of v) w sound.kept sound.shown
+    λ e. o.1 (objects_held v.journal.shape (machine_of v) w sound.kept cells sound.shown
         (alike e).objects),
   )

@@ -1,174 +1,73 @@
-//! A run beside the reference: the turns of its journal are made once more by a second world and by the ideal run, and
+//! A run beside a reference: the turns of its journal are made once more by a second world and by the reference, and
 //! what the cells show is compared after each.
-ghost use Rattle.std.specs.Prelude.{◌≡◌, ◌<◌, ◌↔◌, [], IfOk, IsTrue, OnOk, None, Some, true};
-ghost use Rattle.std.specs.List.{All};
-ghost use Rattle.model.specs.declared.journals.Outcome.TheVariants.{Fault};
+ghost use Rattle.std.specs.Prelude.{◌≡◌, ◌<◌, ◌↔◌, [], Decides, IfOk, IsTrue, None, Some, true};
 ghost use Rattle.model.specs.Journals.{AreOfWorkers};
 ghost use Rattle.model.specs.Machines.{noted, row_for};
-ghost use Rattle.ideal_run.specs.Effected.{choice_in};
+ghost use Rattle.model.specs.Shows.{Shows};
 ghost use Rattle.ideal_run.specs.Runs.{opening_run};
-ghost use Rattle.comparison.specs.Checking.{IsNoFault, reference_of, reported_choice};
-ghost use Rattle.scheduler.specs.Replaying.{IsMade, with_all};
+ghost use Rattle.comparison.specs.Checking.{reference_of};
+ghost use Rattle.comparison.specs.Compared.{AgreesIf, IsFirstOther};
+ghost use Rattle.scheduler.specs.OnCells.{cells_of, heap_on};
+ghost use Rattle.scheduler.specs.Replaying.{with_all};
 
-use crate::showing::shows;
-use ideal_run::{Choice, Ideal};
-use loader::programs::Program;
-use model::journals::{Limits, Outcome, Row};
+use crate::references::{IdealReference, Reference};
+use crate::showing::shows_world;
+use model::journals::Row;
 use model::row_runs::Rows;
 use model::watching::{Unwatched, Watch};
-use scheduler::replaying::SoundJournal;
+use scheduler::replaying::{SoundJournal, turn_row};
 use scheduler::worlds::{World, WorldError};
 use std::alloc::{AllocError, Global};
 
-/// The choice that an outcome tells: room, where the turn asked for no cell or was at fault.
-fn reported_choice(outcome: Outcome) -> Choice
-    ensures { choice_in result ≡ reported_choice outcome }
+/// Whether a turn made this row.
+fn is_row(made: Option<Row>, row: Row) -> bool
+    ensures { Decides result (made ≡ Some row) }
 {
-    match outcome {
-        Outcome::NoRoom => Choice::NoRoom,
-        Outcome::Done | Outcome::Object | Outcome::Fault => Choice::NewObject,
-    }
+    made == Some(row)
 }
 
-/// Whether a row's turn was at fault.
-fn is_at_fault(row: Row) -> bool
-    ensures { IsTrue result ↔ (row.outcome ≡ Fault) }
-{
-    row.outcome == Outcome::Fault
-}
-
-/// The ideal run of a program before its first turn. `AllocError` where memory runs out, here and below.
-fn reference<'a>(
-    alloc: Global,
-    program: &'a Program,
-    limits: Limits,
-) -> Result<Ideal<'a>, AllocError>
-    ensures { IfOk result (λ run. run ≡ opening_run program.now limits) }
-{
-    match Ideal::new(alloc, program.listings(), limits)? {
-        Some(run) => Ok(run),
-        // a program's classes have their parents, and none is above itself
-        None => unreachable!(),
-    }
-}
-
-/// The ideal run that has followed the rows of a world, none of which is at fault.
-fn made_again<'a>(
-    alloc: Global,
-    program: &'a Program,
-    world: &World,
-) -> Result<Ideal<'a>, AllocError>
-    requires program { world.now.program ≡ program.now }
-    requires clean { All IsNoFault world.now.journal.rows }
-    ensures { IfOk result (λ run. run ≡ reference_of world.now) }
-{
-    let journal = world.journal();
-    let mut run = reference(alloc, program, journal.limits())?;
-    for row in journal.rows() {
-        run.turn(row.actor, reported_choice(row.outcome))?;
-    }
-    Ok(run)
-}
-
-/// Makes the turn of a row at fault after the rows of a world. Such a row doesn't tell whether there was room: there
-/// was, if the turn comes to a fault with room.
-fn follow_fault<'a>(
-    run: &mut Ideal<'a>,
-    alloc: Global,
-    program: &'a Program,
-    world: &World,
-    row: Row,
-) -> Result<(), AllocError>
-    requires program { world.now.program ≡ program.now }
-    requires beside { run.old ≡ reference_of world.now }
-    requires fault { row.outcome ≡ Fault }
-    ensures { OnOk result (run.new ≡ reference_of (noted world.now row)) }
-{
-    world.is_made();
-    run.turn(row.actor, Choice::NewObject)?;
-    match run.world().fault() {
-        Some(_) => Ok(()),
-        None => {
-            let mut again = made_again(alloc, program, world)?;
-            again.turn(row.actor, Choice::NoRoom)?;
-            *run = again;
-            Ok(())
-        }
-    }
-}
-
-/// Makes the turn of a row after the rows of a world.
-fn follow<'a>(
-    run: &mut Ideal<'a>,
-    alloc: Global,
-    program: &'a Program,
-    world: &World,
-    row: Row,
-) -> Result<(), AllocError>
-    requires program { world.now.program ≡ program.now }
-    requires beside { run.old ≡ reference_of world.now }
-    ensures { OnOk result (run.new ≡ reference_of (noted world.now row)) }
-{
-    if is_at_fault(row) {
-        return follow_fault(run, alloc, program, world, row);
-    }
-    run.turn(row.actor, reported_choice(row.outcome))?;
-    Ok(())
-}
-
-/// Whether the cells of a world show the ideal run that has followed its rows: they do.
-fn agrees(world: &World, run: &Ideal<'_>) -> Result<bool, AllocError>
-    requires { run.now ≡ reference_of world.now }
-    ensures { IfOk result (λ shown. shown ≡ true) }
-{
-    world.loses_nothing();
-    shows(world, run)
-}
-
-/// Makes the turn of a row that a run made, in a world and after its rows in the ideal run. Whether the world's cells
-/// show the ideal run then.
-fn agrees_after<'a>(
+/// Makes the turn of a row in a world, and after the world's rows in a reference. Whether the turn makes this row, and
+/// the world's cells show the reference then. `AllocError` where memory runs out, here and below.
+fn agrees_after<R: Reference>(
     world: &mut World,
-    run: &mut Ideal<'a>,
-    alloc: Global,
-    program: &'a Program,
+    reference: &mut R,
     row: Row,
 ) -> Result<bool, AllocError>
-    requires program { world.old.program ≡ program.now }
-    requires beside { run.old ≡ reference_of world.old }
+    requires beside { R.beside reference.old world.old }
     requires worker { row.worker < world.old.journal.workers }
-    requires made { row_for world.old row.actor row.worker ≡ Some row }
-    ensures world { OnOk result (world.new ≡ noted world.old row) }
-    ensures run { OnOk result (run.new ≡ reference_of (noted world.old row)) }
-    ensures shown { IfOk result (λ shown. shown ≡ true) }
+    ensures agrees { IfOk result (λ agrees. AgreesIf R.shown R.beside world.old row agrees) }
+    ensures world { IfOk result (λ agrees. agrees ≡ true → world.new ≡ noted world.old row) }
+    ensures beside { IfOk result (λ agrees. agrees ≡ true → R.beside reference.new (noted world.old row)) }
 {
-    follow(run, alloc, program, world, row)?;
-    let _ = world.turn_by(row.actor, row.worker);
-    let shown = agrees(world, run)?;
+    reference.follow(world, row)?;
+    let made = turn_row(world, row.actor, row.worker);
+    if !is_row(made, row) {
+        return Ok(false);
+    }
+    let shown = shows_world(world, reference.world())?;
     Ok(shown)
 }
 
-/// Makes the turns of these rows, which a run made, in a world that has made none and in the ideal run. The first row,
-/// from 1, after which they differ. A watch is told after each row after which they don't.
-fn compare<'a, P: Watch>(
+/// Compares a world that has made no turn with a reference, over the rows of a journal: makes the turn of each in both.
+/// The first row, from 1, that is another one than the turn makes, or after which the world's cells don't show what the
+/// reference shows (`shows`); `None` where there is none. A watch is told after each row after which they do.
+/// `AllocError` where memory runs out. It takes time in proportion to the heap and the frames for each row.
+pub fn compare<R: Reference, P: Watch>(
     world: &mut World,
-    run: &mut Ideal<'a>,
-    alloc: Global,
-    program: &'a Program,
+    reference: &mut R,
     mut rows: Rows<'_>,
     watch: &mut P,
 ) -> Result<Option<usize>, AllocError>
-    requires program { world.old.program ≡ program.now }
     requires empty { world.old.journal.rows ≡ [] }
-    requires made { IsMade (with_all world.old rows) }
     requires workers { AreOfWorkers world.old.journal.workers rows }
-    requires beside { run.old ≡ reference_of world.old }
-    ensures run { OnOk result (run.new ≡ reference_of (with_all world.old rows.entry)) }
-    ensures none { IfOk result (λ row. row ≡ None) }
+    requires beside { R.beside reference.old world.old }
+    ensures first { IfOk result (λ first. IsFirstOther R.shown R.beside 0 world.old rows.entry first) }
+    ensures followed { IfOk result (λ first. first ≡ None
+        → R.beside reference.new (with_all world.old rows.entry)) }
 {
     let count = rows.len();
     while let Some(row) = rows.next() {
-        if !agrees_after(world, run, alloc, program, row)? {
+        if !agrees_after(world, reference, row)? {
             return Ok(Some(count - rows.len()));
         }
         let left = rows.len();
@@ -178,7 +77,7 @@ fn compare<'a, P: Watch>(
 }
 
 /// A world of the same program, shape, limits and workers that has made no turn.
-fn reopened(alloc: Global, world: &World) -> Result<World, AllocError>
+pub fn reopened(alloc: Global, world: &World) -> Result<World, AllocError>
     ensures { IfOk result (λ again. again ≡ with_all world.now []) }
 {
     let journal = world.journal();
@@ -194,51 +93,60 @@ fn reopened(alloc: Global, world: &World) -> Result<World, AllocError>
     Ok(again)
 }
 
-/// The last row, where the cells of a world don't show the ideal run that has followed its rows.
-fn last_difference(world: &World, run: &Ideal<'_>) -> Result<Option<usize>, AllocError>
-    requires { run.now ≡ reference_of world.now }
+/// Compares a run with a reference that has made no turn: the turns of the world's journal are made once more, by a
+/// second world and by the reference. The first row, from 1, after which the second world's cells don't show what the
+/// reference shows; `None` where there is none. A watch is told after each row after which they do. `AllocError` where
+/// memory runs out.
+pub fn difference<R: Reference, P: Watch>(
+    alloc: Global,
+    world: &World,
+    reference: &mut R,
+    watch: &mut P,
+) -> Result<Option<usize>, AllocError>
+    requires { R.beside reference.old (with_all world.now []) }
+    ensures first { IfOk result (λ first. IsFirstOther R.shown R.beside 0 (with_all world.now [])
+        world.now.journal.rows first) }
+    ensures followed { IfOk result (λ first. first ≡ None → R.beside reference.new world.now) }
+{
+    let mut again = reopened(alloc, world)?;
+    let journal = world.journal();
+    let first = compare(&mut again, reference, journal.rows(), watch)?;
+    Ok(first)
+}
+
+/// The last row, where the cells of a world don't show the ideal run that has followed its rows: they do.
+fn last_difference(
+    world: &World,
+    reference: &IdealReference<'_>,
+) -> Result<Option<usize>, AllocError>
+    requires { reference.now.run ≡ reference_of world.now }
     ensures { IfOk result (λ row. row ≡ None) }
 {
-    if agrees(world, run)? {
+    world.loses_nothing();
+    if shows_world(world, reference.world())? {
         Ok(None)
     } else {
         Ok(Some(world.journal().rows().len()))
     }
 }
 
-/// Compares a run with the reference, from a world and an ideal run that have made no turn.
-fn difference_by<'a, P: Watch>(
-    alloc: Global,
-    world: &'a World,
-    again: &mut World,
-    run: &mut Ideal<'a>,
-    watch: &mut P,
-) -> Result<Option<usize>, AllocError>
-    requires again { again.old ≡ with_all world.now [] }
-    requires run { run.old ≡ opening_run world.now.program world.now.journal.limits }
-    ensures { IfOk result (λ row. row ≡ None) }
-{
-    let journal = world.journal();
-    journal.is_sound();
-    world.is_made();
-    match compare(again, run, alloc, world.program(), journal.rows(), watch)? {
-        Some(row) => Ok(Some(row)),
-        None => last_difference(world, run),
-    }
-}
-
-/// The same, from a world that has made no turn.
-fn difference_from<P: Watch>(
+/// Compares a run with the ideal run of its program, which has made no turn.
+fn difference_by<P: Watch>(
     alloc: Global,
     world: &World,
-    again: &mut World,
+    reference: &mut IdealReference<'_>,
     watch: &mut P,
 ) -> Result<Option<usize>, AllocError>
-    requires { again.old ≡ with_all world.now [] }
+    requires program { reference.old.program.now ≡ world.now.program }
+    requires run { reference.old.run ≡ opening_run world.now.program world.now.journal.limits }
     ensures { IfOk result (λ row. row ≡ None) }
 {
-    let mut run = reference(alloc, world.program(), world.journal().limits())?;
-    difference_by(alloc, world, again, &mut run, watch)
+    world.journal().is_sound();
+    world.is_made();
+    match difference(alloc, world, reference, watch)? {
+        Some(row) => Ok(Some(row)),
+        None => last_difference(world, reference),
+    }
 }
 
 /// Compares a run with the reference, the ideal run of its program, which is plain code beside the definitions and on
@@ -262,6 +170,6 @@ pub fn first_difference_watched<P: Watch>(
 ) -> Result<Option<usize>, AllocError>
     ensures { IfOk result (λ row. row ≡ None) }
 {
-    let mut again = reopened(alloc, world)?;
-    difference_from(alloc, world, &mut again, watch)
+    let mut reference = IdealReference::new(alloc, world.program(), world.journal().limits())?;
+    difference_by(alloc, world, &mut reference, watch)
 }

@@ -3,6 +3,7 @@
 
 pub mod checking;
 mod comparing;
+pub mod references;
 mod showing;
 
-pub use showing::shows;
+pub use showing::{shows, shows_world};

@@ -1,9 +1,9 @@
 //! Whether the cells of a world show the world of an ideal run.
 ghost use Rattle.std.specs.Prelude.{◌≡◌, ◌&&◌, Decides, IfOk, Some, map};
-ghost use Rattle.model.specs.Heaps.{heap_of};
 ghost use Rattle.model.specs.Machines.{machine_of};
 ghost use Rattle.model.specs.Observers.{ideal, thread_of};
 ghost use Rattle.model.specs.Shows.{Held, Shows};
+ghost use Rattle.scheduler.specs.OnCells.{cells_of, heap_on};
 ghost use Rattle.scheduler.specs.Showing.{AreHeld, SameBeside, held_at, shown_in};
 
 use crate::comparing::{are_fields, are_states, is_fault, is_object, is_thread};
@@ -113,10 +113,10 @@ fn all_four(beside: bool, threads: bool, slots: bool, objects: bool) -> bool
     beside && threads && slots && objects
 }
 
-/// Whether the cells of a world show this one.
-fn shows_world(world: &World, other: &IdealWorld) -> Result<bool, AllocError>
+/// Whether the cells of a world show this one, as `shows` says.
+pub fn shows_world(world: &World, other: &IdealWorld) -> Result<bool, AllocError>
     ensures { IfOk result (λ shown. Decides shown
-        (Shows (heap_of (machine_of world.now).account (machine_of world.now).world) other.now)) }
+        (Shows (heap_on (cells_of world.now)) other.now)) }
 {
     world.loses_nothing();
     let beside = has_same_beside(world, other);
@@ -132,7 +132,7 @@ fn shows_world(world: &World, other: &IdealWorld) -> Result<bool, AllocError>
 /// takes time in proportion to the heap, the frames and the names of static fields.
 pub fn shows(world: &World, run: &Ideal<'_>) -> Result<bool, AllocError>
     ensures { IfOk result (λ shown. Decides shown
-        (Shows (heap_of (machine_of world.now).account (machine_of world.now).world) run.now.world)) }
+        (Shows (heap_on (cells_of world.now)) run.now.world)) }
 {
     shows_world(world, run.world())
 }

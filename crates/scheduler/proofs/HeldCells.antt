@@ -14,10 +14,9 @@ use Rattle.model.specs.Collector.Paths.{KeepsReachable}
 use Rattle.model.specs.Collector.Reached.{is_reached}
 use Rattle.model.specs.Collector.Runs.{Holds}
 use Rattle.model.specs.Collector.Table.{cell_at}
-use Rattle.model.specs.Heaps.{heap_of}
 use Rattle.model.specs.Machines.{Machine}
 use Rattle.model.specs.Objects.{object_at}
-use Rattle.model.specs.Shows.{Held, Shows}
+use Rattle.model.specs.Shows.{Held, HeapWorld, Shows}
 use Rattle.model.specs.Worlds.{World, Object}
 use Rattle.model.proofs.CollectorLemmas.Reaching.{is_reached-Reach, Reach-is_reached}
 use Rattle.join.specs.Joined.{Joint}
@@ -104,8 +103,8 @@ in_some_cell f a P tells [] k e = absurd (cc)
 in_some_cell f a P tells (cell ∷ cells) zero e = tells cell (cc)
 in_some_cell f a P tells (cell ∷ cells) (suc k) e = in_some_cell f a P tells cells k e
 
-module _ (shape : HeapShape) (m : Machine) (w : World) (kept : KeepsReachable shape m.world m.account)
-    (shown : Shows (heap_of m.account m.world) m.world) where
+module _ (shape : HeapShape) (m : Machine) (w : World) (kept : KeepsReachable shape m.world m.account) (heap : HeapWorld)
+    (shown : Shows heap m.world) where
   -- a cell to whose birth a path leads
   reached_cell : (b : ℕ) (y : Colour) → Reach m.world b → shown_in m (Taken b y) ≡ held_at m.world b
   reached_cell b y r = ap (λ (t : Bool). option_map (held_of b) (if t then object_at m.world b else None))

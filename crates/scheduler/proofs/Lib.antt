@@ -2,6 +2,8 @@ pub mod ErrorCells
 pub mod Noting
 pub mod Workers
 pub mod Making
+pub mod CellsMoved
+pub mod CellsShown
 pub mod Differing
 pub mod RoundRows
 pub mod RoundsLeft

@@ -34,13 +34,15 @@ use Rattle.model.proofs.CollectorLemmas.Running.{opening_holds, recorded_keeps}
 use Rattle.join.specs.Joined.{Bounded, Joint}
 use Rattle.join.specs.ReadBack.{ReadsBack, birth_read, object_on}
 use Rattle.join.specs.Runs.{TurnIsShown}
-use Rattle.join.specs.TurnsOnCells.{acted_on, counted_on, moved_on, outcome_on}
+use Rattle.join.specs.TurnsOnCells.{CellMachine, acted_on, counted_on, moved_on, outcome_on}
 use Rattle.join.proofs.Opening.{opening_bounded, opening_joins}
 use Rattle.join.proofs.ReadingBack.{reads_back}
 use Rattle.join.proofs.Runs.{turn_is_shown}
 use Rattle.instructions.specs.Loaded.{Loaded, fresh}
 use Rattle.instructions.proofs.Refusing.{unrefused_counted}
+use Rattle.scheduler.specs.OnCells.{cells_of}
 use Rattle.scheduler.specs.Worlds.{recorded, IsOf}
+use Rattle.scheduler.proofs.CellsMoved.{cells_next}
 use Rattle.scheduler.proofs.Making.{made_noted}
 
 after_last-push : (n : ℕ) (rows : List Row) (row : Row) → after_last n (rows ++ row ∷ [])
@@ -130,6 +132,9 @@ module _ (s : Loaded) (j : JournalValue) (k : ℕ) (is : IsOf s j k) where
       rows_are =
           ap (λ (w : World). w.rows) joint_after.joined.world ∙ rows_after
           ∙ ap (λ (n : ℕ). n + 1) (sym back.rows ∙ is.rows_are) ∙ sym (length-append j.rows (row ∷ []));
+      cells_are =
+          sym moved_is ∙ ap (λ (x : CellMachine). moved_on s.program j.shape j.limits x actor) is.cells_are
+          ∙ sym (cells_next v row);
       joint = joint_after;
       holds = subst (λ (u : Recorded). Holds j.shape (machine_of u)) after_is (recorded_keeps v actor worker is.holds);
       bounded = subst (λ (u : Recorded). Bounded (machine_of u).world) after_is shown.bounded;
@@ -215,11 +220,12 @@ module _ (s : Loaded) (j : JournalValue) (k : ℕ) (is : IsOf s j k) where
 pub opened_is : (program : List ClassListing) (shape : HeapShape) (limits : Limits)
     → ShapeFits shape.small shape.medium shape.large → opening_fits program ≡ true
     → IsOf (fresh program limits shape) (blank shape limits 1) 0
-unfolding machine_of
+unfolding machine_of cells_of
 opened_is program shape limits fits opens = record {
   limits_are = refl;
   shape_is = refl;
   rows_are = refl;
+  cells_are = refl;
   joint = opening_joins program shape fits;
   holds = opening_holds program shape fits.0;
   bounded = opening_bounded program;

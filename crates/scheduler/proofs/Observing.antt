@@ -15,6 +15,8 @@ use Rattle.model.specs.Worlds.Thread.{Live, Ended}
 use Rattle.join.specs.ReadBack.{birth_read}
 use Rattle.instructions.specs.HeldOnCells.{helds_from}
 use Rattle.instructions.specs.Loaded.{Loaded}
+use Rattle.join.specs.TurnsOnCells.{CellMachine}
+use Rattle.scheduler.specs.OnCells.{cells_of}
 use Rattle.scheduler.specs.Showing.{shown_in}
 use Rattle.scheduler.specs.Worlds.{IsOf, recorded}
 use Rattle.scheduler.proofs.HeldCells.{helds_are}
@@ -62,6 +64,10 @@ module _ (s : Loaded) (j : JournalValue) (k : ℕ) (is : IsOf s j k) where
       ≡ map (shown_in (machine_of (recorded s j))) (machine_of (recorded s j)).account.cells
   helds_is = helds_are s.program j.shape j.limits s.machine (machine_of (recorded s j)) is.holds is.joint
       (back s j k is)
+
+  pub helds_on_cells : helds_from s.machine 0 s.machine.account.cells
+      ≡ helds_from (cells_of (recorded s j)) 0 (cells_of (recorded s j)).account.cells
+  helds_on_cells = ap (λ (x : CellMachine). helds_from x 0 x.account.cells) is.cells_are
 
   pub place_is : (t : ℕ) → place_in s.machine.world t ≡ place_of (recorded s j) t
   place_is t =

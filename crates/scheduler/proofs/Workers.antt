@@ -7,6 +7,7 @@ use Rattle.model.specs.Machines.{Machine, machine_of}
 use Rattle.model.specs.Observers.{after_last}
 use Rattle.join.specs.Joined.{Bounded, Joint}
 use Rattle.instructions.specs.Loaded.{Loaded}
+use Rattle.scheduler.specs.OnCells.{cells_of}
 use Rattle.scheduler.specs.Worlds.{recorded, IsOf}
 
 -- a journal with these rows and so many workers
@@ -18,6 +19,11 @@ same_machine : (s : Loaded) (j : JournalValue) (workers : ℕ) → machine_of (r
 unfolding machine_of
 same_machine s j workers = refl
 
+same_cells : (s : Loaded) (j : JournalValue) (workers : ℕ) → cells_of (recorded s j)
+    ≡ cells_of (recorded s (of_rows j j.rows workers))
+unfolding cells_of
+same_cells s j workers = refl
+
 pub workers_set : (s : Loaded) (j : JournalValue) (next workers : ℕ) → IsOf s j next → j.rows ≡ []
     → IsOf s (blank j.shape j.limits workers) next
 workers_set s j next workers is empty =
@@ -27,6 +33,9 @@ workers_set s j next workers is empty =
       limits_are = is.limits_are;
       shape_is = is.shape_is;
       rows_are = is.rows_are ∙ ap length empty;
+      cells_are =
+          is.cells_are ∙ same_cells s j workers
+          ∙ ap (λ (rows : List Row). cells_of (recorded s (of_rows j rows workers))) empty;
       joint = subst (Joint s.machine) same is.joint;
       holds = subst (Holds j.shape) same is.holds;
       bounded = subst (λ (m : Machine). Bounded m.world) same is.bounded;

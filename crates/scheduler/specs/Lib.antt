@@ -3,5 +3,6 @@ pub mod Workers
 pub mod Replaying
 pub mod Differing
 pub mod Rounds
-pub mod LosesNothing
 pub mod Showing
+pub mod OnCells
+pub mod LosesNothing

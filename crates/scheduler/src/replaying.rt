@@ -67,7 +67,7 @@ fn row_after(rows: Rows<'_>, before: usize) -> Option<Row>
 }
 
 /// One turn of an actor, made by a worker; the row that it made, if it made one.
-fn turn_row(world: &mut World, actor: Actor, worker: u8) -> Option<Row>
+pub fn turn_row(world: &mut World, actor: Actor, worker: u8) -> Option<Row>
     requires { worker < world.old.journal.workers }
     ensures before { IsMade world.old }
     ensures world { world.new ≡ after_turn_by world.old actor worker }

@@ -2,6 +2,8 @@
 ghost use Rattle.std.specs.Prelude.{◌≡◌, IfOk, length, map};
 ghost use Rattle.model.specs.Machines.{machine_of};
 ghost use Rattle.model.specs.Observers.{ideal};
+ghost use Rattle.instructions.specs.HeldOnCells.{helds_from};
+ghost use Rattle.scheduler.specs.OnCells.{cells_of};
 ghost use Rattle.scheduler.specs.Showing.{shown_in};
 
 use super::World;
@@ -39,10 +41,13 @@ impl World {
         self.state.static_fields()
     }
 
-    /// A copy of what each cell holds, in order; none where no path leads to its birth. `AllocError` where memory runs
+    /// A copy of what each cell holds, in order: birth, kind, words, monitor and thread, with births in place of
+    /// references, as it is read of the cells; none where no path leads to its birth. `AllocError` where memory runs
     /// out.
     pub fn helds(&self) -> Result<Vec<Option<HeldView>>, AllocError>
-        ensures { IfOk result (λ views. views.items
+        ensures on_cells { IfOk result (λ views. views.items
+            ≡ helds_from (cells_of self.now) 0 (cells_of self.now).account.cells) }
+        ensures shown { IfOk result (λ views. views.items
             ≡ map (shown_in (machine_of self.now)) (machine_of self.now).account.cells) }
     {
         self.state.helds()

@@ -1,10 +1,11 @@
-use Rattle.std.proofs.Common.{◌≡◌, ◌<◌, ◌++◌, ◌∷◌, [], ◌∙◌, List, Some, ap, subst, sym, true≢false, refl}
+use Rattle.std.proofs.Common.{◌≡◌, ◌<◌, ◌+◌, ◌-◌, ◌++◌, ◌∷◌, [], ◌∙◌, ℕ, Bool, List, Option, None, Some, length, ap}
+use Rattle.std.proofs.Common.{append-nil, arith, inl, inr, length-append, refl, subst, sym}
 use Rattle.std.proofs.lemmas.List.{append_assoc}
 use Rattle.model.specs.declared.journals.Row.{Row}
-use Rattle.model.specs.Machines.{Recorded, noted, row_for}
-use Rattle.comparison.specs.Checking.{reference_of}
+use Rattle.model.specs.Machines.{Recorded, noted}
+use Rattle.comparison.specs.Compared.{AgreesIf, IsFirstOther}
 use Rattle.scheduler.specs.Replaying.{with_all}
-use Rattle.scheduler.proofs.Making.{next_made, of_next}
+use Rattle.scheduler.proofs.Making.{of_next}
 use Rattle.comparison.proofs.checking.compare.Goals as goal
 
 pub loop-row-init : goal.loop-row-init
@@ -12,15 +13,12 @@ loop-row-init g c = record {
   done = [];
   all = refl;
   world = ap (with_all c.args.world.now) c.requires.empty;
-  run = c.requires.beside ∙ ap (λ (rows : List Row). reference_of (with_all c.args.world.now rows)) c.requires.empty;
+  beside = c.requires.beside;
+  rest = λ first is. is;
 }
 
-pub agrees_after-requires-clause-program : goal.agrees_after-requires-clause-program
-agrees_after-requires-clause-program g c = ap (λ (v : Recorded). v.program) c.loop-row.invariant.world
-    ∙ c.requires.program
-
 pub agrees_after-requires-clause-beside : goal.agrees_after-requires-clause-beside
-agrees_after-requires-clause-beside g c = c.loop-row.invariant.run ∙ ap reference_of (sym c.loop-row.invariant.world)
+agrees_after-requires-clause-beside g c = c.loop-row.invariant.beside
 
 pub agrees_after-requires-clause-worker : goal.agrees_after-requires-clause-worker
 agrees_after-requires-clause-worker g c =
@@ -31,32 +29,72 @@ agrees_after-requires-clause-worker g c =
     (of_next (λ (r : Row). r.worker < c.args.world.now.journal.workers) c.args.rows at.done c.next.new.self row all
     c.requires.workers)
 
-pub agrees_after-requires-clause-made : goal.agrees_after-requires-clause-made
-agrees_after-requires-clause-made g c =
+pub returns-then-not-branch-clause-first : goal.returns-then-not-branch-clause-first
+returns-then-not-branch-clause-first g c =
     let at = c.loop-row.invariant in
     let row = c.in-Some.row in
+    let left = c.next.new.self in
     let all = at.all ∙ ap (λ (rows : List Row). at.done ++ rows) c.in-Some.ensures.steps in
-    subst (λ (v : Recorded). row_for v row.actor row.worker ≡ Some row) (sym at.world)
-    (next_made (with_all c.args.world.now c.args.rows) at.done c.next.new.self row c.requires.made all)
-
-pub returns-then-not-branch-clause-run : goal.returns-then-not-branch-clause-run
-returns-then-not-branch-clause-run g c = absurd (true≢false (sym c.in_ok-agrees_after.ensures.shown
-    ∙ c.if-not-branch.true))
-
-pub returns-then-not-branch-clause-none : goal.returns-then-not-branch-clause-none
-returns-then-not-branch-clause-none g c = absurd (true≢false (sym c.in_ok-agrees_after.ensures.shown
-    ∙ c.if-not-branch.true))
+    let long = ap length all ∙ length-append at.done (row ∷ left) in
+    let place : c.len-count.result - c.len.result ≡ length at.done + 1 = omega (
+      arith,
+      long,
+      c.len-count.ensures,
+      c.len.ensures,
+    ) in
+    let differs = subst (AgreesIf g.R.Reference.shown g.R.Reference.beside c.loop-row.world row) c.if-not-branch.true
+    c.in_ok-agrees_after.ensures.agrees in
+    let first : Option ℕ = Some (c.len-count.result - c.len.result) in
+    at.rest first
+    (subst
+    (λ (rows : List Row). IsFirstOther g.R.Reference.shown g.R.Reference.beside (length at.done) c.loop-row.world rows
+    first)
+    (sym c.in-Some.ensures.steps)
+    (inl (ap (λ (n : ℕ). Some n) place, differs)))
 
 pub loop-row-preserved : goal.loop-row-preserved
 loop-row-preserved g c =
     let at = c.loop-row.invariant in
     let row = c.in-Some.row in
+    let left = c.next.new.self in
+    let agrees = subst (AgreesIf g.R.Reference.shown g.R.Reference.beside c.loop-row.world row) c.if-not-branch.false
+    c.in_ok-agrees_after.ensures.agrees in
+    let world = c.in_ok-agrees_after.ensures.world c.if-not-branch.false in
     let more : noted c.loop-row.world row ≡ with_all c.args.world.now (at.done ++ row ∷ []) = ap
     (λ (v : Recorded). noted v row) at.world in
     record {
       done = at.done ++ row ∷ [];
       all = at.all ∙ ap (λ (rows : List Row). at.done ++ rows) c.in-Some.ensures.steps
-          ∙ sym (append_assoc at.done (row ∷ []) c.next.new.self);
-      world = c.in_ok-agrees_after.ensures.world ∙ more;
-      run = c.in_ok-agrees_after.ensures.run ∙ ap reference_of more;
+          ∙ sym (append_assoc at.done (row ∷ []) left);
+      world = world ∙ more;
+      beside = subst (g.R.Reference.beside _) (sym world) (c.in_ok-agrees_after.ensures.beside c.if-not-branch.false);
+      rest = λ first is.
+          at.rest first
+          (subst
+          (λ (rows : List Row). IsFirstOther g.R.Reference.shown g.R.Reference.beside (length at.done)
+          c.loop-row.world rows first)
+          (sym c.in-Some.ensures.steps)
+          (inr (
+            agrees,
+            subst (λ (n : ℕ). IsFirstOther g.R.Reference.shown g.R.Reference.beside n (noted c.loop-row.world row) left
+                first) (length-append at.done (row ∷ []))
+                (subst (λ (v : Recorded). IsFirstOther g.R.Reference.shown g.R.Reference.beside
+                (length (at.done ++ row ∷ [])) v left first) world is),
+          )));
     }
+
+pub returns-clause-first : goal.returns-clause-first
+returns-clause-first g c =
+    let at = c.loop-row.invariant in
+    at.rest None
+    (subst
+    (λ (rows : List Row). IsFirstOther g.R.Reference.shown g.R.Reference.beside (length at.done) c.loop-row.world rows
+    None)
+    (sym c.in_default.ensures.steps.0) refl)
+
+pub returns-clause-followed : goal.returns-clause-followed
+returns-clause-followed g c =
+    let at = c.loop-row.invariant in
+    let all = at.all ∙ ap (λ (rows : List Row). at.done ++ rows) c.in_default.ensures.steps.0 ∙ append-nil at.done in
+    λ none. subst (g.R.Reference.beside c.loop-row.reference)
+    (at.world ∙ ap (λ (rows : List Row). with_all c.args.world.now rows) (sym all)) at.beside

@@ -10,5 +10,5 @@ returns c =
     let s = c.in_ok-slots.slots in
     let o = c.in_ok-objects.objects in
     Decides-at c.all_four.result (((b && t) && s) && o) c.all_four.ensures
-    (shows_decides c.args.world.now c.args.other.now c.loses_nothing.ensures b t s o
+    (shows_decides c.args.world.now c.args.other.now c.loses_nothing.ensures.now b t s o
     c.has_same_beside-beside.ensures c.in_ok-threads.ensures c.in_ok-slots.ensures c.in_ok-objects.ensures)

@@ -2,7 +2,7 @@ use Rattle.std.proofs.Common.{◌∙◌, ap}
 use Rattle.model.specs.Effects.Choice.{NewObject, NoRoom}
 use Rattle.ideal_run.specs.Runs.{Run, run_after}
 use Rattle.comparison.proofs.Followed.{clean_before_row, fault_seen, reference_at_fault, reference_without_room}
-use Rattle.comparison.proofs.checking.follow_fault.Goals as goal
+use Rattle.comparison.proofs.references.follow_fault.Goals as goal
 
 pub made_again-requires-clause-clean : goal.made_again-requires-clause-clean
 made_again-requires-clause-clean c =

@@ -4,7 +4,7 @@ use Rattle.ideal_run.specs.Effected.{choice_in}
 use Rattle.ideal_run.specs.Runs.{Run, run_after}
 use Rattle.comparison.specs.Checking.{reference_of}
 use Rattle.comparison.proofs.Followed.{reference_reported}
-use Rattle.comparison.proofs.checking.follow.Goals as goal
+use Rattle.comparison.proofs.references.follow.Goals as goal
 
 pub returns : goal.returns
 returns c =

@@ -7,7 +7,7 @@ use Rattle.ideal_run.specs.Runs.{opening_run}
 use Rattle.comparison.specs.Checking.{reference_of}
 use Rattle.scheduler.specs.Replaying.{with_all}
 use Rattle.comparison.proofs.Followed.{follows_next, reference_opened}
-use Rattle.comparison.proofs.checking.made_again.Goals as goal
+use Rattle.comparison.proofs.references.made_again.Goals as goal
 
 pub loop-row-init : goal.loop-row-init
 loop-row-init c = (
