@@ -12,11 +12,13 @@ use scheduler::worlds::World;
 use std::alloc::Global;
 use std::test::Fail;
 
-const EMPTY_MAIN: &str = ".class public E\n.super java/lang/Object\n.method public static main()V\n.limit stack 0\n.limit locals 0\nreturn\n.end method\n";
+const EMPTY_MAIN: &str =
+    ".class public E\n.super java/lang/Object\n.method public static main()V\n.limit stack 0\n.limit locals 0\nreturn\n.end method\n";
 
 const COMMANDS: &[u8] = b"stack 0\nbreak E.main()V 0\nrun 5\nstep 0\nquit\n";
 
-const ANSWERS: &[u8] = b"frame 0 E.main()V pc 0\nlocals\nstack\nbreakpoint 0\nran 1: finished\nnot ready\noutput 0\n";
+const ANSWERS: &[u8] =
+    b"frame 0 E.main()V pc 0\nlocals\nstack\nbreakpoint 0\nran 1: finished\nnot ready\noutput 0\n";
 
 /// How many bytes each line and those before it have, and their answers; that of `quit` is what is said in the end.
 const LINES: [(usize, usize); 5] = [(8, 36), (26, 49), (32, 65), (39, 75), (44, 84)];
@@ -81,7 +83,11 @@ impl Sink for Screen {
 
     fn put(&mut self, bytes: &[u8]) -> Result<(), WriteFailed> {
         let is_whole = self.left > 0;
-        let part = if is_whole { bytes } else { &bytes[..bytes.len() / 2] };
+        let part = if is_whole {
+            bytes
+        } else {
+            &bytes[..bytes.len() / 2]
+        };
         self.left = self.left.saturating_sub(1);
         if self.take(part) && is_whole {
             return Ok(());
@@ -123,7 +129,11 @@ fn session(alloc: Global, world: &mut World, reads: usize, writes: usize) -> Tol
         failures: 0,
     };
     let result = debug(alloc, world, &mut source, &mut sink);
-    let Screen { shown, failures, .. } = sink;
+    let Screen {
+        shown,
+        failures,
+        ..
+    } = sink;
     Told {
         result,
         read: source.place,
