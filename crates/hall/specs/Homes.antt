@@ -4,10 +4,11 @@ use Rattle.board.specs.declared.seats.BoardSeat.{BoardSeat}
 use Rattle.board.specs.Seats.{IsSameSeat}
 use Rattle.hall.specs.Shares.{ShareValue}
 
--- the share keeps its worker and role, and its count didn't fall
+-- the share keeps its worker, role and burst, and its count didn't fall
 pub record IsLater (before after : ShareValue) : Type 0 where
   pub worker_is : after.worker ≡ before.worker
   pub role_is : after.role ≡ before.role
+  pub burst_is : after.burst ≡ before.burst
   pub risen : before.count ≤ after.count
 
 -- a worker's share and seat, before and after

@@ -146,8 +146,13 @@ impl<L: Ledger> Hall<L> {
     }
 
     /// One turn of the share's role under the lock, for which it waits, and how the world stands then. The share counts
-    /// the rows that the turn made. A carrier's is `NotReady`, and makes none, where there is a collector whose turn
-    /// comes first, since a collection is due.
+    /// the rows that the turn made.
+    ///
+    /// A turn may be held back: it is `NotReady` then, and makes no row. Only that of a share whose role is `Carrier`
+    /// is, and only in a hall one of whose roles is `Collector`, while a collection is due: as many objects were made
+    /// since the last cycle ended as an eighth of the cells that were free then. The collector's turns, which go on to
+    /// the end of a cycle, let carriers go on. By the contract a turn that is held back leaves the share as it was;
+    /// when one is, no contract says.
     pub fn turn_for<R: Wait>(&self, rt: &R, share: &mut Share<L>) -> (Turn, Status)
         ensures { Counts result.0 share.old share.new }
     {

@@ -77,10 +77,19 @@ pub world_excused : (sources : List (List ℕ)) (shape : HeapShape) (limits : Li
     → (error ≡ Shape → ShapeFits shape.small shape.medium shape.large → ⊥)
     → (error ≡ OfLimits → ShapeFits shape.small shape.medium shape.large × (LimitsFit limits.steps limits.output → ⊥))
     → (error ≡ OpeningFrames → opening_fits sound.program ≡ false)
+    → (error ≡ OpeningFrames → ShapeFits shape.small shape.medium shape.large × LimitsFit limits.steps limits.output)
     → ExcusesWorld sources shape limits error
-world_excused sources shape limits Shape sound wrong_shape wrong_limits wide = (sound, wrong_shape refl)
-world_excused sources shape limits OfLimits sound wrong_shape wrong_limits wide =
+world_excused sources shape limits Shape sound wrong_shape wrong_limits wide ranges = (sound, wrong_shape refl)
+world_excused sources shape limits OfLimits sound wrong_shape wrong_limits wide ranges =
     (sound, (wrong_limits refl).0, (wrong_limits refl).1)
-world_excused sources shape limits WorldMemory sound wrong_shape wrong_limits wide = tt
-world_excused sources shape limits OpeningFrames sound wrong_shape wrong_limits wide =
-    record { program = sound.program; listings_are = sound.listings_are; accepted = sound.accepted; wide = wide refl }
+world_excused sources shape limits WorldMemory sound wrong_shape wrong_limits wide ranges = tt
+world_excused sources shape limits OpeningFrames sound wrong_shape wrong_limits wide ranges = (
+  record {
+    program = sound.program;
+    listings_are = sound.listings_are;
+    accepted = sound.accepted;
+    wide = wide refl;
+  },
+  (ranges refl).0,
+  (ranges refl).1,
+)

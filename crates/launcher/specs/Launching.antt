@@ -107,14 +107,15 @@ pub record OpensTooWide (sources : List (List ℕ)) : Type 0 where
   pub accepted : refusal_of program ≡ None
   pub wide : opening_fits program ≡ false
 
--- where the sources are a program: a shape out of range, else limits out of range, else opening frames that don't fit.
--- Or want of memory
+-- where the sources are a program: a shape out of range, else limits out of range, else, both being in range, opening
+-- frames that don't fit. Or want of memory
 abbrev pub ExcusesWorld : List (List ℕ) → HeapShape → Limits → WorldError → Type 0
 ExcusesWorld sources shape limits Shape = AreAccepted sources × (ShapeFits shape.small shape.medium shape.large → ⊥)
 ExcusesWorld sources shape limits OfLimits =
     AreAccepted sources × ShapeFits shape.small shape.medium shape.large × (LimitsFit limits.steps limits.output → ⊥)
 ExcusesWorld sources shape limits WorldMemory = Unit {0}
-ExcusesWorld sources shape limits OpeningFrames = OpensTooWide sources
+ExcusesWorld sources shape limits OpeningFrames =
+    OpensTooWide sources × ShapeFits shape.small shape.medium shape.large × LimitsFit limits.steps limits.output
 
 -- but for want of memory a source is refused only where it has no listing and all before it have one; listings, once
 -- all sources have one, by their first broken rule; shape, limits and opening once these are accepted

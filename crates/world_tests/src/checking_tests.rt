@@ -1,12 +1,15 @@
 //! Worlds beside the ideal runs of their programs: after each turn, and after whole runs.
 
 use crate::mains::{ARRAYS, DIVISION, program, world_on};
-use comparison::checking::first_difference;
+use comparison::checking::{difference, first_difference};
+use comparison::references::Reference;
 use comparison::shows;
+use ideal_run::worlds::World as IdealWorld;
 use ideal_run::{Choice, Ideal};
 use loader::programs::Program;
-use model::journals::Limits;
+use model::journals::{Limits, Row};
 use model::turns::Actor;
+use model::watching::Unwatched;
 use scheduler::worlds::World;
 use std::alloc::{AllocError, Global};
 use std::test::Fail;
@@ -105,5 +108,62 @@ fn no_row_of_a_run_differs(rt: HostRuntime) -> Result<(), Fail> {
     for (lines, small, gc) in RUNS {
         assert!(rt; is_the_same(rt.alloc(), lines, small, gc)?, "{lines}");
     }
+    Ok(())
+}
+
+/// A reference that is wrong on purpose: it leaves out the turn of one row.
+struct Missing<'a> {
+    run: Ideal<'a>,
+    /// how many rows come before that one
+    before: u8,
+}
+
+impl<'a> Reference for Missing<'a> {
+    ghost shown = { λ s. s.run.world };
+
+    ghost beside = { λ s v. Unit {0} };
+
+    fn world(&self) -> &IdealWorld {
+        self.run.world()
+    }
+
+    fn follow(&mut self, _world: &World, row: Row) -> Result<(), AllocError> {
+        if self.before == 0 {
+            return Ok(());
+        }
+        self.before -= 1;
+        self.run.turn(row.actor, Choice::NewObject)
+    }
+}
+
+/// Whether the row that such a reference leaves out is told.
+fn tells_missing(alloc: Global, world: &World, row: u8) -> Result<bool, AllocError> {
+    match Ideal::new(alloc, world.program().listings(), LIMITS)? {
+        Some(run) => {
+            let before = row.saturating_sub(1);
+            let mut reference = Missing { run, before };
+            let mut watch = Unwatched;
+            let first = difference(alloc, world, &mut reference, &mut watch)?;
+            Ok(first == Some(row as usize))
+        }
+        None => Ok(false),
+    }
+}
+
+fn tells_each_missing(alloc: Global, lines: &str) -> Result<bool, Fail> {
+    let mut world = world_on(alloc, program(alloc, 2, lines)?, 4, LIMITS)?;
+    let _ = world.rounds(100, 1);
+    for row in [1u8, 2, 3] {
+        if !tells_missing(alloc, &world, row)? {
+            return Ok(false);
+        }
+    }
+    Ok(true)
+}
+
+/// The reference misses a turn of the thread, one of the collector, and one that makes an object.
+#[test]
+fn the_row_that_a_wrong_reference_leaves_out_is_told(rt: HostRuntime) -> Result<(), Fail> {
+    assert!(rt; tells_each_missing(rt.alloc(), ARRAYS)?);
     Ok(())
 }

@@ -4,7 +4,7 @@
 use crate::mains::{program_of, world_on};
 use model::colours::{Colour, Phase};
 use model::journals::{Limits, Outcome};
-use model::turns::Actor;
+use model::turns::{Actor, Turn};
 use scheduler::worlds::World;
 use std::alloc::{AllocError, Global};
 use std::test::Fail;
@@ -154,6 +154,44 @@ fn goes_so(alloc: Global, run: &Run) -> Result<bool, Fail> {
 fn objects_have_cells_and_colours(rt: HostRuntime) -> Result<(), Fail> {
     for run in RUNS {
         assert!(rt; goes_so(rt.alloc(), run)?, "{} {}", run.0, run.5);
+    }
+    Ok(())
+}
+
+/// Makes ten thousand objects, each of which is garbage at once.
+const TEN_THOUSAND: &str =
+    ".class G\n.super java/lang/Object\n.method static main()V\n.limit stack 2\n.limit locals 1\niconst_0\nistore_0\nTop:\nnew G\npop\niinc 0 1\niload_0\nsipush 10000\nif_icmplt Top\nreturn\n.end method\n";
+
+/// The limit of steps, and how many turns the collector makes after each of the thread's; then the next birth, how many
+/// rows there are, and what the last turn answers.
+type Rounds = (u32, u32, u32, usize, Turn);
+
+const ROUNDS: &[Rounds] = &[
+    (3_000_000, 40, 10_003, 2_460_083, Turn::NotReady),
+    (1_000_000, 0, 9, 39, Turn::NotReady),
+    (10, 0, 5, 10, Turn::StepLimit),
+];
+
+fn ends_so(world: &mut World, rounds: &Rounds) -> bool {
+    let (_, gc, birth, rows, answer) = *rounds;
+    world.rounds(u32::MAX, gc) == answer
+        && world.next_birth() == birth
+        && world.journal().rows().len() == rows
+}
+
+fn is_run(alloc: Global, rounds: &Rounds) -> Result<bool, Fail> {
+    let limits = Limits {
+        steps: rounds.0,
+        output: 0,
+    };
+    let mut world = world_on(alloc, program_of(alloc, TEN_THOUSAND)?, 8, limits)?;
+    Ok(ends_so(&mut world, rounds))
+}
+
+#[test]
+fn ten_thousand_objects_pass_through_six_cells(rt: HostRuntime) -> Result<(), Fail> {
+    for rounds in ROUNDS {
+        assert!(rt; is_run(rt.alloc(), rounds)?, "{} steps", rounds.0);
     }
     Ok(())
 }

@@ -4,10 +4,12 @@
 //! eight things takes minutes to prove. What is reported of journals' texts, and which replay, stands in
 //! examples/answers.txt; which shapes and limits have no world in examples/sessions.txt.
 
+mod depths;
 mod objects;
 mod rounds;
 
 use crate::mains::{ARRAY, DIVISION, WRAPPING_SUM, has_rows, program, world_on};
+use depths::{DEEP, the_call_past_256_frames_overflows};
 use model::colours::{Colour, Phase};
 use model::journals::{HeapShape, Limits, Outcome, Row};
 use model::turns::{Actor, ClassState, Fault, Status, Turn};
@@ -221,6 +223,7 @@ const STORIES: &[Story] = &[
     ("rounds", WRAPPING_SUM, 2, 2, 1_000_000, 12),
     ("array", ARRAY, 1, 3, 9, 0),
     ("popped array", ARRAY, 1, 3, 9, 0),
+    ("deepest", DEEP, 1, 3, 1_000, 0),
 ];
 
 /// Whether a story goes as it is to, on its world.
@@ -241,6 +244,7 @@ fn goes_well(world: &mut World, story: &str) -> bool {
         "rounds" => rounds_end_with_their_thread(world),
         "array" => an_array_is_shown(world),
         "popped array" => an_array_that_was_popped_is_not_shown(world),
+        "deepest" => the_call_past_256_frames_overflows(world),
         _ => false,
     }
 }

@@ -20,3 +20,4 @@ returns-clause-refused c =
     } in
     world_excused (bytes_of c.args.sources.items) c.args.shape c.args.limits c.in-Err-new.error sound
     (λ is. e.shape.0 (ap Err is)) (λ is. e.limits.0 (ap Err is)) (λ is. e.frames (ap Err is))
+    (λ is. e.ranges (ap Err is))
