@@ -112,6 +112,7 @@ fn no_row_of_a_run_differs(rt: HostRuntime) -> Result<(), Fail> {
 }
 
 /// A reference that is wrong on purpose: it leaves out the turn of one row.
+#[derive(Drop)]
 struct Missing<'a> {
     run: Ideal<'a>,
     /// how many rows come before that one

@@ -35,6 +35,7 @@ const LIMITS: Limits = Limits {
 };
 
 /// The commands, of which so many bytes are read before a read fails.
+#[derive(Drop)]
 struct Script {
     place: usize,
     fails_at: usize,
@@ -64,6 +65,7 @@ impl Source for Script {
 }
 
 /// What is shown, up to a write that fails once so many were made: of its bytes half are shown.
+#[derive(Drop)]
 struct Screen {
     shown: Vec<u8>,
     left: usize,
@@ -107,6 +109,7 @@ impl Sink for Screen {
 }
 
 /// What a session came to.
+#[derive(Drop)]
 struct Told {
     result: Result<(), DebugError>,
     /// how many bytes were read, and how many rows were made
