@@ -11,7 +11,7 @@ printed. The programs of examples/rows.txt are run turn by turn. All but those o
 several threads, or find no room for an object, are also run by four carriers beside the ideal run, and the journals of these
 runs are replayed: they print the same, whoever took which turn. The sessions of examples/sessions.txt are played command by command,
 and each row of examples/answers.txt is reported as it says. Limits are tried at their values and one past them (limits.py). Of some
-commands each request for memory is refused in turn (memory_refused.py).
+commands each request for memory is refused in turn (memory_refused.py), and each read and write (failing_streams.py).
 Inputs that were cut, changed or made up are told as the plain reader tells them (damaged.py).
 
 The last line is 'N passed, M failed'. With --after, the passes and failures in the last line of that file are added.
@@ -28,6 +28,7 @@ import tempfile
 from answers import tried_answers
 from damaged import tried_damaged
 from debug_agrees import tried_debugger
+from failing_streams import tried_failures
 from limits import tried_limits
 from memory_refused import tried_refusals
 from plain.rows import tried_reader
@@ -177,6 +178,7 @@ TRIED = (
     tried_answers,
     tried_limits,
     tried_refusals,
+    tried_failures,
     tried_debugger,
     tried_reader,
     tried_damaged,
