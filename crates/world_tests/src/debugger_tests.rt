@@ -110,7 +110,7 @@ impl Sink for Screen {
 
 /// What a session came to.
 #[derive(Drop)]
-struct Told {
+struct Ended {
     result: Result<(), DebugError>,
     /// how many bytes were read, and how many rows were made
     read: usize,
@@ -120,7 +120,7 @@ struct Told {
     failed_writes: u64,
 }
 
-fn session(alloc: Global, world: &mut World, reads: usize, writes: usize) -> Told {
+fn session(alloc: Global, world: &mut World, reads: usize, writes: usize) -> Ended {
     let mut source = Script {
         place: 0,
         fails_at: reads,
@@ -137,7 +137,7 @@ fn session(alloc: Global, world: &mut World, reads: usize, writes: usize) -> Tol
         failures,
         ..
     } = sink;
-    Told {
+    Ended {
         result,
         read: source.place,
         rows: world.journal().rows().len(),
@@ -147,7 +147,7 @@ fn session(alloc: Global, world: &mut World, reads: usize, writes: usize) -> Tol
     }
 }
 
-fn told(alloc: Global, reads: usize, writes: usize) -> Result<Told, Fail> {
+fn told(alloc: Global, reads: usize, writes: usize) -> Result<Ended, Fail> {
     let program = program_of(alloc, EMPTY_MAIN)?;
     let mut world = world_on(alloc, program, 2, LIMITS)?;
     Ok(session(alloc, &mut world, reads, writes))
@@ -164,12 +164,12 @@ fn answered(read: usize) -> usize {
 }
 
 /// The row is there once the run was read.
-fn has_its_rows(told: &Told) -> bool {
+fn has_its_rows(told: &Ended) -> bool {
     told.rows == usize::from(told.read >= RUN)
 }
 
 /// A read fails: the answers to the lines before it were written, and no more.
-fn read_fails(told: &Told, reads: usize) -> bool {
+fn read_fails(told: &Ended, reads: usize) -> bool {
     told.result == Err(DebugError::Read)
         && (told.failed_reads, told.failed_writes) == (1, 0)
         && told.read == reads
@@ -178,7 +178,7 @@ fn read_fails(told: &Told, reads: usize) -> bool {
 }
 
 /// A write fails: the answers to the lines before the last one were written, and a beginning of that one's.
-fn write_fails(told: &Told) -> bool {
+fn write_fails(told: &Ended) -> bool {
     let shown = told.shown.len();
     told.result == Err(DebugError::Write)
         && (told.failed_reads, told.failed_writes) == (0, 1)
@@ -188,7 +188,7 @@ fn write_fails(told: &Told) -> bool {
         && has_its_rows(told)
 }
 
-fn all_is_told(told: &Told) -> bool {
+fn all_is_told(told: &Ended) -> bool {
     told.result == Ok(())
         && (told.failed_reads, told.failed_writes) == (0, 0)
         && told.shown.as_slice() == ANSWERS
