@@ -1,6 +1,6 @@
 //! A session in which one read, or one write, fails at each place. What each command of the session answers is worked out
 //! by hand: main stands at its one instruction, a run of it ends the program, and then its thread isn't ready.
-ghost use Rattle.std.specs.Prelude.{None, length};
+ghost use Rattle.std.specs.Prelude.{◌-◌, None};
 
 use crate::mains::{program_of, world_on};
 use debug_texts::sinks::{Sink, WriteFailed};
