@@ -1,6 +1,6 @@
 //! A session in which one read, or one write, fails at each place. What each command of the session answers is worked out
 //! by hand: main stands at its one instruction, a run of it ends the program, and then its thread isn't ready.
-ghost use Rattle.std.specs.Prelude.{◌-◌, None};
+ghost use Rattle.std.specs.Prelude.{◌≡◌, ◌-◌, None};
 
 use crate::mains::{program_of, world_on};
 use debug_texts::sinks::{Sink, WriteFailed};
@@ -73,7 +73,9 @@ struct Screen {
 }
 
 impl Screen {
-    fn take(&mut self, bytes: &[u8]) -> bool {
+    fn take(&mut self, bytes: &[u8]) -> bool
+        ensures { self.new.failures ≡ self.old.failures }
+    {
         self.shown.extend_from_slice(bytes).is_ok()
     }
 }
@@ -173,7 +175,8 @@ fn read_fails(told: &Ended, reads: usize) -> bool {
     told.result == Err(DebugError::Read)
         && (told.failed_reads, told.failed_writes) == (1, 0)
         && told.read == reads
-        && told.shown.as_slice() == &ANSWERS[..answered(reads)]
+        && ANSWERS.starts_with(told.shown.as_slice())
+        && told.shown.len() == answered(reads)
         && has_its_rows(told)
 }
 
