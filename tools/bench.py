@@ -90,15 +90,15 @@ class Measured:
     """What a program takes."""
 
     def __init__(self, name, options, room):
-        self.program, self.options, self.room = PROGRAMS[name], options, room
-        none, one, two = (self.compiled(units) for units in (0, 10, 20))
-        few, many = rows(one, options.jvm, 1), rows(two, options.jvm, 1)
-        self.none, self.each = none, (many[0] - few[0]) / 10
-        self.collected = (many[1] - few[1]) / 10
+        self.program, self.options, self.room, self.made = PROGRAMS[name], options, room, {}
+        few, many = (rows(self.compiled(units), options.jvm, 1) for units in (10, 20))
+        self.each, self.collected = (many[0] - few[0]) / 10, (many[1] - few[1]) / 10
         self.units = {"--gc 0": self.units_within(STEPS / self.each), "--gc 1": int(0.9 * STEPS / (self.each + self.collected))}
 
     def compiled(self, units):
-        return Compiled(self.room, self.program, units)
+        if units not in self.made:
+            self.made[units] = Compiled(self.room, self.program, units)
+        return self.made[units]
 
     def units_within(self, most):
         """Units for which the steps do, and the cells where nobody collects."""
@@ -108,16 +108,15 @@ class Measured:
     def figures(self):
         """Gives the nanoseconds of a bytecode by the name of who makes it."""
         jvm, zero = self.options.jvm, self.options.zero
-        made = {units: self.compiled(units) for units in {*self.units.values(), 20 * max(self.units.values())}}
-        ways = {mode: (made[units], lambda it, gc=mode[-1]: it.on_machine(jvm, int(gc)), units) for mode, units in self.units.items()}
+        ways = {mode: (lambda it, gc=mode[-1]: it.on_machine(jvm, int(gc)), units) for mode, units in self.units.items()}
         longer = 20 * max(self.units.values())
-        ways["-Xint"] = (made[longer], lambda it: it.on_java("java", "-Xint"), longer)
+        ways["-Xint"] = (lambda it: it.on_java("java", "-Xint"), longer)
         if zero:
-            ways["Zero"] = (made[longer], lambda it: it.on_java(zero, "-zero"), longer)
-        runs = {(way, at): words(it) for way, (compiled, words, _) in ways.items() for at, it in (("end", compiled), ("start", self.none))}
+            ways["Zero"] = (lambda it: it.on_java(zero, "-zero"), longer)
+        runs = {(way, units): words(self.compiled(units)) for way, (words, most) in ways.items() for units in (0, most)}
         seconds = least(runs, self.options.times)
-        self.are_same(made[self.units["--gc 1"]])
-        return {way: (seconds[way, "end"] - seconds[way, "start"]) * 1e9 / (self.each * units) for way, (_, _, units) in ways.items()}
+        self.are_same(self.compiled(self.units["--gc 1"]))
+        return {way: (seconds[way, units] - seconds[way, 0]) * 1e9 / (self.each * units) for way, (_, units) in ways.items()}
 
     def are_same(self, compiled):
         """Stops where both machines print different things."""
