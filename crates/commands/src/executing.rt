@@ -228,7 +228,7 @@ fn checked<P: Watch>(alloc: Global, world: &World, watch: &mut P) -> Ending {
 
 /// Writes the output of a run and then its journal, where one is wanted, and compares it with the ideal run, where that
 /// is wanted.
-fn written<F: Files, W: Write, P: Watch>(
+pub fn written<F: Files, W: Write, P: Watch>(
     alloc: Global,
     options: &RunOptions,
     carried: Result<World, HallError>,
