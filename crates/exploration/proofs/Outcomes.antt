@@ -9,6 +9,7 @@ use Rattle.model.specs.Observers.{status_by, status_in}
 use Rattle.model.specs.Ready.{is_ready, some_is_ready, some_lives, thread_numbers}
 use Rattle.model.specs.Table.Next.{completion}
 use Rattle.model.specs.Worlds.{World, is_live}
+use Rattle.exploration.specs.declared.ends.End.{End}
 use Rattle.exploration.specs.Observations.{Observed, observed}
 use Rattle.exploration.specs.Outcomes.{HasOutcomes, IsAtRest, IsOutcome, OutcomesAreReal, OutcomesOfAll, runs_on}
 use Rattle.exploration.specs.ReducedRuns.{ShowsSameEnd}
@@ -70,7 +71,7 @@ module _ (program : List ClassListing) (states : List World) (outcomes : List Ob
       ap (λ (bs : List ℕ). let y : Observed = record (observed program x) { output = bs } in y) s.output
       ∙ ap (λ (o : Option (Fault × ℕ)).
       let y : Observed = record (observed program x) { output = w.output; fault = o } in y) s.fault
-      ∙ ap (λ (es : List (Option (Option (List ℕ)))).
+      ∙ ap (λ (es : List End).
       let y : Observed = record (observed program w) { ends = es; status = status_in program x } in y) s.ends
       ∙ ap (λ (t : Status). let y : Observed = record (observed program w) { status = t } in y) same in
       let found = has s.place x s.there (ap runs_on same ∙ rest) in

@@ -14,6 +14,7 @@ use Rattle.model.specs.ClassListings.{ClassListing}
 use Rattle.model.specs.Frames.{Frame}
 use Rattle.model.specs.Worlds.{World, Thread, opening_world, counted, frames_at, frames_of, lives, is_live, with_thread}
 use Rattle.model.specs.Worlds.Thread.{Live, Ended}
+use Rattle.exploration.specs.declared.ends.End.TheVariants.{Lives, Ended as HasEnded}
 use Rattle.model.specs.Completions.{Completion, waits}
 use Rattle.model.specs.Effects.{Choice}
 use Rattle.model.specs.Effects.Choice.{NewObject, NoRoom}
@@ -359,7 +360,7 @@ module _ (program : List ClassListing) where
       ends_alike (Live fs) (Live gs) r = refl
       ends_alike (Live fs) (Ended b) r = absurd r
       ends_alike (Ended a) (Live gs) r = absurd r
-      ends_alike (Ended a) (Ended b) r = ap Some (sym r)
+      ends_alike (Ended a) (Ended b) r = ap HasEnded (sym r)
 
       same_ends : (ts us : List Thread) → R ts us → map end_of us ≡ map end_of ts
       same_ends [] [] r = refl

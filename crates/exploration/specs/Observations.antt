@@ -1,6 +1,8 @@
 use Rattle.std.specs.Prelude.{◌≡◌, ℕ, List, map, slice_get, Bool, false, Option, Some, None}
 use Rattle.model.specs.declared.journals.HeapShape.{HeapShape}
 use Rattle.model.specs.declared.journals.Limits.{Limits}
+use Rattle.exploration.specs.declared.ends.End.{End}
+use Rattle.exploration.specs.declared.ends.End.TheVariants.{Lives, Ended as HasEnded}
 use Rattle.model.specs.declared.turns.Actor.{Actor}
 use Rattle.model.specs.declared.turns.Fault.{Fault}
 use Rattle.model.specs.declared.turns.Status.{Status}
@@ -14,15 +16,15 @@ use Rattle.exploration.specs.ClosedLists.{Closed, Pair, ideal_after, PairsFindRo
 
 -- What is observed of a world that a run comes to.
 
--- how a thread ended, if it did
-abbrev pub end_of : Thread → Option (Option (List ℕ))
-end_of (Live frames) = None
-end_of (Ended by) = Some by
+-- what a thread has come to
+abbrev pub end_of : Thread → End
+end_of (Live frames) = Lives
+end_of (Ended by) = HasEnded by
 
 pub record Observed : Type 0 where
   pub output : List ℕ
   pub fault : Option (Fault × ℕ)
-  pub ends : List (Option (Option (List ℕ)))
+  pub ends : List End
   pub status : Status
 
 abbrev pub observed : List ClassListing → World → Observed

@@ -12,6 +12,8 @@ ghost use Rattle.exploration.specs.Outcomes.{OutcomesAreReal, OutcomesOfAll};
 ghost use Rattle.exploration.specs.ReducedRuns.{AheadIsWitnessed, ReducedShowsAll};
 ghost use Rattle.exploration.specs.Search.{SearchesAll};
 
+pub mod ends;
+
 /// A list of states that has one for the opening, and for whatever a turn of one of them leaves, has one for whatever a
 /// run comes to: an ideal run, a run of the machine on any heap and with the collector at any time, and any journal. The
 /// world and its state show the same output, fault, ends of threads and status. With `no_room` that is so of every run;
