@@ -10,6 +10,7 @@ mod files;
 mod options;
 mod performing;
 mod prompting;
+mod schedules;
 mod stored_runs;
 mod telling;
 
