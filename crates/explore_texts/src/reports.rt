@@ -28,7 +28,7 @@ fn status_words(status: Status) -> &'static [u8]
 }
 
 /// Whether an exploration is complete, or why it was cut off.
-pub fn cut_words(cut: Option<Cut>) -> &'static [u8]
+fn cut_words(cut: Option<Cut>) -> &'static [u8]
     ensures { result.now ≡ cut_words cut }
 {
     match cut {
@@ -180,10 +180,11 @@ fn put_tail_of<S: Sink>(
     turns: &[u8],
     size: &[u8],
     output: &[u8],
+    closing: &[u8],
 ) -> Result<(), WriteFailed>
     requires { S.failures sink.old < 2 ^ 64 - 1 }
     ensures puts { Puts result (S.contents sink.old) (S.contents sink.new)
-        (tail_of turns.now size.now output.now (closing output.now)) }
+        (tail_of turns.now size.now output.now closing.now) }
     ensures same { OnOk result (S.failures sink.new ≡ S.failures sink.old) }
 {
     put_pieces(
@@ -195,7 +196,7 @@ fn put_tail_of<S: Sink>(
             size,
             b"\n",
             output,
-            closing(output),
+            closing,
         ],
     )
 }
@@ -213,6 +214,7 @@ fn put_tail<S: Sink>(sink: &mut S, turns: usize, output: &[u8]) -> Result<(), Wr
         turns_buffer.format(turns).as_bytes(),
         output_buffer.format(output.len()).as_bytes(),
         output,
+        closing(output),
     )
 }
 
