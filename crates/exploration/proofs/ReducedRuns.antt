@@ -185,7 +185,7 @@ module _ (program : List ClassListing) where
     by_fault w t (Some fault) e = absurd (cc)
     by_fault w t None e = by_limit w t (nat_le limits.steps w.rows) e
 
-    not_refused : (w : World) (t : ℕ) → refusal program limits w (ThreadActor t) ≡ None
+    pub not_refused : (w : World) (t : ℕ) → refusal program limits w (ThreadActor t) ≡ None
         → thread_refusal program limits w t ≡ None
     unfolding refusal
     not_refused w t e = by_fault w t w.fault e

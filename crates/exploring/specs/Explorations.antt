@@ -1,4 +1,5 @@
-use Rattle.std.specs.Prelude.{◌≡◌, ◌<◌, ◌≤◌, ℕ, List, [], ◌∷◌, ◌++◌, length, map, drop, slice_get, Bool, if◌then◌else◌, Option, Some}
+use Rattle.std.specs.Prelude.{◌≡◌, ◌<◌, ◌≤◌, ◌+◌, ℕ, List, [], ◌∷◌, ◌++◌, length, map, drop, slice_get, Bool, true, false}
+use Rattle.std.specs.Prelude.{if◌then◌else◌, Option, Some, None}
 use Rattle.std.specs.List.{list_any}
 use Rattle.std.specs.Str.{bytes_eq}
 use Rattle.model.specs.declared.journals.Limits.{Limits}
@@ -10,7 +11,8 @@ use Rattle.exploration.specs.Reduction.{ClosedReduced}
 use Rattle.exploration.specs.Search.{ClosedBelow}
 use Rattle.exploring.specs.declared.explored.Cut.{Cut}
 use Rattle.exploring.specs.declared.explored.Move.{Move}
-use Rattle.exploring.specs.Expansion.{HasKnown, Search, world_of}
+use Rattle.exploring.specs.declared.search.Waiting.{Waiting}
+use Rattle.exploring.specs.Expansion.{HasKnown, IsTraced, Search, world_of}
 use Rattle.exploring.specs.Keys.{outcome}
 use Rattle.exploring.specs.Origins.{pairs_in}
 
@@ -78,6 +80,20 @@ pub record IsOnItsWay (program : List ClassListing) (limits : Limits) (no_room :
   pub expanded : ℕ
   pub is : IsAt program limits no_room e known expanded
 
+-- the same but that the next state was taken from those that wait
+pub record IsBefore (program : List ClassListing) (limits : Limits) (no_room : Bool) (e : Exploration) (s : Waiting)
+    : Type 0 where
+  pub known : List World
+  pub expanded : ℕ
+  pub there : slice_get known expanded ≡ Some s.world
+  pub traced : IsTraced program limits e.search.origins s
+  pub has : HasKnown program limits e.search known
+  pub waits : map world_of e.search.waiting ≡ drop (expanded + 1) known
+  pub closed : ClosedBelow program limits no_room known expanded
+  pub keyed : map key_of e.outcomes.found ≡ e.outcomes.keys
+  pub sound : AreSound program limits e.outcomes.found
+  pub lists : Lists program limits e.outcomes known expanded
+
 -- ---- the end of a search that wasn't cut off
 
 -- there is a closed list of so many states, and the outcome of every run is listed
@@ -91,6 +107,16 @@ pub record IsComplete (program : List ClassListing) (limits : Limits) (no_room :
 abbrev pub HasAll : List ClassListing → Limits → Bool → Exploration → Type 0
 HasAll program limits no_room e =
     IsComplete program limits no_room (length e.search.origins) (map outcome_of e.outcomes.found)
+
+-- after a state, where there was one
+abbrev pub IsFurther : List ClassListing → Limits → Bool → Exploration → Bool → Type 0
+IsFurther program limits no_room e true = IsOnItsWay program limits no_room e
+IsFurther program limits no_room e false = HasAll program limits no_room e × AreSound program limits e.outcomes.found
+
+-- after all
+abbrev pub IsOver : List ClassListing → Limits → Bool → Exploration → Option Cut → Type 0
+IsOver program limits no_room e None = HasAll program limits no_room e × AreSound program limits e.outcomes.found
+IsOver program limits no_room e (Some cut) = AreSound program limits e.outcomes.found
 
 -- ---- what is reported
 

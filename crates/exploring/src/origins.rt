@@ -1,4 +1,7 @@
 //! How states were found, and so by which turns of the opening.
+ghost use Rattle.std.specs.Prelude.{◌≡◌, IfOk};
+ghost use Rattle.exploring.specs.Origins.{moves_back, trail};
+
 use crate::explored::Move;
 use std::alloc::{AllocError, Global};
 
@@ -15,10 +18,12 @@ fn moves_back(
     origins: &[Origin],
     place: u32,
     depth: u32,
-) -> Result<Vec<Move>, AllocError> {
+) -> Result<Vec<Move>, AllocError>
+    ensures { IfOk result (λ moves. moves.items ≡ moves_back origins.now depth place) }
+{
     let mut moves = Vec::new(alloc);
     let mut at = place;
-    for _ in 0..depth {
+    for _turn in 0..depth {
         let Some(origin) = origins.get(at as usize) else {
             return Ok(moves);
         };
@@ -34,7 +39,9 @@ pub fn trail(
     origins: &[Origin],
     place: u32,
     depth: u32,
-) -> Result<Vec<Move>, AllocError> {
+) -> Result<Vec<Move>, AllocError>
+    ensures { IfOk result (λ moves. moves.items ≡ trail origins.now depth place) }
+{
     let mut moves = moves_back(alloc, origins, place, depth)?;
     moves.reverse();
     Ok(moves)
