@@ -37,7 +37,7 @@ use Rattle.exploring.specs.Explorations.{AreSound, Exploration, Finding, HasAll,
 use Rattle.exploring.specs.Explorations.{Lists, Outcomes, finding, key_of, noted, outcome_of}
 use Rattle.exploring.specs.Keys.{outcome}
 use Rattle.exploring.specs.Origins.{pairs_in, trail}
-use Rattle.exploring.specs.States.{HasStates}
+use Rattle.exploring.specs.States.{AddsState, HasStates, Stored}
 use Rattle.exploring.proofs.ExpansionLemmas.{below, each_more, traced_after}
 use Rattle.exploring.proofs.KeyLemmas.{outcome_keys_tell}
 
@@ -199,6 +199,34 @@ opening_known program limits s opening o has is origins waiting = record {
     one : (x : Waiting) (j : ℕ) → slice_get (opening ∷ []) j ≡ Some x → IsTraced program limits s.origins x
     one x zero e = (let same : opening ≡ x = cc in subst (IsTraced program limits s.origins) same traced)
     one x (suc j) e = absurd (cc)
+
+-- a search that has the opening world alone
+first_state : (s : Stored) (w : World) (fresh : Bool) → AddsState s [] w fresh → HasStates s (w ∷ [])
+first_state s w true adds = adds
+first_state s w false adds = absurd (let none : None ≡ Some w = adds.1.1 in cc)
+
+pub opened : (program : List ClassListing) (limits : Limits) (stored : Stored) (fresh : Bool) (w : World)
+    → w ≡ opening_world program → AddsState stored [] w fresh → (opening : Waiting)
+    → opening ≡ record { world = w; place = 0; depth = 0 } → (o : Origin) (old new : Search)
+    → old ≡ record { stored = stored; origins = []; waiting = []; turns = 0 } → new ≡ kept old opening o
+    → HasKnown program limits new (opening_world program ∷ [])
+opened program limits stored fresh w same adds opening is o old new empty one =
+    let all : new ≡ record { stored = stored; origins = o ∷ []; waiting = opening ∷ []; turns = 0 } =
+    one ∙ ap (λ (s : Search). kept s opening o) empty in
+    let has : HasStates stored (opening_world program ∷ []) =
+    subst (λ (v : World). HasStates stored (v ∷ [])) same (first_state stored w fresh adds) in
+    opening_known program limits new opening o
+    (subst (λ (s : Stored). HasStates s (opening_world program ∷ [])) (sym (ap (λ (s : Search). s.stored) all)) has)
+    (is ∙ ap (λ (v : World). let x : Waiting = record { world = v; place = 0; depth = 0 } in x) same)
+    (ap (λ (s : Search). s.origins) all) (ap (λ (s : Search). s.waiting) all)
+
+pub opening_waits : (program : List ClassListing) (stored : Stored) (w : World) → w ≡ opening_world program
+    → (opening : Waiting) → opening ≡ record { world = w; place = 0; depth = 0 } → (o : Origin) (old new : Search)
+    → old ≡ record { stored = stored; origins = []; waiting = []; turns = 0 } → new ≡ kept old opening o
+    → map world_of new.waiting ≡ opening_world program ∷ []
+opening_waits program stored w same opening is o old new empty one =
+    ap (λ (s : Search). map world_of s.waiting) (one ∙ ap (λ (s : Search). kept s opening o) empty)
+    ∙ ap (λ (x : Waiting). x.world ∷ []) is ∙ ap (λ (v : World). v ∷ []) same
 
 pub begins : (program : List ClassListing) (limits : Limits) (no_room : Bool) (e : Exploration)
     → HasKnown program limits e.search (opening_world program ∷ [])
