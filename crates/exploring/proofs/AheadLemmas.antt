@@ -1,4 +1,4 @@
-use Rattle.std.proofs.Common.{◌≡◌, ℕ, zero, suc, ◌+◌, arith, List, [], ◌∷◌, ◌++◌, replicate, slice_get, is_some, Bool, true, false}
+use Rattle.std.proofs.Common.{◌≡◌, inl, inr, ℕ, zero, suc, ◌+◌, arith, List, [], ◌∷◌, ◌++◌, replicate, slice_get, is_some, Bool, true, false}
 use Rattle.std.proofs.Common.{Option, Some, None, Result, Ok, Err, refl, sym, ◌∙◌, ap, subst}
 use Rattle.model.specs.declared.instructions.Instruction.TheVariants.{Nop, Constant, Local, Stack, Number, Branch}
 use Rattle.model.specs.declared.instructions.Instruction.TheVariants.{TableSwitch, LookupSwitch, Return}
@@ -16,14 +16,18 @@ use Rattle.model.specs.Effects.Choice.{NewObject}
 use Rattle.model.specs.Frames.{Frame, Moved, replaced, running, with_running}
 use Rattle.model.specs.Programs.{instruction_of}
 use Rattle.model.specs.Table.Next.{Listed, asked, at_frame, at_instruction, at_mark, at_site, completion, next}
-use Rattle.model.specs.Worlds.{World, frames_at, frames_of, with_thread}
-use Rattle.model.specs.Worlds.Thread.{Live}
+use Rattle.model.specs.Worlds.{World, Thread, frames_at, frames_of, with_thread}
+use Rattle.model.specs.Worlds.Thread.{Live, Ended}
+use Rattle.model.specs.declared.turns.Actor.TheVariants.{Thread as ThreadActor}
+use Rattle.model.specs.declared.turns.Turn.{Turn}
+use Rattle.model.specs.Turns.{refusal}
+use Rattle.ideal_run.specs.Successors.{Successor, Transitions, successor, unless_refused}
 use Rattle.exploration.specs.ClosedLists.{Pair, pair_of}
 use Rattle.exploration.specs.ReducedRuns.{pairs_in}
 use Rattle.exploration.specs.Reduction.{GoesAhead, PlainStep, moved_in, plain_step, plainly}
 use Rattle.exploration.specs.Reduction.GoesAhead.{stays, steps}
 use Rattle.exploration.proofs.PlainSteps.{plain_next}
-use Rattle.exploring.specs.Ahead.{WentAhead, is_plain}
+use Rattle.exploring.specs.Ahead.{IsPlainTurn, WentAhead, WentOn, is_plain}
 
 -- a turn of a plain instruction that neither throws nor is at fault is a plain step
 
@@ -119,3 +123,41 @@ goes_further program t n w v after went fs gs live step is =
       ahead = k.0;
       pairs = k.1 ∙ ap (λ ps. ps ++ pair_of t NewObject ∷ []) went.pairs ∙ last_more n (pair_of t NewObject);
     })
+
+-- ---- as code has it
+
+lives_with : (o : Option Thread) (f : Frame) → running (frames_of o) ≡ Some f
+    → o ≡ Some (Live (frames_of o))
+lives_with None f e = absurd (cc)
+lives_with (Some (Live fs)) f e = refl
+lives_with (Some (Ended by)) f e = absurd (cc)
+
+none_asked : (o : Option ℕ) → is_some o ≡ false → o ≡ None
+none_asked None e = refl
+none_asked (Some n) e = absurd (cc)
+
+module _ (s : Transitions) (w : World) (t : ℕ) where
+  free_left : (r : Option Turn) (a : Successor) → Some a ≡ unless_refused s w t NewObject r
+      → a ≡ record { world = (next s.program w t NewObject).after; asks = is_some (asked s.program w t) }
+  free_left None a k = cc
+  free_left (Some refused) a k = absurd (cc)
+
+  pub plain_turn_is : (f : Frame) (i : Placed) (a : Successor) → running (frames_at w t) ≡ Some f
+      → f.mark ≡ Unmarked → instruction_of s.program f ≡ Some i → is_plain i.instruction ≡ true
+      → Some a ≡ successor s w t NewObject → a.asks ≡ false → a.world.fault ≡ None
+      → IsPlainTurn s.program w t a.world
+  plain_turn_is f i a runs unmarked stands kind made quiet clean =
+      let fs = frames_at w t in
+      let live = lives_with (slice_get w.threads t) f runs in
+      let is = free_left (refusal s.program s.limits w (ThreadActor t)) a made in
+      let after : a.world ≡ (next s.program w t NewObject).after = ap (λ (y : Successor). y.world) is in
+      let asks = none_asked (asked s.program w t) (sym (ap (λ (y : Successor). y.asks) is) ∙ quiet) in
+      let k = is_step s.program w t fs f live runs i unmarked stands kind a.world after asks clean in
+      record { frames = fs; others = k.0; live = live; step = k.1; is = k.2 }
+
+pub went_not : (program : List ClassListing) (t most : ℕ) (w : World) → WentOn program t most w w 0
+went_not program t most w = record { went = goes_nowhere program t w; few = omega arith; clean = inr (refl, refl) }
+
+pub goes_one_more : (program : List ClassListing) (t n : ℕ) (w v after : World) → WentAhead program t n w v
+    → IsPlainTurn program v t after → WentAhead program t (n + 1) w after
+goes_one_more program t n w v after went p = goes_further program t n w v after went p.frames p.others p.live p.step p.is

@@ -181,7 +181,7 @@ notes program limits old o moves keyed sound real = by (list_any (bytes_eq (outc
 
 pub opening_known : (program : List ClassListing) (limits : Limits) (s : Search) (opening : Waiting) (o : Origin)
     → HasStates s.stored (opening_world program ∷ [])
-    → opening ≡ record { world = opening_world program; place = 0; depth = 0 }
+    → opening ≡ record { world = opening_world program; place = 0; level = 0; depth = 0 }
     → s.origins ≡ o ∷ [] → s.waiting ≡ opening ∷ []
     → HasKnown program limits s (opening_world program ∷ [])
 opening_known program limits s opening o has is origins waiting = record {
@@ -192,6 +192,7 @@ opening_known program limits s opening o has is origins waiting = record {
   where
     traced : IsTraced program limits s.origins opening
     traced = subst (IsTraced program limits s.origins) (sym is) (record {
+      led = tt;
       long = refl;
       witnessed = opening_is_witnessed program limits;
     })
@@ -207,7 +208,7 @@ first_state s w false adds = absurd (let none : None ≡ Some w = adds.1.1 in cc
 
 pub opened : (program : List ClassListing) (limits : Limits) (stored : Stored) (fresh : Bool) (w : World)
     → w ≡ opening_world program → AddsState stored [] w fresh → (opening : Waiting)
-    → opening ≡ record { world = w; place = 0; depth = 0 } → (o : Origin) (old new : Search)
+    → opening ≡ record { world = w; place = 0; level = 0; depth = 0 } → (o : Origin) (old new : Search)
     → old ≡ record { stored = stored; origins = []; waiting = []; turns = 0 } → new ≡ kept old opening o
     → HasKnown program limits new (opening_world program ∷ [])
 opened program limits stored fresh w same adds opening is o old new empty one =
@@ -217,11 +218,11 @@ opened program limits stored fresh w same adds opening is o old new empty one =
     subst (λ (v : World). HasStates stored (v ∷ [])) same (first_state stored w fresh adds) in
     opening_known program limits new opening o
     (subst (λ (s : Stored). HasStates s (opening_world program ∷ [])) (sym (ap (λ (s : Search). s.stored) all)) has)
-    (is ∙ ap (λ (v : World). let x : Waiting = record { world = v; place = 0; depth = 0 } in x) same)
+    (is ∙ ap (λ (v : World). let x : Waiting = record { world = v; place = 0; level = 0; depth = 0 } in x) same)
     (ap (λ (s : Search). s.origins) all) (ap (λ (s : Search). s.waiting) all)
 
 pub opening_waits : (program : List ClassListing) (stored : Stored) (w : World) → w ≡ opening_world program
-    → (opening : Waiting) → opening ≡ record { world = w; place = 0; depth = 0 } → (o : Origin) (old new : Search)
+    → (opening : Waiting) → opening ≡ record { world = w; place = 0; level = 0; depth = 0 } → (o : Origin) (old new : Search)
     → old ≡ record { stored = stored; origins = []; waiting = []; turns = 0 } → new ≡ kept old opening o
     → map world_of new.waiting ≡ opening_world program ∷ []
 opening_waits program stored w same opening is o old new empty one =
@@ -400,20 +401,20 @@ module _ (program : List ClassListing) (limits : Limits) (no_room : Bool) where
         (subst (SomeMoves program limits s.world) some x.moves) halted))
 
     pub halted_real : moved ≡ false → s.depth < limits.steps
-        → IsReal program limits (pairs_in (trail search.origins s.depth s.place)) (observed program s.world)
+        → IsReal program limits (pairs_in (trail search.origins s.level s.place)) (observed program s.world)
     halted_real none under =
         let r = traced_after program limits old.search search b.known x.grows s b.traced in
         let zero_rows = no_rows program limits search.origins s r in
-        outcomes_are_real program limits (pairs_in (trail search.origins s.depth s.place)) s.world r.witnessed
+        outcomes_are_real program limits (pairs_in (trail search.origins s.level s.place)) s.world r.witnessed
         (no_turn_halts program limits s.world (omega (arith, zero_rows, under))
         (subst (SomeMoves program limits s.world) none x.moves))
 
     pub noted_on : moved ≡ false → s.depth < limits.steps → IsOnItsWay program limits no_room (record {
       search = search;
-      outcomes = noted old.outcomes (observed program s.world) (trail search.origins s.depth s.place);
+      outcomes = noted old.outcomes (observed program s.world) (trail search.origins s.level s.place);
     })
     noted_on none under =
-        let moves = trail search.origins s.depth s.place in
+        let moves = trail search.origins s.level s.place in
         let o = observed program s.world in
         let k = notes program limits old.outcomes o moves b.keyed b.sound (halted_real none under) in
         goes_on (noted old.outcomes o moves) k.keyed k.sound k.more (λ halted. k.there)

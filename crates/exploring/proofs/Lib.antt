@@ -1,3 +1,4 @@
+pub mod AheadLemmas
 pub mod CanonicalLemmas
 pub mod ExpansionLemmas
 pub mod ExplorationLemmas

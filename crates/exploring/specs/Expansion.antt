@@ -1,4 +1,4 @@
-use Rattle.std.specs.Prelude.{◌≡◌, ◌<◌, ℕ, List, [], ◌∷◌, ◌++◌, length, map, slice_get, Bool, true, false, Option, Some, None}
+use Rattle.std.specs.Prelude.{◌≡◌, ◌⊎◌, ◌<◌, ◌≤◌, ◌+◌, ℕ, List, [], ◌∷◌, ◌++◌, length, map, slice_get, Bool, true, false, Option, Some, None}
 use Rattle.model.specs.declared.journals.Limits.{Limits}
 use Rattle.model.specs.declared.turns.Actor.TheVariants.{Thread}
 use Rattle.model.specs.ClassListings.{ClassListing}
@@ -9,11 +9,13 @@ use Rattle.model.specs.Worlds.{World}
 use Rattle.ideal_run.specs.Effected.{choice_in}
 use Rattle.exploration.specs.CanonicalForms.{AllMade}
 use Rattle.exploration.specs.ClosedLists.{IsWitnessed}
+use Rattle.exploration.specs.Reduction.{IsAheadAmong}
 use Rattle.exploration.specs.Search.{IsExpanded}
 use Rattle.exploring.specs.declared.explored.Move.{Move}
 use Rattle.exploring.specs.declared.origins.Origin.{Origin}
 use Rattle.exploring.specs.declared.search.Waiting.{Waiting}
-use Rattle.exploring.specs.Origins.{moves_back, pairs_in, trail}
+use Rattle.exploring.specs.Ahead.{WentAhead}
+use Rattle.exploring.specs.Origins.{IsLed, pairs_in, trail}
 use Rattle.exploring.specs.States.{HasStates, IsOneOf, Stored}
 
 -- Expanding a state: what its turns lead to is found.
@@ -41,8 +43,9 @@ Takes old new (Some s) = old ≡ record new { waiting = s ∷ new.waiting }
 
 -- the moves that led to the state are those of an ideal run that comes to what it represents
 pub record IsTraced (program : List ClassListing) (limits : Limits) (origins : List Origin) (s : Waiting) : Type 0 where
-  pub long : length (moves_back origins s.depth s.place) ≡ s.depth
-  pub witnessed : IsWitnessed program limits (pairs_in (trail origins s.depth s.place)) s.world
+  pub led : IsLed origins s.level s.place
+  pub long : length (trail origins s.level s.place) ≡ s.depth
+  pub witnessed : IsWitnessed program limits (pairs_in (trail origins s.level s.place)) s.world
 
 abbrev pub AreTraced : List ClassListing → Limits → List Origin → List Waiting → Type 0
 AreTraced program limits origins waiting = (j : ℕ) (s : Waiting) → slice_get waiting j ≡ Some s
@@ -64,19 +67,25 @@ pub record Grows (program : List ClassListing) (limits : Limits) (old new : Sear
   pub waits : map world_of new.waiting ≡ map world_of old.waiting ++ more
   pub origins : new.origins ≡ old.origins ++ since
 
--- among them a state
+-- among them one for what a world goes ahead to
 pub record Finds (program : List ClassListing) (limits : Limits) (old new : Search) (known : List World) (w : World)
     : Type 0 where
   pub grows : Grows program limits old new known
-  pub there : IsOneOf (known ++ grows.more) w
+  pub there : IsAheadAmong program (known ++ grows.more) w
 
--- a world is what a move of a state leads to, which isn't the last that the limit of steps allows
+-- a world is what a move of a state leads to, and the state isn't the last that the limit of steps allows
 pub record Follows (program : List ClassListing) (limits : Limits) (origins : List Origin) (parent : Waiting) (m : Move)
     (w : World) : Type 0 where
   pub traced : IsTraced program limits origins parent
   pub below : parent.depth < limits.steps
   pub free : refusal program limits parent.world (Thread m.thread) ≡ None
   pub is : w ≡ (next program parent.world m.thread (choice_in m.choice)).after
+
+-- from there the thread went on by so many plain steps, below that limit too
+pub record GoesOn (program : List ClassListing) (limits : Limits) (parent : Waiting) (m : Move) (w v : World) (n : ℕ)
+    : Type 0 where
+  pub went : WentAhead program m.thread n w v
+  pub how : ((w.fault ≡ None) × (parent.depth + 1 + n ≤ limits.steps)) ⊎ ((n ≡ 0) × (v ≡ w))
 
 -- whether a thread's turn isn't refused
 abbrev pub Moves : List ClassListing → Limits → World → ℕ → Bool → Type 0

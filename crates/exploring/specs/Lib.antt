@@ -1,3 +1,4 @@
+pub mod Ahead
 pub mod Canonical
 pub mod Expansion
 pub mod Explorations

@@ -96,7 +96,7 @@ impl Outcomes {
         state: &Waiting,
     ) -> Result<(), AllocError>
         ensures noted { OnOk result (self.new ≡ noted self.old (observed transitions.now.program state.now.world)
-            (trail search.now.origins state.now.depth state.now.place)) }
+            (trail search.now.origins state.now.level state.now.place)) }
         ensures kept { OnErr result (self.new.found ≡ self.old.found) }
     {
         let outcome = observed(alloc, transitions, &state.world)?;

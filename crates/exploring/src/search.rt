@@ -1,12 +1,10 @@
 //! A search through the states of a program, breadth first.
-ghost use Rattle.std.specs.Prelude.{◌≡◌, ◌<◌, ◌∷◌, [], ◌++◌, length, map, ℕ, List, IfOk, OnOk};
-ghost use Rattle.model.specs.declared.journals.Limits.{Limits};
-ghost use Rattle.model.specs.ClassListings.{ClassListing};
+ghost use Rattle.std.specs.Prelude.{◌≡◌, ◌<◌, ◌+◌, ◌∷◌, [], length, map, List, IfOk, OnOk};
 ghost use Rattle.model.specs.Worlds.{World, opening_world};
-ghost use Rattle.exploring.specs.Canonical.{canonical};
-ghost use Rattle.exploring.specs.Expansion.{AreTraced, Expands, ExpandsAll, Finds, Follows, HasKnown, IsTraced, Takes, kept, world_of};
+ghost use Rattle.exploring.specs.Expansion.{Expands, ExpandsAll, Finds, Follows, HasKnown, IsTraced, Takes, kept, world_of};
 ghost use Rattle.exploring.specs.Origins.{trail};
 
+use crate::ahead::{MOST_AHEAD, go_ahead};
 use crate::explored::{Bounds, Cut, Move};
 use crate::forms::canonical;
 use crate::origins::{Origin, trail};
@@ -17,11 +15,12 @@ use std::alloc::{AllocError, Global};
 use std::collections::VecDeque;
 use std::marker::Model;
 
-/// A state that waits to be expanded: its number, and how many turns led to it.
+/// A state that waits to be expanded: its number, how many states come before it on the way, and how many turns led to it.
 #[derive(Drop)]
 pub struct Waiting {
     pub world: World,
     pub place: u32,
+    pub level: u32,
     pub depth: u32,
 }
 
@@ -56,6 +55,7 @@ fn nowhere() -> Origin {
             thread: 0,
             choice: Choice::NewObject,
         },
+        ahead: 0,
     }
 }
 
@@ -79,6 +79,7 @@ impl Search {
         let opening = Waiting {
             world,
             place: 0,
+            level: 0,
             depth: 0,
         };
         search.keep(opening, nowhere())?;
@@ -113,9 +114,9 @@ impl Search {
 
     /// The moves that led to a state. `AllocError` where memory runs out.
     pub fn trail(&self, alloc: Global, state: &Waiting) -> Result<Vec<Move>, AllocError>
-        ensures { IfOk result (λ moves. moves.items ≡ trail self.now.origins state.now.depth state.now.place) }
+        ensures { IfOk result (λ moves. moves.items ≡ trail self.now.origins state.now.level state.now.place) }
     {
-        trail(alloc, &self.origins, state.place, state.depth)
+        trail(alloc, &self.origins, state.level, state.place)
     }
 
     /// A new state waits, and its origin is kept.
@@ -127,41 +128,70 @@ impl Search {
         Ok(())
     }
 
-    /// Adds the canonical form of what a move of a state leads to, unless it's there. Only so many states may be kept.
-    fn find(
-        &mut self,
-        alloc: Global,
+    /// The state to which a move of another one leads, and so many plain steps after it. Only so many states may be kept.
+    fn next_state(
+        &self,
         most: u32,
         parent: &Waiting,
-        by: Move,
-        world: &World,
-    ) -> Result<(), Cut>
-        ensures { (program : List ClassListing) (limits : Limits) (known : List World)
-            → HasKnown program limits self.old known
-            → Follows program limits self.old.origins parent.now by world.now
-            → OnOk result (Finds program limits self.old self.new known (canonical world.now)) }
+        ahead: u32,
+        world: World,
+    ) -> Result<Waiting, Cut>
+        ensures { IfOk result (λ state. state ≡ record {
+          world = world;
+          place = length self.now.origins;
+          level = parent.now.level + 1;
+          depth = parent.now.depth + 1 + ahead;
+        }) }
     {
-        self.turns = self.turns.saturating_add(1);
-        let world = canonical(alloc, world)?;
-        if !self.states.add(alloc, &world)? {
-            return Ok(());
-        }
         let Ok(place) = u32::try_from(self.origins.len()) else {
             return Err(Cut::Memory);
         };
         if most <= place {
             return Err(Cut::States);
         }
-        let Some(depth) = parent.depth.checked_add(1) else {
+        let Some(level) = parent.level.checked_add(1) else {
             return Err(Cut::Depth);
         };
-        let state = Waiting {
+        let Some(before) = parent.depth.checked_add(1) else {
+            return Err(Cut::Depth);
+        };
+        let Some(depth) = before.checked_add(ahead) else {
+            return Err(Cut::Depth);
+        };
+        Ok(Waiting {
             world,
             place,
+            level,
             depth,
-        };
+        })
+    }
+
+    /// Adds the canonical form of what a move of a state leads to, and the plain steps after it, unless it's there.
+    fn find(
+        &mut self,
+        alloc: Global,
+        transitions: &Transitions<'_>,
+        most: u32,
+        parent: &Waiting,
+        by: Move,
+        world: World,
+    ) -> Result<(), Cut>
+        ensures { (known : List World)
+            → HasKnown transitions.now.program transitions.now.limits self.old known
+            → Follows transitions.now.program transitions.now.limits self.old.origins parent.now by world
+            → OnOk result (Finds transitions.now.program transitions.now.limits self.old self.new known world) }
+    {
+        let steps = transitions.limits().steps;
+        let room = steps.saturating_sub(parent.depth).saturating_sub(1);
+        let (world, ahead) = go_ahead(transitions, world, by.thread, room.min(MOST_AHEAD))?;
+        self.turns = self.turns.saturating_add(u64::from(ahead) + 1);
+        let world = canonical(alloc, &world)?;
+        if !self.states.add(alloc, &world)? {
+            return Ok(());
+        }
+        let state = self.next_state(most, parent, ahead, world)?;
         let parent = parent.place;
-        self.keep(state, Origin { parent, by })?;
+        self.keep(state, Origin { parent, by, ahead })?;
         Ok(())
     }
 
@@ -186,13 +216,16 @@ impl Search {
             return Ok(false);
         };
         let most = bounds.states;
-        self.find(alloc, most, state, Move { thread, choice }, &made.world)?;
-        if bounds.no_room && made.asks {
+        let asks = made.asks;
+        let by = Move { thread, choice };
+        self.find(alloc, transitions, most, state, by, made.world)?;
+        if bounds.no_room && asks {
             let choice = Choice::NoRoom;
             let Some(other) = transitions.successor(&state.world, thread, choice)? else {
                 return Ok(true);
             };
-            self.find(alloc, most, state, Move { thread, choice }, &other.world)?;
+            let by = Move { thread, choice };
+            self.find(alloc, transitions, most, state, by, other.world)?;
         }
         Ok(true)
     }
