@@ -10,6 +10,7 @@ use Rattle.model.specs.ClassListings.{ClassListing}
 use Rattle.model.specs.Worlds.{World, Thread}
 use Rattle.model.specs.Worlds.Thread.{Live, Ended}
 use Rattle.model.specs.Observers.{status_in}
+use Rattle.model.specs.Turns.{thread_refusal}
 use Rattle.model.specs.Collector.Runs.{machine_after}
 use Rattle.model.specs.Machines.{opening_machine}
 use Rattle.exploration.specs.ClosedLists.{Closed, Pair, ideal_after, PairsFindRoom, ActorsFindRoom}
@@ -34,6 +35,10 @@ observed program w = record {
   ends = map end_of w.threads;
   status = status_in program w;
 }
+
+-- no thread can go on: each has ended, waits, or would print more than the output has room for; or there was a fault
+abbrev pub IsHalted : List ClassListing → Limits → World → Type 0
+IsHalted program limits w = (t : ℕ) → thread_refusal program limits w t ≡ None → ⊥
 
 -- a state of the list of which the same is observed
 pub record ShowsSame (program : List ClassListing) (states : List World) (w : World) : Type 0 where

@@ -8,7 +8,7 @@
 ghost use Rattle.exploration.specs.CanonicalForms.{CanonicalRepresents, TurnsMakeAll};
 ghost use Rattle.exploration.specs.ClosedLists.{ClosedHasAll, OpeningIsWitnessed, TurnsAreWitnessed};
 ghost use Rattle.exploration.specs.Observations.{ClosedShowsAll};
-ghost use Rattle.exploration.specs.Outcomes.{OutcomesAreReal, OutcomesOfAll};
+ghost use Rattle.exploration.specs.Outcomes.{OutcomesAreReal, OutcomesOfAll, RestIsHalted};
 ghost use Rattle.exploration.specs.ReducedRuns.{AheadIsWitnessed, ReducedShowsAll};
 ghost use Rattle.exploration.specs.Search.{SearchesAll};
 
@@ -37,5 +37,6 @@ pub fn a_closed_list_has_every_run()
     ensures reduced_witnessed { AheadIsWitnessed }
     ensures outcomes { OutcomesOfAll }
     ensures real { OutcomesAreReal }
+    ensures rest { RestIsHalted }
     ensures searches { SearchesAll }
 {}

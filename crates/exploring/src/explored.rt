@@ -64,6 +64,14 @@ pub struct Found {
     pub witness: Vec<Move>,
 }
 
+impl Model for Found {
+    ghost use Rattle.exploring.specs.Explorations.{Finding};
+
+    ghost Value = { Finding };
+
+    ghost view = { λ a. record { outcome = a.outcome; moves = a.witness.items } };
+}
+
 /// Outcomes in the order in which they were found, each once; how many states there are, and how many turns were made of
 /// them; and why the search was cut off, if it was.
 #[derive(Drop)]
@@ -72,4 +80,12 @@ pub struct Explored {
     pub states: u64,
     pub turns: u64,
     pub cut: Option<Cut>,
+}
+
+impl Model for Explored {
+    ghost use Rattle.exploring.specs.Explorations.{Report};
+
+    ghost Value = { Report };
+
+    ghost view = { λ a. record { found = a.found.items; states = a.states; turns = a.turns; cut = a.cut } };
 }

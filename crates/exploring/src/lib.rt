@@ -4,6 +4,7 @@
 
 ghost use Rattle.exploring.specs.Keys.{KeysTell};
 
+mod ahead;
 mod explored;
 mod forms;
 mod keys;

@@ -1,8 +1,10 @@
 //! What a thread's turn makes of a world, whichever world it is (JVMS 2.5, 2.6): for those who look at every schedule of
 //! a program.
 ghost use Rattle.std.specs.Prelude.{◌≡◌, ℕ, IfOk, is_some};
+ghost use Rattle.std.specs.Option.{option_copied};
 ghost use Rattle.model.specs.Completions.{asks, waits};
 ghost use Rattle.model.specs.Observers.{status_in};
+ghost use Rattle.model.specs.Programs.{instruction_of};
 ghost use Rattle.model.specs.Ready.{is_ready, some_is_ready, some_lives};
 ghost use Rattle.model.specs.Worlds.{opening_world};
 ghost use Rattle.ideal_run.specs.Completed.{reported};
@@ -12,13 +14,14 @@ ghost use Rattle.ideal_run.specs.Successors.{AreTransitions, successor};
 use crate::completions::Completion;
 use crate::copies::copy;
 use crate::effects::{Choice, carry_out};
+use crate::frames::Frame;
 use crate::ideal::is_refused;
 use crate::opening::opening_world;
 use crate::programs::Program;
 use crate::table::completion;
 use crate::worlds::World;
 use model::journals::Limits;
-use model::listings::Listing;
+use model::listings::{Listing, Placed};
 use model::turns::Status;
 use std::alloc::{AllocError, Global};
 use std::marker::Model;
@@ -180,6 +183,13 @@ impl<'a> Transitions<'a> {
             completion,
         )?;
         Ok(Some(Successor { world: after, asks }))
+    }
+
+    /// The instruction at which a frame stands, with its pc and the next.
+    pub fn instruction_of(&self, frame: &Frame) -> Option<&Placed>
+        ensures { option_copied result ≡ instruction_of self.now.program frame.now }
+    {
+        self.program.instruction_of(frame)
     }
 
     /// Whether a thread is ready.

@@ -1,10 +1,9 @@
 #![tactic(auto)]
-use exploring::{Bounds, Choice, Cut, End, Found, explore};
+use exploring::{Bounds, Choice, End, Found, explore};
 use ideal_run::Transitions;
 use model::journals::Limits;
 use model::listings::Listing;
 use model::watching::Unwatched;
-use std::alloc::Global;
 use std::fs;
 use std::process::ExitCode;
 
@@ -41,42 +40,67 @@ fn show(rt: &HostRuntime, found: &Found) -> Result<(), anyhow::Error> {
     Ok(())
 }
 
-fn go(rt: &HostRuntime) -> Result<(), anyhow::Error> {
-    let args: Vec<String> = std::env::args(rt)?.collect(rt.alloc())?;
+fn one(rt: &HostRuntime, text: &str, states: u32, no_room: bool, output: u32, steps: u32, quiet: bool) -> Result<(), anyhow::Error> {
     let alloc = rt.alloc();
-    let mut states = 1_000_000_u32;
-    let mut no_room = false;
-    let mut output = 4096_u32;
-    let mut quiet = false;
+    println!(rt; "== {text} states {states} no_room {no_room} output {output} steps {steps}")?;
+    let bytes = match fs::read(rt, text) {
+        Ok(b) => b,
+        Err(_) => { println!(rt; "cannot read")?; return Ok(()); }
+    };
+    let tree = match jasmin::read(alloc, bytes.as_slice()) {
+        Ok(t) => t,
+        Err(e) => { println!(rt; "{e}")?; return Ok(()); }
+    };
     let mut listings: Vec<Listing> = Vec::new(alloc);
-    for arg in &args {
-        
-        let text = arg.as_str();
-        if text == "n" {
-            no_room = true;
-        } else if text == "q" {
-            quiet = true;
-        } else if text.ends_with(".j") {
-            let bytes = fs::read(rt, text)?;
-            let tree = match jasmin::read(alloc, bytes.as_slice()) {
-                Ok(t) => t,
-                Err(e) => { println!(rt; "{e}")?; return Ok(()); }
-            };
-            match assembler::listing(alloc, tree) {
-                Ok(l) => listings.push(l)?,
-                Err(e) => { println!(rt; "{e}")?; return Ok(()); }
-            }
-        } else {
-            states = number(text);
-        }
+    match assembler::listing(alloc, tree) {
+        Ok(l) => listings.push(l)?,
+        Err(e) => { println!(rt; "{e}")?; return Ok(()); }
     }
-    let limits = Limits { steps: 1_000_000, output };
+    let limits = Limits { steps, output };
     let Some(transitions) = Transitions::new(alloc, &listings, limits)? else { return Ok(()); };
     let explored = explore(alloc, &transitions, Bounds { states, no_room }, &mut Unwatched);
     for f in &explored.found {
         if !quiet { show(rt, f)?; }
     }
     println!(rt; "{} outcomes, {} states, {} turns, {:?}", explored.found.len(), explored.states, explored.turns, explored.cut)?;
+    Ok(())
+}
+
+fn go(rt: &HostRuntime) -> Result<(), anyhow::Error> {
+    let args: Vec<String> = std::env::args(rt)?.collect(rt.alloc())?;
+    let mut states = 1_000_000_u32;
+    let mut no_room = false;
+    let mut output = 4096_u32;
+    let mut steps = 1_000_000_u32;
+    let mut quiet = false;
+    let mut key = 0_u8;
+    for arg in &args {
+        let text = arg.as_str();
+        if key == 1 {
+            states = number(text);
+            key = 0;
+        } else if key == 2 {
+            output = number(text);
+            key = 0;
+        } else if key == 3 {
+            steps = number(text);
+            key = 0;
+        } else if text == "states" {
+            key = 1;
+        } else if text == "output" {
+            key = 2;
+        } else if text == "steps" {
+            key = 3;
+        } else if text == "n" {
+            no_room = true;
+        } else if text == "r" {
+            no_room = false;
+        } else if text == "q" {
+            quiet = true;
+        } else if text.ends_with(".j") {
+            one(rt, text, states, no_room, output, steps, quiet)?;
+        }
+    }
     Ok(())
 }
 
