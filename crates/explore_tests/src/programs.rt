@@ -5,7 +5,7 @@ use ideal_run::Transitions;
 use model::journals::Limits;
 use model::listings::Listing;
 use model::watching::Watch;
-use std::alloc::Global;
+use std::alloc::{AllocError, Global};
 use std::test::Fail;
 
 /// Two threads, each of which locks two objects, in opposite orders.
@@ -78,7 +78,7 @@ pub fn watched(
 ) -> Result<(Explored, Told), Fail> {
     let program = program_of(alloc, text)?;
     let Some(transitions) = Transitions::new(alloc, &program, limits)? else {
-        return Err(Fail::from(std::alloc::AllocError));
+        return Err(Fail::from(AllocError));
     };
     let mut told = Told {
         times: 0,

@@ -9,8 +9,7 @@ use Rattle.exploration.specs.declared.ends.End.{End}
 use Rattle.exploration.specs.declared.ends.End.TheVariants.{Lives, Ended}
 use Rattle.exploring.specs.declared.explored.Cut.{Cut}
 use Rattle.exploring.specs.declared.explored.Cut.TheVariants.{States, Memory, Depth}
-use Rattle.exploring.specs.declared.explored.Explored.{Explored}
-use Rattle.exploring.specs.declared.explored.Found.{Found}
+use Rattle.exploring.specs.Explorations.{Finding, Report}
 
 -- The text of a report. Each line ends in a newline, and one space stands between two words.
 
@@ -67,9 +66,9 @@ tail_of turns size output closing =
 abbrev pub tail_text : ℕ → List ℕ → List ℕ
 tail_text turns output = tail_of (decimal turns) (decimal (length output)) output (closing output)
 
-abbrev pub found_text : ℕ → Found → List ℕ
+abbrev pub found_text : ℕ → Finding → List ℕ
 found_text n f = head_line n f.outcome.status f.outcome.fault ++ (numbered_texts end_line 0 f.outcome.ends
-    ++ tail_text (length f.witness.items) f.outcome.output)
+    ++ tail_text (length f.moves) f.outcome.output)
 
 -- ---- the last line
 
@@ -89,5 +88,5 @@ last_line states turns cut = last_of (decimal states) (decimal turns) (cut_words
 
 -- ---- the whole: outcomes in the order in which they were found, and how far the exploration went
 
-abbrev pub report_text : Explored → List ℕ
-report_text e = numbered_texts found_text 1 e.found.items ++ last_line e.states e.turns e.cut
+abbrev pub report_text : Report → List ℕ
+report_text r = numbered_texts found_text 1 r.found ++ last_line r.states r.turns r.cut
