@@ -66,9 +66,12 @@ tail_of turns size output closing =
 abbrev pub tail_text : ℕ → List ℕ → List ℕ
 tail_text turns output = tail_of (decimal turns) (decimal (length output)) output (closing output)
 
+abbrev pub parts_text : ℕ → Status → Option (Fault × ℕ) → List End → ℕ → List ℕ → List ℕ
+parts_text n status fault ends turns output =
+    head_line n status fault ++ (numbered_texts end_line 0 ends ++ tail_text turns output)
+
 abbrev pub found_text : ℕ → Finding → List ℕ
-found_text n f = head_line n f.outcome.status f.outcome.fault ++ (numbered_texts end_line 0 f.outcome.ends
-    ++ tail_text (length f.moves) f.outcome.output)
+found_text n f = parts_text n f.outcome.status f.outcome.fault f.outcome.ends (length f.moves) f.outcome.output
 
 -- ---- the last line
 
@@ -88,5 +91,8 @@ last_line states turns cut = last_of (decimal states) (decimal turns) (cut_words
 
 -- ---- the whole: outcomes in the order in which they were found, and how far the exploration went
 
+abbrev pub whole_text : List Finding → ℕ → ℕ → Option Cut → List ℕ
+whole_text found states turns cut = numbered_texts found_text 1 found ++ last_line states turns cut
+
 abbrev pub report_text : Report → List ℕ
-report_text r = numbered_texts found_text 1 r.found ++ last_line r.states r.turns r.cut
+report_text r = whole_text r.found r.states r.turns r.cut

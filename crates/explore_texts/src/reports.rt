@@ -4,8 +4,8 @@ ghost use Rattle.std.specs.Fmt.{decimal};
 ghost use Rattle.model.specs.Faults.{fault_number};
 ghost use Rattle.debug_texts.specs.Streams.{Puts};
 ghost use Rattle.explore_texts.specs.Reports.{closing, cut_words, end_line, ended_line, fault_line, found_text, head_line};
-ghost use Rattle.explore_texts.specs.Reports.{last_line, last_of, numbered_texts, report_text, status_words, tail_of};
-ghost use Rattle.explore_texts.specs.Reports.{tail_text};
+ghost use Rattle.explore_texts.specs.Reports.{last_line, last_of, numbered_texts, parts_text, report_text, status_words};
+ghost use Rattle.explore_texts.specs.Reports.{tail_of, tail_text, whole_text};
 
 use debug_texts::answers::put_pieces;
 use debug_texts::sinks::{Sink, WriteFailed};
@@ -218,6 +218,30 @@ fn put_tail<S: Sink>(sink: &mut S, turns: usize, output: &[u8]) -> Result<(), Wr
     )
 }
 
+/// An outcome with its number, by its parts.
+fn put_parts<S: Sink>(
+    sink: &mut S,
+    number: usize,
+    status: Status,
+    fault: Option<(Fault, u8)>,
+    ends: &[End],
+    turns: usize,
+    output: &[u8],
+) -> Result<(), WriteFailed>
+    requires { S.failures sink.old < 2 ^ 64 - 1 }
+    ensures puts { Puts result (S.contents sink.old) (S.contents sink.new)
+        (parts_text number status fault ends.now turns output.now) }
+    ensures same { OnOk result (S.failures sink.new ≡ S.failures sink.old) }
+{
+    match put_head(sink, number, status, fault) {
+        Err(failed) => Err(failed),
+        Ok(()) => match put_ends(sink, ends) {
+            Err(failed) => Err(failed),
+            Ok(()) => put_tail(sink, turns, output),
+        },
+    }
+}
+
 /// An outcome with its number.
 fn put_found<S: Sink>(sink: &mut S, number: usize, found: &Found) -> Result<(), WriteFailed>
     requires { S.failures sink.old < 2 ^ 64 - 1 }
@@ -225,13 +249,15 @@ fn put_found<S: Sink>(sink: &mut S, number: usize, found: &Found) -> Result<(), 
     ensures same { OnOk result (S.failures sink.new ≡ S.failures sink.old) }
 {
     let outcome = &found.outcome;
-    match put_head(sink, number, outcome.status, outcome.fault) {
-        Err(failed) => Err(failed),
-        Ok(()) => match put_ends(sink, &outcome.ends) {
-            Err(failed) => Err(failed),
-            Ok(()) => put_tail(sink, found.witness.len(), &outcome.output),
-        },
-    }
+    put_parts(
+        sink,
+        number,
+        outcome.status,
+        outcome.fault,
+        &outcome.ends,
+        found.witness.len(),
+        &outcome.output,
+    )
 }
 
 /// Outcomes, numbered from 1.
@@ -292,6 +318,24 @@ fn put_last<S: Sink>(sink: &mut S, states: u64, turns: u64, cut: Option<Cut>) ->
     )
 }
 
+/// A report by its parts.
+fn put_whole<S: Sink>(
+    sink: &mut S,
+    found: &[Found],
+    states: u64,
+    turns: u64,
+    cut: Option<Cut>,
+) -> Result<(), WriteFailed>
+    requires { S.failures sink.old < 2 ^ 64 - 1 }
+    ensures puts { Puts result (S.contents sink.old) (S.contents sink.new) (whole_text found.now states turns cut) }
+    ensures same { OnOk result (S.failures sink.new ≡ S.failures sink.old) }
+{
+    match put_all(sink, found) {
+        Err(failed) => Err(failed),
+        Ok(()) => put_last(sink, states, turns, cut),
+    }
+}
+
 /// Writes the report of what an exploration found, in pieces: outcomes from 1 on, each with the threads that an
 /// exception ended, how many turns lead to it, and what was printed; then how many states were found and turns made, and
 /// whether that is all. It takes no memory. `WriteFailed` where a write failed: a beginning was written.
@@ -300,8 +344,11 @@ pub fn put_report<S: Sink>(sink: &mut S, explored: &Explored) -> Result<(), Writ
     ensures puts { Puts result (S.contents sink.old) (S.contents sink.new) (report_text explored.now) }
     ensures same { OnOk result (S.failures sink.new ≡ S.failures sink.old) }
 {
-    match put_all(sink, &explored.found) {
-        Err(failed) => Err(failed),
-        Ok(()) => put_last(sink, explored.states, explored.turns, explored.cut),
-    }
+    put_whole(
+        sink,
+        &explored.found,
+        explored.states,
+        explored.turns,
+        explored.cut,
+    )
 }
