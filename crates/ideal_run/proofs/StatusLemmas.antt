@@ -21,13 +21,20 @@ module _ (program : List ClassListing) (w : World) (t : ℕ) where
   pub ready-dead : w.fault ≡ None → false ≡ is_live w t → false ≡ is_ready program w t
   ready-dead clean dead = sym (ready-is program w t false (waits (completion program w t)) clean (sym dead) refl)
 
-  pub ready-by : w.fault ≡ None → true ≡ is_live w t → (c : Completion) → c ≡ plainly (completion program w t)
-      → (wait : Bool) → wait ≡ waits c → not wait ≡ is_ready program w t
-  ready-by clean live c is wait waiting =
-      sym (ready-is program w t true wait clean (sym live)
-      (sym (waiting ∙ ap waits is ∙ plain-waits (completion program w t))))
+  module _ (c : Completion) (clean : w.fault ≡ None) (live : true ≡ is_live w t)
+      (is : c ≡ plainly (completion program w t)) where
+    ready-by : (wait : Bool) → wait ≡ waits c → not wait ≡ is_ready program w t
+    ready-by wait waiting =
+        sym (ready-is program w t true wait clean (sym live)
+        (sym (waiting ∙ ap waits is ∙ plain-waits (completion program w t))))
 
-pub ruleset statuses = (ready-stopped, ready-dead, ready-by)
+    pub ready-waits : true ≡ waits c → false ≡ is_ready program w t
+    ready-waits h = ready-by true h
+
+    pub ready-goes : false ≡ waits c → true ≡ is_ready program w t
+    ready-goes h = ready-by false h
+
+pub ruleset statuses = (ready-stopped, ready-dead, ready-waits, ready-goes)
 
 -- ---- one thread after another
 

@@ -204,7 +204,10 @@ impl<'a> Transitions<'a> {
             return Ok(false);
         }
         let completion = completion(self.alloc, &self.program, world, thread)?;
-        Ok(!waits(&completion))
+        if waits(&completion) {
+            return Ok(false);
+        }
+        Ok(true)
     }
 
     /// Whether some thread is ready.
