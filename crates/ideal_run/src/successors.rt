@@ -204,10 +204,7 @@ impl<'a> Transitions<'a> {
             return Ok(false);
         }
         let completion = completion(self.alloc, &self.program, world, thread)?;
-        if waits(&completion) {
-            return Ok(false);
-        }
-        Ok(true)
+        Ok(!waits(&completion))
     }
 
     /// Whether some thread is ready.
