@@ -1,4 +1,4 @@
-use Rattle.std.proofs.Common.{◌≡◌, inl, inr, ℕ, zero, suc, ◌+◌, ◌<◌, ◌≤◌, arith, List, [], ◌∷◌, ◌++◌, length, map, replicate, reverse}
+use Rattle.std.proofs.Common.{◌≡◌, inl, inr, ℕ, zero, suc, ◌+◌, ◌-◌, ◌<◌, ◌≤◌, arith, List, [], ◌∷◌, ◌++◌, length, map, replicate, reverse}
 use Rattle.std.proofs.Common.{slice_get, is_some, Bool, true, false, ◌&&◌, Option, Some, None, refl, sym, ◌∙◌, ap, subst}
 use Rattle.std.proofs.Common.{if◌then◌else◌}
 use Rattle.std.proofs.lemmas.Bool.{cases_lt}
@@ -37,7 +37,7 @@ use Rattle.exploring.specs.declared.origins.Origin.{Origin}
 use Rattle.exploring.specs.declared.search.Waiting.{Waiting}
 use Rattle.exploring.specs.Expansion.{AreTraced, Expands, ExpandsAll, ExpandsBelow, Finds, Follows, GoesOn, Grows, HasKnown}
 use Rattle.exploring.specs.Expansion.{IsTraced, MakesAll, Moves, MovesBelow, Search, SomeMoves, kept, world_of}
-use Rattle.exploring.specs.Ahead.{WentAhead}
+use Rattle.exploring.specs.Ahead.{WentAhead, WentOn}
 use Rattle.exploring.specs.Origins.{IsLed, back_by, back_from, led_by, moves_back, pair_in, pairs_in, plain_after, trail}
 use Rattle.exploring.specs.States.{AddsState, HasStates, IsOneOf, Stored}
 use Rattle.exploring.proofs.CanonicalLemmas.{is_represented}
@@ -215,6 +215,18 @@ module _ (program : List ClassListing) (limits : Limits) where
               (sym (ap pairs_in order ∙ pairs)) one;
         }) in
         subst (IsTraced program limits os) (sym is) (all (parent.level + 1) more)
+
+-- how far a thread went on
+pub goes_on : (program : List ClassListing) (limits : Limits) (parent : Waiting) (m : Move) (w v : World) (room n : ℕ)
+    → parent.depth < limits.steps → room ≡ limits.steps - parent.depth - 1 → WentOn program m.thread room w v n
+    → GoesOn program limits parent m w v n
+goes_on program limits parent m w v room n below is went = record {
+  went = went.went;
+  how = (elim went.clean [
+    | inl clean ↦ (let few = went.few in inl (clean, omega (arith, few, is, below)))
+    | inr none ↦ inr none
+  ]);
+}
 
 -- ---- a state is added
 

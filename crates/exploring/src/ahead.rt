@@ -10,7 +10,7 @@ use model::turns::Mark;
 use std::alloc::AllocError;
 
 /// The most steps that a thread goes ahead at once: a loop of plain steps that never ends does no harm.
-pub const MOST_AHEAD: u32 = 1_000;
+const MOST_AHEAD: u32 = 1_000;
 
 /// Whether an instruction changes the running frame alone, where it neither throws nor is at fault.
 fn is_plain(instruction: &Listed) -> bool
@@ -67,19 +67,20 @@ fn plain_turn(
     Ok(Some(made.world))
 }
 
-/// The world after the plain steps of a thread, and how many there were: all, or as many as were allowed; none where there
-/// was a fault. `AllocError` where memory runs out, or a number has no room.
+/// The world after the plain steps of a thread, and how many there were: all, or as many as there is room for, 1,000 at
+/// most; none where there was a fault. `AllocError` where memory runs out, or a number has no room.
 pub fn go_ahead(
     transitions: &Transitions<'_>,
     world: World,
     thread: u8,
-    most: u32,
+    room: u32,
 ) -> Result<(World, u32), AllocError>
-    ensures { IfOk result (λ r. WentOn transitions.now.program thread most world r.0 r.1) }
+    ensures { IfOk result (λ r. WentOn transitions.now.program thread room world r.0 r.1) }
 {
     if world.fault().is_some() {
         return Ok((world, 0));
     }
+    let most = room.min(MOST_AHEAD);
     let mut world = world;
     for step in 0..most {
         let Some(after) = plain_turn(transitions, &world, thread)? else {

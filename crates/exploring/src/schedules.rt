@@ -32,10 +32,9 @@ impl Exploration {
         ensures { (no_room : Bool) → IfOk result (λ made. IsOnItsWay transitions.now.program transitions.now.limits no_room
             made) }
     {
-        Ok(Exploration {
-            search: Search::new(alloc, transitions)?,
-            outcomes: Outcomes::new(alloc),
-        })
+        let search = Search::new(alloc, transitions)?;
+        let outcomes = Outcomes::new(alloc);
+        Ok(Exploration { search, outcomes })
     }
 
     /// Expands a state that was taken from those that wait, and notes its outcome where no thread of it can go on.

@@ -4,7 +4,7 @@ ghost use Rattle.model.specs.Worlds.{World, opening_world};
 ghost use Rattle.exploring.specs.Expansion.{Expands, ExpandsAll, Finds, Follows, HasKnown, IsTraced, Takes, kept, world_of};
 ghost use Rattle.exploring.specs.Origins.{trail};
 
-use crate::ahead::{MOST_AHEAD, go_ahead};
+use crate::ahead::go_ahead;
 use crate::explored::{Bounds, Cut, Move};
 use crate::forms::canonical;
 use crate::origins::{Origin, trail};
@@ -183,10 +183,11 @@ impl Search {
     {
         let steps = transitions.limits().steps;
         let room = steps.saturating_sub(parent.depth).saturating_sub(1);
-        let (world, ahead) = go_ahead(transitions, world, by.thread, room.min(MOST_AHEAD))?;
+        let (world, ahead) = go_ahead(transitions, world, by.thread, room)?;
         self.turns = self.turns.saturating_add(u64::from(ahead) + 1);
         let world = canonical(alloc, &world)?;
-        if !self.states.add(alloc, &world)? {
+        let fresh = self.states.add(alloc, &world)?;
+        if !fresh {
             return Ok(());
         }
         let state = self.next_state(most, parent, ahead, world)?;

@@ -10,22 +10,31 @@ use Rattle.model.specs.Ready.{is_ready, numbers_from}
 use Rattle.model.specs.Table.Next.{completion}
 use Rattle.model.specs.Worlds.{World, Thread, is_live}
 use Rattle.model.specs.Worlds.Thread.{Ended}
-use Rattle.ideal_run.specs.Completed.{plainly}
-use Rattle.ideal_run.proofs.TurnLemmas.{plain-waits, ready-is}
+use Rattle.ideal_run.specs.Completed.{plainly, reported}
+use Rattle.ideal_run.specs.declared.completions.Completion.{Completion as Reported}
+use Rattle.ideal_run.proofs.TurnLemmas.{plain-waits}
 
 module _ (program : List ClassListing) (w : World) (t : ℕ) where
+  ready-is : (live wait : Bool) → w.fault ≡ None → is_live w t ≡ live → waits (completion program w t) ≡ wait
+      → is_ready program w t ≡ (live && not wait)
+  ready-is live wait clean is waiting =
+      ap (λ (f : Option (Fault × ℕ)). is_none f && is_live w t && not (waits (completion program w t))) clean
+      ∙ (ap (λ (b : Bool). true && b && not (waits (completion program w t))) is
+      ∙ ap (λ (b : Bool). live && not b) waiting)
+
   pub ready-stopped : (fault : Fault × ℕ) → w.fault ≡ Some fault → false ≡ is_ready program w t
   ready-stopped fault is =
       sym (ap (λ (f : Option (Fault × ℕ)). is_none f && is_live w t && not (waits (completion program w t))) is)
 
   pub ready-dead : w.fault ≡ None → false ≡ is_live w t → false ≡ is_ready program w t
-  ready-dead clean dead = sym (ready-is program w t false (waits (completion program w t)) clean (sym dead) refl)
+  ready-dead clean dead = sym (ready-is false (waits (completion program w t)) clean (sym dead) refl)
 
-  pub ready-by : w.fault ≡ None → true ≡ is_live w t → (c : Completion) → c ≡ plainly (completion program w t)
-      → (wait : Bool) → wait ≡ waits c → not wait ≡ is_ready program w t
-  ready-by clean live c is wait waiting =
-      sym (ready-is program w t true wait clean (sym live)
-      (sym (waiting ∙ ap waits is ∙ plain-waits (completion program w t))))
+  pub ready-by : w.fault ≡ None → true ≡ is_live w t → (code : Reported)
+      → reported w t code ≡ plainly (completion program w t)
+      → (wait : Bool) → ((v : World) (n : ℕ) → wait ≡ waits (reported v n code)) → not wait ≡ is_ready program w t
+  ready-by clean live code is wait waiting =
+      sym (ready-is true wait clean (sym live)
+      (sym (waiting w t ∙ ap waits is ∙ plain-waits (completion program w t))))
 
 pub ruleset statuses = (ready-stopped, ready-dead, ready-by)
 

@@ -91,7 +91,7 @@ module _ (program : List ClassListing) (limits : Limits) (w : World) where
   abbrev pub answer : Bool → Bool → Option Turn
   answer ready over = if ready then (if over then Some OutputFull else None) else Some NotReady
 
-  pub ready-is : (t : ℕ) (live wait : Bool) → w.fault ≡ None → is_live w t ≡ live → waits (completion program w t) ≡ wait
+  ready-is : (t : ℕ) (live wait : Bool) → w.fault ≡ None → is_live w t ≡ live → waits (completion program w t) ≡ wait
       → is_ready program w t ≡ (live && not wait)
   ready-is t live wait clean is waiting =
       ap (λ (f : Option (Fault × ℕ)). is_none f && is_live w t && not (waits (completion program w t))) clean
