@@ -8,7 +8,7 @@ input and output, and of what is printed no more than a beginning:
 
 - **System calls.** A library that is loaded before the C library counts the calls `open`, `read` and `write`, lets one of them fail,
   and lets the others move a byte at a time. So a call fails at each byte of each file and stream. Without a failing call a byte at a
-  time changes nothing, and no more does a call that a signal interrupts; but the debugger's input and output count such a call as
+  time changes nothing, and no more does a call that a signal interrupts; but the debugger's input and output and the report of `explore` count such a call as
   failed.
 - **Sessions of the debugger**: beside that, which answers there are before a read fails.
 - **Real ones**: a full device, a pipe that nobody reads, streams that are closed, folders, files that aren't there.
@@ -167,6 +167,7 @@ def commands(jvm, room):
     yield [jvm, "explain", "J0"], None, b""
     yield [jvm, "--version"], None, b""
     yield [jvm, "run", "--steps", "many", texts[0]], None, b""
+    yield [jvm, "explore", "--witnesses", room, texts[0]], f"{room}/1.journal", b""
     yield [jvm, "debug", texts[0]], None, TYPED
 
 
@@ -207,7 +208,7 @@ def one_by_one(words, written, typed, loaded, room):
             why = lacks(call, ran(words, written, typed, ERROR=errno.EIO, **given), whole)
             if why:
                 return f"with {most or 'all'} bytes at a time, call {number + 1}, {why}"
-            counts = typed and call.startswith(("read 0 ", "write 1 "))
+            counts = words[1] in ("debug", "explore") and call.startswith(("read 0 ", "write 1 "))
             if most == 0 and not counts and (shown := ran(words, written, typed, ERROR=errno.EINTR, **given)) != whole:
                 return f"interrupted at call {number + 1}, {call}: {shown}"
     return None
@@ -278,6 +279,7 @@ def files(jvm, room):
         yield ["run", bad], f"read {bad}"
         yield ["run", text, bad, none], f"read {bad}"
         yield ["debug", bad], f"read {bad}"
+        yield ["explore", bad], f"read {bad}"
         yield ["replay", bad, text], f"read {bad}"
         yield ["replay", file["journal"], bad], f"read {bad}"
         yield ["upgrade", bad, f"{room}/x"], f"read {bad}"
@@ -317,7 +319,8 @@ def tried_failures(jvm, room):
     yield "each read and write of a session fails", why or session(jvm, loaded)
     sum_, class_, journal = f"{EXAMPLES}/sum.j", f"{room}/E.class", f"{room}/sum.journal"
     subprocess.run([jvm, "run", "--journal", journal, sum_], stdout=subprocess.DEVNULL, check=True)
-    for words in (["dis", class_], ["run", sum_], ["run", "--carriers", "2", sum_], ["replay", journal, sum_], ["debug", sum_], ["explain"],
+    for words in (["dis", class_], ["run", sum_], ["run", "--carriers", "2", sum_], ["replay", journal, sum_], ["debug", sum_],
+                  ["explore", sum_], ["explain"],
                   ["explain", "J5"], ["--help"], ["run", "--help"], ["--version"]):
         yield f"an output that can't be written: {title(['', *words], room)}", outputs([jvm, *words], b"stack 0\nquit\n")
     for words in (["asm", f"{room}/bad.j", f"{room}/x"], ["dis", sum_], ["run", "--steps", "4", sum_], ["replay", sum_, sum_],

@@ -11,7 +11,7 @@ The requests of a whole run of a command are counted, and then the command is ru
   the room that it expects, and where that is refused for as much as it needs; `replay` makes the rows one by one where it has no
   memory to make them in rounds.
 
-Where threads are started, the request of each start ends with `jvm: no thread`; and so does each start that the system refuses. Of
+An exploration that has begun is cut off for memory instead, with status 4, having reported outcomes that it reports else. Where threads are started, the request of each start ends with `jvm: no thread`; and so does each start that the system refuses. Of
 commands that begin alike only the first is tried from its first request on, but with --all. Those that fail have to be refused in the
 same way. It wants a C compiler, `cc`. The last line is 'N passed, M failed'. For run_examples.py, too, which gets a result for each command.
 """
@@ -136,6 +136,8 @@ def commands(jvm, room):
     yield Command([jvm, "explain"])
     yield Command([jvm, "explain", "J5"])
     yield Command([jvm, "debug", "--small", "8", *texts], typed=SESSION, last=600)
+    yield Command([jvm, "explore", "--witnesses", room, empty], [f"{room}/1.journal"], last=400)
+    yield Command([jvm, "explore", "--no-room", f"{EXAMPLES}/D.j"], last=LAST)
     yield from failing_commands(jvm, room, empty, small, kept, run)
 
 
@@ -201,6 +203,13 @@ def is_given_up(found, whole, line):
     return found[0] == line and whole[1].startswith(found[1]) and not any(found[2])
 
 
+def is_cut_off(command, found, whole):
+    """Whether an exploration was cut off for memory, having reported no more than a beginning of its outcomes."""
+    outcomes, _, last = found[1].rpartition(b"explored ")
+    is_so = found[0] == (4, b"") and last.endswith(b" turns: cut off: memory\n") and whole[1].startswith(outcomes)
+    return command.words[1] == "explore" and is_so
+
+
 def refused_one_by_one(command, library, counted):
     """What is wrong with a command's ends where each of its requests is refused in turn, or nothing."""
     whole = ending(command, library, COUNTED=counted)
@@ -209,12 +218,14 @@ def refused_one_by_one(command, library, counted):
     lacked, without_thread = 0, 0
     for number in range(max(1, requests + 1 - (command.last or requests)), requests + 1):
         found = ending(command, library, REFUSED=number, ALL=1)
-        if not is_given_up(found, whole, LACKS) and not (command.carriers and found == whole and number > requests - 8):
+        cut_off = is_cut_off(command, found, whole)
+        if not cut_off and not is_given_up(found, whole, LACKS) and not (command.carriers and found == whole and number > requests - 8):
             return f"with request {number} of {requests} and all after it refused: {found[0]}, {found[1]!r}"
         found = ending(command, library, REFUSED=number)
-        lacked += is_given_up(found, whole, LACKS)
+        cut_off = is_cut_off(command, found, whole)
+        lacked += cut_off or is_given_up(found, whole, LACKS)
         without_thread += is_given_up(found, whole, NO_THREAD)
-        if found != whole and not is_given_up(found, whole, LACKS) and not is_given_up(found, whole, NO_THREAD):
+        if found != whole and not cut_off and not is_given_up(found, whole, LACKS) and not is_given_up(found, whole, NO_THREAD):
             return f"with request {number} of {requests} refused: {found[0]}, {found[1]!r}"
     if without_thread != command.carriers or not lacked:
         return f"of {requests} requests {lacked} are for memory alone, and {without_thread} for threads"

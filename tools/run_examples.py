@@ -12,7 +12,8 @@ several threads, or find no room for an object, are also run by four carriers be
 runs are replayed: they print the same, whoever took which turn. The sessions of examples/sessions.txt are played command by command,
 and each row of examples/answers.txt is reported as it says. Limits are tried at their values and one past them (limits.py). Of some
 commands each request for memory is refused in turn (memory_refused.py), and each read and write (failing_streams.py).
-Inputs that were cut, changed or made up are told as the plain reader tells them (damaged.py).
+The programs of examples/explore are explored, with the report beside each, and programs that are made up are explored as the plain
+explorer does (explore_agrees.py). Inputs that were cut, changed or made up are told as the plain reader tells them (damaged.py).
 
 The last line is 'N passed, M failed'. With --after, the passes and failures in the last line of that file are added.
 """
@@ -27,10 +28,12 @@ import tempfile
 
 from answers import tried_answers
 from damaged import tried_damaged
-from debug_agrees import tried_debugger
+from debug_agrees import classes_of, tried_debugger
+from explore_agrees import OUTPUT, difference as explored_otherwise, tried_explorer
 from failing_streams import tried_failures
 from limits import tried_limits
 from memory_refused import tried_refusals
+from plain.explorer import explored
 from plain.rows import tried_reader
 from sessions import tried_commands
 
@@ -46,6 +49,8 @@ CARRIERS = ["--carriers", "4"]
 CHECK = "--check"
 # what threads come to that may lock each other out
 BY_SCHEDULE = {"D"}
+# what is explored with a program of examples/explore, or stands elsewhere
+EXPLORED = {"D": ["../D"], "race": ["race", "Left", "Right"]}
 
 
 def run(*words):
@@ -102,7 +107,7 @@ def carried(jvm, files, options, wanted, room):
 def tried_texts(jvm, room):
     """What was tried of the texts, each with what is wrong, or nothing."""
     made = {}
-    for text in sorted(glob.glob(f"{EXAMPLES}/*.j")):
+    for text in sorted(glob.glob(f"{EXAMPLES}/*.j") + glob.glob(f"{EXAMPLES}/explore/*.j")):
         name = os.path.basename(text).removesuffix(".j")
         made[name], why = round_trip(jvm, text, room)
         yield f"{name}.j, assembled", why
@@ -169,6 +174,20 @@ def tried_classes(jvm, room):
         yield f"java/{os.path.basename(name)} by four carriers", carried(jvm, files, ROOM, wanted, room)
 
 
+def tried_explored(jvm, room):
+    """The reports of examples/explore, NAME.txt or NAME--OPTION.txt, each also beside the plain explorer."""
+    for report in sorted(glob.glob(f"{EXAMPLES}/explore/*.txt")):
+        title = os.path.basename(report).removesuffix(".txt")
+        name, *options = title.split("--")
+        files = [f"{EXAMPLES}/explore/{it}.j" for it in EXPLORED.get(name, [name])]
+        shown = run(jvm, "explore", *[f"--{it}" for it in options], *files)
+        yield f"explore/{title}", None if shown == bytes_of(report) + b"status 0\n" else shown.decode(errors="replace")
+        classes, no_room = list(classes_of(files)), options == ["no-room"]
+        os.makedirs(folder := f"{room}/witnesses/{title}")
+        found = explored(classes, OUTPUT, no_room)
+        yield f"explore/{title}, beside the plain explorer", explored_otherwise(jvm, folder, files, classes, no_room, found)
+
+
 TRIED = (
     tried_texts,
     tried_others,
@@ -180,6 +199,8 @@ TRIED = (
     tried_refusals,
     tried_failures,
     tried_debugger,
+    tried_explored,
+    tried_explorer,
     tried_reader,
     tried_damaged,
 )

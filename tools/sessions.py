@@ -12,10 +12,12 @@ ROOT = os.path.join(os.path.dirname(os.path.abspath(__file__)), "..")
 SESSIONS = os.path.join(ROOT, "examples", "sessions.txt")
 CODES = os.path.join(ROOT, "docs", "CODES.md")
 DEBUGGER = os.path.join(ROOT, "docs", "DEBUGGER.md")
+EXPLORE = os.path.join(ROOT, "docs", "EXPLORE.md")
 # command lines that clap takes for none, or answers itself, and their statuses
 BY_CLAP = [
     ("asm a.j", 7), ("dis", 7), ("dis a b", 7), ("run --small many a.j", 7), ("walk a.j", 7),
     ("debug --gc 1 a.j", 7), ("debug --carriers 2 a.j", 7), ("debug --journal j a.j", 7), ("debug --small many a.j", 7),
+    ("explore --gc 1 a.j", 7), ("explore --small 4 a.j", 7), ("explore --states many a.j", 7), ("explore --help", 0),
     ("debug --help", 0), ("--help", 0), ("--version", 0),
 ]
 # words that are no codes
@@ -221,6 +223,17 @@ def tried_page(jvm):
     return None if blocks else "there are none"
 
 
+def tried_reports(jvm):
+    """The explorations that docs/EXPLORE.md shows."""
+    with open(EXPLORE, encoding="ascii") as file:
+        blocks = re.findall(r"(?ms)^```\n\$ \./jvm (explore [^\n]*)\n(.*?)^```", file.read())
+    for words, report in blocks:
+        answer = shown([jvm, *words.split(" ")], ROOT)
+        if answer != report.encode() + b"status 0\n":
+            return f"{words}: {answer.decode()}"
+    return None if blocks else "there are none"
+
+
 def talked(program, lines):
     """What is wrong with the answers to lines that are given one by one, each after the answer to the one before, or nothing."""
     for line, wanted in lines:
@@ -277,5 +290,6 @@ def tried_commands(jvm, room):
     yield "no memory for threads", tried_without_threads(jvm, room)
     yield "long work at a terminal", tried_terminal(jvm, room)
     yield "sessions of docs/DEBUGGER.md", tried_page(jvm)
+    yield "explorations of docs/EXPLORE.md", tried_reports(jvm)
     yield "answers one by one", tried_talk(jvm)
     yield "streams that fail", tried_streams(jvm)

@@ -1,22 +1,26 @@
 use Rattle.std.specs.Prelude.{◌<◌, ◌≤◌, length}
 use Rattle.commands.specs.declared.options.Command.{Command}
-use Rattle.commands.specs.declared.options.Command.TheVariants.{Run, Debug, Assemble, Disassemble, Replay, Upgrade, Explain}
+use Rattle.commands.specs.declared.options.Command.TheVariants.{Run, Debug, Explore, Assemble, Disassemble, Replay, Upgrade}
+use Rattle.commands.specs.declared.options.Command.TheVariants.{Explain}
+use Rattle.model.specs.Limits.{LimitsFit}
 
 -- a command has the file names that it needs
 abbrev pub HasFiles : Command → Type 0
 HasFiles (Run options) = 0 < length options.files.items
 HasFiles (Debug options) = 0 < length options.files.items
+HasFiles (Explore options) = 0 < length options.files.items
 HasFiles (Assemble options) = Unit {0}
 HasFiles (Disassemble file) = Unit {0}
 HasFiles (Replay options) = 0 < length options.files.items
 HasFiles (Upgrade options) = Unit {0}
 HasFiles (Explain code) = Unit {0}
 
--- the numbers that no world tests lie in their ranges: how many turns the collector makes after one of a thread, and
--- how many carriers there are
+-- the numbers that no world tests lie in their ranges: how many turns the collector makes after one of a thread, how
+-- many carriers there are, and how far an exploration goes
 abbrev pub InRange : Command → Type 0
 InRange (Run options) = (options.gc ≤ 1000) × (1 ≤ options.carriers) × (options.carriers ≤ 8)
 InRange (Debug options) = Unit {0}
+InRange (Explore options) = (1 ≤ options.states) × LimitsFit options.limits.steps options.limits.output
 InRange (Assemble options) = Unit {0}
 InRange (Disassemble file) = Unit {0}
 InRange (Replay options) = Unit {0}

@@ -3,6 +3,7 @@ use Rattle.std.specs.Prelude.{◌≡◌, ◌<◌, ◌^◌, ℕ, List, codes, Opt
 use Rattle.std.specs.Str.Parse.{IsNumeral, digits_value, without_leading_plus}
 use Rattle.clap.specs.declared.parser.matches.Found.{Found}
 use Rattle.clap.specs.Words.{one_text}
+use Rattle.commands.specs.declared.options.ExploreOptions.{ExploreOptions}
 use Rattle.commands.specs.declared.options.RunOptions.{RunOptions}
 use Rattle.commands.specs.declared.options.WorldOptions.{WorldOptions}
 
@@ -30,3 +31,8 @@ pub record HasNumbers (words : Found) (options : RunOptions) : Type 0 where
   pub world : HasLimits words options.world
   pub gc : IsNumber words (codes "gc") options.gc
   pub carriers : IsNumber words (codes "carriers") options.carriers
+
+pub record HasBounds (words : Found) (options : ExploreOptions) : Type 0 where
+  pub states : IsNumber words (codes "states") options.states
+  pub steps : IsNumber words (codes "steps") options.limits.steps
+  pub output : IsNumber words (codes "output") options.limits.output

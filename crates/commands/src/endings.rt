@@ -42,7 +42,8 @@ impl Exit {
     }
 }
 
-/// An end, and the line that goes to standard error after `jvm: `; `memory` where an end that isn't good has none.
+/// An end, and the line that goes to standard error after `jvm: `. A good end may have none, and a limit; of any other
+/// end that has none the line is `memory`.
 #[derive(Drop)]
 pub struct Ending {
     pub exit: Exit,
@@ -54,6 +55,14 @@ impl Ending {
     pub fn good() -> Ending {
         Ending {
             exit: Exit::Good,
+            line: None,
+        }
+    }
+
+    /// A limit that was told already. It takes no memory.
+    pub fn cut_off() -> Ending {
+        Ending {
+            exit: Exit::Limit,
             line: None,
         }
     }

@@ -7,6 +7,7 @@ use crate::endings::{Ending, Exit};
 use crate::explaining::{all_codes, explained};
 use crate::files::{Files, ReadError};
 use crate::options::{AssembleOptions, Command, RunOptions, WorldOptions};
+use crate::schedules::explored;
 use crate::stored_runs::{replay, upgrade, write_stored};
 use acceptance::LoadError;
 use assembler::AsmError;
@@ -347,11 +348,11 @@ fn either(ending: Result<Ending, Ending>) -> Ending {
     }
 }
 
-/// Writes the line of an ending, if it has one.
+/// Writes the line of an ending, if it has one. A limit without a line is that of an exploration, which its report tells.
 fn tell<E: Write>(errors: &mut E, ending: &Ending) -> io::Result<()> {
     let line = match (&ending.line, ending.exit) {
         (Some(line), _) => line.as_bytes(),
-        (None, Exit::Good) => return Ok(()),
+        (None, Exit::Good | Exit::Limit) => return Ok(()),
         (None, _) => b"memory",
     };
     errors.write_all(b"jvm: ")?;
@@ -364,7 +365,8 @@ fn tell<E: Write>(errors: &mut E, ending: &Ending) -> io::Result<()> {
 /// stuck, 6 memory, a thread that can't be started, or a file or stream that can't be read or written, standard error
 /// among them, 8 a run that differs from the ideal run with which it is compared. The carriers of a run are threads of
 /// the runtime. While a run is compared or a journal replayed row by row, a watch is told after each row how many are
-/// done and how many are left; while a text is read by `asm`, the same of its lines.
+/// done and how many are left; while a text is read by `asm`, the same of its lines, and while schedules are explored,
+/// of states.
 pub fn execute<R: Threads + Wait + Sync, F: Files, I: Read, W: Write, E: Write, P: Watch>(
     rt: &R,
     alloc: Global,
@@ -378,6 +380,7 @@ pub fn execute<R: Threads + Wait + Sync, F: Files, I: Read, W: Write, E: Write, 
     let ending = match command {
         Command::Run(options) => either(run(rt, alloc, options, files, output, watch)),
         Command::Debug(options) => either(debugged(alloc, options, files, input, output)),
+        Command::Explore(options) => either(explored(alloc, options, files, output, watch)),
         Command::Assemble(options) => either(assemble(alloc, options, files, watch)),
         Command::Disassemble(name) => either(disassemble(alloc, name, files, output)),
         Command::Replay(options) => either(replay(alloc, options, files, output, watch)),

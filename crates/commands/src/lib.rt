@@ -8,4 +8,5 @@ pub mod executing;
 pub mod explaining;
 pub mod files;
 pub mod options;
+mod schedules;
 mod stored_runs;

@@ -2,10 +2,12 @@
 ghost use Rattle.std.specs.Prelude.{◌≡◌, ◌<◌, ◌≤◌, IfOk, length};
 ghost use Rattle.clap.specs.Words.{found_of};
 ghost use Rattle.commands.specs.Commands.{HasFiles, InRange};
-ghost use Rattle.commands.specs.Numbers.{HasLimits, HasNumbers, IsNumber};
+ghost use Rattle.commands.specs.Numbers.{HasBounds, HasLimits, HasNumbers, IsNumber};
+ghost use Rattle.model.specs.Limits.{LimitsFit};
 
 use clap::error::ErrorKind;
 use clap::{Arg, ArgAction, ArgMatches, Command as Line, Error as ClapError, value_parser};
+use model::journals::Limits;
 use std::alloc::{AllocError, AllocFailed, Global};
 use thiserror::Error;
 
@@ -16,6 +18,8 @@ pub enum Command {
     Run(RunOptions),
     /// Debugs the program of these files.
     Debug(DebugOptions),
+    /// Explores every schedule of the program of these files.
+    Explore(ExploreOptions),
     /// Writes the class file of a text.
     Assemble(AssembleOptions),
     /// Writes the text of this class file.
@@ -66,6 +70,20 @@ pub struct RunOptions {
 #[derive(Drop)]
 pub struct DebugOptions {
     pub world: WorldOptions,
+    pub files: Vec<String>,
+}
+
+/// What `jvm explore` explores, and how far.
+#[derive(Drop)]
+pub struct ExploreOptions {
+    /// how many states may be kept
+    pub states: u32,
+    /// how many turns may lead to a state, and how many bytes may be printed
+    pub limits: Limits,
+    /// whether each turn that asks for a cell is also made as if none were free
+    pub no_room: bool,
+    /// the folder into which witnesses are written, if anywhere
+    pub witnesses: Option<String>,
     pub files: Vec<String>,
 }
 
@@ -159,6 +177,26 @@ fn check_option<'a>(alloc: Global) -> Arg<'a> {
         )
 }
 
+/// The option of turns that find no cell.
+fn no_room_option<'a>(alloc: Global) -> Arg<'a> {
+    Arg::new(alloc, "no-room")
+        .long("no-room")
+        .action(ArgAction::SetTrue)
+        .help(
+            "makes each turn that asks for a cell also as if none were free, so that the outcomes are those on every heap",
+        )
+}
+
+/// The option of a folder for witnesses.
+fn witnesses_option<'a>(alloc: Global) -> Arg<'a> {
+    Arg::new(alloc, "witnesses")
+        .long("witnesses")
+        .value_name("DIR")
+        .help(
+            "writes for outcome N a journal that leads to it, DIR/N.journal; where a cell has to be missing, its turns, DIR/N.turns",
+        )
+}
+
 /// A line with one more option of a number.
 fn with_number<'a>(
     alloc: Global,
@@ -195,6 +233,11 @@ const DEBUG_COMMANDS: &str = "Commands, one a line:\n  \
     heap              the cells, and the collector's phase\n  \
     class C           the state of a class\n  \
     quit              ends the session";
+
+/// What `jvm explore --help` ends with.
+const EXPLORE_EXAMPLES: &str = "Examples:\n  \
+    jvm explore examples/D.j\n  \
+    jvm explore --no-room --witnesses /tmp examples/explore/room.j";
 
 /// A line with the options that say how much there is of everything.
 fn with_limits<'a>(alloc: Global, line: Line<'a>) -> Result<Line<'a>, AllocError> {
@@ -236,6 +279,25 @@ fn debug_line<'a>(alloc: Global) -> Result<Line<'a>, AllocError> {
         .about("Steps through a run, by commands from standard input")
         .after_help(DEBUG_COMMANDS);
     with_limits(alloc, line)?.arg(sources(alloc))
+}
+
+/// The words of `jvm explore`.
+fn explore_line<'a>(alloc: Global) -> Result<Line<'a>, AllocError> {
+    let line = Line::new(alloc, "explore")
+        .about("Explores every schedule of a program, and reports its outcomes")
+        .after_help(EXPLORE_EXAMPLES);
+    let line = with_number(alloc, line, "states", "1000000", "states that may be kept")?;
+    let line = with_number(
+        alloc,
+        line,
+        "steps",
+        "1000000",
+        "turns that may lead to a state",
+    )?;
+    let line = with_number(alloc, line, "output", "4096", "bytes that may be printed")?;
+    line.arg(no_room_option(alloc))?
+        .arg(witnesses_option(alloc))?
+        .arg(sources(alloc))
 }
 
 /// The words of `jvm asm`.
@@ -287,6 +349,7 @@ fn line<'a>(alloc: Global) -> Result<Line<'a>, AllocError> {
         .subcommand_required(true);
     let line = with_command(line, run_line(alloc))?;
     let line = with_command(line, debug_line(alloc))?;
+    let line = with_command(line, explore_line(alloc))?;
     let line = with_command(line, replay_line(alloc))?;
     let line = with_command(line, upgrade_line(alloc))?;
     let line = with_command(line, explain_line(alloc))?;
@@ -378,6 +441,30 @@ fn debug_options(alloc: Global, matches: &ArgMatches<'_>) -> Result<DebugOptions
     })
 }
 
+/// The options of `explore`, each number from the words after its own name. `Options` where a number is out of its range.
+fn explore_options(alloc: Global, matches: &ArgMatches<'_>) -> Result<ExploreOptions, LineError>
+    ensures numbers { IfOk result (HasBounds (found_of matches.now)) }
+    ensures files { IfOk result (λ options. 0 < length options.files.items) }
+    ensures states { IfOk result (λ options. 1 ≤ options.states) }
+    ensures limits { IfOk result (λ options. LimitsFit options.limits.steps options.limits.output) }
+{
+    let states = number_of(matches, "states");
+    let limits = Limits {
+        steps: number_of(matches, "steps"),
+        output: number_of(matches, "output"),
+    };
+    if states < 1 || !limits.is_in_range() {
+        return Err(LineError::Options);
+    }
+    Ok(ExploreOptions {
+        states,
+        limits,
+        no_room: matches.get_flag("no-room"),
+        witnesses: path(alloc, matches, "witnesses")?,
+        files: files(alloc, matches)?,
+    })
+}
+
 /// What clap says of words that it doesn't take, or `Memory` where it had none.
 fn reported(alloc: Global, error: ClapError) -> Result<LineError, AllocError> {
     if error.kind() == ErrorKind::OutOfMemory {
@@ -423,6 +510,7 @@ fn command_of(alloc: Global, matches: &ArgMatches<'_>) -> Result<Command, LineEr
     match matches.subcommand() {
         Some(("asm", asm)) => Ok(Command::Assemble(assemble_options(alloc, asm)?)),
         Some(("debug", debug)) => Ok(Command::Debug(debug_options(alloc, debug)?)),
+        Some(("explore", explore)) => Ok(Command::Explore(explore_options(alloc, explore)?)),
         Some(("dis", dis)) => Ok(Command::Disassemble(one_file(alloc, dis, "FILE")?)),
         Some(("replay", replay)) => Ok(Command::Replay(replay_options(alloc, replay)?)),
         Some(("upgrade", upgrade)) => Ok(Command::Upgrade(upgrade_options(alloc, upgrade)?)),

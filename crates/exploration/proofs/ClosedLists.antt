@@ -7,19 +7,21 @@ use Rattle.model.specs.declared.turns.Actor.{Actor}
 use Rattle.model.specs.declared.turns.Actor.TheVariants.{Thread, Collector}
 use Rattle.model.specs.declared.turns.Fault.{Fault}
 use Rattle.model.specs.declared.turns.Turn.{Turn}
-use Rattle.model.specs.declared.turns.Turn.TheVariants.{StepLimit}
+use Rattle.model.specs.declared.turns.Turn.TheVariants.{NotReady, OutputFull, StepLimit}
 use Rattle.model.specs.ClassListings.{ClassListing}
 use Rattle.model.specs.Worlds.{World, opening_world}
 use Rattle.model.specs.Effects.{Choice}
 use Rattle.model.specs.Results.{Effect}
 use Rattle.model.specs.Effects.Choice.{NewObject, NoRoom}
 use Rattle.model.specs.Table.Next.{next, asked}
-use Rattle.model.specs.Turns.{refusal, refusal_after, thread_refusal, ideal_step, unless_refused, choice_by}
+use Rattle.model.specs.Ready.{is_ready}
+use Rattle.model.specs.Turns.{refusal, refusal_after, thread_refusal, overflows, ideal_step, unless_refused, choice_by}
 use Rattle.model.specs.Machines.{Machine, Recorded, machine_of, advance_all, advance, opening_machine, row_by}
 use Rattle.model.specs.Collector.Runs.{moved_by, moved_by_all, advance_if}
 use Rattle.model.proofs.CollectorLemmas.Running.{machine_after-is, unfaulted}
 use Rattle.model.proofs.NextKeeps.{next-choice}
-use Rattle.join.proofs.Refusals.{refusal_on_cells, asked_on_cells}
+use Rattle.join.specs.OnCells.{on_cells}
+use Rattle.join.proofs.Refusals.{refusal_on_cells, asked_on_cells, ready_on_cells, overflows_on_cells}
 use Rattle.exploration.specs.Representation.{Represents, Images, uncounted}
 use Rattle.exploration.specs.ClosedLists.{IsAmong, Closed, Pair, moved_through, HasEveryRun, HasEveryMachine}
 use Rattle.exploration.specs.ClosedLists.{PairsFindRoom, RowFindsRoom, RowsFindRoom, TurnFindsRoom, ActorsFindRoom}
@@ -37,6 +39,16 @@ pub same_refusal : (program : List ClassListing) (limits : Limits) (x w : World)
 same_refusal program limits x w r actor =
     ap (λ y. refusal program limits y actor) r.is
     ∙ refusal_on_cells r.naming r.cells program limits w r.reached actor
+
+pub same_thread_refusal : (program : List ClassListing) (limits : Limits) (x w : World) → Represents x w → (t : ℕ)
+    → thread_refusal program limits x t ≡ thread_refusal program limits w t
+same_thread_refusal program limits x w r t =
+    let y = on_cells r.naming r.cells w in
+    ap (λ z. thread_refusal program limits z t) r.is
+    ∙ ap (λ ready. if ready then (if overflows program limits y t then Some OutputFull else None) else Some NotReady)
+    (ready_on_cells r.naming r.cells program limits w r.reached t)
+    ∙ ap (λ full. if is_ready program w t then (if full then Some OutputFull else None) else Some NotReady)
+    (overflows_on_cells r.naming r.cells program limits w r.reached t)
 
 same_asked : (program : List ClassListing) (limits : Limits) (x w : World) → Represents x w → (t : ℕ) → asked program x t ≡ asked program w t
 same_asked program limits x w r t =

@@ -4,6 +4,7 @@ use Rattle.model.specs.declared.journals.Limits.{Limits}
 use Rattle.model.specs.ClassListings.{ClassListing}
 use Rattle.model.specs.Worlds.{World, Thread}
 use Rattle.model.specs.Worlds.Thread.{Live, Ended}
+use Rattle.exploration.specs.declared.ends.End.TheVariants.{Lives, Ended as HasEnded}
 use Rattle.model.specs.Observers.{status_in, status_by}
 use Rattle.model.specs.Ready.{is_ready, thread_numbers, some_lives}
 use Rattle.model.specs.Collector.Runs.{machine_after}
@@ -19,8 +20,8 @@ use Rattle.exploration.proofs.RowCounts.{ready_at}
 
 ends_named : (h : Naming) (ts : List Thread) → map end_of (map (named_thread h) ts) ≡ map end_of ts
 ends_named h [] = refl
-ends_named h (Live frames ∷ ts) = ap (λ es. None ∷ es) (ends_named h ts)
-ends_named h (Ended by ∷ ts) = ap (λ es. Some by ∷ es) (ends_named h ts)
+ends_named h (Live frames ∷ ts) = ap (λ es. Lives ∷ es) (ends_named h ts)
+ends_named h (Ended by ∷ ts) = ap (λ es. HasEnded by ∷ es) (ends_named h ts)
 
 any_same : (f g : ℕ → Bool) → ((t : ℕ) → f t ≡ g t) → (ts : List ℕ) → list_any f ts ≡ list_any g ts
 any_same f g k [] = refl

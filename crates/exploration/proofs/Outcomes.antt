@@ -1,23 +1,35 @@
-use Rattle.std.proofs.Common.{◌≡◌, ℕ, List, [], ◌∷◌, is_some, is_none, Bool, true, false, not, ◌&&◌, ◌||◌}
-use Rattle.std.proofs.Common.{Option, Some, None, refl, ◌∙◌, ap, subst}
+use Rattle.std.proofs.Common.{◌≡◌, ℕ, zero, suc, ◌+◌, List, [], ◌∷◌, slice_get, is_some, is_none, Bool, true, false, not}
+use Rattle.std.proofs.Common.{◌&&◌, ◌||◌, if◌then◌else◌, Option, Some, None, refl, ◌∙◌, ap, subst, arith}
 use Rattle.std.specs.List.{list_any}
 use Rattle.model.specs.declared.turns.Fault.{Fault}
+use Rattle.model.specs.declared.journals.Limits.{Limits}
 use Rattle.model.specs.declared.turns.Status.{Status}
+use Rattle.model.specs.declared.turns.Turn.TheVariants.{NotReady, OutputFull}
 use Rattle.model.specs.ClassListings.{ClassListing}
 use Rattle.model.specs.Completions.{waits}
 use Rattle.model.specs.Observers.{status_by, status_in}
-use Rattle.model.specs.Ready.{is_ready, some_is_ready, some_lives, thread_numbers}
+use Rattle.model.specs.Ready.{is_ready, some_is_ready, some_lives, numbers_from, thread_numbers}
+use Rattle.model.specs.Turns.{overflows}
 use Rattle.model.specs.Table.Next.{completion}
-use Rattle.model.specs.Worlds.{World, is_live}
-use Rattle.exploration.specs.Observations.{Observed, observed}
-use Rattle.exploration.specs.Outcomes.{HasOutcomes, IsAtRest, IsOutcome, OutcomesAreReal, OutcomesOfAll, runs_on}
+use Rattle.model.specs.Worlds.{World, Thread, is_live, lives}
+use Rattle.model.specs.Worlds.Thread.{Live, Ended}
+use Rattle.exploration.specs.declared.ends.End.{End}
+use Rattle.exploration.specs.Observations.{IsHalted, Observed, observed}
+use Rattle.exploration.specs.Outcomes.{HasOutcomes, IsAtRest, IsOutcome, OutcomesAreReal, OutcomesOfAll, RestIsHalted}
+use Rattle.exploration.specs.Outcomes.{runs_on}
 use Rattle.exploration.specs.ReducedRuns.{ShowsSameEnd}
 use Rattle.exploration.specs.Representation.{uncounted}
 use Rattle.exploration.specs.ClosedLists.{ideal_after}
 use Rattle.exploration.proofs.Observations.{observed_same, status_at}
 use Rattle.exploration.proofs.ReducedRuns.{reduced_shows_all}
+use Rattle.exploration.proofs.ClosedLists.{same_thread_refusal}
+use Rattle.exploration.proofs.RowCounts.{refused_at}
 
 -- a run that has come to rest has an outcome that is listed
+
+either_false : (a b : Bool) → (a || b) ≡ false → (a ≡ false) × (b ≡ false)
+either_false true b e = absurd (cc)
+either_false false b e = (refl, e)
 
 none_passes : (f : ℕ → Bool) → ((t : ℕ) → f t ≡ false) → (ts : List ℕ) → list_any f ts ≡ false
 none_passes f k [] = refl
@@ -33,20 +45,12 @@ module _ (program : List ClassListing) (w : World) where
   ready_of true false c e = refl
   ready_of false false c e = refl
 
-  first_false : (a b : Bool) → (a || b) ≡ false → a ≡ false
-  first_false true b e = absurd (cc)
-  first_false false b e = refl
-
-  rest_false : (a b : Bool) → (a || b) ≡ false → b ≡ false
-  rest_false true b e = absurd (cc)
-  rest_false false b e = e
-
   of_dead : (ts : List ℕ) → list_any (is_live w) ts ≡ false → list_any (is_ready program w) ts ≡ false
   of_dead [] e = refl
   of_dead (t ∷ ts) e =
-      let h = first_false (is_live w t) (list_any (is_live w) ts) e in
+      let h = (either_false (is_live w t) (list_any (is_live w) ts) e).0 in
       let one = ready_of (is_none w.fault) (is_live w t) (not (waits (completion program w t))) h in
-      let rest = of_dead ts (rest_false (is_live w t) (list_any (is_live w) ts) e) in
+      let rest = of_dead ts (either_false (is_live w t) (list_any (is_live w) ts) e).1 in
       rw (one, rest) refl
 
   none_ready : IsAtRest program w → some_is_ready program w ≡ false
@@ -60,31 +64,66 @@ module _ (program : List ClassListing) (w : World) where
       by None true false e f g k = g
       by None true true e f g k = absurd (cc)
 
-module _ (program : List ClassListing) (states : List World) (outcomes : List Observed)
-    (has : HasOutcomes program states outcomes) (w : World) (rest : IsAtRest program w) where
-  listed : ShowsSameEnd program states w → IsOutcome outcomes (observed program w)
+-- so no thread of a world at rest can go on
+
+numbered : (f : ℕ → Bool) (n : ℕ) (ts : List Thread) → list_any f (numbers_from n ts) ≡ false → (t : ℕ) (x : Thread)
+    → slice_get ts t ≡ Some x → f (n + t) ≡ false
+numbered f n [] e t x k = absurd (cc)
+numbered f n (y ∷ ts) e zero x k = (let s : n + 0 ≡ n = omega arith in rw s (either_false (f n) _ e).0)
+numbered f n (y ∷ ts) e (suc t) x k = (let s : n + suc t ≡ n + 1 + t = omega arith in rw s
+    (numbered f (n + 1) ts (either_false (f n) _ e).1 t x k))
+
+ready_thread : (fault : Option (Fault × ℕ)) (o : Option Thread) (wait full : Bool)
+    → (if is_none fault && lives o && not wait then (if full then Some OutputFull else None) else Some NotReady) ≡ None
+    → ((x : Thread) × (o ≡ Some x)) × ((is_none fault && lives o && not wait) ≡ true)
+ready_thread (Some fault) o wait full e = absurd (cc)
+ready_thread None None wait full e = absurd (cc)
+ready_thread None (Some (Ended by)) wait full e = absurd (cc)
+ready_thread None (Some (Live fs)) true full e = absurd (cc)
+ready_thread None (Some (Live fs)) false full e = ((Live fs, refl), refl)
+
+pub rest_is_halted : RestIsHalted
+rest_is_halted program limits w rest t e =
+    let k = ready_thread w.fault (slice_get w.threads t) (waits (completion program w t)) (overflows program limits w t) e in
+    let none = numbered (is_ready program w) 0 w.threads (none_ready program w rest) t k.0.0 k.0.1 in
+    let at : 0 + t ≡ t = omega arith in
+    both_ways (is_ready program w t) k.1 (subst (λ (n : ℕ). is_ready program w n ≡ false) at none)
+  where
+    both_ways : (b : Bool) → b ≡ true → b ≡ false → ⊥
+    both_ways true e k = cc
+    both_ways false e k = cc
+
+-- what is observed of a run in which no thread can go on is listed
+
+module _ (program : List ClassListing) (limits : Limits) (states : List World) (outcomes : List Observed)
+    (has : HasOutcomes program limits states outcomes) (w : World) (halted : IsHalted program limits w) where
+  listed : ShowsSameEnd program limits states w → IsOutcome outcomes (observed program w)
   listed s =
       let x = s.state in
-      let same : status_in program x ≡ status_in program w = s.status (none_ready program w rest) in
+      let same : status_in program x ≡ status_in program w = s.status halted in
       let all : observed program x ≡ observed program w =
       ap (λ (bs : List ℕ). let y : Observed = record (observed program x) { output = bs } in y) s.output
       ∙ ap (λ (o : Option (Fault × ℕ)).
       let y : Observed = record (observed program x) { output = w.output; fault = o } in y) s.fault
-      ∙ ap (λ (es : List (Option (Option (List ℕ)))).
+      ∙ ap (λ (es : List End).
       let y : Observed = record (observed program w) { ends = es; status = status_in program x } in y) s.ends
       ∙ ap (λ (t : Status). let y : Observed = record (observed program w) { status = t } in y) same in
-      let found = has s.place x s.there (ap runs_on same ∙ rest) in
+      let found = has s.place x s.there (s.halted halted) in
       subst (IsOutcome outcomes) all found
 
 pub outcomes_of_all : OutcomesOfAll
 outcomes_of_all program limits no_room states outcomes closed has =
-    let shown = reduced_shows_all program limits no_room states closed in (
-      λ pairs room rest. listed program states outcomes has _ rest (shown.0 pairs room),
-      λ shape actors room rest. listed program states outcomes has _ rest (shown.1 shape actors room),
-    )
+    let shown = reduced_shows_all program limits no_room states closed in record {
+      runs = λ pairs room halted. listed program limits states outcomes has _ halted (shown.0 pairs room);
+      machines = λ shape actors room halted. listed program limits states outcomes has _ halted (shown.1 shape actors room);
+    }
 
 pub outcomes_are_real : OutcomesAreReal
-outcomes_are_real program limits pairs x s =
-    let w = ideal_after program limits pairs in
-    observed_same program limits x (uncounted w) s.represents
-    ∙ ap (λ (t : Status). let y : Observed = record (observed program w) { status = t } in y) (status_at program w)
+outcomes_are_real program limits pairs x s halted =
+    let w = ideal_after program limits pairs in record {
+      observed = observed_same program limits x (uncounted w) s.represents
+          ∙ ap (λ (t : Status). let y : Observed = record (observed program w) { status = t } in y) (status_at program w);
+      halted = λ t e. halted t (same_thread_refusal program limits x (uncounted w) s.represents t
+          ∙ refused_at program w t limits ∙ e);
+      made = s.counted;
+    }

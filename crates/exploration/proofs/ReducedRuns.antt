@@ -1,7 +1,6 @@
 use Rattle.std.proofs.Common.{◌≡◌, ◌⊎◌, inl, inr, ◌+◌, ℕ, zero, suc, List, [], ◌∷◌, ◌++◌, length, map, set, slice_get}
 use Rattle.std.proofs.Common.{Bool, true, false, if◌then◌else◌, nat_le, not, is_none, ◌&&◌, ◌||◌, Option, Some, None, refl, sym}
 use Rattle.std.proofs.Common.{◌∙◌, ap, subst, arith}
-use Rattle.std.specs.List.{list_any}
 use Rattle.model.specs.declared.journals.HeapShape.{HeapShape}
 use Rattle.model.specs.declared.journals.Limits.{Limits}
 use Rattle.model.specs.declared.journals.Row.{Row}
@@ -14,14 +13,15 @@ use Rattle.model.specs.ClassListings.{ClassListing}
 use Rattle.model.specs.Frames.{Frame}
 use Rattle.model.specs.Worlds.{World, Thread, opening_world, counted, frames_at, frames_of, lives, is_live, with_thread}
 use Rattle.model.specs.Worlds.Thread.{Live, Ended}
-use Rattle.model.specs.Completions.{Completion, waits}
+use Rattle.exploration.specs.declared.ends.End.TheVariants.{Lives, Ended as HasEnded}
+use Rattle.model.specs.Completions.{Completion, prints, waits}
 use Rattle.model.specs.Effects.{Choice}
 use Rattle.model.specs.Effects.Choice.{NewObject, NoRoom}
 use Rattle.model.specs.Results.{Effect}
 use Rattle.model.specs.Observers.{status_in}
-use Rattle.model.specs.Ready.{is_ready, some_is_ready, numbers_from}
+use Rattle.model.specs.Ready.{is_ready}
 use Rattle.model.specs.Table.Next.{completion, next, asked}
-use Rattle.model.specs.Turns.{refusal, refusal_after, thread_refusal, overflows, ideal_step, unless_refused, choice_by}
+use Rattle.model.specs.Turns.{refusal, refusal_after, thread_refusal, overflows, passes, ideal_step, unless_refused, choice_by}
 use Rattle.model.specs.Machines.{Machine, opening_machine}
 use Rattle.model.specs.Collector.Runs.{machine_after, moved_by, moved_by_all, advance_if}
 use Rattle.model.proofs.CollectorLemmas.Running.{machine_after-is, unfaulted}
@@ -30,16 +30,17 @@ use Rattle.exploration.specs.Representation.{Represents, Images}
 use Rattle.model.specs.Machines.{row_by}
 use Rattle.exploration.specs.ClosedLists.{IsAmong, Pair, moved_through, ideal_after, PairsFindRoom}
 use Rattle.exploration.specs.ClosedLists.{TurnFindsRoom, ActorsFindRoom}
-use Rattle.exploration.specs.Observations.{end_of, Observed}
+use Rattle.exploration.specs.Observations.{end_of, IsHalted, Observed}
 use Rattle.exploration.specs.Reduction.{PlainStep, GoesAhead, IsAheadAmong, ClosedReduced}
 use Rattle.exploration.specs.Reduction.GoesAhead.{stays, steps}
 use Rattle.exploration.specs.ReducedRuns.{ShowsSameEnd, ReducedShowsAll}
 use Rattle.exploration.proofs.Turns.{turn_images}
 use Rattle.exploration.proofs.Composition.{represents_image}
-use Rattle.exploration.proofs.ClosedLists.{same_refusal, missing}
+use Rattle.exploration.proofs.ClosedLists.{same_refusal, same_thread_refusal, missing}
 use Rattle.exploration.proofs.Independence.{with_threads, Near, next_near, refused_near}
 use Rattle.exploration.proofs.PlainSteps.{plain_comes, plain_next, image_ahead}
 use Rattle.exploration.proofs.Observations.{observed_same, status_at}
+use Rattle.exploration.proofs.RowCounts.{refused_at}
 
 -- a list that goes ahead by steps to which no schedule matters shows all ends
 
@@ -184,7 +185,7 @@ module _ (program : List ClassListing) where
     by_fault w t (Some fault) e = absurd (cc)
     by_fault w t None e = by_limit w t (nat_le limits.steps w.rows) e
 
-    not_refused : (w : World) (t : ℕ) → refusal program limits w (ThreadActor t) ≡ None
+    pub not_refused : (w : World) (t : ℕ) → refusal program limits w (ThreadActor t) ≡ None
         → thread_refusal program limits w t ≡ None
     unfolding refusal
     not_refused w t e = by_fault w t w.fault e
@@ -359,7 +360,7 @@ module _ (program : List ClassListing) where
       ends_alike (Live fs) (Live gs) r = refl
       ends_alike (Live fs) (Ended b) r = absurd r
       ends_alike (Ended a) (Live gs) r = absurd r
-      ends_alike (Ended a) (Ended b) r = ap Some (sym r)
+      ends_alike (Ended a) (Ended b) r = ap HasEnded (sym r)
 
       same_ends : (ts us : List Thread) → R ts us → map end_of us ≡ map end_of ts
       same_ends [] [] r = refl
@@ -367,24 +368,7 @@ module _ (program : List ClassListing) where
       same_ends (x ∷ ts) [] r = absurd r
       same_ends (x ∷ ts) (u ∷ us) r = rw (ends_alike x u r.0, same_ends ts us r.1) refl
 
-      -- where no thread is ready none is ahead
-      first_false : (a b : Bool) → (a || b) ≡ false → a ≡ false
-      first_false true b e = absurd (cc)
-      first_false false b e = refl
-
-      rest_false : (a b : Bool) → (a || b) ≡ false → b ≡ false
-      rest_false true b e = absurd (cc)
-      rest_false false b e = e
-
-      none_of : (f : ℕ → Bool) (n : ℕ) (ts : List Thread) → list_any f (numbers_from n ts) ≡ false → (t : ℕ) (x : Thread)
-          → slice_get ts t ≡ Some x → f (n + t) ≡ false
-      none_of f n [] e t x k = absurd (cc)
-      none_of f n (y ∷ ts) e zero x k =
-          (let s : n + 0 ≡ n = omega arith in rw s (first_false (f n) (list_any f (numbers_from (n + 1) ts)) e))
-      none_of f n (y ∷ ts) e (suc t) x k =
-          (let s : n + suc t ≡ n + 1 + t = omega arith in rw s (none_of f (n + 1) ts
-          (rest_false (f n) (list_any f (numbers_from (n + 1) ts)) e) t x k))
-
+      -- where no thread can go on none is ahead
       all_there : (ts us : List Thread) → R ts us
           → ((t : ℕ) (fs : List Frame) → slice_get ts t ≡ Some (Live fs) → slice_get us t ≡ Some (Live fs)) → us ≡ ts
       all_there [] [] r k = refl
@@ -407,21 +391,24 @@ module _ (program : List ClassListing) where
           ∙ ap (λ (o : Option Thread). lives o && not (waits (completion program w t))) live
           ∙ ap (λ (k : Completion). not (waits k)) c.1
 
-      both_ways : (b : Bool) → b ≡ true → b ≡ false → ⊥
-      both_ways true e k = cc
-      both_ways false e k = cc
+      -- nothing refuses a plain step
+      step_free : (w : World) (t : ℕ) (fs gs : List Frame) → w.fault ≡ None → slice_get w.threads t ≡ Some (Live fs)
+          → PlainStep program fs gs → thread_refusal program limits w t ≡ None
+      step_free w t fs gs clean live step =
+          let c = plain_comes program w t fs step.frame step.other live step.runs step.steps in
+          let yes = ready_step w t fs gs clean live step in
+          let fits : overflows program limits w t ≡ false =
+          ap (λ (k : Completion). passes limits.output w.output (prints k)) c.1 in
+          rw (yes, fits) refl
 
-      not_ahead : (w : World) (us : List Thread) → R w.threads us → w.fault ≡ None → some_is_ready program w ≡ false
+      not_ahead : (w : World) (us : List Thread) → R w.threads us → w.fault ≡ None → IsHalted program limits w
           → us ≡ w.threads
-      not_ahead w us r clean e = all_there w.threads us r (λ t fs live. elim (look w.threads us r t fs live) [
+      not_ahead w us r clean halted = all_there w.threads us r (λ t fs live. elim (look w.threads us r t fs live) [
         | inl s ↦ s
-        | inr k ↦ (let yes = ready_step w t fs (Further.after k) clean live (Further.step k) in
-            let no = none_of (is_ready program w) 0 w.threads e t (Live fs) live in
-            let same : 0 + t ≡ t = omega arith in
-            absurd (both_ways (is_ready program w t) yes (subst (λ (k : ℕ). is_ready program w k ≡ false) same no)))
+        | inr k ↦ absurd (halted t (step_free w t fs (Further.after k) clean live (Further.step k)))
       ])
 
-      status_alike : (w v : World) (f : Far w v) (o : Option (Fault × ℕ)) → w.fault ≡ o → some_is_ready program w ≡ false
+      status_alike : (w v : World) (f : Far w v) (o : Option (Fault × ℕ)) → w.fault ≡ o → IsHalted program limits w
           → status_in program v ≡ status_in program w
       status_alike w v f (Some fault) k e =
           let q : v.fault ≡ Some fault = ap (λ (y : World). y.fault) f.is ∙ k in rw (q, k) refl
@@ -429,7 +416,29 @@ module _ (program : List ClassListing) where
           let q = not_ahead w f.threads f.related k e in
           ap (status_in program) (f.is ∙ ap (λ us. with_threads us 0 w) q) ∙ status_at program w
 
-      shows_end : (w : World) → AheadAmong w → ShowsSameEnd program states w
+      faulted_halts : (x : World) (fault : Fault × ℕ) → x.fault ≡ Some fault → IsHalted program limits x
+      faulted_halts x fault k t e = (let q : is_ready program x t ≡ false =
+          ap (λ (o : Option (Fault × ℕ)). is_none o && is_live x t && not (waits (completion program x t))) k
+          in not_both (is_ready program x t) (overflows program limits x t) q e)
+        where
+          not_both : (ready full : Bool) → ready ≡ false
+              → (if ready then (if full then Some OutputFull else None) else Some NotReady) ≡ None → ⊥
+          not_both true full q e = absurd (cc)
+          not_both false full q e = cc
+
+      halted_alike : (w v : World) (f : Far w v) (x : World) → Represents x v → (o : Option (Fault × ℕ)) → w.fault ≡ o
+          → IsHalted program limits w → IsHalted program limits x
+      halted_alike w v f x r (Some fault) k e =
+          let q : v.fault ≡ Some fault = ap (λ (y : World). y.fault) f.is ∙ k in
+          faulted_halts x fault (ap (λ (y : World). y.fault) r.is ∙ q)
+      halted_alike w v f x r None k e =
+          let q = not_ahead w f.threads f.related k e in
+          let same : v ≡ with_threads w.threads 0 w = f.is ∙ ap (λ us. with_threads us 0 w) q in
+          λ t h. e t (sym (refused_at program w t limits)
+          ∙ ap (λ (y : World). thread_refusal program limits y t) (sym same)
+          ∙ sym (same_thread_refusal program limits x v r t) ∙ h)
+
+      shows_end : (w : World) → AheadAmong w → ShowsSameEnd program limits states w
       shows_end w a =
           let v = AheadAmong.world a in
           let f = AheadAmong.far a in
@@ -443,6 +452,7 @@ module _ (program : List ClassListing) where
             fault = ap (λ (y : Observed). y.fault) t ∙ ap (λ (y : World). y.fault) f.is;
             ends = ap (λ (y : Observed). y.ends) t ∙ ap (λ (y : World). map end_of y.threads) f.is
                 ∙ same_ends w.threads f.threads f.related;
+            halted = λ e. halted_alike w v f m.state m.represents w.fault refl e;
             status = λ e. ap (λ (y : Observed). y.status) t ∙ status_alike w v f w.fault refl e;
           }
 

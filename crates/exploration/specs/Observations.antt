@@ -1,6 +1,8 @@
 use Rattle.std.specs.Prelude.{◌≡◌, ℕ, List, map, slice_get, Bool, false, Option, Some, None}
 use Rattle.model.specs.declared.journals.HeapShape.{HeapShape}
 use Rattle.model.specs.declared.journals.Limits.{Limits}
+use Rattle.exploration.specs.declared.ends.End.{End}
+use Rattle.exploration.specs.declared.ends.End.TheVariants.{Lives, Ended as HasEnded}
 use Rattle.model.specs.declared.turns.Actor.{Actor}
 use Rattle.model.specs.declared.turns.Fault.{Fault}
 use Rattle.model.specs.declared.turns.Status.{Status}
@@ -8,21 +10,22 @@ use Rattle.model.specs.ClassListings.{ClassListing}
 use Rattle.model.specs.Worlds.{World, Thread}
 use Rattle.model.specs.Worlds.Thread.{Live, Ended}
 use Rattle.model.specs.Observers.{status_in}
+use Rattle.model.specs.Turns.{thread_refusal}
 use Rattle.model.specs.Collector.Runs.{machine_after}
 use Rattle.model.specs.Machines.{opening_machine}
 use Rattle.exploration.specs.ClosedLists.{Closed, Pair, ideal_after, PairsFindRoom, ActorsFindRoom}
 
 -- What is observed of a world that a run comes to.
 
--- how a thread ended, if it did
-abbrev pub end_of : Thread → Option (Option (List ℕ))
-end_of (Live frames) = None
-end_of (Ended by) = Some by
+-- what a thread has come to
+abbrev pub end_of : Thread → End
+end_of (Live frames) = Lives
+end_of (Ended by) = HasEnded by
 
 pub record Observed : Type 0 where
   pub output : List ℕ
   pub fault : Option (Fault × ℕ)
-  pub ends : List (Option (Option (List ℕ)))
+  pub ends : List End
   pub status : Status
 
 abbrev pub observed : List ClassListing → World → Observed
@@ -32,6 +35,10 @@ observed program w = record {
   ends = map end_of w.threads;
   status = status_in program w;
 }
+
+-- no thread can go on: each has ended, waits, or would print more than the output has room for; or there was a fault
+abbrev pub IsHalted : List ClassListing → Limits → World → Type 0
+IsHalted program limits w = (t : ℕ) → thread_refusal program limits w t ≡ None → ⊥
 
 -- a state of the list of which the same is observed
 pub record ShowsSame (program : List ClassListing) (states : List World) (w : World) : Type 0 where

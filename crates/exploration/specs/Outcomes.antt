@@ -1,4 +1,4 @@
-use Rattle.std.specs.Prelude.{◌≡◌, ℕ, List, slice_get, Bool, true, false, Some}
+use Rattle.std.specs.Prelude.{◌≡◌, ℕ, List, length, slice_get, Bool, true, false, Some}
 use Rattle.model.specs.declared.journals.HeapShape.{HeapShape}
 use Rattle.model.specs.declared.journals.Limits.{Limits}
 use Rattle.model.specs.declared.turns.Actor.{Actor}
@@ -10,10 +10,10 @@ use Rattle.model.specs.Worlds.{World}
 use Rattle.model.specs.Observers.{status_in}
 use Rattle.model.specs.Collector.Runs.{machine_after}
 use Rattle.exploration.specs.ClosedLists.{Pair, ideal_after, IsWitnessed, PairsFindRoom, ActorsFindRoom}
-use Rattle.exploration.specs.Observations.{Observed, observed}
+use Rattle.exploration.specs.Observations.{IsHalted, Observed, observed}
 use Rattle.exploration.specs.Reduction.{ClosedReduced}
 
--- The outcomes of a program: what is observed of runs that have come to rest.
+-- The outcomes of a program: what is observed of runs in which no thread can go on. Of these are all that are at rest.
 
 abbrev pub runs_on : Status → Bool
 runs_on Running = true
@@ -25,28 +25,43 @@ runs_on Faulted = false
 abbrev pub IsAtRest : List ClassListing → World → Type 0
 IsAtRest program w = runs_on (status_in program w) ≡ false
 
+abbrev pub RestIsHalted : Type 0
+RestIsHalted = (program : List ClassListing) (limits : Limits) (w : World) → IsAtRest program w
+    → IsHalted program limits w
+
 abbrev pub IsOutcome : List Observed → Observed → Type 0
 IsOutcome outcomes o = (k : ℕ) × (slice_get outcomes k ≡ Some o)
 
--- what is observed of each state at rest is listed
-abbrev pub HasOutcomes : List ClassListing → List World → List Observed → Type 0
-HasOutcomes program states outcomes = (k : ℕ) (x : World) → slice_get states k ≡ Some x → IsAtRest program x
-    → IsOutcome outcomes (observed program x)
+-- what is observed of each state in which no thread can go on is listed
+abbrev pub HasOutcomes : List ClassListing → Limits → List World → List Observed → Type 0
+HasOutcomes program limits states outcomes = (k : ℕ) (x : World) → slice_get states k ≡ Some x
+    → IsHalted program limits x → IsOutcome outcomes (observed program x)
 
--- then the outcome of every run is: with no_room of each, else of each in which no cell is ever missing
+-- the outcome of every run is listed: with no_room of each, else of each in which no cell is ever missing
+pub record TellsOutcomes (program : List ClassListing) (limits : Limits) (no_room : Bool) (outcomes : List Observed)
+    : Type 0 where
+  pub runs : (pairs : List Pair) → (no_room ≡ false → PairsFindRoom pairs)
+      → IsHalted program limits (ideal_after program limits pairs)
+      → IsOutcome outcomes (observed program (ideal_after program limits pairs))
+  pub machines : (shape : HeapShape) (actors : List Actor)
+      → (no_room ≡ false → ActorsFindRoom program shape limits (opening_machine program shape) actors)
+      → IsHalted program limits (machine_after program shape limits actors).world
+      → IsOutcome outcomes (observed program (machine_after program shape limits actors).world)
+
 abbrev pub OutcomesOfAll : Type 0
 OutcomesOfAll = (program : List ClassListing) (limits : Limits) (no_room : Bool) (states : List World)
     (outcomes : List Observed)
-    → ClosedReduced program limits no_room states → HasOutcomes program states outcomes
-    → ((pairs : List Pair) → (no_room ≡ false → PairsFindRoom pairs)
-    → IsAtRest program (ideal_after program limits pairs)
-    → IsOutcome outcomes (observed program (ideal_after program limits pairs)))
-    × ((shape : HeapShape) (actors : List Actor)
-    → (no_room ≡ false → ActorsFindRoom program shape limits (opening_machine program shape) actors)
-    → IsAtRest program (machine_after program shape limits actors).world
-    → IsOutcome outcomes (observed program (machine_after program shape limits actors).world))
+    → ClosedReduced program limits no_room states → HasOutcomes program limits states outcomes
+    → TellsOutcomes program limits no_room outcomes
+
+-- no thread of the ideal run of these pairs can go on, and this is observed of it; each pair was a turn
+pub record IsReal (program : List ClassListing) (limits : Limits) (pairs : List Pair) (o : Observed) : Type 0 where
+  pub observed : o ≡ observed program (ideal_after program limits pairs)
+  pub halted : IsHalted program limits (ideal_after program limits pairs)
+  pub made : (ideal_after program limits pairs).rows ≡ length pairs
 
 -- and what is observed of a state is observed of the ideal run of its pairs
 abbrev pub OutcomesAreReal : Type 0
 OutcomesAreReal = (program : List ClassListing) (limits : Limits) (pairs : List Pair) (x : World)
-    → IsWitnessed program limits pairs x → observed program x ≡ observed program (ideal_after program limits pairs)
+    → IsWitnessed program limits pairs x → IsHalted program limits x
+    → IsReal program limits pairs (observed program x)

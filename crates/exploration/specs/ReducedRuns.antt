@@ -10,36 +10,36 @@ use Rattle.model.specs.declared.turns.Actor.{Actor}
 use Rattle.model.specs.ClassListings.{ClassListing}
 use Rattle.model.specs.Worlds.{World}
 use Rattle.model.specs.Observers.{status_in}
-use Rattle.model.specs.Ready.{some_is_ready}
 use Rattle.model.specs.Collector.Runs.{machine_after}
 use Rattle.model.specs.Machines.{opening_machine}
 use Rattle.model.specs.Effects.Choice.{NewObject}
 use Rattle.exploration.specs.ClosedLists.{Pair, ideal_after, IsWitnessed, pair_of, PairsFindRoom, ActorsFindRoom}
 use Rattle.exploration.specs.Reduction.{GoesAhead, ClosedReduced}
 use Rattle.exploration.specs.Reduction.GoesAhead.{stays, steps}
-use Rattle.exploration.specs.Observations.{end_of}
+use Rattle.exploration.specs.Observations.{IsHalted, end_of}
 
 -- What a list that goes ahead shows of all runs.
 
 -- a state of the list that has printed the same, has the same fault, and whose threads have ended alike; where no
--- thread is ready any more, it has the world's status
-pub record ShowsSameEnd (program : List ClassListing) (states : List World) (w : World) : Type 0 where
+-- thread can go on, none of the state can, and it has the world's status
+pub record ShowsSameEnd (program : List ClassListing) (limits : Limits) (states : List World) (w : World) : Type 0 where
   pub place : ℕ
   pub state : World
   pub there : slice_get states place ≡ Some state
   pub output : state.output ≡ w.output
   pub fault : state.fault ≡ w.fault
   pub ends : map end_of state.threads ≡ map end_of w.threads
-  pub status : some_is_ready program w ≡ false → status_in program state ≡ status_in program w
+  pub halted : IsHalted program limits w → IsHalted program limits state
+  pub status : IsHalted program limits w → status_in program state ≡ status_in program w
 
 abbrev pub ReducedShowsAll : Type 0
 ReducedShowsAll = (program : List ClassListing) (limits : Limits) (no_room : Bool) (states : List World)
     → ClosedReduced program limits no_room states
     → ((pairs : List Pair) → (no_room ≡ false → PairsFindRoom pairs)
-    → ShowsSameEnd program states (ideal_after program limits pairs))
+    → ShowsSameEnd program limits states (ideal_after program limits pairs))
     × ((shape : HeapShape) (actors : List Actor)
     → (no_room ≡ false → ActorsFindRoom program shape limits (opening_machine program shape) actors)
-    → ShowsSameEnd program states (machine_after program shape limits actors).world)
+    → ShowsSameEnd program limits states (machine_after program shape limits actors).world)
 
 -- ---- and nothing else is in the list
 

@@ -8,9 +8,11 @@
 ghost use Rattle.exploration.specs.CanonicalForms.{CanonicalRepresents, TurnsMakeAll};
 ghost use Rattle.exploration.specs.ClosedLists.{ClosedHasAll, OpeningIsWitnessed, TurnsAreWitnessed};
 ghost use Rattle.exploration.specs.Observations.{ClosedShowsAll};
-ghost use Rattle.exploration.specs.Outcomes.{OutcomesAreReal, OutcomesOfAll};
+ghost use Rattle.exploration.specs.Outcomes.{OutcomesAreReal, OutcomesOfAll, RestIsHalted};
 ghost use Rattle.exploration.specs.ReducedRuns.{AheadIsWitnessed, ReducedShowsAll};
 ghost use Rattle.exploration.specs.Search.{SearchesAll};
+
+pub mod ends;
 
 /// A list of states that has one for the opening, and for whatever a turn of one of them leaves, has one for whatever a
 /// run comes to: an ideal run, a run of the machine on any heap and with the collector at any time, and any journal. The
@@ -35,5 +37,6 @@ pub fn a_closed_list_has_every_run()
     ensures reduced_witnessed { AheadIsWitnessed }
     ensures outcomes { OutcomesOfAll }
     ensures real { OutcomesAreReal }
+    ensures rest { RestIsHalted }
     ensures searches { SearchesAll }
 {}

@@ -1,4 +1,4 @@
-use Rattle.std.proofs.Common.{◌≡◌, ℕ, ◌≤◌, ◌/◌, ◌%◌, ℤ, pos, negsuc, List, [], ◌∷◌, ◌++◌, length, slice_get, get_or}
+use Rattle.std.proofs.Common.{◌≡◌, ℕ, zero, suc, ◌≤◌, ◌/◌, ◌%◌, ℤ, pos, negsuc, List, [], ◌∷◌, ◌++◌, length, slice_get, get_or}
 use Rattle.std.proofs.Common.{nat_lt, Bool, true, false, if◌then◌else◌, Option, Some, None, refl, sym, ◌∙◌, ap, arith}
 use Rattle.std.specs.List.{flat_map}
 use Rattle.std.specs.Str.{bytes_eq}
@@ -13,11 +13,14 @@ use Rattle.model.specs.declared.turns.Mark.TheVariants.{Unmarked, Waiting, Faili
 use Rattle.model.specs.declared.values.Entry.TheVariants.{Unset, Holds, UpperHalf}
 use Rattle.model.specs.declared.values.Value.{Value}
 use Rattle.model.specs.declared.values.Value.TheVariants.{Int, Long, Ref}
+use Rattle.model.specs.declared.turns.Status.{Status}
+use Rattle.model.specs.declared.turns.Status.TheVariants.{Running as RunningStatus, Finished, Stuck, Faulted}
 use Rattle.model.specs.Faults.{fault_number}
+use Rattle.exploration.specs.declared.ends.End.TheVariants.{Lives, Ended as HasEnded}
 use Rattle.model.specs.Worlds.Thread.{Live, Ended}
 use Rattle.model.specs.Worlds.Contents.{Instance, Array}
 use Rattle.exploring.specs.Keys.{value, entry, mark, frame, state, fault, bytes, name_at, place_of, name, field, contents}
-use Rattle.exploring.specs.Keys.{object, thread, key, KeysTell}
+use Rattle.exploring.specs.Keys.{object, thread, key, end, status, outcome, KeysTell, OutcomeKeysTell}
 use Rattle.exploring.specs.Keys.{two, four, eight, number, folded, integer, perhaps, each, IsReadBack}
 
 -- a row of bytes is read back, part by part
@@ -335,3 +338,59 @@ module _ (table : List (List ℕ)) where
 
 pub keys_tell : KeysTell
 keys_tell table v w e = (key_back table v w [] [] (ap (λ xs. xs ++ []) e)).0
+
+-- ---- outcomes
+
+end_back : IsReadBack end
+end_back Lives Lives s t e = (refl, cc)
+end_back Lives (HasEnded None) s t e = absurd (cc)
+end_back Lives (HasEnded (Some c)) s t e = absurd (cc)
+end_back (HasEnded None) Lives s t e = absurd (cc)
+end_back (HasEnded None) (HasEnded None) s t e = (refl, cc)
+end_back (HasEnded None) (HasEnded (Some c)) s t e = absurd (cc)
+end_back (HasEnded (Some c)) Lives s t e = absurd (cc)
+end_back (HasEnded (Some c)) (HasEnded None) s t e = absurd (cc)
+end_back (HasEnded (Some c)) (HasEnded (Some d)) s t e =
+    let k = bytes_back c d s t (tagged 2 (bytes c) (bytes d) s t e) in
+    (ap (λ (x : List ℕ). HasEnded (Some x)) k.0, k.1)
+
+-- a status by its number
+abbrev numbered_status : Status → ℕ
+numbered_status RunningStatus = 0
+numbered_status Finished = 1
+numbered_status Stuck = 2
+numbered_status Faulted = 3
+
+status_is : (x : Status) (s : List ℕ) → status x ++ s ≡ numbered_status x ∷ s
+status_is RunningStatus s = refl
+status_is Finished s = refl
+status_is Stuck s = refl
+status_is Faulted s = refl
+
+abbrev status_at : ℕ → Status
+status_at zero = RunningStatus
+status_at (suc zero) = Finished
+status_at (suc (suc zero)) = Stuck
+status_at (suc (suc (suc n))) = Faulted
+
+status_again : (x : Status) → status_at (numbered_status x) ≡ x
+status_again RunningStatus = refl
+status_again Finished = refl
+status_again Stuck = refl
+status_again Faulted = refl
+
+status_back : IsReadBack status
+status_back x y s t e =
+    let k = cons_back (numbered_status x) (numbered_status y) s t (sym (status_is x s) ∙ e ∙ status_is y t) in
+    (sym (status_again x) ∙ ap status_at k.0 ∙ status_again y, k.1)
+
+outcome_back : IsReadBack outcome
+outcome_back o p s t e =
+    let faults = and_then _ _ _ _ (of_part bytes bytes_back o.output p.output) (of_part fault fault_back o.fault p.fault) in
+    let ends = and_then _ _ _ _ faults (of_part (each end) (each_back end end_back) o.ends p.ends) in
+    let all = (and_then _ _ _ _ ends (of_part status status_back o.status p.status)).told s t e in
+    let k = all.0 in
+    (rw (k.0.0.0, k.0.0.1, k.0.1, k.1) refl, all.1)
+
+pub outcome_keys_tell : OutcomeKeysTell
+outcome_keys_tell o p e = (outcome_back o p [] [] (ap (λ xs. xs ++ []) e)).0

@@ -11,11 +11,16 @@ use Rattle.model.specs.declared.values.Entry.{Entry}
 use Rattle.model.specs.declared.values.Entry.TheVariants.{Unset, Holds, UpperHalf}
 use Rattle.model.specs.declared.values.Value.{Value}
 use Rattle.model.specs.declared.values.Value.TheVariants.{Int, Long, Ref}
+use Rattle.model.specs.declared.turns.Status.{Status}
+use Rattle.model.specs.declared.turns.Status.TheVariants.{Running as RunningStatus, Finished, Stuck, Faulted}
 use Rattle.model.specs.Faults.{fault_number}
 use Rattle.model.specs.Frames.{Frame}
 use Rattle.model.specs.Worlds.{World, Thread, FieldValue, Contents, Object}
 use Rattle.model.specs.Worlds.Thread.{Live, Ended}
 use Rattle.model.specs.Worlds.Contents.{Instance, Array}
+use Rattle.exploration.specs.declared.ends.End.{End}
+use Rattle.exploration.specs.declared.ends.End.TheVariants.{Lives, Ended as HasEnded}
+use Rattle.exploration.specs.Observations.{Observed}
 
 -- The key of a state: a row of bytes from which the whole world can be read back. So states are alike where their keys are.
 
@@ -118,6 +123,22 @@ module _ (table : List (List ℕ)) where
   key w = each thread w.threads ++ each field w.statics.fields ++ each state w.statics.states ++ bytes w.output
       ++ each object w.objects ++ fault w.fault ++ number w.rows
 
+-- ---- outcomes, which have few names
+
+abbrev pub end : End → List ℕ
+end Lives = 0 ∷ []
+end (HasEnded None) = 1 ∷ []
+end (HasEnded (Some class)) = 2 ∷ bytes class
+
+abbrev pub status : Status → List ℕ
+status RunningStatus = 0 ∷ []
+status Finished = 1 ∷ []
+status Stuck = 2 ∷ []
+status Faulted = 3 ∷ []
+
+abbrev pub outcome : Observed → List ℕ
+outcome o = bytes o.output ++ fault o.fault ++ each end o.ends ++ status o.status
+
 -- ---- what such rows of bytes are good for
 
 -- what a part begins with tells the part
@@ -127,3 +148,7 @@ IsReadBack {A} part = (x y : A) (s t : List ℕ) → part x ++ s ≡ part y ++ t
 -- so worlds whose keys are equal are equal
 abbrev pub KeysTell : Type 0
 KeysTell = (table : List (List ℕ)) (v w : World) → key table v ≡ key table w → v ≡ w
+
+-- and so are outcomes
+abbrev pub OutcomeKeysTell : Type 0
+OutcomeKeysTell = (o p : Observed) → outcome o ≡ outcome p → o ≡ p

@@ -1,4 +1,7 @@
+pub mod Ahead
 pub mod Canonical
 pub mod Expansion
+pub mod Explorations
 pub mod Keys
+pub mod Origins
 pub mod States

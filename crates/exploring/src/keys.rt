@@ -10,12 +10,15 @@ ghost use Rattle.std.proofs.lemmas.Cmp.{nat_list_eq_equiv};
 ghost use Rattle.model.specs.Views.{contents_in};
 ghost use Rattle.exploring.specs.Keys.{two, four, eight, number, folded, integer, perhaps, each, bytes, name_at};
 ghost use Rattle.exploring.specs.Keys.{value, entry, mark, frame, state, fault, name, field, contents, object, thread, key};
+ghost use Rattle.exploring.specs.Keys.{end, status, outcome};
 
+use crate::explored::Outcome;
 use crate::names::Names;
+use exploration::ends::End;
 use ideal_run::frames::Frame;
 use ideal_run::worlds::{Thread, ThreadState, World};
 use model::names::Name;
-use model::turns::{ClassState, Fault, Mark};
+use model::turns::{ClassState, Fault, Mark, Status};
 use model::values::{Entry, Value};
 use model::views::{ContentsView, FieldView, ObjectView};
 use std::alloc::{AllocError, Global};
@@ -392,6 +395,60 @@ impl Key {
     {
         let mut made = Key::new(alloc);
         made.add_world(names, world)?;
+        Ok(made)
+    }
+
+    // ---- outcomes
+
+    fn add_end(&mut self, added: &End) -> Result<(), AllocError>
+        ensures { OnOk result (self.new ≡ self.old ++ end added.now) }
+    {
+        match added {
+            End::Lives => self.add(0),
+            End::Ended(None) => self.add(1),
+            End::Ended(Some(class)) => {
+                self.add(2)?;
+                self.add_bytes(class.as_bytes())
+            }
+        }
+    }
+
+    fn add_ends(&mut self, added: &[End]) -> Result<(), AllocError>
+        ensures { OnOk result (self.new ≡ self.old ++ each end added.now) }
+    {
+        self.add_number(added.len() as u64)?;
+        for one in added {
+            self.add_end(one)?;
+        }
+        Ok(())
+    }
+
+    fn add_status(&mut self, added: Status) -> Result<(), AllocError>
+        ensures { OnOk result (self.new ≡ self.old ++ status added) }
+    {
+        match added {
+            Status::Running => self.add(0),
+            Status::Finished => self.add(1),
+            Status::Stuck => self.add(2),
+            Status::Faulted => self.add(3),
+        }
+    }
+
+    fn add_outcome(&mut self, added: &Outcome) -> Result<(), AllocError>
+        ensures { OnOk result (self.new ≡ self.old ++ outcome added.now) }
+    {
+        self.add_bytes(&added.output)?;
+        self.add_fault(added.fault)?;
+        self.add_ends(&added.ends)?;
+        self.add_status(added.status)
+    }
+
+    /// The key of an outcome: outcomes whose keys are equal are equal. `AllocError` where memory runs out.
+    pub fn of_outcome(alloc: Global, added: &Outcome) -> Result<Key, AllocError>
+        ensures { IfOk result (λ made. made ≡ outcome added.now) }
+    {
+        let mut made = Key::new(alloc);
+        made.add_outcome(added)?;
         Ok(made)
     }
 }

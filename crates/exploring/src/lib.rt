@@ -4,15 +4,23 @@
 
 ghost use Rattle.exploring.specs.Keys.{KeysTell};
 
+mod ahead;
+mod explored;
 mod forms;
-mod frontier;
 mod keys;
 mod names;
+mod origins;
+mod outcomes;
+mod schedules;
+mod search;
 mod states;
 mod walk;
 
+pub use explored::{Bounds, Cut, Explored, Found, Move, Outcome};
+pub use exploration::ends::End;
 pub use forms::canonical;
-pub use frontier::Frontier;
+pub use ideal_run::Choice;
+pub use schedules::explore;
 pub use states::States;
 
 /// Worlds whose keys are equal are equal, whichever names the table has.

@@ -39,6 +39,7 @@ fn refused(rt: &HostRuntime, error: &LineError) -> io::Result<Exit> {
 fn unit_of(command: &Command) -> &'static str {
     match command {
         Command::Assemble(_) => "lines",
+        Command::Explore(_) => "states",
         _ => "rows",
     }
 }

@@ -5,7 +5,7 @@ use Rattle.exploration.proofs.Witnesses.{opening_is_witnessed, turns_are_witness
 use Rattle.exploration.proofs.ReducedWitnesses.{ahead_is_witnessed}
 use Rattle.exploration.proofs.Search.{searches_all}
 use Rattle.exploration.proofs.Observations.{closed_shows_all}
-use Rattle.exploration.proofs.Outcomes.{outcomes_are_real, outcomes_of_all}
+use Rattle.exploration.proofs.Outcomes.{outcomes_are_real, outcomes_of_all, rest_is_halted}
 use Rattle.exploration.proofs.a_closed_list_has_every_run.Goals as goal
 
 pub returns-clause-all : goal.returns-clause-all
@@ -37,6 +37,9 @@ returns-clause-outcomes c = outcomes_of_all
 
 pub returns-clause-real : goal.returns-clause-real
 returns-clause-real c = outcomes_are_real
+
+pub returns-clause-rest : goal.returns-clause-rest
+returns-clause-rest c = rest_is_halted
 
 pub returns-clause-searches : goal.returns-clause-searches
 returns-clause-searches c = searches_all

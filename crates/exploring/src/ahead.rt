@@ -1,0 +1,92 @@
+//! Going ahead: after a thread's turn, the plain steps of the same thread, to which no schedule matters.
+ghost use Rattle.std.specs.Prelude.{◌≡◌, IfOk, IfSome};
+ghost use Rattle.exploring.specs.Ahead.{IsPlainTurn, WentOn, is_plain};
+
+use ideal_run::worlds::{World, running};
+use ideal_run::{Choice, Transitions};
+use model::instructions::Instruction;
+use model::listings::Listed;
+use model::turns::Mark;
+use std::alloc::AllocError;
+
+/// The most steps that a thread goes ahead at once: a loop of plain steps that never ends does no harm.
+const MOST_AHEAD: u32 = 1_000;
+
+/// Whether an instruction changes the running frame alone, where it neither throws nor is at fault.
+fn is_plain(instruction: &Listed) -> bool
+    ensures { result ≡ is_plain instruction.now }
+{
+    match instruction {
+        Instruction::Nop => true,
+        Instruction::Constant(_) => true,
+        Instruction::Local(_) => true,
+        Instruction::Stack(_) => true,
+        Instruction::Number(_) => true,
+        Instruction::Branch(_, _) => true,
+        Instruction::TableSwitch(_) => true,
+        Instruction::LookupSwitch(_) => true,
+        Instruction::Return(_) => false,
+        Instruction::Static(_, _) => false,
+        Instruction::Field(_, _) => false,
+        Instruction::Array(_) => false,
+        Instruction::Class(_, _) => false,
+        Instruction::Invoke(_, _) => false,
+        Instruction::Throw => false,
+        Instruction::Monitor(_) => false,
+    }
+}
+
+/// What a plain step of a thread leaves, if that is what it makes next. `AllocError` where memory runs out, or a number
+/// has no room.
+fn plain_turn(
+    transitions: &Transitions<'_>,
+    world: &World,
+    thread: u8,
+) -> Result<Option<World>, AllocError>
+    ensures { IfOk result (λ after. IfSome after (IsPlainTurn transitions.now.program world.now thread)) }
+{
+    let Some(frame) = running(world.frames_at(thread)) else {
+        return Ok(None);
+    };
+    match frame.mark {
+        Mark::Unmarked => {}
+        Mark::Waiting | Mark::Failing => return Ok(None),
+    }
+    let Some(placed) = transitions.instruction_of(frame) else {
+        return Ok(None);
+    };
+    if !is_plain(&placed.instruction) {
+        return Ok(None);
+    }
+    let Some(made) = transitions.successor(world, thread, Choice::NewObject)? else {
+        return Ok(None);
+    };
+    if made.asks || made.world.fault().is_some() {
+        return Ok(None);
+    }
+    Ok(Some(made.world))
+}
+
+/// The world after the plain steps of a thread, and how many there were: all, or as many as there is room for, 1,000 at
+/// most; none where there was a fault. `AllocError` where memory runs out, or a number has no room.
+pub fn go_ahead(
+    transitions: &Transitions<'_>,
+    world: World,
+    thread: u8,
+    room: u32,
+) -> Result<(World, u32), AllocError>
+    ensures { IfOk result (λ r. WentOn transitions.now.program thread room world r.0 r.1) }
+{
+    if world.fault().is_some() {
+        return Ok((world, 0));
+    }
+    let most = room.min(MOST_AHEAD);
+    let mut world = world;
+    for step in 0..most {
+        let Some(after) = plain_turn(transitions, &world, thread)? else {
+            return Ok((world, step));
+        };
+        world = after;
+    }
+    Ok((world, most))
+}
