@@ -6,11 +6,11 @@
 
 mod answering;
 pub mod breakpoints;
-mod carrying;
+pub mod carrying;
 pub mod errors;
 pub mod places;
 pub mod runs;
 pub mod sessions;
-mod writing;
+pub mod writing;
 
 pub use sessions::debug;
