@@ -13,8 +13,8 @@ input and output, and of what is printed no more than a beginning:
 - **Sessions of the debugger**: beside that, which answers there are before a read fails.
 - **Real ones**: a full device, a pipe that nobody reads, streams that are closed, folders, files that aren't there.
 
-A line that standard error doesn't take is let go: output, files and status are as ever, or where it is clap's line, 6 is the status. It
-wants a C compiler, `cc`. The last line is 'N passed, M failed'. For run_examples.py, too.
+Where standard error doesn't take a line, output and files are as ever, and 6 is the status. It wants a C compiler, `cc`. The last line is
+'N passed, M failed'. For run_examples.py, too.
 """
 import argparse
 import errno
@@ -180,7 +180,7 @@ def lacks(call, shown, whole):
     """What is wrong with the end of a command of which one call failed, or nothing."""
     what, fd, name = call.split(" ", 2)
     if fd == "2":
-        is_so = (shown.output, shown.file) == (whole.output, whole.file) and shown.status in (whole.status, 6)
+        is_so = (shown.status, shown.output, shown.file) == (6, whole.output, whole.file)
         return None if is_so and whole.errors not in shown.errors else f"{call}: {shown}"
     line = f"jvm: cannot {what} {name}\n".encode()
     is_front = whole.output.startswith(shown.output) and (whole.file or b"").startswith(shown.file or b"")
@@ -258,13 +258,13 @@ def outputs(words, typed):
     return None
 
 
-def errors(words, status):
-    """What is wrong with a command whose lines of standard error can't be written, which ends with this status, or nothing."""
+def errors(words):
+    """What is wrong with a command whose lines of standard error can't be written, or nothing."""
     wanted = subprocess.run(words, stdout=subprocess.PIPE, stderr=subprocess.PIPE, timeout=60, check=False)
     for stream in (os.open("/dev/full", os.O_WRONLY), unread_pipe()):
         done = subprocess.run(words, stdout=subprocess.PIPE, stderr=stream, timeout=60, check=False)
         os.close(stream)
-        if not wanted.stderr or (done.returncode, done.stdout) != (status, wanted.stdout):
+        if not wanted.stderr or (done.returncode, done.stdout) != (6, wanted.stdout):
             return f"status {done.returncode}, {done.stdout!r}"
     return None
 
@@ -320,9 +320,9 @@ def tried_failures(jvm, room):
     for words in (["dis", class_], ["run", sum_], ["run", "--carriers", "2", sum_], ["replay", journal, sum_], ["debug", sum_], ["explain"],
                   ["explain", "J5"], ["--help"], ["run", "--help"], ["--version"]):
         yield f"an output that can't be written: {title(['', *words], room)}", outputs([jvm, *words], b"stack 0\nquit\n")
-    for words, status in ((["asm", f"{room}/bad.j", f"{room}/x"], 2), (["dis", sum_], 2), (["run", "--steps", "4", sum_], 4),
-                          (["replay", sum_, sum_], 2), (["run", "a", "--gc", "-"], 6)):
-        yield f"lines that can't be written: {title(['', *words], room)}", errors([jvm, *words], status)
+    for words in (["asm", f"{room}/bad.j", f"{room}/x"], ["dis", sum_], ["run", "--steps", "4", sum_], ["replay", sum_, sum_],
+                  ["run", "a", "--gc", "-"]):
+        yield f"lines that can't be written: {title(['', *words], room)}", errors([jvm, *words])
     yield "files that can't be read or written", tried_files(jvm, room)
     yield "input that can't be read", inputs(jvm)
 

@@ -1,9 +1,9 @@
 //! What the program's words say: options, the system's files and streams, and the exit status.
 
-use crate::endings::Exit;
-use crate::executing::execute;
-use crate::files::SystemFiles;
-use crate::options::{Command, LineError, options};
+use commands::endings::Exit;
+use commands::executing::execute;
+use commands::files::SystemFiles;
+use commands::options::{Command, LineError, options};
 use crate::prompting::Prompted;
 use crate::telling::Teller;
 use std::alloc::{AllocError, Global};

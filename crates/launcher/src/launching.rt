@@ -5,8 +5,9 @@ ghost use Rattle.model.specs.declared.journals.HeapShape.{HeapShape};
 ghost use Rattle.model.specs.declared.journals.Limits.{Limits};
 ghost use Rattle.launcher.specs.Launching.{AreListings, Excuses, IsLaunched, bytes_of};
 
+use crate::loading::load_listings;
 use crate::sources::{SourceError, source_listing};
-use acceptance::{LoadError, accept};
+use acceptance::LoadError;
 use loader::programs::Program;
 use model::journals::{HeapShape, Limits};
 use model::listings::Listing;
@@ -60,13 +61,9 @@ pub fn program_of(alloc: Global, sources: &[Vec<u8>]) -> Result<Program, LaunchE
         Ok(listings) => listings,
         Err(error) => return Err(error),
     };
-    match accept(alloc, listings.as_slice()) {
-        Ok(()) => {}
-        Err(error) => return Err(LaunchError::Load(error)),
-    }
-    match Program::new(alloc, listings) {
+    match load_listings(alloc, listings) {
         Ok(program) => Ok(program),
-        Err(_) => Err(LaunchError::World(WorldError::Memory)),
+        Err(error) => Err(LaunchError::Load(error)),
     }
 }
 

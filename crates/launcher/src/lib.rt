@@ -3,5 +3,6 @@
 
 pub mod launching;
 pub mod laws;
+pub mod loading;
 pub mod replaying;
 pub mod sources;

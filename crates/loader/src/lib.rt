@@ -7,6 +7,7 @@ mod known_calls;
 pub mod method_codes;
 mod prepared;
 pub mod programs;
+pub mod signatures;
 mod step_lists;
 mod translated_operations;
 mod translation;

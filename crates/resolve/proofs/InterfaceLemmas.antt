@@ -5,6 +5,7 @@ use Rattle.std.proofs.Common.{is_some, refl, sym, ap, subst, ◌∙◌, arith}
 use Rattle.std.specs.List.{find, flat_map, list_all, list_any}
 use Rattle.std.specs.Option.{option_map}
 use Rattle.std.specs.Str.{bytes_eq}
+use Rattle.std.proofs.lemmas.Grind.{flat_map-append}
 use Rattle.std.proofs.lemmas.List.{drop_more}
 use Rattle.std.proofs.lemmas.Slice.Eq.{bytes_eq-Decides}
 use Rattle.model.specs.ClassListings.{ClassListing}
@@ -50,6 +51,64 @@ once-from names ys (x ∷ xs) =
 -- names that stand there once are as good as all of them
 pub once : (names xs : List (List ℕ)) → with_names names (with_names [] xs) ≡ with_names names xs
 once names xs = once-from names [] xs
+
+-- ---- a name that comes again adds nothing
+
+nothing-new : (names more : List (List ℕ)) → ((x : List ℕ) → HasName more x → HasName names x)
+    → with_names names more ≡ names
+nothing-new names [] there = refl
+nothing-new names (x ∷ xs) there =
+    rw (HasName-has names x (there x (inl refl))) (nothing-new names xs (λ y h. there y (inr h)))
+
+in-first : (xs ys : List (List ℕ)) (x : List ℕ) → HasName xs x → HasName (xs ++ ys) x
+in-first [] ys x h = absurd h
+in-first (y ∷ xs) ys x (inl e) = inl e
+in-first (y ∷ xs) ys x (inr h) = inr (in-first xs ys x h)
+
+in-second : (xs ys : List (List ℕ)) (x : List ℕ) → HasName ys x → HasName (xs ++ ys) x
+in-second [] ys x h = h
+in-second (y ∷ xs) ys x h = inr (in-second xs ys x h)
+
+module _ (lists : Lists) where
+  in-following : (names : List (List ℕ)) (name x : List ℕ) → HasName names name
+      → HasName (with_list name (lists name)) x → HasName (all_following lists names) x
+  in-following [] name x h there = absurd h
+  in-following (y ∷ ys) name x (inl e) there =
+      in-first (with_list y (lists y)) (all_following lists ys) x
+      (subst (λ (z : List ℕ). HasName (with_list z (lists z)) x) (sym e) there)
+  in-following (y ∷ ys) name x (inr h) there =
+      in-second (with_list y (lists y)) (all_following lists ys) x (in-following ys name x h there)
+
+  one-more-following : (found names : List (List ℕ)) (x : List ℕ) (there : Bool) → has_name names x ≡ there
+      → with_names found (all_following lists (with_name names x))
+      ≡ with_names (with_names found (all_following lists names)) (with_list x (lists x))
+  one-more-following found names x true e =
+      rw e (sym (nothing-new (with_names found (all_following lists names)) (with_list x (lists x))
+      (λ y h. (adds_all found (all_following lists names)).holds y
+      (in-following names x y (has-HasName names x e) h))))
+  one-more-following found names x false e =
+      rw e (ap (with_names found) (flat_map-append (λ name. with_list name (lists name)) names (x ∷ []))
+      ∙ names-append found (all_following lists names) (with_list x (lists x) ++ [])
+      ∙ ap (with_names (with_names found (all_following lists names))) (append-nothing (with_list x (lists x))))
+    where
+      append-nothing : (xs : List (List ℕ)) → xs ++ [] ≡ xs
+      append-nothing [] = refl
+      append-nothing (y ∷ ys) = ap (λ zs. y ∷ zs) (append-nothing ys)
+
+  following-from : (found names more : List (List ℕ))
+      → with_names found (all_following lists (with_names names more))
+      ≡ with_names (with_names found (all_following lists names)) (all_following lists more)
+  following-from found names [] = refl
+  following-from found names (x ∷ xs) =
+      following-from found (with_name names x) xs
+      ∙ ap (λ (all : List (List ℕ)). with_names all (all_following lists xs))
+      (one-more-following found names x (has_name names x) refl)
+      ∙ sym (names-append (with_names found (all_following lists names)) (with_list x (lists x)) (all_following lists xs))
+
+  -- names that stand there once lead to what all of them lead to
+  pub following-once : (names : List (List ℕ)) → with_names [] (all_following lists (with_names [] names))
+      ≡ with_names [] (all_following lists names)
+  following-once names = following-from [] [] names
 
 -- ---- adding an interface with its list
 

@@ -1,4 +1,5 @@
-use Rattle.std.specs.Prelude.{ℕ, List, [], ◌∷◌, cond, map, Option, Some, None}
+use Rattle.std.specs.Prelude.{ℕ, List, [], ◌∷◌, cond, map, slice_get, Option, Some, None}
+use Rattle.std.specs.Option.{option_and_then}
 use Rattle.std.specs.Str.{bytes_eq}
 use Rattle.model.specs.declared.listings.Method.{Method}
 use Rattle.model.specs.ClassListings.{ClassListing}
@@ -19,3 +20,8 @@ native_listing n = cond n.is_static (static_method n.name.now n.descriptor.now)
 -- a row of the table as a class's listing
 abbrev pub own_listing : Builtin → ClassListing
 own_listing b = builtin_class b.name.now b.superclass.now (map native_listing b.methods.now)
+
+-- the method at a place of the class at another
+abbrev pub method_among : List ClassListing → ℕ → ℕ → Option Method
+method_among classes class method = option_and_then (λ (c : ClassListing). slice_get c.methods method)
+    (slice_get classes class)

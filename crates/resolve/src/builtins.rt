@@ -6,7 +6,7 @@ ghost use Rattle.std.specs.Str.{bytes_eq};
 ghost use Rattle.model.specs.ClassListings.{ClassListing};
 ghost use Rattle.model.specs.Classes.Builtin.{builtin_classes};
 ghost use Rattle.model.specs.Classes.Named.{builtin};
-ghost use Rattle.resolve.specs.Builtins.{superclass_among, native_listing, own_listing};
+ghost use Rattle.resolve.specs.Builtins.{method_among, superclass_among, native_listing, own_listing};
 ghost use Rattle.resolve.specs.Numbers.{name_of};
 
 use bitflags::Flags;
@@ -148,6 +148,28 @@ pub fn builtin_number(name: &[u8]) -> Option<usize>
     ensures { result ≡ position (bytes_eq name.now) (map name_of builtin_classes) }
 {
     place_among(&BUILTINS, name)
+}
+
+fn method_among(
+    classes: &'static [Builtin],
+    class: usize,
+    method: usize,
+) -> Option<&'static Native>
+    ensures { option_map native_listing (option_copied result)
+        ≡ method_among (map own_listing classes.now) class method }
+{
+    match classes.get(class) {
+        Some(class) => class.methods.get(method),
+        None => None,
+    }
+}
+
+/// The method at a place of the machine's own class at another, by its name and descriptor; `None` where there is none.
+#[tactic(auto, unfolding(model::specs::Classes::Builtin::builtin_classes))]
+pub fn builtin_method(class: usize, method: usize) -> Option<&'static Native>
+    ensures { option_map native_listing (option_copied result) ≡ method_among builtin_classes class method }
+{
+    method_among(&BUILTINS, class, method)
 }
 
 fn native_listing(alloc: Global, native: &Native) -> Result<Method, AllocError>

@@ -46,16 +46,30 @@ impl<'a> Interfaces<'a> {
         }
     }
 
-    /// These interfaces, after each what its list has, each name once.
+    /// These names, after each what its list has, each name once.
+    fn following(&self, alloc: Global, names: &Reached<'a>) -> Result<Reached<'a>, AllocError>
+        ensures { IfOk result (λ found. found ≡ with_names []
+            (all_following (lists_in self.now.lists.entries) names.now)) }
+    {
+        let mut found = Reached::new(alloc);
+        for name in names.as_slice() {
+            self.add_with_list(name.bytes, &mut found)?;
+        }
+        Ok(found)
+    }
+
+    /// These interfaces, after each what its list has, each name once. A class may name an interface 65,535 times: its
+    /// list is added once.
     fn listed_after(&self, alloc: Global, interfaces: &'a [Name]) -> Result<Reached<'a>, AllocError>
         ensures { IfOk result (λ found. found ≡ with_names []
             (all_following (lists_in self.now.lists.entries) interfaces.now)) }
     {
-        let mut found = Reached::new(alloc);
-        for interface in interfaces {
-            self.add_with_list(interface.as_bytes(), &mut found)?;
+        let mut names = Reached::new(alloc);
+        names.add_interfaces(interfaces)?;
+        match self.following(alloc, &names) {
+            Ok(found) => Ok(found),
+            Err(error) => Err(error),
         }
-        Ok(found)
     }
 
     /// Whether a name has its list, or is no class of the program.

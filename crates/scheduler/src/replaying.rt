@@ -173,8 +173,9 @@ fn made_in_rounds<J: SoundJournal>(alloc: Global, program: &Program, journal: &J
 
 /// The world of a program and a journal: opened with the journal's shape, limits and workers, and moved by one turn for
 /// each row, of its actor and by its worker. It takes a turn's time for each row, and all the memory that it takes is
-/// taken at the opening. Where the rows are those of rounds, as a run by one worker makes them, these are made many in
-/// one call.
+/// taken at the opening. Where the rows may be those of rounds, as a run by one worker makes them, these are made many in
+/// one call first, in a world of their own. If there is no memory for that world, or the rows are others, each row's turn
+/// is made by itself, with the same answer: want of memory is told only where the second way meets it.
 ///
 /// N5 tells the first row whose outcome isn't that of its turn; a turn that is refused is such a row, also past the
 /// limit of steps. P4 where the frames that the program opens with don't fit a thread; N6 where memory runs out. A

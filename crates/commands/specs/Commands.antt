@@ -1,0 +1,24 @@
+use Rattle.std.specs.Prelude.{◌<◌, ◌≤◌, length}
+use Rattle.commands.specs.declared.options.Command.{Command}
+use Rattle.commands.specs.declared.options.Command.TheVariants.{Run, Debug, Assemble, Disassemble, Replay, Upgrade, Explain}
+
+-- a command has the file names that it needs
+abbrev pub HasFiles : Command → Type 0
+HasFiles (Run options) = 0 < length options.files.items
+HasFiles (Debug options) = 0 < length options.files.items
+HasFiles (Assemble options) = Unit {0}
+HasFiles (Disassemble file) = Unit {0}
+HasFiles (Replay options) = 0 < length options.files.items
+HasFiles (Upgrade options) = Unit {0}
+HasFiles (Explain code) = Unit {0}
+
+-- the numbers that no world tests lie in their ranges: how many turns the collector makes after one of a thread, and
+-- how many carriers there are
+abbrev pub InRange : Command → Type 0
+InRange (Run options) = (options.gc ≤ 1000) × (1 ≤ options.carriers) × (options.carriers ≤ 8)
+InRange (Debug options) = Unit {0}
+InRange (Assemble options) = Unit {0}
+InRange (Disassemble file) = Unit {0}
+InRange (Replay options) = Unit {0}
+InRange (Upgrade options) = Unit {0}
+InRange (Explain code) = Unit {0}
