@@ -45,7 +45,7 @@ fn write_row(text: &mut Vec<u8>, row: Row) -> Result<(), AllocError>
 
 /// The rows without so many first ones.
 fn later(rows: Rows<'_>, first: u32) -> Rows<'_>
-    ensures { result.entry ≡ drop first rows.entry }
+    ensures { result ≡ drop first rows.entry }
 {
     let mut rest = rows;
     for _row in 0..first {

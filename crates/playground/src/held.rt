@@ -1,14 +1,15 @@
 //! The text of what cells hold.
 ghost use Rattle.std.specs.Prelude.{◌≡◌, ◌++◌, IfOk};
+ghost use Rattle.instructions.specs.HeldViews.{kind_in};
 ghost use Rattle.playground.specs.Texts.{held_line, helds_from, kind_word, maybe_word};
 
-use debug_texts::values::{write_birth, write_number, write_values};
+use debug_texts::values::{write_birth, write_length, write_number, write_values};
 use instructions::held::{HeldKind, HeldView};
 use std::alloc::{AllocError, Global};
 
 /// Adds the class of an instance, or the descriptor of an array.
 fn write_kind(text: &mut Vec<u8>, kind: &HeldKind) -> Result<(), AllocError>
-    ensures { IfOk result (λ _. text.new.items ≡ text.old.items ++ kind_word kind.now) }
+    ensures { IfOk result (λ _. text.new.items ≡ text.old.items ++ kind_word (kind_in kind.now)) }
 {
     match kind {
         HeldKind::OfClass(class) => text.extend_from_slice(class.as_bytes()),
@@ -30,14 +31,18 @@ fn write_maybe(text: &mut Vec<u8>, number: Option<u32>) -> Result<(), AllocError
 }
 
 /// Adds the line of what a cell holds, if a path leads to that.
-fn write_held(text: &mut Vec<u8>, number: u32, held: &Option<HeldView>) -> Result<(), AllocError>
+fn write_held(
+    text: &mut Vec<u8>,
+    number: usize,
+    held: &Option<HeldView>,
+) -> Result<(), AllocError>
     ensures { IfOk result (λ _. text.new.items ≡ text.old.items ++ held_line number held.now) }
 {
     let Some(held) = held else {
         return Ok(());
     };
     text.extend_from_slice(b"held ")?;
-    write_number(text, number)?;
+    write_length(text, number)?;
     text.push(b' ')?;
     write_birth(text, held.birth)?;
     text.push(b' ')?;
@@ -60,7 +65,7 @@ pub fn helds_answer(alloc: Global, helds: &[Option<HeldView>]) -> Result<Vec<u8>
 {
     let mut text = Vec::new(alloc);
     for (number, held) in helds.iter().enumerate() {
-        write_held(&mut text, number as u32, held)?;
+        write_held(&mut text, number, held)?;
     }
     Ok(text)
 }

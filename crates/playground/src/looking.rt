@@ -1,10 +1,10 @@
 //! Answers that are looked up in a world, for which memory may run out.
-ghost use Rattle.std.specs.Prelude.{◌≡◌, IfOk, codes, slice_get};
+ghost use Rattle.std.specs.Prelude.{◌≡◌, ◌++◌, IfOk, codes, slice_get};
 ghost use Rattle.debug_texts.specs.Answers.{fields_text};
 ghost use Rattle.model.specs.JournalTexts.{journal_text};
 ghost use Rattle.model.specs.Observers.{ideal};
 ghost use Rattle.page_texts.specs.Shown.{classes_lines, rows_text, whole_text};
-ghost use Rattle.playground.specs.Texts.{helds_text, listing_text, state_text, threads_text};
+ghost use Rattle.playground.specs.Texts.{helds_text, listing_text, state_text, thread_text, threads_text};
 
 use crate::held::helds_answer;
 use debug_texts::frames::stack_answer;
@@ -44,7 +44,10 @@ fn add_thread(
     program: &[Listing],
     world: &World,
     number: u8,
-) -> Result<(), AllocError> {
+) -> Result<(), AllocError>
+    requires { program.now ≡ world.now.program }
+    ensures { IfOk result (λ _. text.new.items ≡ text.old.items ++ thread_text world.now number) }
+{
     let view = world.thread(number)?;
     write_thread(text, number, &view)?;
     let frames = stack_answer(alloc, program, &view)?;
@@ -53,10 +56,12 @@ fn add_thread(
 
 /// Each thread that was started, with its frames.
 pub fn threads_of(alloc: Global, world: &World) -> Result<Vec<u8>, AllocError>
+    ensures { IfOk result (λ text. text.items ≡ threads_text world.now) }
 {
     let mut text = Vec::new(alloc);
+    let program = world.program().listings();
     for number in 0..world.thread_count() {
-        add_thread(alloc, &mut text, world.program().listings(), world, number)?;
+        add_thread(alloc, &mut text, program, world, number)?;
     }
     Ok(text)
 }
