@@ -7,6 +7,7 @@ pub mod Limits
 pub mod MethodCodes
 pub mod OneTranslation
 pub mod Prepared
+pub mod Signatures
 pub mod Starts
 pub mod StepLists
 pub mod Steps
