@@ -116,12 +116,12 @@ class Page:
         return self.settled()
 
     def example(self, name):
-        self.later("$('examples').value = arguments[0]; take(DATA.examples[arguments[0]].map((it) => ({...it})), {shape: arguments[1]}).then(() => done(0))",
-                   name, {"small": 8, "medium": 2, "large": 1})
+        self.browser.run("$('examples').value = arguments[0]; $('examples').dispatchEvent(new Event('change'))", name)
+        self.until("page.busy || page.view || page.refusal")
         return self.settled()
 
     def take(self, text, name="a.j", **shape):
-        self.later("take([{name: arguments[1], text: arguments[0]}], {shape: arguments[2]}).then(() => done(0))", text, name, {"small": 8, "medium": 2, "large": 1, **shape})
+        self.later("take([{name: arguments[1], text: arguments[0]}], {shape: arguments[2], limits: LIMITS}).then(() => done(0))", text, name, {"small": 8, "medium": 2, "large": 1, **shape})
         return self.settled()
 
     def go(self, row):
@@ -450,9 +450,14 @@ def tried_lessons(page):
         page.picture(f"lesson {number}")
         if title == "Why there is a write barrier":
             same(re.findall("#3 (\\w+)", " ".join(shown["cells"])), ["white"], "before the write")
-            for _ in range(4):
+            page.click("#thread")
+            same(re.findall("#3 (\\w+)", " ".join(page.click("#thread")["cells"])), ["grey"], "after the load")
+            for _ in range(3):
                 shown = page.click("#thread")
-            same(re.findall("#3 (\\w+)", " ".join(shown["cells"])), ["grey"], "after the write")
+            same(shown["statics"], ["Moved.early = #3"], "after the write")
+            for _ in range(40):
+                shown = page.click("#collect")
+                holds("#3" in " ".join(shown["cells"]), "#3 is lost")
         if title == "A lost update":
             same(shown["statics"], ["Counter.count = 1"], title)
         if title == "A deadlock":

@@ -128,15 +128,15 @@ const LESSONS = [
     ],
   },
   {
-    title: "Why there is a write barrier",
+title: "Why there is a write barrier",
     sources: [{ name: "Moved.j", text: BARRIER }],
     shape: { small: 6, medium: 0, large: 0 },
-    moves: [{ kind: "turns", actors: turns("0x3 cx3") }],
+    moves: [{ kind: "turns", actors: turns("0x2 cx21") }],
     look: "heap",
     text: [
-      "The collector has gone over the static fields and begins with the frames. Object #3 is in a local alone, and white.",
-      "Now the thread puts it into a static field, where the collector has been, and drops the local, before the collector comes to it. Give it four turns (S). Without more, nobody would ever grey #3, and it would be swept although a path leads to it.",
-      "But a write of a reference greys what it refers to. Look at cell 2 after the write: it is grey. Go on with the collector (C): #3 is never lost. That it never is, in no schedule, is proved.",
+      "The collector is in its second cycle. It has gone over the static fields and comes to the frames. Object #3 is held by a local alone, and it is still white.",
+      "Now the thread takes #3 from the local, puts it into a static field, where the collector has been, and drops the local, before the collector comes there. Give it five turns (S). Without more, nobody would grey #3 in this cycle, and it would be swept although a path leads to it.",
+      "But each instruction that puts a reference into a frame or a field greys what it refers to. Look at cell 2 after the second turn: it is grey. Go on with the collector (C): #3 is never lost. That no object is ever lost, in no schedule, is proved.",
     ],
   },
   {

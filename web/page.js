@@ -2,6 +2,7 @@
 // The page: what was chosen and done, and what its buttons, keys and files do.
 
 const DATA = JSON.parse($("data").textContent);
+const SHAPE = { small: 8, medium: 2, large: 1 }, LIMITS = { steps: 1000000, output: 65536 };
 const ALL_ROUNDS = 16777215, MOST_ROUNDS_TO_BREAK = 1000000, ROWS_A_PAGE = 256, SAMPLES = 240, SAMPLED_CELLS = 60000;
 
 const page = {
@@ -75,13 +76,13 @@ async function asked(lines) {
   }
 }
 
-const LOOKS = ["state", "threads", "held", "statics", "heap"];
+const LOOKS = ["state", "threads", "held", "statics", "heap", "output"];
 const looks = () => [...LOOKS, ...(page.methods ?? []).map((klass) => `class ${klass.name}`)];
 
 function viewOf(answers) {
   const view = { state: answers.state(), threads: answers.threads(), held: answers.held(), statics: answers.statics(), cells: answers.heap() };
-  view.classes = (page.methods ?? []).map(() => answers.line());
   view.output = answers.output();
+  view.classes = (page.methods ?? []).map(() => answers.line());
   return view;
 }
 
@@ -133,12 +134,28 @@ async function measure(moves) {
 async function go(row) {
   const total = rowsOf(page.moves), to = Math.max(0, Math.min(row, total));
   const lines = linesBetween(page.moves, 0, to), generation = page.generation;
-  const answers = await asked([...lines, ...looks()]);
+  const rows = rowsAsked(to);
+  const answers = await asked([...lines, ...looks(), ...rows.lines]);
   if (answers === null || generation !== page.generation) return;
   passed(answers, lines);
   page.at = to;
   page.view = viewOf(answers);
+  rows.taken(answers);
   await show();
+}
+
+const pageOfRow = (row) => Math.max(0, Math.floor((row - 1) / ROWS_A_PAGE));
+
+// What is asked, after a row, for the rows around it, if they aren't there yet.
+function rowsAsked(row) {
+  const number = pageOfRow(row), first = number * ROWS_A_PAGE;
+  if (page.pages.has(number)) return { lines: [], taken: () => {} };
+  const on = linesBetween(page.moves, row, Math.min(rowsOf(page.moves), first + ROWS_A_PAGE));
+  const taken = (answers) => {
+    passed(answers, on);
+    page.pages.set(number, answers.rows(ROWS_A_PAGE));
+  };
+  return { lines: [...on, `rows ${first} ${ROWS_A_PAGE}`], taken };
 }
 
 // Makes a move from the row that is shown; rows after it are dropped.
@@ -341,16 +358,22 @@ function refuse(refusal) {
 }
 
 // Takes sources in place of those that are there.
-async function take(sources, { shape = null, moves = [], at = null } = {}) {
+async function take(sources, { shape = null, limits = null, moves = [], at = null } = {}) {
   page.sources = sources;
   page.shown = 0;
   page.breakpoints.clear();
   page.view = null;
   if (shape) for (const size of ["small", "medium", "large"]) $(size).value = shape[size];
+  if (limits) {
+    $("steps").value = limits.steps;
+    $("output-limit").value = limits.output;
+  }
   showText();
   await load(moves, at);
   showText();
 }
+
+const takeExample = (name) => take(DATA.examples[name].map((it) => ({ ...it })), { shape: SHAPE, limits: LIMITS });
 
 // ---- the journal
 
@@ -367,7 +390,7 @@ async function pageOfRows(number) {
 }
 
 async function showJournal() {
-  const number = Math.max(0, Math.floor((page.at - 1) / ROWS_A_PAGE));
+  const number = pageOfRow(page.at);
   const rows = await pageOfRows(number);
   showRows(number * ROWS_A_PAGE, rows, page.at, (row) => go(row));
 }
@@ -487,10 +510,10 @@ async function takeFragment(text) {
   const sources = told.sources.map((it) => (it.class ? { name: String(it.name), bytes: fromBase64(it.class) } : { name: String(it.name), text: String(it.text) }));
   const moves = told.moves.map((move) => (typeof move === "string" ? { kind: "turns", actors: move.split(" ").filter((it) => /^(c|\d{1,3})$/.test(it)) } : { kind: "rounds", n: Number(move[0]), gc: Number(move[1]) }));
   if (sources.length === 0) throw new Error("no source");
-  $("steps").value = Number(told.steps);
-  $("output-limit").value = Number(told.output);
   $("examples").value = "";
-  await take(sources, { shape: told.shape, moves, at: Number(told.at) });
+  const { small, medium, large } = told.shape;
+  const shape = { small: Number(small), medium: Number(medium), large: Number(large) };
+  await take(sources, { shape, limits: { steps: Number(told.steps), output: Number(told.output) }, moves, at: Number(told.at) });
 }
 
 async function copyLink() {
@@ -511,7 +534,7 @@ async function openLesson(lesson) {
   for (const it of $("lesson-titles").children) it.setAttribute("aria-pressed", String(it.textContent === lesson.title));
   const sources = lesson.sources.map((it) => (it.example ? DATA.examples[it.example][0] : { name: it.name, text: it.text }));
   $("examples").value = "";
-  await take(sources.map((it) => ({ ...it })), { shape: lesson.shape, moves: lesson.moves });
+  await take(sources.map((it) => ({ ...it })), { shape: lesson.shape, limits: LIMITS, moves: lesson.moves });
   document.querySelector(".look")?.classList.remove("look");
   $(lesson.look).classList.add("look");
 }
@@ -566,7 +589,7 @@ function wire() {
   };
   for (const [id, action] of Object.entries(actions)) $(id).addEventListener("click", () => action());
   $("examples").append(element("option", { value: "" }, "(own)"), ...Object.keys(DATA.examples).map((name) => element("option", { value: name }, name)));
-  $("examples").addEventListener("change", () => $("examples").value && take(DATA.examples[$("examples").value].map((it) => ({ ...it }))));
+  $("examples").addEventListener("change", () => $("examples").value && takeExample($("examples").value));
   $("arrows").addEventListener("change", () => page.view && look());
   $("files").addEventListener("change", () => takeFiles($("files").files));
   let late = 0;
@@ -615,7 +638,7 @@ async function begin() {
     say("The link couldn't be read.");
   }
   $("examples").value = "countdown";
-  return take(DATA.examples.countdown.map((it) => ({ ...it })));
+  return takeExample("countdown");
 }
 
 async function main() {

@@ -277,9 +277,9 @@ class Answers {
     return rows;
   }
 
+  // What was printed: `output`, or what is said in the end.
   output() {
-    const length = Number(this.line().split(" ")[1]);
-    return this.text.slice(this.at, this.at + length);
+    return this.whole();
   }
 }
 

@@ -11,10 +11,10 @@ use Rattle.debugger.specs.Sessions.{Answers, Closes, Debugged, Does, FarewellSto
 use Rattle.debugger.specs.Sessions.{ReadsLines, Turns}
 use Rattle.model.specs.JournalTexts.{journal_text}
 use Rattle.model.specs.Machines.{Recorded}
-use Rattle.model.specs.Observers.{ideal}
+use Rattle.model.specs.Observers.{ideal, output_of}
 use Rattle.page_texts.specs.declared.requests.Request.{Request}
 use Rattle.page_texts.specs.declared.requests.Request.TheVariants.{Rounds, State, Threads, Held, Statics, Methods, Rows}
-use Rattle.page_texts.specs.declared.requests.Request.TheVariants.{Listing, Journal}
+use Rattle.page_texts.specs.declared.requests.Request.TheVariants.{Listing, Output, Journal}
 use Rattle.page_texts.specs.Requests.{request_of}
 use Rattle.page_texts.specs.Shown.{classes_lines, rounds_text, rows_text, whole_text}
 use Rattle.playground.specs.Texts.{helds_text, listing_text, state_text, threads_text}
@@ -33,6 +33,7 @@ Asks s Statics t answer = Answers s t answer (fields_text (ideal s.world).static
 Asks s Methods t answer = Answers s t answer (classes_lines s.world.program)
 Asks s (Rows first count) t answer = Answers s t answer (rows_text s.world.journal.rows first count)
 Asks s (Listing class) t answer = Answers s t answer (listing_text (slice_get s.world.program class))
+Asks s Output t answer = Answers s t answer (whole_text (codes "output") (output_of s.world))
 Asks s Journal t answer = Answers s t answer (whole_text (codes "journal") (journal_text s.world.journal))
 
 abbrev pub AsksOr : Debugged → Option Request → Option Said → Debugged → List ℕ → Type 0

@@ -7,7 +7,8 @@ ghost use Rattle.page_texts.specs.Shown.{rounds_text};
 ghost use Rattle.playground.specs.Playing.{Asks};
 
 use crate::looking::{
-    held_of, journal_of, listing_of, methods_of, rows_of, state_of, statics_of, threads_of,
+    held_of, journal_of, listing_of, methods_of, output_of, rows_of, state_of, statics_of,
+    threads_of,
 };
 use debug_texts::sinks::Sink;
 use debugger::errors::DebugError;
@@ -56,6 +57,7 @@ pub fn ask<S: Sink>(
         Request::Methods => put_made(sink, methods_of(alloc, world)),
         Request::Rows { first, count } => put_made(sink, rows_of(alloc, world, first, count)),
         Request::Listing(class) => put_made(sink, listing_of(alloc, world, class)),
+        Request::Output => put_made(sink, output_of(alloc, world)),
         Request::Journal => put_made(sink, journal_of(alloc, world)),
     }
 }

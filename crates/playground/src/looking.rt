@@ -2,7 +2,7 @@
 ghost use Rattle.std.specs.Prelude.{◌≡◌, ◌++◌, IfOk, codes, slice_get};
 ghost use Rattle.debug_texts.specs.Answers.{fields_text};
 ghost use Rattle.model.specs.JournalTexts.{journal_text};
-ghost use Rattle.model.specs.Observers.{ideal};
+ghost use Rattle.model.specs.Observers.{ideal, output_of};
 ghost use Rattle.page_texts.specs.Shown.{classes_lines, rows_text, whole_text};
 ghost use Rattle.playground.specs.Texts.{helds_text, listing_text, state_text, thread_text, threads_text};
 
@@ -112,6 +112,13 @@ pub fn listing_of(alloc: Global, world: &World, class: u32) -> Result<Vec<u8>, A
         }
         None => Vec::from_slice(alloc, b"error no such class\n"),
     }
+}
+
+/// What was printed.
+pub fn output_of(alloc: Global, world: &World) -> Result<Vec<u8>, AllocError>
+    ensures { IfOk result (λ text. text.items ≡ whole_text (codes "output") (output_of world.now)) }
+{
+    whole_answer(alloc, b"output", world.output())
 }
 
 /// The journal's text.
