@@ -17,7 +17,7 @@ const SUM: &[u8] = b".class public Sum\n.super java/lang/Object\n.method public 
 
 const PRINTED: &[u8] = b"-2147483648\n";
 
-/// The words of a command line, and how it ends.
+/// The words of a command line, the program's name first, and how it ends.
 #[derive(Clone, Copy)]
 struct Line {
     words: &'static [&'static str],
@@ -29,55 +29,55 @@ struct Line {
 /// One after the other, over the files that those before wrote.
 const LINES: [Line; 9] = [
     Line {
-        words: &["asm", "Sum.j", "Sum.class"],
+        words: &["jvm", "asm", "Sum.j", "Sum.class"],
         status: 0,
         output: b"",
         errors: b"",
     },
     Line {
-        words: &["run", "--journal", "first", "Sum.class"],
+        words: &["jvm", "run", "--journal", "first", "Sum.class"],
         status: 0,
         output: PRINTED,
         errors: b"",
     },
     Line {
-        words: &["replay", "first", "Sum.j"],
+        words: &["jvm", "replay", "first", "Sum.j"],
         status: 0,
         output: PRINTED,
         errors: b"",
     },
     Line {
-        words: &["upgrade", "first", "second"],
+        words: &["jvm", "upgrade", "first", "second"],
         status: 0,
         output: b"",
         errors: b"",
     },
     Line {
-        words: &["run", "--carriers", "2", "--check", "Sum.j"],
+        words: &["jvm", "run", "--carriers", "2", "--check", "Sum.j"],
         status: 0,
         output: PRINTED,
         errors: b"",
     },
     Line {
-        words: &["run", "--steps", "1", "Sum.j"],
+        words: &["jvm", "run", "--steps", "1", "Sum.j"],
         status: 4,
         output: b"",
         errors: b"jvm: step limit\n",
     },
     Line {
-        words: &["run", "None.j"],
+        words: &["jvm", "run", "None.j"],
         status: 6,
         output: b"",
         errors: b"jvm: cannot read None.j\n",
     },
     Line {
-        words: &["dis", "Sum.j"],
+        words: &["jvm", "dis", "Sum.j"],
         status: 2,
         output: b"",
         errors: b"jvm: Sum.j: C1\n",
     },
     Line {
-        words: &["debug", "Sum.j"],
+        words: &["jvm", "debug", "Sum.j"],
         status: 0,
         output: b"",
         errors: b"",
@@ -138,7 +138,7 @@ fn commands_end_so(rt: HostRuntime) -> Result<(), Fail> {
 fn line_that_standard_error_does_not_take(rt: HostRuntime) -> Result<(), Fail> {
     let mut files = MemoryFiles::new(rt.alloc());
     files.add("Sum.j", SUM)?;
-    let words = ["run", "--steps", "1", "Sum.j"];
+    let words = ["jvm", "run", "--steps", "1", "Sum.j"];
     let mut output = Vec::new(rt.alloc());
     let status = status_of(&rt, rt.alloc(), &words, &mut files, &mut output, &mut FullStream)?;
     assert!(rt; status == 6);
@@ -147,7 +147,7 @@ fn line_that_standard_error_does_not_take(rt: HostRuntime) -> Result<(), Fail> {
 
 /// The status and the line of a run whose threads can't be started.
 fn end_without_threads(alloc: Global) -> Result<Option<bool>, Fail> {
-    let Command::Run(run) = options(alloc, &["run", "--carriers", "2", "Sum.j"])? else {
+    let Command::Run(run) = options(alloc, &["jvm", "run", "--carriers", "2", "Sum.j"])? else {
         return Ok(None);
     };
     let mut files = MemoryFiles::new(alloc);

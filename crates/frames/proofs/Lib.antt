@@ -6,6 +6,7 @@ pub mod LayoutLemmas
 pub mod ListLemmas
 pub mod OperandLemmas
 pub mod PushLemmas
+pub mod ReplaceLemmas
 pub mod RootLemmas
 pub mod RunningLemmas
 pub mod SlotLemmas

@@ -183,7 +183,7 @@ impl Frames {
 }
 
 /// The units that values take on a stack.
-fn units_of_values(values: &[Value]) -> usize
+pub(crate) fn units_of_values(values: &[Value]) -> usize
     ensures units { result ≡ units_of_all values.now }
     ensures few { result ≤ 2 * length values.now }
 {

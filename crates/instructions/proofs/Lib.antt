@@ -11,6 +11,7 @@ pub mod ChainLemmas
 pub mod ClaimFrames
 pub mod ClaimLemmas
 pub mod CodeResolves
+pub mod CodeStepLemmas
 pub mod CallAgreement
 pub mod CallLemmas
 pub mod CallsSilent

@@ -6,6 +6,7 @@ pub mod ByNumbers
 pub mod Callees
 pub mod CallsByNumbers
 pub mod CodeCalls
+pub mod CodeSteps
 pub mod HeapMonitors
 pub mod HeapThreads
 pub mod FirstTurns

@@ -41,6 +41,7 @@ mod calls;
 mod casts;
 mod claims;
 mod code_calls;
+mod code_steps;
 mod doubling;
 pub mod errors;
 mod exchanges;

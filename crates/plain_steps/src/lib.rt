@@ -36,6 +36,7 @@ mod written;
 
 pub use constants::constant;
 pub use hot_steps::hot_step;
+pub use stacks::{Group, Size};
 pub use steps::plain_step;
 pub use switches::{lookup_switched, table_switched};
 pub use written::Written;
