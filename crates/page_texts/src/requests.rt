@@ -16,6 +16,7 @@ pub enum Request {
     Methods,
     Rows { first: u32, count: u32 },
     Listing(u32),
+    Output,
     Journal,
 }
 
@@ -33,6 +34,8 @@ fn alone(line: &[u8]) -> Option<Request>
         Some(Request::Statics)
     } else if line == b"methods".as_slice() {
         Some(Request::Methods)
+    } else if line == b"output".as_slice() {
+        Some(Request::Output)
     } else if line == b"journal".as_slice() {
         Some(Request::Journal)
     } else {
