@@ -1,7 +1,7 @@
 #!/usr/bin/env python3
 """Tries the page in a real browser: clicks through what it can do, and compares what it shows with `jvm debug` and `jvm run`.
 
-Usage: page_test.py [--page FILE] [--jvm PROGRAM] [--moments N] [--pictures FOLDER] [--after LOG] [WORD ..]
+Usage: page_test.py [--page FILE] [--jvm PROGRAM] [--playground PROGRAM] [--moments N] [--pictures FOLDER] [--after LOG] [WORD ..]
 
 Without --page a page is built first (tools/page.py). Each example is looked at at some forty moments of its run. With WORDs only
 the tests whose names have one of them are made. --pictures keeps pictures. Needs Debian's chromium and chromium-driver; where
@@ -63,6 +63,10 @@ return
 """ % "\n".join(f"bipush {ord(letter)}\ninvokestatic vm/Sys/putc(I)V" for letter in "<img src=x onerror=alert(1)><b>&amp;")
 
 
+class Skipped(Exception):
+    """Why something can't be tried here."""
+
+
 class Tried(Exception):
     """A test that failed, and how."""
 
@@ -82,6 +86,7 @@ class Page:
 
     def __init__(self, browser, path, jvm, room, moments, pictures):
         self.browser, self.path, self.jvm, self.room, self.moments, self.pictures = browser, path, jvm, room, moments, pictures
+        self.playground = None
         self.open()
 
     def open(self, fragment=""):
@@ -469,6 +474,37 @@ def tried_lessons(page):
     page.browser.click("#show-lessons")
 
 
+LOOKS = ["state", "threads", "held", "statics", "heap", "output"]
+SESSIONS = (
+    ["methods", "listing 0", "listing 9", *LOOKS, "rounds 5 1", *LOOKS, "step 0", "gc", "step 200", *LOOKS, "object 1", "object 3", "rounds 100000 2", *LOOKS, "rows 0 50", "rows 40 3", "journal"],
+    ["rounds 7 0", "state", "gc", "state", "rounds 100000 1", "state", "threads", "journal", "bad", "rounds 1", "rows 1", "listing", ""],
+    ["break Countdown.main()V 3", "run 1000", *LOOKS, "run 1000", "delete 0", "run 1000000", *LOOKS, "quit", "state"],
+)
+
+
+def tried_sessions(page):
+    """The native program and the page's machine give the same bytes."""
+    if not os.access(page.playground, os.X_OK):
+        raise Skipped(f"no {page.playground}")
+    names = page.browser.run("return Object.keys(DATA.examples)")
+    count = 0
+    for name in names:
+        files = page.browser.run("return DATA.examples[arguments[0]]", name)
+        head = "heap 8 2 1\nlimits 100000 1000\n" + f"sources {len(files)}\n" + "".join(f"source {len(it['text'])}\n{it['text']}" for it in files)
+        for lines in SESSIONS:
+            given = head + "\n".join(lines)
+            ran = subprocess.run([page.playground], input=given.encode(), capture_output=True, timeout=LIMIT, check=False)
+            seen = page.later("page.machine.ask(encoder.encode(arguments[0])).then((it) => done([it.status, String.fromCharCode(...it.output)]))", given)
+            same(seen, [ran.returncode, ran.stdout.decode("latin-1")], f"{name}: {lines[0]} ..")
+            count += 1
+    for given in ("", "heap 8 2 1\n", "heap 8 2 1\nlimits 5 5\nsources 1\nsource 9\nabc", "heap 1 0 0\nlimits 5 5\nsources 0\n"):
+        ran = subprocess.run([page.playground], input=given.encode(), capture_output=True, timeout=LIMIT, check=False)
+        seen = page.later("page.machine.ask(encoder.encode(arguments[0])).then((it) => done([it.status, String.fromCharCode(...it.output)]))", given)
+        same(seen, [ran.returncode, ran.stdout.decode("latin-1")], repr(given))
+        count += 1
+    print(f"page: {count} sessions gave the same bytes as the native program", flush=True)
+
+
 def tried_reading(page):
     """What a screen reader needs, and other ways to look."""
     unnamed = page.browser.run("""
@@ -530,6 +566,8 @@ def tried(page, words):
         try:
             test()
             why = "; ".join(messages(page.browser)) or None
+        except Skipped as skipped:
+            why = skipped
         except (Tried, RuntimeError, subprocess.SubprocessError, KeyError, ValueError, IndexError, TypeError) as error:
             why = f"{type(error).__name__}: {error}" if not isinstance(error, Tried) else str(error)
             page.open()
@@ -548,6 +586,7 @@ def main():
     words = argparse.ArgumentParser(description=__doc__.split("\n")[0])
     words.add_argument("--page")
     words.add_argument("--jvm", default=f"{ROOT}/crates/jvm/out/jvm")
+    words.add_argument("--playground", default=f"{ROOT}/crates/playground/out/playground")
     words.add_argument("--moments", type=int, default=40)
     words.add_argument("--pictures")
     words.add_argument("--port", type=int, default=9515)
@@ -566,10 +605,12 @@ def main():
         try:
             with contextlib.closing(Browser(given.port)) as browser:
                 page = Page(browser, page_of(given, room), os.path.abspath(given.jvm), room, given.moments, given.pictures)
+                page.playground = os.path.abspath(given.playground)
                 for name, why in tried(page, given.words):
-                    passed, failed = passed + (not why), failed + bool(why)
+                    skips = isinstance(why, Skipped)
+                    passed, failed, skipped = passed + (not why), failed + (bool(why) and not skips), skipped + skips
                     if why:
-                        print(f"page: {name}: {why}", flush=True)
+                        print(f"page: {name}: {'skipped: ' if skips else ''}{why}", flush=True)
         except NoBrowser:
             skipped += 1
             print("page: not tested, no browser")
