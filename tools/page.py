@@ -11,6 +11,7 @@ authors may change.
 """
 import argparse
 import base64
+import contextlib
 import gzip
 import hashlib
 import json
@@ -31,8 +32,8 @@ CRATE = f"{HERE}/crates/playground"
 WEB = f"{HERE}/web"
 # clang, which leaves a copy of each module that it is given (it is called with no environment)
 KEEPER = """#!/bin/bash
-for it in "$@" module.bc; do
-    case "$it" in *.bc) [ -f "$it" ] && /bin/cp "$it" {room}/$(/bin/date +%s%N).part && for made in {room}/*.part; do /bin/mv "$made" "${{{{made%.part}}}}.kept"; done;; esac
+for it in "$@" *.bc; do
+    [ "${{{{it%.bc}}}}" != "$it" ] && [ -f "$it" ] && n=$(/bin/date +%s%N) && /bin/cp "$it" {room}/$n.part && /bin/mv {room}/$n.part {room}/$n.kept
 done
 case "$*" in *-fsanitize=*) /bin/touch {room}/whole ;; esac
 exec -a "$0" {{real}} "$@"
@@ -79,6 +80,9 @@ def kept_module(room, proved):
     if not proved:
         scripts["bin/rattle"] = PROVER
     kit = linked_kit(room, scripts)
+    if proved:  # with its stamp `rt run` compiles nothing; it writes another one
+        with contextlib.suppress(FileNotFoundError):
+            os.remove(f"{CRATE}/out/playground.stamp")
     words = [f"{kit}/bin/rt", "run" if proved else "try"]
     with open(f"{CRATE}/stdin", "rb") as given, open(f"{room}/said", "w+b") as said:
         how = {"cwd": CRATE, "stdin": given, "stdout": said, "stderr": said, "start_new_session": True}
