@@ -150,7 +150,7 @@ def without_kit(door):
 def tried_missing_kit(door):
     """A machine without the kit."""
     why = "jvm: the Rattle kit is missing: there is no command rt"
-    for words in (["run", "examples/sum.j"], ["--prove"]):
+    for words in (["run", "examples/sum.j"], ["--prove"], ["--page", "page.html"]):
         seen = door.shown(*words, PATH=without_kit(door))
         yield f"no kit: {words[0]}", differs(seen, ("", [why], 70))
     yield "no kit: nothing is left", differs(door.has_built(), [])

@@ -1,0 +1,103 @@
+"""A browser without a screen, for tests: Debian's chromium by its chromedriver. Not called by itself."""
+import base64
+import json
+import shutil
+import subprocess
+import time
+import urllib.error
+import urllib.request
+
+
+class NoBrowser(Exception):
+    """There is no browser here."""
+
+
+class Browser:
+    """A window."""
+
+    def __init__(self, port=9515, words=(), dark=False):
+        driver, browser = shutil.which("chromedriver"), shutil.which("chromium")
+        if not driver or not browser:
+            raise NoBrowser
+        how = {"stdout": subprocess.DEVNULL, "stderr": subprocess.DEVNULL}
+        self.driver = subprocess.Popen([driver, f"--port={port}"], **how)
+        self.base, self.session = f"http://127.0.0.1:{port}", None
+        try:
+            self.await_driver()
+            arguments = ["--headless", "--no-sandbox", "--disable-gpu", "--window-size=1400,1000", "--force-color-profile=srgb", *words]
+            if dark:
+                arguments.append("--force-dark-mode")
+            options = {"binary": browser, "args": arguments}
+            always = {"browserName": "chrome", "goog:chromeOptions": options, "goog:loggingPrefs": {"browser": "ALL"}, "timeouts": {"script": 120000}}
+            made = self.ask("POST", "/session", {"capabilities": {"alwaysMatch": always}})
+            self.session = f"/session/{made['sessionId']}"
+            self.version = made["capabilities"]["browserVersion"]
+        except BaseException:
+            self.close()
+            raise
+
+    def await_driver(self):
+        for _ in range(150):
+            try:
+                self.ask("GET", "/status")
+                return
+            except OSError:
+                time.sleep(0.2)
+        raise NoBrowser
+
+    def ask(self, how, path, body=None):
+        """What the driver answers."""
+        data = None if body is None else json.dumps(body).encode()
+        asked = urllib.request.Request(self.base + path, data=data, method=how, headers={"Content-Type": "application/json"})
+        try:
+            with urllib.request.urlopen(asked, timeout=180) as answer:
+                return json.load(answer)["value"]
+        except urllib.error.HTTPError as error:
+            raise RuntimeError(error.read().decode()[:1000]) from None
+
+    def open(self, address):
+        self.ask("POST", f"{self.session}/url", {"url": address})
+
+    def run(self, script, *words):
+        """What a script returns."""
+        return self.ask("POST", f"{self.session}/execute/sync", {"script": script, "args": list(words)})
+
+    def later(self, script, *words):
+        """What a script answers by calling its last argument."""
+        return self.ask("POST", f"{self.session}/execute/async", {"script": script, "args": list(words)})
+
+    def find(self, css):
+        found = self.ask("POST", f"{self.session}/element", {"using": "css selector", "value": css})
+        return next(iter(found.values()))
+
+    def click(self, css):
+        self.ask("POST", f"{self.session}/element/{self.find(css)}/click", {})
+
+    def keys(self, text, css="body"):
+        """Types into an element."""
+        self.ask("POST", f"{self.session}/element/{self.find(css)}/value", {"text": text})
+
+    def picture(self, path):
+        with open(path, "wb") as file:
+            file.write(base64.b64decode(self.ask("GET", f"{self.session}/screenshot")))
+
+    def media(self, features):
+        """Emulates what a person prefers, as {"prefers-color-scheme": "dark"}."""
+        told = [{"name": name, "value": value} for name, value in features.items()]
+        self.command("Emulation.setEmulatedMedia", {"features": told})
+
+    def command(self, name, words):
+        return self.ask("POST", f"{self.session}/goog/cdp/execute", {"cmd": name, "params": words})
+
+    def messages(self):
+        """What stands in the browser's console."""
+        return self.ask("POST", f"{self.session}/se/log", {"type": "browser"})
+
+    def close(self):
+        if self.session:
+            try:
+                self.ask("DELETE", self.session)
+            except (OSError, RuntimeError):
+                pass
+        self.driver.terminate()
+        self.driver.wait()

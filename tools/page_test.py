@@ -1,0 +1,622 @@
+#!/usr/bin/env python3
+"""Tries the page in a real browser: clicks through what it can do, and compares what it shows with `jvm debug` and `jvm run`.
+
+Usage: page_test.py [--page FILE] [--jvm PROGRAM] [--playground PROGRAM] [--moments N] [--pictures FOLDER] [--after LOG] [WORD ..]
+
+Without --page a page is built first (tools/page.py). Each example is looked at at some forty moments of its run. With WORDs only
+the tests whose names have one of them are made. --pictures keeps pictures. Needs Debian's chromium and chromium-driver; where
+they are missing it says `page: not tested, no browser`, and that counts as skipped.
+
+The last line is 'N passed, M failed', with ', K skipped' where there are some. With --after, the counts in the last line of that
+file are added.
+"""
+import argparse
+import base64
+import contextlib
+import json
+import os
+import re
+import signal
+import subprocess
+import sys
+import tempfile
+import time
+
+from browser import Browser, NoBrowser
+
+ROOT = os.path.dirname(os.path.dirname(os.path.abspath(__file__)))
+LIMIT = 60
+# what the page shows, as it stands in its elements
+SHOWN = """
+const lines = (css) => [...document.querySelectorAll(css)].map((it) => it.textContent);
+return {
+  state: JSON.parse($("status").dataset.state ?? "null"), status: $("status").textContent,
+  threads: [...document.querySelectorAll("#threads [data-thread]")].map((it) => ({
+    number: Number(it.dataset.thread), head: it.querySelector("h3").textContent,
+    lines: [...it.querySelectorAll(".lines > div")].map((line) => line.textContent) })),
+  cells: [...document.querySelectorAll("#heap [data-cell]")].map((it) => it.getAttribute("aria-label")),
+  statics: lines("#statics .static"), classes: lines("#statics .class-state"), phase: $("phase").dataset.phase,
+  output: $("output").textContent, journal: [...document.querySelectorAll("#journal [data-row]")].map((it) => [Number(it.dataset.row), it.dataset.text ?? ""]),
+  chosen: Number(document.querySelector('#journal [aria-selected="true"]')?.dataset.row), refusal: $("refusal").textContent,
+  refused: Number(document.querySelector("#gutter .refused")?.dataset.line ?? 0), at: page.at, total: rowsOf(page.moves), busy: page.busy,
+  marks: [...document.querySelectorAll("#gutter .here")].map((it) => [Number(it.dataset.line), ...[...it.querySelectorAll(".who")].map((who) => Number(who.textContent))]),
+};
+"""
+COUNTER_LOOP = """.class public Loop
+.super java/lang/Object
+.method public static main()V
+.limit stack 1
+.limit locals 1
+Again:
+iinc 0 1
+goto Again
+.end method
+""".replace("Again:", "iconst_0\nistore_0\nAgain:")
+MARKUP = """.class public Markup
+.super java/lang/Object
+.method public static main()V
+.limit stack 1
+.limit locals 0
+%s
+return
+.end method
+""" % "\n".join(f"bipush {ord(letter)}\ninvokestatic vm/Sys/putc(I)V" for letter in "<img src=x onerror=alert(1)><b>&amp;")
+
+
+class Skipped(Exception):
+    """Why something can't be tried here."""
+
+
+class Tried(Exception):
+    """A test that failed, and how."""
+
+
+def same(seen, wanted, what=""):
+    if seen != wanted:
+        raise Tried(f"{what}{': ' if what else ''}{str(seen)[:300]!r}, and not {str(wanted)[:300]!r}")
+
+
+def holds(condition, what):
+    if not condition:
+        raise Tried(what)
+
+
+class Page:
+    """The page in a browser."""
+
+    def __init__(self, browser, path, jvm, room, moments, pictures):
+        self.browser, self.path, self.jvm, self.room, self.moments, self.pictures = browser, path, jvm, room, moments, pictures
+        self.playground = None
+        self.open()
+
+    def open(self, fragment=""):
+        self.browser.open("about:blank")
+        self.browser.open(f"file://{self.path}{fragment}")
+        self.until("document.body.dataset.ready === 'yes'")
+
+    def until(self, condition, limit=LIMIT):
+        began = time.time()
+        while not self.browser.run(f"return Boolean({condition})"):
+            if time.time() - began > limit:
+                raise Tried(f"it never came to {condition}; status {self.browser.run('return document.getElementById(`status`).textContent')!r}")
+            time.sleep(0.02)
+
+    def settled(self):
+        """What is shown, once nothing runs any more."""
+        self.until("!page.busy && (page.view === null || Number($('row').value) === page.at)")
+        self.later("setTimeout(() => done(0), 30)")
+        self.until("!page.busy")
+        return self.browser.run(SHOWN)
+
+    def later(self, script, *words):
+        return self.browser.later(f"const done = arguments[arguments.length - 1]; {script}", *words)
+
+    def click(self, css):
+        self.browser.click(css)
+        return self.settled()
+
+    def key(self, key):
+        self.browser.run("document.activeElement.blur()")
+        self.browser.keys(key)
+        return self.settled()
+
+    def example(self, name):
+        self.browser.run("$('examples').value = arguments[0]; $('examples').dispatchEvent(new Event('change'))", name)
+        self.until("page.busy || page.view || page.refusal")
+        return self.settled()
+
+    def take(self, text, name="a.j", **shape):
+        self.later("take([{name: arguments[1], text: arguments[0]}], {shape: arguments[2], limits: LIMITS}).then(() => done(0))", text, name, {"small": 8, "medium": 2, "large": 1, **shape})
+        return self.settled()
+
+    def go(self, row):
+        self.later("go(arguments[0]).then(() => done(0))", row)
+        return self.browser.run(SHOWN)
+
+    def picture(self, name):
+        if self.pictures:
+            self.browser.picture(f"{self.pictures}/{name}.png")
+
+    def files(self, name):
+        """The example's files, on disk."""
+        found = []
+        for number, source in enumerate(self.browser.run("return DATA.examples[arguments[0]]", name)):
+            found.append(f"{self.room}/{number} {source['name']}")
+            with open(found[-1], "w", encoding="ascii") as file:
+                file.write(source["text"])
+        return found
+
+    def debugged(self, files, lines, words=("--small", "8", "--medium", "2", "--large", "1")):
+        """What `jvm debug` answers."""
+        ran = subprocess.run([self.jvm, "debug", *words, "--steps", "1000000", "--output", "65536", *files], input="\n".join(lines) + "\n", capture_output=True, text=True, timeout=LIMIT)
+        if ran.returncode:
+            raise Tried(f"jvm debug ended with {ran.returncode}: {ran.stderr}")
+        return ran.stdout
+
+    def ran(self, files, *words):
+        return subprocess.run([self.jvm, "run", *words, *files], capture_output=True, text=True, timeout=LIMIT)
+
+
+# ---- what the page shows is what the native debugger answers
+
+
+def commands_to(rows, row):
+    """The debugger's commands for the first rows of a journal, of rounds with one turn of the collector in each."""
+    whole, rest = divmod(row, 2)
+    lines = [f"run {whole}"] if whole else []
+    return [*lines, f"step {rows[row - 1].split()[0]}"] if rest else lines
+
+
+def compared(page, files, shown, rows):
+    """What differs between the page and the debugger after so many rows, or nothing."""
+    row = shown["at"]
+    moves = commands_to(rows, row)
+    births = [int(it) for cell in shown["cells"] for it in re.findall(r"^cell \d+ \d+ #(\d+)", cell)]
+    looks = [f"stack {thread['number']}" for thread in shown["threads"]]
+    classes = [it.split(" ")[1] for it in shown["classes"]]
+    answers = page.debugged(files, [*moves, *looks, "stack 255", "heap", *(f"class {it}" for it in classes), *(f"object {it}" for it in births), "quit"])
+    lines = answers.split("\n")[len(moves):]
+    stacks, heap = lines[:lines.index("error no such thread")], lines[lines.index("error no such thread") + 1:]
+    wanted = []
+    for thread in shown["threads"]:
+        wanted += thread["lines"] if thread["lines"] else ["ended"]
+    same(wanted, stacks, f"threads at row {row}")
+    count = len(shown["cells"])
+    same([re.match(r"cell \d+ \d+ (free|#\d+ \w+)", it)[0] for it in shown["cells"]], heap[:count], f"heap at row {row}")
+    same(f"phase {shown['phase']}", heap[count], f"phase at row {row}")
+    same(shown["classes"], heap[count + 1:count + 1 + len(classes)], f"classes at row {row}")
+    objects = heap[count + 1 + len(classes):]
+    for cell in (it for it in shown["cells"] if "#" in it):
+        birth, kind = re.search(r"#(\d+) \w+(?: ([^,]+))?", cell).groups()
+        line = objects.pop(0)
+        if kind is None:
+            same(line, "error no such object", f"#{birth} at row {row}")
+        elif kind.startswith("["):
+            same(line.split(" ")[:3], ["array", birth, kind], f"#{birth} at row {row}")
+        else:
+            same(line, f"object {birth} {kind}", f"#{birth} at row {row}")
+            while objects and " = " in objects[0]:
+                objects.pop(0)
+    same(objects[0], f"output {len(shown['output'])}", f"output at row {row}")
+    same("\n".join(objects[1:]), shown["output"], f"output at row {row}")
+
+
+def moments_of(total, count):
+    if total <= count:
+        return list(range(total + 1))
+    return sorted({round(nth * total / count) for nth in range(count + 1)})
+
+
+def tried_example(page, name):
+    """An example, at many moments, and as a whole."""
+    files = page.files(name)
+    page.example(name)
+    shown = page.click("#run")
+    rows = page.later("const all = []; (async () => { const total = rowsOf(page.moves); for (let n = 0; n * ROWS_A_PAGE < total; n++) all.push(...await pageOfRows(n)); done(all); })()")
+    same(len(rows), shown["total"], "rows")
+    ran = page.ran(files, "--small", "8", "--medium", "2", "--large", "1", "--steps", "1000000", "--output", "65536", "--journal", f"{page.room}/run.journal")
+    same(shown["output"], ran.stdout, "output of the whole run")
+    with open(f"{page.room}/run.journal", encoding="ascii") as file:
+        same(rows, [line for line in file.read().split("\n")[4:] if line and not line.startswith("end")], "the journal")
+    ends = {0: "finished", 1: "finished", 3: "faulted", 4: "running", 5: "stuck"}
+    same(shown["state"]["status"], ends[ran.returncode], "how it ended")
+    for row in moments_of(shown["total"], page.moments):
+        seen = page.go(row)
+        same(seen["at"], row, "the row")
+        same(seen["chosen"], row, "the chosen row")
+        compared(page, files, seen, rows)
+
+
+# ---- what can be done
+
+
+def tried_steps(page):
+    page.example("countdown")
+    shown = page.click("#thread")
+    same((shown["at"], shown["total"], shown["threads"][0]["lines"][0]), (1, 1, "frame 0 Countdown.main()V pc 1"))
+    same(shown["marks"], [[9, 0]], "the mark at the line")
+    same(page.click("#collect")["state"]["phase"], "statics")
+    same(page.click("#round")["at"], 4)
+    page.browser.run("$('many').value = 3")
+    same(page.click("#rounds")["at"], 10)
+    same(page.click("#back")["at"], 9)
+    same(page.click("#start")["at"], 0)
+    same(page.click("#forth")["at"], 1)
+    same(page.click("#end")["at"], 10)
+    shown = page.click("#run")
+    same((shown["state"]["status"], shown["output"]), ("finished", "3\n2\n1\n"))
+    same(page.click('#journal [data-row="5"]')["at"], 5, "a row of the journal")
+    page.browser.run("$('row').value = 7")
+    same(page.click("#go")["at"], 7)
+    page.click("#thread")
+    same(page.browser.run("return rowsOf(page.moves)"), 8, "what is done from an earlier row drops the later ones")
+
+
+def tried_keys(page):
+    page.example("countdown")
+    same(page.key("s")["at"], 1)
+    same(page.key("c")["at"], 2)
+    same(page.key("r")["at"], 4)
+    same(page.key("0")["at"], 5)
+    same(page.key("\ue012")["at"], 4, "left arrow")
+    same(page.key("\ue014")["at"], 5, "right arrow")
+    same(page.key("\ue011")["at"], 0, "Home")
+    same(page.key("\ue010")["at"], 5, "End")
+    same(page.key("g")["state"]["status"], "finished")
+    page.key("t")
+    holds(page.browser.run("return Boolean(document.querySelector('#timeline svg'))"), "T draws no timeline")
+
+
+def tried_breakpoint(page):
+    page.example("countdown")
+    files = page.files("countdown")
+    page.click('#gutter [data-line="12"] button')
+    same(page.browser.run("return document.querySelector('#gutter [data-line=\"12\"]').className.includes('break')"), True)
+    shown = page.click("#to-break")
+    wanted = page.debugged(files, ["break Countdown.main()V 3", "run 1000000", "stack 0", "quit"]).split("\n")
+    same(wanted[1], "ran 3: at breakpoint 0 thread 0")
+    same((shown["at"], shown["threads"][0]["lines"]), (6, wanted[2:5]))
+    holds("at breakpoint 0 thread 0" in shown["status"], "the breakpoint isn't told")
+    same(page.click("#to-break")["output"], "3\n")
+    page.click('#gutter [data-line="12"] button')
+    page.click("#to-break")
+    holds("No breakpoint" in page.browser.run("return $('status').textContent"), "no breakpoint isn't told")
+
+
+def tried_settings(page):
+    page.example("workers")
+    page.browser.run("$('small').value = 12; $('medium').value = 0; $('large').value = 0; $('small').dispatchEvent(new Event('change'))")
+    page.until("!page.busy && page.view && page.view.cells.length === 12")
+    page.browser.run("$('gc').value = 3")
+    same(page.click("#round")["at"], 4, "a round with three turns of the collector")
+    page.browser.run("$('steps').value = 10; $('steps').dispatchEvent(new Event('change'))")
+    time.sleep(0.6)
+    holds("step limit" in page.click("#run")["status"], "the limit isn't told")
+    same(page.settled()["at"], 10)
+    page.browser.run("$('small').value = 1; $('steps').value = 1000000; $('small').dispatchEvent(new Event('change'))")
+    page.until("$('refusal').textContent.includes('P1')")
+    page.browser.run("$('small').value = 8; $('medium').value = 2; $('large').value = 1; $('gc').value = 1; $('small').dispatchEvent(new Event('change'))")
+    page.until("!page.busy && page.view && page.view.cells.length === 11")
+    same(page.browser.run("return $('refusal').textContent"), "")
+
+
+def tried_refusals(page):
+    page.example("countdown")
+    page.browser.run("$('text').value = $('text').value.replace('ifgt Again', 'ifgt Gone'); $('text').dispatchEvent(new Event('input'))")
+    page.until("$('refusal').textContent.includes('J5 at line 15')")
+    shown = page.settled()
+    same(shown["refused"], 15, "the refused line")
+    holds("A label is given twice" in shown["refusal"], "what the code means isn't told")
+    page.picture("refusal")
+    page.browser.run("$('text').value = $('text').value.replace('ifgt Gone', 'ifgt Again'); $('text').dispatchEvent(new Event('input'))")
+    page.until("!page.busy && page.view && $('refusal').textContent === ''")
+    for text, code in ((".class X\n.super Y\n", "L"), ("\u00e9\n", "J8"), ("", "J"), (".class public X\n.super java/lang/Object\n", "L")):
+        page.take(text)
+        holds(re.search(rf"\b{code}\d*", page.settled()["refusal"]), f"no {code} is told of {text!r}: {page.settled()['refusal']!r}")
+    same(page.example("sum")["refusal"], "", "the page is usable after refusals")
+
+
+def tried_markup(page):
+    page.take(MARKUP)
+    shown = page.click("#run")
+    same(shown["output"], "<img src=x onerror=alert(1)><b>&amp;")
+    same(page.browser.run("return document.querySelectorAll('#output *').length"), 0, "elements made of output")
+    page.take("; </script><script>alert(1)</script>\n" + MARKUP, name="<b>x</b>.j")
+    same(page.browser.run("return document.querySelectorAll('#tabs b').length"), 0, "elements made of a name")
+
+
+def tried_link(page):
+    page.example("Square")
+    page.browser.run("$('small').value = 9; $('small').dispatchEvent(new Event('change'))")
+    page.until("!page.busy && page.view && page.view.cells.length === 12")
+    page.click("#round")
+    page.click("#thread")
+    wanted = page.click("#collect")
+    page.click("#back")
+    page.browser.click("#link")
+    page.until("location.hash.startsWith('#run=')")
+    fragment = page.browser.run("return location.hash")
+    page.open(fragment)
+    shown = page.settled()
+    same((shown["at"], shown["total"]), (wanted["at"] - 1, wanted["total"]))
+    shown = page.click("#end")
+    for part in ("threads", "cells", "statics", "journal", "phase"):
+        same(shown[part], wanted[part], part)
+    page.open("#run=AAAA")
+    holds(page.settled()["state"], "after a damaged link there is no machine")
+
+
+def dropped(page, *paths):
+    files = []
+    for path in paths:
+        with open(path, "rb") as file:
+            files.append([os.path.basename(path), base64.b64encode(file.read()).decode()])
+    page.later("""
+        const files = new DataTransfer();
+        for (const [name, text] of arguments[0]) files.items.add(new File([Uint8Array.from(atob(text), (it) => it.charCodeAt(0))], name));
+        document.dispatchEvent(new DragEvent("drop", { dataTransfer: files, bubbles: true, cancelable: true }));
+        setTimeout(() => done(0), 100);""", files)
+    return page.settled()
+
+
+def tried_files(page):
+    classes = f"{ROOT}/examples/java"
+    names = sorted(it for it in os.listdir(classes) if it.startswith("Edges") and it.endswith(".class"))
+    shown = dropped(page, *(f"{classes}/{it}" for it in names))
+    same(shown["refusal"], "")
+    page.browser.run("$('small').value = 200; $('medium').value = 100; $('large').value = 40; $('small').dispatchEvent(new Event('change'))")
+    page.until("!page.busy && page.view && page.view.cells.length === 340")
+    shown = page.click("#run")
+    with open(f"{classes}/Edges.out", encoding="ascii") as file:
+        same(shown["output"], file.read(), "output of class files")
+    holds(page.browser.run("return $('listing').textContent").startswith(".class"), "a class file has no listing")
+    page.example("D")
+    shown = dropped(page, f"{ROOT}/examples/D.journal")
+    with open(f"{ROOT}/examples/D.journal", encoding="ascii") as file:
+        rows = [line for line in file.read().split("\n")[3:] if line and not line.startswith("end")]
+    same((shown["at"], shown["state"]["status"]), (len(rows), "finished"), "a journal")
+    page.example("countdown")
+    shown = dropped(page, f"{ROOT}/examples/D.journal")
+    holds("isn't one of this program" in shown["status"], "a journal of another program is taken")
+    page.browser.keys(f"{ROOT}/examples/Square.j\n{ROOT}/examples/Shape.j", "#files")
+    page.until("!page.busy && page.sources.length === 2 && page.view")
+    same(page.settled()["refusal"], "")
+    shown = dropped(page, f"{ROOT}/README.md")
+    holds("Refused" in shown["refusal"], "a text that is none isn't refused")
+
+
+def tried_heap(page):
+    page.take(page.browser.run("return LESSONS[1].sources[0].text"), name="List.j", medium=0, large=0)
+    page.browser.run("$('gc').value = 0; $('many').value = 10")
+    page.click("#rounds")
+    page.browser.run("$('gc').value = 1")
+    page.click('#heap [data-cell="2"]')
+    text = page.browser.run("return $('object').textContent")
+    holds("#3" in text and "List" in text, f"the cell isn't shown: {text!r}")
+    same(page.browser.run("return document.querySelectorAll('#heap .arrow').length"), 1, "arrows of a cell")
+    page.browser.click("#arrows")
+    holds(page.browser.run("return document.querySelectorAll('#heap .arrow').length") >= 1, "no arrows")
+    page.picture("heap")
+    page.browser.click("#arrows")
+
+
+def tried_timeline(page):
+    page.example("workers")
+    page.browser.run("$('small').value = 12; $('medium').value = 0; $('large').value = 0; $('small').dispatchEvent(new Event('change'))")
+    page.until("!page.busy && page.view && page.view.cells.length === 12")
+    total = page.click("#run")["total"]
+    page.browser.click("#draw")
+    page.until("document.querySelector('#timeline svg')")
+    page.settled()
+    holds(f"row {total}" in page.browser.run("return document.querySelector('#timeline svg').textContent"), "the timeline has no end")
+    page.later("const svg = document.querySelector('#timeline svg'), box = svg.getBoundingClientRect(); svg.dispatchEvent(new MouseEvent('click', {clientX: box.left + box.width / 2, bubbles: true})); setTimeout(() => done(0), 200)")
+    at = page.settled()["at"]
+    holds(abs(at - total / 2) < total * 0.05, f"a click into the middle goes to row {at} of {total}")
+    text = page.browser.run("return document.querySelector('#timeline svg').outerHTML")
+    holds(text.startswith('<svg xmlns="http://www.w3.org/2000/svg"'), "it can't stand by itself as SVG")
+    page.picture("timeline")
+
+
+def tried_long_runs(page):
+    page.take(COUNTER_LOOP)
+    page.browser.run("$('steps').value = 16777215; $('steps').dispatchEvent(new Event('change'))")
+    time.sleep(0.6)
+    page.settled()
+    page.browser.run("$('many').value = 500000")
+    page.click("#rounds")
+    same(page.settled()["total"], 1000000, "a run of a million rows")
+    took = []
+    for row in (1, 999999, 500000, 750001, 250000):
+        took.append(page.later("const began = performance.now(); go(arguments[0]).then(() => done(performance.now() - began))", row))
+    print(f"page: seeks in a run of a million rows: {', '.join(f'{it:.0f} ms' for it in took)}", flush=True)
+    holds(max(took) < 500, f"a seek took {max(took):.0f} ms")
+    page.later("window.waited = []; page.machine.ask(inputOf(setting(), Array(400).fill('rounds 40000 1')), (n) => waited.push(n)).catch((it) => waited.push(it.message)); setTimeout(() => done(0), 250)")
+    holds(page.browser.run("return waited.length") > 0, "a long run doesn't tell how far it is")
+    page.browser.run("page.machine.stop()")
+    page.until("waited.includes('stopped')")
+    page.browser.run("go(0); document.getElementById('run').disabled = false; rounds(16000000)")
+    page.browser.run("page.machine.stop()")
+    same(page.go(0)["at"], 0, "the page is usable after a stop")
+    page.browser.run("$('steps').value = 1000000; $('steps').dispatchEvent(new Event('change'))")
+    time.sleep(0.6)
+    page.settled()
+
+
+def tried_lessons(page):
+    page.browser.click("#show-lessons")
+    wanted = [("What a turn is", "threads"), ("The three colours", "heap"), ("Why there is a write barrier", "heap"), ("A lost update", "statics"), ("A deadlock", "threads")]
+    for number, (title, look) in enumerate(wanted, 1):
+        page.browser.click(f"#lesson-titles button:nth-child({number})")
+        time.sleep(0.2)
+        shown = page.settled()
+        same(shown["refusal"], "", title)
+        same(page.browser.run("return $('lesson-title').textContent"), title)
+        same(page.browser.run("return document.querySelector('.look').id"), look)
+        page.picture(f"lesson {number}")
+        if title == "Why there is a write barrier":
+            same(re.findall("#3 (\\w+)", " ".join(shown["cells"])), ["white"], "before the write")
+            page.click("#thread")
+            same(re.findall("#3 (\\w+)", " ".join(page.click("#thread")["cells"])), ["grey"], "after the load")
+            for _ in range(3):
+                shown = page.click("#thread")
+            same(shown["statics"], ["Moved.early = #3"], "after the write")
+            for _ in range(40):
+                shown = page.click("#collect")
+                holds("#3" in " ".join(shown["cells"]), "#3 is lost")
+        if title == "A lost update":
+            same(shown["statics"], ["Counter.count = 1"], title)
+        if title == "A deadlock":
+            same(shown["state"]["status"], "stuck", title)
+            page.click("#start")
+            for _ in range(15):
+                shown = page.key("0")
+            same(page.click("#run")["state"]["status"], "finished", "the other way")
+    page.browser.click("#show-lessons")
+
+
+LOOKS = ["state", "threads", "held", "statics", "heap", "output"]
+SESSIONS = (
+    ["methods", "listing 0", "listing 9", *LOOKS, "rounds 5 1", *LOOKS, "step 0", "gc", "step 200", *LOOKS, "object 1", "object 3", "rounds 100000 2", *LOOKS, "rows 0 50", "rows 40 3", "journal"],
+    ["rounds 7 0", "state", "gc", "state", "rounds 100000 1", "state", "threads", "journal", "bad", "rounds 1", "rows 1", "listing", ""],
+    ["break Countdown.main()V 3", "run 1000", *LOOKS, "run 1000", "delete 0", "run 1000000", *LOOKS, "quit", "state"],
+)
+
+
+def tried_sessions(page):
+    """The native program and the page's machine give the same bytes."""
+    if not os.access(page.playground, os.X_OK):
+        raise Skipped(f"no {page.playground}")
+    names = page.browser.run("return Object.keys(DATA.examples)")
+    count = 0
+    for name in names:
+        files = page.browser.run("return DATA.examples[arguments[0]]", name)
+        head = "heap 8 2 1\nlimits 100000 1000\n" + f"sources {len(files)}\n" + "".join(f"source {len(it['text'])}\n{it['text']}" for it in files)
+        for lines in SESSIONS:
+            given = head + "\n".join(lines)
+            ran = subprocess.run([page.playground], input=given.encode(), capture_output=True, timeout=LIMIT, check=False)
+            seen = page.later("page.machine.ask(encoder.encode(arguments[0])).then((it) => done([it.status, String.fromCharCode(...it.output)]))", given)
+            same(seen, [ran.returncode, ran.stdout.decode("latin-1")], f"{name}: {lines[0]} ..")
+            count += 1
+    for given in ("", "heap 8 2 1\n", "heap 8 2 1\nlimits 5 5\nsources 1\nsource 9\nabc", "heap 1 0 0\nlimits 5 5\nsources 0\n"):
+        ran = subprocess.run([page.playground], input=given.encode(), capture_output=True, timeout=LIMIT, check=False)
+        seen = page.later("page.machine.ask(encoder.encode(arguments[0])).then((it) => done([it.status, String.fromCharCode(...it.output)]))", given)
+        same(seen, [ran.returncode, ran.stdout.decode("latin-1")], repr(given))
+        count += 1
+    print(f"page: {count} sessions gave the same bytes as the native program", flush=True)
+
+
+def tried_reading(page):
+    """What a screen reader needs, and other ways to look."""
+    unnamed = page.browser.run("""
+        const named = (it) => it.getAttribute("aria-label") || it.labels?.length || it.textContent.trim() || it.getAttribute("title");
+        return [...document.querySelectorAll("button, input:not([hidden]), select, textarea, [role]")].filter((it) => !named(it) && it.getAttribute("role") !== "alert" && it.getAttribute("role") !== "status").map((it) => it.outerHTML.slice(0, 100));""")
+    same(unnamed, [], "elements without a name")
+    page.example("workers")
+    page.browser.run("$('many').value = 60")
+    page.click("#rounds")
+    page.picture("light")
+    low = page.browser.run(CONTRAST)
+    same(low, [], "too little contrast, light")
+    page.browser.media({"prefers-color-scheme": "dark"})
+    page.picture("dark")
+    same(page.browser.run(CONTRAST), [], "too little contrast, dark")
+    page.browser.media({"prefers-color-scheme": "light"})
+    page.browser.command("Emulation.setDeviceMetricsOverride", {"width": 700, "height": 900, "deviceScaleFactor": 2, "mobile": False})
+    holds(page.browser.run("return document.documentElement.scrollWidth <= 700"), "at 200 % it must be scrolled sideways")
+    page.picture("at 200 percent")
+    page.browser.command("Emulation.clearDeviceMetricsOverride", {})
+
+
+# words whose colour stands out too little from what is behind it (WCAG 2, 4.5 to 1)
+CONTRAST = """
+const rgb = (text) => text.match(/[\\d.]+/g).map(Number);
+const light = ([r, g, b]) => { const [x, y, z] = [r, g, b].map((it) => (it /= 255) <= 0.03928 ? it / 12.92 : ((it + 0.055) / 1.055) ** 2.4); return 0.2126 * x + 0.7152 * y + 0.0722 * z; };
+const behind = (it) => { for (; it; it = it.parentElement) { const c = rgb(getComputedStyle(it).backgroundColor); if (c.length === 3 || c[3] > 0.5) return c; } return [255, 255, 255]; };
+const found = [];
+for (const it of document.querySelectorAll("body *")) {
+  if (![...it.childNodes].some((node) => node.nodeType === 3 && node.textContent.trim()) || it.closest("svg, script, [hidden], :disabled, option") || !it.getClientRects().length) continue;
+  const a = light(rgb(getComputedStyle(it).color)), b = light(behind(it));
+  const ratio = (Math.max(a, b) + 0.05) / (Math.min(a, b) + 0.05);
+  if (ratio < 4.5) found.push(`${it.tagName} ${it.className} ${it.textContent.slice(0, 20)} ${ratio.toFixed(2)}`);
+}
+return found.slice(0, 5);
+"""
+
+
+def tests(page):
+    """Each test with its name."""
+    names = page.browser.run("return Object.keys(DATA.examples)")
+    yield from ((f"example {name}", lambda name=name: tried_example(page, name)) for name in names if name not in ("missing_operand",))
+    yield "a fault", lambda: tried_example(page, "missing_operand")
+    for name, test in list(globals().items()):
+        if name.startswith("tried_") and name != "tried_example":
+            yield name[6:].replace("_", " "), lambda test=test: test(page)
+
+
+def messages(browser):
+    """What stands in the browser's console, but for what was to be there."""
+    return [it["message"] for it in browser.messages()]
+
+
+def tried(page, words):
+    """Each test that is wanted, and why it failed."""
+    for name, test in tests(page):
+        if words and not any(word in name for word in words):
+            continue
+        try:
+            test()
+            why = "; ".join(messages(page.browser)) or None
+        except Skipped as skipped:
+            why = skipped
+        except (Tried, RuntimeError, subprocess.SubprocessError, KeyError, ValueError, IndexError, TypeError) as error:
+            why = f"{type(error).__name__}: {error}" if not isinstance(error, Tried) else str(error)
+            page.open()
+        yield name, why
+
+
+def page_of(given, room):
+    """The page's path; where none is given, it is built."""
+    if given.page:
+        return os.path.abspath(given.page)
+    subprocess.run([sys.executable, f"{ROOT}/tools/page.py", f"{room}/page.html"], check=True)
+    return f"{room}/page.html"
+
+
+def main():
+    words = argparse.ArgumentParser(description=__doc__.split("\n")[0])
+    words.add_argument("--page")
+    words.add_argument("--jvm", default=f"{ROOT}/crates/jvm/out/jvm")
+    words.add_argument("--playground", default=f"{ROOT}/crates/playground/out/playground")
+    words.add_argument("--moments", type=int, default=40)
+    words.add_argument("--pictures")
+    words.add_argument("--port", type=int, default=9515)
+    words.add_argument("--after", metavar="LOG")
+    words.add_argument("words", nargs="*")
+    given = words.parse_args()
+    passed = failed = skipped = 0
+    if given.after:
+        with open(given.after, encoding="utf-8", errors="replace") as file:
+            last = file.read().rstrip("\n").split("\n")[-1]
+        passed, failed, skipped = (int(it or 0) for it in re.match(r"(\d+) passed, (\d+) failed(?:, (\d+) skipped)?", last).groups())
+    signal.signal(signal.SIGTERM, lambda number, _: sys.exit(128 + number))
+    if given.pictures:
+        os.makedirs(given.pictures, exist_ok=True)
+    with tempfile.TemporaryDirectory() as room:
+        try:
+            with contextlib.closing(Browser(given.port)) as browser:
+                page = Page(browser, page_of(given, room), os.path.abspath(given.jvm), room, given.moments, given.pictures)
+                page.playground = os.path.abspath(given.playground)
+                for name, why in tried(page, given.words):
+                    skips = isinstance(why, Skipped)
+                    passed, failed, skipped = passed + (not why), failed + (bool(why) and not skips), skipped + skips
+                    if why:
+                        print(f"page: {name}: {'skipped: ' if skips else ''}{why}", flush=True)
+        except NoBrowser:
+            skipped += 1
+            print("page: not tested, no browser")
+    print(f"{passed} passed, {failed} failed" + (f", {skipped} skipped" if skipped else ""))
+    return 1 if failed else 0
+
+
+if __name__ == "__main__":
+    sys.exit(main())
