@@ -137,7 +137,8 @@ class Maker:
 
     def uses(self):
         name = self.dice.choice("QR")
-        return self.dice.choice([[f"new {name}", "pop"], [f"getstatic {name}/v I", "putstatic P/x I"], ["iconst_3", f"putstatic {name}/v I"]])
+        return self.dice.choice([[f"new {name}", "pop"], [f"getstatic {name}/v I", "putstatic P/x I"],
+                                 ["iconst_3", f"putstatic {name}/v I"]])
 
     def call(self):
         return ["getstatic P/o LP;", "invokevirtual P/touch()V"]
