@@ -73,7 +73,8 @@ class Maker:
         self.wild = dice.random() < 0.4
         workers = dice.choice([1, 1, 1, 2])
         runs = [self.block(dice.randint(1, 3), 0) for _ in range(workers)]
-        self.texts = [self.program(runs), self.used("Q", "java/lang/Object", "R"), self.used("R", dice.choice(["java/lang/Object", "Q"]), "Q")]
+        above = dice.choice(["java/lang/Object", "Q"])
+        self.texts = [self.program(runs), self.used("Q", "java/lang/Object", "R"), self.used("R", above, "Q")]
 
     def label(self):
         self.labels += 1
@@ -81,7 +82,7 @@ class Maker:
 
     def program(self, runs):
         """The text of P: main starts as many threads as there are runs, each of which picks its own by a number that it takes."""
-        opening = [it for it in (f"new java/lang/Object\nputstatic P/{lock} Ljava/lang/Object;" for lock in "ab")]
+        opening = [f"new java/lang/Object\nputstatic P/{lock} Ljava/lang/Object;" for lock in "ab"]
         opening += ["new P\nputstatic P/o LP;"] * self.dice.randint(0, 1)
         starts = []
         for number in range(len(runs)):
@@ -136,7 +137,8 @@ class Maker:
 
     def uses(self):
         name = self.dice.choice("QR")
-        return self.dice.choice([[f"new {name}", "pop"], [f"getstatic {name}/v I", "putstatic P/x I"], [f"iconst_3", f"putstatic {name}/v I"]])
+        return self.dice.choice([[f"new {name}", "pop"], [f"getstatic {name}/v I", "putstatic P/x I"],
+                                 ["iconst_3", f"putstatic {name}/v I"]])
 
     def call(self):
         return ["getstatic P/o LP;", "invokevirtual P/touch()V"]
@@ -155,12 +157,14 @@ class Maker:
         return [f"{again}:", "getstatic P/x I", f"ifeq {again}"]
 
     def odd(self):
-        return self.dice.choice([["pop"], ["getstatic P/a Ljava/lang/Object;", "monitorexit"], ["getstatic P/a Ljava/lang/Object;", "checkcast P", "pop"],
+        """What throws or is at fault."""
+        return self.dice.choice([["pop"], [LOCKS["a"], "monitorexit"], [LOCKS["a"], "checkcast P", "pop"],
                                  ["getstatic P/t LP;", "invokevirtual P/start()V"], ["iload_1", "pop"]])
 
     def for_ever(self):
         again = self.label()
-        does = self.dice.choice([["new java/lang/Object", "pop"], ["getstatic P/x I", PRINT], ["getstatic P/y I", "iconst_1", "ixor", "putstatic P/y I"]])
+        does = self.dice.choice([["new java/lang/Object", "pop"], ["getstatic P/x I", PRINT],
+                                 ["getstatic P/y I", "iconst_1", "ixor", "putstatic P/y I"]])
         return [f"{again}:", *does, f"goto {again}"]
 
     def locked(self, depth):
@@ -173,7 +177,8 @@ class Maker:
         lines, rows = self.block(1, depth + 1)
         what = self.dice.choice(["all", "java/lang/RuntimeException", "java/lang/Error", "java/lang/OutOfMemoryError"])
         row = f".catch {what} from {start} to {end} using {handler}"
-        return [f"{start}:", *lines, f"{end}:", f"goto {past}", f"{handler}:", "pop", "iconst_m1", "putstatic P/y I", f"{past}:"], [*rows, row]
+        handles = [f"goto {past}", f"{handler}:", "pop", "iconst_m1", "putstatic P/y I", f"{past}:"]
+        return [f"{start}:", *lines, f"{end}:", *handles], [*rows, row]
 
 
 def made_up(dice, room):
@@ -191,8 +196,8 @@ def made_up(dice, room):
 
 # ---- what `jvm explore` reports
 
-ENDS = rb"(?:thread \d+ ended by [^\n]*\n)*"
-HEADS = re.compile(rb"outcome (\d+): (finished|stuck|output limit|fault F(\d+) in thread (\d+))\n(" + ENDS + rb")turns (\d+)\noutput (\d+)\n")
+HOW, ENDS = rb"(finished|stuck|output limit|fault F(\d+) in thread (\d+))", rb"((?:thread \d+ ended by [^\n]*\n)*)"
+HEADS = re.compile(rb"outcome (\d+): " + HOW + rb"\n" + ENDS + rb"turns (\d+)\noutput (\d+)\n")
 LAST = re.compile(rb"explored (\d+) states, (\d+) turns: (complete|cut off: (?:states|memory|depth))\n")
 
 

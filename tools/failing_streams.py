@@ -8,8 +8,8 @@ input and output, and of what is printed no more than a beginning:
 
 - **System calls.** A library that is loaded before the C library counts the calls `open`, `read` and `write`, lets one of them fail,
   and lets the others move a byte at a time. So a call fails at each byte of each file and stream. Without a failing call a byte at a
-  time changes nothing, and no more does a call that a signal interrupts; but the debugger's input and output and the report of `explore` count such a call as
-  failed.
+  time changes nothing, and no more does a call that a signal interrupts; but the debugger's input and output, and the report of
+  `explore`, count such a call as failed.
 - **Sessions of the debugger**: beside that, which answers there are before a read fails.
 - **Real ones**: a full device, a pipe that nobody reads, streams that are closed, folders, files that aren't there.
 

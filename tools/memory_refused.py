@@ -11,9 +11,10 @@ The requests of a whole run of a command are counted, and then the command is ru
   the room that it expects, and where that is refused for as much as it needs; `replay` makes the rows one by one where it has no
   memory to make them in rounds.
 
-An exploration that has begun is cut off for memory instead, with status 4, having reported outcomes that it reports else. Where threads are started, the request of each start ends with `jvm: no thread`; and so does each start that the system refuses. Of
-commands that begin alike only the first is tried from its first request on, but with --all. Those that fail have to be refused in the
-same way. It wants a C compiler, `cc`. The last line is 'N passed, M failed'. For run_examples.py, too, which gets a result for each command.
+An exploration that has begun is cut off for memory instead, with status 4, having reported outcomes that it reports else. Where threads
+are started, the request of each start ends with `jvm: no thread`; and so does each start that the system refuses. Of commands that begin
+alike only the first is tried from its first request on, but with --all. Those that fail have to be refused in the same way. It wants a C
+compiler, `cc`. The last line is 'N passed, M failed'. For run_examples.py, too, which gets a result for each command.
 """
 import argparse
 import os

@@ -190,6 +190,11 @@ fn write_witnesses<F: Files>(
 
 // ---- the report
 
+/// The end where standard output can't be written.
+fn not_written(alloc: Global) -> Ending {
+    Ending::reported(Exit::System, format!(in alloc; "cannot write -"))
+}
+
 /// Writes the report of an exploration.
 fn write_report<W: Write>(
     alloc: Global,
@@ -197,11 +202,12 @@ fn write_report<W: Write>(
     output: &mut W,
 ) -> Result<(), Ending> {
     let mut sink = Counted::new(output);
-    let written = put_report(&mut sink, explored);
-    if written.is_ok() && sink.flush().is_ok() {
-        Ok(())
-    } else {
-        Err(Ending::reported(Exit::System, format!(in alloc; "cannot write -")))
+    match put_report(&mut sink, explored) {
+        Ok(()) => match sink.flush() {
+            Ok(()) => Ok(()),
+            Err(_) => Err(not_written(alloc)),
+        },
+        Err(_) => Err(not_written(alloc)),
     }
 }
 

@@ -1,5 +1,5 @@
 -- Texts that are written one after another.
-use Rattle.std.proofs.Common.{◌≡◌, ℕ, suc, List, [], ◌∷◌, ◌++◌, ◌∙◌, ◌<◌, ◌+◌, Option, Result, Ok, Err, add-one, drop, get_or, length, refl, slice_index_or, sym, ap}
+use Rattle.std.proofs.Common.{◌≡◌, ℕ, suc, List, ◌++◌, ◌∙◌, ◌<◌, ◌+◌, Option, Result, Ok, Err, add-one, drop, get_or, length, refl, slice_index_or, sym, ap}
 use Rattle.std.proofs.lemmas.List.{append_assoc}
 use Rattle.std.proofs.Math.Seq.{drop-cons}
 use Rattle.std.specs.Io.KnownBytes.{Appends}

@@ -1,4 +1,4 @@
-use Rattle.std.specs.Prelude.{ℕ, List, ◌∷◌, [], ◌++◌, codes}
+use Rattle.std.specs.Prelude.{ℕ, List, ◌++◌, codes}
 use Rattle.std.specs.Fmt.{decimal}
 use Rattle.ideal_run.specs.declared.effects.Choice.{Choice}
 use Rattle.ideal_run.specs.declared.effects.Choice.TheVariants.{NewObject, NoRoom}

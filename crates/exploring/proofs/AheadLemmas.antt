@@ -1,4 +1,4 @@
-use Rattle.std.proofs.Common.{◌≡◌, inl, inr, ℕ, zero, suc, ◌+◌, ℤ, arith, List, [], ◌∷◌, ◌++◌, drop, length, replicate, slice_get, is_some, nat_le}
+use Rattle.std.proofs.Common.{◌≡◌, ◌<◌, ◌≤◌, inl, inr, ℕ, zero, suc, ◌+◌, ℤ, arith, IfOk, IfSome, List, [], ◌∷◌, ◌++◌, drop, length, replicate, slice_get, is_some, nat_le}
 use Rattle.std.proofs.Common.{Bool, true, false, if◌then◌else◌}
 use Rattle.std.proofs.Common.{Option, Some, None, Result, Ok, Err, refl, sym, ◌∙◌, ap, subst}
 use Rattle.model.specs.declared.instructions.Instruction.TheVariants.{Nop, Constant, Local, Stack, Number, Branch}
@@ -58,7 +58,7 @@ use Rattle.exploration.specs.ReducedRuns.{pairs_in}
 use Rattle.exploration.specs.Reduction.{GoesAhead, PlainStep, moved_in, plain_at, plain_by, plain_step, plainly}
 use Rattle.exploration.specs.Reduction.GoesAhead.{stays, steps}
 use Rattle.exploration.proofs.PlainSteps.{plain_next}
-use Rattle.exploring.specs.Ahead.{IsPlainTurn, WentAhead, WentOn, is_plain}
+use Rattle.exploring.specs.Ahead.{IsPlainTurn, IsQuietTurn, WentAhead, WentOn, WentUpTo, is_plain}
 
 -- a turn of a plain instruction that neither throws nor is at fault is a plain step
 
@@ -296,6 +296,46 @@ module _ (s : Transitions) (w : World) (t : ℕ) where
       let asks = none_asked (asked s.program w t) (sym (ap (λ (y : Successor). y.asks) is) ∙ quiet) in
       let k = is_step s.program w t fs f live runs i unmarked stands kind a.world after asks clean in
       record { frames = fs; others = k.0; live = live; step = k.1; is = k.2 }
+
+-- a fault is none where a test says so
+pub no_fault : (w : World) (o : Option (Fault × ℕ)) (b : Bool) → o ≡ w.fault → b ≡ is_some o → b ≡ false → w.fault ≡ None
+no_fault w None b is some no_more = sym is
+no_fault w (Some fault) b is some no_more = absurd (let both : true ≡ false = sym some ∙ no_more in cc)
+
+pub quiet_is : (s : Transitions) (w : World) (t : ℕ) (f : Frame) (i : Placed) (v : World)
+    → running (frames_at w t) ≡ Some f → f.mark ≡ Unmarked → instruction_of s.program f ≡ Some i
+    → is_plain i.instruction ≡ true → IsQuietTurn s w t v → IsPlainTurn s.program w t v
+quiet_is s w t f i v runs unmarked stands kind q =
+    plain_turn_is s w t f i (record { world = v; asks = false }) runs unmarked stands kind q.0 refl q.1
+
+-- if there is one
+pub quiet_one : (s : Transitions) (w : World) (t : ℕ) (f : Frame) (i : Placed) (o : Option World)
+    → running (frames_at w t) ≡ Some f → f.mark ≡ Unmarked → instruction_of s.program f ≡ Some i
+    → is_plain i.instruction ≡ true → IfSome o (IsQuietTurn s w t) → IfSome o (IsPlainTurn s.program w t)
+quiet_one s w t f i None runs unmarked stands kind q = tt
+quiet_one s w t f i (Some v) runs unmarked stands kind q = quiet_is s w t f i v runs unmarked stands kind q
+
+pub quiet_all : {E : Type 0} (s : Transitions) (w : World) (t : ℕ) (f : Frame) (i : Placed) (r : Result (Option World) E)
+    → running (frames_at w t) ≡ Some f → f.mark ≡ Unmarked → instruction_of s.program f ≡ Some i
+    → is_plain i.instruction ≡ true → IfOk r (λ o. IfSome o (IsQuietTurn s w t))
+    → IfOk r (λ o. IfSome o (IsPlainTurn s.program w t))
+quiet_all s w t f i (Ok o) runs unmarked stands kind q = quiet_one s w t f i o runs unmarked stands kind q
+quiet_all s w t f i (Err e) runs unmarked stands kind q = tt
+
+pub up_to_none : (program : List ClassListing) (t most : ℕ) (w v : World) (n : ℕ) → WentAhead program t n w v → n < most
+    → WentUpTo program t most w v n
+up_to_none program t most w v n went l = record { went = went; few = omega (arith, l) }
+
+pub up_to_most : (program : List ClassListing) (t most : ℕ) (w v : World) (n : ℕ) → WentAhead program t n w v → most ≤ n
+    → n ≤ most → WentUpTo program t most w v most
+up_to_most program t most w v n went l m =
+    (let same : n ≡ most = omega (arith, l, m) in
+    record { went = subst (λ (k : ℕ). WentAhead program t k w v) same went; few = omega arith })
+
+pub went_on : (program : List ClassListing) (t room most : ℕ) (w v : World) (n : ℕ) → most ≤ room
+    → WentUpTo program t most w v n → w.fault ≡ None → WentOn program t room w v n
+went_on program t room most w v n l went clean =
+    (let few = went.few in record { went = went.went; few = omega (arith, few, l); clean = inl clean })
 
 pub went_not : (program : List ClassListing) (t most : ℕ) (w : World) → WentOn program t most w w 0
 went_not program t most w = record { went = goes_nowhere program t w; few = omega arith; clean = inr (refl, refl) }

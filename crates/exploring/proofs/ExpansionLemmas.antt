@@ -1,5 +1,5 @@
 use Rattle.std.proofs.Common.{◌≡◌, inl, inr, ℕ, zero, suc, ◌+◌, ◌-◌, ◌<◌, ◌≤◌, arith, List, [], ◌∷◌, ◌++◌, length, map, replicate, reverse}
-use Rattle.std.proofs.Common.{slice_get, is_some, Bool, true, false, ◌&&◌, Option, Some, None, refl, sym, ◌∙◌, ap, subst}
+use Rattle.std.proofs.Common.{slice_get, is_some, Bool, true, false, ◌&&◌, ◌||◌, Option, Some, None, refl, sym, ◌∙◌, ap, subst}
 use Rattle.std.proofs.Common.{if◌then◌else◌}
 use Rattle.std.proofs.lemmas.Bool.{cases_lt}
 use Rattle.std.proofs.lemmas.List.{append_assoc, length-append, length-map, length-replicate, map-append, reverse-append}
@@ -506,3 +506,9 @@ module _ (program : List ClassListing) (limits : Limits) (no_room : Bool) (x : W
       all_moves : (b : Bool) → MovesBelow program limits x n b → SomeMoves program limits x b
       all_moves true p = p
       all_moves false p = λ t q. elim (cases_lt t n) [ | inl before ↦ p t before q | inr after ↦ nobody t after q ]
+
+pub either_is : (a b : Bool) → (a || b) ≡ (if b then true else a)
+either_is true true = refl
+either_is true false = refl
+either_is false true = refl
+either_is false false = refl

@@ -1,6 +1,6 @@
 use Rattle.std.proofs.Common.{◌≡◌, ◌⊎◌, inl, inr, ℕ, zero, suc, ◌+◌, ◌<◌, ◌≤◌, arith, List, [], ◌∷◌, ◌++◌, length, map, drop}
 use Rattle.std.proofs.Common.{slice_get, is_none, nat_le, not, ◌&&◌, ◌||◌, Bool, true, false, if◌then◌else◌, Option, Some, None, refl, sym}
-use Rattle.std.proofs.Common.{◌∙◌, ap, subst, option_to_list, MatchOption}
+use Rattle.std.proofs.Common.{◌∙◌, ap, subst}
 use Rattle.std.specs.List.{list_any}
 use Rattle.std.specs.Str.{bytes_eq}
 use Rattle.std.proofs.lemmas.Bool.{cases_lt}
@@ -32,7 +32,7 @@ use Rattle.exploration.proofs.Witnesses.{opening_is_witnessed}
 use Rattle.exploring.specs.declared.explored.Move.{Move}
 use Rattle.exploring.specs.declared.origins.Origin.{Origin}
 use Rattle.exploring.specs.declared.search.Waiting.{Waiting}
-use Rattle.exploring.specs.Expansion.{AreTraced, ExpandsAll, Grows, HasKnown, IsTraced, Search, SomeMoves, Takes, kept, world_of}
+use Rattle.exploring.specs.Expansion.{AreTraced, ExpandsAll, Grows, HasKnown, IsTraced, Search, SomeMoves, kept, world_of}
 use Rattle.exploring.specs.Explorations.{AreSound, Exploration, Finding, HasAll, IsAt, IsBefore, IsFurther, IsOnItsWay, IsOnce}
 use Rattle.exploring.specs.Explorations.{Lists, Outcomes, finding, key_of, noted, outcome_of}
 use Rattle.exploring.specs.Keys.{outcome}
@@ -259,18 +259,6 @@ begins program limits no_room e has waits none = record {
     nothing_yet (f ∷ found) k = absurd (cc)
 
 -- ---- the next state is taken, or none waits
-
-nothing_left : (xs : List Waiting) → length xs ≡ 0 → xs ≡ []
-nothing_left [] e = refl
-nothing_left (x ∷ xs) e = absurd (cc)
-
-pub takes : (old new : Search) (r : Option Waiting) (before : List Waiting) (long longer : ℕ) → long ≡ length before
-    → before ≡ option_to_list r ++ new.waiting → MatchOption r ((long ≡ 0) × (longer ≡ 0)) (λ s. longer + 1 ≡ long)
-    → old ≡ record new { waiting = before } → Takes old new r
-takes old new None before long longer size is none all =
-    ap (λ (s : Search). s.waiting) all ∙ nothing_left before (sym size ∙ none.0)
-takes old new (Some s) before long longer size is some all =
-    all ∙ ap (λ (ws : List Waiting). let x : Search = record new { waiting = ws } in x) is
 
 drop_one : (xs : List World) (n : ℕ) (y : World) (ys : List World) → y ∷ ys ≡ drop n xs
     → (slice_get xs n ≡ Some y) × (ys ≡ drop (n + 1) xs)

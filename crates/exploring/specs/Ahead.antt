@@ -9,6 +9,7 @@ use Rattle.model.specs.Effects.Choice.{NewObject}
 use Rattle.model.specs.Table.Next.{Listed}
 use Rattle.model.specs.Worlds.{World, with_thread}
 use Rattle.model.specs.Worlds.Thread.{Live}
+use Rattle.ideal_run.specs.Successors.{Transitions, successor}
 use Rattle.exploration.specs.ClosedLists.{pair_of}
 use Rattle.exploration.specs.ReducedRuns.{pairs_in}
 use Rattle.exploration.specs.Reduction.{GoesAhead, PlainStep}
@@ -46,6 +47,15 @@ pub record IsPlainTurn (program : List ClassListing) (w : World) (t : ℕ) (afte
   pub live : slice_get w.threads t ≡ Some (Live frames)
   pub step : PlainStep program frames others
   pub is : after ≡ with_thread w t (Live others)
+
+-- what a turn leaves that neither asks for a cell nor is at fault
+abbrev pub IsQuietTurn : Transitions → World → ℕ → World → Type 0
+IsQuietTurn s w t v = (Some (record { world = v; asks = false }) ≡ successor s w t NewObject) × (v.fault ≡ None)
+
+-- a thread has made some of so many plain steps
+pub record WentUpTo (program : List ClassListing) (t most : ℕ) (w v : World) (n : ℕ) : Type 0 where
+  pub went : WentAhead program t n w v
+  pub few : n ≤ most
 
 -- a thread has gone as far as it may, and not at all after a fault
 pub record WentOn (program : List ClassListing) (t most : ℕ) (w v : World) (n : ℕ) : Type 0 where

@@ -36,7 +36,7 @@ kept s state origin = record s { origins = s.origins ++ origin ∷ []; waiting =
 
 -- the first that waited doesn't any longer
 abbrev pub Takes : Search → Search → Option Waiting → Type 0
-Takes old new None = old.waiting ≡ []
+Takes old new None = (old.waiting ≡ []) × (new.origins ≡ old.origins)
 Takes old new (Some s) = old ≡ record new { waiting = s ∷ new.waiting }
 
 -- ---- what is known of states

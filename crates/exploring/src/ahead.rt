@@ -1,6 +1,6 @@
 //! Going ahead: after a thread's turn, the plain steps of the same thread, to which no schedule matters.
 ghost use Rattle.std.specs.Prelude.{◌≡◌, IfOk, IfSome};
-ghost use Rattle.exploring.specs.Ahead.{IsPlainTurn, WentOn, is_plain};
+ghost use Rattle.exploring.specs.Ahead.{IsPlainTurn, IsQuietTurn, WentOn, WentUpTo, is_plain};
 
 use ideal_run::worlds::{World, running};
 use ideal_run::{Choice, Transitions};
@@ -36,6 +36,27 @@ fn is_plain(instruction: &Listed) -> bool
     }
 }
 
+/// What a thread's turn leaves, if it neither asks for a cell nor is at fault. `AllocError` where memory runs out, or a
+/// number has no room.
+fn quiet_turn(
+    transitions: &Transitions<'_>,
+    world: &World,
+    thread: u8,
+) -> Result<Option<World>, AllocError>
+    ensures { IfOk result (λ after. IfSome after (IsQuietTurn transitions.now world.now thread)) }
+{
+    let Some(made) = transitions.successor(world, thread, Choice::NewObject)? else {
+        return Ok(None);
+    };
+    if made.asks {
+        return Ok(None);
+    }
+    if made.world.fault().is_some() {
+        return Ok(None);
+    }
+    Ok(Some(made.world))
+}
+
 /// What a plain step of a thread leaves, if that is what it makes next. `AllocError` where memory runs out, or a number
 /// has no room.
 fn plain_turn(
@@ -55,16 +76,29 @@ fn plain_turn(
     let Some(placed) = transitions.instruction_of(frame) else {
         return Ok(None);
     };
-    if !is_plain(&placed.instruction) {
-        return Ok(None);
+    if is_plain(&placed.instruction) {
+        return quiet_turn(transitions, world, thread);
     }
-    let Some(made) = transitions.successor(world, thread, Choice::NewObject)? else {
-        return Ok(None);
-    };
-    if made.asks || made.world.fault().is_some() {
-        return Ok(None);
+    Ok(None)
+}
+
+/// The world after the plain steps of a thread, and how many there were: all, or so many.
+fn steps_ahead(
+    transitions: &Transitions<'_>,
+    world: World,
+    thread: u8,
+    most: u32,
+) -> Result<(World, u32), AllocError>
+    ensures { IfOk result (λ r. WentUpTo transitions.now.program thread most world r.0 r.1) }
+{
+    let mut world = world;
+    for step in 0..most {
+        let Some(after) = plain_turn(transitions, &world, thread)? else {
+            return Ok((world, step));
+        };
+        world = after;
     }
-    Ok(Some(made.world))
+    Ok((world, most))
 }
 
 /// The world after the plain steps of a thread, and how many there were: all, or as many as there is room for, 1,000 at
@@ -81,12 +115,6 @@ pub fn go_ahead(
         return Ok((world, 0));
     }
     let most = room.min(MOST_AHEAD);
-    let mut world = world;
-    for step in 0..most {
-        let Some(after) = plain_turn(transitions, &world, thread)? else {
-            return Ok((world, step));
-        };
-        world = after;
-    }
-    Ok((world, most))
+    let (after, steps) = steps_ahead(transitions, world, thread, most)?;
+    Ok((after, steps))
 }

@@ -1,5 +1,5 @@
 //! How states were found, and so by which turns of the opening.
-ghost use Rattle.std.specs.Prelude.{◌≡◌, ◌++◌, IfOk, OnOk, replicate};
+ghost use Rattle.std.specs.Prelude.{◌≡◌, ◌++◌, IfOk, OnOk, replicate, slice_get};
 ghost use Rattle.exploring.specs.Origins.{moves_back, plain_after, trail};
 
 use crate::explored::Move;
@@ -34,6 +34,16 @@ fn add_times(moves: &mut Vec<Move>, one: Move, times: u32) -> Result<(), AllocEr
     Ok(())
 }
 
+/// The origin of a state, if its number has one.
+fn origin_at(origins: &[Origin], place: u32) -> Option<Origin>
+    ensures { result ≡ slice_get origins.now place }
+{
+    match origins.get(place as usize) {
+        None => None,
+        Some(origin) => Some(*origin),
+    }
+}
+
 /// The moves that led to a state by way of so many parents, the last one first; fewer where a number has no origin.
 fn moves_back(
     alloc: Global,
@@ -46,12 +56,14 @@ fn moves_back(
     let mut moves = Vec::new(alloc);
     let mut at = place;
     for _turn in 0..level {
-        let Some(origin) = origins.get(at as usize) else {
-            return Ok(moves);
-        };
-        add_times(&mut moves, plain_after(origin.by), origin.ahead)?;
-        moves.push(origin.by)?;
-        at = origin.parent;
+        match origin_at(origins, at) {
+            None => return Ok(moves),
+            Some(origin) => {
+                add_times(&mut moves, plain_after(origin.by), origin.ahead)?;
+                moves.push(origin.by)?;
+                at = origin.parent;
+            }
+        }
     }
     Ok(moves)
 }

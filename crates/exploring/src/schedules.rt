@@ -50,7 +50,8 @@ impl Exploration {
             (λ _. IsOnItsWay transitions.now.program transitions.now.limits bounds.no_room self.new)
             (λ _. AreSound transitions.now.program transitions.now.limits self.new.outcomes.found) }
     {
-        if transitions.limits().steps <= state.depth {
+        let steps = transitions.limits().steps;
+        if steps <= state.depth {
             return Err(Cut::Depth);
         }
         let moved = self.search.expand(alloc, transitions, bounds, state)?;
@@ -72,11 +73,13 @@ impl Exploration {
             (λ more. IsFurther transitions.now.program transitions.now.limits bounds.no_room self.new more)
             (λ _. AreSound transitions.now.program transitions.now.limits self.new.outcomes.found) }
     {
-        let Some(state) = self.search.next() else {
-            return Ok(false);
-        };
-        self.expand(alloc, transitions, bounds, &state)?;
-        Ok(true)
+        match self.search.next() {
+            None => Ok(false),
+            Some(state) => {
+                self.expand(alloc, transitions, bounds, &state)?;
+                Ok(true)
+            }
+        }
     }
 
     /// How many states were expanded, and how many wait.

@@ -70,10 +70,12 @@ impl Search {
         let world = transitions.opening()?;
         let mut states = States::new(alloc, transitions.listings())?;
         states.add(alloc, &world)?;
+        let origins = Vec::new(alloc);
+        let waiting = VecDeque::new(alloc);
         let mut search = Search {
             states,
-            origins: Vec::new(alloc),
-            waiting: VecDeque::new(alloc),
+            origins,
+            waiting,
             turns: 0,
         };
         let opening = Waiting {
@@ -213,8 +215,9 @@ impl Search {
             known state.now.world thread moved) }
     {
         let choice = Choice::NewObject;
-        let Some(made) = transitions.successor(&state.world, thread, choice)? else {
-            return Ok(false);
+        let made = match transitions.successor(&state.world, thread, choice)? {
+            None => return Ok(false),
+            Some(made) => made,
         };
         let most = bounds.states;
         let asks = made.asks;
@@ -253,9 +256,8 @@ impl Search {
             let Ok(thread) = u8::try_from(place) else {
                 return Err(Cut::Memory);
             };
-            if self.turn(alloc, transitions, bounds, state, thread)? {
-                moved = true;
-            }
+            let turned = self.turn(alloc, transitions, bounds, state, thread)?;
+            moved = moved || turned;
         }
         Ok(moved)
     }

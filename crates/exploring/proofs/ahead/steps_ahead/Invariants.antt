@@ -1,6 +1,5 @@
-use Rattle.std.proofs.Common.{◌≡◌, None}
 use Rattle.exploring.specs.Ahead.{WentAhead}
-use Rattle.exploring.proofs.ahead.go_ahead.Given as goal
+use Rattle.exploring.proofs.ahead.steps_ahead.Given as goal
 
 -- so many steps were made
 abbrev pub invariant-loop-step : goal.invariant-loop-step
