@@ -37,17 +37,18 @@ impl Exploration {
         Ok(Exploration { search, outcomes })
     }
 
-    /// Expands a state that was taken from those that wait, and notes its outcome where no thread of it can go on.
+    /// Expands a state that was taken from those that wait, and notes its outcome where no thread of it can go on. It
+    /// answers `true`.
     fn expand(
         &mut self,
         alloc: Global,
         transitions: &Transitions<'_>,
         bounds: Bounds,
         state: &Waiting,
-    ) -> Result<(), Cut>
+    ) -> Result<bool, Cut>
         ensures { IsBefore transitions.now.program transitions.now.limits bounds.no_room self.old state.now
             → MatchResult result
-            (λ _. IsOnItsWay transitions.now.program transitions.now.limits bounds.no_room self.new)
+            (λ more. IsFurther transitions.now.program transitions.now.limits bounds.no_room self.new more)
             (λ _. AreSound transitions.now.program transitions.now.limits self.new.outcomes.found) }
     {
         let steps = transitions.limits().steps;
@@ -58,7 +59,7 @@ impl Exploration {
         if !moved {
             self.outcomes.note(alloc, transitions, &self.search, state)?;
         }
-        Ok(())
+        Ok(true)
     }
 
     /// Expands the first state that waits; whether there was one.
@@ -75,10 +76,7 @@ impl Exploration {
     {
         match self.search.next() {
             None => Ok(false),
-            Some(state) => {
-                self.expand(alloc, transitions, bounds, &state)?;
-                Ok(true)
-            }
+            Some(state) => self.expand(alloc, transitions, bounds, &state),
         }
     }
 

@@ -1,5 +1,5 @@
 //! A search through the states of a program, breadth first.
-ghost use Rattle.std.specs.Prelude.{◌≡◌, ◌<◌, ◌+◌, ◌∷◌, [], length, map, List, IfOk, OnOk};
+ghost use Rattle.std.specs.Prelude.{◌≡◌, ◌<◌, ◌+◌, ◌∷◌, [], ◌||◌, length, map, List, IfOk, OnOk};
 ghost use Rattle.model.specs.Worlds.{World, opening_world};
 ghost use Rattle.exploring.specs.Expansion.{Expands, ExpandsAll, Finds, Follows, HasKnown, IsTraced, Takes, kept, world_of};
 ghost use Rattle.exploring.specs.Origins.{trail};
@@ -57,6 +57,12 @@ fn nowhere() -> Origin {
         },
         ahead: 0,
     }
+}
+
+fn either(one: bool, other: bool) -> bool
+    ensures { result ≡ (one || other) }
+{
+    one || other
 }
 
 impl Search {
@@ -257,7 +263,7 @@ impl Search {
                 return Err(Cut::Memory);
             };
             let turned = self.turn(alloc, transitions, bounds, state, thread)?;
-            moved = moved || turned;
+            moved = either(moved, turned);
         }
         Ok(moved)
     }

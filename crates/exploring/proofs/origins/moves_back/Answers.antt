@@ -17,8 +17,8 @@ loop-turn-preserved c =
     let o = c.in-Some.origin in
     let ms = c.loop-turn.moves.items in
     ap (λ (xs : List Move). xs ++ moves_back c.args.origins.now (c.args.level - (c.loop-turn._turn + 1)) o.parent)
-    c.in_ok-push.ensures.items
+    c.in_ok-push-in-Some.ensures.items
     ∙ one_back c.args.origins.now c.args.level c.loop-turn._turn c.loop-turn.at ms
     (moves_back c.args.origins.now c.args.level c.args.place) c.loop-turn.invariant (omega (arith, within)) o
     (sym c.origin_at.ensures ∙ c.in-Some.is) c.add_times.new.moves.items
-    (c.in_ok-add_times.ensures ∙ ap (λ (m : Move). ms ++ replicate o.ahead m) c.plain_after.ensures)
+    (c.in_ok-add_times-in-Some.ensures ∙ ap (λ (m : Move). ms ++ replicate o.ahead m) c.plain_after.ensures)

@@ -16,24 +16,13 @@ returns-in-None c =
     all_done s.program s.limits no_room old new (subst (IsOnItsWay s.program s.limits no_room) (sym c.self.view_is) way)
     none.0 none.1 refl
 
-pub returns-in_err-expand : goal.returns-in_err-expand
-returns-in_err-expand c =
+pub returns-in-Some : goal.returns-in-Some
+returns-in-Some c =
     λ way.
     let s = c.args.transitions.now in
     let no_room = c.args.bounds.no_room in
     let old : Exploration = record { search = c.self.inside.search; outcomes = c.self.inside.outcomes } in
     let new : Exploration = record { search = c.next.new.self; outcomes = c.self.inside.outcomes } in
-    c.in_err-expand.ensures (taken_next s.program s.limits no_room old new c.in-Some.state
-    (subst (IsOnItsWay s.program s.limits no_room) (sym c.self.view_is) way)
-    (subst (λ (o : Option Waiting). Takes c.self.inside.search c.next.new.self o) c.in-Some.is c.next.ensures) refl)
-
-pub returns-in_ok-expand : goal.returns-in_ok-expand
-returns-in_ok-expand c =
-    λ way.
-    let s = c.args.transitions.now in
-    let no_room = c.args.bounds.no_room in
-    let old : Exploration = record { search = c.self.inside.search; outcomes = c.self.inside.outcomes } in
-    let new : Exploration = record { search = c.next.new.self; outcomes = c.self.inside.outcomes } in
-    c.in_ok-expand.ensures (taken_next s.program s.limits no_room old new c.in-Some.state
+    c.expand.ensures (taken_next s.program s.limits no_room old new c.in-Some.state
     (subst (IsOnItsWay s.program s.limits no_room) (sym c.self.view_is) way)
     (subst (λ (o : Option Waiting). Takes c.self.inside.search c.next.new.self o) c.in-Some.is c.next.ensures) refl)

@@ -12,7 +12,7 @@ returns-else-not-moved c =
     let old : Exploration = record { search = c.self.inside.search; outcomes = c.self.inside.outcomes } in
     let b = subst (λ (e : Exploration). IsBefore s.program s.limits no_room e c.args.state.now) (sym c.self.view_is) before in
     let steps = ap (λ (l : Limits). l.steps) c.limits-steps.ensures in
-    let past = c.if-steps.false in
+    let past = c.if-steps-state.false in
     moved_on s.program s.limits no_room old c.args.state.now b c.expand.new.self c.in_ok-moved.moved
     (c.in_ok-moved.ensures b.known b.has b.traced (omega (arith, steps, past))) c.if-not-moved.false
 
@@ -24,7 +24,7 @@ returns-in_ok-note c =
     let old : Exploration = record { search = c.self.inside.search; outcomes = c.self.inside.outcomes } in
     let b = subst (λ (e : Exploration). IsBefore s.program s.limits no_room e c.args.state.now) (sym c.self.view_is) before in
     let steps = ap (λ (l : Limits). l.steps) c.limits-steps.ensures in
-    let past = c.if-steps.false in
+    let past = c.if-steps-state.false in
     subst (λ (o : Outcomes). IsOnItsWay s.program s.limits no_room (record { search = c.expand.new.self; outcomes = o }))
     (sym c.in_ok-note.ensures.noted)
     (noted_on s.program s.limits no_room old c.args.state.now b c.expand.new.self c.in_ok-moved.moved

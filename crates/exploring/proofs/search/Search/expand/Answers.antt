@@ -1,4 +1,4 @@
-use Rattle.std.proofs.Common.{◌++◌, ap, arith, length}
+use Rattle.std.proofs.Common.{◌++◌, ◌∙◌, ap, arith, length}
 use Rattle.exploring.proofs.ExpansionLemmas.{all_threads, either_is, none_yet, one_thread_more, traced_after}
 use Rattle.exploring.proofs.search.Search.expand.Goals as goal
 
@@ -17,7 +17,7 @@ loop-place-preserved c =
     let a = c.loop-place.moved in
     let b = c.in_ok-turned.turned in
     one_thread_more s.program s.limits c.args.bounds.no_room c.args.state.now.world c.args.self.now mid c.turn.new.self
-    known c.loop-place.place c.in-Ok.thread c.in-Ok.ensures.1 a b _ (either_is a b) e
+    known c.loop-place.place c.in-Ok.thread c.in-Ok.ensures.1 a b _ (c.either-moved.ensures ∙ either_is a b) e
     (c.in_ok-turned.ensures (known ++ e.grows.more) e.grows.has
     (traced_after s.program s.limits c.args.self.now mid known e.grows c.args.state.now traced) under)
 

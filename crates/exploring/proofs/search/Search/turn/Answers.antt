@@ -1,10 +1,11 @@
-use Rattle.std.proofs.Common.{◌∙◌, ◌++◌, Some, ap, refl, sym}
+use Rattle.std.proofs.Common.{◌∙◌, ◌++◌, ◌&&◌, Bool, Some, ap, refl, sym}
 use Rattle.model.specs.Effects.Choice.{NewObject, NoRoom}
 use Rattle.ideal_run.specs.declared.effects.Choice.TheVariants as code
 use Rattle.ideal_run.specs.Successors.{Successor}
 use Rattle.exploring.specs.declared.explored.Move.{Move}
 use Rattle.exploring.proofs.ExpansionLemmas.{expands_alone, expands_both, expands_refused, follows, traced_after}
 use Rattle.exploring.proofs.search.Search.turn.Goals as goal
+use Rattle.exploring.proofs.search.Search.turn.Goals.{else-bounds-via-then-bounds+else-asks, else-bounds-via-else-bounds}
 
 pub returns-in-None : goal.returns-in-None
 returns-in-None c =
@@ -23,7 +24,11 @@ returns-else-bounds c =
     let m : Move = record { thread = c.args.thread; choice = code.NewObject } in
     let f = c.in_ok-find.ensures known has
     (follows s no_room x c.args.thread c.args.self.now.origins c.args.state.now refl traced under m refl a k) in
-    expands_alone s no_room x c.args.thread a k c.args.self.now c.find.new.self known f c.if-bounds.false
+    expands_alone s no_room x c.args.thread a k c.args.self.now c.find.new.self known f (elim c.else-bounds.branch [
+      | else-bounds-via-then-bounds+else-asks w ↦
+          ap (λ (b : Bool). b && c.made.inside.asks) w.if-bounds.true ∙ w.if-asks.false
+      | else-bounds-via-else-bounds w ↦ ap (λ (b : Bool). b && c.made.inside.asks) w.if-bounds.false
+    ])
 
 pub returns-in_ok-find-2 : goal.returns-in_ok-find-2
 returns-in_ok-find-2 c =
