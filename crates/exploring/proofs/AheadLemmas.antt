@@ -8,8 +8,7 @@ use Rattle.model.specs.declared.instructions.Instruction.TheVariants.{Invoke, Th
 use Rattle.model.specs.declared.listings.Placed.{Placed}
 use Rattle.model.specs.declared.turns.Abrupt.{Abrupt}
 use Rattle.model.specs.declared.turns.Abrupt.TheVariants.{Fault as Faulted, Throw as Throws}
-use Rattle.model.specs.declared.turns.Mark.{Mark}
-use Rattle.model.specs.declared.turns.Mark.TheVariants.{Unmarked, Waiting, Failing}
+use Rattle.model.specs.declared.turns.Mark.TheVariants.{Unmarked}
 use Rattle.model.specs.ClassListings.{ClassListing}
 use Rattle.model.specs.Completions.{Completion, Site, asks, completes, raises}
 use Rattle.model.specs.Completions.Completion.{Raises}
@@ -53,7 +52,7 @@ use Rattle.model.specs.declared.turns.Actor.TheVariants.{Thread as ThreadActor}
 use Rattle.model.specs.declared.turns.Turn.{Turn}
 use Rattle.model.specs.Turns.{refusal}
 use Rattle.ideal_run.specs.Successors.{Successor, Transitions, successor, unless_refused}
-use Rattle.exploration.specs.ClosedLists.{Pair, pair_of}
+use Rattle.exploration.specs.ClosedLists.{pair_of}
 use Rattle.exploration.specs.ReducedRuns.{pairs_in}
 use Rattle.exploration.specs.Reduction.{GoesAhead, PlainStep, moved_in, plain_at, plain_by, plain_step, plainly}
 use Rattle.exploration.specs.Reduction.GoesAhead.{stays, steps}
@@ -233,9 +232,11 @@ module _ (program : List ClassListing) (w : World) (t : ℕ) (fs : List Frame) (
         → after.fault ≡ None → (gs : List Frame) × PlainStep program fs gs × (after ≡ with_thread w t (Live gs))
     is_step after is a e =
         let k = steps_to a (ap (λ (y : World). y.fault) (sym is) ∙ e) in
-        let gs = with_running fs k.0 in
-        (gs, record { frame = f; other = k.0; runs = runs; steps = k.1; is = refl },
-        is ∙ plain_next program w t fs f k.0 live runs k.1 NewObject)
+        let gs = with_running fs k.0 in (
+          gs,
+          record { frame = f; other = k.0; runs = runs; steps = k.1; is = refl },
+          is ∙ plain_next program w t fs f k.0 live runs k.1 NewObject,
+        )
 
 -- ---- one step more
 

@@ -35,11 +35,11 @@ use Rattle.exploring.specs.Canonical.{canonical}
 use Rattle.exploring.specs.declared.explored.Move.{Move}
 use Rattle.exploring.specs.declared.origins.Origin.{Origin}
 use Rattle.exploring.specs.declared.search.Waiting.{Waiting}
-use Rattle.exploring.specs.Expansion.{AreTraced, Expands, ExpandsAll, ExpandsBelow, Finds, Follows, GoesOn, Grows, HasKnown}
-use Rattle.exploring.specs.Expansion.{IsTraced, MakesAll, Moves, MovesBelow, Search, SomeMoves, kept, world_of}
+use Rattle.exploring.specs.Expansion.{Expands, ExpandsAll, ExpandsBelow, Finds, Follows, GoesOn, Grows, HasKnown}
+use Rattle.exploring.specs.Expansion.{IsTraced, MakesAll, Moves, MovesBelow, Search, SomeMoves, world_of}
 use Rattle.exploring.specs.Ahead.{WentAhead, WentOn}
 use Rattle.exploring.specs.Origins.{IsLed, back_by, back_from, led_by, moves_back, pair_in, pairs_in, plain_after, trail}
-use Rattle.exploring.specs.States.{AddsState, HasStates, IsOneOf, Stored}
+use Rattle.exploring.specs.States.{HasStates, IsOneOf}
 use Rattle.exploring.proofs.CanonicalLemmas.{is_represented}
 
 -- what a turn of a state leads to is found
@@ -174,7 +174,7 @@ module _ (program : List ClassListing) (limits : Limits) where
           (omega (arith, size, under)) f.free (subst (Represents (canonical v)) (same ∙ f.is) represented))
 
       led_on : IsWitnessed program limits (pairs ++ pair_in m ∷ replicate n (pair_of m.thread NewObject)) (canonical v)
-      led_on = elim g.how [ | inl s ↦ with_ahead s.0 s.1 | inr s ↦ with_none s.0 s.1 ]
+      led_on = elim g.how [ inl s ↦ with_ahead s.0 s.1 | inr s ↦ with_none s.0 s.1 ]
 
     pub next_traced : (o : Origin) → o ≡ record { parent = parent.place; by = m; ahead = n } → (s : Waiting)
         → s ≡ record { world = canonical v; place = length origins; level = parent.level + 1; depth = parent.depth + 1 + n }
@@ -505,7 +505,7 @@ module _ (program : List ClassListing) (limits : Limits) (no_room : Bool) (x : W
 
       all_moves : (b : Bool) → MovesBelow program limits x n b → SomeMoves program limits x b
       all_moves true p = p
-      all_moves false p = λ t q. elim (cases_lt t n) [ | inl before ↦ p t before q | inr after ↦ nobody t after q ]
+      all_moves false p = λ t q. elim (cases_lt t n) [ inl before ↦ p t before q | inr after ↦ nobody t after q ]
 
 pub either_is : (a b : Bool) → (a || b) ≡ (if b then true else a)
 either_is true true = refl

@@ -4,25 +4,21 @@ use Rattle.std.proofs.Common.{◌∙◌, ap, subst}
 use Rattle.std.specs.List.{list_any}
 use Rattle.std.specs.Str.{bytes_eq}
 use Rattle.std.proofs.lemmas.Bool.{cases_lt}
-use Rattle.std.proofs.lemmas.List.{append_assoc, drop-append-le, length-append, length-drop, map-append}
+use Rattle.std.proofs.lemmas.List.{append_assoc, drop-append-le, length-append, map-append}
 use Rattle.std.proofs.lemmas.Slice.Eq.{bytes_eq-Decides}
 use Rattle.model.specs.declared.journals.Limits.{Limits}
 use Rattle.model.specs.declared.turns.Actor.TheVariants.{Thread}
 use Rattle.model.specs.declared.turns.Fault.{Fault}
-use Rattle.model.specs.declared.turns.Turn.TheVariants.{NotReady, OutputFull, StepLimit}
+use Rattle.model.specs.declared.turns.Turn.TheVariants.{NotReady, OutputFull}
 use Rattle.model.specs.ClassListings.{ClassListing}
 use Rattle.model.specs.Completions.{waits}
-use Rattle.model.specs.Ready.{is_ready}
 use Rattle.model.specs.Table.Next.{completion}
 use Rattle.model.specs.Turns.{overflows, refusal, refusal_after, thread_refusal}
 use Rattle.model.specs.Worlds.{World, is_live, opening_world}
-use Rattle.exploration.specs.ClosedLists.{IsAmong, IsWitnessed, ideal_after}
 use Rattle.exploration.specs.Observations.{IsHalted, Observed, observed}
 use Rattle.exploration.specs.Outcomes.{IsOutcome, IsReal, TellsOutcomes}
-use Rattle.exploration.specs.Reduction.{IsAheadAmong}
 use Rattle.exploration.specs.Reduction.GoesAhead.{stays}
-use Rattle.exploration.specs.Representation.{Represents, uncounted}
-use Rattle.exploration.specs.Search.{ClosedBelow, IsExpanded}
+use Rattle.exploration.specs.Search.{ClosedBelow}
 use Rattle.exploration.proofs.MadeBirths.{get_below}
 use Rattle.exploration.proofs.Opening.{opening_represents}
 use Rattle.exploration.proofs.Outcomes.{outcomes_are_real, outcomes_of_all}
@@ -32,8 +28,8 @@ use Rattle.exploration.proofs.Witnesses.{opening_is_witnessed}
 use Rattle.exploring.specs.declared.explored.Move.{Move}
 use Rattle.exploring.specs.declared.origins.Origin.{Origin}
 use Rattle.exploring.specs.declared.search.Waiting.{Waiting}
-use Rattle.exploring.specs.Expansion.{AreTraced, ExpandsAll, Grows, HasKnown, IsTraced, Search, SomeMoves, kept, world_of}
-use Rattle.exploring.specs.Explorations.{AreSound, Exploration, Finding, HasAll, IsAt, IsBefore, IsFurther, IsOnItsWay, IsOnce}
+use Rattle.exploring.specs.Expansion.{ExpandsAll, HasKnown, IsTraced, Search, SomeMoves, kept, world_of}
+use Rattle.exploring.specs.Explorations.{AreSound, Exploration, Finding, IsBefore, IsFurther, IsOnItsWay, IsOnce}
 use Rattle.exploring.specs.Explorations.{Lists, Outcomes, finding, key_of, noted, outcome_of}
 use Rattle.exploring.specs.Keys.{outcome}
 use Rattle.exploring.specs.Origins.{pairs_in, trail}
@@ -119,7 +115,7 @@ either : (os : List Observed) (o p : Observed) (i : ℕ) → slice_get (os ++ o 
 either [] o p zero e = inr (refl, cc)
 either [] o p (suc i) e = absurd (cc)
 either (q ∷ os) o p zero e = inl e
-either (q ∷ os) o p (suc i) e = elim (either os o p i e) [ | inl s ↦ inl s | inr s ↦ inr (ap suc s.0, s.1) ]
+either (q ∷ os) o p (suc i) e = elim (either os o p i e) [ inl s ↦ inl s | inr s ↦ inr (ap suc s.0, s.1) ]
 
 -- no two are the same, where a new one is added
 once_more : (os : List Observed) (o : Observed) → IsOnce os → ((k : ℕ) → slice_get os k ≡ Some o → ⊥)

@@ -16,7 +16,7 @@ use Rattle.exploring.specs.declared.origins.Origin.{Origin}
 use Rattle.exploring.specs.declared.search.Waiting.{Waiting}
 use Rattle.exploring.specs.Ahead.{WentAhead}
 use Rattle.exploring.specs.Origins.{IsLed, pairs_in, trail}
-use Rattle.exploring.specs.States.{HasStates, IsOneOf, Stored}
+use Rattle.exploring.specs.States.{HasStates, Stored}
 
 -- Expanding a state: what its turns lead to is found.
 

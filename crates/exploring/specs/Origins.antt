@@ -1,4 +1,4 @@
-use Rattle.std.specs.Prelude.{◌≡◌, ℕ, zero, suc, List, [], ◌∷◌, ◌++◌, length, map, replicate, reverse, slice_get, Option, Some, None}
+use Rattle.std.specs.Prelude.{ℕ, zero, suc, List, [], ◌∷◌, ◌++◌, map, replicate, reverse, slice_get, Option, Some, None}
 use Rattle.exploration.specs.ClosedLists.{Pair, pair_of}
 use Rattle.ideal_run.specs.Effected.{choice_in}
 use Rattle.ideal_run.specs.declared.effects.Choice.TheVariants.{NewObject}

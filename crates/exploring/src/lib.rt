@@ -16,8 +16,8 @@ mod search;
 mod states;
 mod walk;
 
-pub use explored::{Bounds, Cut, Explored, Found, Move, Outcome};
 pub use exploration::ends::End;
+pub use explored::{Bounds, Cut, Explored, Found, Move, Outcome};
 pub use forms::canonical;
 pub use ideal_run::Choice;
 pub use schedules::explore;

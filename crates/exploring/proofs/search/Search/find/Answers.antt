@@ -1,4 +1,4 @@
-use Rattle.std.proofs.Common.{◌≡◌, ◌∙◌, ◌+◌, ◌++◌, ◌∷◌, [], List, ℕ, Bool, ap, arith, length, refl, subst, sym}
+use Rattle.std.proofs.Common.{◌∙◌, ◌+◌, ◌++◌, ◌∷◌, [], ℕ, Bool, ap, arith, length, refl, subst, sym}
 use Rattle.model.specs.declared.journals.Limits.{Limits}
 use Rattle.model.specs.Worlds.{World}
 use Rattle.exploring.specs.declared.origins.Origin.{Origin}

@@ -1,5 +1,5 @@
 use Rattle.std.proofs.Common.{◌∙◌, ◌++◌, ◌&&◌, Bool, Some, ap, refl, sym}
-use Rattle.model.specs.Effects.Choice.{NewObject, NoRoom}
+use Rattle.model.specs.Effects.Choice.{NewObject}
 use Rattle.ideal_run.specs.declared.effects.Choice.TheVariants as code
 use Rattle.ideal_run.specs.Successors.{Successor}
 use Rattle.exploring.specs.declared.explored.Move.{Move}
