@@ -11,13 +11,13 @@ use std::test::Fail;
 
 /// What was written, up to a write that fails once so many were made.
 #[derive(Drop)]
-struct Page {
+struct Sheet {
     text: Vec<u8>,
     left: usize,
     failures: u64,
 }
 
-impl Page {
+impl Sheet {
     fn take(&mut self, bytes: &[u8]) -> bool
         ensures { self.new.failures ≡ self.old.failures }
     {
@@ -25,7 +25,7 @@ impl Page {
     }
 }
 
-impl Sink for Page {
+impl Sink for Sheet {
     ghost contents = { λ s. None };
 
     ghost failures = { λ s. s.failures };
@@ -46,21 +46,21 @@ impl Sink for Page {
 }
 
 /// The report of an exploration, up to a write that fails, and whether none did.
-fn page(alloc: Global, explored: &Explored, left: usize) -> (Vec<u8>, bool) {
-    let mut page = Page {
+fn printed(alloc: Global, explored: &Explored, left: usize) -> (Vec<u8>, bool) {
+    let mut sheet = Sheet {
         text: Vec::new(alloc),
         left,
         failures: 0,
     };
-    let written = put_report(&mut page, explored).is_ok();
-    let Page { text, .. } = page;
+    let written = put_report(&mut sheet, explored).is_ok();
+    let Sheet { text, .. } = sheet;
     (text, written)
 }
 
 /// The report of a text's exploration.
 fn report(alloc: Global, text: &str, bounds: Bounds) -> Result<Vec<u8>, Fail> {
     let explored = explored(alloc, text, LIMITS, bounds)?;
-    let (text, _) = page(alloc, &explored, 10_000);
+    let (text, _) = printed(alloc, &explored, 10_000);
     Ok(text)
 }
 
@@ -109,10 +109,10 @@ fn missing_cells_are_reported(rt: HostRuntime) -> Result<(), Fail> {
 #[test]
 fn writes_fail(rt: HostRuntime) -> Result<(), Fail> {
     let explored = explored(rt.alloc(), FAULT, LIMITS, ALL)?;
-    let (whole, written) = page(rt.alloc(), &explored, 10_000);
+    let (whole, written) = printed(rt.alloc(), &explored, 10_000);
     assert!(rt; written);
     for left in 0..20 {
-        let (text, written) = page(rt.alloc(), &explored, left);
+        let (text, written) = printed(rt.alloc(), &explored, left);
         assert!(rt; !written && whole.starts_with(&text));
     }
     Ok(())
