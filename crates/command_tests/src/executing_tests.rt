@@ -79,7 +79,7 @@ const LINES: [Line; 9] = [
     Line {
         words: &["jvm", "debug", "Sum.j"],
         status: 0,
-        output: b"",
+        output: b"output 0\n",
         errors: b"",
     },
 ];

@@ -7,6 +7,7 @@ pub mod PlaceLemmas
 pub mod PlainLemmas
 pub mod PopLemmas
 pub mod StackLemmas
+pub mod StatusLemmas
 pub mod SuccessorLemmas
 pub mod TurnLemmas
 pub mod UnitLemmas

@@ -22,7 +22,7 @@ use Rattle.ideal_run.specs.Effected.{refuses}
 
 -- ---- what the births that were written don't change
 
-plain-waits : (c : Completion) → waits (plainly c) ≡ waits c
+pub plain-waits : (c : Completion) → waits (plainly c) ≡ waits c
 plain-waits (Goes after writes) = refl
 plain-waits (Prints after bytes) = refl
 plain-waits (Creates next taken contents) = refl

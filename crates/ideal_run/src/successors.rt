@@ -1,7 +1,11 @@
 //! What a thread's turn makes of a world, whichever world it is (JVMS 2.5, 2.6): for those who look at every schedule of
 //! a program.
 ghost use Rattle.std.specs.Prelude.{◌≡◌, ℕ, IfOk, is_some};
-ghost use Rattle.model.specs.Completions.{asks};
+ghost use Rattle.std.specs.Option.{option_copied};
+ghost use Rattle.model.specs.Completions.{asks, waits};
+ghost use Rattle.model.specs.Observers.{status_in};
+ghost use Rattle.model.specs.Programs.{instruction_of};
+ghost use Rattle.model.specs.Ready.{is_ready, some_is_ready, some_lives};
 ghost use Rattle.model.specs.Worlds.{opening_world};
 ghost use Rattle.ideal_run.specs.Completed.{reported};
 ghost use Rattle.ideal_run.specs.Effected.{choice_in};
@@ -10,13 +14,15 @@ ghost use Rattle.ideal_run.specs.Successors.{AreTransitions, successor};
 use crate::completions::Completion;
 use crate::copies::copy;
 use crate::effects::{Choice, carry_out};
+use crate::frames::Frame;
 use crate::ideal::is_refused;
 use crate::opening::opening_world;
 use crate::programs::Program;
 use crate::table::completion;
 use crate::worlds::World;
 use model::journals::Limits;
-use model::listings::Listing;
+use model::listings::{Listing, Placed};
+use model::turns::Status;
 use std::alloc::{AllocError, Global};
 use std::marker::Model;
 
@@ -69,6 +75,38 @@ fn asks(completion: &Completion) -> bool
     }
 }
 
+/// Whether a completion waits.
+fn waits(completion: &Completion) -> bool
+    ensures { (w : World) (t : ℕ) → result ≡ waits (reported w t completion.now) }
+{
+    match completion {
+        Completion::Waits => true,
+        Completion::Goes(_, _) => false,
+        Completion::Starts(_, _, _) => false,
+        Completion::Prints(_, _) => false,
+        Completion::Creates(_, _, _) => false,
+        Completion::Throws(_) => false,
+        Completion::Raises(_) => false,
+        Completion::Denies(_) => false,
+        Completion::Faults(_) => false,
+    }
+}
+
+/// Whether some thread lives. `AllocError` where there are more threads than 32 bits count.
+fn some_lives(world: &World) -> Result<bool, AllocError>
+    ensures { IfOk result (λ lives. lives ≡ some_lives world.now) }
+{
+    for place in 0..world.threads().len() {
+        let Ok(thread) = u32::try_from(place) else {
+            return Err(AllocError);
+        };
+        if world.is_live(thread) {
+            return Ok(true);
+        }
+    }
+    Ok(false)
+}
+
 impl<'a> Transitions<'a> {
     /// The turns of a program. `None` where a superclass or superinterface isn't there, or a class is above itself.
     /// `AllocError` where memory runs out.
@@ -87,6 +125,20 @@ impl<'a> Transitions<'a> {
                 limits,
             })),
         }
+    }
+
+    /// The classes of the program.
+    pub fn listings(&self) -> &'a [Listing]
+        ensures { result.now ≡ self.now.program }
+    {
+        self.program.listings()
+    }
+
+    /// The limits.
+    pub fn limits(&self) -> Limits
+        ensures { result ≡ self.now.limits }
+    {
+        self.limits
     }
 
     /// The world before the first turn. `AllocError` where memory runs out.
@@ -131,5 +183,58 @@ impl<'a> Transitions<'a> {
             completion,
         )?;
         Ok(Some(Successor { world: after, asks }))
+    }
+
+    /// The instruction at which a frame stands, with its pc and the next.
+    pub fn instruction_of(&self, frame: &Frame) -> Option<&Placed>
+        ensures { option_copied result ≡ instruction_of self.now.program frame.now }
+    {
+        self.program.instruction_of(frame)
+    }
+
+    /// Whether a thread is ready.
+    #[tactic(auto, using(crate::proofs::StatusLemmas::statuses))]
+    fn is_ready(&self, world: &World, thread: u8) -> Result<bool, AllocError>
+        ensures { IfOk result (λ ready. ready ≡ is_ready self.now.program world.now thread) }
+    {
+        if world.fault().is_some() {
+            return Ok(false);
+        }
+        if !world.is_live(u32::from(thread)) {
+            return Ok(false);
+        }
+        let completion = completion(self.alloc, &self.program, world, thread)?;
+        Ok(!waits(&completion))
+    }
+
+    /// Whether some thread is ready.
+    fn some_is_ready(&self, world: &World) -> Result<bool, AllocError>
+        ensures { IfOk result (λ ready. ready ≡ some_is_ready self.now.program world.now) }
+    {
+        for place in 0..world.threads().len() {
+            let Ok(thread) = u8::try_from(place) else {
+                return Err(AllocError);
+            };
+            if self.is_ready(world, thread)? {
+                return Ok(true);
+            }
+        }
+        Ok(false)
+    }
+
+    /// How a world stands. `AllocError` where memory runs out, or where a thread's number has no room.
+    pub fn status(&self, world: &World) -> Result<Status, AllocError>
+        ensures { IfOk result (λ status. status ≡ status_in self.now.program world.now) }
+    {
+        if world.fault().is_some() {
+            return Ok(Status::Faulted);
+        }
+        if !some_lives(world)? {
+            return Ok(Status::Finished);
+        }
+        if self.some_is_ready(world)? {
+            return Ok(Status::Running);
+        }
+        Ok(Status::Stuck)
     }
 }

@@ -24,7 +24,7 @@
 //! | files | what stands there |
 //! |---|---|
 //! | first_turns, state/first | turns of the first thread in cyclic order by one look at the step |
-//! | register_turns, code_calls, callees, heap_steps | register code with calls and returns between, on lent frames |
+//! | register_turns, code_calls, code_steps, callees, heap_steps | register code with other steps between, on lent frames |
 //! | quick_calls, quick_arrays, quick_fields, quick_statics, quick_casts | steps on whole frames, of which nothing unusual comes |
 //! | lone_rounds, noted_rounds, quick_objects, doubling | rounds with turns of the collector and with new objects |
 //!
