@@ -67,11 +67,7 @@ fn write_object(text: &mut Vec<u8>, number: usize, held: &HeldView) -> Result<()
 }
 
 /// The same, if a path leads to what it holds.
-fn write_held(
-    text: &mut Vec<u8>,
-    number: usize,
-    held: &Option<HeldView>,
-) -> Result<(), AllocError>
+fn write_held(text: &mut Vec<u8>, number: usize, held: &Option<HeldView>) -> Result<(), AllocError>
     ensures { IfOk result (λ _. text.new.items ≡ text.old.items ++ held_line number held.now) }
 {
     match held {
