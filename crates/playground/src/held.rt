@@ -1,7 +1,8 @@
 //! The text of what cells hold.
 ghost use Rattle.std.specs.Prelude.{◌≡◌, ◌++◌, IfOk};
 ghost use Rattle.instructions.specs.HeldViews.{kind_in};
-ghost use Rattle.playground.specs.Texts.{held_line, helds_from, kind_word, maybe_word, object_line, owned_words, words_words};
+ghost use Rattle.playground.specs.Texts.{held_line, helds_from, kind_word, maybe_word, object_line, owned_words};
+ghost use Rattle.playground.specs.Texts.{words_words};
 
 use debug_texts::values::{write_birth, write_length, write_number, write_values};
 use instructions::held::{HeldKind, HeldView};
