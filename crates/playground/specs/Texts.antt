@@ -40,11 +40,13 @@ abbrev pub maybe_word : Option ℕ → List ℕ
 maybe_word None = codes "-"
 maybe_word (Some n) = decimal n
 
--- the birth, the kind, the monitor's owner and count
+-- who owns a monitor, and how often it was entered
+abbrev pub monitor_words : Option ℕ → ℕ → List ℕ
+monitor_words owner count = codes " owner " ++ maybe_word owner ++ 32 ∷ decimal count
+
+-- the birth, the kind, the monitor
 abbrev pub owned_words : Held → List ℕ
-owned_words h =
-    birth_text h.birth ++ 32 ∷ kind_word h.kind ++ codes " owner " ++ maybe_word h.monitor.owner
-    ++ 32 ∷ decimal h.monitor.count
+owned_words h = birth_text h.birth ++ 32 ∷ kind_word h.kind ++ monitor_words h.monitor.owner h.monitor.count
 
 -- the thread, and the words
 abbrev pub words_words : Held → List ℕ

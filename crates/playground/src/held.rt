@@ -1,8 +1,8 @@
 //! The text of what cells hold.
 ghost use Rattle.std.specs.Prelude.{◌≡◌, ◌++◌, IfOk};
 ghost use Rattle.instructions.specs.HeldViews.{kind_in};
-ghost use Rattle.playground.specs.Texts.{held_line, helds_from, kind_word, maybe_word, object_line, owned_words};
-ghost use Rattle.playground.specs.Texts.{words_words};
+ghost use Rattle.playground.specs.Texts.{held_line, helds_from, kind_word, maybe_word, monitor_words, object_line};
+ghost use Rattle.playground.specs.Texts.{owned_words, words_words};
 
 use debug_texts::values::{write_birth, write_length, write_number, write_values};
 use instructions::held::{HeldKind, HeldView};
@@ -31,17 +31,24 @@ fn write_maybe(text: &mut Vec<u8>, number: Option<u32>) -> Result<(), AllocError
     }
 }
 
-/// Adds the birth of an object, what it is, and who owns its monitor and how often that was entered.
+/// Adds who owns a monitor, and how often it was entered.
+fn write_monitor(text: &mut Vec<u8>, owner: Option<u32>, entries: u32) -> Result<(), AllocError>
+    ensures { IfOk result (λ _. text.new.items ≡ text.old.items ++ monitor_words owner entries) }
+{
+    text.extend_from_slice(b" owner ")?;
+    write_maybe(text, owner)?;
+    text.push(b' ')?;
+    write_number(text, entries)
+}
+
+/// Adds the birth of an object, what it is, and its monitor.
 fn write_owned(text: &mut Vec<u8>, held: &HeldView) -> Result<(), AllocError>
     ensures { IfOk result (λ _. text.new.items ≡ text.old.items ++ owned_words held.now) }
 {
     write_birth(text, held.birth)?;
     text.push(b' ')?;
     write_kind(text, &held.kind)?;
-    text.extend_from_slice(b" owner ")?;
-    write_maybe(text, held.owner)?;
-    text.push(b' ')?;
-    write_number(text, u32::from(held.entries))
+    write_monitor(text, held.owner, u32::from(held.entries))
 }
 
 /// Adds the thread that was started on an object, and its fields or elements.
