@@ -1,5 +1,5 @@
-//! The language in which a page talks with a machine: what its requests say, and the text of each answer that the debugger
-//! doesn't have.
+//! The language in which a page talks with a machine: what its requests say, and the text of each answer that the
+//! debugger doesn't have.
 #![tactic(auto)]
 
 pub mod fields;

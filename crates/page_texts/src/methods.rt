@@ -1,6 +1,7 @@
 //! The methods of a program, and the places of their instructions.
 ghost use Rattle.std.specs.Prelude.{◌≡◌, ◌++◌, IfOk};
-ghost use Rattle.page_texts.specs.Shown.{classes_lines, class_lines, method_line, methods_lines, places_text, places_of};
+ghost use Rattle.page_texts.specs.Shown.{classes_lines, class_lines, method_line, methods_lines, places_text};
+ghost use Rattle.page_texts.specs.Shown.{places_of};
 
 use debug_texts::values::write_number;
 use model::listings::{Code, Listing, Method, Placed};

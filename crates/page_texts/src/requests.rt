@@ -4,8 +4,8 @@ ghost use Rattle.page_texts.specs.Requests.{alone, listing_of, request_of, round
 
 use journal_texts::words::{following, number, number_of};
 
-/// A request that the debugger has no command for. Numbers are as they stand there: of rounds, of turns of the collector in
-/// each, of a row from 0, of rows, of a class from 0.
+/// A request that the debugger has no command for. Numbers are as they stand there: of rounds, of turns of the
+/// collector in each, of a row from 0, of rows, of a class from 0.
 #[derive(Clone, Copy, Debug, PartialEq, Eq)]
 pub enum Request {
     Rounds { rounds: u32, gc: u32 },

@@ -49,6 +49,12 @@ pub fn put_rounds<S: Sink>(sink: &mut S, left: u32, answer: Turn) -> Result<(), 
     let mut buffer = Buffer::new();
     put_pieces(
         sink,
-        &[b"left ", buffer.format(left).as_bytes(), b": ", turn_words(answer), b"\n"],
+        &[
+            b"left ",
+            buffer.format(left).as_bytes(),
+            b": ",
+            turn_words(answer),
+            b"\n",
+        ],
     )
 }

@@ -61,8 +61,8 @@ fn write_position(text: &mut Vec<u8>, phase: Phase) -> Result<(), AllocError>
     }
 }
 
-/// Adds the line of a world's state: how it stands, how many rows its journal has, the number that the next object gets,
-/// the thread whose turn is next, and where the collector stands.
+/// Adds the line of a world's state: how it stands, how many rows its journal has, the number that the next object
+/// gets, the thread whose turn is next, and where the collector stands.
 pub fn write_state(
     text: &mut Vec<u8>,
     status: Status,

@@ -1,1 +1,2 @@
 pub mod SessionSteps
+pub mod ThreadTexts

@@ -40,15 +40,24 @@ abbrev pub maybe_word : Option ℕ → List ℕ
 maybe_word None = codes "-"
 maybe_word (Some n) = decimal n
 
--- the number of the cell, birth, kind, the monitor's owner and count, the thread, and the words
-abbrev pub object_words : Held → List ℕ
-object_words h =
-    birth_text h.birth ++ 32 ∷ kind_word h.kind ++ codes " owner " ++ maybe_word h.monitor.owner
-    ++ 32 ∷ decimal h.monitor.count ++ codes " thread " ++ maybe_word h.thread ++ codes " words" ++ values_text h.words
+-- who owns a monitor, and how often it was entered
+abbrev pub monitor_words : Option ℕ → ℕ → List ℕ
+monitor_words owner count = codes " owner " ++ maybe_word owner ++ 32 ∷ decimal count
+
+-- the birth, the kind, the monitor
+abbrev pub owned_words : Held → List ℕ
+owned_words h = birth_text h.birth ++ 32 ∷ kind_word h.kind ++ monitor_words h.monitor.owner h.monitor.count
+
+-- the thread, and the words
+abbrev pub words_words : Held → List ℕ
+words_words h = codes " thread " ++ maybe_word h.thread ++ codes " words" ++ values_text h.words
+
+abbrev pub object_line : ℕ → Held → List ℕ
+object_line number h = line (numbered (codes "held") number ++ 32 ∷ owned_words h ++ words_words h)
 
 abbrev pub held_line : ℕ → Option Held → List ℕ
 held_line number None = []
-held_line number (Some h) = line (numbered (codes "held") number ++ 32 ∷ object_words h)
+held_line number (Some h) = object_line number h
 
 -- of cells from one on
 abbrev pub helds_from : ℕ → List (Option Held) → List ℕ

@@ -35,8 +35,8 @@ fn make_rounds<S: Sink>(
     told(put_rounds(sink, made.left, made.answer))
 }
 
-/// Carries a request out and answers it. `Memory`, and nothing changed or written, where memory runs out; `Write` where a
-/// write failed: the request was carried out all the same.
+/// Carries a request out and answers it. `Memory`, and nothing changed or written, where memory runs out; `Write` where
+/// a write failed: the request was carried out all the same.
 pub fn ask<S: Sink>(
     alloc: Global,
     world: &mut World,

@@ -90,12 +90,7 @@ pub fn methods_of(alloc: Global, world: &World) -> Result<Vec<u8>, AllocError>
 }
 
 /// So many rows of the journal at most, from one on.
-pub fn rows_of(
-    alloc: Global,
-    world: &World,
-    first: u32,
-    count: u32,
-) -> Result<Vec<u8>, AllocError>
+pub fn rows_of(alloc: Global, world: &World, first: u32, count: u32) -> Result<Vec<u8>, AllocError>
     ensures { IfOk result (λ text. text.items ≡ rows_text world.now.journal.rows first count) }
 {
     rows_answer(alloc, world.journal().rows(), first, count)

@@ -1,5 +1,5 @@
-//! A machine that tells all that can be seen of it: what a page asks is read from standard input, and answered on standard
-//! output.
+//! A machine that tells all that can be seen of it: what a page asks is read from standard input, and answered on
+//! standard output.
 #![tactic(auto)]
 
 mod asking;
@@ -15,8 +15,8 @@ use std::io;
 use std::io::Read;
 use std::process::ExitCode;
 
-/// What is read from standard input, up to its end, and answered; the exit status: 0, or 2 where there is no world, or 6 where
-/// memory runs out or a stream fails.
+/// What is read from standard input, up to its end, is answered. The exit status: 0, or 2 where there is no world, or 6
+/// where memory runs out or a stream fails.
 fn performed(rt: &HostRuntime) -> io::Result<u8> {
     let mut input = Vec::new(rt.alloc());
     let mut stdin = rt.stdin();

@@ -139,7 +139,8 @@ fn hold_session<R: Source, W: Sink>(
     }
 }
 
-/// A session over an input: a world is made of what it begins with, and what stands after that is carried out and answered.
+/// A session over an input: a world is made of what it begins with, and what stands after that is carried out and
+/// answered.
 pub fn play<S: Sink>(alloc: Global, input: &[u8], sink: &mut S) -> Result<Ended, DebugError>
     requires { S.failures sink.old < 2 ^ 64 - 1 }
 {

@@ -31,7 +31,7 @@ returns-then-is_quit-clause-session g c =
     (g.W.Sink.contents c.lines.sink) (g.W.Sink.contents c.say_farewell.new.sink)
     c.read_line.new.line (option_map said c.command_of-command.result)
     (c.in-Ok-true.ensures.line c.in-Ok-true.field-0-test)
-    (rw c.bytes.ensures at c.command_of-command.ensures) (c.is_quit.ensures.0 c.if-is_quit.true)
+    (rw c.bytes-bytes.ensures at c.command_of-command.ensures) (c.is_quit.ensures.0 c.if-is_quit.true)
     c.say_farewell.ensures.told)
 
 pub lines-preserved : goal.lines-preserved
@@ -43,8 +43,8 @@ lines-preserved g c = record {
       (g.R.Source.remaining c.read_line.new.source) after (g.W.Sink.contents c.lines.sink)
       (g.W.Sink.contents c.answer.new.sink) now c.read_line.new.line (option_map said c.command_of-command.result)
       (c.in-Ok-true.ensures.line c.in-Ok-true.field-0-test)
-      (rw c.bytes.ensures at c.command_of-command.ensures)
-      (λ quit. no_quit (c.is_quit.ensures.1 quit) c.if-is_quit.false) c.in-Ok.ensures.carried rest);
+      (rw c.bytes-bytes.ensures at c.command_of-command.ensures)
+      (λ quit. no_quit (c.is_quit.ensures.1 quit) c.if-is_quit.false) (rw c.bytes-bytes.ensures at c.in-Ok.ensures.carried) rest);
   reads = c.in-Ok-true.ensures.same ∙ c.lines.invariant.reads;
   writes = c.in-Ok.ensures.counts ∙ c.lines.invariant.writes;
 }
@@ -57,5 +57,5 @@ returns-in-Err-answer-clause-session g c =
     (g.R.Source.remaining c.read_line.new.source) (g.W.Sink.contents c.lines.sink)
     (g.W.Sink.contents c.answer.new.sink) c.read_line.new.line (option_map said c.command_of-command.result)
     (c.in-Ok-true.ensures.line c.in-Ok-true.field-0-test)
-    (rw c.bytes.ensures at c.command_of-command.ensures)
-    (λ quit. no_quit (c.is_quit.ensures.1 quit) c.if-is_quit.false) c.in-Err-answer.ensures.carried)
+    (rw c.bytes-bytes.ensures at c.command_of-command.ensures)
+    (λ quit. no_quit (c.is_quit.ensures.1 quit) c.if-is_quit.false) (rw c.bytes-bytes.ensures at c.in-Err-answer.ensures.carried))
