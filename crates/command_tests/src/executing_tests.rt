@@ -13,7 +13,8 @@ use std::test::Fail;
 use std::thread::Threads;
 
 /// Prints -2147483648.
-const SUM: &[u8] = b".class public Sum\n.super java/lang/Object\n.method public static main()V\n.limit stack 2\n.limit locals 0\nldc 2147483647\niconst_1\niadd\ninvokestatic vm/Sys/print(I)V\nreturn\n.end method\n";
+const SUM: &[u8] =
+    b".class public Sum\n.super java/lang/Object\n.method public static main()V\n.limit stack 2\n.limit locals 0\nldc 2147483647\niconst_1\niadd\ninvokestatic vm/Sys/print(I)V\nreturn\n.end method\n";
 
 const PRINTED: &[u8] = b"-2147483648\n";
 
@@ -117,9 +118,11 @@ fn ends_so<R: Threads + Wait + Sync>(
     let mut output = Vec::new(alloc);
     let mut errors = Vec::new(alloc);
     let status = status_of(rt, alloc, line.words, files, &mut output, &mut errors)?;
-    Ok(status == line.status
-        && output.as_slice() == line.output
-        && errors.as_slice() == line.errors)
+    Ok(
+        status == line.status
+            && output.as_slice() == line.output
+            && errors.as_slice() == line.errors,
+    )
 }
 
 #[test]
@@ -140,7 +143,14 @@ fn line_that_standard_error_does_not_take(rt: HostRuntime) -> Result<(), Fail> {
     files.add("Sum.j", SUM)?;
     let words = ["jvm", "run", "--steps", "1", "Sum.j"];
     let mut output = Vec::new(rt.alloc());
-    let status = status_of(&rt, rt.alloc(), &words, &mut files, &mut output, &mut FullStream)?;
+    let status = status_of(
+        &rt,
+        rt.alloc(),
+        &words,
+        &mut files,
+        &mut output,
+        &mut FullStream,
+    )?;
     assert!(rt; status == 6);
     Ok(())
 }

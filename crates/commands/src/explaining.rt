@@ -373,7 +373,8 @@ fn status_meaning(number: u32) -> Option<&'static str> {
              Example: `jvm: sum.j: J5 at line 6`. Ask `jvm explain` for the code.\n",
         3 => "The program did what a verifier of class files would not let it do.\n\
              Example: `jvm: fault F1 in thread 0`. Ask `jvm explain` for the code.\n",
-        4 => "A limit was reached: `jvm: step limit`, `jvm: output limit`, or the end of `jvm explore` is `cut off`.\n\
+        4 =>
+            "A limit was reached: `jvm: step limit`, `jvm: output limit`, or the end of `jvm explore` is `cut off`.\n\
              Example: a loop without end, or a print with `--output 0`.\n\
              Raise it by `--steps`, `--output` or `--states`.\n",
         5 => "The program is stuck: threads live, and each waits for another.\n\

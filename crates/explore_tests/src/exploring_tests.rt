@@ -1,6 +1,8 @@
 //! Explorations of small programs whose outcomes were worked out by hand.
 
-use crate::programs::{ALL, FAULT, GARBAGE, LIMITS, LOCKS, MAKERS, PRINTS, explored, program_of, watched};
+use crate::programs::{
+    ALL, FAULT, GARBAGE, LIMITS, LOCKS, MAKERS, PRINTS, explored, program_of, watched,
+};
 use exploring::{Bounds, Choice, Cut, End, Explored, States, canonical, keys_tell};
 use ideal_run::Transitions;
 use model::journals::Limits;

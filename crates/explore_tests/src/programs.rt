@@ -9,7 +9,8 @@ use std::alloc::{AllocError, Global};
 use std::test::Fail;
 
 /// Two threads, each of which locks two objects, in opposite orders.
-pub const LOCKS: &str = ".class D\n.super java/lang/Thread\n.field static a Ljava/lang/Object;\n.field static b Ljava/lang/Object;\n\
+pub const LOCKS: &str =
+    ".class D\n.super java/lang/Thread\n.field static a Ljava/lang/Object;\n.field static b Ljava/lang/Object;\n\
     .method static main()V\n.limit stack 1\n.limit locals 0\nnew java/lang/Object\nputstatic D/a Ljava/lang/Object;\n\
     new java/lang/Object\nputstatic D/b Ljava/lang/Object;\nnew D\ninvokevirtual D/start()V\n\
     getstatic D/a Ljava/lang/Object;\nmonitorenter\ngetstatic D/b Ljava/lang/Object;\nmonitorenter\n\
@@ -19,20 +20,24 @@ pub const LOCKS: &str = ".class D\n.super java/lang/Thread\n.field static a Ljav
     getstatic D/a Ljava/lang/Object;\nmonitorexit\ngetstatic D/b Ljava/lang/Object;\nmonitorexit\nreturn\n.end method\n";
 
 /// Makes objects for ever, and drops each.
-pub const GARBAGE: &str = ".class G\n.super java/lang/Object\n.method static main()V\n.limit stack 1\n.limit locals 0\n\
+pub const GARBAGE: &str =
+    ".class G\n.super java/lang/Object\n.method static main()V\n.limit stack 1\n.limit locals 0\n\
     Again:\nnew java/lang/Object\npop\ngoto Again\n.end method\n";
 
 /// Two threads, each of which makes an object and drops it.
-pub const MAKERS: &str = ".class M\n.super java/lang/Thread\n.method static main()V\n.limit stack 1\n.limit locals 0\n\
+pub const MAKERS: &str =
+    ".class M\n.super java/lang/Thread\n.method static main()V\n.limit stack 1\n.limit locals 0\n\
     new M\ninvokevirtual M/start()V\nnew java/lang/Object\npop\nreturn\n.end method\n\
     .method run()V\n.limit stack 1\n.limit locals 1\nnew java/lang/Object\npop\nreturn\n.end method\n";
 
 /// Prints an A, again and again.
-pub const PRINTS: &str = ".class P\n.super java/lang/Object\n.method static main()V\n.limit stack 1\n.limit locals 0\n\
+pub const PRINTS: &str =
+    ".class P\n.super java/lang/Object\n.method static main()V\n.limit stack 1\n.limit locals 0\n\
     Again:\nbipush 65\ninvokestatic vm/Sys/putc(I)V\ngoto Again\n.end method\n";
 
 /// Wants an operand that isn't there.
-pub const FAULT: &str = ".class F\n.super java/lang/Object\n.method static main()V\n.limit stack 1\n.limit locals 0\n\
+pub const FAULT: &str =
+    ".class F\n.super java/lang/Object\n.method static main()V\n.limit stack 1\n.limit locals 0\n\
     pop\nreturn\n.end method\n";
 
 pub const LIMITS: Limits = Limits {

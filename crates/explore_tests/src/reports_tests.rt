@@ -80,7 +80,8 @@ fn locks_are_reported(rt: HostRuntime) -> Result<(), Fail> {
 /// The fault is met in the second state. What doesn't end in a newline gets one.
 #[test]
 fn faults_and_outputs_are_reported(rt: HostRuntime) -> Result<(), Fail> {
-    let fault = b"outcome 1: fault F1 in thread 0\nturns 1\noutput 0\nexplored 2 states, 1 turns: complete\n";
+    let fault =
+        b"outcome 1: fault F1 in thread 0\nturns 1\noutput 0\nexplored 2 states, 1 turns: complete\n";
     assert!(rt; report(rt.alloc(), FAULT, ALL)?.as_slice() == fault.as_slice());
     let prints = report(rt.alloc(), PRINTS, ALL)?;
     assert!(rt; prints.starts_with(b"outcome 1: output limit\nturns "));
@@ -95,7 +96,8 @@ fn missing_cells_are_reported(rt: HostRuntime) -> Result<(), Fail> {
         no_room: true,
     };
     let text = report(rt.alloc(), MAKERS, bounds)?;
-    let first = b"outcome 1: finished\nthread 0 ended by java/lang/OutOfMemoryError\nturns 1\noutput 0\noutcome 2: ";
+    let first =
+        b"outcome 1: finished\nthread 0 ended by java/lang/OutOfMemoryError\nturns 1\noutput 0\noutcome 2: ";
     assert!(rt; text.starts_with(first));
     let found = explored(rt.alloc(), MAKERS, LIMITS, bounds)?;
     let Some(each) = found.found.first() else {

@@ -45,13 +45,7 @@ fn closing(output: &[u8]) -> &'static [u8]
 {
     match output.last() {
         None => b"",
-        Some(byte) => {
-            if *byte == b'\n' {
-                b""
-            } else {
-                b"\n"
-            }
-        }
+        Some(byte) => { if *byte == b'\n' { b"" } else { b"\n" } }
     }
 }
 
@@ -118,7 +112,10 @@ fn put_head<S: Sink>(
     let mut buffer = Buffer::new();
     let number = buffer.format(number).as_bytes();
     match fault {
-        None => put_pieces(sink, &[b"outcome ", number, b": ", status_words(status), b"\n"]),
+        None => put_pieces(
+            sink,
+            &[b"outcome ", number, b": ", status_words(status), b"\n"],
+        ),
         Some((fault, thread)) => put_fault(sink, number, fault, thread),
     }
 }
@@ -189,15 +186,7 @@ fn put_tail_of<S: Sink>(
 {
     put_pieces(
         sink,
-        &[
-            b"turns ",
-            turns,
-            b"\noutput ",
-            size,
-            b"\n",
-            output,
-            closing,
-        ],
+        &[b"turns ", turns, b"\noutput ", size, b"\n", output, closing],
     )
 }
 
@@ -303,7 +292,12 @@ fn put_last_of<S: Sink>(
 }
 
 /// The last line: how many states were found and turns made, and whether that is all.
-fn put_last<S: Sink>(sink: &mut S, states: u64, turns: u64, cut: Option<Cut>) -> Result<(), WriteFailed>
+fn put_last<S: Sink>(
+    sink: &mut S,
+    states: u64,
+    turns: u64,
+    cut: Option<Cut>,
+) -> Result<(), WriteFailed>
     requires { S.failures sink.old < 2 ^ 64 - 1 }
     ensures puts { Puts result (S.contents sink.old) (S.contents sink.new) (last_line states turns cut) }
     ensures same { OnOk result (S.failures sink.new ≡ S.failures sink.old) }

@@ -1,11 +1,11 @@
 //! What the program's words say: options, the system's files and streams, and the exit status.
 
+use crate::prompting::Prompted;
+use crate::telling::Teller;
 use commands::endings::Exit;
 use commands::executing::execute;
 use commands::files::SystemFiles;
 use commands::options::{Command, LineError, options};
-use crate::prompting::Prompted;
-use crate::telling::Teller;
 use std::alloc::{AllocError, Global};
 use std::io::{ErrorKind, IsTerminal, Write};
 use std::sync::Wait;

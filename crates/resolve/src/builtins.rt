@@ -150,11 +150,7 @@ pub fn builtin_number(name: &[u8]) -> Option<usize>
     place_among(&BUILTINS, name)
 }
 
-fn method_among(
-    classes: &'static [Builtin],
-    class: usize,
-    method: usize,
-) -> Option<&'static Native>
+fn method_among(classes: &'static [Builtin], class: usize, method: usize) -> Option<&'static Native>
     ensures { option_map native_listing (option_copied result)
         ≡ method_among (map own_listing classes.now) class method }
 {
