@@ -58,7 +58,8 @@ fn fault_words(fault: Fault) -> &'static [u8]
     }
 }
 
-fn turn_words(turn: Turn) -> &'static [u8]
+/// What a turn answered, in words: `done`, `not ready`, `stopped`, a fault, `output full` or `step limit`.
+pub fn turn_words(turn: Turn) -> &'static [u8]
     ensures { result.now ≡ turn_words turn }
 {
     match turn {
