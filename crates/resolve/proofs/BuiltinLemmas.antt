@@ -1,4 +1,4 @@
-use Rattle.std.proofs.Common.{◌≡◌, ℕ, zero, suc, List, [], ◌∷◌, cond, map, slice_get, Bool, true, false, Option, Some, None}
+use Rattle.std.proofs.Common.{◌≡◌, ℕ, List, [], ◌∷◌, cond, map, slice_get, Bool, true, false, Option, Some, None}
 use Rattle.std.proofs.Common.{refl, sym, ap, ◌∙◌}
 use Rattle.std.specs.List.{find}
 use Rattle.std.specs.Option.{option_and_then, option_map}
@@ -6,10 +6,8 @@ use Rattle.std.specs.Str.{bytes_eq}
 use Rattle.model.specs.ClassListings.{ClassListing}
 use Rattle.model.specs.Classes.Named.{is_named}
 use Rattle.std.proofs.lemmas.Option.{slice_get-map}
-use Rattle.model.specs.declared.listings.Method.{Method}
 use Rattle.resolve.specs.Builtins.{method_among, native_listing, own_listing}
 use Rattle.resolve.specs.declared.builtins.Builtin.{Builtin}
-use Rattle.resolve.specs.declared.builtins.Native.{Native}
 
 -- the superclass of the first class with this name
 abbrev pub superclass_in : List ClassListing → List ℕ → Option (List ℕ)
