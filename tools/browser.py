@@ -1,6 +1,7 @@
 """A browser without a screen, for tests: Debian's chromium by its chromedriver. Not called by itself."""
 import base64
 import json
+import os
 import shutil
 import subprocess
 import time
@@ -10,6 +11,26 @@ import urllib.request
 
 class NoBrowser(Exception):
     """There is no browser here."""
+
+
+# a minute or two where the net is there; where it isn't, a try ends soon
+APT = "timeout 180 apt-get -y -q -o Acquire::Retries=0 -o Acquire::http::Timeout=10 -o DPkg::Lock::Timeout=10".split()
+PACKAGES = ("chromium", "chromium-driver")
+
+
+def installed():
+    """Whether there is a browser, once it was tried to install one where that may be done."""
+    def is_there():
+        return bool(shutil.which("chromedriver") and shutil.which("chromium"))
+
+    if is_there() or os.geteuid() or not shutil.which("apt-get"):
+        return is_there()
+    how = {"stdout": subprocess.DEVNULL, "stderr": subprocess.DEVNULL, "stdin": subprocess.DEVNULL, "check": False}
+    how["env"] = {**os.environ, "DEBIAN_FRONTEND": "noninteractive"}
+    for words in (["update"], ["install", "--no-install-recommends", *PACKAGES]):
+        if subprocess.run([*APT, *words], **how).returncode:
+            break
+    return is_there()
 
 
 class Browser:

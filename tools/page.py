@@ -1,17 +1,17 @@
 #!/usr/bin/env python3
 """Builds the page: one HTML file that holds the machine, compiled to WebAssembly, and needs no server.
 
-Usage: page.py OUT.html [--module MODULE.bc] [--keep FOLDER]
+Usage: page.py OUT.html [--module MODULE.bc] [--keep FOLDER] [--from-gate]
 
 Where `playground` is proved and nothing is newer, it takes the module that `rt` hands to clang for the proved program; else that
 of `rt try`, of which nothing is proved, without its checks, and the page says so in its foot. The module was made for x86-64: its
 text is rewritten for wasm64, compiled by the kit's clang and linked by the kit's linker with web/memory.c. --module takes a
-module that is there; --keep keeps the .wasm in a folder. It prints the sizes and a checksum. It calls parts of the kit that its
+module that is there; --keep keeps the .wasm in a folder. --from-gate takes the libraries that `rt ci` proved and kept, so that
+no more than `main` of the program is proved once more, and ends without a page where that doesn't do. It prints the sizes and a checksum. It calls parts of the kit that its
 authors may change.
 """
 import argparse
 import base64
-import contextlib
 import gzip
 import hashlib
 import json
@@ -25,15 +25,17 @@ import tempfile
 import time
 
 from kit import linked_kit
+from take_kept import give, libraries_below
 from unproved import unchecked
 
 HERE = os.path.dirname(os.path.dirname(os.path.abspath(__file__)))
 CRATE = f"{HERE}/crates/playground"
 WEB = f"{HERE}/web"
-# clang, which leaves a copy of each module that it is given (it is called with no environment)
+# clang, which leaves a copy of each module that it is given (it is called with no environment); a proved program's is not
+# compiled once more for this machine
 KEEPER = """#!/bin/bash
 for it in "$@" *.bc; do
-    [ "${{{{it%.bc}}}}" != "$it" ] && [ -f "$it" ] && n=$(/bin/date +%s%N) && /bin/cp "$it" {room}/$n.part && /bin/mv {room}/$n.part {room}/$n.kept
+    [ "${{{{it%.bc}}}}" != "$it" ] && [ -f "$it" ] && n=$(/bin/date +%s%N) && /bin/cp "$it" {room}/$n.part && /bin/mv {room}/$n.part {room}/$n.kept && {then}
 done
 case "$*" in *-fsanitize=*) /bin/touch {room}/whole ;; esac
 exec -a "$0" {{real}} "$@"
@@ -49,6 +51,8 @@ TARGET = """--target=wasm64-unknown-unknown -mcpu=lime1 -mllvm -expand-div-rem-b
     -Wno-everything""".split()
 LAYOUT = "e-m:e-p:64:64-p10:8:8-p20:8:8-i64:64-i128:128-n32:64-S128-ni:1:10:20"
 STACK = 4 << 20
+# how long it may take to prove `main` and make the module, in seconds, where all below is proved
+LIMIT = 600
 SCRIPTS = ("protocol", "text", "lessons", "show", "page")
 PROVED = """The machine in this page is made of proved sources: what it answers is, by its contracts, what the definitions say. Not proved are the
 compiler for WebAssembly, the memory and the streams under it, and the page's own scripts."""
@@ -74,28 +78,32 @@ def is_proved():
     return True
 
 
-def kept_module(room, proved):
-    """The module of the whole program; `rt` is stopped once it is there."""
-    scripts = {"toolchain/bin/clang": KEEPER.format(room=room)}
+def kept_module(room, proved, limit=None):
+    """The module of the whole program; `rt` is stopped once it is there, or after so many seconds."""
+    scripts = {"toolchain/bin/clang": KEEPER.format(room=room, then="exit 1" if proved else "true")}
     if not proved:
         scripts["bin/rattle"] = PROVER
     kit = linked_kit(room, scripts)
-    if proved:  # with its stamp `rt run` compiles nothing; it writes another one
-        with contextlib.suppress(FileNotFoundError):
-            os.remove(f"{CRATE}/out/playground.stamp")
-    words = [f"{kit}/bin/rt", "run" if proved else "try"]
+    stamp = f"{CRATE}/out/playground.stamp"
+    if proved and os.path.exists(stamp):  # with it `rt run` compiles nothing
+        shutil.move(stamp, f"{room}/stamp")
+    words, began = [f"{kit}/bin/rt", "run" if proved else "try"], time.time()
     with open(f"{CRATE}/stdin", "rb") as given, open(f"{room}/said", "w+b") as said:
         how = {"cwd": CRATE, "stdin": given, "stdout": said, "stderr": said, "start_new_session": True}
         ran = subprocess.Popen(words, **how)
         try:
             while ran.poll() is None and (proved or not os.path.exists(f"{room}/whole")):
                 time.sleep(0.2)
+                if limit and time.time() - began > limit:
+                    fail(f"rt made no module in {limit} seconds")
         finally:
             if ran.poll() is None:
                 os.killpg(ran.pid, signal.SIGTERM)
             ran.wait()
         said.seek(0)
         lines = said.read().decode(errors="replace").splitlines()
+    if os.path.exists(f"{room}/stamp"):
+        shutil.move(f"{room}/stamp", stamp)
     kept = [f"{room}/{name}" for name in os.listdir(room) if name.endswith(".kept")]
     if not kept:
         fail(f"rt made no module: {lines[-1] if lines else 'it said nothing'}")
@@ -141,6 +149,15 @@ def codes():
     return found
 
 
+def texts_of(files, folder=""):
+    """Texts of examples/, by their names."""
+    texts = []
+    for file in files:
+        with open(f"{HERE}/examples/{folder}{file}", encoding="ascii") as text:
+            texts.append({"name": file, "text": text.read()})
+    return texts
+
+
 def examples():
     """The texts of examples/ that can be chosen, by name: each a list of files, whose first has main."""
     sets = {}
@@ -148,10 +165,10 @@ def examples():
     for name in sorted(os.listdir(f"{HERE}/examples")):
         if name.endswith(".j") and name not in ("Shape.j",):
             files = together.get(name[:-2], [name])
-            sets[name[:-2]] = []
-            for file in files:
-                with open(f"{HERE}/examples/{file}", encoding="ascii") as text:
-                    sets[name[:-2]].append({"name": file, "text": text.read()})
+            sets[name[:-2]] = texts_of(files)
+    for name in ("lost_update", "deadlock", "peterson", "race", "room"):
+        files = ["race.j", "Left.j", "Right.j"] if name == "race" else [f"{name}.j"]
+        sets[f"explore/{name}"] = texts_of(files, "explore/")
     return sets
 
 
@@ -188,13 +205,19 @@ def main():
     words.add_argument("out")
     words.add_argument("--module")
     words.add_argument("--keep")
+    words.add_argument("--from-gate", action="store_true")
     words.add_argument("--level", default="-O3", help=argparse.SUPPRESS)
     given = words.parse_args()
     signal.signal(signal.SIGTERM, lambda number, _: sys.exit(128 + number))
     clang = f"{os.path.dirname(os.path.dirname(os.path.realpath(shutil.which('rt') or fail('the Rattle kit is missing'))))}/toolchain/bin/clang"
     proved = is_proved()
+    if given.from_gate:
+        if not proved:
+            fail("rt ci left no proved playground")
+        if why := give(libraries_below("playground")):
+            fail(why)
     with tempfile.TemporaryDirectory() as room:
-        module = given.module or kept_module(room, proved)
+        module = given.module or kept_module(room, proved, LIMIT if given.from_gate else None)
         if given.keep:
             os.makedirs(given.keep, exist_ok=True)
             shutil.copy2(module, f"{given.keep}/module.bc") if module != f"{given.keep}/module.bc" else None

@@ -1,11 +1,14 @@
 #!/usr/bin/env python3
 """Tries the page in a real browser: clicks through what it can do, and compares what it shows with `jvm debug` and `jvm run`.
 
-Usage: page_test.py [--page FILE] [--jvm PROGRAM] [--playground PROGRAM] [--moments N] [--pictures FOLDER] [--after LOG] [WORD ..]
+Usage: page_test.py [--page FILE] [--jvm PROGRAM] [--playground PROGRAM] [--moments N] [--pictures FOLDER] [--gate] [--after LOG] [WORD ..]
 
 Without --page a page is built first (tools/page.py). Each example is looked at at some forty moments of its run. With WORDs only
 the tests whose names have one of them are made. --pictures keeps pictures. Needs Debian's chromium and chromium-driver; where
 they are missing it says `page: not tested, no browser`, and that counts as skipped.
+
+With --gate, which is for a call after `rt ci` in the same checkout, it tries to install what is missing, and the page is of the
+program that `rt ci` proved, compiled at -O1 for the sake of time; each example is looked at at ten moments.
 
 The last line is 'N passed, M failed', with ', K skipped' where there are some. With --after, the counts in the last line of that
 file are added.
@@ -22,7 +25,7 @@ import sys
 import tempfile
 import time
 
-from browser import Browser, NoBrowser
+from browser import Browser, NoBrowser, installed
 
 ROOT = os.path.dirname(os.path.dirname(os.path.abspath(__file__)))
 LIMIT = 60
@@ -65,6 +68,10 @@ return
 
 class Skipped(Exception):
     """Why something can't be tried here."""
+
+
+class NoPage(Exception):
+    """No page could be built."""
 
 
 class Tried(Exception):
@@ -278,6 +285,15 @@ def tried_breakpoint(page):
     same((shown["at"], shown["threads"][0]["lines"]), (6, wanted[2:5]))
     holds("at breakpoint 0 thread 0" in shown["status"], "the breakpoint isn't told")
     same(page.click("#to-break")["output"], "3\n")
+    page.browser.run("$('gc').value = 2")
+    page.click("#start")
+    shown = page.click("#to-break")
+    same((shown["at"], shown["threads"][0]["lines"]), (9, wanted[2:5]), "with two turns of the collector in each round")
+    holds("at breakpoint 0 thread 0" in shown["status"], "the breakpoint isn't told, with two turns of the collector")
+    same(page.click("#to-break")["output"], "3\n")
+    page.browser.run("$('gc').value = 0")
+    same([page.click("#to-break")["output"] for _ in range(2)], ["3\n2\n", "3\n2\n1\n"], "with none, and up to the end")
+    page.browser.run("$('gc').value = 1")
     page.click('#gutter [data-line="12"] button')
     page.click("#to-break")
     holds("No breakpoint" in page.browser.run("return $('status').textContent"), "no breakpoint isn't told")
@@ -442,6 +458,70 @@ def tried_long_runs(page):
     page.settled()
 
 
+# how a run stands that an exploration tells so
+STANDS = {"finished": "finished", "stuck": "stuck", "output limit": "running"}
+OUTCOMES = """return [...document.querySelectorAll('#outcomes li')].map((it) => ({
+  words: it.querySelector('strong').textContent, ended: [...it.querySelectorAll('.lines')].map((line) => line.textContent),
+  output: it.querySelector('pre')?.textContent ?? '', turns: Number(/after (\\d+) turns/.exec(it.textContent)[1]) }));"""
+
+
+def told_by(outcomes):
+    """The lines of a report on outcomes as the page shows them."""
+    text = ""
+    for number, it in enumerate(outcomes, 1):
+        text += f"outcome {number}: {it['words']}\n" + "".join(f"{line}\n" for line in it["ended"])
+        text += f"turns {it['turns']}\noutput {len(it['output'])}\n{it['output']}"
+        text += "" if not it["output"] or it["output"].endswith("\n") else "\n"
+    return text
+
+
+def explored(page, files, *words):
+    """What `jvm explore` prints."""
+    return subprocess.run([page.jvm, "explore", *words, *files], capture_output=True, text=True, timeout=LIMIT, check=False).stdout
+
+
+def opened_outcomes(page, outcomes):
+    """Opens each outcome, which is a run to it."""
+    for number, outcome in enumerate(outcomes, 1):
+        shown = page.click(f'#outcomes [data-outcome="{number}"] button')
+        words = outcome["words"]
+        same((shown["at"], shown["total"]), (outcome["turns"], outcome["turns"]), f"the rows to outcome {number}")
+        same(shown["state"]["status"], STANDS.get(words, "faulted"), f"how outcome {number} stands")
+        same(shown["output"], outcome["output"], f"output of outcome {number}")
+        ended = [f"thread {it['number']} {re.search('ended by .*', it['head'])[0]}" for it in shown["threads"] if "ended by" in it["head"]]
+        same(ended, outcome["ended"], f"the threads of outcome {number} that an exception ended")
+        holds(f"to outcome {number}, {words}" in shown["status"], f"it isn't told that outcome {number} was opened: {shown['status']}")
+        same(page.browser.run(OUTCOMES), outcomes, "the outcomes, once one was opened")
+
+
+def tried_exploring(page):
+    """Every schedule of some programs, beside what `jvm explore` tells, and each outcome opened as a run."""
+    for report in sorted(os.listdir(f"{ROOT}/examples/explore")):
+        if not report.endswith(".txt"):
+            continue
+        name, _, option = report.removesuffix(".txt").partition("--")
+        example = name if name == "D" else f"explore/{name}"
+        page.example(example)
+        page.browser.run("$('no-room').checked = arguments[0]", option == "no-room")
+        page.click("#explore")
+        words = ["--states", "100000", "--steps", "1000000", "--output", "65536", *([f"--{option}"] if option else [])]
+        wanted = explored(page, page.files(example), *words)
+        same(page.browser.run("return page.explored.report"), wanted, f"the report of {report}")
+        outcomes = page.browser.run(OUTCOMES)
+        same(told_by(outcomes) + page.browser.run("return $('explored').textContent")[:-1] + "\n", wanted, f"what is shown of {report}")
+        opened_outcomes(page, outcomes)
+    page.picture("explored")
+    page.browser.run("$('no-room').checked = false; $('states').value = 20")
+    page.example("explore/peterson")
+    same(page.browser.run(OUTCOMES), [], "outcomes of another program")
+    page.key("e")
+    same(page.browser.run("return $('explored').textContent"), explored(page, page.files("explore/peterson"), "--states", "20").strip() + ".", "a search that is cut off")
+    page.browser.run("$('states').value = 100000")
+    page.browser.run("explore()")
+    page.browser.run("page.machine.stop()")
+    same(page.settled()["at"], 0, "the page is usable after an exploration was stopped")
+
+
 def tried_lessons(page):
     page.browser.click("#show-lessons")
     wanted = [("What a turn is", "threads"), ("The three colours", "heap"), ("Why there is a write barrier", "heap"), ("A lost update", "statics"), ("A deadlock", "threads")]
@@ -478,6 +558,7 @@ LOOKS = ["state", "threads", "held", "statics", "heap", "output"]
 SESSIONS = (
     ["methods", "listing 0", "listing 9", *LOOKS, "rounds 5 1", *LOOKS, "step 0", "gc", "step 200", *LOOKS, "object 1", "object 3", "rounds 100000 2", *LOOKS, "rows 0 50", "rows 40 3", "journal"],
     ["rounds 7 0", "state", "gc", "state", "rounds 100000 1", "state", "threads", "journal", "bad", "rounds 1", "rows 1", "listing", ""],
+    ["explore 1000", "explore no-room 1000", "state", "explore 0", "explore", "explore x", "explore no-room"],
     ["break Countdown.main()V 3", "run 1000", *LOOKS, "run 1000", "delete 0", "run 1000000", *LOOKS, "quit", "state"],
 )
 
@@ -546,7 +627,7 @@ return found.slice(0, 5);
 def tests(page):
     """Each test with its name."""
     names = page.browser.run("return Object.keys(DATA.examples)")
-    yield from ((f"example {name}", lambda name=name: tried_example(page, name)) for name in names if name not in ("missing_operand",))
+    yield from ((f"example {name}", lambda name=name: tried_example(page, name)) for name in names if name != "missing_operand" and "/" not in name)
     yield "a fault", lambda: tried_example(page, "missing_operand")
     for name, test in list(globals().items()):
         if name.startswith("tried_") and name != "tried_example":
@@ -578,7 +659,11 @@ def page_of(given, room):
     """The page's path; where none is given, it is built."""
     if given.page:
         return os.path.abspath(given.page)
-    subprocess.run([sys.executable, f"{ROOT}/tools/page.py", f"{room}/page.html"], check=True)
+    words = ["--from-gate", "--level=-O1"] if given.gate else []
+    made = subprocess.run([sys.executable, f"{ROOT}/tools/page.py", f"{room}/page.html", *words], stdout=subprocess.PIPE, text=True, check=False)
+    if made.returncode:
+        raise NoPage
+    print(f"page: {made.stdout.splitlines()[0].rsplit('/', 1)[-1]}", flush=True)
     return f"{room}/page.html"
 
 
@@ -587,7 +672,8 @@ def main():
     words.add_argument("--page")
     words.add_argument("--jvm", default=f"{ROOT}/crates/jvm/out/jvm")
     words.add_argument("--playground", default=f"{ROOT}/crates/playground/out/playground")
-    words.add_argument("--moments", type=int, default=40)
+    words.add_argument("--moments", type=int)
+    words.add_argument("--gate", action="store_true")
     words.add_argument("--pictures")
     words.add_argument("--port", type=int, default=9515)
     words.add_argument("--after", metavar="LOG")
@@ -601,10 +687,14 @@ def main():
     signal.signal(signal.SIGTERM, lambda number, _: sys.exit(128 + number))
     if given.pictures:
         os.makedirs(given.pictures, exist_ok=True)
+    moments = given.moments or (10 if given.gate else 40)
     with tempfile.TemporaryDirectory() as room:
         try:
+            if given.gate and not installed():
+                raise NoBrowser
+            path = page_of(given, room)
             with contextlib.closing(Browser(given.port)) as browser:
-                page = Page(browser, page_of(given, room), os.path.abspath(given.jvm), room, given.moments, given.pictures)
+                page = Page(browser, path, os.path.abspath(given.jvm), room, moments, given.pictures)
                 page.playground = os.path.abspath(given.playground)
                 for name, why in tried(page, given.words):
                     skips = isinstance(why, Skipped)
@@ -614,6 +704,9 @@ def main():
         except NoBrowser:
             skipped += 1
             print("page: not tested, no browser")
+        except NoPage:
+            failed += 1
+            print("page: not tested, no page could be built")
     print(f"{passed} passed, {failed} failed" + (f", {skipped} skipped" if skipped else ""))
     return 1 if failed else 0
 

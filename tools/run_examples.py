@@ -15,7 +15,8 @@ commands each request for memory is refused in turn (memory_refused.py), and eac
 The programs of examples/explore are explored, with the report beside each, and programs that are made up are explored as the plain
 explorer does (explore_agrees.py). Inputs that were cut, changed or made up are told as the plain reader tells them (damaged.py).
 
-The last line is 'N passed, M failed'. With --after, the passes and failures in the last line of that file are added.
+The last line is 'N passed, M failed', with ', K skipped' where there are some. With --after, the counts in the last line of that
+file are added.
 """
 import argparse
 import glob
@@ -211,12 +212,14 @@ def main():
     words.add_argument("--jvm", default=BUILT)
     words.add_argument("--after")
     given = words.parse_args()
-    passed = failed = 0
+    passed = failed = skipped = 0
     if given.after:
         last = bytes_of(given.after).decode().rstrip("\n").split("\n")[-1]
-        passed, failed = (int(it) for it in re.match(r"(\d+) passed, (\d+) failed", last).groups())
+        found = re.match(r"(\d+) passed, (\d+) failed(?:, (\d+) skipped)?", last).groups()
+        passed, failed, skipped = (int(it or 0) for it in found)
+    skips = f", {skipped} skipped" if skipped else ""
     if not os.path.exists(given.jvm):
-        print(f"examples: there is no {given.jvm}\n{passed} passed, {failed + 1} failed")
+        print(f"examples: there is no {given.jvm}\n{passed} passed, {failed + 1} failed{skips}")
         return 1
     with tempfile.TemporaryDirectory() as room:
         for tried in TRIED:
@@ -224,7 +227,7 @@ def main():
                 passed, failed = passed + (not why), failed + bool(why)
                 if why:
                     print(f"examples: {name}: {why}")
-    print(f"{passed} passed, {failed} failed")
+    print(f"{passed} passed, {failed} failed{skips}")
     return 1 if failed else 0
 
 

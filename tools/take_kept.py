@@ -18,26 +18,41 @@ from kit import module_of_kit
 HERE = os.path.dirname(os.path.dirname(os.path.abspath(__file__)))
 
 
-def main():
-    rt = module_of_kit("rt")
+def crates_here(rt):
     rt.Crate.allowed = rt.handles_of(HERE)
-    crates = rt.crates_of(HERE)
-    names = sys.argv[1:]
-    unknown = set(names) - {it.name for it in crates}
-    if unknown or not names:
-        sys.exit(f"no crate is named {' '.join(sorted(unknown))}" if unknown else __doc__)
+    return rt.crates_of(HERE)
+
+
+def libraries_below(name):
+    """The names of the libraries that a crate stands on, lowest first."""
+    crate = next(it for it in crates_here(module_of_kit("rt")) if it.name == name)
+    return [it.name for it in crate.below()]
+
+
+def give(names, tell=lambda line: None):
+    """Gives crates of these names what was kept; why one can't be given, or nothing."""
+    rt = module_of_kit("rt")
+    crates = crates_here(rt)
     wanted = [it for it in crates if it.name in names]
     below = {dep for it in wanted for dep in it.below()}
     kept = rt.Kept(crates)
     for crate in (it for it in crates if it in wanted or it in below):
         if crate in wanted:
             if not kept.give(crate, False, kept.key(crate)):
-                sys.exit(f"{crate.name}: nothing is kept of this text over these libraries: run rt ci {crate.name}")
+                return f"{crate.name}: nothing is kept of this text over these libraries: run rt ci {crate.name}"
             with open(f"{crate.folder}/out/rlib/stamp", "w", encoding="utf-8") as file:
                 file.write(crate.stamp())
-            print(f"{crate.name}: taken")
+            tell(f"{crate.name}: taken")
         kept.is_built(crate)
-    return 0
+    return None
+
+
+def main():
+    names = sys.argv[1:]
+    unknown = set(names) - {it.name for it in crates_here(module_of_kit("rt"))}
+    if unknown or not names:
+        sys.exit(f"no crate is named {' '.join(sorted(unknown))}" if unknown else __doc__)
+    return give(names, print)
 
 
 if __name__ == "__main__":

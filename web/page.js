@@ -3,7 +3,8 @@
 
 const DATA = JSON.parse($("data").textContent);
 const SHAPE = { small: 8, medium: 2, large: 1 }, LIMITS = { steps: 1000000, output: 65536 };
-const ALL_ROUNDS = 16777215, MOST_ROUNDS_TO_BREAK = 1000000, ROWS_A_PAGE = 256, SAMPLES = 240, SAMPLED_CELLS = 60000;
+const ROOMY = { small: 40000, medium: 16000, large: 1400 };
+const ALL_ROUNDS = 16777215, MOST_ROUNDS_TO_BREAK = 1000000, MOST_ROUNDS_ONE_BY_ONE = 100000, MOST_ROUNDS_AT_ONCE = 10000, ROWS_A_PAGE = 256, SAMPLES = 240, SAMPLED_CELLS = 60000;
 
 const page = {
   machine: null,
@@ -19,6 +20,7 @@ const page = {
   refusal: null,
   generation: 0, // how often the program was changed
   drawn: null, // the timeline
+  explored: null, // what was found of every schedule, and of which program
   busy: false,
 };
 
@@ -38,7 +40,7 @@ const say = (text) => { $("status").textContent = text; };
 
 // ---- runs
 
-const BUTTONS = ["start", "back", "forth", "end", "thread", "collect", "round", "run", "to-break", "rounds", "draw", "save-journal"];
+const BUTTONS = ["start", "back", "forth", "end", "thread", "collect", "round", "run", "to-break", "rounds", "draw", "explore", "save-journal"];
 
 function enable() {
   const there = page.view !== null && !page.busy, total = rowsOf(page.moves);
@@ -50,8 +52,8 @@ function enable() {
   $("stop").disabled = !page.busy;
 }
 
-// The machine's answers to some lines; null where it was stopped or failed.
-async function asked(lines) {
+// The machine's answers to some lines, on the heap that is set or on another; null where it was stopped or failed.
+async function asked(lines, shape = setting().shape) {
   page.busy = true;
   enable();
   const late = setTimeout(() => {
@@ -59,7 +61,7 @@ async function asked(lines) {
     $("progress").removeAttribute("value");
   }, 150);
   try {
-    const answer = await page.machine.ask(inputOf(setting(), lines), (done) => {
+    const answer = await page.machine.ask(inputOf({ ...setting(), shape }, lines), (done) => {
       $("progress").max = lines.length;
       $("progress").value = Math.min(done, lines.length);
     });
@@ -100,6 +102,7 @@ async function load(moves = [], at = null) {
   page.at = 0;
   page.chosen = null;
   forget();
+  if (page.explored && page.explored.of !== explorable()) forgetExploration();
   const listing = page.sources.map((_, number) => `listing ${number}`);
   const answers = await asked(["methods", ...listing]);
   if (answers === null || generation !== page.generation) return;
@@ -216,13 +219,17 @@ function turnOfNext() {
   else turn(String(next));
 }
 
-// Runs up to a breakpoint, by the debugger's `run`: a turn of the collector follows each of a thread.
+// Runs up to a breakpoint, with as many turns of the collector in each round as are set.
 async function runToBreakpoint() {
   const places = [...page.breakpoints.values()].flatMap((lines) => [...lines.values()]);
-  if (places.length === 0) {
-    say("No breakpoint is set: choose the number of a line with an instruction.");
-    return;
-  }
+  if (page.view === null || page.busy) return;
+  if (places.length === 0) say("No breakpoint is set: choose the number of a line with an instruction.");
+  else if (numberIn("gc") === 1) await runByDebugger(places);
+  else await runByRounds(places, numberIn("gc"));
+}
+
+// By the debugger's `run`: a turn of the collector follows each of a thread.
+async function runByDebugger(places) {
   const before = linesBetween(page.moves, 0, page.at), generation = page.generation;
   const own = [...places.map((place) => `break ${place.method} ${place.pc}`), `run ${MOST_ROUNDS_TO_BREAK}`];
   const answers = await asked([...before, ...own, ...looks()]);
@@ -232,6 +239,35 @@ async function runToBreakpoint() {
   const found = /^ran (\d+): (.*)$/.exec(told);
   const n = Number(found[1]) + (found[2].startsWith("fault") ? 1 : 0);
   await moved({ kind: "rounds", n, gc: 1 }, viewOf(answers), found[2], "Run");
+}
+
+// By rounds, one after another: it is looked where the next thread stands, from the second round on. A few rounds are
+// asked for at first, and then more and more at once.
+async function runByRounds(places, gc) {
+  const before = linesBetween(page.moves, 0, page.at), generation = page.generation;
+  let made = 0, at = null, told = "";
+  for (let count = 100; at === null && told === "" && made < MOST_ROUNDS_ONE_BY_ONE; count = Math.min(10 * count, MOST_ROUNDS_AT_ONCE)) {
+    const known = made > 0 ? [`rounds ${made} ${gc}`] : [];
+    const answers = await asked([...before, ...known, ...Array(count).fill([`rounds 1 ${gc}`, "state", "threads"]).flat()]);
+    if (answers === null || generation !== page.generation) return;
+    passed(answers, [...before, ...known]);
+    for (let round = 0; round < count && at === null && told === ""; round++) {
+      const [, left, answer] = /^left (\d+): (.*)$/.exec(answers.line());
+      const { next } = answers.state(), threads = answers.threads();
+      made++;
+      if (left !== "0" || answer !== "done") told = answer;
+      else at = placeOfNext(threads, next, places);
+    }
+  }
+  await make({ kind: "rounds", n: made, gc }, "Run");
+  if (at !== null && page.view) say(`Run: at breakpoint ${at.number} thread ${at.thread}. ${statusWords(page.view)}`);
+}
+
+// The place with its number at which the next thread stands, if it stands at one.
+function placeOfNext(threads, next, places) {
+  const frame = threads.find((it) => it.number === next)?.frames[0];
+  const number = frame ? places.findIndex((it) => it.method === frame.method && it.pc === frame.pc) : -1;
+  return number < 0 ? null : { number, thread: next };
 }
 
 // ---- what is shown
@@ -395,6 +431,72 @@ async function showJournal() {
   showRows(number * ROWS_A_PAGE, rows, page.at, (row) => go(row));
 }
 
+// ---- every schedule
+
+// What an exploration depends on: the sources and the limits, and not the heap.
+const explorable = () => JSON.stringify([page.sources.map((it) => it.text ?? toBase64(it.bytes)), numberIn("steps"), numberIn("output-limit")]);
+
+function forgetExploration() {
+  page.explored = null;
+  showNoExploration();
+}
+
+async function explore() {
+  if (page.view === null || page.busy) return;
+  forgetExploration();
+  $("explored").textContent = "Exploring ..";
+  const of = explorable(), generation = page.generation, noRoom = $("no-room").checked ? "no-room " : "";
+  const answers = await asked([`explore ${noRoom}${Math.max(1, numberIn("states"))}`]);
+  if (answers === null || generation !== page.generation) return showNoExploration();
+  if (!/^(outcome|explored) /.test(answers.peek())) {
+    $("explored").textContent = "The machine has no memory for what it found.";
+    return;
+  }
+  page.explored = { ...answers.exploration(), of };
+  showExploration(page.explored, openWitness);
+}
+
+// The heap on which the turns of a witness find cells as it says: with the cells that are taken up to the first turn for
+// which one has to be missing; with as many as are set where none is, if they are enough.
+async function heapFor(turns) {
+  const missing = turns.findIndex((it) => !it.room), before = missing < 0 ? turns : turns.slice(0, missing);
+  const lines = before.map((it) => turnLine(it.thread));
+  const answers = await asked([...lines, "heap"], ROOMY);
+  if (answers === null) return null;
+  passed(answers, lines);
+  const shape = { small: 0, medium: 0, large: 0 }, names = { 4: "small", 32: "medium", 256: "large" };
+  for (const cell of answers.heap()) if (cell.colour !== "free") shape[names[cell.words]]++;
+  if (missing < 0) for (const [size, count] of Object.entries(setting().shape)) shape[size] = Math.max(shape[size], count);
+  return shape;
+}
+
+// Whether the turns of a witness find cells as it says, on a heap of this shape.
+async function isMade(turns, shape) {
+  const lines = turns.map((it) => turnLine(it.thread));
+  const answers = await asked([...lines, `rows 0 ${turns.length}`], shape);
+  if (answers === null) return null;
+  passed(answers, lines);
+  const rows = answers.rows(turns.length);
+  return rows.length === turns.length && rows.every((row, at) => (row.split(" ")[1] !== "n") === turns[at].room);
+}
+
+// Opens the turns that lead to an outcome, as a run at whose end one stands.
+async function openWitness(outcome, number) {
+  if (page.busy) return;
+  const { turns } = outcome, generation = page.generation;
+  const shape = await heapFor(turns);
+  const made = shape && (await isMade(turns, shape));
+  if (made === null || generation !== page.generation) return;
+  if (!made) {
+    const at = turns.findIndex((it) => !it.room) + 1;
+    say(`Outcome ${number} isn't opened: no heap was found on which a cell is missing at turn ${at}, and at no other turn but those of the witness.`);
+    return;
+  }
+  for (const [size, count] of Object.entries(shape)) $(size).value = count;
+  await load([moveOf(turns)], turns.length);
+  if (page.view) say(`A run to outcome ${number}, ${outcome.words}. ${statusWords(page.view)}`);
+}
+
 // ---- the timeline
 
 function forget() {
@@ -552,6 +654,7 @@ const KEYS = [
   ["End", "End", "to the last row", () => go(rowsOf(page.moves))],
   ["a", "A", "arrows on or off", () => { $("arrows").click(); }],
   ["t", "T", "draw the timeline", () => drawTimeline()],
+  ["e", "E", "explore every schedule", () => explore()],
   ["Escape", "Escape", "stop", () => page.machine.stop()],
 ];
 
@@ -582,7 +685,7 @@ function wire() {
     start: () => go(0), back: () => go(page.at - 1), forth: () => go(page.at + 1), end: () => go(rowsOf(page.moves)),
     thread: turnOfNext, collect: () => turn("c"), round: () => rounds(1), run: () => rounds(ALL_ROUNDS),
     "to-break": runToBreakpoint, rounds: () => rounds(numberIn("many")), stop: () => page.machine.stop(),
-    go: () => page.view && go(numberIn("row")), draw: drawTimeline, open: () => $("files").click(), link: copyLink,
+    go: () => page.view && go(numberIn("row")), draw: drawTimeline, explore, open: () => $("files").click(), link: copyLink,
     "save-text": () => save(page.sources[page.shown].name, [page.sources[page.shown].bytes ?? page.sources[page.shown].text], "text/plain"),
     "save-journal": saveJournal,
     "save-timeline": () => save("timeline.svg", [page.drawn.svg.outerHTML], "image/svg+xml"),

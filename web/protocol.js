@@ -123,6 +123,9 @@ function linesBetween(moves, from, to) {
   return lines;
 }
 
+// The turns of threads, as a move, before it is known how many rows they make.
+const moveOf = (turns) => ({ kind: "turns", actors: turns.map((it) => it.thread) });
+
 const rowsOf = (moves) => moves.reduce((sum, move) => sum + move.rows, 0);
 
 // The moves up to a row.
@@ -281,7 +284,28 @@ class Answers {
   output() {
     return this.whole();
   }
+
+  // What an exploration found: its report, its outcomes in order, each with the turns that lead to it, and its last line.
+  exploration() {
+    const start = this.at, outcomes = [];
+    for (let found; (found = /^outcome \d+: (.*)$/.exec(this.peek())); ) {
+      this.line();
+      const outcome = { words: found[1], ended: this.linesWhile((line) => /^thread \d+ ended by /.test(line)) };
+      this.line(); // how many turns
+      const length = Number(this.line().split(" ")[1]);
+      outcome.output = this.text.slice(this.at, this.at + length);
+      this.at += length;
+      if (length > 0 && !outcome.output.endsWith("\n")) this.at++;
+      outcomes.push(outcome);
+    }
+    const last = this.line(), report = this.text.slice(start, this.at);
+    for (const outcome of outcomes) outcome.turns = turnsOf(this.whole());
+    return { report, outcomes, last };
+  }
 }
+
+// The turns of a witness: each with its thread, and whether it finds a cell where it asks for one.
+const turnsOf = (text) => text.split("\n").slice(0, -1).map((line) => ({ thread: line.split(" ")[0], room: !line.endsWith(" no room") }));
 
 function framesOf(lines) {
   const frames = [];

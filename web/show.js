@@ -193,6 +193,31 @@ function showRows(first, rows, at, go) {
   if (chosen) $("journal").scrollTop = Math.max(0, chosen.offsetTop - $("journal").offsetTop - $("journal").clientHeight / 2);
 }
 
+// ---- every schedule
+
+const MOST_OUTCOMES = 1000;
+
+function outcomeShown(outcome, number, open) {
+  const code = /^fault (F\d+)/.exec(outcome.words)?.[1], count = outcome.turns.length;
+  const made = element("li", { "data-outcome": number }, element("strong", {}, outcome.words), ` after ${count} turns `);
+  made.append(element("button", { onclick: () => open(outcome, number), "aria-label": `Open a run to outcome ${number}, ${outcome.words}` }, "Open"));
+  if (code) made.append(element("div", { class: "small" }, DATA.codes[code] ?? ""));
+  for (const line of outcome.ended) made.append(element("div", { class: "lines" }, line));
+  if (outcome.output) made.append(element("pre", { tabindex: "0", "aria-label": `Output of outcome ${number}` }, outcome.output));
+  return made;
+}
+
+function showExploration(found, open) {
+  const shown = found.outcomes.slice(0, MOST_OUTCOMES);
+  $("explored").textContent = shown.length < found.outcomes.length ? `${found.last}. The first ${MOST_OUTCOMES} outcomes are shown.` : `${found.last}.`;
+  $("outcomes").replaceChildren(...shown.map((outcome, index) => outcomeShown(outcome, index + 1, open)));
+}
+
+function showNoExploration() {
+  $("explored").textContent = "";
+  $("outcomes").replaceChildren();
+}
+
 // ---- the timeline
 
 const BANDS = { idle: "#e8e4d8", statics: "#c9dff2", frames: "#bfe3cf", mark: "#f3d9a4", append: "#eec4c0" };

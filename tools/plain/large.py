@@ -28,8 +28,8 @@ print(os.waitstatus_to_exitcode(status), used.ru_utime + used.ru_stime, used.ru_
 
 
 class Large(NamedTuple):
-    """What is given: files by their names, a command, and what is to be reported, or nothing; and how many pieces of work it makes
-    beside its bytes: rows of selection tables, or superinterfaces for each class below them."""
+    """What is given: files by their names, a command, and what is to be reported, or nothing; and how many rows of selection tables
+    it makes, which its bytes don't count."""
 
     name: str
     files: dict
@@ -120,10 +120,10 @@ def many_below():
 def many_above():
     """Interfaces each of which names the next one many times."""
     files = {"c": small_class(0x0021, "E", "java/lang/Object", (), main_alone)}
-    for n in range(64):
-        above = [f"I{n + 1}"] * 10_000 if n < 63 else []
+    for n in range(128):
+        above = [f"I{n + 1}"] * 10_000 if n < 127 else []
         files[f"i{n}"] = small_class(0x0601, f"I{n}", "java/lang/Object", above)
-    return Large("64 interfaces, each naming the next one 10,000 times", files, ["run", *files], None, 64 * 32 * 10_000)
+    return Large("128 interfaces, each naming the next one 10,000 times", files, ["run", *files], None)
 
 
 def labels():

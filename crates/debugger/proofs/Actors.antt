@@ -15,7 +15,7 @@ use Rattle.debugger.specs.declared.errors.DebugError.{DebugError}
 use Rattle.debugger.specs.declared.errors.DebugError.TheVariants.{Read, Write, Memory}
 use Rattle.debugger.specs.Breakpoints.{Breakpoints, at_number, place_named}
 use Rattle.debugger.specs.Runs.{Ran, after_done, collected, ended, held_unless, one_more, reason_of, run_on, unless_held}
-use Rattle.debugger.specs.Sessions.{Breaks, Debugged, Deletes, Does, DoesAll, Ends, LedByActors}
+use Rattle.debugger.specs.Sessions.{AllDone, Breaks, Debugged, Deletes, Does, DoesLine, Ends, LedByActors}
 use Rattle.debugger.specs.Sessions.{Session, Stops}
 
 led_none : (v : Recorded) → LedByActors v v
@@ -111,7 +111,7 @@ led_command s t answer (Some Heap) h = led_same s t h.0
 led_command s t answer (Some (Class name)) h = led_same s t h.0
 led_command s t answer (Some Quit) h = led_same s t h.0
 
-led_lines : (s t : Debugged) (answers : List ℕ) (lines : List (List ℕ)) → DoesAll s lines t answers
+led_lines : (s t : Debugged) (answers : List ℕ) (lines : List (List ℕ)) → AllDone DoesLine s lines t answers
     → LedByActors s.world t.world
 led_lines s t answers [] h = led_same s t h.0
 led_lines s t answers (line ∷ lines) (m, first, rest, does, all, is) =
@@ -120,7 +120,7 @@ led_lines s t answers (line ∷ lines) (m, first, rest, does, all, is) =
 -- ---- a session
 
 led_stop : (e : DebugError) (s : Debugged) (w : Recorded) (mid after out now : Option (List ℕ)) (answers : List ℕ)
-    → Stops e s w mid after out now answers → LedByActors s.world w
+    → Stops DoesLine e s w mid after out now answers → LedByActors s.world w
 led_stop Read s w mid after out now answers k = ([], k.world)
 led_stop Memory s w mid after out now answers k = ([], k.world)
 led_stop Write s w mid after out now answers (inl k) =
@@ -128,7 +128,7 @@ led_stop Write s w mid after out now answers (inl k) =
 led_stop Write s w mid after out now answers (inr k) = ([], k.world)
 
 led_end : {A : Type 0} (result : Result A DebugError) (s : Debugged) (w : Recorded)
-    (mid after out now : Option (List ℕ)) (answers : List ℕ) → Ends result s w mid after out now answers
+    (mid after out now : Option (List ℕ)) (answers : List ℕ) → Ends DoesLine result s w mid after out now answers
     → LedByActors s.world w
 led_end (Ok a) s w mid after out now answers k = ([], k.world)
 led_end (Err e) s w mid after out now answers k = led_stop e s w mid after out now answers k

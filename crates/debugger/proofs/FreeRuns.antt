@@ -21,7 +21,7 @@ use Rattle.scheduler.proofs.Picking.{NoRowLeft, no_row_left, ready_answer, rests
 use Rattle.debugger.specs.Breakpoints.{Breakpoints, first_at, least_at}
 use Rattle.debugger.specs.Runs.{HoldsNone, Ran, ended, held_unless, one_more, reason_after, reason_of, run_on}
 use Rattle.debugger.specs.Runs.{sweep_answer, swept_once, unless_held}
-use Rattle.debugger.proofs.RunSteps.{fails, more, next_round, rests, stops}
+use Rattle.debugger.proofs.RunSteps.{fails, more, next_round, rests, round_swept, runs_where_done, stops}
 
 -- ---- where no number has a place
 
@@ -84,14 +84,10 @@ module _ (bs : Breakpoints) (none : HoldsNone bs) where
 
   module _ (f : Bool) (k : ℕ) (v : Recorded) (done : is_done (picked_answer v 0) ≡ true) where
     runs : is_running (status_of v) ≡ true
-    runs = by (is_running (status_of v)) refl
-      where
-        by : (b : Bool) → is_running (status_of v) ≡ b → is_running (status_of v) ≡ true
-        by true e = e
-        by false e = let answer = ap is_done (rests-answer v 0 e) in absurd (cc)
+    runs = runs_where_done v done
 
     round_is : after_round v 0 1 ≡ swept_once (picked v 0)
-    round_is = ap (λ b. if b then swept (picked v 0) 0 1 else picked v 0) done
+    round_is = round_swept v done
 
     -- where the collector's turn isn't done, the next round's thread's isn't
     ends_there : is_done (sweep_answer (picked v 0)) ≡ false

@@ -4,3 +4,4 @@ pub mod FreeRuns
 pub mod HeapText
 pub mod RunSteps
 pub mod SessionSteps
+pub mod StopRuns

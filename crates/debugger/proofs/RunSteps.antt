@@ -1,11 +1,13 @@
 -- A run, round by round.
 use Rattle.std.proofs.Common.{◌≡◌, ◌+◌, ◌∙◌, ℕ, zero, suc, Bool, true, false, Some, None, add-zero, ap, arith, refl, sym}
+use Rattle.std.specs.Prelude.{if◌then◌else◌}
 use Rattle.debug_texts.specs.declared.answers.Reason.{Reason}
 use Rattle.debug_texts.specs.declared.answers.Reason.TheVariants.{Turn as ByTurn, Breakpoint}
 use Rattle.model.specs.declared.turns.Actor.TheVariants.{Collector}
 use Rattle.model.specs.Machines.{Recorded, after_turn_by, answer_to}
 use Rattle.model.specs.Observers.{is_running, status_of}
-use Rattle.scheduler.specs.Rounds.{is_done, picked, picked_answer}
+use Rattle.scheduler.specs.Rounds.{after_round, is_done, picked, picked_answer, swept}
+use Rattle.scheduler.proofs.Picking.{rests-answer}
 use Rattle.debugger.specs.Breakpoints.{Breakpoints}
 use Rattle.debugger.specs.Runs.{Ran, ended, held_unless, one_more, reason_of, run_on, sweep_answer, swept_once}
 
@@ -29,6 +31,17 @@ goes_on made rest ran total e h = counted rest ∙ ap (more made) (sym e) ∙ h 
   counted rest = ap (λ n. ended rest.world n rest.reason) (swapped rest.turns) where
     swapped : (n : ℕ) → (made + 1) + n ≡ made + (n + 1)
     swapped n = omega arith
+
+-- a world in which a thread's turn was done ran
+pub runs_where_done : (v : Recorded) → is_done (picked_answer v 0) ≡ true → is_running (status_of v) ≡ true
+runs_where_done v done = by (is_running (status_of v)) refl
+  where
+    by : (b : Bool) → is_running (status_of v) ≡ b → is_running (status_of v) ≡ true
+    by true e = e
+    by false e = let answer = ap is_done (rests-answer v 0 e) in absurd (cc)
+
+pub round_swept : (v : Recorded) → is_done (picked_answer v 0) ≡ true → after_round v 0 1 ≡ swept_once (picked v 0)
+round_swept v done = ap (λ b. if b then swept (picked v 0) 0 1 else picked v 0) done
 
 module _ (bs : Breakpoints) (first : Bool) (n : ℕ) (v : Recorded) where
   pub rests : is_running (status_of v) ≡ false → run_on bs first n v ≡ ended v 0 (reason_of v)

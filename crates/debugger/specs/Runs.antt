@@ -1,7 +1,9 @@
-use Rattle.std.specs.Prelude.{◌≡◌, ℕ, ◌+◌, zero, suc, Bool, true, false, Option, Some, None, if◌then◌else◌}
+use Rattle.std.specs.Prelude.{◌≡◌, ℕ, ◌+◌, zero, suc, Bool, true, false, List, slice_index_or, Option, Some, None}
+use Rattle.std.specs.Prelude.{if◌then◌else◌}
 use Rattle.std.specs.Option.{option_and_then, option_map}
 use Rattle.debug_texts.specs.declared.answers.Reason.{Reason}
 use Rattle.debug_texts.specs.declared.answers.Reason.TheVariants.{Running, Finished, Stuck, Turn as ByTurn, Breakpoint}
+use Rattle.model.specs.declared.places.CodePlace.{CodePlace}
 use Rattle.model.specs.declared.turns.Actor.TheVariants.{Collector}
 use Rattle.model.specs.declared.turns.Fault.{Fault as FaultKind}
 use Rattle.model.specs.declared.turns.Status.{Status}
@@ -10,6 +12,7 @@ use Rattle.model.specs.declared.turns.Turn.{Turn}
 use Rattle.model.specs.declared.turns.Turn.TheVariants.{Done, Fault, NotReady, OutputFull, StepLimit, Stopped}
 use Rattle.model.specs.Machines.{Recorded, after_turn_by, answer_to}
 use Rattle.model.specs.Observers.{fault_of, is_running, pick_of, place_of, status_of}
+use Rattle.instructions.specs.Stops.{number_of}
 use Rattle.scheduler.specs.Rounds.{is_done, picked, picked_answer}
 use Rattle.debugger.specs.Breakpoints.{Breakpoints, least_at}
 
@@ -56,6 +59,25 @@ HoldsNone bs = (v : Recorded) → held_at bs v ≡ None
 abbrev pub held_unless : Bool → Breakpoints → Recorded → Option (ℕ × ℕ)
 held_unless true bs v = None
 held_unless false bs v = held_at bs v
+
+-- each place at which a breakpoint stands is marked
+abbrev pub Covers : List Bool → Breakpoints → Type 0
+Covers marks bs = (place : CodePlace) → slice_index_or marks (number_of place) false ≡ false → least_at bs place ≡ None
+
+-- whole rounds were made, and no more: so many, and of one more the thread's turn, or not
+abbrev pub are_whole : ℕ → Bool → Bool
+are_whole zero begun = false
+are_whole (suc n) true = false
+are_whole (suc n) false = true
+
+-- a round that was begun has its thread's turn already
+abbrev pub picked_unless : Bool → Recorded → Recorded
+picked_unless true v = v
+picked_unless false v = picked v 0
+
+abbrev pub answer_unless : Bool → Recorded → Turn
+answer_unless true v = Done
+answer_unless false v = picked_answer v 0
 
 -- why a run ends with a thread's turn that answers this
 abbrev pub reason_after : Recorded → Turn → Reason

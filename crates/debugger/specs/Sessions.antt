@@ -95,11 +95,15 @@ Does s (Some Quit) t answer = Answers s t answer []
 
 -- ---- lines, one after another
 
--- what lines do, and all that they answer
-abbrev pub DoesAll : Debugged → List (List ℕ) → Debugged → List ℕ → Type 0
-DoesAll s [] t answers = (t ≡ s) × (answers ≡ [])
-DoesAll s (line ∷ lines) t answers =
-    (m : Debugged) × (first : List ℕ) × (rest : List ℕ) × Does s (command_of line) m first × DoesAll m lines t rest
+-- what a line does: it leads from one state to another, with an answer
+abbrev pub Doing : Type 1
+Doing = Debugged → List ℕ → Debugged → List ℕ → Type 0
+
+-- what lines do, and all that they answer, where P is what one does
+abbrev pub AllDone : Doing → Debugged → List (List ℕ) → Debugged → List ℕ → Type 0
+AllDone P s [] t answers = (t ≡ s) × (answers ≡ [])
+AllDone P s (line ∷ lines) t answers =
+    (m : Debugged) × (first : List ℕ) × (rest : List ℕ) × P s line m first × AllDone P m lines t rest
     × (answers ≡ first ++ rest)
 
 -- a line that doesn't end the session
@@ -118,7 +122,7 @@ ReadsEnd before after =
     ((line : List ℕ) × IsLine line × (command_of line ≡ Some Quit) × ReadsLine before after line)
     ⊎ (Consumes before after [] × IsAtEnd after)
 
--- ---- how a session ends, once the commands before were carried out and answered
+-- ---- how a session ends, once the lines before were carried out and answered
 
 -- a read failed within a line
 pub record ReadStops (s : Debugged) (w : Recorded) (mid after out now : Option (List ℕ)) (answers : List ℕ) : Type 0
@@ -129,7 +133,7 @@ pub record ReadStops (s : Debugged) (w : Recorded) (mid after out now : Option (
     pub read : Consumes mid after part
     pub written : Appends out now answers
 
--- memory ran out at a command, which did nothing
+-- memory ran out at a line, which did nothing
 pub record MemoryStops (s : Debugged) (w : Recorded) (mid after out now : Option (List ℕ)) (answers : List ℕ) : Type 0
   where
     pub world : w ≡ s.world
@@ -138,19 +142,19 @@ pub record MemoryStops (s : Debugged) (w : Recorded) (mid after out now : Option
     pub read : ReadsLine mid after line
     pub written : Appends out now answers
 
--- a write failed in the answer to one command more, which was carried out
-pub record AnswerStops (s : Debugged) (w : Recorded) (mid after out now : Option (List ℕ)) (answers : List ℕ) : Type 0
-  where
-    pub line : List ℕ
-    pub go_on : GoesOn line
-    pub read : ReadsLine mid after line
-    pub end : Debugged
-    pub answer : List ℕ
-    pub done : Does s (command_of line) end answer
-    pub world : w ≡ end.world
-    pub answered : Option (List ℕ)
-    pub written : Appends out answered answers
-    pub part : AppendsPart answered now answer
+-- a write failed in the answer to one line more, which was carried out
+pub record AnswerStops (P : Doing) (s : Debugged) (w : Recorded) (mid after out now : Option (List ℕ))
+    (answers : List ℕ) : Type 0 where
+  pub line : List ℕ
+  pub go_on : GoesOn line
+  pub read : ReadsLine mid after line
+  pub end : Debugged
+  pub answer : List ℕ
+  pub done : P s line end answer
+  pub world : w ≡ end.world
+  pub answered : Option (List ℕ)
+  pub written : Appends out answered answers
+  pub part : AppendsPart answered now answer
 
 -- a write failed in what a session says in the end
 pub record FarewellStops (s : Debugged) (w : Recorded) (mid after out now : Option (List ℕ)) (answers : List ℕ) : Type 0
@@ -161,11 +165,11 @@ pub record FarewellStops (s : Debugged) (w : Recorded) (mid after out now : Opti
     pub written : Appends out answered answers
     pub part : AppendsPart answered now (farewell (output_of w))
 
-abbrev pub Stops : DebugError → Debugged → Recorded → (mid after out now : Option (List ℕ)) → List ℕ → Type 0
-Stops Read s w mid after out now answers = ReadStops s w mid after out now answers
-Stops Memory s w mid after out now answers = MemoryStops s w mid after out now answers
-Stops Write s w mid after out now answers =
-    AnswerStops s w mid after out now answers ⊎ FarewellStops s w mid after out now answers
+abbrev pub Stops : Doing → DebugError → Debugged → Recorded → (mid after out now : Option (List ℕ)) → List ℕ → Type 0
+Stops P Read s w mid after out now answers = ReadStops s w mid after out now answers
+Stops P Memory s w mid after out now answers = MemoryStops s w mid after out now answers
+Stops P Write s w mid after out now answers =
+    AnswerStops P s w mid after out now answers ⊎ FarewellStops s w mid after out now answers
 
 -- `quit`, or no line more: what is said in the end was written too
 pub record Closes (s : Debugged) (w : Recorded) (mid after out now : Option (List ℕ)) (answers : List ℕ) : Type 0
@@ -174,22 +178,31 @@ pub record Closes (s : Debugged) (w : Recorded) (mid after out now : Option (Lis
     pub read : ReadsEnd mid after
     pub written : Appends out now (answers ++ farewell (output_of w))
 
-abbrev pub Ends : {A : Type 0} → Result A DebugError → Debugged → Recorded → (mid after out now : Option (List ℕ))
-    → List ℕ → Type 0
-Ends (Ok a) s w mid after out now answers = Closes s w mid after out now answers
-Ends (Err e) s w mid after out now answers = Stops e s w mid after out now answers
+abbrev pub Ends : {A : Type 0} → Doing → Result A DebugError → Debugged → Recorded
+    → (mid after out now : Option (List ℕ)) → List ℕ → Type 0
+Ends P (Ok a) s w mid after out now answers = Closes s w mid after out now answers
+Ends P (Err e) s w mid after out now answers = Stops P e s w mid after out now answers
 
--- a session from one state on: lines that were read, carried out and answered, and how it ends after them
-pub record Session {A : Type 0} (result : Result A DebugError) (s : Debugged) (w : Recorded)
+-- a session from one state on: lines that were read, carried out as P says and answered, and how it ends after them
+pub record SessionBy {A : Type 0} (P : Doing) (result : Result A DebugError) (s : Debugged) (w : Recorded)
     (before after out now : Option (List ℕ)) : Type 0 where
   pub lines : List (List ℕ)
   pub end : Debugged
   pub answers : List ℕ
   pub read_to : Option (List ℕ)
   pub go_on : AllByRecursion GoesOn lines
-  pub done : DoesAll s lines end answers
+  pub done : AllDone P s lines end answers
   pub read : ReadsLines before read_to lines
-  pub ends : Ends result end w read_to after out now answers
+  pub ends : Ends P result end w read_to after out now answers
+
+-- a line is a command
+abbrev pub DoesLine : Doing
+DoesLine s line t answer = Does s (command_of line) t answer
+
+-- a session of commands
+abbrev pub Session : {A : Type 0} → Result A DebugError → Debugged → Recorded → (before after out now : Option (List ℕ))
+    → Type 0
+Session result s w before after out now = SessionBy DoesLine result s w before after out now
 
 -- some list of actors leads from one world to another, one turn each
 abbrev pub LedByActors : Recorded → Recorded → Type 0

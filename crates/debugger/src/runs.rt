@@ -1,11 +1,13 @@
 //! `run`: turns of the threads that are picked, with a turn of the collector after each.
 ghost use Rattle.std.specs.Prelude.{◌≡◌};
 ghost use Rattle.model.specs.Observers.{is_running};
-ghost use Rattle.debugger.specs.Runs.{HoldsNone, ended, held_at, held_unless, reason_after, reason_of, run_for};
-ghost use Rattle.debugger.specs.Runs.{sweep_answer, swept_once};
+ghost use Rattle.debugger.specs.Runs.{HoldsNone, answer_unless, are_whole, ended, held_at, held_unless, picked_unless, reason_after};
+ghost use Rattle.debugger.specs.Runs.{Covers, reason_of, run_for, sweep_answer, swept_once};
 
 use crate::breakpoints::least_at;
 use debug_texts::answers::Reason;
+use instructions::lone_rounds::Rounds;
+use instructions::stops::Marks;
 use model::places::CodePlace;
 use model::turns::{Actor, Status, Turn};
 use scheduler::replaying::SoundJournal;
@@ -80,46 +82,85 @@ fn sweep_once(world: &mut World) -> Turn
     }
 }
 
-/// So many turns of threads at most, one by one, with a look at the breakpoints before each but the first.
-fn run_turn_by_turn(world: &mut World, breakpoints: &Slab<CodePlace>, turns: u32) -> Ran
+/// Marks for the places at which breakpoints stand.
+fn marks_of(breakpoints: &Slab<CodePlace>) -> Marks
+    ensures { Covers result breakpoints.now.slots }
+{
+    let mut marks = Marks::new();
+    for (_number, place) in breakpoints.iter() {
+        marks.add(*place);
+    }
+    marks
+}
+
+/// Whether whole rounds were made, and no more.
+fn are_whole(rounds: Rounds) -> bool
+    ensures { result ≡ are_whole rounds.made rounds.begun }
+{
+    match (rounds.made, rounds.begun) {
+        (0, _) => false,
+        (_, begun) => !begun,
+    }
+}
+
+/// The turn of the thread that is picked, unless it was made already; what it answers.
+fn turn_unless(begun: bool, world: &mut World) -> Turn
+    ensures world { world.new ≡ picked_unless begun world.old }
+    ensures answer { result ≡ answer_unless begun world.old }
+{
+    if begun {
+        return Turn::Done;
+    }
+    // of one worker at least, as `turn_of_picked` wants
+    world.journal().is_sound();
+    world.turn_of_picked(0)
+}
+
+/// So many turns of threads at most, with a look at the breakpoints before each but the first: many in one call, as long
+/// as no place is marked, and one by one where that can't be.
+fn run_to_breakpoint(world: &mut World, breakpoints: &Slab<CodePlace>, turns: u32) -> Ran
     ensures { ended world.new result.turns result.reason ≡ run_for breakpoints.now.slots turns world.old }
 {
-    'turns: for made in 0..turns {
+    let marks = marks_of(breakpoints);
+    let mut made = 0;
+    'turns: while made < turns {
         if !is_running(world.status()) {
+            break;
+        }
+        if let Some((number, thread)) = held_unless(made == 0, world, breakpoints) {
+            let reason = Reason::Breakpoint { number, thread };
             return Ran {
                 turns: made,
-                reason: reason_of(world),
+                reason,
             };
         }
-        match held_unless(made == 0, world, breakpoints) {
-            Some((number, thread)) => {
-                return Ran {
-                    turns: made,
-                    reason: Reason::Breakpoint { number, thread },
-                };
-            }
-            None => {}
+        let quick = world.rounds_past(marks.stops(), 1, turns - made);
+        made += quick.made;
+        if are_whole(quick) {
+            continue;
         }
-        // of one worker at least, as `turn_of_picked` wants
-        world.journal().is_sound();
-        let answer = world.turn_of_picked(0);
+        let answer = turn_unless(quick.begun, world);
         if !is_done(answer) {
+            let reason = Reason::Turn(answer);
             return Ran {
                 turns: made,
-                reason: Reason::Turn(answer),
+                reason,
             };
         }
+        made += 1;
         let swept = sweep_once(world);
         if !is_done(swept) {
+            let reason = Reason::Turn(swept);
             return Ran {
-                turns: made + 1,
-                reason: Reason::Turn(swept),
+                turns: made,
+                reason,
             };
         }
     }
+    let reason = reason_of(world);
     Ran {
-        turns,
-        reason: reason_of(world),
+        turns: made,
+        reason,
     }
 }
 
@@ -155,7 +196,7 @@ fn run_freely(world: &mut World, breakpoints: &Slab<CodePlace>, turns: u32) -> R
             reason: reason_after(world, rounds.answer),
         };
     }
-    let last = run_turn_by_turn(world, breakpoints, 1);
+    let last = run_to_breakpoint(world, breakpoints, 1);
     Ran {
         turns: made + last.turns,
         reason: last.reason,
@@ -171,6 +212,6 @@ pub fn run(world: &mut World, breakpoints: &Slab<CodePlace>, turns: u32) -> Ran
     if breakpoints.is_empty() {
         run_freely(world, breakpoints, turns)
     } else {
-        run_turn_by_turn(world, breakpoints, turns)
+        run_to_breakpoint(world, breakpoints, turns)
     }
 }

@@ -1,11 +1,11 @@
 //! Sessions: lines are read, carried out and answered, one after another.
-ghost use Rattle.std.specs.Prelude.{◌≡◌, ◌-◌, ◌^◌, ◌<◌, ◌↔◌, [], IsTrue, Some};
-ghost use Rattle.std.specs.Option.{option_map};
+ghost use Rattle.std.specs.Prelude.{◌≡◌, ◌-◌, ◌^◌, ◌<◌, ◌↔◌, [], IsTrue, List, Some, take, ℕ};
 ghost use Rattle.debug_texts.specs.Answers.{farewell};
-ghost use Rattle.debug_texts.specs.Commands.{said};
+ghost use Rattle.debug_texts.specs.Commands.{command_of};
 ghost use Rattle.debug_texts.specs.Commands.Said.{Quit};
 ghost use Rattle.model.specs.Observers.{output_of};
-ghost use Rattle.debugger.specs.Sessions.{Carries, Counts, CountsReads, Does, LedByActors, Session, Written, debugged};
+ghost use Rattle.debugger.specs.Sessions.{Carries, Counts, CountsReads, Doing, DoesLine, LedByActors, Session};
+ghost use Rattle.debugger.specs.Sessions.{SessionBy, Written, debugged};
 
 use crate::carrying::carry_out;
 use crate::errors::DebugError;
@@ -19,28 +19,72 @@ use scheduler::worlds::World;
 use slab::Slab;
 use std::alloc::Global;
 
-/// Whether a command ends the session.
-fn is_quit(command: Option<Command<'_>>) -> bool
-    ensures { IsTrue result ↔ (option_map said command.entry ≡ Some Quit) }
-{
-    matches!(command, Some(Command::Quit))
+/// What carries out the lines of a session.
+pub trait Executor {
+    // what a line does, and answers
+    ghost does: { Doing };
+
+    /// Carries out a line, of which 201 bytes were kept, and answers it. `Memory`, and nothing changed or written,
+    /// where memory runs out; `Write` where a write failed: the line was carried out all the same.
+    fn execute<S: Sink>(
+        &self,
+        alloc: Global,
+        world: &mut World,
+        breakpoints: &mut Slab<CodePlace>,
+        kept: &[u8],
+        sink: &mut S,
+    ) -> Result<(), DebugError>
+        requires { S.failures sink.old < 2 ^ 64 - 1 }
+        ensures carried { (line : List ℕ) → kept.now ≡ take 201 line
+            → Carries (does (debugged world.old breakpoints.old.slots) line) result
+            (debugged world.old breakpoints.old.slots) (debugged world.new breakpoints.new.slots)
+            (S.contents sink.old) (S.contents sink.new) }
+        ensures counts { Counts result (S.failures sink.old) (S.failures sink.new) };
 }
 
-/// Carries a command out, and lets its answer go out.
-fn answer<S: Sink>(
+/// Lines are commands.
+#[derive(Clone, Copy, Debug)]
+struct Commands;
+
+impl Executor for Commands {
+    ghost does = { DoesLine };
+
+    fn execute<S: Sink>(
+        &self,
+        alloc: Global,
+        world: &mut World,
+        breakpoints: &mut Slab<CodePlace>,
+        kept: &[u8],
+        sink: &mut S,
+    ) -> Result<(), DebugError> {
+        carry_out(alloc, world, breakpoints, command_of(kept), sink)
+    }
+}
+
+/// Whether a line ends the session.
+fn is_quit(kept: &[u8]) -> bool
+    ensures { IsTrue result ↔ (command_of kept.now ≡ Some Quit) }
+{
+    matches!(command_of(kept), Some(Command::Quit))
+}
+
+/// Carries a line out, and lets its answer go out.
+fn answer<E: Executor, S: Sink>(
     alloc: Global,
+    executor: &E,
     world: &mut World,
     breakpoints: &mut Slab<CodePlace>,
-    command: Option<Command<'_>>,
+    kept: &[u8],
     sink: &mut S,
 ) -> Result<(), DebugError>
     requires { S.failures sink.old < 2 ^ 64 - 1 }
-    ensures carried { Carries (Does (debugged world.old breakpoints.old.slots) (option_map said command.entry)) result
-        (debugged world.old breakpoints.old.slots) (debugged world.new breakpoints.new.slots) (S.contents sink.old)
-        (S.contents sink.new) }
+    ensures carried { (line : List ℕ) → kept.now ≡ take 201 line
+        → Carries (E.does (debugged world.old breakpoints.old.slots) line) result
+        (debugged world.old breakpoints.old.slots) (debugged world.new breakpoints.new.slots)
+        (S.contents sink.old) (S.contents sink.new) }
     ensures counts { Counts result (S.failures sink.old) (S.failures sink.new) }
 {
-    match carry_out(alloc, world, breakpoints, command, sink) {
+    match executor.execute(alloc, world, breakpoints, kept, sink) {
         Err(error) => Err(error),
         Ok(()) => {
             match sink.flush() {
@@ -68,17 +112,19 @@ fn say_farewell<S: Sink>(world: &World, sink: &mut S) -> Result<(), DebugError>
     }
 }
 
-/// A session with a world, up to `quit` or the end of the source.
-fn hold_session<R: Source, W: Sink>(
+/// A session with a world: lines are read, carried out and answered one after another, up to `quit` or the end of the
+/// source; in the end it says what the world printed. It ends early as `debug` does.
+pub fn hold_session<E: Executor, R: Source, W: Sink>(
     alloc: Global,
+    executor: &E,
     world: &mut World,
     source: &mut R,
     sink: &mut W,
 ) -> Result<(), DebugError>
     requires source { R.failures source.old < 2 ^ 64 - 1 }
     requires sink { W.failures sink.old < 2 ^ 64 - 1 }
-    ensures session { Session result (debugged world.old []) world.new (R.remaining source.old) (R.remaining source.new)
-        (W.contents sink.old) (W.contents sink.new) }
+    ensures session { SessionBy E.does result (debugged world.old []) world.new (R.remaining source.old)
+        (R.remaining source.new) (W.contents sink.old) (W.contents sink.new) }
     ensures reads { CountsReads result (R.failures source.old) (R.failures source.new) }
     ensures writes { Counts result (W.failures sink.old) (W.failures sink.new) }
 {
@@ -89,11 +135,11 @@ fn hold_session<R: Source, W: Sink>(
             Err(_) => return Err(DebugError::Read),
             Ok(false) => return say_farewell(world, sink),
             Ok(true) => {
-                let command = command_of(line.bytes());
-                if is_quit(command) {
+                let kept = line.bytes();
+                if is_quit(kept) {
                     return say_farewell(world, sink);
                 }
-                match answer(alloc, world, &mut breakpoints, command, sink) {
+                match answer(alloc, executor, world, &mut breakpoints, kept, sink) {
                     Ok(()) => {}
                     Err(error) => return Err(error),
                 }
@@ -124,5 +170,5 @@ pub fn debug<R: Source, W: Sink>(
     ensures reads { CountsReads result (R.failures source.old) (R.failures source.new) }
     ensures writes { Counts result (W.failures sink.old) (W.failures sink.new) }
 {
-    hold_session(alloc, world, source, sink)
+    hold_session(alloc, &Commands, world, source, sink)
 }

@@ -1,4 +1,4 @@
-use Rattle.std.proofs.Common.{◌≡◌, ℕ, List, [], ◌∷◌, Bool, true, false, if◌then◌else◌, nat_le}
+use Rattle.std.proofs.Common.{◌≡◌, ℕ, List, [], ◌∷◌, ◌++◌, Bool, true, false, if◌then◌else◌, nat_le}
 use Rattle.std.proofs.Common.{Option, Some, None, refl, sym, ◌∙◌, ap, subst, arith}
 use Rattle.model.specs.declared.journals.HeapShape.{HeapShape}
 use Rattle.model.specs.declared.journals.Limits.{Limits}
@@ -17,7 +17,7 @@ use Rattle.model.specs.Table.Next.{next, asked}
 use Rattle.model.specs.Ready.{is_ready}
 use Rattle.model.specs.Turns.{refusal, refusal_after, thread_refusal, overflows, ideal_step, unless_refused, choice_by}
 use Rattle.model.specs.Machines.{Machine, Recorded, machine_of, advance_all, advance, opening_machine, row_by}
-use Rattle.model.specs.Collector.Runs.{moved_by, moved_by_all, advance_if}
+use Rattle.model.specs.Collector.Runs.{machine_after, moved_by, moved_by_all, advance_if}
 use Rattle.model.proofs.CollectorLemmas.Running.{machine_after-is, unfaulted}
 use Rattle.model.proofs.NextKeeps.{next-choice}
 use Rattle.join.specs.OnCells.{on_cells}
@@ -25,7 +25,8 @@ use Rattle.join.proofs.Refusals.{refusal_on_cells, asked_on_cells, ready_on_cell
 use Rattle.exploration.specs.Representation.{Represents, Images, uncounted}
 use Rattle.exploration.specs.ClosedLists.{IsAmong, Closed, Pair, moved_through, HasEveryRun, HasEveryMachine}
 use Rattle.exploration.specs.ClosedLists.{PairsFindRoom, RowFindsRoom, RowsFindRoom, TurnFindsRoom, ActorsFindRoom}
-use Rattle.exploration.specs.ClosedLists.{HasEveryJournal, ClosedHasAll}
+use Rattle.exploration.specs.ClosedLists.{ClosedHasAll, ComesTo, HasEveryJournal, RunsCome, ideal_after}
+use Rattle.exploration.specs.ClosedLists.ComesTo.{begins, turns}
 use Rattle.exploration.proofs.Turns.{turn_images}
 use Rattle.exploration.proofs.Composition.{represents_image}
 use Rattle.exploration.proofs.RowCounts.{after_at, refused_at}
@@ -86,120 +87,145 @@ module _ (program : List ClassListing) (limits : Limits) where
       → (next program (uncounted w) t choice).after ≡ uncounted (next program w t choice).after
   after_same w t choice = after_at program w t choice
 
-  -- ---- a turn of a world that is among the states leads to one that is
+  -- ---- a run that passes through a start comes to what its turns lead to
 
-  module _ (no_room : Bool) (states : List World) (closed : Closed program limits no_room states) where
-    -- what represents what a representative comes to, represents what the world comes to
-    past : (w : World) (x : World) (t : ℕ) (choice : Choice) → Represents x (uncounted w) → w.fault ≡ None
-        → IsAmong states (next program x t choice).after → IsAmong states (uncounted (next program w t choice).after)
-    past w x t choice r none a =
-        let i : Images (next program x t choice).after (uncounted (next program w t choice).after) =
-        subst (Images (next program x t choice).after) (after_same w t choice)
-        (turn_images program x (uncounted w) r t choice none) in
-        record {
-          place = a.place;
-          state = a.state;
-          there = a.there;
-          represents = represents_image a.state (next program x t choice).after
-              (uncounted (next program w t choice).after) a.represents i;
-        }
+  module _ (no_room : Bool) (start : World) where
+    abbrev Comes : World → Type 0
+    Comes w = ComesTo program limits no_room start (uncounted w)
 
-    allowed : (w : World) (s : IsAmong states (uncounted w)) (t : ℕ) → refusal program limits w (Thread t) ≡ None
-        → refusal program limits s.state (Thread t) ≡ None
-    allowed w s t e = same_refusal program limits s.state (uncounted w) s.represents (Thread t) ∙ unrefused w t e
+    by_refusal : (w : World) → Comes w → (actor : Actor) (choice : Choice) → (no_room ≡ false → choice ≡ NewObject)
+        → (o : Option Turn) → refusal program limits w actor ≡ o → Comes (unless_refused program w actor choice o)
+    by_refusal w c actor choice room (Some refused) e = c
+    by_refusal w c (Thread t) choice room None e = subst (ComesTo program limits no_room start) (after_same w t choice)
+        (turns (uncounted w) t choice c room (unrefused w t e))
+    by_refusal w c Collector choice room None e = c
 
-    by_asked : (w : World) (s : IsAmong states (uncounted w)) (t : ℕ) → refusal program limits w (Thread t) ≡ None
-        → (choice : Choice) → (no_room ≡ false → choice ≡ NewObject) → (words : Option ℕ)
-        → asked program s.state t ≡ words → IsAmong states (next program s.state t choice).after
-    by_asked w s t e NewObject room words a = closed.turned s.place s.state t s.there (allowed w s t e)
-    by_asked w s t e NoRoom room (Some words) a =
-        closed.without_room (missing no_room room) s.place s.state t words s.there (allowed w s t e) a
-    by_asked w s t e NoRoom room None a = subst (λ (f : Effect). IsAmong states f.after)
-        (next-choice program s.state t NewObject NoRoom a)
-        (closed.turned s.place s.state t s.there (allowed w s t e))
+    pair_comes : (w : World) → Comes w → (actor : Actor) (choice : Choice) → (no_room ≡ false → choice ≡ NewObject)
+        → Comes (ideal_step program limits w actor choice)
+    pair_comes w c actor choice room = by_refusal w c actor choice room (refusal program limits w actor) refl
 
-    turn_among : (w : World) → IsAmong states (uncounted w) → (t : ℕ) (choice : Choice)
-        → (no_room ≡ false → choice ≡ NewObject) → refusal program limits w (Thread t) ≡ None
-        → IsAmong states (uncounted (next program w t choice).after)
-    turn_among w s t choice room e = past w s.state t choice s.represents (unfaulted program limits w t e)
-        (by_asked w s t e choice room (asked program s.state t) refl)
+    pub pairs_come : (w : World) → Comes w → (pairs : List Pair) → (no_room ≡ false → PairsFindRoom pairs)
+        → Comes (moved_through program limits w pairs)
+    pairs_come w c [] room = c
+    pairs_come w c (p ∷ ps) room = pairs_come (ideal_step program limits w p.actor p.choice)
+        (pair_comes w c p.actor p.choice (λ k. (room k).0)) ps (λ k. (room k).1)
 
-    -- ---- a pair of the ideal run
+    -- the machine's turns are pairs of the ideal run; of its account nothing is asked
 
-    by_refusal : (w : World) → IsAmong states (uncounted w) → (actor : Actor) (choice : Choice)
-        → (no_room ≡ false → choice ≡ NewObject) → (o : Option Turn)
-        → refusal program limits w actor ≡ o → IsAmong states (uncounted (unless_refused program w actor choice o))
-    by_refusal w s actor choice room (Some refused) e = s
-    by_refusal w s (Thread t) choice room None e = turn_among w s t choice room e
-    by_refusal w s Collector choice room None e = s
+    row_comes : (shape : HeapShape) (m : Machine) → Comes m.world → (row : Row)
+        → (no_room ≡ false → RowFindsRoom program m row) → Comes (advance program shape limits m row).world
+    row_comes shape m c row room = pair_comes m.world c row.actor (choice_by program m.world row.actor row.outcome) room
 
-    pub pair_among : (w : World) → IsAmong states (uncounted w) → (actor : Actor) (choice : Choice)
-        → (no_room ≡ false → choice ≡ NewObject)
-        → IsAmong states (uncounted (ideal_step program limits w actor choice))
-    pair_among w s actor choice room = by_refusal w s actor choice room (refusal program limits w actor) refl
-
-    -- ---- whole runs
-
-    all_among : (w : World) → IsAmong states (uncounted w) → (pairs : List Pair)
-        → (no_room ≡ false → PairsFindRoom pairs) → IsAmong states (uncounted (moved_through program limits w pairs))
-    all_among w s [] room = s
-    all_among w s (p ∷ ps) room = all_among (ideal_step program limits w p.actor p.choice)
-        (pair_among w s p.actor p.choice (λ k. (room k).0)) ps (λ k. (room k).1)
-
-    opening_among : IsAmong states (uncounted (opening_world program))
-    opening_among = closed.opening
-
-    pub every_run : HasEveryRun program limits no_room states
-    every_run pairs room = all_among (opening_world program) opening_among pairs room
-
-    -- ---- the machine, whose turns are pairs of the ideal run; of its account nothing is asked
-
-    row_among : (shape : HeapShape) (m : Machine) → IsAmong states (uncounted m.world) → (row : Row)
-        → (no_room ≡ false → RowFindsRoom program m row)
-        → IsAmong states (uncounted (advance program shape limits m row).world)
-    row_among shape m s row room = pair_among m.world s row.actor (choice_by program m.world row.actor row.outcome) room
-
-    rows_among : (shape : HeapShape) (m : Machine) → IsAmong states (uncounted m.world) → (rows : List Row)
+    rows_come : (shape : HeapShape) (m : Machine) → Comes m.world → (rows : List Row)
         → (no_room ≡ false → RowsFindRoom program shape limits m rows)
-        → IsAmong states (uncounted (advance_all program shape limits m rows).world)
-    rows_among shape m s [] room = s
-    rows_among shape m s (row ∷ rows) room = rows_among shape (advance program shape limits m row)
-        (row_among shape m s row (λ k. (room k).0)) rows (λ k. (room k).1)
+        → Comes (advance_all program shape limits m rows).world
+    rows_come shape m c [] room = c
+    rows_come shape m c (row ∷ rows) room = rows_come shape (advance program shape limits m row)
+        (row_comes shape m c row (λ k. (room k).0)) rows (λ k. (room k).1)
 
-    if_among : (shape : HeapShape) (m : Machine) → IsAmong states (uncounted m.world) → (o : Option Row)
-        → (no_room ≡ false → TurnFindsRoom program m o)
-        → IsAmong states (uncounted (advance_if program shape limits m o).world)
-    if_among shape m s None room = s
-    if_among shape m s (Some row) room = row_among shape m s row room
+    if_comes : (shape : HeapShape) (m : Machine) → Comes m.world → (o : Option Row)
+        → (no_room ≡ false → TurnFindsRoom program m o) → Comes (advance_if program shape limits m o).world
+    if_comes shape m c None room = c
+    if_comes shape m c (Some row) room = row_comes shape m c row room
 
-    moved_among : (shape : HeapShape) (m : Machine) → IsAmong states (uncounted m.world) → (actor : Actor)
+    moved_comes : (shape : HeapShape) (m : Machine) → Comes m.world → (actor : Actor)
         → (no_room ≡ false → TurnFindsRoom program m (row_by program limits m actor 0))
-        → IsAmong states (uncounted (moved_by program shape limits m actor).world)
+        → Comes (moved_by program shape limits m actor).world
     unfolding moved_by
-    moved_among shape m s actor room = if_among shape m s (row_by program limits m actor 0) room
+    moved_comes shape m c actor room = if_comes shape m c (row_by program limits m actor 0) room
 
-    actors_among : (shape : HeapShape) (m : Machine) → IsAmong states (uncounted m.world) → (actors : List Actor)
+    actors_come : (shape : HeapShape) (m : Machine) → Comes m.world → (actors : List Actor)
         → (no_room ≡ false → ActorsFindRoom program shape limits m actors)
-        → IsAmong states (uncounted (moved_by_all program shape limits m actors).world)
-    actors_among shape m s [] room = s
-    actors_among shape m s (actor ∷ actors) room = actors_among shape (moved_by program shape limits m actor)
-        (moved_among shape m s actor (λ k. (room k).0)) actors (λ k. (room k).1)
+        → Comes (moved_by_all program shape limits m actors).world
+    actors_come shape m c [] room = c
+    actors_come shape m c (actor ∷ actors) room = actors_come shape (moved_by program shape limits m actor)
+        (moved_comes shape m c actor (λ k. (room k).0)) actors (λ k. (room k).1)
 
-    pub every_machine : HasEveryMachine program limits no_room states
-    every_machine shape actors room = subst (λ (m : Machine). IsAmong states (uncounted m.world))
-        (sym (machine_after-is program shape limits actors))
-        (actors_among shape (opening_machine program shape) opening_among actors room)
+  -- one part of a run after another
 
-    journal_among : (v : Recorded) → v.program ≡ program → v.journal.limits ≡ limits
-        → (no_room ≡ false → RowsFindRoom program v.journal.shape limits (opening_machine program v.journal.shape)
-        v.journal.rows)
-        → IsAmong states (uncounted (machine_of v).world)
-    unfolding machine_of
-    journal_among v p l room = rw (p, l) (rows_among v.journal.shape (opening_machine program v.journal.shape)
-        opening_among v.journal.rows room)
+  pub pairs_after : (w : World) (ps qs : List Pair)
+      → moved_through program limits w (ps ++ qs) ≡ moved_through program limits (moved_through program limits w ps) qs
+  pairs_after w [] qs = refl
+  pairs_after w (p ∷ ps) qs = pairs_after (ideal_step program limits w p.actor p.choice) ps qs
 
-    pub every_journal : HasEveryJournal program limits no_room states
-    every_journal v p l room = journal_among v p l room
+  actors_after : (shape : HeapShape) (m : Machine) (actors more : List Actor)
+      → moved_by_all program shape limits m (actors ++ more)
+      ≡ moved_by_all program shape limits (moved_by_all program shape limits m actors) more
+  actors_after shape m [] more = refl
+  actors_after shape m (actor ∷ actors) more = actors_after shape (moved_by program shape limits m actor) actors more
+
+  machine_goes_on : (shape : HeapShape) (before after : List Actor) → machine_after program shape limits (before ++ after)
+      ≡ moved_by_all program shape limits (machine_after program shape limits before) after
+  machine_goes_on shape before after =
+      machine_after-is program shape limits (before ++ after)
+      ∙ actors_after shape (opening_machine program shape) before after
+      ∙ ap (λ (m : Machine). moved_by_all program shape limits m after) (sym (machine_after-is program shape limits before))
+
+pub runs_come : RunsCome
+runs_come program limits no_room start = (
+  λ before after e room. subst (λ (w : World). ComesTo program limits no_room start (uncounted w))
+      (sym (pairs_after program limits (opening_world program) before after))
+      (pairs_come program limits no_room start (ideal_after program limits before)
+      (subst (ComesTo program limits no_room start) (sym e) begins) after room),
+  λ shape before after e room. subst (λ (m : Machine). ComesTo program limits no_room start (uncounted m.world))
+      (sym (machine_goes_on program limits shape before after))
+      (actors_come program limits no_room start shape (machine_after program shape limits before)
+      (subst (ComesTo program limits no_room start) (sym e) begins) after room),
+)
+
+-- ---- a turn of a world that is among the states leads to one that is
+
+module _ (program : List ClassListing) (limits : Limits) (no_room : Bool) (states : List World)
+    (closed : Closed program limits no_room states) where
+  by_asked : (w : World) (s : IsAmong states w) (t : ℕ) → refusal program limits s.state (Thread t) ≡ None
+      → (choice : Choice) → (no_room ≡ false → choice ≡ NewObject) → (words : Option ℕ)
+      → asked program s.state t ≡ words → IsAmong states (next program s.state t choice).after
+  by_asked w s t e NewObject room words a = closed.turned s.place s.state t s.there e
+  by_asked w s t e NoRoom room (Some words) a =
+      closed.without_room (missing no_room room) s.place s.state t words s.there e a
+  by_asked w s t e NoRoom room None a = subst (λ (f : Effect). IsAmong states f.after)
+      (next-choice program s.state t NewObject NoRoom a) (closed.turned s.place s.state t s.there e)
+
+  turn_among : (w : World) → IsAmong states w → (t : ℕ) (choice : Choice)
+      → (no_room ≡ false → choice ≡ NewObject) → refusal program limits w (Thread t) ≡ None
+      → IsAmong states (next program w t choice).after
+  turn_among w s t choice room e =
+      let free = same_refusal program limits s.state w s.represents (Thread t) ∙ e in
+      let a = by_asked w s t free choice room (asked program s.state t) refl in
+      let i : Images (next program s.state t choice).after (next program w t choice).after =
+      turn_images program s.state w s.represents t choice (unfaulted program limits w t e) in
+      record {
+        place = a.place;
+        state = a.state;
+        there = a.there;
+        represents = represents_image a.state (next program s.state t choice).after (next program w t choice).after
+            a.represents i;
+      }
+
+  among : (w : World) → ComesTo program limits no_room (opening_world program) w → IsAmong states w
+  among w begins = closed.opening
+  among w (turns v t choice c room e) = turn_among v (among v c) t choice room e
+
+  pub every_run : HasEveryRun program limits no_room states
+  every_run pairs room = among (uncounted (ideal_after program limits pairs))
+      (pairs_come program limits no_room (opening_world program) (opening_world program) begins pairs room)
+
+  pub every_machine : HasEveryMachine program limits no_room states
+  every_machine shape actors room = subst (λ (m : Machine). IsAmong states (uncounted m.world))
+      (sym (machine_after-is program shape limits actors))
+      (among _ (actors_come program limits no_room (opening_world program) shape (opening_machine program shape) begins
+      actors room))
+
+  journal_among : (v : Recorded) → v.program ≡ program → v.journal.limits ≡ limits
+      → (no_room ≡ false → RowsFindRoom program v.journal.shape limits (opening_machine program v.journal.shape)
+      v.journal.rows)
+      → IsAmong states (uncounted (machine_of v).world)
+  unfolding machine_of
+  journal_among v p l room = rw (p, l) (among _ (rows_come program limits no_room (opening_world program) v.journal.shape
+      (opening_machine program v.journal.shape) begins v.journal.rows room))
+
+  pub every_journal : HasEveryJournal program limits no_room states
+  every_journal v p l room = journal_among v p l room
 
 pub closed_has_all : ClosedHasAll
 closed_has_all program limits no_room states closed = (

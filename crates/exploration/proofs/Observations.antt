@@ -1,4 +1,4 @@
-use Rattle.std.proofs.Common.{◌≡◌, ℕ, List, [], ◌∷◌, map, is_some, Bool, Some, None, refl, ◌∙◌, ap}
+use Rattle.std.proofs.Common.{◌≡◌, ℕ, List, [], ◌∷◌, map, is_some, Bool, refl, ◌∙◌, ap}
 use Rattle.std.specs.List.{list_any}
 use Rattle.model.specs.declared.journals.Limits.{Limits}
 use Rattle.model.specs.ClassListings.{ClassListing}

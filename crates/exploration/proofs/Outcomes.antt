@@ -1,11 +1,12 @@
-use Rattle.std.proofs.Common.{◌≡◌, ℕ, zero, suc, ◌+◌, List, [], ◌∷◌, slice_get, is_some, is_none, Bool, true, false, not}
-use Rattle.std.proofs.Common.{◌&&◌, ◌||◌, if◌then◌else◌, Option, Some, None, refl, ◌∙◌, ap, subst, arith}
+use Rattle.std.proofs.Common.{◌≡◌, ℕ, zero, suc, ◌+◌, List, [], ◌∷◌, ◌++◌, slice_get, is_some, is_none, Bool, true, false, not}
+use Rattle.std.proofs.Common.{◌&&◌, ◌||◌, if◌then◌else◌, Option, Some, None, refl, sym, ◌∙◌, ap, subst, arith}
 use Rattle.std.specs.List.{list_any}
 use Rattle.model.specs.declared.turns.Fault.{Fault}
 use Rattle.model.specs.declared.journals.Limits.{Limits}
 use Rattle.model.specs.declared.turns.Status.{Status}
 use Rattle.model.specs.declared.turns.Turn.TheVariants.{NotReady, OutputFull}
 use Rattle.model.specs.ClassListings.{ClassListing}
+use Rattle.model.specs.Collector.Runs.{machine_after}
 use Rattle.model.specs.Completions.{waits}
 use Rattle.model.specs.Observers.{status_by, status_in}
 use Rattle.model.specs.Ready.{is_ready, some_is_ready, some_lives, numbers_from, thread_numbers}
@@ -16,13 +17,13 @@ use Rattle.model.specs.Worlds.Thread.{Live, Ended}
 use Rattle.exploration.specs.declared.ends.End.{End}
 use Rattle.exploration.specs.Observations.{IsHalted, Observed, observed}
 use Rattle.exploration.specs.Outcomes.{HasOutcomes, IsAtRest, IsOutcome, OutcomesAreReal, OutcomesOfAll, RestIsHalted}
-use Rattle.exploration.specs.Outcomes.{runs_on}
+use Rattle.exploration.specs.Outcomes.{TellsOutcomes, runs_on}
 use Rattle.exploration.specs.ReducedRuns.{ShowsSameEnd}
 use Rattle.exploration.specs.Representation.{uncounted}
-use Rattle.exploration.specs.ClosedLists.{ideal_after}
+use Rattle.exploration.specs.ClosedLists.{ComesTo, ideal_after}
 use Rattle.exploration.proofs.Observations.{observed_same, status_at}
 use Rattle.exploration.proofs.ReducedRuns.{reduced_shows_all}
-use Rattle.exploration.proofs.ClosedLists.{same_thread_refusal}
+use Rattle.exploration.proofs.ClosedLists.{runs_come, same_thread_refusal}
 use Rattle.exploration.proofs.RowCounts.{refused_at}
 
 -- a run that has come to rest has an outcome that is listed
@@ -93,6 +94,45 @@ rest_is_halted program limits w rest t e =
     both_ways true e k = cc
     both_ways false e k = cc
 
+-- what is observed is observed of a world whose rows are counted
+
+pub halted_uncounted : (program : List ClassListing) (limits : Limits) (w : World) → IsHalted program limits w
+    → IsHalted program limits (uncounted w)
+halted_uncounted program limits w halted t e = halted t (sym (refused_at program w t limits) ∙ e)
+
+pub observed_counted : (program : List ClassListing) (w : World) → observed program (uncounted w) ≡ observed program w
+observed_counted program w =
+    ap (λ (t : Status). let y : Observed = record (observed program w) { status = t } in y) (status_at program w)
+
+-- the outcomes of all that the turns of a start lead to are those of all runs that pass through it
+
+module _ (program : List ClassListing) (limits : Limits) (no_room : Bool) (start : World) (outcomes : List Observed) where
+  pub tells_outcomes : ((w : World) → ComesTo program limits no_room start w → IsHalted program limits w
+      → IsOutcome outcomes (observed program w)) → TellsOutcomes program limits no_room start outcomes
+  tells_outcomes all =
+      let come = runs_come program limits no_room start in
+      record {
+        worlds = all;
+        runs = λ before after e room halted. counted (ideal_after program limits (before ++ after))
+            (come.0 before after e room) halted;
+        machines = λ shape before after e room halted. counted (machine_after program shape limits (before ++ after)).world
+            (come.1 shape before after e room) halted;
+      }
+    where
+      counted : (w : World) → ComesTo program limits no_room start (uncounted w) → IsHalted program limits w
+          → IsOutcome outcomes (observed program w)
+      counted w c halted = subst (IsOutcome outcomes) (observed_counted program w)
+          (all (uncounted w) c (halted_uncounted program limits w halted))
+
+  -- more outcomes tell all the more
+  pub tells_more : TellsOutcomes program limits no_room start outcomes → (more : List Observed)
+      → ((o : Observed) → IsOutcome outcomes o → IsOutcome more o) → TellsOutcomes program limits no_room start more
+  tells_more told more all = record {
+    worlds = λ w c halted. all _ (told.worlds w c halted);
+    runs = λ before after e room halted. all _ (told.runs before after e room halted);
+    machines = λ shape before after e room halted. all _ (told.machines shape before after e room halted);
+  }
+
 -- what is observed of a run in which no thread can go on is listed
 
 module _ (program : List ClassListing) (limits : Limits) (states : List World) (outcomes : List Observed)
@@ -112,17 +152,15 @@ module _ (program : List ClassListing) (limits : Limits) (states : List World) (
       subst (IsOutcome outcomes) all found
 
 pub outcomes_of_all : OutcomesOfAll
-outcomes_of_all program limits no_room states outcomes closed has =
-    let shown = reduced_shows_all program limits no_room states closed in record {
-      runs = λ pairs room halted. listed program limits states outcomes has _ halted (shown.0 pairs room);
-      machines = λ shape actors room halted. listed program limits states outcomes has _ halted (shown.1 shape actors room);
-    }
+outcomes_of_all program limits no_room start states outcomes closed has =
+    let shown = reduced_shows_all program limits no_room start states closed in
+    tells_outcomes program limits no_room (uncounted start) outcomes
+    (λ w c halted. listed program limits states outcomes has w halted (shown w c))
 
 pub outcomes_are_real : OutcomesAreReal
 outcomes_are_real program limits pairs x s halted =
     let w = ideal_after program limits pairs in record {
-      observed = observed_same program limits x (uncounted w) s.represents
-          ∙ ap (λ (t : Status). let y : Observed = record (observed program w) { status = t } in y) (status_at program w);
+      observed = observed_same program limits x (uncounted w) s.represents ∙ observed_counted program w;
       halted = λ t e. halted t (same_thread_refusal program limits x (uncounted w) s.represents t
           ∙ refused_at program w t limits ∙ e);
       made = s.counted;

@@ -1,19 +1,16 @@
-use Rattle.std.proofs.Common.{◌≡◌, ◌⊎◌, inl, inr, ◌+◌, ℕ, zero, suc, List, [], ◌∷◌, ◌++◌, length, map, set, slice_get}
-use Rattle.std.proofs.Common.{Bool, true, false, if◌then◌else◌, nat_le, not, is_none, ◌&&◌, ◌||◌, Option, Some, None, refl, sym}
+use Rattle.std.proofs.Common.{◌≡◌, ◌⊎◌, inl, inr, ℕ, zero, suc, List, [], ◌∷◌, ◌++◌, length, map, set, slice_get}
+use Rattle.std.proofs.Common.{Bool, true, false, if◌then◌else◌, nat_le, not, is_none, ◌&&◌, Option, Some, None, refl, sym}
 use Rattle.std.proofs.Common.{◌∙◌, ap, subst, arith}
-use Rattle.model.specs.declared.journals.HeapShape.{HeapShape}
 use Rattle.model.specs.declared.journals.Limits.{Limits}
-use Rattle.model.specs.declared.journals.Row.{Row}
-use Rattle.model.specs.declared.turns.Actor.{Actor}
-use Rattle.model.specs.declared.turns.Actor.TheVariants.{Thread as ThreadActor, Collector}
+use Rattle.model.specs.declared.turns.Actor.TheVariants.{Thread as ThreadActor}
 use Rattle.model.specs.declared.turns.Fault.{Fault}
-use Rattle.model.specs.declared.turns.Turn.{Turn}
+use Rattle.model.specs.declared.turns.Status.{Status}
 use Rattle.model.specs.declared.turns.Turn.TheVariants.{NotReady, OutputFull, StepLimit}
 use Rattle.model.specs.ClassListings.{ClassListing}
 use Rattle.model.specs.Frames.{Frame}
-use Rattle.model.specs.Worlds.{World, Thread, opening_world, counted, frames_at, frames_of, lives, is_live, with_thread}
+use Rattle.model.specs.Worlds.{World, Thread, frames_at, frames_of, lives, is_live, with_thread}
 use Rattle.model.specs.Worlds.Thread.{Live, Ended}
-use Rattle.exploration.specs.declared.ends.End.TheVariants.{Lives, Ended as HasEnded}
+use Rattle.exploration.specs.declared.ends.End.TheVariants.{Ended as HasEnded}
 use Rattle.model.specs.Completions.{Completion, prints, waits}
 use Rattle.model.specs.Effects.{Choice}
 use Rattle.model.specs.Effects.Choice.{NewObject, NoRoom}
@@ -21,16 +18,15 @@ use Rattle.model.specs.Results.{Effect}
 use Rattle.model.specs.Observers.{status_in}
 use Rattle.model.specs.Ready.{is_ready}
 use Rattle.model.specs.Table.Next.{completion, next, asked}
-use Rattle.model.specs.Turns.{refusal, refusal_after, thread_refusal, overflows, passes, ideal_step, unless_refused, choice_by}
-use Rattle.model.specs.Machines.{Machine, opening_machine}
-use Rattle.model.specs.Collector.Runs.{machine_after, moved_by, moved_by_all, advance_if}
-use Rattle.model.proofs.CollectorLemmas.Running.{machine_after-is, unfaulted}
+use Rattle.model.specs.Turns.{refusal, refusal_after, thread_refusal, overflows, passes}
+use Rattle.model.proofs.CollectorLemmas.Running.{unfaulted}
 use Rattle.model.proofs.NextKeeps.{next-choice}
-use Rattle.exploration.specs.Representation.{Represents, Images}
-use Rattle.model.specs.Machines.{row_by}
-use Rattle.exploration.specs.ClosedLists.{IsAmong, Pair, moved_through, ideal_after, PairsFindRoom}
-use Rattle.exploration.specs.ClosedLists.{TurnFindsRoom, ActorsFindRoom}
-use Rattle.exploration.specs.Observations.{end_of, IsHalted, Observed}
+use Rattle.exploration.specs.Representation.{Represents, Images, uncounted}
+use Rattle.exploration.specs.ClosedLists.{ComesTo, IsAmong}
+use Rattle.exploration.specs.ClosedLists.ComesTo.{begins, turns}
+use Rattle.exploration.specs.declared.ends.End.{End}
+use Rattle.exploration.specs.Observations.{end_of, IsHalted, Observed, observed}
+use Rattle.exploration.specs.Search.{IsExpanded}
 use Rattle.exploration.specs.Reduction.{PlainStep, GoesAhead, IsAheadAmong, ClosedReduced}
 use Rattle.exploration.specs.Reduction.GoesAhead.{stays, steps}
 use Rattle.exploration.specs.ReducedRuns.{ShowsSameEnd, ReducedShowsAll}
@@ -225,41 +221,203 @@ module _ (program : List ClassListing) where
     free_at w us r t same e = unlimited w us t
         (refused_near R same_length same_lives put extend 0 program w us r t same limits ∙ not_refused w t e) w.fault e
 
-    module _ (no_room : Bool) (states : List World) (closed : ClosedReduced program limits no_room states) where
-      -- ---- a world that is ahead is represented
+    -- ---- what is observed
 
-      record AheadAmong (w : World) : Type 0 where
-        world : World
-        far : Far w world
-        among : IsAmong states world
+    ends_alike : (x u : Thread) → ThreadAhead x u → end_of u ≡ end_of x
+    ends_alike (Live fs) (Live gs) r = refl
+    ends_alike (Live fs) (Ended b) r = absurd r
+    ends_alike (Ended a) (Live gs) r = absurd r
+    ends_alike (Ended a) (Ended b) r = ap HasEnded (sym r)
 
-      by_asked : (k : ℕ) (x : World) (t : ℕ) → slice_get states k ≡ Some x → refusal program limits x (ThreadActor t) ≡ None
-          → (choice : Choice) → (no_room ≡ false → choice ≡ NewObject) → (words : Option ℕ) → asked program x t ≡ words
-          → IsAheadAmong program states (next program x t choice).after
-      by_asked k x t there free NewObject room words a = closed.turned k x t there free
-      by_asked k x t there free NoRoom room (Some words) a =
-          closed.without_room (missing no_room room) k x t words there free a
-      by_asked k x t there free NoRoom room None a = subst (λ (f : Effect). IsAheadAmong program states f.after)
-          (next-choice program x t NewObject NoRoom a) (closed.turned k x t there free)
+    same_ends : (ts us : List Thread) → R ts us → map end_of us ≡ map end_of ts
+    same_ends [] [] r = refl
+    same_ends [] (u ∷ us) r = absurd r
+    same_ends (x ∷ ts) [] r = absurd r
+    same_ends (x ∷ ts) (u ∷ us) r = rw (ends_alike x u r.0, same_ends ts us r.1) refl
 
-      -- the thread is where it was: the turn is made from the representative
+    -- where no thread can go on none is ahead
+    all_there : (ts us : List Thread) → R ts us
+        → ((t : ℕ) (fs : List Frame) → slice_get ts t ≡ Some (Live fs) → slice_get us t ≡ Some (Live fs)) → us ≡ ts
+    all_there [] [] r k = refl
+    all_there [] (u ∷ us) r k = absurd r
+    all_there (x ∷ ts) [] r k = absurd r
+    all_there (x ∷ ts) (u ∷ us) r k =
+        rw (one x u r.0 (λ fs e. k 0 fs (ap (λ (y : Thread). Some y) e)), all_there ts us r.1 (λ t. k (suc t))) refl
+      where
+        one : (y v : Thread) → ThreadAhead y v → ((fs : List Frame) → y ≡ Live fs → Some v ≡ Some (Live fs)) → v ≡ y
+        one (Live fs) (Live gs) q l = (let s = l fs refl in cc)
+        one (Live fs) (Ended b) q l = absurd q
+        one (Ended a) (Live gs) q l = absurd q
+        one (Ended a) (Ended b) q l = ap Ended (sym q)
+
+    ready_step : (w : World) (t : ℕ) (fs gs : List Frame) → w.fault ≡ None → slice_get w.threads t ≡ Some (Live fs)
+        → PlainStep program fs gs → is_ready program w t ≡ true
+    ready_step w t fs gs clean live step =
+        let c = plain_comes program w t fs step.frame step.other live step.runs step.steps in
+        ap (λ (o : Option (Fault × ℕ)). is_none o && is_live w t && not (waits (completion program w t))) clean
+        ∙ ap (λ (o : Option Thread). lives o && not (waits (completion program w t))) live
+        ∙ ap (λ (k : Completion). not (waits k)) c.1
+
+    -- nothing refuses a plain step
+    step_free : (w : World) (t : ℕ) (fs gs : List Frame) → w.fault ≡ None → slice_get w.threads t ≡ Some (Live fs)
+        → PlainStep program fs gs → thread_refusal program limits w t ≡ None
+    step_free w t fs gs clean live step =
+        let c = plain_comes program w t fs step.frame step.other live step.runs step.steps in
+        let yes = ready_step w t fs gs clean live step in
+        let fits : overflows program limits w t ≡ false =
+        ap (λ (k : Completion). passes limits.output w.output (prints k)) c.1 in
+        rw (yes, fits) refl
+
+    not_ahead : (w : World) (us : List Thread) → R w.threads us → w.fault ≡ None → IsHalted program limits w
+        → us ≡ w.threads
+    not_ahead w us r clean halted = all_there w.threads us r (λ t fs live. elim (look w.threads us r t fs live) [
+      | inl s ↦ s
+      | inr k ↦ absurd (halted t (step_free w t fs (Further.after k) clean live (Further.step k)))
+    ])
+
+    status_alike : (w v : World) (f : Far w v) (o : Option (Fault × ℕ)) → w.fault ≡ o → IsHalted program limits w
+        → status_in program v ≡ status_in program w
+    status_alike w v f (Some fault) k e =
+        let q : v.fault ≡ Some fault = ap (λ (y : World). y.fault) f.is ∙ k in rw (q, k) refl
+    status_alike w v f None k e =
+        let q = not_ahead w f.threads f.related k e in
+        ap (status_in program) (f.is ∙ ap (λ us. with_threads us 0 w) q) ∙ status_at program w
+
+    faulted_halts : (x : World) (fault : Fault × ℕ) → x.fault ≡ Some fault → IsHalted program limits x
+    faulted_halts x fault k t e = (let q : is_ready program x t ≡ false =
+        ap (λ (o : Option (Fault × ℕ)). is_none o && is_live x t && not (waits (completion program x t))) k
+        in not_both (is_ready program x t) (overflows program limits x t) q e)
+      where
+        not_both : (ready full : Bool) → ready ≡ false
+            → (if ready then (if full then Some OutputFull else None) else Some NotReady) ≡ None → ⊥
+        not_both true full q e = absurd (cc)
+        not_both false full q e = cc
+
+    halted_alike : (w v : World) (f : Far w v) (o : Option (Fault × ℕ)) → w.fault ≡ o → IsHalted program limits w
+        → IsHalted program limits v
+    halted_alike w v f (Some fault) k e = faulted_halts v fault (ap (λ (y : World). y.fault) f.is ∙ k)
+    halted_alike w v f None k e =
+        let q = not_ahead w f.threads f.related k e in
+        let same : v ≡ with_threads w.threads 0 w = f.is ∙ ap (λ us. with_threads us 0 w) q in
+        λ t h. e t (sym (refused_at program w t limits)
+        ∙ ap (λ (y : World). thread_refusal program limits y t) (sym same) ∙ h)
+
+    -- so where no thread can go on the same is observed
+    observed_alike : (w v : World) (f : Far w v) → IsHalted program limits w → observed program v ≡ observed program w
+    observed_alike w v f halted =
+        ap (λ (bs : List ℕ). let y : Observed = record (observed program v) { output = bs } in y)
+        (ap (λ (y : World). y.output) f.is)
+        ∙ ap (λ (o : Option (Fault × ℕ)).
+        let y : Observed = record (observed program v) { output = w.output; fault = o } in y)
+        (ap (λ (y : World). y.fault) f.is)
+        ∙ ap (λ (es : List End).
+        let y : Observed = record (observed program w) { ends = es; status = status_in program v } in y)
+        (ap (λ (y : World). map end_of y.threads) f.is ∙ same_ends w.threads f.threads f.related)
+        ∙ ap (λ (t : Status). let y : Observed = record (observed program w) { status = t } in y)
+        (status_alike w v f w.fault refl halted)
+
+    -- ---- whatever holds of a start, and goes on to hold of what turns lead to, once some plain steps were made
+
+    pub record HoldsAhead (Held : World → Type 0) (w : World) : Type 0 where
+      pub world : World
+      pub ahead : GoesAhead program w world
+      pub held : Held world
+
+    record HeldAhead (Held : World → Type 0) (w : World) : Type 0 where
+      world : World
+      far : Far w world
+      held : Held world
+
+    module _ (no_room : Bool) (Held : World → Type 0)
+        (goes_on : (v : World) → Held v → (t : ℕ) (choice : Choice) → (no_room ≡ false → choice ≡ NewObject)
+        → refusal program limits v (ThreadActor t) ≡ None → HoldsAhead Held (next program v t choice).after) where
+      -- the thread is where it was: the turn is made of the world that is ahead
       where_it_was : (w : World) (t : ℕ) (choice : Choice) → (no_room ≡ false → choice ≡ NewObject)
-          → refusal program limits w (ThreadActor t) ≡ None → (v : World) (f : Far w v) → IsAmong states v → frames_of (slice_get f.threads t) ≡ frames_at w t
-          → AheadAmong (next program w t choice).after
-      where_it_was w t choice room e v f a same =
+          → refusal program limits w (ThreadActor t) ≡ None → (v : World) (f : Far w v) → Held v
+          → frames_of (slice_get f.threads t) ≡ frames_at w t → HeldAhead Held (next program w t choice).after
+      where_it_was w t choice room e v f held same =
           let u = with_threads f.threads 0 w in
-          let x = a.state in
-          let r : Represents x u = subst (Represents x) f.is a.represents in
-          let free : refusal program limits x (ThreadActor t) ≡ None =
-          same_refusal program limits x u r (ThreadActor t) ∙ free_at w f.threads f.related t same e in
-          let z = by_asked a.place x t a.there free choice room (asked program x t) refl in
-          let i : Images (next program x t choice).after (next program u t choice).after =
-          turn_images program x u r t choice (unfaulted program limits w t e) in
-          let k = image_ahead program (next program x t choice).after z.world (next program u t choice).after i z.ahead in
+          let free : refusal program limits u (ThreadActor t) ≡ None = free_at w f.threads f.related t same e in
+          let z = goes_on u (subst Held f.is held) t choice room free in
+          record {
+            world = HoldsAhead.world z;
+            far = far_goes (next program w t choice).after (next program u t choice).after (HoldsAhead.world z)
+                (next_near R same_length same_lives put extend 0 program w f.threads f.related t same choice)
+                (HoldsAhead.ahead z);
+            held = HoldsAhead.held z;
+          }
+
+      -- the thread is ahead: the world is one step less behind
+      further_on : (w : World) (t : ℕ) (choice : Choice) (v : World) (f : Far w v) → Held v → (fs : List Frame)
+          → slice_get w.threads t ≡ Some (Live fs) → Further w.threads f.threads t fs
+          → HeldAhead Held (next program w t choice).after
+      further_on w t choice v f held fs live k =
+          let step = Further.step k in
+          let is : (next program w t choice).after ≡ with_thread w t (Live (Further.after k)) =
+          plain_next program w t fs step.frame step.other live step.runs step.steps choice
+          ∙ ap (λ gs. with_thread w t (Live gs)) (sym step.is) in
+          subst (HeldAhead Held) (sym is) (record {
+            world = v;
+            far = record { threads = f.threads; related = Further.related k; is = f.is };
+            held = held;
+          })
+
+      turn_ahead : (w : World) → HeldAhead Held w → (t : ℕ) (choice : Choice) → (no_room ≡ false → choice ≡ NewObject)
+          → refusal program limits w (ThreadActor t) ≡ None → HeldAhead Held (next program w t choice).after
+      turn_ahead w a t choice room e =
+          let f = HeldAhead.far a in
+          let live = live_at w t e in
+          elim (look w.threads f.threads f.related t live.0 live.1) [
+            | inl s ↦ where_it_was w t choice room e (HeldAhead.world a) f (HeldAhead.held a)
+                (ap frames_of s ∙ sym (ap frames_of live.1))
+            | inr k ↦ further_on w t choice (HeldAhead.world a) f (HeldAhead.held a) live.0 live.1 k
+          ]
+
+      module _ (start : World) (ahead : HoldsAhead Held (uncounted start)) where
+        held_ahead : (w : World) → ComesTo program limits no_room (uncounted start) w → HeldAhead Held w
+        held_ahead w begins = record {
+          world = HoldsAhead.world ahead;
+          far = far_goes w w (HoldsAhead.world ahead)
+              (record { threads = w.threads; related = all_themselves w.threads; is = refl }) (HoldsAhead.ahead ahead);
+          held = HoldsAhead.held ahead;
+        }
+        held_ahead w (turns v t choice c room e) = turn_ahead v (held_ahead v c) t choice room e
+
+        -- what is observed where no thread can go on is observed of what it holds of
+        pub observed_of_held : (os : List Observed)
+            → ((v : World) → Held v → IsHalted program limits v → (k : ℕ) × (slice_get os k ≡ Some (observed program v)))
+            → (w : World) → ComesTo program limits no_room (uncounted start) w → IsHalted program limits w
+            → (k : ℕ) × (slice_get os k ≡ Some (observed program w))
+        observed_of_held os all w c halted =
+            let a = held_ahead w c in
+            let v = HeldAhead.world a in
+            let f = HeldAhead.far a in
+            subst (λ (o : Observed). (k : ℕ) × (slice_get os k ≡ Some o)) (observed_alike w v f halted)
+            (all v (HeldAhead.held a) (halted_alike w v f w.fault refl halted))
+
+    -- ---- a turn of what a state represents, whose turns lead into a list
+
+    module _ (no_room : Bool) (states : List World) where
+      by_asked : (x : World) (t : ℕ) → IsExpanded program limits no_room states x t
+          → refusal program limits x (ThreadActor t) ≡ None → (choice : Choice) → (no_room ≡ false → choice ≡ NewObject)
+          → (words : Option ℕ) → asked program x t ≡ words → IsAheadAmong program states (next program x t choice).after
+      by_asked x t x_turns free NewObject room words a = x_turns.turned free
+      by_asked x t x_turns free NoRoom room (Some words) a = x_turns.without_room (missing no_room room) words free a
+      by_asked x t x_turns free NoRoom room None a = subst (λ (f : Effect). IsAheadAmong program states f.after)
+          (next-choice program x t NewObject NoRoom a) (x_turns.turned free)
+
+      pub turn_leads : (x v : World) → Represents x v → (t : ℕ) → IsExpanded program limits no_room states x t
+          → (choice : Choice) → (no_room ≡ false → choice ≡ NewObject) → refusal program limits v (ThreadActor t) ≡ None
+          → IsAheadAmong program states (next program v t choice).after
+      turn_leads x v r t x_turns choice room e =
+          let free : refusal program limits x (ThreadActor t) ≡ None = same_refusal program limits x v r (ThreadActor t) ∙ e in
+          let z = by_asked x t x_turns free choice room (asked program x t) refl in
+          let i : Images (next program x t choice).after (next program v t choice).after =
+          turn_images program x v r t choice (unfaulted program limits v t e) in
+          let k = image_ahead program (next program x t choice).after z.world (next program v t choice).after i z.ahead in
           record {
             world = k.world;
-            far = far_goes (next program w t choice).after (next program u t choice).after k.world
-                (next_near R same_length same_lives put extend 0 program w f.threads f.related t same choice) k.ahead;
+            ahead = k.ahead;
             among = record {
               place = z.among.place;
               state = z.among.state;
@@ -268,181 +426,31 @@ module _ (program : List ClassListing) where
             };
           }
 
-      -- the thread is ahead: the world is one step less behind
-      further_on : (w : World) (t : ℕ) (choice : Choice) (v : World) (f : Far w v) → IsAmong states v → (fs : List Frame)
-          → slice_get w.threads t ≡ Some (Live fs) → Further w.threads f.threads t fs
-          → AheadAmong (next program w t choice).after
-      further_on w t choice v f a fs live k =
-          let step = Further.step k in
-          let is : (next program w t choice).after ≡ with_thread w t (Live (Further.after k)) =
-          plain_next program w t fs step.frame step.other live step.runs step.steps choice
-          ∙ ap (λ gs. with_thread w t (Live gs)) (sym step.is) in
-          subst AheadAmong (sym is) (record {
-            world = v;
-            far = record { threads = f.threads; related = Further.related k; is = f.is };
-            among = a;
-          })
+    -- ---- a list that is closed
 
-      turn_ahead : (w : World) → AheadAmong w → (t : ℕ) (choice : Choice) → (no_room ≡ false → choice ≡ NewObject)
-          → refusal program limits w (ThreadActor t) ≡ None → AheadAmong (next program w t choice).after
-      turn_ahead w a t choice room e =
-          let f = AheadAmong.far a in
-          let live = live_at w t e in
-          elim (look w.threads f.threads f.related t live.0 live.1) [
-            | inl s ↦ where_it_was w t choice room e (AheadAmong.world a) f (AheadAmong.among a)
-                (ap frames_of s ∙ sym (ap frames_of live.1))
-            | inr k ↦ further_on w t choice (AheadAmong.world a) f (AheadAmong.among a) live.0 live.1 k
-          ]
-
-      counted_ahead : (w : World) → AheadAmong w → AheadAmong (counted w)
-      counted_ahead w a = let f = AheadAmong.far a in record {
-        world = AheadAmong.world a;
-        far = record { threads = f.threads; related = f.related; is = f.is };
-        among = AheadAmong.among a;
+    module _ (no_room : Bool) (start : World) (states : List World)
+        (closed : ClosedReduced program limits no_room start states) where
+      all_expanded : (k : ℕ) (x : World) (t : ℕ) → slice_get states k ≡ Some x
+          → IsExpanded program limits no_room states x t
+      all_expanded k x t there = record {
+        turned = λ free. closed.turned k x t there free;
+        without_room = λ both words free a. closed.without_room both k x t words there free a;
       }
 
-      by_refusal : (w : World) → AheadAmong w → (actor : Actor) (choice : Choice)
-          → (no_room ≡ false → choice ≡ NewObject) → (o : Option Turn) → refusal program limits w actor ≡ o
-          → AheadAmong (unless_refused program w actor choice o)
-      by_refusal w a actor choice room (Some refused) e = a
-      by_refusal w a (ThreadActor t) choice room None e = counted_ahead _ (turn_ahead w a t choice room e)
-      by_refusal w a Collector choice room None e = counted_ahead w a
+      goes_on : (v : World) → IsAmong states v → (t : ℕ) (choice : Choice) → (no_room ≡ false → choice ≡ NewObject)
+          → refusal program limits v (ThreadActor t) ≡ None → HoldsAhead (IsAmong states) (next program v t choice).after
+      goes_on v a t choice room e =
+          let z = turn_leads no_room states a.state v a.represents t (all_expanded a.place a.state t a.there) choice room e in
+          record { world = z.world; ahead = z.ahead; held = z.among }
 
-      pair_ahead : (w : World) → AheadAmong w → (actor : Actor) (choice : Choice)
-          → (no_room ≡ false → choice ≡ NewObject) → AheadAmong (ideal_step program limits w actor choice)
-      pair_ahead w a actor choice room = by_refusal w a actor choice room (refusal program limits w actor) refl
-
-      opening_ahead : AheadAmong (opening_world program)
-      opening_ahead =
-          let w = opening_world program in
+      shows_end : (w : World) → ComesTo program limits no_room (uncounted start) w → ShowsSameEnd program limits states w
+      shows_end w c =
           let o = closed.opening in
-          record {
-            world = o.world;
-            far = far_goes w w o.world (record { threads = w.threads; related = all_themselves w.threads; is = refl }) o.ahead;
-            among = o.among;
-          }
-
-      pairs_ahead : (w : World) → AheadAmong w → (pairs : List Pair) → (no_room ≡ false → PairsFindRoom pairs)
-          → AheadAmong (moved_through program limits w pairs)
-      pairs_ahead w a [] room = a
-      pairs_ahead w a (p ∷ ps) room = pairs_ahead (ideal_step program limits w p.actor p.choice)
-          (pair_ahead w a p.actor p.choice (λ k. (room k).0)) ps (λ k. (room k).1)
-
-      if_ahead : (shape : HeapShape) (m : Machine) → AheadAmong m.world → (o : Option Row)
-          → (no_room ≡ false → TurnFindsRoom program m o) → AheadAmong (advance_if program shape limits m o).world
-      if_ahead shape m a None room = a
-      if_ahead shape m a (Some row) room =
-          pair_ahead m.world a row.actor (choice_by program m.world row.actor row.outcome) room
-
-      moved_ahead : (shape : HeapShape) (m : Machine) → AheadAmong m.world → (actor : Actor)
-          → (no_room ≡ false → TurnFindsRoom program m (row_by program limits m actor 0))
-          → AheadAmong (moved_by program shape limits m actor).world
-      unfolding moved_by
-      moved_ahead shape m a actor room = if_ahead shape m a (row_by program limits m actor 0) room
-
-      actors_ahead : (shape : HeapShape) (m : Machine) → AheadAmong m.world → (actors : List Actor)
-          → (no_room ≡ false → ActorsFindRoom program shape limits m actors)
-          → AheadAmong (moved_by_all program shape limits m actors).world
-      actors_ahead shape m a [] room = a
-      actors_ahead shape m a (actor ∷ actors) room = actors_ahead shape (moved_by program shape limits m actor)
-          (moved_ahead shape m a actor (λ k. (room k).0)) actors (λ k. (room k).1)
-
-      machine_ahead : (shape : HeapShape) (actors : List Actor)
-          → (no_room ≡ false → ActorsFindRoom program shape limits (opening_machine program shape) actors)
-          → AheadAmong (machine_after program shape limits actors).world
-      machine_ahead shape actors room = subst (λ (m : Machine). AheadAmong m.world)
-          (sym (machine_after-is program shape limits actors))
-          (actors_ahead shape (opening_machine program shape) opening_ahead actors room)
-
-      -- ---- what is observed
-
-      ends_alike : (x u : Thread) → ThreadAhead x u → end_of u ≡ end_of x
-      ends_alike (Live fs) (Live gs) r = refl
-      ends_alike (Live fs) (Ended b) r = absurd r
-      ends_alike (Ended a) (Live gs) r = absurd r
-      ends_alike (Ended a) (Ended b) r = ap HasEnded (sym r)
-
-      same_ends : (ts us : List Thread) → R ts us → map end_of us ≡ map end_of ts
-      same_ends [] [] r = refl
-      same_ends [] (u ∷ us) r = absurd r
-      same_ends (x ∷ ts) [] r = absurd r
-      same_ends (x ∷ ts) (u ∷ us) r = rw (ends_alike x u r.0, same_ends ts us r.1) refl
-
-      -- where no thread can go on none is ahead
-      all_there : (ts us : List Thread) → R ts us
-          → ((t : ℕ) (fs : List Frame) → slice_get ts t ≡ Some (Live fs) → slice_get us t ≡ Some (Live fs)) → us ≡ ts
-      all_there [] [] r k = refl
-      all_there [] (u ∷ us) r k = absurd r
-      all_there (x ∷ ts) [] r k = absurd r
-      all_there (x ∷ ts) (u ∷ us) r k =
-          rw (one x u r.0 (λ fs e. k 0 fs (ap (λ (y : Thread). Some y) e)), all_there ts us r.1 (λ t. k (suc t))) refl
-        where
-          one : (y v : Thread) → ThreadAhead y v → ((fs : List Frame) → y ≡ Live fs → Some v ≡ Some (Live fs)) → v ≡ y
-          one (Live fs) (Live gs) q l = (let s = l fs refl in cc)
-          one (Live fs) (Ended b) q l = absurd q
-          one (Ended a) (Live gs) q l = absurd q
-          one (Ended a) (Ended b) q l = ap Ended (sym q)
-
-      ready_step : (w : World) (t : ℕ) (fs gs : List Frame) → w.fault ≡ None → slice_get w.threads t ≡ Some (Live fs)
-          → PlainStep program fs gs → is_ready program w t ≡ true
-      ready_step w t fs gs clean live step =
-          let c = plain_comes program w t fs step.frame step.other live step.runs step.steps in
-          ap (λ (o : Option (Fault × ℕ)). is_none o && is_live w t && not (waits (completion program w t))) clean
-          ∙ ap (λ (o : Option Thread). lives o && not (waits (completion program w t))) live
-          ∙ ap (λ (k : Completion). not (waits k)) c.1
-
-      -- nothing refuses a plain step
-      step_free : (w : World) (t : ℕ) (fs gs : List Frame) → w.fault ≡ None → slice_get w.threads t ≡ Some (Live fs)
-          → PlainStep program fs gs → thread_refusal program limits w t ≡ None
-      step_free w t fs gs clean live step =
-          let c = plain_comes program w t fs step.frame step.other live step.runs step.steps in
-          let yes = ready_step w t fs gs clean live step in
-          let fits : overflows program limits w t ≡ false =
-          ap (λ (k : Completion). passes limits.output w.output (prints k)) c.1 in
-          rw (yes, fits) refl
-
-      not_ahead : (w : World) (us : List Thread) → R w.threads us → w.fault ≡ None → IsHalted program limits w
-          → us ≡ w.threads
-      not_ahead w us r clean halted = all_there w.threads us r (λ t fs live. elim (look w.threads us r t fs live) [
-        | inl s ↦ s
-        | inr k ↦ absurd (halted t (step_free w t fs (Further.after k) clean live (Further.step k)))
-      ])
-
-      status_alike : (w v : World) (f : Far w v) (o : Option (Fault × ℕ)) → w.fault ≡ o → IsHalted program limits w
-          → status_in program v ≡ status_in program w
-      status_alike w v f (Some fault) k e =
-          let q : v.fault ≡ Some fault = ap (λ (y : World). y.fault) f.is ∙ k in rw (q, k) refl
-      status_alike w v f None k e =
-          let q = not_ahead w f.threads f.related k e in
-          ap (status_in program) (f.is ∙ ap (λ us. with_threads us 0 w) q) ∙ status_at program w
-
-      faulted_halts : (x : World) (fault : Fault × ℕ) → x.fault ≡ Some fault → IsHalted program limits x
-      faulted_halts x fault k t e = (let q : is_ready program x t ≡ false =
-          ap (λ (o : Option (Fault × ℕ)). is_none o && is_live x t && not (waits (completion program x t))) k
-          in not_both (is_ready program x t) (overflows program limits x t) q e)
-        where
-          not_both : (ready full : Bool) → ready ≡ false
-              → (if ready then (if full then Some OutputFull else None) else Some NotReady) ≡ None → ⊥
-          not_both true full q e = absurd (cc)
-          not_both false full q e = cc
-
-      halted_alike : (w v : World) (f : Far w v) (x : World) → Represents x v → (o : Option (Fault × ℕ)) → w.fault ≡ o
-          → IsHalted program limits w → IsHalted program limits x
-      halted_alike w v f x r (Some fault) k e =
-          let q : v.fault ≡ Some fault = ap (λ (y : World). y.fault) f.is ∙ k in
-          faulted_halts x fault (ap (λ (y : World). y.fault) r.is ∙ q)
-      halted_alike w v f x r None k e =
-          let q = not_ahead w f.threads f.related k e in
-          let same : v ≡ with_threads w.threads 0 w = f.is ∙ ap (λ us. with_threads us 0 w) q in
-          λ t h. e t (sym (refused_at program w t limits)
-          ∙ ap (λ (y : World). thread_refusal program limits y t) (sym same)
-          ∙ sym (same_thread_refusal program limits x v r t) ∙ h)
-
-      shows_end : (w : World) → AheadAmong w → ShowsSameEnd program limits states w
-      shows_end w a =
-          let v = AheadAmong.world a in
-          let f = AheadAmong.far a in
-          let m = AheadAmong.among a in
+          let a = held_ahead no_room (IsAmong states) goes_on start
+          (record { world = o.world; ahead = o.ahead; held = o.among }) w c in
+          let v = HeldAhead.world a in
+          let f = HeldAhead.far a in
+          let m = HeldAhead.held a in
           let t = observed_same program limits m.state v m.represents in
           record {
             place = m.place;
@@ -452,15 +460,10 @@ module _ (program : List ClassListing) where
             fault = ap (λ (y : Observed). y.fault) t ∙ ap (λ (y : World). y.fault) f.is;
             ends = ap (λ (y : Observed). y.ends) t ∙ ap (λ (y : World). map end_of y.threads) f.is
                 ∙ same_ends w.threads f.threads f.related;
-            halted = λ e. halted_alike w v f m.state m.represents w.fault refl e;
+            halted = λ e u h. halted_alike w v f w.fault refl e u
+                (sym (same_thread_refusal program limits m.state v m.represents u) ∙ h);
             status = λ e. ap (λ (y : Observed). y.status) t ∙ status_alike w v f w.fault refl e;
           }
 
 pub reduced_shows_all : ReducedShowsAll
-reduced_shows_all program limits no_room states closed = (
-  λ pairs room. shows_end program limits no_room states closed (ideal_after program limits pairs)
-      (pairs_ahead program limits no_room states closed (opening_world program)
-      (opening_ahead program limits no_room states closed) pairs room),
-  λ shape actors room. shows_end program limits no_room states closed (machine_after program shape limits actors).world
-      (machine_ahead program limits no_room states closed shape actors room),
-)
+reduced_shows_all program limits no_room start states closed w c = shows_end program limits no_room start states closed w c

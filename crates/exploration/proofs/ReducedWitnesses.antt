@@ -1,4 +1,4 @@
-use Rattle.std.proofs.Common.{◌≡◌, ◌<◌, ◌≤◌, ◌+◌, ℕ, List, [], ◌∷◌, ◌++◌, length, slice_get, true, false, nat_le}
+use Rattle.std.proofs.Common.{◌≡◌, ◌<◌, ◌≤◌, ◌+◌, ℕ, List, ◌∷◌, ◌++◌, length, slice_get, true, false, nat_le}
 use Rattle.std.proofs.Common.{if◌then◌else◌, is_none, not, ◌&&◌, Option, Some, None, refl, sym, ◌∙◌, ap, subst, arith}
 use Rattle.model.specs.declared.journals.Limits.{Limits}
 use Rattle.model.specs.declared.turns.Actor.TheVariants.{Thread as ThreadActor}
@@ -23,19 +23,11 @@ use Rattle.exploration.specs.Reduction.GoesAhead.{stays, steps}
 use Rattle.exploration.specs.ReducedRuns.{pairs_in, AheadIsWitnessed}
 use Rattle.exploration.proofs.Turns.{turn_images}
 use Rattle.exploration.proofs.Composition.{represents_image}
-use Rattle.exploration.proofs.ClosedLists.{same_refusal, after_same}
+use Rattle.exploration.proofs.ClosedLists.{after_same, pairs_after, same_refusal}
 use Rattle.exploration.proofs.Witnesses.{size_more, unrefused_back, turn_is}
 use Rattle.exploration.proofs.PlainSteps.{plain_comes, plain_next, image_ahead}
 
 -- steps that look at the running frame alone are turns of the ideal run, which nothing refuses below the limit of steps
-
--- ---- lists of pairs, one after another
-
-both : (program : List ClassListing) (limits : Limits) (w : World) (ps qs : List Pair)
-    → moved_through program limits w (ps ++ qs)
-    ≡ moved_through program limits (moved_through program limits w ps) qs
-both program limits w [] qs = refl
-both program limits w (p ∷ ps) qs = both program limits (ideal_step program limits w p.actor p.choice) ps qs
 
 module _ (program : List ClassListing) (limits : Limits) where
   -- ---- one step
@@ -118,7 +110,7 @@ ahead_is_witnessed program limits earlier x y z t choice met free clean ahead be
     let later = pairs_in ahead in
     let pairs = earlier ++ p ∷ later in
     let after : ideal_after program limits pairs ≡ moved_through program limits v later =
-    both program limits (opening_world program) earlier (p ∷ later)
+    pairs_after program limits (opening_world program) earlier (p ∷ later)
     ∙ ap (λ (y : World). moved_through program limits y later) is in
     let count = Made.counts m in
     let sum = size_more earlier p later in

@@ -12,7 +12,7 @@ use Rattle.exploration.proofs.MadeBirths.{get_below}
 
 -- a search goes on, and ends with a list that is closed
 
-module _ (program : List ClassListing) (limits : Limits) (no_room : Bool) where
+module _ (program : List ClassListing) (limits : Limits) (no_room : Bool) (start : World) where
   among_more : (states : List World) (y w : World) → IsAheadAmong program states w
       → IsAheadAmong program (states ++ y ∷ []) w
   among_more states y w a =
@@ -35,8 +35,8 @@ module _ (program : List ClassListing) (limits : Limits) (no_room : Bool) where
     without_room = λ both words f a. among_more states y _ (e.without_room both words f a);
   }
 
-  found : (states : List World) (n : ℕ) (x : World) → n ≤ length states → ClosedBelow program limits no_room states n
-      → ClosedBelow program limits no_room (states ++ x ∷ []) n
+  found : (states : List World) (n : ℕ) (x : World) → n ≤ length states → ClosedBelow program limits no_room start states n
+      → ClosedBelow program limits no_room start (states ++ x ∷ []) n
   found states n x l c = record {
     opening = among_more states x _ c.opening;
     expanded = λ k y t below e. expanded_more states y x t
@@ -44,8 +44,8 @@ module _ (program : List ClassListing) (limits : Limits) (no_room : Bool) where
   }
 
   one_more : (states : List World) (n : ℕ) (x : World) → slice_get states n ≡ Some x
-      → ((t : ℕ) → IsExpanded program limits no_room states x t) → ClosedBelow program limits no_room states n
-      → ClosedBelow program limits no_room states (n + 1)
+      → ((t : ℕ) → IsExpanded program limits no_room states x t) → ClosedBelow program limits no_room start states n
+      → ClosedBelow program limits no_room start states (n + 1)
   one_more states n x e all c = record {
     opening = c.opening;
     expanded = λ k y t below f. elim (same_or_not k n) as (λ _. IsExpanded program limits no_room states y t) [
@@ -61,7 +61,8 @@ module _ (program : List ClassListing) (limits : Limits) (no_room : Bool) where
         | inr s ↦ absurd (other (omega (arith, l, s)))
       ]
 
-  ended : (states : List World) → ClosedBelow program limits no_room states (length states) → ClosedReduced program limits no_room states
+  ended : (states : List World) → ClosedBelow program limits no_room start states (length states)
+      → ClosedReduced program limits no_room start states
   ended states c = record {
     opening = c.opening;
     turned = λ k x t e f. (c.expanded k x t (get_below states k x e) e).turned f;
@@ -69,9 +70,9 @@ module _ (program : List ClassListing) (limits : Limits) (no_room : Bool) where
   }
 
 pub searches_all : SearchesAll
-searches_all program limits no_room = record {
-  found = found program limits no_room;
-  kept = expanded_more program limits no_room;
-  looked_at = one_more program limits no_room;
-  ends = ended program limits no_room;
+searches_all program limits no_room start = record {
+  found = found program limits no_room start;
+  kept = expanded_more program limits no_room start;
+  looked_at = one_more program limits no_room start;
+  ends = ended program limits no_room start;
 }

@@ -118,3 +118,22 @@ TurnsAreWitnessed = (program : List ClassListing) (limits : Limits) (pairs : Lis
 abbrev pub OpeningIsWitnessed : Type 0
 OpeningIsWitnessed = (program : List ClassListing) (limits : Limits)
     → IsWitnessed program limits [] (opening_world program)
+
+-- ---- what the turns of a world lead to: with no_room whatever they find, else where no cell is ever missing
+
+pub data ComesTo (program : List ClassListing) (limits : Limits) (no_room : Bool) (start : World) : World → Type 0 where
+  begins : ComesTo program limits no_room start start
+  turns : (w : World) (t : ℕ) (choice : Choice) → ComesTo program limits no_room start w
+      → (no_room ≡ false → choice ≡ NewObject) → refusal program limits w (Thread t) ≡ None
+      → ComesTo program limits no_room start (next program w t choice).after
+
+-- a run that passes through a world comes to that alone, but for the count of rows: the ideal run, whatever the turns
+-- before and after, and the machine's, on every heap
+abbrev pub RunsCome : Type 0
+RunsCome = (program : List ClassListing) (limits : Limits) (no_room : Bool) (start : World)
+    → ((before after : List Pair) → uncounted (ideal_after program limits before) ≡ start
+    → (no_room ≡ false → PairsFindRoom after)
+    → ComesTo program limits no_room start (uncounted (ideal_after program limits (before ++ after))))
+    × ((shape : HeapShape) (before after : List Actor) → uncounted (machine_after program shape limits before).world ≡ start
+    → (no_room ≡ false → ActorsFindRoom program shape limits (machine_after program shape limits before) after)
+    → ComesTo program limits no_room start (uncounted (machine_after program shape limits (before ++ after)).world))

@@ -1,19 +1,15 @@
-use Rattle.std.specs.Prelude.{◌≡◌, ◌≤◌, ◌+◌, ℕ, Bool, false, List, [], ◌∷◌, ◌++◌, length, map, slice_get, Some, None}
+use Rattle.std.specs.Prelude.{◌≡◌, ◌≤◌, ◌+◌, ℕ, Bool, List, [], ◌∷◌, ◌++◌, length, map, slice_get, Some, None}
 use Rattle.model.specs.declared.turns.Actor.TheVariants.{Thread as ThreadActor}
 use Rattle.model.specs.Effects.{Choice}
 use Rattle.model.specs.Table.Next.{next}
 use Rattle.model.specs.Turns.{refusal}
-use Rattle.exploration.specs.Representation.{Represents}
-use Rattle.model.specs.declared.journals.HeapShape.{HeapShape}
+use Rattle.exploration.specs.Representation.{Represents, uncounted}
 use Rattle.model.specs.declared.journals.Limits.{Limits}
-use Rattle.model.specs.declared.turns.Actor.{Actor}
 use Rattle.model.specs.ClassListings.{ClassListing}
 use Rattle.model.specs.Worlds.{World}
 use Rattle.model.specs.Observers.{status_in}
-use Rattle.model.specs.Collector.Runs.{machine_after}
-use Rattle.model.specs.Machines.{opening_machine}
 use Rattle.model.specs.Effects.Choice.{NewObject}
-use Rattle.exploration.specs.ClosedLists.{Pair, ideal_after, IsWitnessed, pair_of, PairsFindRoom, ActorsFindRoom}
+use Rattle.exploration.specs.ClosedLists.{ComesTo, IsWitnessed, Pair, pair_of}
 use Rattle.exploration.specs.Reduction.{GoesAhead, ClosedReduced}
 use Rattle.exploration.specs.Reduction.GoesAhead.{stays, steps}
 use Rattle.exploration.specs.Observations.{IsHalted, end_of}
@@ -32,14 +28,11 @@ pub record ShowsSameEnd (program : List ClassListing) (limits : Limits) (states 
   pub halted : IsHalted program limits w → IsHalted program limits state
   pub status : IsHalted program limits w → status_in program state ≡ status_in program w
 
+-- so it is of whatever the turns of the start lead to
 abbrev pub ReducedShowsAll : Type 0
-ReducedShowsAll = (program : List ClassListing) (limits : Limits) (no_room : Bool) (states : List World)
-    → ClosedReduced program limits no_room states
-    → ((pairs : List Pair) → (no_room ≡ false → PairsFindRoom pairs)
-    → ShowsSameEnd program limits states (ideal_after program limits pairs))
-    × ((shape : HeapShape) (actors : List Actor)
-    → (no_room ≡ false → ActorsFindRoom program shape limits (opening_machine program shape) actors)
-    → ShowsSameEnd program limits states (machine_after program shape limits actors).world)
+ReducedShowsAll = (program : List ClassListing) (limits : Limits) (no_room : Bool) (start : World) (states : List World)
+    → ClosedReduced program limits no_room start states
+    → (w : World) → ComesTo program limits no_room (uncounted start) w → ShowsSameEnd program limits states w
 
 -- ---- and nothing else is in the list
 

@@ -12,7 +12,7 @@ use Rattle.model.specs.declared.turns.Mark.TheVariants.{Unmarked, Waiting, Faili
 use Rattle.model.specs.ClassListings.{ClassListing}
 use Rattle.model.specs.Frames.{Frame, Moved, running, with_running, replaced}
 use Rattle.model.specs.Programs.{instruction_of}
-use Rattle.model.specs.Worlds.{World, opening_world, with_thread}
+use Rattle.model.specs.Worlds.{World, with_thread}
 use Rattle.model.specs.Worlds.Thread.{Live}
 use Rattle.model.specs.Effects.Choice.{NewObject, NoRoom}
 use Rattle.model.specs.Table.Constants.{constant}
@@ -24,6 +24,7 @@ use Rattle.model.specs.Table.Switches.{table_switched, lookup_switched}
 use Rattle.model.specs.Table.Next.{Listed, next, asked}
 use Rattle.model.specs.Turns.{refusal}
 use Rattle.exploration.specs.ClosedLists.{IsAmong}
+use Rattle.exploration.specs.Representation.{uncounted}
 
 -- Turns that change the running frame alone, and look at nothing else: no schedule matters to them, so a search may
 -- make them at once.
@@ -86,12 +87,12 @@ pub record IsAheadAmong (program : List ClassListing) (states : List World) (w :
   pub ahead : GoesAhead program w world
   pub among : IsAmong states world
 
--- a list closed under turns each of which is followed by some such steps
-pub record ClosedReduced (program : List ClassListing) (limits : Limits) (no_room : Bool) (states : List World) : Type 0
-  where
-    pub opening : IsAheadAmong program states (opening_world program)
-    pub turned : (k : ℕ) (x : World) (t : ℕ) → slice_get states k ≡ Some x
-        → refusal program limits x (ThreadActor t) ≡ None → IsAheadAmong program states (next program x t NewObject).after
-    pub without_room : no_room ≡ true → (k : ℕ) (x : World) (t words : ℕ) → slice_get states k ≡ Some x
-        → refusal program limits x (ThreadActor t) ≡ None → asked program x t ≡ Some words
-        → IsAheadAmong program states (next program x t NoRoom).after
+-- a list that has one for a start, and is closed under turns each of which is followed by some such steps
+pub record ClosedReduced (program : List ClassListing) (limits : Limits) (no_room : Bool) (start : World)
+    (states : List World) : Type 0 where
+  pub opening : IsAheadAmong program states (uncounted start)
+  pub turned : (k : ℕ) (x : World) (t : ℕ) → slice_get states k ≡ Some x
+      → refusal program limits x (ThreadActor t) ≡ None → IsAheadAmong program states (next program x t NewObject).after
+  pub without_room : no_room ≡ true → (k : ℕ) (x : World) (t words : ℕ) → slice_get states k ≡ Some x
+      → refusal program limits x (ThreadActor t) ≡ None → asked program x t ≡ Some words
+      → IsAheadAmong program states (next program x t NoRoom).after

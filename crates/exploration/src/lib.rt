@@ -6,7 +6,7 @@
 #![tactic(auto)]
 
 ghost use Rattle.exploration.specs.CanonicalForms.{CanonicalRepresents, TurnsMakeAll};
-ghost use Rattle.exploration.specs.ClosedLists.{ClosedHasAll, OpeningIsWitnessed, TurnsAreWitnessed};
+ghost use Rattle.exploration.specs.ClosedLists.{ClosedHasAll, OpeningIsWitnessed, RunsCome, TurnsAreWitnessed};
 ghost use Rattle.exploration.specs.Observations.{ClosedShowsAll};
 ghost use Rattle.exploration.specs.Outcomes.{OutcomesAreReal, OutcomesOfAll, RestIsHalted};
 ghost use Rattle.exploration.specs.ReducedRuns.{AheadIsWitnessed, ReducedShowsAll};
@@ -22,10 +22,11 @@ pub mod ends;
 /// Each state to which turns lead from the opening stands for what some ideal run comes to. The image of a world under
 /// a list of what paths reach in it represents it, and in a turn of a state whatever paths reach was made.
 ///
-/// A search may go ahead, after each turn, by steps of any threads that look at their running frame alone. Its list
-/// still shows the output, the fault and the ends of threads of every run, and the status where no thread is ready any
-/// more; and it too has only what ideal runs come to. So of a program's outcomes, those of its states at rest are all,
-/// and each is that of an ideal run of known turns. A loop that expands state after state ends with such a list.
+/// A search may start anywhere, and go ahead, after each turn, by steps of any threads that look at their running frame
+/// alone. Its list still shows the output, the fault and the ends of threads of whatever the start's turns lead to, and
+/// the status where no thread is ready any more; that is all that runs come to which pass through the start. And it too
+/// has only what ideal runs come to. So of the outcomes of these runs, those of its states at rest are all, and each is
+/// that of an ideal run of known turns. A loop that expands state after state ends with such a list.
 pub fn a_closed_list_has_every_run()
     ensures all { ClosedHasAll }
     ensures shown { ClosedShowsAll }
@@ -33,6 +34,7 @@ pub fn a_closed_list_has_every_run()
     ensures witnessed { TurnsAreWitnessed }
     ensures canonical { CanonicalRepresents }
     ensures made { TurnsMakeAll }
+    ensures come { RunsCome }
     ensures reduced { ReducedShowsAll }
     ensures reduced_witnessed { AheadIsWitnessed }
     ensures outcomes { OutcomesOfAll }

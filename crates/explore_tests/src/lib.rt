@@ -4,6 +4,8 @@
 #[cfg(test)]
 mod exploring_tests;
 #[cfg(test)]
+mod parts_tests;
+#[cfg(test)]
 mod programs;
 #[cfg(test)]
 mod reports_tests;

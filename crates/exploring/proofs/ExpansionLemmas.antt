@@ -36,7 +36,7 @@ use Rattle.exploring.specs.declared.explored.Move.{Move}
 use Rattle.exploring.specs.declared.origins.Origin.{Origin}
 use Rattle.exploring.specs.declared.search.Waiting.{Waiting}
 use Rattle.exploring.specs.Expansion.{Expands, ExpandsAll, ExpandsBelow, Finds, Follows, GoesOn, Grows, HasKnown}
-use Rattle.exploring.specs.Expansion.{IsTraced, MakesAll, Moves, MovesBelow, Search, SomeMoves, world_of}
+use Rattle.exploring.specs.Expansion.{IsTraced, Moves, MovesBelow, Search, SomeMoves, way_to, world_of}
 use Rattle.exploring.specs.Ahead.{WentAhead, WentOn}
 use Rattle.exploring.specs.Origins.{IsLed, back_by, back_from, led_by, moves_back, pair_in, pairs_in, plain_after, trail}
 use Rattle.exploring.specs.States.{HasStates, IsOneOf}
@@ -100,46 +100,47 @@ in_order o before = reverse-append (back_from o) before
     ∙ ap (λ ms. reverse before ++ ms) (reverse-append (replicate o.ahead (plain_after o.by)) (o.by ∷ [])
     ∙ ap (λ ms. o.by ∷ ms) (same_back o.ahead (plain_after o.by)))
 
-module _ (program : List ClassListing) (limits : Limits) where
-  pub traced_more : (origins more : List Origin) (s : Waiting) → IsTraced program limits origins s
-      → IsTraced program limits (origins ++ more) s
+-- ---- whatever paths reach in a turn of what has a witness was made
+
+module _ (program : List ClassListing) (limits : Limits) (pairs : List Pair) (x : World)
+    (r : IsWitnessed program limits pairs x) (t : ℕ) (free : refusal program limits x (Thread t) ≡ None) where
+  abbrev behind : World
+  behind = uncounted (ideal_after program limits pairs)
+
+  clean_behind : behind.fault ≡ None
+  clean_behind = unfaulted program limits behind t (sym (same_refusal program limits x behind r.represents (Thread t)) ∙ free)
+
+  pub turn_images_behind : (choice : Choice)
+      → Images (next program x t choice).after (next program behind t choice).after
+  turn_images_behind choice = turn_images program x behind r.represents t choice clean_behind
+
+  pub makes_all : (choice : Choice) → AllMade (next program x t choice).after
+  makes_all choice = turns_make_all program x behind t choice r.represents clean_behind
+
+module _ (program : List ClassListing) (limits : Limits) (first : List Move) where
+  pub traced_more : (origins more : List Origin) (s : Waiting) → IsTraced program limits first origins s
+      → IsTraced program limits first (origins ++ more) s
   traced_more origins more s r =
       let same = longer origins more s.level s.place r.led in
       record {
         led = same.0;
-        long = ap (λ (ms : List Move). length (reverse ms)) same.1 ∙ r.long;
-        witnessed = subst (λ (ms : List Move). IsWitnessed program limits (pairs_in (reverse ms)) s.world) (sym same.1)
-            r.witnessed;
+        long = ap (λ (ms : List Move). length (first ++ reverse ms)) same.1 ∙ r.long;
+        witnessed = subst (λ (ms : List Move). IsWitnessed program limits (pairs_in (first ++ reverse ms)) s.world)
+            (sym same.1) r.witnessed;
       }
-
-  -- ---- whatever paths reach in a turn of it was made
-
-  pub clean_behind : (origins : List Origin) (s : Waiting) → IsTraced program limits origins s → (t : ℕ)
-      → refusal program limits s.world (Thread t) ≡ None
-      → (uncounted (ideal_after program limits (pairs_in (trail origins s.level s.place)))).fault ≡ None
-  clean_behind origins s r t free =
-      let w = uncounted (ideal_after program limits (pairs_in (trail origins s.level s.place))) in
-      unfaulted program limits w t
-      (sym (same_refusal program limits s.world w r.witnessed.represents (Thread t)) ∙ free)
-
-  pub makes_all : (origins : List Origin) (s : Waiting) → IsTraced program limits origins s → (t : ℕ)
-      → MakesAll program limits s.world t
-  makes_all origins s r t choice free =
-      let w = uncounted (ideal_after program limits (pairs_in (trail origins s.level s.place))) in
-      turns_make_all program s.world w t choice r.witnessed.represents (clean_behind origins s r t free)
 
   -- ---- a state to which a move of it leads, and then some plain steps
 
   module _ (origins : List Origin) (parent : Waiting) (m : Move) (w : World)
-      (f : Follows program limits origins parent m w) (v : World) (n : ℕ) (g : GoesOn program limits parent m w v n) where
+      (f : Follows program limits first origins parent m w) (v : World) (n : ℕ) (g : GoesOn program limits parent m w v n) where
     made_by : AllMade v
     made_by =
-        let y = uncounted (ideal_after program limits (pairs_in (trail origins parent.level parent.place))) in
+        let y = uncounted (ideal_after program limits (pairs_in (way_to first origins parent))) in
         let choice = choice_in m.choice in
         let i : Images w (next program y m.thread choice).after =
         subst (λ (z : World). Images z (next program y m.thread choice).after) (sym f.is)
-        (turn_images program parent.world y f.traced.witnessed.represents m.thread choice
-        (clean_behind origins parent f.traced m.thread f.free)) in
+        (turn_images_behind program limits (pairs_in (way_to first origins parent)) parent.world f.traced.witnessed m.thread
+        f.free choice) in
         let k = image_ahead program w v (next program y m.thread choice).after i g.went.ahead in
         images_made v k.world k.images
 
@@ -178,7 +179,7 @@ module _ (program : List ClassListing) (limits : Limits) where
 
     pub next_traced : (o : Origin) → o ≡ record { parent = parent.place; by = m; ahead = n } → (s : Waiting)
         → s ≡ record { world = canonical v; place = length origins; level = parent.level + 1; depth = parent.depth + 1 + n }
-        → IsTraced program limits (origins ++ o ∷ []) s
+        → IsTraced program limits first (origins ++ o ∷ []) s
     next_traced o from s is =
         let os = origins ++ o ∷ [] in
         let before = moves_back origins parent.level parent.place in
@@ -189,32 +190,34 @@ module _ (program : List ClassListing) (limits : Limits) where
         subst (led_by (IsLed os parent.level)) (sym there)
         (subst (λ (p : Origin). IsLed os parent.level p.parent) (sym from) old.0) in
         let plain = plain_after m in
-        let order : trail os (suc parent.level) (length origins) ≡ reverse before ++ m ∷ replicate n plain =
-        ap (λ (x : Option Origin). reverse (back_by (moves_back os parent.level) x)) there
-        ∙ ap (λ (p : Origin). reverse (back_from p ++ moves_back os parent.level p.parent)) from
-        ∙ ap (λ ms. reverse (back_from (record { parent = parent.place; by = m; ahead = n }) ++ ms)) old.1
-        ∙ in_order (record { parent = parent.place; by = m; ahead = n }) before in
-        let pairs : pairs_in (reverse before ++ m ∷ replicate n plain)
-        ≡ pairs_in (reverse before) ++ pair_in m ∷ replicate n (pair_of m.thread NewObject) =
-        map-append pair_in (reverse before) (m ∷ replicate n plain)
-        ∙ ap (λ ps. pairs_in (reverse before) ++ pair_in m ∷ ps) (each_same pair_in n plain) in
-        let size : length (pairs_in (reverse before)) ≡ parent.depth = length-map (reverse before) pair_in ∙ f.traced.long in
-        let one = led_on (pairs_in (reverse before)) f.traced.witnessed size in
+        let earlier = first ++ reverse before in
+        let order : first ++ trail os (suc parent.level) (length origins) ≡ earlier ++ m ∷ replicate n plain =
+        ap (λ (x : Option Origin). first ++ reverse (back_by (moves_back os parent.level) x)) there
+        ∙ ap (λ (p : Origin). first ++ reverse (back_from p ++ moves_back os parent.level p.parent)) from
+        ∙ ap (λ ms. first ++ reverse (back_from (record { parent = parent.place; by = m; ahead = n }) ++ ms)) old.1
+        ∙ ap (λ ms. first ++ ms) (in_order (record { parent = parent.place; by = m; ahead = n }) before)
+        ∙ sym (append_assoc first (reverse before) (m ∷ replicate n plain)) in
+        let pairs : pairs_in (earlier ++ m ∷ replicate n plain)
+        ≡ pairs_in earlier ++ pair_in m ∷ replicate n (pair_of m.thread NewObject) =
+        map-append pair_in earlier (m ∷ replicate n plain)
+        ∙ ap (λ ps. pairs_in earlier ++ pair_in m ∷ ps) (each_same pair_in n plain) in
+        let size : length (pairs_in earlier) ≡ parent.depth = length-map earlier pair_in ∙ f.traced.long in
+        let one = led_on (pairs_in earlier) f.traced.witnessed size in
         let tail : length (m ∷ replicate n plain) ≡ suc n = ap suc (length-replicate n plain) in
-        let sum = length-append (reverse before) (m ∷ replicate n plain) in
+        let sum = length-append earlier (m ∷ replicate n plain) in
         let old_long = f.traced.long in
-        let long : length (reverse before ++ m ∷ replicate n plain) ≡ parent.depth + 1 + n =
+        let long : length (earlier ++ m ∷ replicate n plain) ≡ parent.depth + 1 + n =
         omega (arith, sum, tail, old_long) in
-        let all : (l : ℕ) → l ≡ suc parent.level → IsTraced program limits os
+        let all : (l : ℕ) → l ≡ suc parent.level → IsTraced program limits first os
         (record { world = canonical v; place = length origins; level = l; depth = parent.depth + 1 + n }) =
-        λ l e. subst (λ (k : ℕ). IsTraced program limits os
+        λ l e. subst (λ (k : ℕ). IsTraced program limits first os
         (record { world = canonical v; place = length origins; level = k; depth = parent.depth + 1 + n })) (sym e) (record {
           led = led;
           long = ap length order ∙ long;
           witnessed = subst (λ (ps : List Pair). IsWitnessed program limits ps (canonical v))
               (sym (ap pairs_in order ∙ pairs)) one;
         }) in
-        subst (IsTraced program limits os) (sym is) (all (parent.level + 1) more)
+        subst (IsTraced program limits first os) (sym is) (all (parent.level + 1) more)
 
 -- how far a thread went on
 pub goes_on : (program : List ClassListing) (limits : Limits) (parent : Waiting) (m : Move) (w v : World) (room n : ℕ)
@@ -230,17 +233,17 @@ goes_on program limits parent m w v room n below is went = record {
 
 -- ---- a state is added
 
-module _ (program : List ClassListing) (limits : Limits) (old : Search) (known : List World)
-    (k : HasKnown program limits old known) where
+module _ (program : List ClassListing) (limits : Limits) (first : List Move) (old : Search) (known : List World)
+    (k : HasKnown program limits first old known) where
   -- nothing changes but what isn't looked at
   pub grows_not : (new : Search) → HasStates new.stored known → new.origins ≡ old.origins → new.waiting ≡ old.waiting
-      → Grows program limits old new known
+      → Grows program limits first old new known
   grows_not new has origins waiting = record {
     more = [];
     since = [];
-    has = subst (HasKnown program limits new) (sym (nothing_more known)) (record {
+    has = subst (HasKnown program limits first new) (sym (nothing_more known)) (record {
       has = has;
-      traced = λ j s e. subst (λ (os : List Origin). IsTraced program limits os s) (sym origins)
+      traced = λ j s e. subst (λ (os : List Origin). IsTraced program limits first os s) (sym origins)
           (k.traced j s (ap (λ (xs : List Waiting). slice_get xs j) (sym waiting) ∙ e));
       count = ap length origins ∙ k.count;
     });
@@ -258,33 +261,33 @@ module _ (program : List ClassListing) (limits : Limits) (old : Search) (known :
   }
 
   pub finds_old : (new : Search) (parent : Waiting) (m : Move) (w : World)
-      → Follows program limits old.origins parent m w → (v : World) (n : ℕ) → GoesOn program limits parent m w v n
+      → Follows program limits first old.origins parent m w → (v : World) (n : ℕ) → GoesOn program limits parent m w v n
       → HasStates new.stored known × IsOneOf known (canonical v)
-      → new.origins ≡ old.origins → new.waiting ≡ old.waiting → Finds program limits old new known w
+      → new.origins ≡ old.origins → new.waiting ≡ old.waiting → Finds program limits first old new known w
   unfolding grows_not
   finds_old new parent m w f v n g both origins waiting = record {
     grows = grows_not new both.0 origins waiting;
-    there = there (known ++ []) m.thread n w v g.went (represented program limits old.origins parent m w f v n g)
+    there = there (known ++ []) m.thread n w v g.went (represented program limits first old.origins parent m w f v n g)
         (subst (λ (xs : List World). IsOneOf xs (canonical v)) (sym (nothing_more known)) both.1);
   }
 
   pub finds_new : (new : Search) (parent : Waiting) (m : Move) (w : World)
-      → Follows program limits old.origins parent m w → (v : World) (n : ℕ) → GoesOn program limits parent m w v n
+      → Follows program limits first old.origins parent m w → (v : World) (n : ℕ) → GoesOn program limits parent m w v n
       → HasStates new.stored (known ++ canonical v ∷ [])
       → (o : Origin) → o ≡ record { parent = parent.place; by = m; ahead = n } → (s : Waiting)
       → s ≡ record { world = canonical v; place = length old.origins; level = parent.level + 1; depth = parent.depth + 1 + n }
       → new.origins ≡ old.origins ++ o ∷ [] → new.waiting ≡ old.waiting ++ s ∷ []
-      → Finds program limits old new known w
+      → Finds program limits first old new known w
   finds_new new parent m w f v n g has o from s is origins waiting = record {
     grows = record {
       more = canonical v ∷ [];
       since = o ∷ [];
       has = record {
         has = has;
-        traced = λ j x e. subst (λ (os : List Origin). IsTraced program limits os x) (sym origins)
-            (each_more (IsTraced program limits (old.origins ++ o ∷ [])) old.waiting s
-            (λ i y q. traced_more program limits old.origins (o ∷ []) y (k.traced i y q))
-            (next_traced program limits old.origins parent m w f v n g o from s is) j x
+        traced = λ j x e. subst (λ (os : List Origin). IsTraced program limits first os x) (sym origins)
+            (each_more (IsTraced program limits first (old.origins ++ o ∷ [])) old.waiting s
+            (λ i y q. traced_more program limits first old.origins (o ∷ []) y (k.traced i y q))
+            (next_traced program limits first old.origins parent m w f v n g o from s is) j x
             (ap (λ (xs : List Waiting). slice_get xs j) (sym waiting) ∙ e));
         count = ap length origins ∙ length-append old.origins (o ∷ []) ∙ ap (λ (n : ℕ). n + 1) k.count
             ∙ sym (length-append known (canonical v ∷ []));
@@ -294,21 +297,21 @@ module _ (program : List ClassListing) (limits : Limits) (old : Search) (known :
       origins = origins;
     };
     there = there (known ++ canonical v ∷ []) m.thread n w v g.went
-        (represented program limits old.origins parent m w f v n g) (length known, get-newest known (canonical v));
+        (represented program limits first old.origins parent m w f v n g) (length known, get-newest known (canonical v));
   }
 
 -- ---- one after another
 
-module _ (program : List ClassListing) (limits : Limits) (old mid new : Search) (known : List World)
-    (g : Grows program limits old mid known) (h : Grows program limits mid new (known ++ g.more)) where
+module _ (program : List ClassListing) (limits : Limits) (first : List Move) (old mid new : Search) (known : List World)
+    (g : Grows program limits first old mid known) (h : Grows program limits first mid new (known ++ g.more)) where
   same : (known ++ g.more) ++ h.more ≡ known ++ (g.more ++ h.more)
   same = append_assoc known g.more h.more
 
-  pub both : Grows program limits old new known
+  pub both : Grows program limits first old new known
   both = record {
     more = g.more ++ h.more;
     since = g.since ++ h.since;
-    has = subst (HasKnown program limits new) same h.has;
+    has = subst (HasKnown program limits first new) same h.has;
     waits = h.waits ∙ ap (λ xs. xs ++ h.more) g.waits ∙ append_assoc (map world_of old.waiting) g.more h.more;
     origins = h.origins ∙ ap (λ (os : List Origin). os ++ h.since) g.origins ∙ append_assoc old.origins g.since h.since;
   }
@@ -331,98 +334,99 @@ module _ (program : List ClassListing) (limits : Limits) (old mid new : Search) 
   then_there w a = subst (λ (xs : List World). IsAheadAmong program xs w) same a
 
 -- what was traced still is
-pub traced_after : (program : List ClassListing) (limits : Limits) (old new : Search) (known : List World)
-    → Grows program limits old new known → (s : Waiting) → IsTraced program limits old.origins s
-    → IsTraced program limits new.origins s
-traced_after program limits old new known g s r =
-    subst (λ (os : List Origin). IsTraced program limits os s) (sym g.origins)
-    (traced_more program limits old.origins g.since s r)
+pub traced_after : (program : List ClassListing) (limits : Limits) (first : List Move) (old new : Search) (known : List World)
+    → Grows program limits first old new known → (s : Waiting) → IsTraced program limits first old.origins s
+    → IsTraced program limits first new.origins s
+traced_after program limits first old new known g s r =
+    subst (λ (os : List Origin). IsTraced program limits first os s) (sym g.origins)
+    (traced_more program limits first old.origins g.since s r)
 
 -- ---- the turns of a thread
 
-module _ (s : Transitions) (no_room : Bool) (x : World) (t : ℕ) where
+module _ (s : Transitions) (x : World) (t : ℕ) where
   refused_or : (choice : Choice) (r : Option Turn) → refusal s.program s.limits x (Thread t) ≡ r → (a : Successor)
       → Some a ≡ successor s x t choice → r ≡ None
   refused_or choice (Some refused) e a k =
       (let none = k ∙ ap (unless_refused s x t choice) e in absurd (cc))
   refused_or choice None e a k = refl
 
-  free : (choice : Choice) (a : Successor) → Some a ≡ successor s x t choice
+  pub free : (choice : Choice) (a : Successor) → Some a ≡ successor s x t choice
       → refusal s.program s.limits x (Thread t) ≡ None
   free choice a k = refused_or choice (refusal s.program s.limits x (Thread t)) refl a k
 
-  left : (choice : Choice) (a : Successor) → Some a ≡ successor s x t choice
+  pub left : (choice : Choice) (a : Successor) → Some a ≡ successor s x t choice
       → a ≡ record { world = (next s.program x t choice).after; asks = is_some (asked s.program x t) }
   left choice a k =
       (let is = k ∙ ap (unless_refused s x t choice) (free choice a k) in cc)
 
-  never : (choice : Choice) → None ≡ successor s x t choice → refusal s.program s.limits x (Thread t) ≡ None → ⊥
+  pub never : (choice : Choice) → None ≡ successor s x t choice → refusal s.program s.limits x (Thread t) ≡ None → ⊥
   never choice k e = (let none = k ∙ ap (unless_refused s x t choice) e in cc)
 
+module _ (s : Transitions) (first : List Move) (no_room : Bool) (x : World) (t : ℕ) where
   -- what a move of it leads to follows it
-  pub follows : (origins : List Origin) (parent : Waiting) → parent.world ≡ x → IsTraced s.program s.limits origins parent
+  pub follows : (origins : List Origin) (parent : Waiting) → parent.world ≡ x → IsTraced s.program s.limits first origins parent
       → parent.depth < s.limits.steps → (m : Move) → m.thread ≡ t → (a : Successor)
-      → Some a ≡ successor s x t (choice_in m.choice) → Follows s.program s.limits origins parent m a.world
+      → Some a ≡ successor s x t (choice_in m.choice) → Follows s.program s.limits first origins parent m a.world
   follows origins parent here r below m thread a k = record {
     traced = r;
     below = below;
-    free = rw (here, thread) (free (choice_in m.choice) a k);
-    is = rw (here, thread) (ap (λ (y : Successor). y.world) (left (choice_in m.choice) a k));
+    free = rw (here, thread) (free s x t (choice_in m.choice) a k);
+    is = rw (here, thread) (ap (λ (y : Successor). y.world) (left s x t (choice_in m.choice) a k));
   }
 
-  pub expands_refused : (choice : Choice) (old : Search) (known : List World) → HasKnown s.program s.limits old known
-      → None ≡ successor s x t choice → Expands s.program s.limits no_room old old known x t false
+  pub expands_refused : (choice : Choice) (old : Search) (known : List World) → HasKnown s.program s.limits first old known
+      → None ≡ successor s x t choice → Expands s.program s.limits first no_room old old known x t false
   expands_refused choice old known has k = record {
-    grows = grows_not s.program s.limits old known has old has.has refl refl;
+    grows = grows_not s.program s.limits first old known has old has.has refl refl;
     expanded = record {
-      turned = λ e. absurd (never choice k e);
-      without_room = λ both words e q. absurd (never choice k e);
+      turned = λ e. absurd (never s x t choice k e);
+      without_room = λ both words e q. absurd (never s x t choice k e);
     };
-    moves = never choice k;
+    moves = never s x t choice k;
   }
 
   module _ (a : Successor) (k : Some a ≡ successor s x t NewObject) (old new : Search) (known : List World)
-      (f : Finds s.program s.limits old new known a.world) where
+      (f : Finds s.program s.limits first old new known a.world) where
     turned : IsAheadAmong s.program (known ++ f.grows.more) (next s.program x t NewObject).after
-    turned = subst (IsAheadAmong s.program (known ++ f.grows.more)) (ap (λ (y : Successor). y.world) (left NewObject a k))
+    turned = subst (IsAheadAmong s.program (known ++ f.grows.more)) (ap (λ (y : Successor). y.world) (left s x t NewObject a k))
         f.there
 
-    pub expands_alone : (no_room && a.asks) ≡ false → Expands s.program s.limits no_room old new known x t true
+    pub expands_alone : (no_room && a.asks) ≡ false → Expands s.program s.limits first no_room old new known x t true
     expands_alone e = record {
       grows = f.grows;
       expanded = record {
         turned = λ q. turned;
         without_room = λ both words q asks. (
-            let is = ap (λ (y : Successor). y.asks) (left NewObject a k) ∙ ap is_some asks in
+            let is = ap (λ (y : Successor). y.asks) (left s x t NewObject a k) ∙ ap is_some asks in
             let no = sym (ap (λ b. b && a.asks) both ∙ is) ∙ e in
             absurd (cc)
             );
       };
-      moves = free NewObject a k;
+      moves = free s x t NewObject a k;
     }
 
     pub expands_both : (b : Successor) → Some b ≡ successor s x t NoRoom → (last : Search)
-        → Finds s.program s.limits new last (known ++ f.grows.more) b.world
-        → Expands s.program s.limits no_room old last known x t true
+        → Finds s.program s.limits first new last (known ++ f.grows.more) b.world
+        → Expands s.program s.limits first no_room old last known x t true
     unfolding both
     expands_both b q last g =
-        let is = ap (λ (y : Successor). y.world) (left NewObject a k) in
-        let other = ap (λ (y : Successor). y.world) (left NoRoom b q) in
+        let is = ap (λ (y : Successor). y.world) (left s x t NewObject a k) in
+        let other = ap (λ (y : Successor). y.world) (left s x t NoRoom b q) in
         let all = known ++ (f.grows.more ++ g.grows.more) in
         record {
-          grows = both s.program s.limits old new last known f.grows g.grows;
+          grows = both s.program s.limits first old new last known f.grows g.grows;
           expanded = record {
             turned = λ e. subst (IsAheadAmong s.program all) is
-                (first_there s.program s.limits old new last known f.grows g.grows a.world f.there);
+                (first_there s.program s.limits first old new last known f.grows g.grows a.world f.there);
             without_room = λ yes words e w. subst (IsAheadAmong s.program all) other
-                (then_there s.program s.limits old new last known f.grows g.grows b.world g.there);
+                (then_there s.program s.limits first old new last known f.grows g.grows b.world g.there);
           };
-          moves = free NewObject a k;
+          moves = free s x t NewObject a k;
         }
 
 -- ---- those of one thread after another
 
-module _ (program : List ClassListing) (limits : Limits) (no_room : Bool) (x : World) where
+module _ (program : List ClassListing) (limits : Limits) (first : List Move) (no_room : Bool) (x : World) where
   among_more : (states more : List World) (w : World) → IsAheadAmong program states w
       → IsAheadAmong program (states ++ more) w
   among_more states more w a = record {
@@ -443,10 +447,10 @@ module _ (program : List ClassListing) (limits : Limits) (no_room : Bool) (x : W
     without_room = λ yes words q a. among_more states more _ (e.without_room yes words q a);
   }
 
-  pub none_yet : (old : Search) (known : List World) → HasKnown program limits old known
-      → ExpandsBelow program limits no_room old old known x 0 false
+  pub none_yet : (old : Search) (known : List World) → HasKnown program limits first old known
+      → ExpandsBelow program limits first no_room old old known x 0 false
   none_yet old known has = record {
-    grows = grows_not program limits old known has old has.has refl refl;
+    grows = grows_not program limits first old known has old has.has refl refl;
     expanded = λ t l. absurd (omega (arith, l));
     moves = λ t l. absurd (omega (arith, l));
   }
@@ -463,14 +467,14 @@ module _ (program : List ClassListing) (limits : Limits) (no_room : Bool) (x : W
   ])
 
   pub one_thread_more : (old mid new : Search) (known : List World) (n t : ℕ) → t ≡ n → (a b c : Bool)
-      → c ≡ (if b then true else a) → (e : ExpandsBelow program limits no_room old mid known x n a)
-      → Expands program limits no_room mid new (known ++ e.grows.more) x t b
-      → ExpandsBelow program limits no_room old new known x (n + 1) c
+      → c ≡ (if b then true else a) → (e : ExpandsBelow program limits first no_room old mid known x n a)
+      → Expands program limits first no_room mid new (known ++ e.grows.more) x t b
+      → ExpandsBelow program limits first no_room old new known x (n + 1) c
   unfolding both
   one_thread_more old mid new known n t is a b c one e f =
-      let all = same program limits old mid new known e.grows f.grows in
+      let all = same program limits first old mid new known e.grows f.grows in
       record {
-        grows = both program limits old mid new known e.grows f.grows;
+        grows = both program limits first old mid new known e.grows f.grows;
         expanded = λ u l. subst (λ (xs : List World). IsExpanded program limits no_room xs x u) all
             (elim (cases_lt u n) [
               | inl before ↦ expanded_more (known ++ e.grows.more) f.grows.more u (e.expanded u before)
@@ -483,8 +487,8 @@ module _ (program : List ClassListing) (limits : Limits) (no_room : Bool) (x : W
 
   -- past the last thread every turn is refused
   pub all_threads : (old new : Search) (known : List World) (n : ℕ) (a : Bool) → length x.threads ≤ n
-      → ExpandsBelow program limits no_room old new known x n a
-      → ExpandsAll program limits no_room old new known x a
+      → ExpandsBelow program limits first no_room old new known x n a
+      → ExpandsAll program limits first no_room old new known x a
   all_threads old new known n a past e = record {
     grows = e.grows;
     expanded = λ t. (elim (cases_lt t n) [

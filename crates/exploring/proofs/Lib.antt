@@ -4,5 +4,7 @@ pub mod ExpansionLemmas
 pub mod ExplorationLemmas
 pub mod KeyLemmas
 pub mod OriginLemmas
+pub mod PartLemmas
+pub mod StartLemmas
 pub mod StateLemmas
 pub mod WalkLemmas

@@ -1,13 +1,12 @@
-use Rattle.std.specs.Prelude.{◌≡◌, ◌⊎◌, ◌<◌, ◌≤◌, ◌+◌, ℕ, List, [], ◌∷◌, ◌++◌, length, map, slice_get, Bool, true, false, Option, Some, None}
+use Rattle.std.specs.Prelude.{◌≡◌, ◌⊎◌, ◌<◌, ◌≤◌, ◌+◌, ℕ, List, [], ◌∷◌, ◌++◌, length, map, slice_get, Bool, true}
+use Rattle.std.specs.Prelude.{false, Option, Some, None}
 use Rattle.model.specs.declared.journals.Limits.{Limits}
 use Rattle.model.specs.declared.turns.Actor.TheVariants.{Thread}
 use Rattle.model.specs.ClassListings.{ClassListing}
-use Rattle.model.specs.Effects.{Choice}
 use Rattle.model.specs.Table.Next.{next}
 use Rattle.model.specs.Turns.{refusal}
 use Rattle.model.specs.Worlds.{World}
 use Rattle.ideal_run.specs.Effected.{choice_in}
-use Rattle.exploration.specs.CanonicalForms.{AllMade}
 use Rattle.exploration.specs.ClosedLists.{IsWitnessed}
 use Rattle.exploration.specs.Reduction.{IsAheadAmong}
 use Rattle.exploration.specs.Search.{IsExpanded}
@@ -41,42 +40,52 @@ Takes old new (Some s) = old ≡ record new { waiting = s ∷ new.waiting }
 
 -- ---- what is known of states
 
--- the moves that led to the state are those of an ideal run that comes to what it represents
-pub record IsTraced (program : List ClassListing) (limits : Limits) (origins : List Origin) (s : Waiting) : Type 0 where
-  pub led : IsLed origins s.level s.place
-  pub long : length (trail origins s.level s.place) ≡ s.depth
-  pub witnessed : IsWitnessed program limits (pairs_in (trail origins s.level s.place)) s.world
+-- the moves that came first, and then those that led to the state
+abbrev pub way_to : List Move → List Origin → Waiting → List Move
+way_to first origins s = first ++ trail origins s.level s.place
 
-abbrev pub AreTraced : List ClassListing → Limits → List Origin → List Waiting → Type 0
-AreTraced program limits origins waiting = (j : ℕ) (s : Waiting) → slice_get waiting j ≡ Some s
-    → IsTraced program limits origins s
+-- the moves that led to the state, those that came first before its trail, are those of an ideal run that comes to what
+-- it represents
+pub record IsTraced (program : List ClassListing) (limits : Limits) (first : List Move) (origins : List Origin)
+    (s : Waiting) : Type 0 where
+  pub led : IsLed origins s.level s.place
+  pub long : length (way_to first origins s) ≡ s.depth
+  pub witnessed : IsWitnessed program limits (pairs_in (way_to first origins s)) s.world
+
+abbrev pub AreTraced : List ClassListing → Limits → List Move → List Origin → List Waiting → Type 0
+AreTraced program limits first origins waiting = (j : ℕ) (s : Waiting) → slice_get waiting j ≡ Some s
+    → IsTraced program limits first origins s
 
 -- these are the states of a search
-pub record HasKnown (program : List ClassListing) (limits : Limits) (s : Search) (known : List World) : Type 0 where
+pub record HasKnown (program : List ClassListing) (limits : Limits) (first : List Move) (s : Search)
+    (known : List World) : Type 0 where
   pub has : HasStates s.stored known
-  pub traced : AreTraced program limits s.origins s.waiting
+  pub traced : AreTraced program limits first s.origins s.waiting
   pub count : length s.origins ≡ length known
 
 -- ---- how they become more
 
 -- there are more states, and these wait
-pub record Grows (program : List ClassListing) (limits : Limits) (old new : Search) (known : List World) : Type 0 where
+pub record Grows (program : List ClassListing) (limits : Limits) (first : List Move) (old new : Search)
+    (known : List World) : Type 0 where
   pub more : List World
   pub since : List Origin
-  pub has : HasKnown program limits new (known ++ more)
+  pub has : HasKnown program limits first new (known ++ more)
   pub waits : map world_of new.waiting ≡ map world_of old.waiting ++ more
   pub origins : new.origins ≡ old.origins ++ since
 
 -- among them one for what a world goes ahead to
-pub record Finds (program : List ClassListing) (limits : Limits) (old new : Search) (known : List World) (w : World)
+pub record Finds (program : List ClassListing) (limits : Limits) (first : List Move) (old new : Search)
+    (known : List World) (w : World)
     : Type 0 where
-  pub grows : Grows program limits old new known
+  pub grows : Grows program limits first old new known
   pub there : IsAheadAmong program (known ++ grows.more) w
 
 -- a world is what a move of a state leads to, and the state isn't the last that the limit of steps allows
-pub record Follows (program : List ClassListing) (limits : Limits) (origins : List Origin) (parent : Waiting) (m : Move)
+pub record Follows (program : List ClassListing) (limits : Limits) (first : List Move) (origins : List Origin)
+    (parent : Waiting) (m : Move)
     (w : World) : Type 0 where
-  pub traced : IsTraced program limits origins parent
+  pub traced : IsTraced program limits first origins parent
   pub below : parent.depth < limits.steps
   pub free : refusal program limits parent.world (Thread m.thread) ≡ None
   pub is : w ≡ (next program parent.world m.thread (choice_in m.choice)).after
@@ -93,9 +102,10 @@ Moves program limits x t true = refusal program limits x (Thread t) ≡ None
 Moves program limits x t false = refusal program limits x (Thread t) ≡ None → ⊥
 
 -- among them what the turns of a thread of a state lead to
-pub record Expands (program : List ClassListing) (limits : Limits) (no_room : Bool) (old new : Search)
+pub record Expands (program : List ClassListing) (limits : Limits) (first : List Move) (no_room : Bool)
+    (old new : Search)
     (known : List World) (x : World) (t : ℕ) (moved : Bool) : Type 0 where
-  pub grows : Grows program limits old new known
+  pub grows : Grows program limits first old new known
   pub expanded : IsExpanded program limits no_room (known ++ grows.more) x t
   pub moves : Moves program limits x t moved
 
@@ -109,19 +119,16 @@ SomeMoves program limits x true = (t : ℕ) × (refusal program limits x (Thread
 SomeMoves program limits x false = (t : ℕ) → refusal program limits x (Thread t) ≡ None → ⊥
 
 -- those of the first so many threads, and of all
-pub record ExpandsBelow (program : List ClassListing) (limits : Limits) (no_room : Bool) (old new : Search)
+pub record ExpandsBelow (program : List ClassListing) (limits : Limits) (first : List Move) (no_room : Bool)
+    (old new : Search)
     (known : List World) (x : World) (n : ℕ) (moved : Bool) : Type 0 where
-  pub grows : Grows program limits old new known
+  pub grows : Grows program limits first old new known
   pub expanded : (t : ℕ) → t < n → IsExpanded program limits no_room (known ++ grows.more) x t
   pub moves : MovesBelow program limits x n moved
 
-pub record ExpandsAll (program : List ClassListing) (limits : Limits) (no_room : Bool) (old new : Search)
+pub record ExpandsAll (program : List ClassListing) (limits : Limits) (first : List Move) (no_room : Bool)
+    (old new : Search)
     (known : List World) (x : World) (moved : Bool) : Type 0 where
-  pub grows : Grows program limits old new known
+  pub grows : Grows program limits first old new known
   pub expanded : (t : ℕ) → IsExpanded program limits no_room (known ++ grows.more) x t
   pub moves : SomeMoves program limits x moved
-
--- in the turns of a thread whatever paths reach was made: so it is of a state
-abbrev pub MakesAll : List ClassListing → Limits → World → ℕ → Type 0
-MakesAll program limits x t = (choice : Choice) → refusal program limits x (Thread t) ≡ None
-    → AllMade (next program x t choice).after

@@ -4,4 +4,5 @@ pub mod Expansion
 pub mod Explorations
 pub mod Keys
 pub mod Origins
+pub mod Parts
 pub mod States

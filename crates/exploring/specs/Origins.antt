@@ -1,5 +1,10 @@
-use Rattle.std.specs.Prelude.{ℕ, zero, suc, List, [], ◌∷◌, ◌++◌, map, replicate, reverse, slice_get, Option, Some, None}
-use Rattle.exploration.specs.ClosedLists.{Pair, pair_of}
+use Rattle.std.specs.Prelude.{◌≡◌, ℕ, zero, suc, List, [], ◌∷◌, ◌++◌, drop, length, map, replicate, reverse, slice_get}
+use Rattle.std.specs.Prelude.{Option, Some, None}
+use Rattle.model.specs.declared.journals.Limits.{Limits}
+use Rattle.model.specs.ClassListings.{ClassListing}
+use Rattle.model.specs.Worlds.{World}
+use Rattle.exploration.specs.ClosedLists.{IsWitnessed, Pair, ideal_after, pair_of}
+use Rattle.exploration.specs.Representation.{uncounted}
 use Rattle.ideal_run.specs.Effected.{choice_in}
 use Rattle.ideal_run.specs.declared.effects.Choice.TheVariants.{NewObject}
 use Rattle.exploring.specs.declared.explored.Move.{Move}
@@ -45,3 +50,29 @@ pair_in m = pair_of m.thread (choice_in m.choice)
 
 abbrev pub pairs_in : List Move → List Pair
 pairs_in moves = map pair_in moves
+
+-- ---- what moves lead to
+
+-- the ideal run's world after some moves, without its count of rows
+abbrev pub start_of : List ClassListing → Limits → List Move → World
+start_of program limits moves = uncounted (ideal_after program limits (pairs_in moves))
+
+-- each of the moves is a turn: none is refused
+abbrev pub AreTurns : List ClassListing → Limits → List Move → Type 0
+AreTurns program limits moves = (ideal_after program limits (pairs_in moves)).rows ≡ length moves
+
+-- what there is after some moves: a state that stands for what they lead to, or none where one of them is refused
+abbrev pub LeadsTo : List ClassListing → Limits → List Move → Option World → Type 0
+LeadsTo program limits moves None = AreTurns program limits moves → ⊥
+LeadsTo program limits moves (Some x) = IsWitnessed program limits (pairs_in moves) x
+
+-- and after one more, whichever follow
+abbrev pub LeadsOn : List ClassListing → Limits → List Move → Move → Option World → Type 0
+LeadsOn program limits earlier m None = (more : List Move) → AreTurns program limits (earlier ++ m ∷ more) → ⊥
+LeadsOn program limits earlier m (Some x) = IsWitnessed program limits (pairs_in (earlier ++ m ∷ [])) x
+
+-- so many of some moves were made
+pub record IsAfter (program : List ClassListing) (limits : Limits) (moves : List Move) (n : ℕ) (x : World) : Type 0 where
+  pub done : List Move
+  pub all : done ++ drop n moves ≡ moves
+  pub met : IsWitnessed program limits (pairs_in done) x

@@ -1,5 +1,5 @@
 //! The states of a program that a search through its schedules finds: canonical forms of worlds, a set of them, in which
-//! each is known by a row of bytes, and what the turns of a state lead to.
+//! each is known by a row of bytes, what the turns of a state lead to, and parts by which an exploration is shared out.
 #![tactic(auto)]
 
 ghost use Rattle.exploring.specs.Keys.{KeysTell};
@@ -11,8 +11,10 @@ mod keys;
 mod names;
 mod origins;
 mod outcomes;
+mod parts;
 mod schedules;
 mod search;
+mod starts;
 mod states;
 mod walk;
 
@@ -20,7 +22,8 @@ pub use exploration::ends::End;
 pub use explored::{Bounds, Cut, Explored, Found, Move, Outcome};
 pub use forms::canonical;
 pub use ideal_run::Choice;
-pub use schedules::explore;
+pub use parts::{Part, split};
+pub use schedules::{explore, explore_after};
 pub use states::States;
 
 /// Worlds whose keys are equal are equal, whichever names the table has.

@@ -2,9 +2,9 @@
 ghost use Rattle.std.specs.Prelude.{◌≡◌, [], IfOk, OnErr, OnOk, map};
 ghost use Rattle.exploration.specs.Observations.{end_of, observed};
 ghost use Rattle.exploring.specs.Explorations.{noted};
-ghost use Rattle.exploring.specs.Origins.{trail};
+ghost use Rattle.exploring.specs.Expansion.{way_to};
 
-use crate::explored::{Found, Outcome};
+use crate::explored::{Found, Move, Outcome};
 use crate::keys::Key;
 use crate::search::{Search, Waiting};
 use exploration::ends::End;
@@ -79,6 +79,13 @@ impl Outcomes {
         }
     }
 
+    /// The outcomes, in the order in which they came.
+    pub fn found(&self) -> &[Found]
+        ensures { result.now ≡ self.now.found }
+    {
+        self.found.as_slice()
+    }
+
     /// The outcomes.
     pub fn into_found(self) -> Vec<Found>
         ensures { result.items ≡ self.found }
@@ -86,24 +93,25 @@ impl Outcomes {
         self.found
     }
 
-    /// Adds what is observed of a state, unless it's there. `AllocError` where memory runs out; then the outcomes are as
-    /// they were, and no more can be added.
+    /// Adds what is observed of a state, to which moves after the first ones led, unless it's there. `AllocError` where
+    /// memory runs out; then the outcomes are as they were, and no more can be added.
     pub fn note(
         &mut self,
         alloc: Global,
         transitions: &Transitions<'_>,
         search: &Search,
+        first: &[Move],
         state: &Waiting,
     ) -> Result<(), AllocError>
         ensures noted { OnOk result (self.new ≡ noted self.old (observed transitions.now.program state.now.world)
-            (trail search.now.origins state.now.level state.now.place)) }
+            (way_to first.now search.now.origins state.now)) }
         ensures kept { OnErr result (self.new.found ≡ self.old.found) }
     {
         let outcome = observed(alloc, transitions, &state.world)?;
         let key = Key::of_outcome(alloc, &outcome)?;
         let (_, fresh) = self.keys.insert_full(key)?;
         if fresh {
-            let witness = search.trail(alloc, state)?;
+            let witness = search.way_to(alloc, first, state)?;
             self.found.push(Found { outcome, witness })?;
         }
         Ok(())

@@ -1,8 +1,11 @@
 //! A search through the states of a program, breadth first.
 ghost use Rattle.std.specs.Prelude.{◌≡◌, ◌<◌, ◌+◌, ◌∷◌, [], ◌||◌, length, map, List, IfOk, OnOk};
-ghost use Rattle.model.specs.Worlds.{World, opening_world};
-ghost use Rattle.exploring.specs.Expansion.{Expands, ExpandsAll, Finds, Follows, HasKnown, IsTraced, Takes, kept, world_of};
-ghost use Rattle.exploring.specs.Origins.{trail};
+ghost use Rattle.model.specs.Worlds.{World};
+ghost use Rattle.exploration.specs.ClosedLists.{IsWitnessed};
+ghost use Rattle.exploring.specs.declared.explored.Move.{Move};
+ghost use Rattle.exploring.specs.Expansion.{Expands, ExpandsAll, Finds, Follows, HasKnown, IsTraced, Takes, kept, way_to};
+ghost use Rattle.exploring.specs.Expansion.{world_of};
+ghost use Rattle.exploring.specs.Origins.{pairs_in};
 
 use crate::ahead::go_ahead;
 use crate::explored::{Bounds, Cut, Move};
@@ -47,7 +50,7 @@ impl Model for Search {
     } };
 }
 
-/// Where the opening world came from: nowhere, and no move is asked for.
+/// Where the first state came from: nowhere, and no move is asked for.
 fn nowhere() -> Origin {
     Origin {
         parent: 0,
@@ -66,16 +69,22 @@ fn either(one: bool, other: bool) -> bool
 }
 
 impl Search {
-    /// A search that has the opening world as its one state, which waits. `AllocError` where memory runs out.
-    pub fn new(alloc: Global, transitions: &Transitions<'_>) -> Result<Search, AllocError>
-        ensures known { IfOk result (λ search. HasKnown transitions.now.program transitions.now.limits search
-            (opening_world transitions.now.program ∷ [])) }
-        ensures waits { IfOk result (λ search. map world_of search.waiting
-            ≡ opening_world transitions.now.program ∷ []) }
+    /// A search that has what some moves led to as its one state, which waits: so many moves. `AllocError` where memory
+    /// runs out.
+    pub fn new(
+        alloc: Global,
+        transitions: &Transitions<'_>,
+        start: World,
+        depth: u32,
+    ) -> Result<Search, AllocError>
+        ensures known { (first : List Move)
+            → IsWitnessed transitions.now.program transitions.now.limits (pairs_in first) start
+            → depth ≡ length first
+            → IfOk result (λ search. HasKnown transitions.now.program transitions.now.limits first search (start ∷ [])) }
+        ensures waits { IfOk result (λ search. map world_of search.waiting ≡ start ∷ []) }
     {
-        let world = transitions.opening()?;
         let mut states = States::new(alloc, transitions.listings())?;
-        states.add(alloc, &world)?;
+        states.add(alloc, &start)?;
         let origins = Vec::new(alloc);
         let waiting = VecDeque::new(alloc);
         let mut search = Search {
@@ -85,10 +94,10 @@ impl Search {
             turns: 0,
         };
         let opening = Waiting {
-            world,
+            world: start,
             place: 0,
             level: 0,
-            depth: 0,
+            depth,
         };
         search.keep(opening, nowhere())?;
         Ok(search)
@@ -106,6 +115,11 @@ impl Search {
         self.waiting.len()
     }
 
+    /// The first state that waits.
+    pub fn front(&self) -> Option<&Waiting> {
+        self.waiting.front()
+    }
+
     /// How many turns were made, 2^64 - 1 at most.
     pub fn turns(&self) -> u64
         ensures { result ≡ self.now.turns }
@@ -120,11 +134,19 @@ impl Search {
         self.waiting.pop_front()
     }
 
-    /// The moves that led to a state. `AllocError` where memory runs out.
-    pub fn trail(&self, alloc: Global, state: &Waiting) -> Result<Vec<Move>, AllocError>
-        ensures { IfOk result (λ moves. moves.items ≡ trail self.now.origins state.now.level state.now.place) }
+    /// The moves that led to a state, after those that came first. `AllocError` where memory runs out.
+    pub fn way_to(
+        &self,
+        alloc: Global,
+        first: &[Move],
+        state: &Waiting,
+    ) -> Result<Vec<Move>, AllocError>
+        ensures { IfOk result (λ moves. moves.items ≡ way_to first.now self.now.origins state.now) }
     {
-        trail(alloc, &self.origins, state.level, state.place)
+        let later = trail(alloc, &self.origins, state.level, state.place)?;
+        let mut moves = Vec::from_slice(alloc, first)?;
+        moves.extend_from_slice(&later)?;
+        Ok(moves)
     }
 
     /// A new state waits, and its origin is kept.
@@ -184,10 +206,10 @@ impl Search {
         by: Move,
         world: World,
     ) -> Result<(), Cut>
-        ensures { (known : List World)
-            → HasKnown transitions.now.program transitions.now.limits self.old known
-            → Follows transitions.now.program transitions.now.limits self.old.origins parent.now by world
-            → OnOk result (Finds transitions.now.program transitions.now.limits self.old self.new known world) }
+        ensures { (first : List Move) (known : List World)
+            → HasKnown transitions.now.program transitions.now.limits first self.old known
+            → Follows transitions.now.program transitions.now.limits first self.old.origins parent.now by world
+            → OnOk result (Finds transitions.now.program transitions.now.limits first self.old self.new known world) }
     {
         let steps = transitions.limits().steps;
         let room = steps.saturating_sub(parent.depth).saturating_sub(1);
@@ -213,12 +235,12 @@ impl Search {
         state: &Waiting,
         thread: u8,
     ) -> Result<bool, Cut>
-        ensures { (known : List World)
-            → HasKnown transitions.now.program transitions.now.limits self.old known
-            → IsTraced transitions.now.program transitions.now.limits self.old.origins state.now
+        ensures { (first : List Move) (known : List World)
+            → HasKnown transitions.now.program transitions.now.limits first self.old known
+            → IsTraced transitions.now.program transitions.now.limits first self.old.origins state.now
             → state.now.depth < transitions.now.limits.steps
-            → IfOk result (λ moved. Expands transitions.now.program transitions.now.limits bounds.no_room self.old self.new
-            known state.now.world thread moved) }
+            → IfOk result (λ moved. Expands transitions.now.program transitions.now.limits first bounds.no_room self.old
+            self.new known state.now.world thread moved) }
     {
         let choice = Choice::NewObject;
         let made = match transitions.successor(&state.world, thread, choice)? {
@@ -250,11 +272,11 @@ impl Search {
         bounds: Bounds,
         state: &Waiting,
     ) -> Result<bool, Cut>
-        ensures { (known : List World)
-            → HasKnown transitions.now.program transitions.now.limits self.old known
-            → IsTraced transitions.now.program transitions.now.limits self.old.origins state.now
+        ensures { (first : List Move) (known : List World)
+            → HasKnown transitions.now.program transitions.now.limits first self.old known
+            → IsTraced transitions.now.program transitions.now.limits first self.old.origins state.now
             → state.now.depth < transitions.now.limits.steps
-            → IfOk result (λ moved. ExpandsAll transitions.now.program transitions.now.limits bounds.no_room self.old
+            → IfOk result (λ moved. ExpandsAll transitions.now.program transitions.now.limits first bounds.no_room self.old
             self.new known state.now.world moved) }
     {
         let mut moved = false;

@@ -32,6 +32,7 @@ pub mod HeldLemmas
 pub mod HeldShown
 pub mod CreatedLemmas
 pub mod DenyingLemmas
+pub mod IdleLemmas
 pub mod InitialisingAgreement
 pub mod InitialisingLemmas
 pub mod InitializerBodies
@@ -41,6 +42,7 @@ pub mod NoReferences
 pub mod ObjectsShown
 pub mod OwnArguments
 pub mod OwnCalls
+pub mod KeptWaiting
 pub mod KeyedFields
 pub mod KeyedLemmas
 pub mod Layouts

@@ -30,9 +30,11 @@ pub mod PlainRuns
 pub mod ReturnsByNumbers
 pub mod Shown
 pub mod Starting
+pub mod Stops
 pub mod StaticKeys
 pub mod Threads
 pub mod Switching
 pub mod Throwing
 pub mod TypeNumbers
 pub mod TypesByNumbers
+pub mod Idle

@@ -23,10 +23,11 @@
 //!
 //! | files | what stands there |
 //! |---|---|
-//! | first_turns, state/first | turns of the first thread in cyclic order by one look at the step |
+//! | first_turns, state/first, idle | turns of the first ready thread by one look at the step; who is known not to be ready |
 //! | register_turns, code_calls, code_steps, callees, heap_steps | register code with other steps between, on lent frames |
 //! | quick_calls, quick_arrays, quick_fields, quick_statics, quick_casts | steps on whole frames, of which nothing unusual comes |
 //! | lone_rounds, noted_rounds, quick_objects, doubling | rounds with turns of the collector and with new objects |
+//! | stops | places before which such rounds end |
 //!
 //! To change what an instruction does, begin with its family in the crate `model`, then its file of the general way, and
 //! then the quick ways that carry it out too.
@@ -50,6 +51,7 @@ mod first_turns;
 mod heap_steps;
 mod heaps;
 pub mod held;
+pub mod idle;
 mod initialising;
 mod invoking;
 pub mod kinds;
@@ -78,6 +80,7 @@ mod returns;
 mod starting;
 pub mod state;
 mod statics;
+pub mod stops;
 mod threads;
 mod throwing;
 mod type_operations;

@@ -1,11 +1,11 @@
 //! What a request says.
 ghost use Rattle.std.specs.Prelude.{◌≡◌};
-ghost use Rattle.page_texts.specs.Requests.{alone, listing_of, request_of, rounds_of, rows_of, two_numbers};
+ghost use Rattle.page_texts.specs.Requests.{alone, exploring_of, listing_of, request_of, rounds_of, rows_of, two_numbers};
 
 use journal_texts::words::{following, number, number_of};
 
 /// A request that the debugger has no command for. Numbers are as they stand there: of rounds, of turns of the
-/// collector in each, of a row from 0, of rows, of a class from 0.
+/// collector in each, of a row from 0, of rows, of a class from 0, of states.
 #[derive(Clone, Copy, Debug, PartialEq, Eq)]
 pub enum Request {
     Rounds { rounds: u32, gc: u32 },
@@ -16,6 +16,8 @@ pub enum Request {
     Methods,
     Rows { first: u32, count: u32 },
     Listing(u32),
+    /// Every schedule is wanted, with so many states at most; and whether cells may be missing.
+    Explore { states: u32, no_room: bool },
     Output,
     Journal,
 }
@@ -76,6 +78,28 @@ fn listing_of(line: &[u8]) -> Option<Request>
     Some(Request::Listing(class))
 }
 
+fn exploring_of(line: &[u8]) -> Option<Request>
+    ensures { result ≡ exploring_of line.now }
+{
+    match following(b"explore no-room ", line) {
+        Some(rest) => {
+            let states = number_of(rest)?;
+            Some(Request::Explore {
+                states,
+                no_room: true,
+            })
+        }
+        None => {
+            let rest = following(b"explore ", line)?;
+            let states = number_of(rest)?;
+            Some(Request::Explore {
+                states,
+                no_room: false,
+            })
+        }
+    }
+}
+
 /// What a line asks for; none where it is no request, as where it is a command of the debugger.
 pub fn request_of(line: &[u8]) -> Option<Request>
     ensures { result ≡ request_of line.now }
@@ -92,5 +116,9 @@ pub fn request_of(line: &[u8]) -> Option<Request>
         Some(request) => return Some(request),
         None => {}
     }
-    listing_of(line)
+    match listing_of(line) {
+        Some(request) => return Some(request),
+        None => {}
+    }
+    exploring_of(line)
 }

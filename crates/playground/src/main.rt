@@ -2,15 +2,9 @@
 //! standard output.
 #![tactic(auto)]
 
-mod asking;
-mod held;
-mod looking;
-mod opening;
-mod playing;
-
-use crate::playing::{Ended, play};
 use debug_texts::counted::Counted;
 use debugger::errors::DebugError;
+use page_sessions::playing::{Ended, play};
 use std::io;
 use std::io::Read;
 use std::process::ExitCode;

@@ -24,33 +24,7 @@ use Rattle.resolve.proofs.AcyclicLemmas.{ends-apart, enough, named-listed, paren
 use Rattle.resolve.proofs.ListLemmas.{all-of, and-false, and-left, and-right, both-true, count-less, found-any}
 use Rattle.resolve.proofs.ListLemmas.{none-fails, not-all}
 use Rattle.resolve.proofs.ParentLemmas.{interfaces_named-listed}
-use Rattle.resolve.proofs.ReachedLemmas.{adds_all, has-HasName, HasName-has, or-right}
-
--- ---- adding lists of names
-
-pub names-append : (names xs ys : List (List ℕ)) → with_names names (xs ++ ys) ≡ with_names (with_names names xs) ys
-names-append names [] ys = refl
-names-append names (x ∷ xs) ys = names-append (with_name names x) xs ys
-
-still-there : (names more : List (List ℕ)) (x : List ℕ) → has_name more x ≡ true → has_name (with_names names more) x
-    ≡ true
-still-there names more x h = HasName-has (with_names names more) x
-    ((adds_all names more).holds x (has-HasName more x h))
-
-one-more : (names ys : List (List ℕ)) (x : List ℕ) (there : Bool) → has_name ys x ≡ there
-    → with_names names (with_name ys x) ≡ with_name (with_names names ys) x
-one-more names ys x true e = rw (e, still-there names ys x e) refl
-one-more names ys x false e = rw e (names-append names ys (x ∷ []))
-
-once-from : (names ys xs : List (List ℕ)) → with_names names (with_names ys xs) ≡ with_names (with_names names ys) xs
-once-from names ys [] = refl
-once-from names ys (x ∷ xs) =
-    once-from names (with_name ys x) xs ∙ ap (λ (zs : List (List ℕ)). with_names zs xs)
-    (one-more names ys x (has_name ys x) refl)
-
--- names that stand there once are as good as all of them
-pub once : (names xs : List (List ℕ)) → with_names names (with_names [] xs) ≡ with_names names xs
-once names xs = once-from names [] xs
+use Rattle.resolve.proofs.ReachedLemmas.{adds_all, has-HasName, HasName-has, names-append, once, or-right}
 
 -- ---- a name that comes again adds nothing
 

@@ -1,18 +1,20 @@
 -- The names that are reached upwards from some are those of the classes above them.
 use Rattle.std.proofs.Common.{◌≡◌, ◌⊎◌, inl, inr, ℕ, zero, suc, ◌+◌, ◌≤◌, List, [], ◌∷◌, ◌++◌, length, map, take}
-use Rattle.std.proofs.Common.{slice_get, Bool, true, false, ◌||◌, if◌then◌else◌, Some, None, refl, arith, ap, sym, ◌∙◌}
+use Rattle.std.proofs.Common.{slice_get, Bool, true, false, ◌||◌, if◌then◌else◌, Option, Some, None, refl, arith, ap, sym, ◌∙◌}
 use Rattle.std.proofs.Common.{subst}
 use Rattle.std.specs.List.{list_any}
-use Rattle.std.specs.Option.{option_map}
+use Rattle.std.specs.Option.{option_and_then, option_map}
 use Rattle.std.specs.Str.{bytes_eq}
+use Rattle.std.proofs.lemmas.Option.{slice_get-map}
 use Rattle.std.proofs.lemmas.Slice.Eq.{bytes_eq-Decides}
 use Rattle.model.specs.ClassListings.{ClassListing}
-use Rattle.model.specs.Classes.Named.{listed, builtin, parents_named}
+use Rattle.model.specs.Classes.Named.{builtin, listed, or_else, parents_in, parents_named, parents_of}
 use Rattle.model.specs.Classes.Subclass.{HasName, Subclass}
 use Rattle.model.specs.Classes.Subclass.Subclass.{same, parent, through}
 use Rattle.model.specs.Classes.Subclasses.{is_within, is_subclass}
 use Rattle.model.proofs.SubclassTest.{Subclass-is_subclass}
 use Rattle.resolve.proofs.ParentLemmas.{parents_in-builtin}
+use Rattle.resolve.specs.Parents.{all_parents, parents_once}
 use Rattle.resolve.specs.Reached.{has_name, with_name, with_names, is_one_below}
 
 -- ---- keys and their names
@@ -150,6 +152,57 @@ adds_all names [] = record { extends = ([], append-nil names); holds = λ x h. a
 adds_all names (name ∷ more) =
     further names name (with_name names name) more (with_names (with_name names name) more) (adds names name)
     (adds_all (with_name names name) more)
+
+-- ---- adding lists of names
+
+pub names-append : (names xs ys : List (List ℕ)) → with_names names (xs ++ ys) ≡ with_names (with_names names xs) ys
+names-append names [] ys = refl
+names-append names (x ∷ xs) ys = names-append (with_name names x) xs ys
+
+still-there : (names more : List (List ℕ)) (x : List ℕ) → has_name more x ≡ true → has_name (with_names names more) x
+    ≡ true
+still-there names more x h = HasName-has (with_names names more) x
+    ((adds_all names more).holds x (has-HasName more x h))
+
+one-more : (names ys : List (List ℕ)) (x : List ℕ) (there : Bool) → has_name ys x ≡ there
+    → with_names names (with_name ys x) ≡ with_name (with_names names ys) x
+one-more names ys x true e = rw (e, still-there names ys x e) refl
+one-more names ys x false e = rw e (names-append names ys (x ∷ []))
+
+once-from : (names ys xs : List (List ℕ)) → with_names names (with_names ys xs) ≡ with_names (with_names names ys) xs
+once-from names ys [] = refl
+once-from names ys (x ∷ xs) =
+    once-from names (with_name ys x) xs ∙ ap (λ (zs : List (List ℕ)). with_names zs xs)
+    (one-more names ys x (has_name ys x) refl)
+
+-- names that stand there once are as good as all of them
+pub once : (names xs : List (List ℕ)) → with_names names (with_names [] xs) ≡ with_names names xs
+once names xs = once-from names [] xs
+
+-- ---- the parents of a class of the program, each once
+
+pub parents-at : (program : List ClassListing) (name : List ℕ) (number : Option ℕ)
+    → option_and_then (slice_get program) number ≡ listed program name
+    → option_and_then (slice_get (all_parents program)) number ≡ option_map parents_once (listed program name)
+parents-at program name None is = ap (option_map parents_once) is
+parents-at program name (Some n) is = slice_get-map parents_once program n ∙ ap (option_map parents_once) is
+
+once-listed : (names parents : List (List ℕ)) (found own : Option ClassListing)
+    → Some parents ≡ option_map parents_once found
+    → with_names names parents ≡ with_names names (parents_in (or_else found own))
+once-listed names parents None own e = cc
+once-listed names parents (Some c) own e =
+    let is : parents ≡ parents_once c = cc in ap (with_names names) is ∙ once names (parents_of c)
+
+pub parents_named-once : (program : List ClassListing) (name : List ℕ) (names parents : List (List ℕ))
+    → Some parents ≡ option_map parents_once (listed program name)
+    → with_names names parents ≡ with_names names (parents_named program name)
+parents_named-once program name names parents e =
+    once-listed names parents (listed program name) (builtin name) e
+
+pub none-once : (found : Option ClassListing) → None ≡ option_map parents_once found → None ≡ found
+none-once None e = refl
+none-once (Some c) e = cc
 
 -- ---- the parents of one of the machine's own classes
 

@@ -7,6 +7,7 @@ pub mod Interfaces
 pub mod Layouts
 pub mod Members
 pub mod Numbers
+pub mod Parents
 pub mod Reached
 pub mod Settled
 pub mod Subtypes

@@ -3,9 +3,11 @@ ghost use Rattle.std.specs.Prelude.{◌≡◌, ℕ, List, IfOk, IfErr};
 ghost use Rattle.model.specs.Classes.Search.{interfaces_named};
 ghost use Rattle.model.specs.Classes.Subclasses.{is_subclass};
 ghost use Rattle.resolve.specs.Above.{AreAbove, IsAbove};
+ghost use Rattle.resolve.specs.Parents.{all_parents};
 ghost use Rattle.resolve.specs.Reached.{is_one_below};
 
 use crate::index::Index;
+use crate::parents::parents_of_all;
 use crate::reached::Reached;
 use model::listings::Listing;
 use std::alloc::{AllocError, Global};
@@ -13,14 +15,16 @@ use std::alloc::{AllocError, Global};
 /// The names of all that is above the superinterfaces that a class declares, these among them. Each is looked at once.
 fn above_interfaces<'a>(
     alloc: Global,
-    index: &Index<'a>,
+    index: &Index<'_>,
+    parents: &[Reached<'a>],
     class: &'a Listing,
 ) -> Result<Reached<'a>, AllocError>
+    requires { parents.now ≡ all_parents index.now }
     ensures { IfOk result (λ names. IsAbove index.now class.now names) }
 {
     let mut names = Reached::new(alloc);
     names.add_interfaces(&class.interfaces)?;
-    names.close(index)?;
+    names.close(index, parents)?;
     Ok(names)
 }
 
@@ -32,9 +36,10 @@ pub fn above_all_interfaces<'a>(
 ) -> Result<Vec<Reached<'a>>, AllocError>
     ensures { IfOk result (λ above. AreAbove index.now index.now above.items) }
 {
+    let parents = parents_of_all(alloc, index.program())?;
     let mut above = Vec::new(alloc);
     for class in index.program() {
-        above.push(above_interfaces(alloc, index, class)?)?;
+        above.push(above_interfaces(alloc, index, parents.as_slice(), class)?)?;
     }
     Ok(above)
 }

@@ -5,6 +5,7 @@ ghost use Rattle.std.specs.Option.{option_copied};
 ghost use Rattle.model.specs.Classes.Named.{class_named};
 ghost use Rattle.model.specs.Accepted.Superclasses.{has_missing_parent};
 ghost use Rattle.model.specs.Accepted.Cycles.{is_on_cycle};
+ghost use Rattle.resolve.specs.Parents.{all_parents, parents_once};
 
 use crate::index::Index;
 use crate::reached::Reached;
@@ -26,14 +27,43 @@ fn has_missing_parent(index: &Index<'_>, class: &Listing) -> bool
     !index.is_there(class.superclass.as_bytes()) || is_one_missing(index, &class.interfaces)
 }
 
+/// The superclass and the superinterfaces of a class, each once.
+fn parents_once<'a>(alloc: Global, class: &'a Listing) -> Result<Reached<'a>, AllocError>
+    ensures { IfOk result (λ names. names ≡ parents_once class.now) }
+{
+    let mut names = Reached::new(alloc);
+    names.add_parents(class)?;
+    Ok(names)
+}
+
+/// The parents of each class of a program, each once. `AllocError` where memory runs out.
+pub fn parents_of_all<'a>(
+    alloc: Global,
+    program: &'a [Listing],
+) -> Result<Vec<Reached<'a>>, AllocError>
+    ensures { IfOk result (λ parents. parents.items ≡ all_parents program.now) }
+{
+    let mut parents = Vec::new(alloc);
+    for class in program {
+        parents.push(parents_once(alloc, class)?)?;
+    }
+    Ok(parents)
+}
+
 /// Whether a superclass or superinterface of the class is the class itself or below it. Each class above it is looked
 /// at once. `AllocError` where memory runs out.
-fn is_on_cycle<'a>(alloc: Global, index: &Index<'a>, class: &'a Listing) -> Result<bool, AllocError>
+fn is_on_cycle<'a>(
+    alloc: Global,
+    index: &Index<'_>,
+    parents: &[Reached<'a>],
+    class: &'a Listing,
+) -> Result<bool, AllocError>
+    requires { parents.now ≡ all_parents index.now }
     ensures { IfOk result (λ found. found ≡ is_on_cycle index.now class.now) }
 {
     let mut reached = Reached::new(alloc);
     reached.add_parents(class)?;
-    reached.close(index)?;
+    reached.close(index, parents)?;
     Ok(reached.has(class.name.as_bytes()))
 }
 
@@ -58,8 +88,9 @@ pub fn first_on_cycle<'a>(
 ) -> Result<Option<&'a Listing>, AllocError>
     ensures { IfOk result (λ found. option_copied found ≡ find (is_on_cycle index.now) program.now) }
 {
+    let parents = parents_of_all(alloc, index.program())?;
     for class in program {
-        if is_on_cycle(alloc, index, class)? {
+        if is_on_cycle(alloc, index, parents.as_slice(), class)? {
             return Ok(Some(class));
         }
     }

@@ -1,6 +1,8 @@
 //! The names of the classes that are reached upwards from some.
 ghost use Rattle.std.specs.Prelude.{◌≡◌, ℕ, List, [], map, OnOk};
-ghost use Rattle.model.specs.Classes.Named.{parents_named, parents_of};
+ghost use Rattle.std.specs.Option.{option_copied, option_map};
+ghost use Rattle.model.specs.Classes.Named.{listed, parents_named, parents_of};
+ghost use Rattle.resolve.specs.Parents.{all_parents, parents_once};
 ghost use Rattle.resolve.specs.Reached.{has_name, with_name, with_names, is_one_below};
 
 use crate::builtins::builtin_superclass;
@@ -24,6 +26,18 @@ impl<'a> Model for Reached<'a> {
     ghost Value = { List (List ℕ) };
 
     ghost view = { λ a. map (λ name. name.bytes.now) a.names.keys };
+}
+
+/// The parents of the program's class of a name, among those of all.
+fn parents_listed<'p, 'a>(
+    index: &Index<'_>,
+    parents: &'p [Reached<'a>],
+    name: &[u8],
+) -> Option<&'p Reached<'a>>
+    requires { parents.now ≡ all_parents index.now }
+    ensures { option_copied result ≡ option_map parents_once (listed index.now name.now) }
+{
+    parents.get(index.number(name)?)
 }
 
 impl<'a> Reached<'a> {
@@ -65,11 +79,17 @@ impl<'a> Reached<'a> {
     }
 
     /// Adds the parents of the class of a name, where there is one.
-    fn add_parents_named(&mut self, index: &Index<'a>, name: &[u8]) -> Result<(), AllocError>
+    fn add_parents_named(
+        &mut self,
+        index: &Index<'_>,
+        parents: &[Reached<'a>],
+        name: &[u8],
+    ) -> Result<(), AllocError>
+        requires { parents.now ≡ all_parents index.now }
         ensures { OnOk result (self.new ≡ with_names self.old (parents_named index.now name.now)) }
     {
-        match index.listed(name) {
-            Some(class) => self.add_parents(class),
+        match parents_listed(index, parents, name) {
+            Some(names) => self.add_all(names),
             None => match builtin_superclass(name) {
                 Some(superclass) => self.add(superclass),
                 None => Ok(()),
@@ -108,14 +128,16 @@ impl<'a> Reached<'a> {
         self.names.as_slice()
     }
 
-    /// Adds all that is above the names, each name's parents once.
-    pub fn close(&mut self, index: &Index<'a>) -> Result<(), AllocError>
+    /// Adds all that is above the names, each name's parents once. Of each class of the program its parents are given,
+    /// each once, so that a name that a class repeats is looked at once.
+    pub fn close(&mut self, index: &Index<'_>, parents: &[Reached<'a>]) -> Result<(), AllocError>
+        requires { parents.now ≡ all_parents index.now }
         ensures { OnOk result ((above : List ℕ) → has_name self.new above ≡ is_one_below index.now self.old above) }
     {
         let mut next = 0;
         while next < self.len() {
             let name = self.get(next);
-            self.add_parents_named(index, name)?;
+            self.add_parents_named(index, parents, name)?;
             next += 1;
         }
         Ok(())

@@ -1,5 +1,6 @@
 pub mod ErrorCells
 pub mod Noting
+pub mod Idling
 pub mod Workers
 pub mod Making
 pub mod CellsMoved

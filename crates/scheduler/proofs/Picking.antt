@@ -197,7 +197,7 @@ module _ (v : Recorded) (worker : ℕ) (runs : is_running (status_of v) ≡ true
       (row_unless_refused v.program m Collector 0 o)).world.fault) none
       ∙ ap (λ (o : Option Turn). (unless_refused v.program m.world Collector NewObject o).fault) none
 
-  collector_done : nat_le v.journal.limits.steps (ideal v).rows ≡ false → answer_to v Collector worker ≡ Done
+  pub collector_done : nat_le v.journal.limits.steps (ideal v).rows ≡ false → answer_to v Collector worker ≡ Done
   unfolding answer_to
   collector_done room =
       let none : refusal v.program v.journal.limits (ideal v) Collector ≡ None = refusal_is Collector false room in

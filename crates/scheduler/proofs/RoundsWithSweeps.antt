@@ -1,11 +1,12 @@
 -- Many rounds with turns of the collector in one call: the worlds that they lead to, and what they answer.
 use Rattle.std.proofs.Common.{◌≡◌, ◌<◌, ◌≤◌, ◌+◌, ◌-◌, ◌∷◌, ℕ, zero, suc, List, [], length, length-append, Bool, true}
 use Rattle.std.proofs.Common.{false, Option, Some, None, refl, ap, sym, subst, ◌∙◌, arith}
-use Rattle.std.specs.Prelude.{if◌then◌else◌, is_some, nat_le}
+use Rattle.std.specs.Prelude.{IfSome, if◌then◌else◌, is_some, nat_le}
 use Rattle.std.proofs.lemmas.Bool.{leb-true}
 use Rattle.model.specs.declared.journals.Limits.{Limits}
 use Rattle.model.specs.declared.journals.Outcome.{Outcome}
 use Rattle.model.specs.declared.journals.Outcome.TheVariants.{Done}
+use Rattle.model.specs.declared.places.CodePlace.{CodePlace}
 use Rattle.model.specs.declared.turns.Actor.TheVariants.{Collector}
 use Rattle.model.specs.declared.turns.Fault.{Fault}
 use Rattle.model.specs.declared.turns.Status.TheVariants.{Running}
@@ -16,17 +17,22 @@ use Rattle.model.specs.Observers.{ideal, is_running, status_by, status_of}
 use Rattle.model.specs.Ready.{some_is_ready, some_lives}
 use Rattle.model.specs.Turns.{refusal, refusal_after}
 use Rattle.instructions.specs.Loaded.{Loaded}
-use Rattle.instructions.specs.LoneRounds.{FirstRounds, FirstTurnIf, IsFirstRound, LeadsThrough, Sweeps, collected_by}
-use Rattle.instructions.specs.LoneRounds.{noted_if, noted_rounds, noted_times, thread_row}
+use Rattle.instructions.specs.LoneRounds.{FirstRounds, FirstTurnIf, IsFirstRound, LeadsThrough, StandsAtNone, Sweeps}
+use Rattle.instructions.specs.LoneRounds.{collected_by, noted_if, noted_rounds, noted_times, thread_row}
 use Rattle.instructions.specs.declared.lone_rounds.Rounds.{Rounds}
+use Rattle.instructions.specs.declared.stops.Stops.{Stops}
+use Rattle.instructions.specs.FirstTurns.{IsFirstTurn}
 use Rattle.instructions.specs.PlainRuns.{start_after}
+use Rattle.instructions.specs.Stops.{is_stop}
 use Rattle.instructions.proofs.NotedRoundLemmas.{rounds-workers, times-length, times-limits}
-use Rattle.scheduler.specs.Rounds.{LeadsInto, LeadsOn, PickedIf, after_round, after_rounds, collections, done_by}
-use Rattle.scheduler.specs.Rounds.{is_done, picked, picked_answer, rounds_answer, rounds_left, swept}
+use Rattle.scheduler.specs.Rounds.{IsRoundPast, LeadsInto, LeadsOn, LeadsPast, PickedIf, PickedPast, PicksPast}
+use Rattle.scheduler.specs.Rounds.{RoundsPast, after_round, after_rounds, collections, done_by, is_done, picked}
+use Rattle.scheduler.specs.Rounds.{picked_answer, rounds_answer, rounds_left, swept}
 use Rattle.scheduler.specs.Worlds.{IsOf, recorded}
 use Rattle.scheduler.proofs.Bursts.{answer-left, leads-none, left-left, one-further, world-left}
 use Rattle.scheduler.proofs.FirstTurns.{first_answer, first_noted, first_picked}
-use Rattle.scheduler.proofs.Noting.{after_is, answer_is, back, noted_is, refusal_is}
+use Rattle.scheduler.proofs.Noting.{after_is, answer_is, back, noted_is, pick_is, refusal_is}
+use Rattle.scheduler.proofs.Observing.{place_is}
 use Rattle.scheduler.proofs.RoundsLeft.{answer-first, left-first, round-swept, rounds-first}
 
 -- ---- turns of the collector
@@ -90,14 +96,25 @@ faultless_running None lives ready e = refl
 faultless_running (Some fault) lives ready e = cc
 
 -- the state after rounds with these outcomes, and the journal with their rows
-pub record Leads (s : Loaded) (j : JournalValue) (k worker gc : ℕ) (outcomes : List Outcome) (after : Loaded)
-    : Type 0 where
+pub record Leads (s : Loaded) (j : JournalValue) (k : ℕ) (stops : Stops) (worker gc : ℕ) (outcomes : List Outcome)
+    (after : Loaded) : Type 0 where
   pub is : IsOf after (noted_rounds j worker gc outcomes) (start_after k 0 (length outcomes))
   pub on : LeadsOn (recorded s j) worker gc (length outcomes) (recorded after (noted_rounds j worker gc outcomes))
+  pub past : RoundsPast stops (recorded s j) worker gc (length outcomes)
+      (recorded after (noted_rounds j worker gc outcomes))
+
+-- a thread that is the first ready one and stands at no stop is picked there
+picks_past : (x : Loaded) (jn : JournalValue) (kn : ℕ) → IsOf x jn kn → (stops : Stops) (outcome : Outcome)
+    (made : Loaded) → IsFirstTurn x kn made (0, outcome) → StandsAtNone stops x 0 → PicksPast stops (recorded x jn)
+picks_past x jn kn is stops outcome made turn past = (
+  0,
+  sym (pick_is x jn kn is) ∙ turn.picked,
+  subst (λ (o : Option CodePlace). IfSome o (λ place. is_stop stops place ≡ false)) (place_is x jn kn is 0) past,
+)
 
 -- one round
-module _ (x : Loaded) (jn : JournalValue) (kn : ℕ) (is : IsOf x jn kn) (worker gc : ℕ) (outcome : Outcome)
-    (after : Loaded) (round : IsFirstRound x kn 0 gc outcome after) where
+module _ (x : Loaded) (jn : JournalValue) (kn : ℕ) (is : IsOf x jn kn) (stops : Stops) (worker gc : ℕ)
+    (outcome : Outcome) (after : Loaded) (round : IsFirstRound x stops kn 0 gc outcome after) where
   abbrev u : Recorded
   u = recorded x jn
 
@@ -143,24 +160,39 @@ module _ (x : Loaded) (jn : JournalValue) (kn : ℕ) (is : IsOf x jn kn) (worker
       ∙ sym (ap (λ s. if is_running s then collections (picked u worker) worker gc else picked u worker) round_running)
       ∙ sym (ap (λ b. if b then swept (picked u worker) worker gc else picked u worker) round_done)
 
-module _ (s : Loaded) (j : JournalValue) (k : ℕ) (is : IsOf s j k) (worker gc : ℕ) where
+  round_past : IsRoundPast stops u worker gc (recorded after (noted_times j_made (collected_by worker) gc))
+  round_past =
+      let read = (back round.made j_made 1 made_is).rows in
+      let rows = ap (λ (v : Recorded). (ideal v).rows) (sym made_picked) in
+      let room = round.room in
+      let steps : round.made.limits.steps ≡ jn.limits.steps = ap (λ (l : Limits). l.steps) made_is.limits_are in
+      let same = ap (λ (v : Recorded). v.journal.limits.steps) made_picked in
+      record {
+        past = picks_past x jn kn is stops outcome round.made round.turn round.past;
+        done = round_done;
+        runs = ap is_running round_running;
+        room = omega (arith, read, rows, room, steps, same);
+        after = round_after;
+      }
+
+module _ (s : Loaded) (j : JournalValue) (k : ℕ) (is : IsOf s j k) (stops : Stops) (worker gc : ℕ) where
   abbrev v : Recorded
   v = recorded s j
 
   one_more : (outcome : Outcome) (outcomes : List Outcome) (x after : Loaded)
-      → Leads s j k worker gc outcomes x
-      → IsFirstRound x (start_after k 0 (length outcomes)) 0 gc outcome after
-      → Leads s j k worker gc (outcome ∷ outcomes) after
+      → Leads s j k stops worker gc outcomes x
+      → IsFirstRound x stops (start_after k 0 (length outcomes)) 0 gc outcome after
+      → Leads s j k stops worker gc (outcome ∷ outcomes) after
   one_more outcome outcomes x after leads round =
       let n = length outcomes in
       let jn = noted_rounds j worker gc outcomes in
       let kn = start_after k 0 n in
       let u = recorded x jn in
       let w = recorded after (noted_rounds j worker gc (outcome ∷ outcomes)) in
-      let same : w ≡ after_round u worker gc = round_after x jn kn leads.is worker gc outcome after round in
-      let done = round_done x jn kn leads.is worker gc outcome after round in
+      let same : w ≡ after_round u worker gc = round_after x jn kn leads.is stops worker gc outcome after round in
+      let done = round_done x jn kn leads.is stops worker gc outcome after round in
       record {
-        is = (round_swept x jn kn leads.is worker gc outcome after round).is;
+        is = (round_swept x jn kn leads.is stops worker gc outcome after round).is;
         on = record {
           world = λ more.
               ap (after_rounds v worker gc) (one-further n more) ∙ leads.on.world (suc more)
@@ -175,13 +207,15 @@ module _ (s : Loaded) (j : JournalValue) (k : ℕ) (is : IsOf s j k) (worker gc 
               ∙ left-first u worker gc (suc more) more refl true done
               ∙ ap (λ (w : Recorded). rounds_left w worker gc more) (sym same);
         };
+        past = (u, leads.past, round_past x jn kn leads.is stops worker gc outcome after round);
       }
 
-  pub leads : (outcomes : List Outcome) (after : Loaded) → FirstRounds s k 0 gc outcomes after
-      → Leads s j k worker gc outcomes after
+  pub leads : (outcomes : List Outcome) (after : Loaded) → FirstRounds s stops k 0 gc outcomes after
+      → Leads s j k stops worker gc outcomes after
   leads [] after rounds = record {
     is = subst (λ (x : Loaded). IsOf x j k) (sym rounds) is;
     on = subst (λ (x : Loaded). LeadsOn v worker gc 0 (recorded x j)) (sym rounds) (leads-none v worker gc);
+    past = ap (λ (x : Loaded). recorded x j) rounds;
   }
   leads (outcome ∷ outcomes) after rounds = one_more outcome outcomes rounds.0 after
       (leads outcomes rounds.0 rounds.1) rounds.2
@@ -192,9 +226,11 @@ module _ (s : Loaded) (j : JournalValue) (k : ℕ) (is : IsOf s j k) (worker gc 
         (start_after k 0 (length outcomes + (if begun then 1 else 0)))
     into : PickedIf (recorded x (noted_rounds j worker gc outcomes)) worker begun
         (recorded after (noted_if (noted_rounds j worker gc outcomes) worker begun))
+    past : PickedPast stops (recorded x (noted_rounds j worker gc outcomes)) worker begun
+        (recorded after (noted_if (noted_rounds j worker gc outcomes) worker begun))
 
-  begun_as : (outcomes : List Outcome) (x : Loaded) → Leads s j k worker gc outcomes x → (begun : Bool)
-      (after : Loaded) → FirstTurnIf x (start_after k 0 (length outcomes)) 0 begun after
+  begun_as : (outcomes : List Outcome) (x : Loaded) → Leads s j k stops worker gc outcomes x → (begun : Bool)
+      (after : Loaded) → FirstTurnIf x stops (start_after k 0 (length outcomes)) 0 begun after
       → IsBegun outcomes x begun after
   begun_as outcomes x leads true after turn =
       let n = length outcomes in
@@ -203,13 +239,13 @@ module _ (s : Loaded) (j : JournalValue) (k : ℕ) (is : IsOf s j k) (worker gc 
       let still : IsOf after (with_row jn (done_by 0 worker)) 1 = first_noted x jn kn leads.is worker 0 Done after
       turn.0 in
       let next : suc n ≡ n + 1 = omega arith in
+      let picked_is = first_picked x jn kn leads.is worker 0 Done after turn.0 in
+      let done = ap is_done (sym (first_answer x jn kn leads.is worker 0 Done after turn.0)
+      ∙ sym (answer_is after (with_row jn (done_by 0 worker)) 1 still) ∙ ap reported_of turn.1) in
       record {
         joined = subst (λ (m : ℕ). IsOf after (with_row jn (done_by 0 worker)) (start_after k 0 m)) next still;
-        into = (
-          first_picked x jn kn leads.is worker 0 Done after turn.0,
-          ap is_done (sym (first_answer x jn kn leads.is worker 0 Done after turn.0)
-              ∙ sym (answer_is after (with_row jn (done_by 0 worker)) 1 still) ∙ ap reported_of turn.1),
-        );
+        into = (picked_is, done);
+        past = (picks_past x jn kn leads.is stops Done after turn.0 turn.2, picked_is, done);
       }
   begun_as outcomes x leads false after turn =
       let n = length outcomes in
@@ -219,12 +255,14 @@ module _ (s : Loaded) (j : JournalValue) (k : ℕ) (is : IsOf s j k) (worker gc 
         joined = subst (λ (m : ℕ). IsOf after jn (start_after k 0 m)) none
             (subst (λ (y : Loaded). IsOf y jn (start_after k 0 n)) (sym turn) leads.is);
         into = ap (λ (y : Loaded). recorded y jn) turn;
+        past = ap (λ (y : Loaded). recorded y jn) turn;
       }
 
   -- the world and the journal after them
   pub record Enters (rounds : Rounds) (after : Loaded) (noted : JournalValue) : Type 0 where
     pub joined : IsOf after noted (start_after k 0 (rounds.made + (if rounds.begun then 1 else 0)))
     pub into : LeadsInto v worker gc rounds (recorded after noted)
+    pub past : LeadsPast stops v worker gc rounds (recorded after noted)
     pub workers : noted.workers ≡ j.workers
 
   if-workers : (x : JournalValue) (begun : Bool) → (noted_if x worker begun).workers ≡ x.workers
@@ -232,7 +270,7 @@ module _ (s : Loaded) (j : JournalValue) (k : ℕ) (is : IsOf s j k) (worker gc 
   if-workers x false = refl
 
   pub enters : (rounds : Rounds) (after : Loaded) (noted : JournalValue)
-      → LeadsThrough s k worker gc j rounds after noted → Enters rounds after noted
+      → LeadsThrough s k stops worker gc j rounds after noted → Enters rounds after noted
   enters rounds after noted through =
       let outcomes = through.outcomes in
       let x = through.led.0 in
@@ -250,6 +288,12 @@ module _ (s : Loaded) (j : JournalValue) (k : ℕ) (is : IsOf s j k) (worker gc 
           subst (λ (n : ℕ). LeadsOn v worker gc n (recorded x jn)) through.count on.on,
           subst (λ (y : JournalValue). PickedIf (recorded x jn) worker rounds.begun (recorded after y))
               (sym through.noted) last.into,
+        );
+        past = (
+          recorded x jn,
+          subst (λ (n : ℕ). RoundsPast stops v worker gc n (recorded x jn)) through.count on.past,
+          subst (λ (y : JournalValue). PickedPast stops (recorded x jn) worker rounds.begun (recorded after y))
+              (sym through.noted) last.past,
         );
         workers = ap (λ (y : JournalValue). y.workers) through.noted ∙ if-workers jn rounds.begun
             ∙ rounds-workers j worker gc outcomes;

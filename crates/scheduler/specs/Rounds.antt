@@ -1,13 +1,15 @@
 -- Rounds of a world: a turn of the thread that is picked, and after it turns of the collector.
-use Rattle.std.specs.Prelude.{◌≡◌, ◌+◌, ℕ, zero, suc, Bool, true, false, Option, Some, None, if◌then◌else◌}
+use Rattle.std.specs.Prelude.{◌≡◌, ◌+◌, ◌≤◌, ℕ, zero, suc, Bool, true, false, Option, IfSome, Some, None, if◌then◌else◌}
 use Rattle.model.specs.declared.journals.Outcome.TheVariants.{Done as DoneOutcome}
 use Rattle.model.specs.declared.journals.Row.{Row}
 use Rattle.model.specs.declared.turns.Actor.TheVariants.{Thread, Collector}
 use Rattle.model.specs.declared.turns.Turn.{Turn}
 use Rattle.model.specs.declared.turns.Turn.TheVariants.{Done, NotReady, Stopped, Fault, OutputFull, StepLimit}
 use Rattle.model.specs.Machines.{Recorded, after_turn_by, answer_to}
-use Rattle.model.specs.Observers.{is_running, pick_of, status_of}
+use Rattle.model.specs.Observers.{ideal, is_running, pick_of, place_of, status_of}
 use Rattle.instructions.specs.declared.lone_rounds.Rounds.{Rounds}
+use Rattle.instructions.specs.declared.stops.Stops.{Stops}
+use Rattle.instructions.specs.Stops.{is_stop}
 
 -- ---- the turn of the thread that is picked
 
@@ -88,6 +90,36 @@ pub record LeadsOn (v : Recorded) (worker gc n : ℕ) (w : Recorded) : Type 0 wh
 abbrev pub PickedIf : Recorded → ℕ → Bool → Recorded → Type 0
 PickedIf v worker true w = (w ≡ picked v worker) × (is_done (picked_answer v worker) ≡ true)
 PickedIf v worker false w = w ≡ v
+
+-- ---- rounds that begin at no stop
+
+-- a thread is picked, and stands at no stop
+abbrev pub PicksPast : Stops → Recorded → Type 0
+PicksPast stops v = (t : ℕ) × (pick_of v ≡ Some t) × IfSome (place_of v t) (λ place. is_stop stops place ≡ false)
+
+-- a whole round, each turn of which is done, of a thread that stands at no stop
+pub record IsRoundPast (stops : Stops) (v : Recorded) (worker gc : ℕ) (w : Recorded) : Type 0 where
+  pub past : PicksPast stops v
+  pub done : is_done (picked_answer v worker) ≡ true
+  pub runs : is_running (status_of (picked v worker)) ≡ true
+  pub room : (ideal (picked v worker)).rows + gc ≤ (picked v worker).journal.limits.steps
+  pub after : w ≡ after_round v worker gc
+
+-- so many of them
+abbrev pub RoundsPast : Stops → Recorded → ℕ → ℕ → ℕ → Recorded → Type 0
+RoundsPast stops v worker gc zero w = w ≡ v
+RoundsPast stops v worker gc (suc n) w = (x : Recorded) × RoundsPast stops v worker gc n x
+    × IsRoundPast stops x worker gc w
+
+-- the turn of a thread that stands at no stop is made and done, or nothing is
+abbrev pub PickedPast : Stops → Recorded → ℕ → Bool → Recorded → Type 0
+PickedPast stops v worker true w = PicksPast stops v × (w ≡ picked v worker) × (is_done (picked_answer v worker) ≡ true)
+PickedPast stops v worker false w = w ≡ v
+
+-- so many whole rounds, and of one more the thread's turn, or not, none of which begins at a stop
+abbrev pub LeadsPast : Stops → Recorded → ℕ → ℕ → Rounds → Recorded → Type 0
+LeadsPast stops v worker gc rounds w = (x : Recorded) × RoundsPast stops v worker gc rounds.made x
+    × PickedPast stops x worker rounds.begun w
 
 -- so many whole rounds, and of one more the thread's turn, or not
 abbrev pub LeadsInto : Recorded → ℕ → ℕ → Rounds → Recorded → Type 0

@@ -1,5 +1,5 @@
 use Rattle.exploration.proofs.ReducedRuns.{reduced_shows_all}
-use Rattle.exploration.proofs.ClosedLists.{closed_has_all}
+use Rattle.exploration.proofs.ClosedLists.{closed_has_all, runs_come}
 use Rattle.exploration.proofs.CanonicalForms.{canonical_represents, turns_make_all}
 use Rattle.exploration.proofs.Witnesses.{opening_is_witnessed, turns_are_witnessed}
 use Rattle.exploration.proofs.ReducedWitnesses.{ahead_is_witnessed}
@@ -43,3 +43,6 @@ returns-clause-rest c = rest_is_halted
 
 pub returns-clause-searches : goal.returns-clause-searches
 returns-clause-searches c = searches_all
+
+pub returns-clause-come : goal.returns-clause-come
+returns-clause-come c = runs_come

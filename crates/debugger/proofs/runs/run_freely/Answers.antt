@@ -20,7 +20,7 @@ returns-then-rounds-gt0 c =
 pub returns : goal.returns
 returns c =
     let rounds = c.make_rounds-rounds in
-    let last = c.run_turn_by_turn-last in
+    let last = c.run_to_breakpoint-last in
     let n = c.args.turns - 1 in
     let whole : c.args.turns ≡ suc n = omega (arith, c.if-turns-eq0.false) in
     ends_late c.args.breakpoints.now.slots c.requires c.args.turns n rounds.result.left c.args.world.now rounds.new.self

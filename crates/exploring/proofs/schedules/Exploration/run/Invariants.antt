@@ -3,5 +3,5 @@ use Rattle.exploring.proofs.schedules.Exploration.run.Given as goal
 
 -- it is still on its way
 abbrev pub invariant-loop-state : goal.invariant-loop-state
-invariant-loop-state g l = IsOnItsWay l.transitions.program l.transitions.limits l.bounds.no_room l.fn.self
-    → IsOnItsWay l.transitions.program l.transitions.limits l.bounds.no_room l.self
+invariant-loop-state g l = IsOnItsWay l.transitions.program l.transitions.limits l.first l.bounds.no_room l.fn.self
+    → IsOnItsWay l.transitions.program l.transitions.limits l.first l.bounds.no_room l.self

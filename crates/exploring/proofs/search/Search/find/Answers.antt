@@ -11,7 +11,7 @@ use Rattle.exploring.proofs.search.Search.find.Goals as goal
 
 pub returns-then-not-fresh : goal.returns-then-not-fresh
 returns-then-not-fresh c =
-    λ known has follows.
+    λ first known has follows.
     let s = c.args.transitions.now in
     let v = c.in_ok-world.world in
     let steps = ap (λ (l : Limits). l.steps) c.limits-steps.ensures in
@@ -22,13 +22,13 @@ returns-then-not-fresh c =
     let adds = c.in_ok-fresh.ensures known (subst (λ (x : Search). HasStates x.stored known) (sym c.self.view_is) has.has) in
     let both = subst (λ (y : World). HasStates c.add.new.self known × IsOneOf known y) c.in_ok-world-2.ensures.is
     (subst (λ (b : Bool). AddsState c.add.new.self known c.in_ok-world-2.world b) c.if-not-fresh.true adds) in
-    finds_old s.program s.limits c.args.self.now known has _ c.args.parent.now c.args.by c.args.world follows v
+    finds_old s.program s.limits first c.args.self.now known has _ c.args.parent.now c.args.by c.args.world follows v
     c.in_ok-world.ahead goes both (ap (λ (x : Search). x.origins) c.self.view_is)
     (ap (λ (x : Search). x.waiting) c.self.view_is)
 
 pub returns : goal.returns
 returns c =
-    λ known has follows.
+    λ first known has follows.
     let s = c.args.transitions.now in
     let v = c.in_ok-world.world in
     let n = c.in_ok-world.ahead in
@@ -58,7 +58,7 @@ returns c =
       level = parent.level + 1;
       depth = parent.depth + 1 + n;
     } in x) size in
-    finds_new s.program s.limits old known has _ parent c.args.by c.args.world follows v n goes
+    finds_new s.program s.limits first old known has _ parent c.args.by c.args.world follows v n goes
     (subst (λ (x : Stored). HasStates x (known ++ canonical v ∷ []))
     (sym (ap (λ (x : Search). x.stored) c.in_ok-keep.ensures)) more) o refl state is
     (ap (λ (x : Search). x.origins) c.in_ok-keep.ensures

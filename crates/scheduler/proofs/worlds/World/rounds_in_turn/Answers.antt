@@ -1,7 +1,9 @@
-use Rattle.std.proofs.Common.{◌≡◌, ◌∙◌, ◌+◌, ap, arith, subst, suc}
+use Rattle.std.proofs.Common.{◌≡◌, ◌∙◌, ◌+◌, ap, arith, refl, subst, suc}
 use Rattle.model.specs.Machines.{Recorded}
+use Rattle.model.specs.Observers.{ideal}
+use Rattle.instructions.proofs.IdleLemmas.{none-idle}
 use Rattle.scheduler.specs.Rounds.{LeadsOn}
-use Rattle.scheduler.proofs.Bursts.{leads-more, workers-picked}
+use Rattle.scheduler.proofs.Bursts.{leads-more, leads-none, workers-picked}
 use Rattle.scheduler.proofs.worlds.World.rounds_in_turn.Goals as goal
 
 pub loop-made-preserved : goal.loop-made-preserved
@@ -15,4 +17,14 @@ loop-made-preserved c =
       rounds = subst (λ n. LeadsOn c.args.self.now w 0 n c.turn_plainly.new.self) more
           (leads-more c.args.self.now at.self c.turn_plainly.new.self w at.made at.invariant.rounds made
           (c.turn_plainly.ensures.done c.if-not-turn_plainly.false));
+      idle = c.turn_plainly.ensures.idle c.if-not-turn_plainly.false;
+    }
+
+pub loop-made-init : goal.loop-made-init
+loop-made-init c =
+    let v = c.args.self.now in
+    record {
+      workers = refl;
+      rounds = leads-none v c.args.worker 0;
+      idle = none-idle v.program (ideal v) c.none-idle.result c.none-idle.ensures;
     }

@@ -1,0 +1,6 @@
+use Rattle.std.proofs.Common.{ap, ◌==◌, ℕ}
+use Rattle.std.proofs.lemmas.Nat.Bits.{shr_and_one}
+use Rattle.instructions.proofs.idle.Idle.has.Goals as goal
+
+pub returns : goal.returns
+returns c = ap (λ (n : ℕ). n == 1) (shr_and_one _ _)

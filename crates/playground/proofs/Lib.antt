@@ -1,2 +1,0 @@
-pub mod SessionSteps
-pub mod ThreadTexts
