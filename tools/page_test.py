@@ -1,17 +1,17 @@
 #!/usr/bin/env python3
 """Tries the page in a real browser: clicks through what it can do, and compares what it shows with `jvm debug` and `jvm run`.
 
-Usage: page_test.py [--page FILE] [--jvm PROGRAM] [--playground PROGRAM] [--moments N] [--pictures FOLDER] [--gate] [--after LOG] [WORD ..]
+Usage: page_test.py [--page FILE] [--jvm PROGRAM] [--playground PROGRAM] [--moments N] [--pictures FOLDER] [--gate] [WORD ..]
 
 Without --page a page is built first (tools/page.py). Each example is looked at at some forty moments of its run. With WORDs only
 the tests whose names have one of them are made. --pictures keeps pictures. Needs Debian's chromium and chromium-driver; where
 they are missing it says `page: not tested, no browser`, and that counts as skipped.
 
-With --gate, which is for a call after `rt ci` in the same checkout, it tries to install what is missing, and the page is of the
-program that `rt ci` proved, compiled at -O1 for the sake of time; each example is looked at at ten moments.
+With --gate, which is for a call beside `rt ci` in the same checkout, once it has proved `jvm` and `playground`, or after it, a
+missing browser is installed where that can be done, and the page is of the program that `rt ci` proved, compiled at -O1 for the
+sake of time; each example is looked at at ten moments.
 
-The last line is 'N passed, M failed', with ', K skipped' where there are some. With --after, the counts in the last line of that
-file are added.
+The last line is 'N passed, M failed', with ', K skipped' where there are some; the status is 1 where something failed.
 """
 import argparse
 import base64
@@ -71,7 +71,7 @@ class Skipped(Exception):
 
 
 class NoPage(Exception):
-    """No page could be built."""
+    """Why there is no page to test."""
 
 
 class Tried(Exception):
@@ -91,9 +91,10 @@ def holds(condition, what):
 class Page:
     """The page in a browser."""
 
-    def __init__(self, browser, path, jvm, room, moments, pictures):
-        self.browser, self.path, self.jvm, self.room, self.moments, self.pictures = browser, path, jvm, room, moments, pictures
-        self.playground = None
+    def __init__(self, browser, path, given, room):
+        """given: what the command line says."""
+        self.browser, self.path, self.room = browser, path, room
+        self.jvm, self.playground, self.moments, self.pictures = given.jvm, given.playground, given.moments, given.pictures
         self.open()
 
     def open(self, fragment=""):
@@ -639,20 +640,20 @@ def messages(browser):
     return [it["message"] for it in browser.messages()]
 
 
-def tried(page, words):
-    """Each test that is wanted, and why it failed."""
-    for name, test in tests(page):
-        if words and not any(word in name for word in words):
-            continue
-        try:
-            test()
-            why = "; ".join(messages(page.browser)) or None
-        except Skipped as skipped:
-            why = skipped
-        except (Tried, RuntimeError, subprocess.SubprocessError, KeyError, ValueError, IndexError, TypeError) as error:
-            why = f"{type(error).__name__}: {error}" if not isinstance(error, Tried) else str(error)
-            page.open()
-        yield name, why
+def outcome(page, test):
+    """Why a test failed or was skipped, or nothing."""
+    try:
+        test()
+        return "; ".join(messages(page.browser)) or None
+    except Skipped as skipped:
+        return skipped
+    except Tried as tried_otherwise:
+        why = str(tried_otherwise)
+    except Exception as error:  # a test that can't go on has failed, and the others are made
+        why = f"{type(error).__name__}: {error}"
+    page.open()
+    messages(page.browser)  # (these belong to the test that failed)
+    return why
 
 
 def page_of(given, room):
@@ -660,53 +661,66 @@ def page_of(given, room):
     if given.page:
         return os.path.abspath(given.page)
     words = ["--from-gate", "--level=-O1"] if given.gate else []
-    made = subprocess.run([sys.executable, f"{ROOT}/tools/page.py", f"{room}/page.html", *words], stdout=subprocess.PIPE, text=True, check=False)
+    how = {"stdout": subprocess.PIPE, "text": True, "env": {**os.environ, "TMPDIR": room}}
+    made = subprocess.run([sys.executable, f"{ROOT}/tools/page.py", f"{room}/page.html", *words], check=False, **how)
     if made.returncode:
-        raise NoPage
+        raise NoPage("no page could be built")
     print(f"page: {made.stdout.splitlines()[0].rsplit('/', 1)[-1]}", flush=True)
     return f"{room}/page.html"
 
 
-def main():
+def tried(given, room):
+    """Each test that is wanted, and why it failed or was skipped, or nothing."""
+    if given.gate and not installed():
+        raise NoBrowser
+    if not os.access(given.jvm, os.X_OK):
+        raise NoPage(f"there is no {given.jvm}")
+    path = page_of(given, room)
+    with contextlib.closing(Browser()) as browser:
+        print(f"page: in Chromium {browser.version}", flush=True)
+        page = Page(browser, path, given, room)
+        for name, test in tests(page):
+            if not given.words or any(word in name for word in given.words):
+                yield name, outcome(page, test)
+
+
+def options():
+    """What the command line says."""
     words = argparse.ArgumentParser(description=__doc__.split("\n")[0])
     words.add_argument("--page")
-    words.add_argument("--jvm", default=f"{ROOT}/crates/jvm/out/jvm")
-    words.add_argument("--playground", default=f"{ROOT}/crates/playground/out/playground")
+    words.add_argument("--jvm", default=f"{ROOT}/crates/jvm/out/jvm", type=os.path.abspath)
+    words.add_argument("--playground", default=f"{ROOT}/crates/playground/out/playground", type=os.path.abspath)
     words.add_argument("--moments", type=int)
     words.add_argument("--gate", action="store_true")
     words.add_argument("--pictures")
-    words.add_argument("--port", type=int, default=9515)
-    words.add_argument("--after", metavar="LOG")
     words.add_argument("words", nargs="*")
     given = words.parse_args()
-    passed = failed = skipped = 0
-    if given.after:
-        with open(given.after, encoding="utf-8", errors="replace") as file:
-            last = file.read().rstrip("\n").split("\n")[-1]
-        passed, failed, skipped = (int(it or 0) for it in re.match(r"(\d+) passed, (\d+) failed(?:, (\d+) skipped)?", last).groups())
+    given.moments = given.moments or (10 if given.gate else 40)
+    return given
+
+
+def main():
+    """Tries all, and tells what failed."""
+    given, passed, failed, skipped = options(), 0, 0, 0
     signal.signal(signal.SIGTERM, lambda number, _: sys.exit(128 + number))
     if given.pictures:
         os.makedirs(given.pictures, exist_ok=True)
-    moments = given.moments or (10 if given.gate else 40)
     with tempfile.TemporaryDirectory() as room:
         try:
-            if given.gate and not installed():
-                raise NoBrowser
-            path = page_of(given, room)
-            with contextlib.closing(Browser(given.port)) as browser:
-                page = Page(browser, path, os.path.abspath(given.jvm), room, moments, given.pictures)
-                page.playground = os.path.abspath(given.playground)
-                for name, why in tried(page, given.words):
-                    skips = isinstance(why, Skipped)
-                    passed, failed, skipped = passed + (not why), failed + (bool(why) and not skips), skipped + skips
-                    if why:
-                        print(f"page: {name}: {'skipped: ' if skips else ''}{why}", flush=True)
-        except NoBrowser:
+            for name, why in tried(given, room):
+                skips = isinstance(why, Skipped)
+                passed, failed, skipped = passed + (not why), failed + (bool(why) and not skips), skipped + skips
+                if why:
+                    print(f"page: {name}: {'skipped: ' if skips else ''}{why}", flush=True)
+        except NoBrowser as why:
             skipped += 1
-            print("page: not tested, no browser")
-        except NoPage:
+            print(f"page: not tested, no browser{': ' if why.args else ''}{why}")
+        except NoPage as why:
             failed += 1
-            print("page: not tested, no page could be built")
+            print(f"page: not tested, {why}")
+        except Exception as error:  # the page doesn't open, or the browser is gone
+            failed += 1
+            print(f"page: no more was tested: {type(error).__name__}: {error}")
     print(f"{passed} passed, {failed} failed" + (f", {skipped} skipped" if skipped else ""))
     return 1 if failed else 0
 
