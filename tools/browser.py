@@ -94,7 +94,7 @@ class Browser:
             with urllib.request.urlopen(asked, timeout=180) as answer:
                 return json.load(answer)["value"]
         except urllib.error.HTTPError as error:
-            raise RuntimeError(error.read().decode()[:1000]) from None
+            raise RuntimeError(json.load(error)["value"]["message"].split("\n")[0]) from None
 
     def open(self, address):
         self.ask("POST", f"{self.session}/url", {"url": address})

@@ -95,6 +95,8 @@ class Page:
         """given: what the command line says."""
         self.browser, self.path, self.room = browser, path, room
         self.jvm, self.playground, self.moments, self.pictures = given.jvm, given.playground, given.moments, given.pictures
+        # how long a seek may take, in ms: beside proofs it waits for a processor
+        self.seek = 5000 if given.gate else 500
         self.open()
 
     def open(self, fragment=""):
@@ -132,6 +134,18 @@ class Page:
         self.browser.run("$('examples').value = arguments[0]; $('examples').dispatchEvent(new Event('change'))", name)
         self.until("page.busy || page.view || page.refusal")
         return self.settled()
+
+    def loaded(self, action):
+        """What is shown once the program was loaded anew, as an action has it be sooner or later."""
+        before = self.browser.run("return page.generation")
+        action()
+        self.until(f"page.generation > {before}")
+        return self.settled()
+
+    def change(self, **fields):
+        """Sets fields of the machine."""
+        script = "for (const [id, value] of Object.entries(arguments[0])) { $(id).value = value; $(id).dispatchEvent(new Event('change')); }"
+        return self.loaded(lambda: self.browser.run(script, fields))
 
     def take(self, text, name="a.j", **shape):
         self.later("take([{name: arguments[1], text: arguments[0]}], {shape: arguments[2], limits: LIMITS}).then(() => done(0))", text, name, {"small": 8, "medium": 2, "large": 1, **shape})
@@ -302,19 +316,16 @@ def tried_breakpoint(page):
 
 def tried_settings(page):
     page.example("workers")
-    page.browser.run("$('small').value = 12; $('medium').value = 0; $('large').value = 0; $('small').dispatchEvent(new Event('change'))")
-    page.until("!page.busy && page.view && page.view.cells.length === 12")
+    same(len(page.change(small=12, medium=0, large=0)["cells"]), 12)
     page.browser.run("$('gc').value = 3")
     same(page.click("#round")["at"], 4, "a round with three turns of the collector")
-    page.browser.run("$('steps').value = 10; $('steps').dispatchEvent(new Event('change'))")
-    time.sleep(0.6)
+    page.change(steps=10)
     holds("step limit" in page.click("#run")["status"], "the limit isn't told")
     same(page.settled()["at"], 10)
-    page.browser.run("$('small').value = 1; $('steps').value = 1000000; $('small').dispatchEvent(new Event('change'))")
-    page.until("$('refusal').textContent.includes('P1')")
-    page.browser.run("$('small').value = 8; $('medium').value = 2; $('large').value = 1; $('gc').value = 1; $('small').dispatchEvent(new Event('change'))")
-    page.until("!page.busy && page.view && page.view.cells.length === 11")
-    same(page.browser.run("return $('refusal').textContent"), "")
+    holds("P1" in page.change(small=1, steps=1000000)["refusal"], "P1 isn't told")
+    page.browser.run("$('gc').value = 1")
+    shown = page.change(small=8, medium=2, large=1)
+    same((len(shown["cells"]), shown["refusal"]), (11, ""))
 
 
 def tried_refusals(page):
@@ -344,8 +355,7 @@ def tried_markup(page):
 
 def tried_link(page):
     page.example("Square")
-    page.browser.run("$('small').value = 9; $('small').dispatchEvent(new Event('change'))")
-    page.until("!page.busy && page.view && page.view.cells.length === 12")
+    same(len(page.change(small=9)["cells"]), 12)
     page.click("#round")
     page.click("#thread")
     wanted = page.click("#collect")
@@ -368,12 +378,11 @@ def dropped(page, *paths):
     for path in paths:
         with open(path, "rb") as file:
             files.append([os.path.basename(path), base64.b64encode(file.read()).decode()])
-    page.later("""
+    script = """
         const files = new DataTransfer();
         for (const [name, text] of arguments[0]) files.items.add(new File([Uint8Array.from(atob(text), (it) => it.charCodeAt(0))], name));
-        document.dispatchEvent(new DragEvent("drop", { dataTransfer: files, bubbles: true, cancelable: true }));
-        setTimeout(() => done(0), 100);""", files)
-    return page.settled()
+        document.dispatchEvent(new DragEvent("drop", { dataTransfer: files, bubbles: true, cancelable: true }));"""
+    return page.loaded(lambda: page.browser.run(script, files))
 
 
 def tried_files(page):
@@ -381,8 +390,7 @@ def tried_files(page):
     names = sorted(it for it in os.listdir(classes) if it.startswith("Edges") and it.endswith(".class"))
     shown = dropped(page, *(f"{classes}/{it}" for it in names))
     same(shown["refusal"], "")
-    page.browser.run("$('small').value = 200; $('medium').value = 100; $('large').value = 40; $('small').dispatchEvent(new Event('change'))")
-    page.until("!page.busy && page.view && page.view.cells.length === 340")
+    same(len(page.change(small=200, medium=100, large=40)["cells"]), 340)
     shown = page.click("#run")
     with open(f"{classes}/Edges.out", encoding="ascii") as file:
         same(shown["output"], file.read(), "output of class files")
@@ -419,8 +427,7 @@ def tried_heap(page):
 
 def tried_timeline(page):
     page.example("workers")
-    page.browser.run("$('small').value = 12; $('medium').value = 0; $('large').value = 0; $('small').dispatchEvent(new Event('change'))")
-    page.until("!page.busy && page.view && page.view.cells.length === 12")
+    page.change(small=12, medium=0, large=0)
     total = page.click("#run")["total"]
     page.browser.click("#draw")
     page.until("document.querySelector('#timeline svg')")
@@ -436,9 +443,7 @@ def tried_timeline(page):
 
 def tried_long_runs(page):
     page.take(COUNTER_LOOP)
-    page.browser.run("$('steps').value = 16777215; $('steps').dispatchEvent(new Event('change'))")
-    time.sleep(0.6)
-    page.settled()
+    page.change(steps=16777215)
     page.browser.run("$('many').value = 500000")
     page.click("#rounds")
     same(page.settled()["total"], 1000000, "a run of a million rows")
@@ -446,17 +451,15 @@ def tried_long_runs(page):
     for row in (1, 999999, 500000, 750001, 250000):
         took.append(page.later("const began = performance.now(); go(arguments[0]).then(() => done(performance.now() - began))", row))
     print(f"page: seeks in a run of a million rows: {', '.join(f'{it:.0f} ms' for it in took)}", flush=True)
-    holds(max(took) < 500, f"a seek took {max(took):.0f} ms")
-    page.later("window.waited = []; page.machine.ask(inputOf(setting(), Array(400).fill('rounds 40000 1')), (n) => waited.push(n)).catch((it) => waited.push(it.message)); setTimeout(() => done(0), 250)")
-    holds(page.browser.run("return waited.length") > 0, "a long run doesn't tell how far it is")
+    holds(max(took) < page.seek, f"a seek took {max(took):.0f} ms")
+    page.browser.run("window.waited = []; page.machine.ask(inputOf(setting(), Array(400).fill('rounds 40000 1')), (n) => waited.push(n)).catch((it) => waited.push(it.message))")
+    page.until("waited.length > 0")  # how far it is
     page.browser.run("page.machine.stop()")
     page.until("waited.includes('stopped')")
     page.browser.run("go(0); document.getElementById('run').disabled = false; rounds(16000000)")
     page.browser.run("page.machine.stop()")
     same(page.go(0)["at"], 0, "the page is usable after a stop")
-    page.browser.run("$('steps').value = 1000000; $('steps').dispatchEvent(new Event('change'))")
-    time.sleep(0.6)
-    page.settled()
+    page.change(steps=1000000)
 
 
 # how a run stands that an exploration tells so
@@ -527,9 +530,7 @@ def tried_lessons(page):
     page.browser.click("#show-lessons")
     wanted = [("What a turn is", "threads"), ("The three colours", "heap"), ("Why there is a write barrier", "heap"), ("A lost update", "statics"), ("A deadlock", "threads")]
     for number, (title, look) in enumerate(wanted, 1):
-        page.browser.click(f"#lesson-titles button:nth-child({number})")
-        time.sleep(0.2)
-        shown = page.settled()
+        shown = page.loaded(lambda number=number: page.browser.click(f"#lesson-titles button:nth-child({number})"))
         same(shown["refusal"], "", title)
         same(page.browser.run("return $('lesson-title').textContent"), title)
         same(page.browser.run("return document.querySelector('.look').id"), look)
